@@ -1,0 +1,19 @@
+//! Members, circuit numbers, ballots, votes and the row that an acceptor saves.
+#![tactic(auto)]
+
+mod ballot;
+mod majorities;
+mod member;
+mod number;
+mod row;
+mod vote;
+
+pub use ballot::Ballot;
+pub use majorities::majority;
+pub use member::Member;
+pub use number::Number;
+pub use row::Row;
+pub use vote::{Vote, VoteRef};
+
+#[cfg(test)]
+mod tests;

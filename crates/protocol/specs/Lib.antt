@@ -1,0 +1,5 @@
+pub mod Lists
+pub mod Ballots
+pub mod Rows
+pub mod Packets
+pub mod Acceptor
