@@ -1,7 +1,7 @@
 -- An acceptor, read from the whole list of its requests, the first of them first.
 -- Lamport, phases 1 and 2: it promises to accept nothing below a ballot that it answered,
 -- and accepts unless it has promised above.
-use Rattle.std.specs.Prelude.{◌≡◌, List, [], ◌∷◌, ◌++◌, Bool, true, false, Option, Some, None, if◌then◌else◌}
+use Rattle.std.specs.Prelude.{◌≡◌, List, [], ◌∷◌, ◌++◌, Bool, false, Option, Some, None, if◌then◌else◌}
 use Rattle.std.specs.List.{list_any}
 use Rattle.protocol.specs.Ballots.{Ballot, is_below, is_same}
 use Rattle.protocol.specs.Rows.{Tape, Vote, vote_for, Row, raised, voted}

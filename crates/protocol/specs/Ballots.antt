@@ -1,7 +1,7 @@
 -- Members, ballots and their order, and what a majority is.
 -- Lamport, Paxos Made Simple: proposals carry numbers that are totally ordered,
 -- and different proposers draw theirs from disjoint sets. Here a number is a ballot.
-use Rattle.std.specs.Prelude.{◌≡◌, ℕ, zero, suc, ◌*◌, ◌<◌, ◌≤◌, ◌⊎◌, List, [], ◌∷◌, ◌++◌, Bool, true, Option, Some, None, nat_lt, nat_le, ◌==◌, ◌&&◌, ◌||◌, count_by, if◌then◌else◌}
+use Rattle.std.specs.Prelude.{◌≡◌, ℕ, zero, suc, ◌*◌, ◌<◌, ◌≤◌, ◌⊎◌, List, [], ◌∷◌, ◌++◌, Bool, true, Option, Some, None, nat_lt, ◌==◌, ◌&&◌, ◌||◌, count_by, if◌then◌else◌}
 
 -- a round, and the member that it belongs to
 pub record Ballot : Type 0 where

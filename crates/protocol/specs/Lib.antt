@@ -3,3 +3,7 @@ pub mod Ballots
 pub mod Rows
 pub mod Packets
 pub mod Acceptor
+pub mod Marks
+pub mod Proposals
+pub mod Learner
+pub mod Turn

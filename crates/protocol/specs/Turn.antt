@@ -1,0 +1,199 @@
+-- The turn of a station, as a function: from what it took in, the row of the event's number and the event
+-- to the row that is saved, what it then has taken in, the packets that go out and the tape that is released.
+use Rattle.std.specs.Prelude.{ℕ, List, [], ◌∷◌, ◌++◌, Option, Some, None, Bool, false, ◌==◌, not, nat_le, filter, map, if◌then◌else◌}
+use Rattle.protocol.specs.Ballots.{Ballot, is_same, is_below, next, members, is_majority}
+use Rattle.protocol.specs.Rows.{Tape, Vote, Row, raised, voted}
+use Rattle.protocol.specs.Packets.{Packet, Body, Prepare, Promise, Accept, Accepted, Nack}
+use Rattle.protocol.specs.Marks.{Mark, Began, Promised, Proposed, Denied, Heard, Closed, Released}
+use Rattle.protocol.specs.Proposals.{Opening, Counted, was_released, open_proposal, proposal_at, gathering_at, since_began, counted, is_counted, pick, begun, denied, is_due}
+use Rattle.protocol.specs.Learner.{ripe}
+
+-- what comes to a station: an offer of a tape for a number, a search for a number's tape,
+-- the due moment of a number, a packet; each at a moment in milliseconds
+pub data Event : Type 0 where
+  Offered : (number : ℕ) → (tape : Tape) → (now : ℕ) → Event
+  Sought : (number : ℕ) → (now : ℕ) → Event
+  Came_due : (number : ℕ) → (now : ℕ) → Event
+  Arrived : (packet : Packet) → (now : ℕ) → Event
+
+-- the number that an event is about
+abbrev pub number_of : Event → ℕ
+number_of (Offered n tape now) = n
+number_of (Sought n now) = n
+number_of (Came_due n now) = n
+number_of (Arrived p now) = p.number
+
+-- what a turn did, in a word
+pub data Note : Type 0 where
+  Note_began Note_nothing Note_proposed Note_gave_up Note_promised Note_voted_again Note_voted Note_overtaken Note_counted Note_heard : (ballot : Ballot) → Note
+  Note_nacked Note_denied : (promised : Ballot) → Note
+  Note_idle Note_silent Note_stale Note_repeated Note_settled : Note
+
+-- a turn: the row after it, the marks after it, the packets that go out, the tape that is released
+pub record Turn : Type 0 where
+  pub row : Row
+  pub marks : List Mark
+  pub out : List Packet
+  pub release : Option Tape
+  pub note : Note
+
+-- a turn that sends and releases nothing
+abbrev pub stays : Row → List Mark → Note → Turn
+stays row marks note = record { row = row; marks = marks; out = []; release = None; note = note }
+
+-- all members but m, in rising order
+abbrev pub others : ℕ → ℕ → List ℕ
+others c m = filter (λ k. not (k == m)) (members c)
+
+-- the packet of circuit k from a member to another
+abbrev pub packet_to : ℕ → ℕ → ℕ → Ballot → Body → ℕ → Packet
+packet_to k from n b body to = record { circuit = k; from = from; to = to; number = n; ballot = b; body = body }
+
+-- the packet to each of the others
+abbrev pub to_others : ℕ → ℕ → ℕ → ℕ → Ballot → Body → List Packet
+to_others k c m n b body = map (packet_to k m n b body) (others c m)
+
+-- the marks after a vote was heard, and what is released
+pub record Hearing : Type 0 where
+  pub marks : List Mark
+  pub release : Option Tape
+
+-- n is released where a vote is ripe
+abbrev pub settle : ℕ → List Mark → Option Vote → Hearing
+settle n marks None = record { marks = marks; release = None }
+settle n marks (Some v) = record { marks = Released n v.tape ∷ marks; release = Some v.tape }
+
+-- the vote of a member for n is heard, unless n was released
+abbrev pub hear : ℕ → ℕ → ℕ → Ballot → Tape → List Mark → Hearing
+hear c n member b t marks =
+    if was_released n marks then record { marks = marks; release = None }
+    else settle n (Heard n member b t ∷ marks) (ripe c n (Heard n member b t ∷ marks))
+
+-- a turn that heard a vote
+abbrev pub after_hearing : Row → List Packet → Note → Hearing → Turn
+after_hearing row out note h = record { row = row; marks = h.marks; out = out; release = h.release; note = note }
+
+-- phase 2: the picked tape is voted for and proposed at b; where there is none, the proposal is closed
+abbrev pub propose : ℕ → ℕ → ℕ → ℕ → Ballot → ℕ → List Mark → Row → Option Tape → Turn
+propose k c m n b now marks row None = stays row (Closed n ∷ marks) (Note_nothing b)
+propose k c m n b now marks row (Some tape) =
+    after_hearing (voted b tape) (to_others k c m n b (Accept tape) ++ to_others k c m n b (Accepted tape)) (Note_proposed b) (hear c n m b tape (Proposed n b now ∷ marks))
+
+-- phase 1: the row is promised to b, and the others are asked; a member of one proposes at once
+abbrev pub begin : ℕ → ℕ → ℕ → ℕ → Ballot → Option Tape → ℕ → List Mark → Row → Turn
+begin k c m n b own now marks row =
+    if c == 1
+    then propose k c m n b now (Began n b own row.vote now ∷ marks) (raised row b) (pick own (record { member = m; report = row.vote } ∷ []))
+    else record { row = raised row b; marks = Began n b own row.vote now ∷ marks; out = to_others k c m n b Prepare; release = None; note = Note_began b }
+
+-- an offer or a search begins the next ballot; there is no turn where the rounds are spent
+abbrev pub start_turn : ℕ → ℕ → ℕ → ℕ → Option Tape → ℕ → List Mark → Row → Option Ballot → Option Turn
+start_turn k c m n own now marks row None = None
+start_turn k c m n own now marks row (Some b) = Some (begin k c m n b own now marks row)
+
+-- the greater of two ballots that may be none
+abbrev pub greater_ballot : Option Ballot → Option Ballot → Option Ballot
+greater_ballot None q = q
+greater_ballot (Some p) None = Some p
+greater_ballot (Some p) (Some q) = if is_below p q then Some q else Some p
+
+-- how many ballots a proposal begins at most
+abbrev pub most_ballots : ℕ
+most_ballots = 32
+
+-- the ballot after the saved promise and the greatest Nack; none after the most ballots, or where the rounds are spent
+abbrev pub next_ballot : ℕ → ℕ → List Mark → Row → Option Ballot
+next_ballot m n marks row = if nat_le most_ballots (begun n marks) then None else next (greater_ballot row.promised (denied n marks)) m
+
+-- a proposal that is due begins anew, or gives up
+abbrev pub renew : ℕ → ℕ → ℕ → ℕ → ℕ → Opening → List Mark → Row → Option Ballot → Turn
+renew k c m n now p marks row None = stays row (Closed n ∷ marks) (Note_gave_up p.ballot)
+renew k c m n now p marks row (Some b) = begin k c m n b p.own now marks row
+
+-- the due moment of a number: idle where no proposal of it is open or it has not come
+abbrev pub due_turn : ℕ → ℕ → ℕ → ℕ → ℕ → List Mark → Row → Option Opening → Turn
+due_turn k c m n now marks row None = stays row marks Note_idle
+due_turn k c m n now marks row (Some p) =
+    if is_due m n now (since_began n marks) (Some p)
+    then renew k c m n now p marks row (next_ballot m n marks row)
+    else stays row marks Note_idle
+
+-- a turn that answers the sender of a packet
+abbrev pub answer : ℕ → ℕ → List Mark → Row → Packet → Body → Note → Turn
+answer k m marks row p body note = record { row = row; marks = marks; out = packet_to k m p.number p.ballot body p.from ∷ []; release = None; note = note }
+
+-- a Prepare, at a row with this promise: promised above it, silent at it, a Nack below it
+abbrev pub prepare_turn : ℕ → ℕ → List Mark → Row → Packet → Option Ballot → Turn
+prepare_turn k m marks row p None = answer k m marks (raised row p.ballot) p (Promise row.vote) (Note_promised p.ballot)
+prepare_turn k m marks row p (Some a) =
+    if is_below a p.ballot then answer k m marks (raised row p.ballot) p (Promise row.vote) (Note_promised p.ballot)
+    else if is_same a p.ballot then stays row marks Note_silent
+    else answer k m marks row p (Nack a) (Note_nacked a)
+
+-- the station's vote is sent to the others and heard by itself
+abbrev pub vote_turn : ℕ → ℕ → ℕ → List Mark → Row → Packet → Tape → Note → Turn
+vote_turn k c m marks row p tape note =
+    after_hearing row (to_others k c m p.number p.ballot (Accepted tape)) note (hear c p.number m p.ballot tape marks)
+
+-- an Accept that isn't below the promise, at a row with this vote: a vote at its ballot stands, else its tape is voted for
+abbrev pub take_vote : ℕ → ℕ → ℕ → List Mark → Row → Packet → Tape → Option Vote → Turn
+take_vote k c m marks row p tape None = vote_turn k c m marks (voted p.ballot tape) p tape (Note_voted p.ballot)
+take_vote k c m marks row p tape (Some v) =
+    if is_same v.ballot p.ballot then vote_turn k c m marks row p v.tape (Note_voted_again p.ballot)
+    else vote_turn k c m marks (voted p.ballot tape) p tape (Note_voted p.ballot)
+
+-- an Accept, at a row with this promise
+abbrev pub accept_turn : ℕ → ℕ → ℕ → List Mark → Row → Packet → Tape → Option Ballot → Turn
+accept_turn k c m marks row p tape None = take_vote k c m marks row p tape row.vote
+accept_turn k c m marks row p tape (Some a) =
+    if is_below p.ballot a then answer k m marks row p (Nack a) (Note_nacked a) else take_vote k c m marks row p tape row.vote
+
+-- there is a ballot, and it is b
+abbrev pub is_that : Option Ballot → Ballot → Bool
+is_that None b = false
+is_that (Some a) b = is_same a b
+
+-- the row's promise is b
+abbrev pub is_promised : Row → Ballot → Bool
+is_promised row b = is_that row.promised b
+
+-- a promise is counted; where a majority is counted with it, its tape is proposed
+abbrev pub count_promise : ℕ → ℕ → ℕ → ℕ → List Mark → Row → Packet → Option Vote → Opening → List Counted → Turn
+count_promise k c m now marks row p report o all =
+    if is_majority c (is_counted all)
+    then propose k c m p.number p.ballot now (Promised p.number p.from p.ballot report ∷ marks) row (pick o.own all)
+    else stays row (Promised p.number p.from p.ballot report ∷ marks) (Note_counted p.ballot)
+
+-- a Promise, to the proposal that gathers at its ballot, if any
+abbrev pub promise_turn : ℕ → ℕ → ℕ → ℕ → List Mark → Row → Packet → Option Vote → Option Opening → Turn
+promise_turn k c m now marks row p report None = stays row marks Note_stale
+promise_turn k c m now marks row p report (Some o) =
+    if not (is_promised row p.ballot) then stays row marks (Note_overtaken p.ballot)
+    else if is_counted (counted m p.number o (since_began p.number marks)) p.from then stays row marks Note_repeated
+    else count_promise k c m now marks row p report o (counted m p.number o (Promised p.number p.from p.ballot report ∷ since_began p.number marks))
+
+-- a Nack, to the proposal at its ballot, if any
+abbrev pub nack_turn : List Mark → Row → Packet → Ballot → Option Opening → Turn
+nack_turn marks row p a None = stays row marks Note_stale
+nack_turn marks row p a (Some o) = stays row (Denied p.number a ∷ marks) (Note_denied a)
+
+-- a vote of another member
+abbrev pub accepted_turn : ℕ → List Mark → Row → Packet → Tape → Turn
+accepted_turn c marks row p tape =
+    after_hearing row [] (if was_released p.number marks then Note_settled else Note_heard p.ballot) (hear c p.number p.from p.ballot tape marks)
+
+-- a packet, by its body
+abbrev pub packet_turn : ℕ → ℕ → ℕ → ℕ → List Mark → Row → Packet → Body → Turn
+packet_turn k c m now marks row p Prepare = prepare_turn k m marks row p row.promised
+packet_turn k c m now marks row p (Promise report) = promise_turn k c m now marks row p report (gathering_at p.number p.ballot marks)
+packet_turn k c m now marks row p (Accept tape) = accept_turn k c m marks row p tape row.promised
+packet_turn k c m now marks row p (Accepted tape) = accepted_turn c marks row p tape
+packet_turn k c m now marks row p (Nack a) = nack_turn marks row p a (proposal_at p.number p.ballot marks)
+
+-- the turn of station m of the c of circuit k, with these marks and this row of the event's number;
+-- none where an offer or a search finds no ballot left
+abbrev pub turn : ℕ → ℕ → ℕ → List Mark → Row → Event → Option Turn
+turn k c m marks row (Offered n tape now) = start_turn k c m n (Some tape) now marks row (next row.promised m)
+turn k c m marks row (Sought n now) = start_turn k c m n None now marks row (next row.promised m)
+turn k c m marks row (Came_due n now) = Some (due_turn k c m n now marks row (open_proposal n marks))
+turn k c m marks row (Arrived p now) = Some (packet_turn k c m now marks row p p.body)
