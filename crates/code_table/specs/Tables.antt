@@ -1,0 +1,24 @@
+-- What a code table is, and what its frames mean.
+use Rattle.std.specs.Prelude.{ℕ, List, Option, slice_get, option_map}
+use Rattle.std.specs.Option.{option_flatten}
+use Rattle.code_table.specs.declared.case.Case.{Case}
+use Rattle.code_table.specs.declared.case.Case.TheVariants.{Unshift, Shift}
+use Rattle.code_table.specs.declared.meaning.Meaning.{Meaning}
+use Rattle.code_table.specs.declared.entry.Entry.{Entry}
+
+-- the 64 places of a table: at each frame its entry, where it has one
+abbrev pub Places : Type 0
+Places = List (Option Entry)
+
+-- the entry of a frame, where the table has one
+abbrev pub entry_of : Places → ℕ → Option Entry
+entry_of table frame = option_flatten (slice_get table frame)
+
+-- what an entry has in the column of a case
+abbrev pub in_column : Case → Entry → Meaning
+in_column Unshift entry = entry.unshift
+in_column Shift entry = entry.shift
+
+-- what a frame means in a case: its entry in that column of the table, or nothing
+unfoldable pub mean : Places → Case → ℕ → Option Meaning
+mean table case frame = option_map (in_column case) (entry_of table frame)

@@ -1,0 +1,17 @@
+//! Code tables: what each frame of a tape means, unshifted and shifted.
+#![tactic(auto)]
+
+mod case;
+mod entry;
+mod meaning;
+mod name;
+mod table;
+
+pub use case::Case;
+pub use entry::Entry;
+pub use meaning::Meaning;
+pub use name::Name;
+pub use table::CodeTable;
+
+#[cfg(test)]
+mod tests;

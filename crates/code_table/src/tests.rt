@@ -1,0 +1,6 @@
+use super::*;
+
+#[test]
+fn names(rt: HostRuntime) {
+    assert!(rt; Name::new(b"@a").is_none());
+}
