@@ -1,0 +1,4 @@
+pub mod Bodies
+pub mod Rules
+pub mod Spelling
+pub mod Reading

@@ -1,0 +1,148 @@
+//! What a packet says: a body of one of five kinds.
+
+ghost use Rattle.std.specs.Prelude.{◌≡◌, IfOk, IsOk, false};
+ghost use Rattle.packets.specs.Bodies.{said, told, has_tape};
+ghost use Rattle.packets.specs.Rules.{kind_of, may_send, may_say};
+
+use ballots::{Ballot, Member, Vote, VoteRef};
+use std::alloc::{AllocError, Global};
+use tape_frames::{Tape, TapeRef};
+
+/// The kind of a packet.
+#[derive(Clone, Copy, Debug, PartialEq, Eq)]
+pub(crate) enum Kind {
+    Prepare,
+    Promise,
+    Accept,
+    Accepted,
+    Nack,
+}
+
+/// What a packet says, its tapes lent.
+#[derive(Debug, Drop)]
+pub enum BodyRef<'a> {
+    /// A request to promise.
+    Prepare,
+    /// The promise, with the highest vote below the ballot, if any.
+    Promise { report: Option<VoteRef<'a>> },
+    /// A request to vote for the tape.
+    Accept { tape: TapeRef<'a> },
+    /// The news of a vote for the tape.
+    Accepted { tape: TapeRef<'a> },
+    /// A refusal, with the higher promise that stands in the way.
+    Nack { promised: Ballot },
+}
+
+/// What a packet says, with frames of its own.
+#[derive(Debug, Drop)]
+pub enum Body {
+    /// A request to promise.
+    Prepare,
+    /// The promise, with the highest vote below the ballot, if any.
+    Promise { report: Option<Vote> },
+    /// A request to vote for the tape.
+    Accept { tape: Tape },
+    /// The news of a vote for the tape.
+    Accepted { tape: Tape },
+    /// A refusal, with the higher promise that stands in the way.
+    Nack { promised: Ballot },
+}
+
+/// Whether the ballot's owner is the member that a packet of this kind asks for.
+pub(crate) fn may_send(kind: Kind, owner: Member, from: Member, to: Member) -> bool
+    ensures { result ≡ may_send kind owner from to }
+{
+    match kind {
+        Kind::Prepare | Kind::Accept => owner.get() == from.get(),
+        Kind::Promise | Kind::Nack => owner.get() == to.get(),
+        Kind::Accepted => true,
+    }
+}
+
+impl<'a> BodyRef<'a> {
+    /// The kind of packet that says this.
+    pub(crate) fn kind(&self) -> Kind
+        ensures { result ≡ kind_of (said self.now) }
+    {
+        match self {
+            BodyRef::Prepare => Kind::Prepare,
+            BodyRef::Promise { .. } => Kind::Promise,
+            BodyRef::Accept { .. } => Kind::Accept,
+            BodyRef::Accepted { .. } => Kind::Accepted,
+            BodyRef::Nack { .. } => Kind::Nack,
+        }
+    }
+
+    /// Whether a reported vote is below the ballot, and a refusing promise above it.
+    pub(crate) fn may_say(&self, ballot: Ballot) -> bool
+        ensures { result ≡ may_say (said self.now) ballot }
+    {
+        match self {
+            BodyRef::Promise { report: Some(vote) } => vote.ballot().is_below(ballot),
+            BodyRef::Nack { promised } => ballot.is_below(*promised),
+            _ => true,
+        }
+    }
+
+    /// The same, lent once more.
+    pub fn lend(&self) -> BodyRef<'a>
+        ensures { said result ≡ said self.now }
+    {
+        match self {
+            BodyRef::Prepare => BodyRef::Prepare,
+            BodyRef::Promise { report: None } => BodyRef::Promise { report: None },
+            BodyRef::Promise { report: Some(vote) } => BodyRef::Promise {
+                report: Some(vote.lend()),
+            },
+            BodyRef::Accept { tape } => BodyRef::Accept { tape: tape.lend() },
+            BodyRef::Accepted { tape } => BodyRef::Accepted { tape: tape.lend() },
+            BodyRef::Nack { promised } => BodyRef::Nack {
+                promised: *promised,
+            },
+        }
+    }
+
+    /// The same with frames of its own; it takes no memory where there is no tape.
+    pub fn copy(&self, alloc: Global) -> Result<Body, AllocError>
+        ensures same { IfOk result (λ b. told b ≡ said self.now) }
+        ensures no_memory { has_tape (said self.now) ≡ false → IsOk result }
+    {
+        let body = match self {
+            BodyRef::Prepare => Body::Prepare,
+            BodyRef::Promise { report: None } => Body::Promise { report: None },
+            BodyRef::Promise { report: Some(vote) } => Body::Promise {
+                report: Some(vote.copy(alloc)?),
+            },
+            BodyRef::Accept { tape } => Body::Accept {
+                tape: tape.copy(alloc)?,
+            },
+            BodyRef::Accepted { tape } => Body::Accepted {
+                tape: tape.copy(alloc)?,
+            },
+            BodyRef::Nack { promised } => Body::Nack {
+                promised: *promised,
+            },
+        };
+        Ok(body)
+    }
+}
+
+impl Body {
+    /// The same, its tapes lent.
+    pub fn lend(&self) -> BodyRef<'_>
+        ensures { said result ≡ told self.now }
+    {
+        match self {
+            Body::Prepare => BodyRef::Prepare,
+            Body::Promise { report: None } => BodyRef::Promise { report: None },
+            Body::Promise { report: Some(vote) } => BodyRef::Promise {
+                report: Some(vote.lend()),
+            },
+            Body::Accept { tape } => BodyRef::Accept { tape: tape.lend() },
+            Body::Accepted { tape } => BodyRef::Accepted { tape: tape.lend() },
+            Body::Nack { promised } => BodyRef::Nack {
+                promised: *promised,
+            },
+        }
+    }
+}

@@ -1,0 +1,29 @@
+//! Why bytes are no packet.
+
+/// The first fault of the bytes. The header's come in the order in which they stand here, from `Short`
+/// to `BadSender`; the body's, `Short`, `BadReport` and `BadFrames`, in the order of its bytes; then `Long`.
+#[derive(Clone, Copy, Debug, PartialEq, Eq)]
+pub enum PacketFault {
+    /// The bytes end before the packet does.
+    Short,
+    /// The bytes don't begin with `TN`.
+    BadMark,
+    /// The version is not 1.
+    BadVersion,
+    /// The kind is not 1 to 5.
+    BadKind,
+    /// The sender or the addressee is no member, or they are one member.
+    BadMember,
+    /// The circuit number is not 1 to 999,999.
+    BadNumber,
+    /// The round is 0, or the owner is no member.
+    BadBallot,
+    /// A request's ballot is not its sender's, or the ballot of an answer to it not its addressee's.
+    BadSender,
+    /// The flag of a report is above 1, or the ballot behind it is none or on the wrong side of the packet's.
+    BadReport,
+    /// The length of a tape is not 1 to 4,096, or a frame is above 63.
+    BadFrames,
+    /// Bytes stand after the packet.
+    Long,
+}

@@ -1,0 +1,15 @@
+//! Packets, what stations say to one another, and their one spelling in bytes.
+#![tactic(auto)]
+
+mod body;
+mod decoding;
+mod encoding;
+mod fault;
+mod header;
+mod packet;
+
+pub use body::{Body, BodyRef};
+pub use decoding::decode;
+pub use encoding::encode;
+pub use fault::PacketFault;
+pub use packet::{Packet, PacketRef};

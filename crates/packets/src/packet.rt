@@ -1,0 +1,181 @@
+//! Packets, owned and lent.
+
+ghost use Rattle.std.specs.Prelude.{◌≡◌, ◌↔◌, IsSome, IfSome, IfOk, IsOk, IsTrue, false};
+ghost use Rattle.packets.specs.Bodies.{said, has_tape};
+ghost use Rattle.packets.specs.Rules.{keeps_rules};
+
+use crate::body::{Body, BodyRef, may_send};
+use ballots::{Ballot, Member, Number};
+use std::alloc::{AllocError, Global};
+use std::marker::Model;
+
+/// A packet whose tape is lent. Clauses see the protocol's packet.
+///
+/// Its sender and its addressee are two members. The ballot of a Prepare or an Accept is its sender's,
+/// and that of a Promise or a Nack its addressee's. A reported vote is below the ballot, and the promise
+/// of a Nack above it.
+#[derive(Debug, Drop)]
+pub struct PacketRef<'a> {
+    circuit: u16,
+    from: Member,
+    to: Member,
+    number: Number,
+    ballot: Ballot,
+    body: BodyRef<'a>,
+}
+
+impl<'a> Model for PacketRef<'a> {
+    ghost use Rattle.std.specs.Prelude.{IsTrue};
+    ghost use Rattle.protocol.specs.Packets.{Packet as PacketValue};
+    ghost use Rattle.packets.specs.Bodies.{said};
+    ghost use Rattle.packets.specs.Rules.{keeps_rules};
+
+    ghost Value = { PacketValue };
+
+    ghost view = { λ p. record { circuit = p.circuit; from = p.from; to = p.to; number = p.number; ballot = p.ballot; body = said p.body } };
+
+    ghost invariant = { λ p. IsTrue (keeps_rules (record { circuit = p.circuit; from = p.from; to = p.to; number = p.number; ballot = p.ballot; body = said p.body })) };
+}
+
+/// A packet with frames of its own. It keeps the same rules.
+#[derive(Debug, Drop)]
+pub struct Packet {
+    circuit: u16,
+    from: Member,
+    to: Member,
+    number: Number,
+    ballot: Ballot,
+    body: Body,
+}
+
+impl Model for Packet {
+    ghost use Rattle.std.specs.Prelude.{IsTrue};
+    ghost use Rattle.protocol.specs.Packets.{Packet as PacketValue};
+    ghost use Rattle.packets.specs.Bodies.{told};
+    ghost use Rattle.packets.specs.Rules.{keeps_rules};
+
+    ghost Value = { PacketValue };
+
+    ghost view = { λ p. record { circuit = p.circuit; from = p.from; to = p.to; number = p.number; ballot = p.ballot; body = told p.body } };
+
+    ghost invariant = { λ p. IsTrue (keeps_rules (record { circuit = p.circuit; from = p.from; to = p.to; number = p.number; ballot = p.ballot; body = told p.body })) };
+}
+
+impl<'a> PacketRef<'a> {
+    /// The packet of these fields; `None` where they break a rule. `circuit` is any number.
+    pub fn new(
+        circuit: u16,
+        from: Member,
+        to: Member,
+        number: Number,
+        ballot: Ballot,
+        body: BodyRef<'a>,
+    ) -> Option<PacketRef<'a>>
+        ensures some { IsSome result ↔ IsTrue (keeps_rules (record { circuit = circuit; from = from; to = to; number = number; ballot = ballot; body = said body.entry })) }
+        ensures value { IfSome result (λ p. p ≡ record { circuit = circuit; from = from; to = to; number = number; ballot = ballot; body = said body.entry }) }
+    {
+        if from.get() == to.get() {
+            return None;
+        }
+        if !may_send(body.kind(), ballot.owner(), from, to) || !body.may_say(ballot) {
+            return None;
+        }
+        Some(PacketRef {
+            circuit,
+            from,
+            to,
+            number,
+            ballot,
+            body,
+        })
+    }
+
+    /// The circuit that it belongs to.
+    pub fn circuit(&self) -> u16
+        ensures { result ≡ self.now.circuit }
+    {
+        self.circuit
+    }
+
+    /// The member that sends it.
+    pub fn from(&self) -> Member
+        ensures { result ≡ self.now.from }
+    {
+        self.from
+    }
+
+    /// The member that it is sent to.
+    pub fn to(&self) -> Member
+        ensures { result ≡ self.now.to }
+    {
+        self.to
+    }
+
+    /// The number whose tape it is about.
+    pub fn number(&self) -> Number
+        ensures { result ≡ self.now.number }
+    {
+        self.number
+    }
+
+    /// Its ballot.
+    pub fn ballot(&self) -> Ballot
+        ensures { result ≡ self.now.ballot }
+    {
+        self.ballot
+    }
+
+    /// What it says.
+    pub fn body(&self) -> &BodyRef<'a>
+        ensures body { said result.now ≡ self.now.body }
+        ensures rules { IsTrue (keeps_rules self.now) }
+    {
+        &self.body
+    }
+
+    /// The same packet, lent once more.
+    pub fn lend(&self) -> PacketRef<'a>
+        ensures { result ≡ self.now }
+    {
+        PacketRef {
+            circuit: self.circuit,
+            from: self.from,
+            to: self.to,
+            number: self.number,
+            ballot: self.ballot,
+            body: self.body.lend(),
+        }
+    }
+
+    /// An equal packet with frames of its own; it takes no memory where there is no tape.
+    pub fn copy(&self, alloc: Global) -> Result<Packet, AllocError>
+        ensures same { IfOk result (λ p. p ≡ self.now) }
+        ensures no_memory { has_tape self.now.body ≡ false → IsOk result }
+    {
+        let body = self.body.copy(alloc)?;
+        Ok(Packet {
+            circuit: self.circuit,
+            from: self.from,
+            to: self.to,
+            number: self.number,
+            ballot: self.ballot,
+            body,
+        })
+    }
+}
+
+impl Packet {
+    /// The same packet, its tape lent.
+    pub fn lend(&self) -> PacketRef<'_>
+        ensures { result ≡ self.now }
+    {
+        PacketRef {
+            circuit: self.circuit,
+            from: self.from,
+            to: self.to,
+            number: self.number,
+            ballot: self.ballot,
+            body: self.body.lend(),
+        }
+    }
+}
