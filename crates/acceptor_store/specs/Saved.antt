@@ -1,0 +1,34 @@
+-- Saved rows: a map from numbers to rows, blank where none is saved, with a count of refusals.
+use Rattle.std.specs.Prelude.{◌≡◌, ◌⊎◌, ◌<◌, ◌≤◌, ◌-◌, ◌^◌, ◌==◌, ℕ, if◌then◌else◌, Option, Some, None, IsSome}
+use Rattle.protocol.specs.Rows.{Row, blank}
+
+-- the row of each number
+abbrev pub Saved : Type 0
+Saved = ℕ → Row
+
+-- the map with this row under a number
+abbrev pub with_row : Saved → ℕ → Row → Saved
+with_row saved number row n = if n == number then row else saved n
+
+-- each number has the row that it had
+abbrev pub SameRows : Saved → Saved → Type 0
+SameRows old new = (n : ℕ) → new n ≡ old n
+
+-- one number has this row now, and each other the row that it had
+abbrev pub WithRow : Saved → ℕ → Row → Saved → Type 0
+WithRow old number row new = (n : ℕ) → new n ≡ with_row old number row n
+
+-- no row is changed, or this one alone
+abbrev pub IsEither : Saved → ℕ → Row → Saved → Type 0
+IsEither old number row new = SameRows old new ⊎ WithRow old number row new
+
+abbrev pub or_blank : Option Row → Row
+or_blank None = blank
+or_blank (Some row) = row
+
+-- the count is greater now, or stood at its greatest value
+abbrev pub Rises : ℕ → ℕ → Type 0
+Rises old new = (old < new) ⊎ (2 ^ 64 - 1 ≤ old)
+
+abbrev pub HasPromise : Row → Type 0
+HasPromise row = IsSome row.promised

@@ -1,0 +1,118 @@
+//! Rows of which one save can be refused.
+
+ghost use Rattle.std.specs.Prelude.{◌≡◌, ◌≤◌, ◌⊎◌, ◌+◌, ℕ, None, Some, true, false, IsSome, Err, OnOk, OnErr};
+ghost use Rattle.acceptor_store.specs.Saved.{WithRow, IsEither, HasPromise, Rises};
+
+use crate::fault::RowsFault;
+use crate::rows::Rows;
+use ballots::{Number, Row};
+
+/// Rows whose next save can be made to be refused, to rehearse a store that fails.
+/// Clauses see the rows inside, how it is armed, and how many saves it refused itself.
+#[derive(Drop)]
+pub struct Balky<R: Rows> {
+    rows: R,
+    armed: Option<bool>,
+    refusals: u64,
+}
+
+impl<R: Rows> Balky<R> {
+    /// These rows, unarmed.
+    pub fn new(rows: R) -> Balky<R>
+        ensures { result ≡ record { rows = rows; armed = None; refusals = 0 } }
+    {
+        Balky {
+            rows,
+            armed: None,
+            refusals: 0,
+        }
+    }
+
+    /// The next save is refused as `Store`: after it was passed on where `saved`, else without.
+    /// Of two calls the last counts.
+    pub fn arm(&mut self, saved: bool)
+        ensures { self.new ≡ record self.old { armed = Some saved } }
+    {
+        self.armed = Some(saved);
+    }
+
+    /// The rows inside.
+    pub fn rows(&self) -> &R
+        ensures { result.now ≡ self.now.rows }
+    {
+        &self.rows
+    }
+
+    /// The rows inside, given up.
+    pub fn into_rows(self) -> R
+        ensures { result ≡ self.rows }
+    {
+        let Balky {
+            rows,
+            armed: _,
+            refusals: _,
+        } = self;
+        rows
+    }
+}
+
+impl<R: Rows> Rows for Balky<R> {
+    ghost kept = { λ s. R.kept s.rows };
+
+    ghost is_open = { λ s. R.is_open s.rows };
+
+    ghost saved = { λ s. R.saved s.rows };
+
+    ghost refusals = { λ s. R.refusals s.rows + s.refusals };
+
+    // A reading leaves it armed as it was.
+    ghost alike = { λ old new. (new.armed ≡ old.armed) × R.alike old.rows new.rows };
+
+    // Only unarmed it saves.
+    ghost passes = { λ old new. (old.armed ≡ None) × (new.armed ≡ None) × R.passes old.rows new.rows };
+
+    // A refused save leaves it unarmed. Armed as unsaved it passed nothing on, and unarmed it tells what its rows do.
+    // Armed as saved the row is saved, or its rows refused it too.
+    ghost tells = { λ old new number row. (new.armed ≡ None)
+        × (old.armed ≡ Some false → new.rows ≡ old.rows)
+        × (old.armed ≡ None → R.tells old.rows new.rows number row)
+        × (old.armed ≡ Some true →
+        (R.kept new.rows → WithRow (R.saved old.rows) number row (R.saved new.rows))
+        ⊎ (Rises (R.refusals old.rows) (R.refusals new.rows) × R.tells old.rows new.rows number row)) };
+
+    fn get(&mut self, number: Number) -> Result<Row, RowsFault> {
+        self.rows.get(number)
+    }
+
+    fn put(&mut self, number: Number, row: &Row) -> Result<(), RowsFault>
+        requires { HasPromise row.now }
+        ensures row { R.kept self.new.rows → OnOk result (WithRow (R.saved self.old.rows) number row.now (R.saved self.new.rows)) }
+        ensures open { R.kept self.new.rows → OnOk result (R.is_open self.new.rows) }
+        ensures passes { OnOk result ((self.old.armed ≡ None) × (self.new.armed ≡ None) × R.passes self.old.rows self.new.rows) }
+        ensures either { R.kept self.new.rows → OnErr result ((¬ R.is_open self.new.rows) ⊎ IsEither (R.saved self.old.rows) number row.now (R.saved self.new.rows)) }
+        ensures tells { OnErr result ((self.new.armed ≡ None)
+            × (self.old.armed ≡ Some false → self.new.rows ≡ self.old.rows)
+            × (self.old.armed ≡ None → R.tells self.old.rows self.new.rows number row.now)
+            × (self.old.armed ≡ Some true →
+            (R.kept self.new.rows → WithRow (R.saved self.old.rows) number row.now (R.saved self.new.rows))
+            ⊎ (Rises (R.refusals self.old.rows) (R.refusals self.new.rows) × R.tells self.old.rows self.new.rows number row.now))) }
+        ensures cause { OnErr result (Rises (R.refusals self.old.rows + self.old.refusals) (R.refusals self.new.rows + self.new.refusals)) }
+        ensures counts { R.refusals self.old.rows + self.old.refusals ≤ R.refusals self.new.rows + self.new.refusals }
+        ensures was_kept { R.kept self.new.rows → R.kept self.old.rows }
+        ensures was_open { R.kept self.new.rows → R.is_open self.new.rows → R.is_open self.old.rows }
+
+        // An armed one refuses this save, and is unarmed by it.
+        ensures refused { IsSome self.old.armed → result ≡ Err RowsFault.Store }
+        ensures unarmed { self.new.armed ≡ None }
+    {
+        let Some(saved) = self.armed else {
+            return self.rows.put(number, row);
+        };
+        self.armed = None;
+        if saved {
+            let _ = self.rows.put(number, row);
+        }
+        self.refusals = self.refusals.saturating_add(1);
+        Err(RowsFault::Store)
+    }
+}

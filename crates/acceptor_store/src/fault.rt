@@ -1,0 +1,16 @@
+//! Why rows could not be read or saved.
+
+/// Why a call on saved rows was refused.
+#[derive(Clone, Copy, Debug, PartialEq, Eq)]
+pub enum RowsFault {
+    /// The store refused: a statement or a save failed, or an earlier save did.
+    Store,
+    /// The rows belong to another station.
+    WrongStation,
+    /// The tables are there, and are not of a layout that is known.
+    WrongSchema,
+    /// What is stored under this key is no row, or the key is no circuit number.
+    Damaged { number: i64 },
+    /// A growth was refused.
+    OutOfMemory,
+}

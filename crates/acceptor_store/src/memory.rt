@@ -1,0 +1,126 @@
+//! Rows in memory.
+
+ghost use Rattle.std.specs.Prelude.{◌≡◌, ◌≤◌, ℕ, None, IfOk, IsOk, OnOk, OnErr, IfErr, option_copied};
+ghost use Rattle.protocol.specs.Rows.{blank};
+ghost use Rattle.acceptor_store.specs.Saved.{SameRows, WithRow, Rises, or_blank};
+
+use crate::fault::RowsFault;
+use crate::rows::Rows;
+use ballots::{Number, Row};
+use std::alloc::{AllocError, Global};
+use std::collections::BTreeMap;
+use std::mem;
+
+/// Rows that last as long as the program. Clauses see the map `saved`.
+#[derive(Drop)]
+pub struct MemoryRows {
+    rows: BTreeMap<u32, Row>,
+    refusals: u64,
+    alloc: Global,
+}
+
+impl MemoryRows {
+    ghost use Rattle.acceptor_store.specs.Memory.{saved};
+
+    /// The empty map.
+    pub fn new(alloc: Global) -> MemoryRows
+        ensures blank { (n : ℕ) → saved result n ≡ blank }
+        ensures refusals { result.refusals ≡ 0 }
+    {
+        MemoryRows {
+            rows: BTreeMap::new(alloc),
+            refusals: 0,
+            alloc,
+        }
+    }
+
+    /// The row of a number, lent; `None` where none is saved.
+    pub fn row(&self, number: Number) -> Option<&Row>
+        ensures { or_blank (option_copied result) ≡ saved self.now number }
+    {
+        let key = number.get();
+        self.rows.get(&key)
+    }
+
+    /// Takes the row of a number out, and leaves a blank one in its place.
+    ///
+    /// With [`MemoryRows::save`] a row is changed without a copy of its tape.
+    pub fn take(&mut self, number: Number) -> Row
+        ensures row { result ≡ saved self.old number }
+        ensures blank { WithRow (saved self.old) number blank (saved self.new) }
+        ensures refusals { self.new.refusals ≡ self.old.refusals }
+    {
+        let key = number.get();
+        match self.rows.get_mut(&key) {
+            Some(row) => mem::replace(row, Row::blank()),
+            None => Row::blank(),
+        }
+    }
+
+    /// Saves the row of a number in place of the one before, and takes no copy of it.
+    ///
+    /// Where memory is refused the row is given up and the rows stay.
+    pub fn save(&mut self, number: Number, row: Row) -> Result<(), AllocError>
+        ensures ok { OnOk result (WithRow (saved self.old) number row (saved self.new)) }
+        ensures err { OnErr result (SameRows (saved self.old) (saved self.new)) }
+        ensures cause { OnErr result (Rises self.old.refusals self.new.refusals) }
+        ensures counts { self.old.refusals ≤ self.new.refusals }
+    {
+        match self.rows.insert(number.get(), row) {
+            Ok(_) => Ok(()),
+            Err(_) => {
+                self.refusals = self.refusals.saturating_add(1);
+                Err(AllocError)
+            }
+        }
+    }
+}
+
+impl Rows for MemoryRows {
+    ghost use Rattle.acceptor_store.specs.Memory.{saved};
+
+    ghost kept = { λ _. Unit {0} };
+
+    ghost is_open = { λ _. Unit {0} };
+
+    ghost saved = { saved };
+
+    ghost refusals = { λ s. s.refusals };
+
+    fn get(&mut self, number: Number) -> Result<Row, RowsFault>
+        ensures row { IfOk result (λ row. row ≡ saved self.old number) }
+        ensures same { SameRows (saved self.old) (saved self.new) }
+        ensures err { IfErr result (λ e. e ≡ RowsFault.OutOfMemory) }
+        ensures no_memory { (saved self.old number).vote ≡ None → IsOk result }
+        ensures cause { OnErr result (Rises self.old.refusals self.new.refusals) }
+        ensures counts { self.old.refusals ≤ self.new.refusals }
+    {
+        let Some(row) = self.row(number) else {
+            return Ok(Row::blank());
+        };
+        match row.copy(self.alloc) {
+            Ok(copy) => Ok(copy),
+            Err(_) => {
+                self.refusals = self.refusals.saturating_add(1);
+                Err(RowsFault::OutOfMemory)
+            }
+        }
+    }
+
+    fn put(&mut self, number: Number, row: &Row) -> Result<(), RowsFault>
+        ensures row { OnOk result (WithRow (saved self.old) number row.now (saved self.new)) }
+        ensures same { OnErr result (SameRows (saved self.old) (saved self.new)) }
+        ensures err { IfErr result (λ e. e ≡ RowsFault.OutOfMemory) }
+        ensures cause { OnErr result (Rises self.old.refusals self.new.refusals) }
+        ensures counts { self.old.refusals ≤ self.new.refusals }
+    {
+        let Ok(copy) = row.copy(self.alloc) else {
+            self.refusals = self.refusals.saturating_add(1);
+            return Err(RowsFault::OutOfMemory);
+        };
+        match self.save(number, copy) {
+            Ok(()) => Ok(()),
+            Err(_) => Err(RowsFault::OutOfMemory),
+        }
+    }
+}

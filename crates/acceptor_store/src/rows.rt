@@ -1,0 +1,70 @@
+//! What a station asks of its saved rows.
+
+ghost use Rattle.std.specs.Prelude.{◌≡◌, ◌≤◌, ◌⊎◌, ℕ, IfOk, OnOk, OnErr};
+ghost use Rattle.protocol.specs.Rows.{Row as RowValue};
+ghost use Rattle.acceptor_store.specs.Saved.{Saved, SameRows, WithRow, IsEither, HasPromise, Rises};
+
+use crate::fault::RowsFault;
+use ballots::{Number, Row};
+
+/// A finite map from numbers to rows, blank where none is saved, with a count of the calls that it refused.
+/// It is the stable storage of an acceptor (Lamport 2001): what `put` saved, a later `get` finds.
+pub trait Rows: Drop {
+    // Nobody else wrote to it, and it reads back what was written.
+    ghost kept: { Self → Type 0 };
+
+    // No failure has shut it.
+    ghost is_open: { Self → Type 0 };
+
+    // The map, while it is open.
+    ghost saved: { Self → Saved };
+
+    // How many calls it refused.
+    ghost refusals: { Self → ℕ };
+
+    // What else a `get` leaves, what else the Ok of a `put` shows and what else its Err tells,
+    // for a caller that knows the type.
+    ghost alike: { Self → Self → Type 0 } = { λ _ _. Unit {0} };
+
+    ghost passes: { Self → Self → Type 0 } = { λ _ _. Unit {0} };
+
+    ghost tells: { Self → Self → ℕ → RowValue → Type 0 } = { λ _ _ _ _. Unit {0} };
+
+    /// The row of a number, blank where none is saved. No row is changed.
+    ///
+    /// A refusal is counted. `Damaged` comes only where another wrote to the store.
+    fn get(&mut self, number: Number) -> Result<Row, RowsFault>
+        ensures row { kept self.new → IfOk result (λ row. row ≡ saved self.old number) }
+        ensures open { kept self.new → OnOk result (is_open self.new) }
+        ensures same { kept self.new → is_open self.new → SameRows (saved self.old) (saved self.new) }
+        ensures alike { alike self.old self.new }
+
+        // It is refused only where the count rises.
+        ensures cause { OnErr result (Rises (refusals self.old) (refusals self.new)) }
+        ensures counts { refusals self.old ≤ refusals self.new }
+
+        // What held as the call ended held before.
+        ensures was_kept { kept self.new → kept self.old }
+        ensures was_open { kept self.new → is_open self.new → is_open self.old };
+
+    /// Saves the row of a number in place of the one before. No other row is changed.
+    ///
+    /// A refusal is counted; it leaves the rows as they were, or with this one saved.
+    fn put(&mut self, number: Number, row: &Row) -> Result<(), RowsFault>
+        requires { HasPromise row.now }
+        ensures row { kept self.new → OnOk result (WithRow (saved self.old) number row.now (saved self.new)) }
+        ensures open { kept self.new → OnOk result (is_open self.new) }
+        ensures passes { OnOk result (passes self.old self.new) }
+
+        // Where it is refused and still open, the map is one of two.
+        ensures either { kept self.new → OnErr result ((¬ is_open self.new) ⊎ IsEither (saved self.old) number row.now (saved self.new)) }
+        ensures tells { OnErr result (tells self.old self.new number row.now) }
+
+        // It is refused only where the count rises.
+        ensures cause { OnErr result (Rises (refusals self.old) (refusals self.new)) }
+        ensures counts { refusals self.old ≤ refusals self.new }
+
+        // What held as the call ended held before.
+        ensures was_kept { kept self.new → kept self.old }
+        ensures was_open { kept self.new → is_open self.new → is_open self.old };
+}
