@@ -1,2 +1,16 @@
 pub mod Order
 pub mod Requests
+pub mod Below
+pub mod Majorities
+pub mod Sound
+pub mod Growth
+pub mod Places
+pub mod Moves
+pub mod Looking
+pub mod Reading
+pub mod Station
+pub mod Meeting
+pub mod Proposing
+pub mod Turns
+pub mod Steps
+pub mod Agreements

@@ -7,3 +7,8 @@ pub mod Marks
 pub mod Proposals
 pub mod Learner
 pub mod Turn
+pub mod Readings
+pub mod Table
+pub mod Refusals
+pub mod Circuit
+pub mod Agreement

@@ -1,8 +1,54 @@
 //! Laws over the definitions. The functions do nothing: their contracts are the laws.
+//! Those over histories are for any circuit: `D` is what a datagram's fault is, `G` what setting a tape gives, `F` its fault.
 
 ghost use Rattle.protocol.specs.Acceptor.{StepsAreOfTheWhole};
+ghost use Rattle.protocol.specs.Agreement.{BallotsHaveOneTape, ChosenIsOne, HeardIsVoted, HistoriesAgree, PromisesBind, ReportsAreGreatest, RipeIsChosen, VotesAreBacked, VotesAreOffered};
+ghost use Rattle.protocol.specs.Table.{TurnsAreOfTheTable};
 
 /// An acceptor that keeps one row answers as the whole list of its requests says.
 pub fn acceptor_steps()
     ensures { StepsAreOfTheWhole }
+{}
+
+/// The turn that is computed is one of the table.
+pub fn turns_are_of_the_table()
+    ensures { TurnsAreOfTheTable }
+{}
+
+/// All votes and Accepts of one number and ballot carry one tape.
+pub fn one_tape<D, G, F>()
+    ensures { BallotsHaveOneTape D G F }
+{}
+
+/// Every voted tape was offered.
+pub fn votes_are_offered<D, G, F>()
+    ensures { VotesAreOffered D G F }
+{}
+
+/// After a Promise of a member at a ballot it takes no vote below that ballot, and the report was its greatest vote there.
+pub fn promises_are_kept<D, G, F>()
+    ensures bind { PromisesBind D G F }
+    ensures reports { ReportsAreGreatest D G F }
+{}
+
+/// Below each vote every ballot is backed by a majority.
+pub fn votes_are_backed<D, G, F>()
+    ensures { VotesAreBacked D G F }
+{}
+
+/// Each vote that was heard was taken.
+pub fn heard_is_voted<D, G, F>()
+    ensures { HeardIsVoted D G F }
+{}
+
+/// What is ripe is chosen, and two chosen tapes of one number are equal.
+pub fn chosen_is_one<D, G, F>()
+    ensures ripe { RipeIsChosen D G F }
+    ensures one { ChosenIsOne D G F }
+{}
+
+/// Over every history no two releases of one number differ, each released tape was offered for its number,
+/// and what is made of it is what its member's table and widths make of it.
+pub fn agreement<D, G, F>()
+    ensures { HistoriesAgree D G F }
 {}

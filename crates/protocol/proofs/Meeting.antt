@@ -1,0 +1,248 @@
+-- The computed turn is one that the table allows.
+use Rattle.std.proofs.Common.{◌≡◌, ℕ, zero, suc, ◌+◌, ◌*◌, ◌<◌, ◌≤◌, ◌⊎◌, inl, inr, refl, sym, ap, subst, ◌∙◌, arith, List, [], ◌∷◌, ◌++◌, Option, Some, None, Bool, true, false}
+use Rattle.std.specs.Prelude.{◌==◌, nat_le, if◌then◌else◌, not, MatchOption}
+use Rattle.std.proofs.lemmas.Bool.{eqb-true, eqb-false, leb-true, leb-false}
+use Rattle.protocol.specs.Ballots.{Ballot, IsBelow, IsAtMost, IsMember, Majority, IsNoneOrAtMost, IsNoneOrBelow, next, is_same, is_below, is_majority}
+use Rattle.protocol.specs.Rows.{Tape, Vote, Row, raised, voted}
+use Rattle.protocol.specs.Packets.{Packet, Body, Prepare, Promise, Accept, Accepted, Nack}
+use Rattle.protocol.specs.Marks.{Mark, Began, Promised, Proposed, Denied, Heard, Closed, Released}
+use Rattle.protocol.specs.Lists.{IsAmong}
+use Rattle.protocol.specs.Readings.{IsReleased, IsOpen, Gathers, IsCounted, Picks, GreatestDenied, LastMoved, IsDue}
+use Rattle.protocol.specs.Proposals.{begun, Opening, was_released, since_began, open_proposal, proposal_at, gathering_at, Counted, counted, is_counted, pick, denied, moved, due_moment}
+use Rattle.protocol.specs.Turn.{Event, Offered, Sought, Came_due, Arrived, Note, Note_began, Note_proposed, Note_nothing, Note_gave_up, Note_promised, Note_voted, Note_voted_again, Note_counted, Note_heard, Note_denied, Note_overtaken, Note_idle, Note_silent, Note_stale, Note_repeated, Note_settled, Turn, stays, packet_to, to_others, Hearing, settle, hear, after_hearing, propose, begin, start_turn, greater_ballot, renew, due_turn, answer, prepare_turn, vote_turn, take_vote, accept_turn, is_that, is_promised, count_promise, promise_turn, nack_turn, accepted_turn, packet_turn, turn}
+use Rattle.protocol.specs.Table.{Hears, was_settled, waits, releases, Proposes, nothing, proposes, Begins, asks, alone, StartTurn, starts, IsGreater, DueTurn, is_idle, gives_up, begins_anew, PrepareTurn, promises, is_silent, VotedAt, AcceptTurn, votes_again, votes, PromiseTurn, is_stale, is_overtaken, is_repeated, counts, completes, NackTurn, is_denied, AcceptedTurn, settles, hears, AnswerTurn, IsTurn, IsSpent, TurnsAreOfTheTable}
+use Rattle.protocol.specs.Table as table
+use Rattle.protocol.specs.Learner.{ripe}
+use Rattle.protocol.proofs.Below.{below_weaken, at_most_cases, at_most_refl}
+use Rattle.protocol.proofs.Reading.{is_same-true, is_same-self, is_below-true, is_below-false, released_is, unreleased_is, OpenAs, open_is, ReadAs, open_read, proposal_is, proposal_none, gathering_is, gathering_none, is_counted-one, one-is_counted, majority_of, no_majority_of, pick_is, denied_is, moved_is, moved_read, ripe_is, ripe_none}
+
+some_none : {A : Type 0} {x : A} → Some x ≡ None → ⊥
+some_none e = cc
+
+-- a vote that is heard
+
+pub hear_is : (c n k : ℕ) (b : Ballot) (t : Tape) (marks : List Mark) → Hears c n k b t marks (hear c n k b t marks).release (hear c n k b t marks).marks
+hear_is c n k b t marks = go (was_released n marks) refl
+  where
+    settled : ¬ IsReleased marks n → (r : Option Vote) → ripe c n (Heard n k b t ∷ marks) ≡ r → Hears c n k b t marks (settle n (Heard n k b t ∷ marks) r).release (settle n (Heard n k b t ∷ marks) r).marks
+    settled h None e = waits h (ripe_none c n (Heard n k b t ∷ marks) e) refl refl
+    settled h (Some v) e = releases v.ballot v.tape h (ripe_is c n (Heard n k b t ∷ marks) v e) refl refl
+
+    go : (s : Bool) → was_released n marks ≡ s → Hears c n k b t marks (hear c n k b t marks).release (hear c n k b t marks).marks
+    go true e = rw e (was_settled (released_is n marks e) refl refl)
+    go false e = rw e (settled (unreleased_is n marks e) (ripe c n (Heard n k b t ∷ marks)) refl)
+
+-- propose and begin
+
+pub propose_is :
+    (circuit c m n : ℕ) (b : Ballot) (now : ℕ) (own : Option Tape) (report : Option Vote) (since : List Mark) (row : Row) (marks : List Mark) (r : Option Tape)
+    → Picks m n b own report since r → Proposes circuit c m n b now own report since row marks (propose circuit c m n b now marks row r)
+propose_is circuit c m n b now own report since row marks None h = nothing h refl
+propose_is circuit c m n b now own report since row marks (Some tape) h = proposes tape (hear c n m b tape (Proposed n b now ∷ marks)).release (hear c n m b tape (Proposed n b now ∷ marks)).marks h (hear_is c n m b tape (Proposed n b now ∷ marks)) refl
+
+pub begin_is : (circuit c m n : ℕ) (b : Ballot) (own : Option Tape) (now : ℕ) (row : Row) (marks : List Mark) → 1 ≤ c → Begins circuit c m n b own now row marks (begin circuit c m n b own now marks row)
+begin_is circuit c m n b own now row marks l = go (c == 1) refl
+  where
+    go : (s : Bool) → (c == 1) ≡ s → Begins circuit c m n b own now row marks (begin circuit c m n b own now marks row)
+    go true e =
+        rw e (alone (eqb-true c 1 e) (propose_is circuit c m n b now own row.vote [] (raised row b) (Began n b own row.vote now ∷ marks) (pick own (record { member = m; report = row.vote } ∷ []))
+            (pick_is m n b (record { ballot = b; own = own; report = row.vote; now = now }) [] refl)))
+    go false e = let h : c ≡ 1 → ⊥ = eqb-false c 1 e in rw e (asks (omega arith) refl)
+
+pub start_is : (circuit c m n : ℕ) (own : Option Tape) (now : ℕ) (marks : List Mark) (row : Row) → 1 ≤ c → (r : Option Ballot) → next row.promised m ≡ r → MatchOption (start_turn circuit c m n own now marks row r) (r ≡ None) (λ t. StartTurn circuit c m n own now marks row t)
+start_is circuit c m n own now marks row l None e = refl
+start_is circuit c m n own now marks row l (Some b) e = starts b e (begin_is circuit c m n b own now row marks l)
+
+-- due
+
+pub greater_is : (p q : Option Ballot) → IsGreater p q (greater_ballot p q)
+greater_is None None = (refl, refl)
+greater_is None (Some q) = inr (refl, tt)
+greater_is (Some p) None = inl (refl, tt)
+greater_is (Some p) (Some q) = go (is_below p q) refl
+  where
+    go : (s : Bool) → is_below p q ≡ s → IsGreater (Some p) (Some q) (greater_ballot (Some p) (Some q))
+    go true e = rw e (inr (refl, below_weaken p q (is_below-true p q e)))
+    go false e = rw e (inl (refl, is_below-false p q e))
+
+pub due_is : (circuit c m n now : ℕ) (marks : List Mark) (row : Row) → 1 ≤ c → DueTurn circuit c m n now marks row (due_turn circuit c m n now marks row (open_proposal n marks))
+due_is circuit c m n now marks row l = go (open_proposal n marks) refl
+  where
+    idle : (p : Opening) → open_proposal n marks ≡ Some p → nat_le (due_moment m n p (since_began n marks)) now ≡ false → (b : Ballot) (own : Option Tape) → ¬ IsDue m marks now n b own
+    idle p e f b own d = early (open_read n marks b own d.report d.since d.is_open)
+      where
+        early : ReadAs marks n (record { ballot = b; own = own; report = d.report; now = d.is_open.now }) d.since → ⊥
+        early r =
+            let q : Opening = record { ballot = b; own = own; report = d.report; now = d.is_open.now } in
+            let same : p ≡ q = some_same (sym e ∙ r.read) in
+            let g : due_moment m n p (since_began n marks) ≡ due_moment m n q d.since = ap (λ (x : Opening). due_moment m n x (since_began n marks)) same ∙ ap (due_moment m n q) r.since_is in
+            let k : moved n q d.since ≡ d.moment = moved_read n q d.since d.moment d.moved in
+            let l : now < due_moment m n p (since_began n marks) = leb-false (due_moment m n p (since_began n marks)) now f in
+            let h : due_moment m n q d.since ≤ now = rw k d.has_come in
+            let i : now < due_moment m n q d.since = subst (λ (x : ℕ). now < x) g l in
+            omega (arith, h, i)
+          where
+            some_same : {A : Type 0} {x y : A} → Some x ≡ Some y → x ≡ y
+            some_same e = cc
+
+    none : open_proposal n marks ≡ None → (b : Ballot) (own : Option Tape) → ¬ IsDue m marks now n b own
+    none e b own d = some_none (sym (open_read n marks b own d.report d.since d.is_open).read ∙ e)
+
+    due : (p : Opening) → OpenAs marks n p → nat_le (due_moment m n p (since_began n marks)) now ≡ true → IsDue m marks now n p.ballot p.own
+    due p o e = record {
+      report = p.report;
+      since = since_began n marks;
+      is_open = o.is_open;
+      moment = moved n p (since_began n marks);
+      moved = subst (λ (i : ℕ). LastMoved n p.ballot (since_began n marks) i (moved n p (since_began n marks))) (sym o.now) (moved_is n p (since_began n marks));
+      has_come = leb-true (due_moment m n p (since_began n marks)) now e;
+    }
+
+    anew : (p : Opening) → IsDue m marks now n p.ballot p.own → (s : Bool) → nat_le 32 (begun n marks) ≡ s → (r : Option Ballot) → next (greater_ballot row.promised (denied n marks)) m ≡ r → DueTurn circuit c m n now marks row (renew circuit c m n now p marks row (if s then None else r))
+    anew p d true e r f = gives_up p.ballot p.own (denied n marks) (greater_ballot row.promised (denied n marks)) d (denied_is n marks) (greater_is row.promised (denied n marks)) (inl (leb-true 32 (begun n marks) e)) refl
+    anew p d false e None f = gives_up p.ballot p.own (denied n marks) (greater_ballot row.promised (denied n marks)) d (denied_is n marks) (greater_is row.promised (denied n marks)) (inr f) refl
+    anew p d false e (Some b) f =
+        begins_anew p.ballot p.own (denied n marks) (greater_ballot row.promised (denied n marks)) b d (denied_is n marks) (greater_is row.promised (denied n marks)) (leb-false 32 (begun n marks) e) f (begin_is circuit c m n b p.own now row marks l)
+
+    go : (r : Option Opening) → open_proposal n marks ≡ r → DueTurn circuit c m n now marks row (due_turn circuit c m n now marks row r)
+    go None e = is_idle (none e) refl
+    go (Some p) e = come (nat_le (due_moment m n p (since_began n marks)) now) refl
+      where
+        come : (s : Bool) → nat_le (due_moment m n p (since_began n marks)) now ≡ s → DueTurn circuit c m n now marks row (due_turn circuit c m n now marks row (Some p))
+        come true f = rw f (anew p (due p (open_is n marks p e) f) (nat_le 32 (begun n marks)) refl (next (greater_ballot row.promised (denied n marks)) m) refl)
+        come false f = rw f (is_idle (idle p e f) refl)
+
+-- packets
+
+above_is : (a b : Ballot) → is_below a b ≡ false → is_same a b ≡ false → IsBelow b a
+above_is a b e f = elim (at_most_cases b a (is_below-false a b e)) [
+  | inl g ↦ absurd (true_false (sym (is_same-self a b (sym g)) ∙ f))
+  | inr l ↦ l
+]
+  where
+    true_false : true ≡ false → ⊥
+    true_false e = cc
+
+pub prepare_is : (circuit m : ℕ) (marks : List Mark) (row : Row) (p : Packet) (r : Option Ballot) → row.promised ≡ r → PrepareTurn circuit m marks row p (prepare_turn circuit m marks row p r)
+prepare_is circuit m marks row p None e = promises (subst (λ (r : Option Ballot). IsNoneOrBelow r p.ballot) (sym e) tt) refl
+prepare_is circuit m marks row p (Some a) e = go (is_below a p.ballot) refl (is_same a p.ballot) refl
+  where
+    go : (s : Bool) → is_below a p.ballot ≡ s → (t : Bool) → is_same a p.ballot ≡ t → PrepareTurn circuit m marks row p (prepare_turn circuit m marks row p (Some a))
+    go true f t g = rw f (promises (subst (λ (r : Option Ballot). IsNoneOrBelow r p.ballot) (sym e) (is_below-true a p.ballot f)) refl)
+    go false f true g = rw (f, g) (is_silent (e ∙ ap Some (is_same-true a p.ballot g)) refl)
+    go false f false g = rw (f, g) (table.PrepareTurn.nacks a e (above_is a p.ballot f g) refl)
+
+pub vote_is : (circuit c m : ℕ) (marks : List Mark) (row : Row) (p : Packet) (tape : Tape) → IsNoneOrAtMost row.promised p.ballot → (r : Option Vote) → row.vote ≡ r → AcceptTurn circuit c m marks row p tape (take_vote circuit c m marks row p tape r)
+vote_is circuit c m marks row p tape l None e =
+    votes (hear c p.number m p.ballot tape marks).release (hear c p.number m p.ballot tape marks).marks l (λ own h. some_none (sym h ∙ e)) (hear_is c p.number m p.ballot tape marks) refl
+vote_is circuit c m marks row p tape l (Some v) e = go (is_same v.ballot p.ballot) refl
+  where
+    other : is_same v.ballot p.ballot ≡ false → (own : Tape) → ¬ VotedAt row p.ballot own
+    other f own h = false_true (sym f ∙ is_same-self v.ballot p.ballot (ap (λ (x : Vote). x.ballot) same))
+      where
+        false_true : false ≡ true → ⊥
+        false_true e = cc
+        some_same : {A : Type 0} {x y : A} → Some x ≡ Some y → x ≡ y
+        some_same e = cc
+        same : v ≡ record { ballot = p.ballot; tape = own }
+        same = some_same (sym e ∙ h)
+
+    go : (s : Bool) → is_same v.ballot p.ballot ≡ s → AcceptTurn circuit c m marks row p tape (take_vote circuit c m marks row p tape (Some v))
+    go true f =
+        let g : v.ballot ≡ p.ballot = is_same-true v.ballot p.ballot f in
+        rw f (votes_again v.tape (hear c p.number m p.ballot v.tape marks).release (hear c p.number m p.ballot v.tape marks).marks l (e ∙ ap (λ (b : Ballot). Some (record { ballot = b; tape = v.tape })) g) (hear_is c p.number m p.ballot v.tape marks) refl)
+    go false f = rw f (votes (hear c p.number m p.ballot tape marks).release (hear c p.number m p.ballot tape marks).marks l (other f) (hear_is c p.number m p.ballot tape marks) refl)
+
+pub accept_is : (circuit c m : ℕ) (marks : List Mark) (row : Row) (p : Packet) (tape : Tape) (r : Option Ballot) → row.promised ≡ r → AcceptTurn circuit c m marks row p tape (accept_turn circuit c m marks row p tape r)
+accept_is circuit c m marks row p tape None e = vote_is circuit c m marks row p tape (subst (λ (r : Option Ballot). IsNoneOrAtMost r p.ballot) (sym e) tt) row.vote refl
+accept_is circuit c m marks row p tape (Some a) e = go (is_below p.ballot a) refl
+  where
+    go : (s : Bool) → is_below p.ballot a ≡ s → AcceptTurn circuit c m marks row p tape (accept_turn circuit c m marks row p tape (Some a))
+    go true f = rw f (table.AcceptTurn.nacks a e (is_below-true p.ballot a f) refl)
+    go false f = rw f (vote_is circuit c m marks row p tape (subst (λ (r : Option Ballot). IsNoneOrAtMost r p.ballot) (sym e) (is_below-false p.ballot a f)) row.vote refl)
+
+pub accepted_is : (c : ℕ) (marks : List Mark) (row : Row) (p : Packet) (tape : Tape) → AcceptedTurn c marks row p tape (accepted_turn c marks row p tape)
+accepted_is c marks row p tape = go (was_released p.number marks) refl
+  where
+    go : (s : Bool) → was_released p.number marks ≡ s → AcceptedTurn c marks row p tape (accepted_turn c marks row p tape)
+    go true e = settles (released_is p.number marks e) (rw e refl)
+    go false e =
+        hears (hear c p.number p.from p.ballot tape marks).release (hear c p.number p.from p.ballot tape marks).marks (unreleased_is p.number marks e) (hear_is c p.number p.from p.ballot tape marks) (rw e refl)
+
+pub nack_is : (marks : List Mark) (row : Row) (p : Packet) (a : Ballot) (r : Option Opening) → proposal_at p.number p.ballot marks ≡ r → NackTurn marks row p a (nack_turn marks row p a r)
+nack_is marks row p a None e = table.NackTurn.is_stale (proposal_none p.number p.ballot marks e) refl
+nack_is marks row p a (Some o) e =
+    let (f, g) = proposal_is p.number p.ballot marks o e in
+    is_denied o.own o.report (since_began p.number marks) (subst (λ (b : Ballot). IsOpen marks p.number b o.own o.report (since_began p.number marks)) f g.is_open) refl
+
+that_is : (r : Option Ballot) (b : Ballot) → is_that r b ≡ true → r ≡ Some b
+that_is None b e = absurd (false_true e)
+  where
+    false_true : false ≡ true → ⊥
+    false_true e = cc
+that_is (Some a) b e = ap Some (is_same-true a b e)
+
+not_that : (r : Option Ballot) (b : Ballot) → is_that r b ≡ false → ¬ (r ≡ Some b)
+not_that None b e f = some_none (sym f)
+not_that (Some a) b e f = false_true (sym e ∙ is_same-self a b (some_same f))
+  where
+    false_true : false ≡ true → ⊥
+    false_true e = cc
+    some_same : {A : Type 0} {x y : A} → Some x ≡ Some y → x ≡ y
+    some_same e = cc
+
+pub promise_is : (circuit c m now : ℕ) (marks : List Mark) (row : Row) (p : Packet) (r : Option Vote) (o : Option Opening) → gathering_at p.number p.ballot marks ≡ o → PromiseTurn circuit c m now marks row p r (promise_turn circuit c m now marks row p r o)
+promise_is circuit c m now marks row p r None e = table.PromiseTurn.is_stale (gathering_none p.number p.ballot marks e) refl
+promise_is circuit c m now marks row p r (Some o) e = here (gathering_is p.number p.ballot marks o e)
+  where
+    since : List Mark
+    since = since_began p.number marks
+    more : List Mark
+    more = Promised p.number p.from p.ballot r ∷ since_began p.number marks
+
+    false_true : false ≡ true → ⊥
+    false_true e = cc
+
+    here : (o.ballot ≡ p.ballot) × Gathers marks p.number p.ballot o.own o.report (since_began p.number marks) → PromiseTurn circuit c m now marks row p r (promise_turn circuit c m now marks row p r (Some o))
+    here (f, g) = go (is_promised row p.ballot) refl (is_counted (counted m p.number o (since_began p.number marks)) p.from) refl
+        (is_majority c (is_counted (counted m p.number o (Promised p.number p.from p.ballot r ∷ since_began p.number marks)))) refl
+      where
+        fresh : is_counted (counted m p.number o (since_began p.number marks)) p.from ≡ false → (s : Option Vote) → ¬ IsCounted m p.number p.ballot o.report (since_began p.number marks) p.from s
+        fresh h s i = false_true (sym h ∙ one-is_counted m p.number p.ballot o (since_began p.number marks) p.from s f i)
+
+        go :
+            (x : Bool) → is_promised row p.ballot ≡ x → (y : Bool) → is_counted (counted m p.number o (since_began p.number marks)) p.from ≡ y
+            → (z : Bool) → is_majority c (is_counted (counted m p.number o (Promised p.number p.from p.ballot r ∷ since_began p.number marks))) ≡ z
+            → PromiseTurn circuit c m now marks row p r (promise_turn circuit c m now marks row p r (Some o))
+        go false h y i z j = rw h (is_overtaken o.own o.report (since_began p.number marks) g (not_that row.promised p.ballot h) refl)
+        go true h true i z j =
+            let (s, k) = is_counted-one m p.number p.ballot o (since_began p.number marks) p.from f i in
+            rw (h, i) (is_repeated o.own o.report (since_began p.number marks) s g (that_is row.promised p.ballot h) k refl)
+        go true h false i true j =
+            rw (h, i, j) (completes o.own o.report (since_began p.number marks) g (that_is row.promised p.ballot h) (fresh i)
+                (majority_of c (is_counted (counted m p.number o (Promised p.number p.from p.ballot r ∷ since_began p.number marks))) (λ k. (s : Option Vote) × IsCounted m p.number p.ballot o.report (Promised p.number p.from p.ballot r ∷ since_began p.number marks) k s)
+                    (λ k u t. is_counted-one m p.number p.ballot o (Promised p.number p.from p.ballot r ∷ since_began p.number marks) k f t) j)
+                (propose_is circuit c m p.number p.ballot now o.own o.report (Promised p.number p.from p.ballot r ∷ since_began p.number marks) row (Promised p.number p.from p.ballot r ∷ marks)
+                    (pick o.own (counted m p.number o (Promised p.number p.from p.ballot r ∷ since_began p.number marks))) (pick_is m p.number p.ballot o (Promised p.number p.from p.ballot r ∷ since_began p.number marks) f)))
+        go true h false i false j =
+            rw (h, i, j) (counts o.own o.report (since_began p.number marks) g (that_is row.promised p.ballot h) (fresh i)
+                (no_majority_of c (is_counted (counted m p.number o (Promised p.number p.from p.ballot r ∷ since_began p.number marks))) (λ k. (s : Option Vote) × IsCounted m p.number p.ballot o.report (Promised p.number p.from p.ballot r ∷ since_began p.number marks) k s)
+                    (λ k u (s, t). one-is_counted m p.number p.ballot o (Promised p.number p.from p.ballot r ∷ since_began p.number marks) k s f t) j)
+                refl)
+
+pub packet_is : (circuit c m now : ℕ) (marks : List Mark) (row : Row) (p : Packet) (body : Body) → AnswerTurn circuit c m now marks row p body (packet_turn circuit c m now marks row p body)
+packet_is circuit c m now marks row p Prepare = prepare_is circuit m marks row p row.promised refl
+packet_is circuit c m now marks row p (Promise r) = promise_is circuit c m now marks row p r (gathering_at p.number p.ballot marks) refl
+packet_is circuit c m now marks row p (Accept tape) = accept_is circuit c m marks row p tape row.promised refl
+packet_is circuit c m now marks row p (Accepted tape) = accepted_is c marks row p tape
+packet_is circuit c m now marks row p (Nack a) = nack_is marks row p a (proposal_at p.number p.ballot marks) refl
+
+pub turns_are_of_the_table : TurnsAreOfTheTable
+turns_are_of_the_table circuit c m marks row (Offered n tape now) i = start_is circuit c m n (Some tape) now marks row (let l : 1 ≤ c = omega (arith, i.0, i.1) in l) (next row.promised m) refl
+turns_are_of_the_table circuit c m marks row (Sought n now) i = start_is circuit c m n None now marks row (let l : 1 ≤ c = omega (arith, i.0, i.1) in l) (next row.promised m) refl
+turns_are_of_the_table circuit c m marks row (Came_due n now) i = due_is circuit c m n now marks row (let l : 1 ≤ c = omega (arith, i.0, i.1) in l)
+turns_are_of_the_table circuit c m marks row (Arrived p now) i = packet_is circuit c m now marks row p p.body
+
+-- what the function gives is a turn
+pub is_turn : (circuit c m : ℕ) (marks : List Mark) (row : Row) (e : Event) (t : Turn) → IsMember c m → turn circuit c m marks row e ≡ Some t → IsTurn circuit c m marks row e t
+is_turn circuit c m marks row e t i f = subst (λ (o : Option Turn). MatchOption o (IsSpent m row e) (λ u. IsTurn circuit c m marks row e u)) f (turns_are_of_the_table circuit c m marks row e i)

@@ -1,0 +1,236 @@
+-- A circuit: all its stations and the network between them; the steps that it takes, and its histories.
+use Rattle.std.specs.Prelude.{◌≡◌, ℕ, ◌⊎◌, ◌-◌, List, [], ◌∷◌, ◌++◌, Option, Some, None, Result, Ok, Err, Bool, true, false, ◌==◌, ◌&&◌, nat_le, slice_get, if◌then◌else◌}
+use Rattle.std.specs.List.{AllZip}
+use Rattle.protocol.specs.Ballots.{IsMember}
+use Rattle.protocol.specs.Rows.{Tape, Row, blank}
+use Rattle.protocol.specs.Packets.{Packet}
+use Rattle.protocol.specs.Marks.{Mark}
+use Rattle.protocol.specs.Turn.{Event, Offered, Sought, Came_due, Arrived, number_of, Note, Note_idle, Turn, turn}
+use Rattle.protocol.specs.Refusals.{Setup, Call, Offering, Seeking, Falling_due, Receiving, Refusal, Rounds_spent, refusal, early_refusal, event_of}
+
+-- what a circuit is given: its number, how many members it has, which packet bytes spell or why they spell none,
+-- and what each member's table and widths make of a tape
+pub record Circuit (D G F : Type 0) : Type 0 where
+  pub number : ℕ
+  pub count : ℕ
+  pub reads : List ℕ → Result Packet D
+  pub sets : ℕ → Tape → Result G F
+
+-- how member m's station is set up
+abbrev pub setup_of : {D G F : Type 0} → Circuit D G F → ℕ → Setup D G F
+setup_of z m = record { circuit = z.number; count = z.count; me = m; reads = z.reads; sets = z.sets m }
+
+-- bytes on their way to a member
+pub record Datagram : Type 0 where
+  pub to : ℕ
+  pub bytes : List ℕ
+
+-- a tape that a member offered for a number
+pub record Offer : Type 0 where
+  pub member : ℕ
+  pub number : ℕ
+  pub tape : Tape
+
+-- a tape that a member released for a number, and what its table and widths made of it
+pub record Release (G F : Type 0) : Type 0 where
+  pub member : ℕ
+  pub number : ℕ
+  pub tape : Tape
+  pub set : Result G F
+
+-- where a circuit stands: of each member the rows by number, the marks, whether it is stopped,
+-- and whether its store is armed to refuse the next save (as saved, or as unsaved);
+-- and every datagram that was ever sent, every offer and every release
+pub record State (G F : Type 0) : Type 0 where
+  pub rows : ℕ → ℕ → Row
+  pub marks : ℕ → List Mark
+  pub is_stopped : ℕ → Bool
+  pub armed : ℕ → Option Bool
+  pub sent : List Datagram
+  pub offers : List Offer
+  pub releases : List (Release G F)
+
+-- two states have the same in each place
+pub record IsSameState {G F : Type 0} (v w : State G F) : Type 0 where
+  pub rows : (m n : ℕ) → v.rows m n ≡ w.rows m n
+  pub marks : (m : ℕ) → v.marks m ≡ w.marks m
+  pub is_stopped : (m : ℕ) → v.is_stopped m ≡ w.is_stopped m
+  pub armed : (m : ℕ) → v.armed m ≡ w.armed m
+  pub sent : v.sent ≡ w.sent
+  pub offers : v.offers ≡ w.offers
+  pub releases : v.releases ≡ w.releases
+
+-- a circuit starts with no row, no mark and nothing sent
+abbrev pub fresh : {G F : Type 0} → State G F
+fresh = record { rows = λ m n. blank; marks = λ m. []; is_stopped = λ m. false; armed = λ m. None; sent = []; offers = []; releases = [] }
+
+-- a step: a member is asked something, the k-th datagram ever sent (from 1) is delivered to its addressee,
+-- a member starts again, or its store is armed to refuse the next save
+pub data Step : Type 0 where
+  Offers : (member : ℕ) → (number : ℕ) → (tape : Tape) → (now : ℕ) → Step
+  Seeks : (member : ℕ) → (number : ℕ) → (now : ℕ) → Step
+  Falls_due : (member : ℕ) → (now : ℕ) → Step
+  Delivers : (which : ℕ) → (now : ℕ) → Step
+  Restarts : (member : ℕ) → Step
+  Balks : (member : ℕ) → (saved : Bool) → Step
+
+-- how a step ended: done with a note, refused, torn by the store or by want of memory, restarted, armed
+pub data Outcome (D F : Type 0) : Type 0 where
+  Done : (note : Note) → Outcome D F
+  Refused : (refusal : Refusal D F) → Outcome D F
+  Torn_by_store Torn_by_memory : Outcome D F
+  Restarted : Outcome D F
+  Armed : (saved : Bool) → Outcome D F
+
+-- x in the place of m
+abbrev pub with_at : {A : Type 0} → (ℕ → A) → ℕ → A → ℕ → A
+with_at f m x k = if k == m then x else f k
+
+-- the rows with this one saved
+abbrev pub saved : (ℕ → ℕ → Row) → ℕ → ℕ → Row → ℕ → ℕ → Row
+saved rows m n row = with_at rows m (with_at (rows m) n row)
+
+-- the datagram spells the packet, and goes to its addressee
+abbrev pub Carries : {D G F : Type 0} → Circuit D G F → Packet → Datagram → Type 0
+Carries z p d = (d.to ≡ p.to) × (z.reads d.bytes ≡ Ok p)
+
+-- the k-th datagram ever sent, from 1
+abbrev pub datagram_at : List Datagram → ℕ → Option Datagram
+datagram_at sent k = if k == 0 then None else slice_get sent (k - 1)
+
+-- which member a step asks what
+pub record Task : Type 0 where
+  pub member : ℕ
+  pub call : Call
+
+-- a datagram is received by its addressee
+abbrev pub delivery : Option Datagram → ℕ → Option Task
+delivery None now = None
+delivery (Some d) now = Some (record { member = d.to; call = Receiving d.bytes now })
+
+-- what a step asks of a station, if it does
+abbrev pub task_of : List Datagram → Step → Option Task
+task_of sent (Offers m n tape now) = Some (record { member = m; call = Offering n tape now })
+task_of sent (Seeks m n now) = Some (record { member = m; call = Seeking n now })
+task_of sent (Falls_due m now) = Some (record { member = m; call = Falling_due now })
+task_of sent (Delivers k now) = delivery (datagram_at sent k) now
+task_of sent (Restarts m) = None
+task_of sent (Balks m saved) = None
+
+-- the offers with that of an event, if it is one
+abbrev pub offers_with : List Offer → ℕ → Event → List Offer
+offers_with offers m (Offered n tape now) = offers ++ record { member = m; number = n; tape = tape } ∷ []
+offers_with offers m (Sought n now) = offers
+offers_with offers m (Came_due n now) = offers
+offers_with offers m (Arrived p now) = offers
+
+-- the releases with that of a turn, if it has one
+abbrev pub releases_with : {D G F : Type 0} → Circuit D G F → List (Release G F) → ℕ → ℕ → Option Tape → List (Release G F)
+releases_with z releases m n None = releases
+releases_with z releases m n (Some t) = releases ++ record { member = m; number = n; tape = t; set = z.sets m t } ∷ []
+
+-- what a save that is refused may leave of the row: a store armed as unsaved leaves the old one, any other the old or the new
+abbrev pub MayLeave : Option Bool → Row → Row → Row → Type 0
+MayLeave (Some false) before after row = row ≡ before
+MayLeave (Some true) before after row = (row ≡ before) ⊎ (row ≡ after)
+MayLeave None before after row = (row ≡ before) ⊎ (row ≡ after)
+
+-- what a step that is torn leaves of the row of the event's number and of the armed flag:
+-- before any save both as they were; at the save, which only the store tears, a row that it may leave, unarmed
+pub data Leaves {D G F : Type 0} (z : Circuit D G F) (w : State G F) (m : ℕ) (call : Call) (e : Event) (o : Outcome D F) (row : Row) (armed : Option Bool) : Type 0 where
+  before_save :
+      (o ≡ Torn_by_store) ⊎ (o ≡ Torn_by_memory)
+      → row ≡ w.rows m (number_of e) → armed ≡ w.armed m → Leaves z w m call e o row armed
+  at_save :
+      (t : Turn) → o ≡ Torn_by_store → refusal (setup_of z m) (w.is_stopped m) (w.marks m) call ≡ None
+      → turn z.number z.count m (w.marks m) (w.rows m (number_of e)) e ≡ Some t → ¬ (t.row ≡ w.rows m (number_of e))
+      → MayLeave (w.armed m) (w.rows m (number_of e)) t.row row → armed ≡ None → Leaves z w m call e o row armed
+
+-- a step of a circuit, how it ends and where it leads
+pub data StepsTo {D G F : Type 0} (z : Circuit D G F) (w : State G F) (s : Step) (o : Outcome D F) (after : State G F) : Type 0 where
+  -- the station refuses before it asks its store
+  is_refused :
+      (m : ℕ) (call : Call) (r : Refusal D F) → task_of w.sent s ≡ Some (record { member = m; call = call }) → IsMember z.count m
+      → refusal (setup_of z m) (w.is_stopped m) (w.marks m) call ≡ Some r
+      → o ≡ Refused r → IsSameState after w → StepsTo z w s o after
+  -- nothing is due
+  is_idle :
+      (m : ℕ) (call : Call) → task_of w.sent s ≡ Some (record { member = m; call = call }) → IsMember z.count m
+      → refusal (setup_of z m) (w.is_stopped m) (w.marks m) call ≡ None
+      → event_of (setup_of z m) (w.marks m) call ≡ None
+      → o ≡ Done Note_idle → IsSameState after w → StepsTo z w s o after
+  -- no ballot is left
+  is_spent :
+      (m : ℕ) (call : Call) (e : Event) → task_of w.sent s ≡ Some (record { member = m; call = call }) → IsMember z.count m
+      → refusal (setup_of z m) (w.is_stopped m) (w.marks m) call ≡ None
+      → event_of (setup_of z m) (w.marks m) call ≡ Some e
+      → turn z.number z.count m (w.marks m) (w.rows m (number_of e)) e ≡ None
+      → o ≡ Refused Rounds_spent → IsSameState after w → StepsTo z w s o after
+  -- the turn is taken: the row is saved, the marks grow, and what goes out, an offer and a release are added
+  is_done :
+      (m : ℕ) (call : Call) (e : Event) (t : Turn) (out : List Datagram) → task_of w.sent s ≡ Some (record { member = m; call = call }) → IsMember z.count m
+      → refusal (setup_of z m) (w.is_stopped m) (w.marks m) call ≡ None
+      → event_of (setup_of z m) (w.marks m) call ≡ Some e
+      → turn z.number z.count m (w.marks m) (w.rows m (number_of e)) e ≡ Some t
+      → AllZip (Carries z) t.out out
+      → (w.armed m ≡ None) ⊎ (t.row ≡ w.rows m (number_of e))
+      → o ≡ Done t.note
+      → IsSameState after (record w {
+        rows = saved w.rows m (number_of e) t.row;
+        marks = with_at w.marks m t.marks;
+        sent = w.sent ++ out;
+        offers = offers_with w.offers m e;
+        releases = releases_with z w.releases m (number_of e) t.release;
+      })
+      → StepsTo z w s o after
+  -- the store or want of memory ends it: the station stops and forgets its marks, and nothing is sent or released
+  is_torn :
+      (m : ℕ) (call : Call) (e : Event) (row : Row) (armed : Option Bool) → task_of w.sent s ≡ Some (record { member = m; call = call }) → IsMember z.count m
+      → early_refusal (setup_of z m) (w.is_stopped m) (w.marks m) call ≡ None
+      → event_of (setup_of z m) (w.marks m) call ≡ Some e
+      → Leaves z w m call e o row armed
+      → IsSameState after (record w {
+        rows = saved w.rows m (number_of e) row;
+        marks = with_at w.marks m [];
+        is_stopped = with_at w.is_stopped m true;
+        armed = with_at w.armed m armed;
+        offers = offers_with w.offers m e;
+      })
+      → StepsTo z w s o after
+  -- a member starts again: it forgets its marks and keeps its rows
+  restarts :
+      (m : ℕ) → IsMember z.count m → s ≡ Restarts m → o ≡ Restarted
+      → IsSameState after (record w { marks = with_at w.marks m []; is_stopped = with_at w.is_stopped m false })
+      → StepsTo z w s o after
+  -- a member's store is armed
+  is_armed :
+      (m : ℕ) (b : Bool) → IsMember z.count m → s ≡ Balks m b → o ≡ Armed b
+      → IsSameState after (record w { armed = with_at w.armed m (Some b) })
+      → StepsTo z w s o after
+
+-- a history of a circuit: a fresh state, or a history and one step more
+pub data History {D G F : Type 0} (z : Circuit D G F) : State G F → Type 0 where
+  starts : {w : State G F} → IsSameState w fresh → History z w
+  goes_on : {w after : State G F} → History z w → (s : Step) → (o : Outcome D F) → StepsTo z w s o after → History z after
+
+-- why there is no such step
+pub data Missing : Type 0 where
+  No_such_member No_such_datagram : Missing
+
+-- the member is none of the circuit's
+abbrev pub member_missing : ℕ → ℕ → Option Missing
+member_missing c m = if nat_le 1 m && nat_le m c then None else Some No_such_member
+
+-- the datagram was never sent, or its addressee is none of the circuit's
+abbrev pub datagram_missing : ℕ → Option Datagram → Option Missing
+datagram_missing c None = Some No_such_datagram
+datagram_missing c (Some d) = member_missing c d.to
+
+-- why a circuit of c members has no such step after these datagrams
+abbrev pub missing : ℕ → List Datagram → Step → Option Missing
+missing c sent (Offers m n tape now) = member_missing c m
+missing c sent (Seeks m n now) = member_missing c m
+missing c sent (Falls_due m now) = member_missing c m
+missing c sent (Delivers k now) = datagram_missing c (datagram_at sent k)
+missing c sent (Restarts m) = member_missing c m
+missing c sent (Balks m saved) = member_missing c m

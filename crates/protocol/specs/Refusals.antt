@@ -1,0 +1,115 @@
+-- What a station is asked, and when it refuses: the first refusal that holds, in the order of the checks.
+use Rattle.std.specs.Prelude.{ℕ, List, Option, Some, None, Result, Ok, Err, Bool, true, false, ◌==◌, ◌&&◌, ◌||◌, not, nat_lt, nat_le, is_some, if◌then◌else◌}
+use Rattle.protocol.specs.Lists.{or_else}
+use Rattle.protocol.specs.Rows.{Tape, Vote}
+use Rattle.protocol.specs.Packets.{Packet, Body, Prepare, Promise, Accept, Accepted, Nack}
+use Rattle.protocol.specs.Marks.{Mark}
+use Rattle.protocol.specs.Proposals.{was_released, open_proposal, next_due}
+use Rattle.protocol.specs.Turn.{Event, Offered, Sought, Came_due, Arrived}
+
+-- how a station is set up: its circuit's number, the member count, which member it is,
+-- which packet it reads in bytes or why it reads none, and what its table and widths make of a tape
+pub record Setup (D G F : Type 0) : Type 0 where
+  pub circuit : ℕ
+  pub count : ℕ
+  pub me : ℕ
+  pub reads : List ℕ → Result Packet D
+  pub sets : Tape → Result G F
+
+-- what a station is asked: to offer a tape for a number, to seek a number's tape, to see to what is due, to receive bytes
+pub data Call : Type 0 where
+  Offering : (number : ℕ) → (tape : Tape) → (now : ℕ) → Call
+  Seeking : (number : ℕ) → (now : ℕ) → Call
+  Falling_due : (now : ℕ) → Call
+  Receiving : (bytes : List ℕ) → (now : ℕ) → Call
+
+-- why a station refuses a call; each but the last before it asks its store
+pub data Refusal (D F : Type 0) : Type 0 where
+  Stopped : Refusal D F
+  Bad_datagram : (fault : D) → Refusal D F
+  Wrong_circuit Not_for_me Stranger : Refusal D F
+  Bad_number Already_released Already_open : Refusal D F
+  Tape_faulty : (fault : F) → Refusal D F
+  Rounds_spent : Refusal D F
+
+-- the owner of a ballot in the body is above the member count
+abbrev pub names_stranger : ℕ → Body → Bool
+names_stranger c Prepare = false
+names_stranger c (Promise None) = false
+names_stranger c (Promise (Some v)) = nat_lt c v.ballot.owner
+names_stranger c (Accept t) = false
+names_stranger c (Accepted t) = false
+names_stranger c (Nack p) = nat_lt c p.owner
+
+-- the sender, or the owner of any ballot in the packet, is above the member count
+abbrev pub is_of_stranger : ℕ → Packet → Bool
+is_of_stranger c p = nat_lt c p.from || nat_lt c p.ballot.owner || names_stranger c p.body
+
+-- why member me of the c of circuit k refuses a packet
+abbrev pub packet_refusal : {D F : Type 0} → ℕ → ℕ → ℕ → Packet → Option (Refusal D F)
+packet_refusal k c me p =
+    if not (p.circuit == k) then Some Wrong_circuit
+    else if not (p.to == me) then Some Not_for_me
+    else if is_of_stranger c p then Some Stranger
+    else None
+
+-- why it refuses what was read in bytes
+abbrev pub reading_refusal : {D F : Type 0} → ℕ → ℕ → ℕ → Result Packet D → Option (Refusal D F)
+reading_refusal k c me (Err fault) = Some (Bad_datagram fault)
+reading_refusal k c me (Ok p) = packet_refusal k c me p
+
+-- numbers of tapes are 1 to 999,999
+abbrev pub is_number : ℕ → Bool
+is_number n = nat_le 1 n && nat_le n 999999
+
+-- why it refuses to offer or seek n
+abbrev pub number_refusal : {D F : Type 0} → ℕ → List Mark → Option (Refusal D F)
+number_refusal n marks =
+    if not (is_number n) then Some Bad_number
+    else if was_released n marks then Some Already_released
+    else if is_some (open_proposal n marks) then Some Already_open
+    else None
+
+-- why it refuses a call, but for a tape's own fault
+abbrev pub call_refusal : {D G F : Type 0} → Setup D G F → List Mark → Call → Option (Refusal D F)
+call_refusal s marks (Offering n tape now) = number_refusal n marks
+call_refusal s marks (Seeking n now) = number_refusal n marks
+call_refusal s marks (Falling_due now) = None
+call_refusal s marks (Receiving bytes now) = reading_refusal s.circuit s.count s.me (s.reads bytes)
+
+-- the first refusal that holds before an offered tape is set: a station that is stopped refuses each call
+abbrev pub early_refusal : {D G F : Type 0} → Setup D G F → Bool → List Mark → Call → Option (Refusal D F)
+early_refusal s stopped marks call = if stopped then Some Stopped else call_refusal s marks call
+
+-- why it refuses what setting a tape gave
+abbrev pub setting_refusal : {D G F : Type 0} → Result G F → Option (Refusal D F)
+setting_refusal (Err fault) = Some (Tape_faulty fault)
+setting_refusal (Ok slugs) = None
+
+-- an offered tape is one that sets here
+abbrev pub tape_refusal : {D G F : Type 0} → Setup D G F → Call → Option (Refusal D F)
+tape_refusal s (Offering n tape now) = setting_refusal (s.sets tape)
+tape_refusal s (Seeking n now) = None
+tape_refusal s (Falling_due now) = None
+tape_refusal s (Receiving bytes now) = None
+
+-- the first refusal that holds before the store is asked
+abbrev pub refusal : {D G F : Type 0} → Setup D G F → Bool → List Mark → Call → Option (Refusal D F)
+refusal s stopped marks call = or_else (early_refusal s stopped marks call) (tape_refusal s call)
+
+-- the due moment of a number, if there is one
+abbrev pub due_event : Option ℕ → ℕ → Option Event
+due_event None now = None
+due_event (Some n) now = Some (Came_due n now)
+
+-- the arrival of a packet, if there is one
+abbrev pub arrival : {D : Type 0} → Result Packet D → ℕ → Option Event
+arrival (Err fault) now = None
+arrival (Ok p) now = Some (Arrived p now)
+
+-- the event that a call brings: what is due is the least number that is, and where none is there is no event
+abbrev pub event_of : {D G F : Type 0} → Setup D G F → List Mark → Call → Option Event
+event_of s marks (Offering n tape now) = Some (Offered n tape now)
+event_of s marks (Seeking n now) = Some (Sought n now)
+event_of s marks (Falling_due now) = due_event (next_due s.me now marks) now
+event_of s marks (Receiving bytes now) = arrival (s.reads bytes) now

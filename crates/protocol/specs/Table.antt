@@ -1,0 +1,173 @@
+-- The table of a station's turn, one constructor a line: which turns it may take at an event.
+-- The turn that is computed is one of them; agreement is proved from this table.
+use Rattle.std.specs.Prelude.{◌≡◌, ℕ, ◌<◌, ◌≤◌, ◌⊎◌, List, [], ◌∷◌, ◌++◌, Option, Some, None, MatchOption}
+use Rattle.protocol.specs.Lists.{IsAmong}
+use Rattle.protocol.specs.Ballots.{Ballot, IsBelow, IsNoneOrBelow, IsNoneOrAtMost, IsMember, next, Majority}
+use Rattle.protocol.specs.Rows.{Tape, Vote, vote_for, Row, raised, voted}
+use Rattle.protocol.specs.Packets.{Packet, Body, Prepare, Promise, Accept, Accepted, Nack}
+use Rattle.protocol.specs.Marks.{Mark, Began, Promised, Proposed, Denied, Heard, Closed, Released}
+use Rattle.protocol.specs.Proposals.{begun}
+use Rattle.protocol.specs.Readings.{IsReleased, IsOpen, Gathers, IsCounted, Picks, Ripe, GreatestDenied, IsDue}
+use Rattle.protocol.specs.Turn.{Event, Offered, Sought, Came_due, Arrived, Note, Note_began, Note_proposed, Note_nothing, Note_gave_up, Note_promised, Note_voted_again, Note_voted, Note_counted, Note_heard, Note_denied, Note_nacked, Note_overtaken, Note_idle, Note_silent, Note_stale, Note_repeated, Note_settled, Turn, stays, packet_to, to_others, turn}
+
+-- the vote of a member for n is heard
+pub data Hears (c n j : ℕ) (b : Ballot) (t : Tape) (marks : List Mark) (release : Option Tape) (after : List Mark) : Type 0 where
+  was_settled : IsReleased marks n → release ≡ None → after ≡ marks → Hears c n j b t marks release after
+  waits :
+      ¬ IsReleased marks n → ((a : Ballot) (u : Tape) → ¬ Ripe c (Heard n j b t ∷ marks) n a u)
+      → release ≡ None → after ≡ Heard n j b t ∷ marks → Hears c n j b t marks release after
+  releases :
+      (a : Ballot) (u : Tape) → ¬ IsReleased marks n → Ripe c (Heard n j b t ∷ marks) n a u
+      → release ≡ Some u → after ≡ Released n u ∷ Heard n j b t ∷ marks → Hears c n j b t marks release after
+
+-- station m proposes at b, with what its proposal has: its own tape, its own report and what came since it began
+pub data Proposes (k c m n : ℕ) (b : Ballot) (now : ℕ) (own : Option Tape) (report : Option Vote) (since : List Mark) (row : Row) (marks : List Mark) (t : Turn) : Type 0 where
+  nothing :
+      Picks m n b own report since None
+      → t ≡ stays row (Closed n ∷ marks) (Note_nothing b) → Proposes k c m n b now own report since row marks t
+  proposes :
+      (tape : Tape) (release : Option Tape) (after : List Mark)
+      → Picks m n b own report since (Some tape)
+      → Hears c n m b tape (Proposed n b now ∷ marks) release after
+      → t ≡ record { row = voted b tape; marks = after; out = to_others k c m n b (Accept tape) ++ to_others k c m n b (Accepted tape); release = release; note = Note_proposed b }
+      → Proposes k c m n b now own report since row marks t
+
+-- station m begins ballot b
+pub data Begins (k c m n : ℕ) (b : Ballot) (own : Option Tape) (now : ℕ) (row : Row) (marks : List Mark) (t : Turn) : Type 0 where
+  asks :
+      1 < c
+      → t ≡ record { row = raised row b; marks = Began n b own row.vote now ∷ marks; out = to_others k c m n b Prepare; release = None; note = Note_began b }
+      → Begins k c m n b own now row marks t
+  alone :
+      c ≡ 1 → Proposes k c m n b now own row.vote [] (raised row b) (Began n b own row.vote now ∷ marks) t
+      → Begins k c m n b own now row marks t
+
+-- an offer or a search
+pub data StartTurn (k c m n : ℕ) (own : Option Tape) (now : ℕ) (marks : List Mark) (row : Row) (t : Turn) : Type 0 where
+  starts : (b : Ballot) → next row.promised m ≡ Some b → Begins k c m n b own now row marks t → StartTurn k c m n own now marks row t
+
+-- the greater of two ballots that may be none
+abbrev pub IsGreater : Option Ballot → Option Ballot → Option Ballot → Type 0
+IsGreater p q None = (p ≡ None) × (q ≡ None)
+IsGreater p q (Some s) = (p ≡ Some s) × IsNoneOrAtMost q s ⊎ (q ≡ Some s) × IsNoneOrAtMost p s
+
+-- the due moment of n
+pub data DueTurn (k c m n now : ℕ) (marks : List Mark) (row : Row) (t : Turn) : Type 0 where
+  is_idle :
+      ((b : Ballot) (own : Option Tape) → ¬ IsDue m marks now n b own)
+      → t ≡ stays row marks Note_idle → DueTurn k c m n now marks row t
+  gives_up :
+      (b : Ballot) (own : Option Tape) (denied seen : Option Ballot) → IsDue m marks now n b own
+      → GreatestDenied marks n denied → IsGreater row.promised denied seen
+      → (32 ≤ begun n marks) ⊎ (next seen m ≡ None)
+      → t ≡ stays row (Closed n ∷ marks) (Note_gave_up b) → DueTurn k c m n now marks row t
+  begins_anew :
+      (b : Ballot) (own : Option Tape) (denied seen : Option Ballot) (a : Ballot) → IsDue m marks now n b own
+      → GreatestDenied marks n denied → IsGreater row.promised denied seen
+      → begun n marks < 32 → next seen m ≡ Some a
+      → Begins k c m n a own now row marks t → DueTurn k c m n now marks row t
+
+-- a Prepare
+pub data PrepareTurn (k m : ℕ) (marks : List Mark) (row : Row) (p : Packet) (t : Turn) : Type 0 where
+  promises :
+      IsNoneOrBelow row.promised p.ballot
+      → t ≡ record { row = raised row p.ballot; marks = marks; out = packet_to k m p.number p.ballot (Promise row.vote) p.from ∷ []; release = None; note = Note_promised p.ballot }
+      → PrepareTurn k m marks row p t
+  is_silent : row.promised ≡ Some p.ballot → t ≡ stays row marks Note_silent → PrepareTurn k m marks row p t
+  nacks :
+      (a : Ballot) → row.promised ≡ Some a → IsBelow p.ballot a
+      → t ≡ record { row = row; marks = marks; out = packet_to k m p.number p.ballot (Nack a) p.from ∷ []; release = None; note = Note_nacked a }
+      → PrepareTurn k m marks row p t
+
+-- the row has a vote for the tape at b
+abbrev pub VotedAt : Row → Ballot → Tape → Type 0
+VotedAt row b tape = row.vote ≡ Some (vote_for b tape)
+
+-- an Accept
+pub data AcceptTurn (k c m : ℕ) (marks : List Mark) (row : Row) (p : Packet) (tape : Tape) (t : Turn) : Type 0 where
+  nacks :
+      (a : Ballot) → row.promised ≡ Some a → IsBelow p.ballot a
+      → t ≡ record { row = row; marks = marks; out = packet_to k m p.number p.ballot (Nack a) p.from ∷ []; release = None; note = Note_nacked a }
+      → AcceptTurn k c m marks row p tape t
+  votes_again :
+      (own : Tape) (release : Option Tape) (after : List Mark)
+      → IsNoneOrAtMost row.promised p.ballot → VotedAt row p.ballot own
+      → Hears c p.number m p.ballot own marks release after
+      → t ≡ record { row = row; marks = after; out = to_others k c m p.number p.ballot (Accepted own); release = release; note = Note_voted_again p.ballot }
+      → AcceptTurn k c m marks row p tape t
+  votes :
+      (release : Option Tape) (after : List Mark)
+      → IsNoneOrAtMost row.promised p.ballot → ((own : Tape) → ¬ VotedAt row p.ballot own)
+      → Hears c p.number m p.ballot tape marks release after
+      → t ≡ record { row = voted p.ballot tape; marks = after; out = to_others k c m p.number p.ballot (Accepted tape); release = release; note = Note_voted p.ballot }
+      → AcceptTurn k c m marks row p tape t
+
+-- a Promise
+pub data PromiseTurn (k c m : ℕ) (now : ℕ) (marks : List Mark) (row : Row) (p : Packet) (r : Option Vote) (t : Turn) : Type 0 where
+  is_stale :
+      ((own : Option Tape) (report : Option Vote) (since : List Mark) → ¬ Gathers marks p.number p.ballot own report since)
+      → t ≡ stays row marks Note_stale → PromiseTurn k c m now marks row p r t
+  is_overtaken :
+      (own : Option Tape) (report : Option Vote) (since : List Mark) → Gathers marks p.number p.ballot own report since
+      → ¬ (row.promised ≡ Some p.ballot)
+      → t ≡ stays row marks (Note_overtaken p.ballot) → PromiseTurn k c m now marks row p r t
+  is_repeated :
+      (own : Option Tape) (report : Option Vote) (since : List Mark) (s : Option Vote) → Gathers marks p.number p.ballot own report since
+      → row.promised ≡ Some p.ballot → IsCounted m p.number p.ballot report since p.from s
+      → t ≡ stays row marks Note_repeated → PromiseTurn k c m now marks row p r t
+  counts :
+      (own : Option Tape) (report : Option Vote) (since : List Mark) → Gathers marks p.number p.ballot own report since
+      → row.promised ≡ Some p.ballot → ((s : Option Vote) → ¬ IsCounted m p.number p.ballot report since p.from s)
+      → ¬ Majority c (λ j. (s : Option Vote) × IsCounted m p.number p.ballot report (Promised p.number p.from p.ballot r ∷ since) j s)
+      → t ≡ stays row (Promised p.number p.from p.ballot r ∷ marks) (Note_counted p.ballot) → PromiseTurn k c m now marks row p r t
+  completes :
+      (own : Option Tape) (report : Option Vote) (since : List Mark) → Gathers marks p.number p.ballot own report since
+      → row.promised ≡ Some p.ballot → ((s : Option Vote) → ¬ IsCounted m p.number p.ballot report since p.from s)
+      → Majority c (λ j. (s : Option Vote) × IsCounted m p.number p.ballot report (Promised p.number p.from p.ballot r ∷ since) j s)
+      → Proposes k c m p.number p.ballot now own report (Promised p.number p.from p.ballot r ∷ since) row (Promised p.number p.from p.ballot r ∷ marks) t → PromiseTurn k c m now marks row p r t
+
+-- a Nack
+pub data NackTurn (marks : List Mark) (row : Row) (p : Packet) (a : Ballot) (t : Turn) : Type 0 where
+  is_stale :
+      ((own : Option Tape) (report : Option Vote) (since : List Mark) → ¬ IsOpen marks p.number p.ballot own report since)
+      → t ≡ stays row marks Note_stale → NackTurn marks row p a t
+  is_denied :
+      (own : Option Tape) (report : Option Vote) (since : List Mark) → IsOpen marks p.number p.ballot own report since
+      → t ≡ stays row (Denied p.number a ∷ marks) (Note_denied a) → NackTurn marks row p a t
+
+-- an Accepted
+pub data AcceptedTurn (c : ℕ) (marks : List Mark) (row : Row) (p : Packet) (tape : Tape) (t : Turn) : Type 0 where
+  settles : IsReleased marks p.number → t ≡ stays row marks Note_settled → AcceptedTurn c marks row p tape t
+  hears :
+      (release : Option Tape) (after : List Mark) → ¬ IsReleased marks p.number
+      → Hears c p.number p.from p.ballot tape marks release after
+      → t ≡ record { row = row; marks = after; out = []; release = release; note = Note_heard p.ballot }
+      → AcceptedTurn c marks row p tape t
+
+-- a packet, by its body
+abbrev pub AnswerTurn : ℕ → ℕ → ℕ → ℕ → List Mark → Row → Packet → Body → Turn → Type 0
+AnswerTurn k c m now marks row p Prepare t = PrepareTurn k m marks row p t
+AnswerTurn k c m now marks row p (Promise r) t = PromiseTurn k c m now marks row p r t
+AnswerTurn k c m now marks row p (Accept tape) t = AcceptTurn k c m marks row p tape t
+AnswerTurn k c m now marks row p (Accepted tape) t = AcceptedTurn c marks row p tape t
+AnswerTurn k c m now marks row p (Nack a) t = NackTurn marks row p a t
+
+-- station m of the c of circuit k, with these marks and this row of the event's number, takes turn t
+abbrev pub IsTurn : ℕ → ℕ → ℕ → List Mark → Row → Event → Turn → Type 0
+IsTurn k c m marks row (Offered n tape now) t = StartTurn k c m n (Some tape) now marks row t
+IsTurn k c m marks row (Sought n now) t = StartTurn k c m n None now marks row t
+IsTurn k c m marks row (Came_due n now) t = DueTurn k c m n now marks row t
+IsTurn k c m marks row (Arrived p now) t = AnswerTurn k c m now marks row p p.body t
+
+-- an offer or a search to which no ballot is left
+abbrev pub IsSpent : ℕ → Row → Event → Type 0
+IsSpent m row (Offered n tape now) = next row.promised m ≡ None
+IsSpent m row (Sought n now) = next row.promised m ≡ None
+IsSpent m row (Came_due n now) = ⊥
+IsSpent m row (Arrived p now) = ⊥
+
+-- the turn that is computed is one that the table has, and there is none only where no ballot is left
+abbrev pub TurnsAreOfTheTable : Type 0
+TurnsAreOfTheTable =
+    (k c m : ℕ) (marks : List Mark) (row : Row) (e : Event) → IsMember c m
+    → MatchOption (turn k c m marks row e) (IsSpent m row e) (λ t. IsTurn k c m marks row e t)
