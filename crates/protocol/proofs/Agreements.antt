@@ -14,7 +14,7 @@ use Rattle.protocol.proofs.Majorities.{weaker, shared, some_member}
 use Rattle.protocol.proofs.Sound.{PromiseHolds, PacketHolds, BodyHolds, Backs}
 use Rattle.protocol.proofs.Moves.{some_inj}
 use Rattle.protocol.proofs.Places.{among_split, among_left}
-use Rattle.protocol.proofs.Steps.{SoundState, history_sound, same_state, read_among, released_in}
+use Rattle.protocol.proofs.Steps.{SoundState, history_sound, same_state, read_among}
 
 -- what was sent of a packet holds
 packet_held : {D G F : Type 0} {z : Circuit D G F} {w : State G F} (h : History z w) (d : Datagram) (p : Packet) → IsAmong w.sent d → z.reads d.bytes ≡ Ok p → PacketHolds (WasVoted h) w.rows p

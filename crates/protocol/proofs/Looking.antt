@@ -1,7 +1,7 @@
 -- What the words of Lists find.
-use Rattle.std.proofs.Common.{◌≡◌, ℕ, ◌⊎◌, inl, inr, refl, sym, ap, subst, ◌∙◌, List, [], ◌∷◌, ◌++◌, Option, Some, None, Bool, true, false, cond}
-use Rattle.std.specs.Prelude.{◌||◌, filter_map, find}
-use Rattle.protocol.specs.Lists.{IsAmong, has, until, before_last, or_else, first, greater, greatest}
+use Rattle.std.proofs.Common.{◌≡◌, ◌⊎◌, inl, inr, refl, sym, ap, subst, ◌∙◌, List, [], ◌∷◌, ◌++◌, Option, Some, None, Bool, true, false}
+use Rattle.std.specs.Prelude.{filter_map, find}
+use Rattle.protocol.specs.Lists.{IsAmong, has, until, or_else, first, greatest}
 
 pub has_one : {A : Type 0} (p : A → Bool) (xs : List A) → has p xs ≡ true → (x : A) × IsAmong xs x × (p x ≡ true)
 has_one p [] e = absurd (impossible e)
@@ -171,7 +171,11 @@ greatest_stands {A = A} {B = B} f above o (x ∷ xs) y e = go (f x) refl (λ h. 
 
     later : (g : B) → Stands f above xs g → ((w : B) → f x ≡ Some w → above w g ≡ false) → Stands f above (x ∷ xs) g
     later g s h = record {
-      after = x ∷ s.after; before = s.before; item = s.item; stands = ap (λ l. x ∷ l) s.stands; gives = s.gives;
+      after = x ∷ s.after;
+      before = s.before;
+      item = s.item;
+      stands = ap (λ l. x ∷ l) s.stands;
+      gives = s.gives;
       above_before = s.above_before;
       above_after = λ z w i e. elim i [ inl k ↦ h w (subst (λ v. f v ≡ Some w) k e) | inr j ↦ s.above_after z w j e ];
     }

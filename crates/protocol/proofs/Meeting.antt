@@ -1,19 +1,18 @@
 -- The computed turn is one that the table allows.
-use Rattle.std.proofs.Common.{◌≡◌, ℕ, zero, suc, ◌+◌, ◌*◌, ◌<◌, ◌≤◌, ◌⊎◌, inl, inr, refl, sym, ap, subst, ◌∙◌, arith, List, [], ◌∷◌, ◌++◌, Option, Some, None, Bool, true, false}
-use Rattle.std.specs.Prelude.{◌==◌, nat_le, if◌then◌else◌, not, MatchOption}
+use Rattle.std.proofs.Common.{◌≡◌, ℕ, ◌<◌, ◌≤◌, inl, inr, refl, sym, ap, subst, ◌∙◌, arith, List, [], ◌∷◌, Option, Some, None, Bool, true, false}
+use Rattle.std.specs.Prelude.{◌==◌, nat_le, if◌then◌else◌, MatchOption}
 use Rattle.std.proofs.lemmas.Bool.{eqb-true, eqb-false, leb-true, leb-false}
-use Rattle.protocol.specs.Ballots.{Ballot, IsBelow, IsAtMost, IsMember, Majority, IsNoneOrAtMost, IsNoneOrBelow, next, is_same, is_below, is_majority}
-use Rattle.protocol.specs.Rows.{Tape, Vote, Row, raised, voted}
+use Rattle.protocol.specs.Ballots.{Ballot, IsBelow, IsMember, IsNoneOrAtMost, IsNoneOrBelow, next, is_same, is_below, is_majority}
+use Rattle.protocol.specs.Rows.{Tape, Vote, Row, raised}
 use Rattle.protocol.specs.Packets.{Packet, Body, Prepare, Promise, Accept, Accepted, Nack}
-use Rattle.protocol.specs.Marks.{Mark, Began, Promised, Proposed, Denied, Heard, Closed, Released}
-use Rattle.protocol.specs.Lists.{IsAmong}
-use Rattle.protocol.specs.Readings.{IsReleased, IsOpen, Gathers, IsCounted, Picks, GreatestDenied, LastMoved, IsDue}
-use Rattle.protocol.specs.Proposals.{begun, Opening, was_released, since_began, open_proposal, proposal_at, gathering_at, Counted, counted, is_counted, pick, denied, moved, due_moment}
-use Rattle.protocol.specs.Turn.{Event, Offered, Sought, Came_due, Arrived, Note, Note_began, Note_proposed, Note_nothing, Note_gave_up, Note_promised, Note_voted, Note_voted_again, Note_counted, Note_heard, Note_denied, Note_overtaken, Note_idle, Note_silent, Note_stale, Note_repeated, Note_settled, Turn, stays, packet_to, to_others, Hearing, settle, hear, after_hearing, propose, begin, start_turn, greater_ballot, renew, due_turn, answer, prepare_turn, vote_turn, take_vote, accept_turn, is_that, is_promised, count_promise, promise_turn, nack_turn, accepted_turn, packet_turn, turn}
+use Rattle.protocol.specs.Marks.{Mark, Began, Promised, Proposed, Heard}
+use Rattle.protocol.specs.Readings.{IsReleased, IsOpen, Gathers, IsCounted, Picks, LastMoved, IsDue}
+use Rattle.protocol.specs.Proposals.{begun, Opening, was_released, since_began, open_proposal, proposal_at, gathering_at, counted, is_counted, pick, denied, moved, due_moment}
+use Rattle.protocol.specs.Turn.{Event, Offered, Sought, Came_due, Arrived, Turn, settle, hear, propose, begin, start_turn, greater_ballot, renew, due_turn, prepare_turn, take_vote, accept_turn, is_that, is_promised, promise_turn, nack_turn, accepted_turn, packet_turn, turn}
 use Rattle.protocol.specs.Table.{Hears, was_settled, waits, releases, Proposes, nothing, proposes, Begins, asks, alone, StartTurn, starts, IsGreater, DueTurn, is_idle, gives_up, begins_anew, PrepareTurn, promises, is_silent, VotedAt, AcceptTurn, votes_again, votes, PromiseTurn, is_stale, is_overtaken, is_repeated, counts, completes, NackTurn, is_denied, AcceptedTurn, settles, hears, AnswerTurn, IsTurn, IsSpent, TurnsAreOfTheTable}
 use Rattle.protocol.specs.Table as table
 use Rattle.protocol.specs.Learner.{ripe}
-use Rattle.protocol.proofs.Below.{below_weaken, at_most_cases, at_most_refl}
+use Rattle.protocol.proofs.Below.{below_weaken, at_most_cases}
 use Rattle.protocol.proofs.Reading.{is_same-true, is_same-self, is_below-true, is_below-false, released_is, unreleased_is, OpenAs, open_is, ReadAs, open_read, proposal_is, proposal_none, gathering_is, gathering_none, is_counted-one, one-is_counted, majority_of, no_majority_of, pick_is, denied_is, moved_is, moved_read, ripe_is, ripe_none}
 
 some_none : {A : Type 0} {x : A} → Some x ≡ None → ⊥
@@ -46,7 +45,7 @@ begin_is circuit c m n b own now row marks l = go (c == 1) refl
     go : (s : Bool) → (c == 1) ≡ s → Begins circuit c m n b own now row marks (begin circuit c m n b own now marks row)
     go true e =
         rw e (alone (eqb-true c 1 e) (propose_is circuit c m n b now own row.vote [] (raised row b) (Began n b own row.vote now ∷ marks) (pick own (record { member = m; report = row.vote } ∷ []))
-            (pick_is m n b (record { ballot = b; own = own; report = row.vote; now = now }) [] refl)))
+        (pick_is m n b (record { ballot = b; own = own; report = row.vote; now = now }) [] refl)))
     go false e = let h : c ≡ 1 → ⊥ = eqb-false c 1 e in rw e (asks (omega arith) refl)
 
 pub start_is : (circuit c m n : ℕ) (own : Option Tape) (now : ℕ) (marks : List Mark) (row : Row) → 1 ≤ c → (r : Option Ballot) → next row.promised m ≡ r → MatchOption (start_turn circuit c m n own now marks row r) (r ≡ None) (λ t. StartTurn circuit c m n own now marks row t)
@@ -142,8 +141,10 @@ vote_is circuit c m marks row p tape l (Some v) e = go (is_same v.ballot p.ballo
       where
         false_true : false ≡ true → ⊥
         false_true e = cc
+
         some_same : {A : Type 0} {x y : A} → Some x ≡ Some y → x ≡ y
         some_same e = cc
+
         same : v ≡ record { ballot = p.ballot; tape = own }
         same = some_same (sym e ∙ h)
 
@@ -188,6 +189,7 @@ not_that (Some a) b e f = false_true (sym e ∙ is_same-self a b (some_same f))
   where
     false_true : false ≡ true → ⊥
     false_true e = cc
+
     some_same : {A : Type 0} {x y : A} → Some x ≡ Some y → x ≡ y
     some_same e = cc
 
@@ -197,6 +199,7 @@ promise_is circuit c m now marks row p r (Some o) e = here (gathering_is p.numbe
   where
     since : List Mark
     since = since_began p.number marks
+
     more : List Mark
     more = Promised p.number p.from p.ballot r ∷ since_began p.number marks
 
@@ -220,15 +223,15 @@ promise_is circuit c m now marks row p r (Some o) e = here (gathering_is p.numbe
             rw (h, i) (is_repeated o.own o.report (since_began p.number marks) s g (that_is row.promised p.ballot h) k refl)
         go true h false i true j =
             rw (h, i, j) (completes o.own o.report (since_began p.number marks) g (that_is row.promised p.ballot h) (fresh i)
-                (majority_of c (is_counted (counted m p.number o (Promised p.number p.from p.ballot r ∷ since_began p.number marks))) (λ k. (s : Option Vote) × IsCounted m p.number p.ballot o.report (Promised p.number p.from p.ballot r ∷ since_began p.number marks) k s)
-                    (λ k u t. is_counted-one m p.number p.ballot o (Promised p.number p.from p.ballot r ∷ since_began p.number marks) k f t) j)
-                (propose_is circuit c m p.number p.ballot now o.own o.report (Promised p.number p.from p.ballot r ∷ since_began p.number marks) row (Promised p.number p.from p.ballot r ∷ marks)
-                    (pick o.own (counted m p.number o (Promised p.number p.from p.ballot r ∷ since_began p.number marks))) (pick_is m p.number p.ballot o (Promised p.number p.from p.ballot r ∷ since_began p.number marks) f)))
+            (majority_of c (is_counted (counted m p.number o (Promised p.number p.from p.ballot r ∷ since_began p.number marks))) (λ k. (s : Option Vote) × IsCounted m p.number p.ballot o.report (Promised p.number p.from p.ballot r ∷ since_began p.number marks) k s)
+            (λ k u t. is_counted-one m p.number p.ballot o (Promised p.number p.from p.ballot r ∷ since_began p.number marks) k f t) j)
+            (propose_is circuit c m p.number p.ballot now o.own o.report (Promised p.number p.from p.ballot r ∷ since_began p.number marks) row (Promised p.number p.from p.ballot r ∷ marks)
+            (pick o.own (counted m p.number o (Promised p.number p.from p.ballot r ∷ since_began p.number marks))) (pick_is m p.number p.ballot o (Promised p.number p.from p.ballot r ∷ since_began p.number marks) f)))
         go true h false i false j =
             rw (h, i, j) (counts o.own o.report (since_began p.number marks) g (that_is row.promised p.ballot h) (fresh i)
-                (no_majority_of c (is_counted (counted m p.number o (Promised p.number p.from p.ballot r ∷ since_began p.number marks))) (λ k. (s : Option Vote) × IsCounted m p.number p.ballot o.report (Promised p.number p.from p.ballot r ∷ since_began p.number marks) k s)
-                    (λ k u (s, t). one-is_counted m p.number p.ballot o (Promised p.number p.from p.ballot r ∷ since_began p.number marks) k s f t) j)
-                refl)
+            (no_majority_of c (is_counted (counted m p.number o (Promised p.number p.from p.ballot r ∷ since_began p.number marks))) (λ k. (s : Option Vote) × IsCounted m p.number p.ballot o.report (Promised p.number p.from p.ballot r ∷ since_began p.number marks) k s)
+            (λ k u (s, t). one-is_counted m p.number p.ballot o (Promised p.number p.from p.ballot r ∷ since_began p.number marks) k s f t) j)
+            refl)
 
 pub packet_is : (circuit c m now : ℕ) (marks : List Mark) (row : Row) (p : Packet) (body : Body) → AnswerTurn circuit c m now marks row p body (packet_turn circuit c m now marks row p body)
 packet_is circuit c m now marks row p Prepare = prepare_is circuit m marks row p row.promised refl

@@ -1,18 +1,18 @@
 -- What is read from marks is what the relations say.
-use Rattle.std.proofs.Common.{◌≡◌, ℕ, zero, suc, ◌+◌, ◌*◌, ◌<◌, ◌≤◌, ◌⊎◌, inl, inr, refl, sym, ap, subst, ◌∙◌, arith, List, [], ◌∷◌, ◌++◌, Option, Some, None, Bool, true, false, cond}
+use Rattle.std.proofs.Common.{◌≡◌, ℕ, zero, suc, ◌*◌, ◌<◌, ◌≤◌, ◌⊎◌, inl, inr, refl, sym, ap, subst, ◌∙◌, arith, List, [], ◌∷◌, ◌++◌, Option, Some, None, Bool, true, false, cond}
 use Rattle.std.specs.Prelude.{◌==◌, ◌||◌, ◌&&◌, nat_lt, filter_map, find, count_by}
-use Rattle.std.proofs.lemmas.Bool.{eqb-true, eq-eqb, ltb-true, lt-ltb, ltb-false, le-ltb}
+use Rattle.std.proofs.lemmas.Bool.{eqb-true, eq-eqb, ltb-true, ltb-false}
 use Rattle.std.proofs.lemmas.Bool.Decides.{nat_tests}
 use Rattle.protocol.specs.Ballots.{Ballot, IsBelow, IsAtMost, IsMember, Majority, members, is_same, is_below, is_majority}
 use Rattle.protocol.specs.Rows.{Tape, Vote}
-use Rattle.protocol.specs.Lists.{has, until, before_last, or_else, first, greater, greatest, IsAmong}
+use Rattle.protocol.specs.Lists.{has, until, or_else, first, greatest, IsAmong}
 use Rattle.protocol.specs.Marks.{Mark, Began, Promised, Proposed, Denied, Heard, Closed, Released, begins, closes, releases, proposes}
-use Rattle.protocol.specs.Readings.{IsReleased, IsOpen, Gathers, IsCounted, Picks, the_reported, the_own, Latest, Ripe, GreatestDenied, undenied, denied_by, LastMoved, at_begin, at_propose, IsDue}
-use Rattle.protocol.specs.Proposals.{since_first, Opening, opening_of, was_released, since_began, open_proposal, where_at, proposal_at, gathering_at, Counted, promise_of, counted, is_counted, vote_above, reports_above, report_of, tape_or, pick, denial_of, denied, moment_of, moved}
+use Rattle.protocol.specs.Readings.{IsReleased, IsOpen, Gathers, IsCounted, Picks, the_reported, the_own, Latest, Ripe, GreatestDenied, undenied, denied_by, LastMoved, at_begin, at_propose}
+use Rattle.protocol.specs.Proposals.{since_first, Opening, opening_of, was_released, since_began, open_proposal, where_at, proposal_at, gathering_at, Counted, promise_of, counted, is_counted, vote_above, reports_above, pick, denial_of, denied, moment_of, moved}
 use Rattle.protocol.specs.Learner.{vote_of, latest, votes_at, ripe}
-use Rattle.protocol.proofs.Below.{same_ballot, at_most_refl, below_weaken, below_trans, below_at_most, at_most_below, at_most_otherwise, not_both, both_at_most}
+use Rattle.protocol.proofs.Below.{same_ballot, at_most_refl, below_weaken, below_trans, at_most_below, at_most_otherwise, both_at_most}
 use Rattle.std.proofs.lemmas.List.Elements.{filter_map-append}
-use Rattle.protocol.proofs.Places.{among-append, among_right, among_split}
+use Rattle.protocol.proofs.Places.{among-append, among_split}
 use Rattle.protocol.proofs.Majorities.{one_more, among_members}
 use Rattle.protocol.proofs.Looking.{has_one, among_has, has_none, among_filter_map, filter_map_among, IsOrder, IsTop, greatest_top, greatest_none, first_splits, first_none, first_at, Stands, greatest_stands, find_append}
 
@@ -101,7 +101,10 @@ opening_silent : (n : ℕ) (x : Mark) → opening_of n x ≡ None → begins n x
 opening_silent n (Began k b o r i) e = go (k == n) refl
   where
     go : (t : Bool) → (k == n) ≡ t → (k == n) ≡ false
-    go true t = let f : Some (record { ballot = b; own = o; report = r; now = i }) ≡ None = rw t at e in cc
+    go true t =
+        let p : Opening = record { ballot = b; own = o; report = r; now = i } in
+        let f : Some p ≡ None = rw t at e in
+        cc
     go false t = t
 opening_silent n (Promised k m b r) e = refl
 opening_silent n (Proposed k b i) e = refl
@@ -188,8 +191,8 @@ pub open_read : (n : ℕ) (marks : List Mark) (b : Ballot) (o : Option Tape) (r 
 open_read n marks b o r since h =
     let p : Opening = record { ballot = b; own = o; report = r; now = h.now } in
     let f : (first (opening_of n) (since ++ Began n b o r h.now ∷ h.before) ≡ Some p) × (until (begins n) (since ++ Began n b o r h.now ∷ h.before) ≡ since) =
-        first_at (opening_of n) (begins n) (opening_began n) (opening_unbegun n) since h.before (Began n b o r h.now) p (let t : (n == n) ≡ true = self n in rw t refl)
-            (λ z i t. let (a, q, s, k, g) = is_began n z t in h.is_last a q s k (subst (λ (y : Mark). IsAmong since y) g i)) in
+    first_at (opening_of n) (begins n) (opening_began n) (opening_unbegun n) since h.before (Began n b o r h.now) p (let t : (n == n) ≡ true = self n in rw t refl)
+    (λ z i t. let (a, q, s, k, g) = is_began n z t in h.is_last a q s k (subst (λ (y : Mark). IsAmong since y) g i)) in
     let k : since_began n marks ≡ since = ap (until (begins n)) h.began ∙ f.1 in
     let u : was_released n marks ≡ false = is_unreleased n marks h.is_unreleased in
     let v : has (closes n) since ≡ false = has_none (closes n) since (λ x i e. h.is_unclosed (subst (λ (y : Mark). IsAmong since y) (is_closed n x e) i)) in
@@ -226,11 +229,13 @@ gathering_is n b marks p e = go (has (proposes n b) (since_began n marks)) refl
     go : (t : Bool) → has (proposes n b) (since_began n marks) ≡ t → (p.ballot ≡ b) × Gathers marks n b p.own p.report (since_began n marks)
     go true t = let f : None ≡ Some p = rw t at e in absurd (none_some f)
     go false t =
-        let (g, h) = proposal_is n b marks p (rw t at e) in
-        (g, record {
-          is_open = subst (λ (a : Ballot). IsOpen marks n a p.own p.report (since_began n marks)) g h.is_open;
-          unproposed = λ i j. let k : (n == n) ≡ true = self n in let l : is_same b b ≡ true = same b in impossible (sym t ∙ among_has (proposes n b) (since_began n marks) (Proposed n b i) j (rw (k, l) refl));
-        })
+        let (g, h) = proposal_is n b marks p (rw t at e) in (
+          g,
+          record {
+            is_open = subst (λ (a : Ballot). IsOpen marks n a p.own p.report (since_began n marks)) g h.is_open;
+            unproposed = λ i j. let k : (n == n) ≡ true = self n in let l : is_same b b ≡ true = same b in impossible (sym t ∙ among_has (proposes n b) (since_began n marks) (Proposed n b i) j (rw (k, l) refl));
+          },
+        )
 
 pub gathering_none : (n : ℕ) (b : Ballot) (marks : List Mark) → gathering_at n b marks ≡ None → (own : Option Tape) (report : Option Vote) (since : List Mark) → ¬ Gathers marks n b own report since
 gathering_none n b marks e own report since h =
@@ -336,11 +341,13 @@ reports_order = record { strict = λ x e. strict x.report x.member e; trans = λ
     strict : (r : Option Vote) (m : ℕ) → vote_above r r (nat_lt m m) ≡ true → ⊥
     strict None m e = impossible e
     strict (Some v) m e = grind (arith, nat_tests)
+
     trans : (r s t : Option Vote) (k m n : ℕ) → vote_above r s (nat_lt k m) ≡ true → vote_above s t (nat_lt m n) ≡ true → vote_above r t (nat_lt k n) ≡ true
     trans None s t k m n e f = absurd (impossible e)
     trans (Some v) None t k m n e f = absurd (impossible f)
     trans (Some v) (Some u) None k m n e f = refl
     trans (Some v) (Some u) (Some w) k m n e f = is-over v.ballot w.ballot k n (over_trans v.ballot u.ballot w.ballot k m n (over-true v.ballot u.ballot k m e) (over-true u.ballot w.ballot m n f))
+
     level : (r s t : Option Vote) (k m n : ℕ) → vote_above r s (nat_lt k m) ≡ true → vote_above t s (nat_lt n m) ≡ false → vote_above r t (nat_lt k n) ≡ true
     level None s t k m n e f = absurd (impossible e)
     level (Some v) None None k m n e f = refl
@@ -417,7 +424,7 @@ denied_is n marks = go (denied n marks) refl
         let top : IsTop (λ (p q : Ballot). is_below q p) (filter_map (denial_of n) (since_first n marks)) p = greatest_top (λ (p q : Ballot). is_below q p) above_order (filter_map (denial_of n) (since_first n marks)) p e in
         let (x, i, f) = among_filter_map (denial_of n) (since_first n marks) p top.is_among in
         denied_by p (subst (λ (y : Mark). IsAmong (since_first n marks) y) (denial_speaks n x p f) i)
-            (λ q j. at_most_otherwise p q (λ l. top.none_above q (denial_in n (since_first n marks) q j) (below-is p q l))) e
+        (λ q j. at_most_otherwise p q (λ l. top.none_above q (denial_in n (since_first n marks) q j) (below-is p q l))) e
 
 -- when it last moved
 
@@ -460,12 +467,12 @@ moved_is n p since = go (first (moment_of n p.ballot) since) refl
     go : (r : Option ℕ) → first (moment_of n p.ballot) since ≡ r → LastMoved n p.ballot since p.now (moved n p since)
     go None e =
         at_begin (λ i j. let f : moment_of n p.ballot (Proposed n p.ballot i) ≡ None = first_none (moment_of n p.ballot) since (Proposed n p.ballot i) e j in impossible (sym (moment_silent n p.ballot (Proposed n p.ballot i) f) ∙ proposes_own n p.ballot i))
-            (rw e refl)
+        (rw e refl)
     go (Some i) e =
         let (x, before, g, k) = first_splits (moment_of n p.ballot) (proposes n p.ballot) (moment_silent n p.ballot) (λ y j h. subst (λ (z : Mark). proposes n p.ballot z ≡ true) (sym (moment_speaks n p.ballot y j h)) (proposes_own n p.ballot j)) since i e in
         let m : moved n p since ≡ i = rw e refl in
         at_propose (until (proposes n p.ballot) since) before (k ∙ ap (λ (y : Mark). until (proposes n p.ballot) since ++ y ∷ before) (moment_speaks n p.ballot x i g ∙ ap (Proposed n p.ballot) (sym m)))
-            (λ j h. until_none (proposes n p.ballot) since (Proposed n p.ballot j) h (proposes_own n p.ballot j))
+        (λ j h. until_none (proposes n p.ballot) since (Proposed n p.ballot j) h (proposes_own n p.ballot j))
 
 -- the latest vote
 
@@ -552,7 +559,7 @@ pub found_member : (c : ℕ) (f : ℕ → Option Vote) (p : Vote → Bool) → F
 found_member zero f p = record { no_one = λ m u i e t. absurd (omega arith) }
 found_member (suc c) f p =
     let s : find p (filter_map f (members c ++ suc c ∷ [])) ≡ or_else (find p (filter_map f (members c))) (find p (filter_map f (suc c ∷ []))) =
-        ap (find p) (filter_map-append f (members c) (suc c ∷ [])) ∙ find_append p (filter_map f (members c)) (filter_map f (suc c ∷ [])) in
+    ap (find p) (filter_map-append f (members c) (suc c ∷ [])) ∙ find_append p (filter_map f (members c)) (filter_map f (suc c ∷ [])) in
     subst (FoundAs (suc c) f p) (sym s) (join (find p (filter_map f (members c))) (found_member c f p))
   where
     last : (m : ℕ) → IsMember (suc c) m → IsMember c m ⊎ (m ≡ suc c)
@@ -578,6 +585,7 @@ found_member (suc c) f p =
       where
         wider : {k : ℕ} → IsMember c k → IsMember (suc c) k
         wider i = (omega arith, omega arith)
+
         within : {k m : ℕ} → IsMember c k → m ≡ suc c → k ≤ m
         within i e = omega arith
 
@@ -625,6 +633,7 @@ ripe_none c n marks e b t r = of_none (subst (FoundAs c (latest n marks) (is_rip
         majority : (x : Bool) → is_majority c (stands_at n marks b) ≡ x → is_majority c (stands_at n marks b) ≡ true
         majority true f = f
         majority false f = absurd (no_majority_of c (stands_at n marks b) (λ m. (u : Tape) × Latest marks n m b u) (λ m i k. stands n m marks b k.0 k.1) f r.many)
+
         go : (w : Vote) × (latest n marks r.least ≡ Some w) × (w.ballot ≡ b) → ⊥
         go (w, f, g) = none.no_one r.least w r.is_member f (subst (λ (a : Ballot). is_majority c (stands_at n marks a) ≡ true) (sym g) (majority (is_majority c (stands_at n marks b)) refl))
 
@@ -655,7 +664,7 @@ moved_read n p since i (at_begin h e) = go (first (moment_of n p.ballot) since) 
         absurd (h j (subst (λ (y : Mark). IsAmong since y) (moment_speaks n p.ballot x j g) (among_split since (until (proposes n p.ballot) since) before x k)))
 moved_read n p since i (at_propose after before e h) =
     let f : (first (moment_of n p.ballot) (after ++ Proposed n p.ballot i ∷ before) ≡ Some i) × (until (proposes n p.ballot) (after ++ Proposed n p.ballot i ∷ before) ≡ after) =
-        first_at (moment_of n p.ballot) (proposes n p.ballot) (moment_proposes n p.ballot) (moment_unproposed n p.ballot) after before (Proposed n p.ballot i) i (moment_own n p.ballot i)
-            (λ z j t. let (k, g) = is_proposed n p.ballot z t in h k (subst (λ (y : Mark). IsAmong after y) g j)) in
+    first_at (moment_of n p.ballot) (proposes n p.ballot) (moment_proposes n p.ballot) (moment_unproposed n p.ballot) after before (Proposed n p.ballot i) i (moment_own n p.ballot i)
+    (λ z j t. let (k, g) = is_proposed n p.ballot z t in h k (subst (λ (y : Mark). IsAmong after y) g j)) in
     let k : first (moment_of n p.ballot) since ≡ Some i = ap (first (moment_of n p.ballot)) e ∙ f.0 in
     rw k refl

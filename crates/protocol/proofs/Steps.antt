@@ -1,6 +1,6 @@
 -- Each step keeps a sound state sound, and so each history leads to one.
 use Rattle.std.proofs.Common.{◌≡◌, ℕ, ◌⊎◌, inl, inr, refl, sym, ap, subst, ◌∙◌, List, [], ◌∷◌, ◌++◌, Option, Some, None, Bool, true, false}
-use Rattle.std.specs.Prelude.{◌==◌, ◌-◌, Result, Ok, Err, slice_get}
+use Rattle.std.specs.Prelude.{◌==◌, ◌-◌, Result, Ok, Err}
 use Rattle.std.specs.List.{AllZip}
 use Rattle.protocol.specs.Ballots.{Ballot, Majority, IsMember}
 use Rattle.protocol.specs.Rows.{Tape, Vote, vote_for, Row}
@@ -10,7 +10,7 @@ use Rattle.protocol.specs.Lists.{IsAmong}
 use Rattle.protocol.specs.Proposals.{next_due}
 use Rattle.protocol.specs.Turn.{Turn, Event, Offered, Sought, Came_due, Arrived, number_of}
 use Rattle.protocol.specs.Table.{VotedAt, IsTurn}
-use Rattle.protocol.specs.Refusals.{Setup, Call, Offering, Seeking, Falling_due, Receiving, due_event, arrival, event_of}
+use Rattle.protocol.specs.Refusals.{Call, Offering, Seeking, Falling_due, Receiving, due_event, arrival, event_of}
 use Rattle.protocol.specs.Circuit.{Circuit, setup_of, Datagram, Offer, Release, State, IsSameState, fresh, Step, Offers, Seeks, Falls_due, Delivers, Restarts, Balks, Outcome, with_at, saved, Carries, datagram_at, Task, delivery, task_of, offers_with, releases_with, MayLeave, Leaves, before_save, at_save, StepsTo, is_refused, is_idle, is_spent, is_done, is_torn, restarts, is_armed, History, starts, goes_on}
 use Rattle.protocol.specs.Agreement.{HoldsVote, WasVoted}
 use Rattle.protocol.proofs.Meeting.{is_turn}

@@ -1,12 +1,12 @@
 -- What was voted, what is chosen, what is agreed; and what holds in every history of a circuit.
-use Rattle.std.specs.Prelude.{◌≡◌, ℕ, ◌⊎◌, List, [], ◌∷◌, Option, Some, None, Result, Ok}
+use Rattle.std.specs.Prelude.{◌≡◌, ℕ, ◌⊎◌, Option, Some, Ok}
 use Rattle.protocol.specs.Lists.{IsAmong}
 use Rattle.protocol.specs.Ballots.{Ballot, IsBelow, IsAtMost, Majority}
 use Rattle.protocol.specs.Rows.{Tape, Vote, vote_for}
 use Rattle.protocol.specs.Packets.{Packet, Promise, Accept}
 use Rattle.protocol.specs.Marks.{Heard}
 use Rattle.protocol.specs.Readings.{Ripe}
-use Rattle.protocol.specs.Circuit.{Circuit, Datagram, Offer, Release, State, Step, Outcome, StepsTo, History, starts, goes_on}
+use Rattle.protocol.specs.Circuit.{Circuit, Datagram, Release, State, Step, Outcome, StepsTo, History, starts, goes_on}
 
 -- a row of member m for n holds this vote
 abbrev pub HoldsVote : {G F : Type 0} → State G F → ℕ → ℕ → Ballot → Tape → Type 0
