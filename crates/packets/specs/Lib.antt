@@ -1,4 +1,5 @@
 pub mod Bodies
 pub mod Rules
+pub mod Grammar
 pub mod Spelling
 pub mod Reading

@@ -6,6 +6,7 @@ mod decoding;
 mod encoding;
 mod fault;
 mod header;
+pub mod laws;
 mod packet;
 
 pub use body::{Body, BodyRef};

@@ -1,0 +1,6 @@
+pub mod Numbers
+pub mod Tapes
+pub mod Written
+pub mod Again
+pub mod Taken
+pub mod Unique

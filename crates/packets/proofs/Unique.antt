@@ -1,0 +1,29 @@
+-- The laws of the grammar.
+use Rattle.std.proofs.Common.{◌≡◌, List, ℕ, [], ◌∷◌, ◌++◌, Result, Ok, Err, refl, sym, ap, ◌∙◌}
+use Rattle.std.proofs.lemmas.List.{append-nil}
+use Rattle.protocol.specs.Packets.{Packet}
+use Rattle.packets.specs.declared.fault.PacketFault.{PacketFault}
+use Rattle.packets.specs.Spelling.{spelling}
+use Rattle.packets.specs.Grammar.{Spells, IsPacket}
+use Rattle.packets.specs.Reading.{ends, packet_at}
+use Rattle.packets.proofs.Written.{packet_are, packet_is}
+use Rattle.packets.proofs.Again.{packet_again}
+use Rattle.packets.proofs.Taken.{ok_is}
+
+-- what spells a packet is read as it, and bytes behind it are too many
+pub spelled : (bytes rest : List ℕ) (p : Packet) → Spells bytes p → packet_at (bytes ++ rest) ≡ ends p rest
+spelled bytes rest p s = ap (λ (x : List ℕ). packet_at (x ++ rest)) (packet_are bytes p s) ∙ packet_again p rest (packet_is bytes p s)
+
+pub is_read : (bytes : List ℕ) (p : Packet) → Spells bytes p → packet_at bytes ≡ Ok p
+is_read bytes p s = ap packet_at (sym (append-nil bytes)) ∙ spelled bytes [] p s
+
+pub one_packet : (bytes : List ℕ) (p q : Packet) → Spells bytes p → Spells bytes q → p ≡ q
+one_packet bytes p q s t = ok_is p q (sym (is_read bytes p s) ∙ is_read bytes q t)
+
+no_more : (bytes rest : List ℕ) (p q : Packet) → ends p rest ≡ Ok q → bytes ≡ bytes ++ rest
+no_more bytes [] p q e = sym (append-nil bytes)
+no_more bytes (b ∷ rest) p q e = absurd cc
+
+pub no_front : (short long rest : List ℕ) (p q : Packet) → Spells short p → Spells long q → long ≡ short ++ rest → short ≡ long
+no_front short long rest p q s t e =
+    no_more short rest p q (sym (spelled short rest p s) ∙ ap packet_at (sym e) ∙ is_read long q t) ∙ sym e
