@@ -1,24 +1,20 @@
 -- What is written of a packet is read again, and where bytes follow it, they are too many.
-use Rattle.std.proofs.Common.{◌≡◌, ℕ, zero, suc, ◌+◌, ◌^◌, ◌<◌, ◌≤◌, Bool, true, false, cond, not, ◌&&◌, ltb, leb, eqb, List, [], ◌∷◌, ◌++◌, length, take, drop, get_or, Option, Some, None, Result, Ok, Err, refl, sym, ap, ◌∙◌, arith}
-use Rattle.std.specs.Prelude.{is_some, IsTrue}
-use Rattle.std.specs.Int.{w16, w32, from_be_bytes, to_be_bytes}
-use Rattle.std.proofs.lemmas.Bool.{le-ltb, le-leb, ne_eqb, and_parts, not-true}
+use Rattle.std.proofs.Common.{◌≡◌, ℕ, ◌<◌, ◌≤◌, true, false, not, ◌&&◌, ltb, leb, eqb, List, [], ◌∷◌, ◌++◌, length, Some, None, Ok, refl, arith}
+use Rattle.std.specs.Int.{w16, w32, to_be_bytes}
+use Rattle.std.proofs.lemmas.Bool.{le-ltb, le-leb, and_parts, not-true}
 use Rattle.std.proofs.lemmas.List.{take_at, drop_at, length-append}
 use Rattle.std.proofs.lemmas.Nat.{from_be_bytes-to_be_bytes_2, from_be_bytes-to_be_bytes_4}
 use Rattle.tape_frames.specs.Frames.{IsTape}
 use Rattle.protocol.specs.Ballots.{Ballot, IsBallot, IsMember, is_below}
-use Rattle.protocol.specs.Rows.{Tape, Vote, vote_for}
+use Rattle.protocol.specs.Rows.{Vote}
 use Rattle.protocol.specs.Packets.{Packet, Body, Prepare, Promise, Accept, Accepted, Nack}
-use Rattle.packets.specs.declared.fault.PacketFault.{PacketFault}
-use Rattle.packets.specs.declared.fault.PacketFault.TheVariants.{BadKind}
 use Rattle.packets.specs.declared.body.Kind.{Kind}
 use Rattle.packets.specs.declared.body.Kind.TheVariants as kinds
-use Rattle.packets.specs.declared.header.Header.{Header}
 use Rattle.packets.specs.Rules.{kind_of, may_send, may_say, keeps_rules}
-use Rattle.packets.specs.Spelling.{kind_byte, ballot_bytes, header_bytes, tape_bytes, report_bytes, body_bytes, spelling}
+use Rattle.packets.specs.Spelling.{kind_byte, ballot_bytes, header_bytes, tape_bytes, body_bytes, spelling}
 use Rattle.packets.specs.Grammar.{IsBody, IsPacket}
 use Rattle.packets.proofs.Tapes.{no_fault}
-use Rattle.packets.specs.Reading.{◌>>=◌, ends, frames_at, whole_tape_at, ballot_at, vote_at, promise_at, nack_at, body_at, kind_at, members_at, member_at, number_at, header_at, packet_at, wanted, kind_of_byte}
+use Rattle.packets.specs.Reading.{◌>>=◌, ends, frames_at, whole_tape_at, ballot_at, vote_at, promise_at, nack_at, body_at, kind_at, members_at, member_at, number_at, header_at, packet_at, kind_of_byte}
 
 frames_again : (tape rest : List ℕ) → IsTape tape → frames_at (tape_bytes tape ++ rest) ≡ Ok (tape, rest)
 unfolding frames_at

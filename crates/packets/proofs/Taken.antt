@@ -1,9 +1,9 @@
 -- What is read is spelled so.
-use Rattle.std.proofs.Common.{◌≡◌, ℕ, zero, suc, ◌+◌, ◌^◌, ◌<◌, ◌≤◌, Bool, true, false, cond, not, ◌&&◌, ltb, leb, eqb, List, [], ◌∷◌, ◌++◌, length, take, drop, get_or, Option, Some, None, Result, Ok, Err, refl, sym, ap, subst, ◌∙◌, arith}
+use Rattle.std.proofs.Common.{◌≡◌, ℕ, zero, suc, ◌+◌, ◌<◌, ◌≤◌, Bool, true, false, cond, not, ◌&&◌, ltb, leb, eqb, List, [], ◌∷◌, ◌++◌, length, take, drop, Option, Some, None, Result, Ok, Err, refl, sym, ap, subst, ◌∙◌, arith}
 use Rattle.std.specs.Prelude.{is_some, slice_index}
-use Rattle.std.specs.Int.{w16, w32, from_be_bytes}
+use Rattle.std.specs.Int.{w32, from_be_bytes}
 use Rattle.std.proofs.lemmas.Bool.{ltb-false, leb-true, eqb-true, and_parts, not-false, and_from, not_from_false}
-use Rattle.std.proofs.lemmas.List.{take-append-drop, length-take-le, get_or-drop}
+use Rattle.std.proofs.lemmas.List.{take-append-drop, length-take-le, get_or-drop, append-nil}
 use Rattle.tape_frames.specs.Frames.{tape_fault}
 use Rattle.protocol.specs.Ballots.{Ballot, IsMember, is_below}
 use Rattle.protocol.specs.Rows.{Tape, Vote, vote_for}
@@ -14,7 +14,7 @@ use Rattle.packets.specs.declared.body.Kind.TheVariants as kinds
 use Rattle.packets.specs.declared.header.Header.{Header}
 use Rattle.packets.specs.Rules.{kind_of, may_send, may_say, keeps_rules}
 use Rattle.packets.specs.Spelling.{kind_byte}
-use Rattle.packets.specs.Grammar.{SpellsTwo, SpellsFour, SpellsBallot, SpellsTape, SpellsVote, SpellsBody, Spells, number_of_kind}
+use Rattle.packets.specs.Grammar.{SpellsTwo, SpellsFour, SpellsBallot, SpellsTape, SpellsBody, Spells, number_of_kind}
 use Rattle.packets.specs.Reading.{◌>>=◌, ends, wanted, u16_at, u32_at, kind_of_byte, frames_at, whole_tape_at, ballot_at, vote_at, promise_at, nack_at, body_at, kind_at, members_at, member_at, number_at, header_at, packet_at}
 use Rattle.packets.proofs.Numbers.{IsBytes, two_read, four_read}
 use Rattle.packets.proofs.Tapes.{is_tape}
@@ -78,3 +78,251 @@ kind_takes c0 c1 c2 c3 rest kind e =
       version = eqb-true _ _ (not-false _ c.0);
       number = kind_from c3 kind (wanted_ok _ _ kind c.1);
     }
+
+-- a test of two bounds
+between : (x low high : ℕ) → leb low x && leb x high ≡ true → (low ≤ x) × (x ≤ high)
+between x low high e =
+    let both = and_parts _ _ e in
+    (leb-true _ _ both.0, leb-true _ _ both.1)
+
+member_takes : (bytes : List ℕ) (at m : ℕ) → member_at bytes at ≡ Ok m → (slice_index bytes at ≡ m) × IsMember 15 m
+unfolding member_at
+member_takes bytes at m e =
+    let g = guard_else _ _ _ m e in
+    (g.1, subst (λ n. IsMember 15 n) g.1 (between (slice_index bytes at) 1 15 g.0))
+
+record TakesMembers (bytes : List ℕ) (m : ℕ × ℕ) : Type 0 where
+  pub from : slice_index bytes 6 ≡ m.0
+  pub to : slice_index bytes 7 ≡ m.1
+  pub from_is_member : IsMember 15 m.0
+  pub to_is_member : IsMember 15 m.1
+  pub differ : eqb m.0 m.1 ≡ false
+
+members_take : (bytes : List ℕ) (m : ℕ × ℕ) → members_at bytes ≡ Ok m → TakesMembers bytes m
+unfolding members_at
+members_take bytes m e =
+    let a = bind_ok (member_at bytes 6) _ m e in
+    let b = bind_ok (member_at bytes 7) _ m a.2 in
+    let g = guard (eqb a.0 b.0) _ _ m b.2 in
+    let from = member_takes bytes 6 a.0 a.1 in
+    let to = member_takes bytes 7 b.0 b.1 in
+    subst (λ (x : ℕ × ℕ). TakesMembers bytes x) (ok_is (a.0, b.0) m g.1) (record { from = from.0; to = to.0; from_is_member = from.1; to_is_member = to.1; differ = g.0 })
+
+number_takes : (bytes : List ℕ) (n : ℕ) → number_at bytes ≡ Ok n → (u32_at bytes 8 ≡ n) × ((1 ≤ n) × (n ≤ 999999))
+unfolding number_at
+number_takes bytes n e =
+    let g = guard_else _ _ _ n e in
+    (g.1, subst (λ x. (1 ≤ x) × (x ≤ 999999)) g.1 (between (u32_at bytes 8) 1 999999 g.0))
+
+-- the five bytes of a ballot, wherever they stand
+ballot_takes : (b3 b2 b1 b0 owner : ℕ) (b : Ballot) → b3 < 256 → b2 < 256 → b1 < 256 → b0 < 256 → ballot_at (b3 ∷ b2 ∷ b1 ∷ b0 ∷ owner ∷ []) 0 ≡ Some b → SpellsBallot (b3 ∷ b2 ∷ b1 ∷ b0 ∷ owner ∷ []) b
+unfolding ballot_at
+ballot_takes b3 b2 b1 b0 owner b h3 h2 h1 h0 e =
+    let n = from_be_bytes w32 (b3 ∷ b2 ∷ b1 ∷ b0 ∷ []) in
+    let g = guard_some _ (record { round = n; owner = owner }) b e in
+    let parts = and_parts _ _ g.0 in
+    let range = between owner 1 15 parts.1 in
+    subst (λ (x : Ballot). SpellsBallot (b3 ∷ b2 ∷ b1 ∷ b0 ∷ owner ∷ []) x) g.1 (record {
+      round = b3 ∷ b2 ∷ b1 ∷ b0 ∷ [];
+      are = refl;
+      spells_round = four_read b3 b2 b1 b0 h3 h2 h1 h0;
+      is_ballot = record { round_low = leb-true _ _ parts.0; round_high = omega (arith, h3, h2, h1, h0); owner_low = range.0; owner_high = range.1 };
+    })
+
+pub record TakesHeader (bytes : List ℕ) (h : Header) : Type 0 where
+  pub circuit : List ℕ
+  pub number : List ℕ
+  pub ballot : List ℕ
+  pub are : bytes ≡ 84 ∷ 78 ∷ 1 ∷ kind_byte h.kind ∷ [] ++ circuit ++ h.from ∷ h.to ∷ [] ++ number ++ ballot ++ drop 17 bytes
+  pub spells_circuit : SpellsTwo circuit h.circuit
+  pub from_is_member : IsMember 15 h.from
+  pub to_is_member : IsMember 15 h.to
+  pub spells_number : SpellsFour number h.number
+  pub number_low : 1 ≤ h.number
+  pub number_high : h.number ≤ 999999
+  pub spells_ballot : SpellsBallot ballot h.ballot
+  pub differ : eqb h.from h.to ≡ false
+  pub send : may_send h.kind h.ballot.owner h.from h.to ≡ true
+
+header_are : (c0 c1 c2 c3 c4 c5 c6 c7 kind from to : ℕ) (rest : List ℕ) → c0 ≡ 84 → c1 ≡ 78 → c2 ≡ 1 → c3 ≡ kind → c6 ≡ from → c7 ≡ to
+    → c0 ∷ c1 ∷ c2 ∷ c3 ∷ c4 ∷ c5 ∷ c6 ∷ c7 ∷ rest ≡ 84 ∷ 78 ∷ 1 ∷ kind ∷ c4 ∷ c5 ∷ from ∷ to ∷ rest
+header_are c0 c1 c2 c3 c4 c5 c6 c7 kind from to rest e0 e1 e2 e3 e6 e7 = cc
+
+pub header_takes : (bytes : List ℕ) (h : Header) → IsBytes bytes → header_at bytes ≡ Ok h → TakesHeader bytes h
+unfolding header_at kind_at ballot_at
+header_takes (c0 ∷ c1 ∷ c2 ∷ c3 ∷ c4 ∷ c5 ∷ c6 ∷ c7 ∷ c8 ∷ c9 ∷ c10 ∷ c11 ∷ c12 ∷ c13 ∷ c14 ∷ c15 ∷ c16 ∷ rest) h fits e =
+    let bytes = c0 ∷ c1 ∷ c2 ∷ c3 ∷ c4 ∷ c5 ∷ c6 ∷ c7 ∷ c8 ∷ c9 ∷ c10 ∷ c11 ∷ c12 ∷ c13 ∷ c14 ∷ c15 ∷ c16 ∷ rest in
+    let k = bind_ok (kind_at bytes) _ h e in
+    let m = bind_ok (members_at bytes) _ h k.2 in
+    let n = bind_ok (number_at bytes) _ h m.2 in
+    let b = bind_ok (wanted _ (ballot_at bytes 12)) _ h n.2 in
+    let g = guard_else _ _ _ h b.2 in
+    let kind = kind_takes c0 c1 c2 c3 (c4 ∷ c5 ∷ c6 ∷ c7 ∷ c8 ∷ c9 ∷ c10 ∷ c11 ∷ c12 ∷ c13 ∷ c14 ∷ c15 ∷ c16 ∷ rest) k.0 k.1 in
+    let members = members_take bytes m.0 m.1 in
+    let number = number_takes bytes n.0 n.1 in
+    subst (λ (x : Header). TakesHeader bytes x) g.1 (record {
+      circuit = c4 ∷ c5 ∷ [];
+      number = c8 ∷ c9 ∷ c10 ∷ c11 ∷ [];
+      ballot = c12 ∷ c13 ∷ c14 ∷ c15 ∷ c16 ∷ [];
+      are = header_are c0 c1 c2 c3 c4 c5 c6 c7 _ _ _ _ kind.mark_0 kind.mark_1 kind.version kind.number members.from members.to;
+      spells_circuit = two_read c4 c5 (fits 4) (fits 5);
+      from_is_member = members.from_is_member;
+      to_is_member = members.to_is_member;
+      spells_number = subst (λ x. SpellsFour (c8 ∷ c9 ∷ c10 ∷ c11 ∷ []) x) number.0 (four_read c8 c9 c10 c11 (fits 8) (fits 9) (fits 10) (fits 11));
+      number_low = number.1.0;
+      number_high = number.1.1;
+      spells_ballot = ballot_takes c12 c13 c14 c15 c16 b.0 (fits 12) (fits 13) (fits 14) (fits 15) (wanted_ok _ _ b.0 b.1);
+      differ = members.differ;
+      send = g.0;
+    })
+header_takes bytes h fits e = absurd cc
+
+-- ---- the body
+
+pub record TakesTape (bytes : List ℕ) (x : Tape × List ℕ) : Type 0 where
+  pub text : List ℕ
+  pub parts : bytes ≡ text ++ x.1
+  pub spells : SpellsTape text x.0
+
+frames_take : (bytes : List ℕ) (x : Tape × List ℕ) → IsBytes bytes → frames_at bytes ≡ Ok x → TakesTape bytes x
+unfolding frames_at
+frames_take (b1 ∷ b0 ∷ rest) x fits e =
+    let bytes = b1 ∷ b0 ∷ rest in
+    let n = u16_at bytes 0 in
+    let a = guard (ltb (length bytes) 2) _ _ x e in
+    let b = guard (not (leb 1 n && leb n 4096)) _ _ x a.1 in
+    let c = guard (ltb (length rest) n) _ _ x b.1 in
+    let d = guard (is_some (tape_fault (take n rest))) _ _ x c.1 in
+    let tape = take n rest in
+    let len : length tape ≡ n = length-take-le n rest (ltb-false _ _ c.0) in
+    subst (λ (y : Tape × List ℕ). TakesTape bytes y) (ok_is (tape, drop n rest) x d.1) (record {
+      text = b1 ∷ b0 ∷ tape;
+      parts = ap (λ (r : List ℕ). b1 ∷ b0 ∷ r) (sym (take-append-drop n rest));
+      spells = record { count = b1 ∷ b0 ∷ []; are = refl; spells_count = subst (λ k. SpellsTwo (b1 ∷ b0 ∷ []) k) (sym len) (two_read b1 b0 (fits 0) (fits 1)); is_tape = is_tape tape d.0 };
+    })
+frames_take bytes x fits e = absurd cc
+
+whole_tape_takes : (bytes : List ℕ) (tape : Tape) → IsBytes bytes → whole_tape_at bytes ≡ Ok tape → SpellsTape bytes tape
+unfolding whole_tape_at
+whole_tape_takes bytes tape fits e =
+    let a = bind_ok (frames_at bytes) _ tape e in
+    let b = ends_ok a.0.0 tape a.0.1 a.2 in
+    let t = frames_take bytes a.0 fits a.1 in
+    let all : t.text ≡ bytes = sym (t.parts ∙ ap (λ (r : List ℕ). t.text ++ r) b.0 ∙ append-nil t.text) in
+    subst (λ (y : Tape). SpellsTape bytes y) b.1 (subst (λ (y : List ℕ). SpellsTape y a.0.0) all t.spells)
+
+pub record TakesVote (ballot : Ballot) (bytes : List ℕ) (x : Vote × List ℕ) : Type 0 where
+  pub first : List ℕ
+  pub second : List ℕ
+  pub parts : bytes ≡ first ++ (second ++ x.1)
+  pub spells_ballot : SpellsBallot first x.0.ballot
+  pub spells_tape : SpellsTape second x.0.tape
+  pub below : is_below x.0.ballot ballot ≡ true
+
+vote_takes : (ballot : Ballot) (bytes : List ℕ) (x : Vote × List ℕ) → IsBytes bytes → vote_at ballot bytes ≡ Ok x → TakesVote ballot bytes x
+unfolding vote_at ballot_at
+vote_takes ballot (b3 ∷ b2 ∷ b1 ∷ b0 ∷ owner ∷ rest) x fits e =
+    let bytes = b3 ∷ b2 ∷ b1 ∷ b0 ∷ owner ∷ rest in
+    let a = guard (ltb (length bytes) 7) _ _ x e in
+    let b = bind_ok (wanted _ (ballot_at bytes 0)) _ x a.1 in
+    let c = guard (not (is_below b.0 ballot)) _ _ x b.2 in
+    let d = bind_ok (frames_at rest) _ x c.1 in
+    let t = frames_take rest d.0 (IsBytes-drop 5 bytes fits) d.1 in
+    subst (λ (y : Vote × List ℕ). TakesVote ballot bytes y) (ok_is (vote_for b.0 d.0.0, d.0.1) x d.2) (record {
+      first = b3 ∷ b2 ∷ b1 ∷ b0 ∷ owner ∷ [];
+      second = t.text;
+      parts = ap (λ (r : List ℕ). b3 ∷ b2 ∷ b1 ∷ b0 ∷ owner ∷ r) t.parts;
+      spells_ballot = ballot_takes b3 b2 b1 b0 owner b.0 (fits 0) (fits 1) (fits 2) (fits 3) (wanted_ok _ _ b.0 b.1);
+      spells_tape = t.spells;
+      below = not-false _ c.0;
+    })
+vote_takes ballot bytes x fits e = absurd cc
+
+-- what a body says that was read
+pub record TakesBody (kind : Kind) (ballot : Ballot) (bytes : List ℕ) (b : Body) : Type 0 where
+  pub spells : SpellsBody bytes b
+  pub kind_is : kind_of b ≡ kind
+  pub say : may_say b ballot ≡ true
+
+promise_takes : (ballot : Ballot) (bytes : List ℕ) (b : Body) → IsBytes bytes → promise_at ballot bytes ≡ Ok b → TakesBody kinds.Promise ballot bytes b
+unfolding promise_at
+promise_takes ballot [] b fits e = absurd cc
+promise_takes ballot (zero ∷ rest) b fits e =
+    let a = ends_ok (Promise None) b rest e in
+    subst (λ (y : Body). TakesBody kinds.Promise ballot (0 ∷ rest) y) a.1 (record { spells = ap (λ (r : List ℕ). 0 ∷ r) a.0; kind_is = refl; say = refl })
+promise_takes ballot (suc zero ∷ rest) b fits e =
+    let a = bind_ok (vote_at ballot rest) _ b e in
+    let c = ends_ok (Promise (Some a.0.0)) b a.0.1 a.2 in
+    let v = vote_takes ballot rest a.0 (IsBytes-drop 1 (1 ∷ rest) fits) a.1 in
+    let all : 1 ∷ rest ≡ 1 ∷ v.first ++ v.second = ap (λ (r : List ℕ). 1 ∷ r) (v.parts ∙ ap (λ (r : List ℕ). v.first ++ (v.second ++ r)) c.0 ∙ ap (λ (r : List ℕ). v.first ++ r) (append-nil v.second)) in
+    subst (λ (y : Body). TakesBody kinds.Promise ballot (1 ∷ rest) y) c.1 (record {
+      spells = record { ballot = v.first; tape = v.second; are = all; spells_ballot = v.spells_ballot; spells_tape = v.spells_tape };
+      kind_is = refl;
+      say = v.below;
+    })
+promise_takes ballot (suc (suc n) ∷ rest) b fits e = absurd cc
+
+nack_takes : (ballot : Ballot) (bytes : List ℕ) (b : Body) → IsBytes bytes → nack_at ballot bytes ≡ Ok b → TakesBody kinds.Nack ballot bytes b
+unfolding nack_at ballot_at
+nack_takes ballot (b3 ∷ b2 ∷ b1 ∷ b0 ∷ owner ∷ rest) b fits e =
+    let bytes = b3 ∷ b2 ∷ b1 ∷ b0 ∷ owner ∷ rest in
+    let a = guard (ltb (length bytes) 5) _ _ b e in
+    let p = bind_ok (wanted _ (ballot_at bytes 0)) _ b a.1 in
+    let c = guard (not (is_below ballot p.0)) _ _ b p.2 in
+    let d = ends_ok (Nack p.0) b rest c.1 in
+    let spells = ballot_takes b3 b2 b1 b0 owner p.0 (fits 0) (fits 1) (fits 2) (fits 3) (wanted_ok _ _ p.0 p.1) in
+    let all : b3 ∷ b2 ∷ b1 ∷ b0 ∷ owner ∷ [] ≡ bytes = ap (λ (r : List ℕ). b3 ∷ b2 ∷ b1 ∷ b0 ∷ owner ∷ r) (sym d.0) in
+    subst (λ (y : Body). TakesBody kinds.Nack ballot bytes y) d.1 (record { spells = subst (λ (y : List ℕ). SpellsBallot y p.0) all spells; kind_is = refl; say = not-false _ c.0 })
+nack_takes ballot bytes b fits e = absurd cc
+
+body_takes : (kind : Kind) (ballot : Ballot) (bytes : List ℕ) (b : Body) → IsBytes bytes → body_at kind ballot bytes ≡ Ok b → TakesBody kind ballot bytes b
+unfolding body_at
+body_takes kinds.Prepare ballot bytes b fits e =
+    let a = ends_ok Prepare b bytes e in
+    subst (λ (y : Body). TakesBody kinds.Prepare ballot bytes y) a.1 (record { spells = a.0; kind_is = refl; say = refl })
+body_takes kinds.Promise ballot bytes b fits e = promise_takes ballot bytes b fits e
+body_takes kinds.Accept ballot bytes b fits e =
+    let a = bind_ok (whole_tape_at bytes) _ b e in
+    subst (λ (y : Body). TakesBody kinds.Accept ballot bytes y) (ok_is (Accept a.0) b a.2) (record { spells = whole_tape_takes bytes a.0 fits a.1; kind_is = refl; say = refl })
+body_takes kinds.Accepted ballot bytes b fits e =
+    let a = bind_ok (whole_tape_at bytes) _ b e in
+    subst (λ (y : Body). TakesBody kinds.Accepted ballot bytes y) (ok_is (Accepted a.0) b a.2) (record { spells = whole_tape_takes bytes a.0 fits a.1; kind_is = refl; say = refl })
+body_takes kinds.Nack ballot bytes b fits e = nack_takes ballot bytes b fits e
+
+-- ---- the packet
+
+kind_number : (b : Body) (kind : Kind) → kind_of b ≡ kind → kind_byte kind ≡ number_of_kind b
+kind_number Prepare kind e = ap kind_byte (sym e)
+kind_number (Promise report) kind e = ap kind_byte (sym e)
+kind_number (Accept tape) kind e = ap kind_byte (sym e)
+kind_number (Accepted tape) kind e = ap kind_byte (sym e)
+kind_number (Nack promised) kind e = ap kind_byte (sym e)
+
+-- a packet that is read is spelled by the bytes
+pub packet_takes : (bytes : List ℕ) (p : Packet) → IsBytes bytes → packet_at bytes ≡ Ok p → Spells bytes p
+unfolding packet_at
+packet_takes bytes p fits e =
+    let a = bind_ok (header_at bytes) _ p e in
+    let h = a.0 in
+    let b = bind_ok (body_at h.kind h.ballot (drop 17 bytes)) _ p a.2 in
+    let first = header_takes bytes h fits a.1 in
+    let second = body_takes h.kind h.ballot (drop 17 bytes) b.0 (IsBytes-drop 17 bytes fits) b.1 in
+    let made : Packet = record { circuit = h.circuit; from = h.from; to = h.to; number = h.number; ballot = h.ballot; body = b.0 } in
+    let send : may_send (kind_of b.0) h.ballot.owner h.from h.to ≡ true = ap (λ (k : Kind). may_send k h.ballot.owner h.from h.to) second.kind_is ∙ first.send in
+    let rules : keeps_rules made ≡ true = and_from _ _ (and_from _ _ (not_from_false _ first.differ) send) second.say in
+    subst (λ (x : Packet). Spells bytes x) (ok_is made p b.2) (record {
+      circuit = first.circuit;
+      number = first.number;
+      ballot = first.ballot;
+      body = drop 17 bytes;
+      are = first.are ∙ ap (λ k. 84 ∷ 78 ∷ 1 ∷ k ∷ [] ++ first.circuit ++ h.from ∷ h.to ∷ [] ++ first.number ++ first.ballot ++ drop 17 bytes) (kind_number b.0 h.kind second.kind_is);
+      spells_circuit = first.spells_circuit;
+      from_is_member = first.from_is_member;
+      to_is_member = first.to_is_member;
+      spells_number = first.spells_number;
+      number_low = first.number_low;
+      number_high = first.number_high;
+      spells_ballot = first.spells_ballot;
+      spells_body = second.spells;
+      rules = rules;
+    })

@@ -1,14 +1,15 @@
--- The laws of the grammar.
-use Rattle.std.proofs.Common.{◌≡◌, List, ℕ, [], ◌∷◌, ◌++◌, Result, Ok, Err, refl, sym, ap, ◌∙◌}
+-- The laws of the grammar, and what a reader's answer says in its words.
+use Rattle.std.proofs.Common.{◌≡◌, List, ℕ, [], ◌∷◌, ◌++◌, Result, Ok, Err, sym, ap, ◌∙◌}
+use Rattle.std.specs.Prelude.{IfOk, OnErr}
 use Rattle.std.proofs.lemmas.List.{append-nil}
 use Rattle.protocol.specs.Packets.{Packet}
 use Rattle.packets.specs.declared.fault.PacketFault.{PacketFault}
-use Rattle.packets.specs.Spelling.{spelling}
-use Rattle.packets.specs.Grammar.{Spells, IsPacket}
+use Rattle.packets.specs.Grammar.{Spells}
 use Rattle.packets.specs.Reading.{ends, packet_at}
 use Rattle.packets.proofs.Written.{packet_are, packet_is}
 use Rattle.packets.proofs.Again.{packet_again}
-use Rattle.packets.proofs.Taken.{ok_is}
+use Rattle.packets.proofs.Numbers.{IsBytes}
+use Rattle.packets.proofs.Taken.{ok_is, packet_takes}
 
 -- what spells a packet is read as it, and bytes behind it are too many
 pub spelled : (bytes rest : List ℕ) (p : Packet) → Spells bytes p → packet_at (bytes ++ rest) ≡ ends p rest
@@ -27,3 +28,14 @@ no_more bytes (b ∷ rest) p q e = absurd cc
 pub no_front : (short long rest : List ℕ) (p q : Packet) → Spells short p → Spells long q → long ≡ short ++ rest → short ≡ long
 no_front short long rest p q s t e =
     no_more short rest p q (sym (spelled short rest p s) ∙ ap packet_at (sym e) ∙ is_read long q t) ∙ sym e
+
+pub is_found : (bytes : List ℕ) (r : Result Packet PacketFault) → IsBytes bytes → r ≡ packet_at bytes → IfOk r (λ p. Spells bytes p)
+is_found bytes (Ok p) fits e = packet_takes bytes p fits (sym e)
+is_found bytes (Err f) fits e = tt
+
+pub is_nothing : (bytes : List ℕ) (r : Result Packet PacketFault) → r ≡ packet_at bytes → OnErr r ((p : Packet) → Spells bytes p → ⊥)
+is_nothing bytes (Ok p) e = tt
+is_nothing bytes (Err f) e = λ p s. not_both f p (e ∙ is_read bytes p s)
+  where
+    not_both : (f : PacketFault) (p : Packet) → Err f ≡ Ok p → ⊥
+    not_both f p h = absurd cc

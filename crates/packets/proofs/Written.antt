@@ -1,5 +1,8 @@
 -- What spells a packet is what is written of it, and what is written spells it.
-use Rattle.std.proofs.Common.{◌≡◌, ℕ, ◌<◌, List, [], ◌∷◌, ◌++◌, length, Option, Some, None, refl, sym, ap, ◌∙◌, arith}
+use Rattle.std.proofs.Common.{◌≡◌, ℕ, List, [], ◌∷◌, ◌++◌, length, Some, None, refl, sym, ap, subst, ◌∙◌, arith}
+use Rattle.std.specs.Prelude.{Result, Ok, Err, IfOk, OnOk}
+use Rattle.std.specs.declared.alloc.AllocError.{AllocError}
+use Rattle.std.specs.Global.{Vec}
 use Rattle.std.specs.Int.{w16, w32, to_be_bytes}
 use Rattle.tape_frames.specs.Frames.{IsTape}
 use Rattle.protocol.specs.Ballots.{Ballot, IsBallot}
@@ -118,3 +121,12 @@ packet_written p is =
 
 pub has_one : (p : Packet) → IsPacket p → HasOneSpelling p
 has_one p is = (spelling p, packet_written p is, λ other s. packet_are other p s)
+
+-- what was written, in the grammar's words
+pub is_spelled : (p : Packet) (r : Result (Vec ℕ) AllocError) → IfOk r (λ v. v.items ≡ spelling p) → OnOk r (IsPacket p) → IfOk r (λ v. Spells v.items p)
+is_spelled p (Ok v) e is = subst (λ (x : List ℕ). Spells x p) (sym e) (packet_written p is)
+is_spelled p (Err x) e is = tt
+
+pub is_only : (p : Packet) (r : Result (Vec ℕ) AllocError) → IfOk r (λ v. v.items ≡ spelling p) → IfOk r (λ v. (other : List ℕ) → Spells other p → other ≡ v.items)
+is_only p (Ok v) e = λ other s. packet_are other p s ∙ sym e
+is_only p (Err x) e = tt

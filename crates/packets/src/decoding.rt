@@ -1,8 +1,10 @@
 //! Reading a packet from bytes, with no memory.
 
-ghost use Rattle.std.specs.Prelude.{◌≡◌, IfOk, true};
+ghost use Rattle.std.specs.Prelude.{◌≡◌, IfOk, OnErr, true};
 ghost use Rattle.protocol.specs.Ballots.{is_below};
+ghost use Rattle.protocol.specs.Packets.{Packet as PacketValue};
 ghost use Rattle.packets.specs.Bodies.{said};
+ghost use Rattle.packets.specs.Grammar.{Spells};
 ghost use Rattle.packets.specs.Rules.{kind_of, may_say};
 ghost use Rattle.packets.specs.Reading.{frames_at, whole_tape_at, vote_at, promise_at, nack_at, body_at, packet_at, Seen};
 ghost use Rattle.packets.specs.declared.body.Kind.TheVariants as kinds;
@@ -131,10 +133,9 @@ fn body_of(kind: Kind, ballot: Ballot, bytes: &[u8]) -> Result<BodyRef<'_>, Pack
     }
 }
 
-/// The packet that the bytes spell, its tape lent from them, or their first fault. It takes no memory.
 #[tactic(auto, unfolding(crate::specs::Reading::packet_at))]
-pub fn decode(bytes: &[u8]) -> Result<PacketRef<'_>, PacketFault>
-    ensures exact { result ≡ packet_at bytes.now }
+fn packet_of(bytes: &[u8]) -> Result<PacketRef<'_>, PacketFault>
+    ensures { result ≡ packet_at bytes.now }
 {
     let header = header_of(bytes)?;
     let (_, rest) = bytes.split_at(HEADER_LEN);
@@ -150,4 +151,18 @@ pub fn decode(bytes: &[u8]) -> Result<PacketRef<'_>, PacketFault>
         Some(packet) => Ok(packet),
         None => unreachable!(),
     }
+}
+
+/// The packet that the bytes spell, its tape lent from them, or their first fault. It takes no memory.
+pub fn decode(bytes: &[u8]) -> Result<PacketRef<'_>, PacketFault>
+    // What is answered is spelled by the bytes.
+    ensures found { IfOk result (λ p. Spells bytes.now p) }
+    // What the bytes spell is answered.
+    ensures only { (p : PacketValue) → Spells bytes.now p → result ≡ Ok p }
+    // A fault comes only where they spell nothing.
+    ensures nothing { OnErr result ((p : PacketValue) → Spells bytes.now p → ⊥) }
+    // It is the first in the order in which a packet is read.
+    ensures exact { result ≡ packet_at bytes.now }
+{
+    packet_of(bytes)
 }

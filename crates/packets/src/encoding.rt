@@ -1,7 +1,11 @@
 //! Writing a packet as bytes.
 
-ghost use Rattle.std.specs.Prelude.{◌≡◌, ◌++◌, ◌≤◌, length, IfOk, OnOk};
+ghost use Rattle.std.specs.Prelude.{◌≡◌, ◌++◌, ◌≤◌, List, ℕ, length, IfOk, OnOk};
+ghost use Rattle.tape_frames.specs.Frames.{IsTape};
+ghost use Rattle.protocol.specs.Ballots.{IsBallot};
+ghost use Rattle.protocol.specs.Packets.{Promise};
 ghost use Rattle.packets.specs.Bodies.{said};
+ghost use Rattle.packets.specs.Grammar.{Spells, IsBody, IsPacket};
 ghost use Rattle.packets.specs.Spelling.{kind_byte, ballot_bytes, header_bytes, tape_bytes, report_bytes, body_bytes, spelling};
 
 use crate::body::{BodyRef, Kind};
@@ -24,7 +28,8 @@ fn kind_byte(kind: Kind) -> u8
 }
 
 fn put_ballot(out: &mut Vec<u8>, ballot: Ballot) -> Result<(), AllocError>
-    ensures { OnOk result (out.new.items ≡ out.old.items ++ ballot_bytes ballot) }
+    ensures ok { OnOk result (out.new.items ≡ out.old.items ++ ballot_bytes ballot) }
+    ensures range { IsBallot ballot }
 {
     out.extend_from_slice(&ballot.round().to_be_bytes())?;
     out.push(ballot.owner().get())?;
@@ -32,7 +37,8 @@ fn put_ballot(out: &mut Vec<u8>, ballot: Ballot) -> Result<(), AllocError>
 }
 
 fn put_tape(out: &mut Vec<u8>, tape: &TapeRef<'_>) -> Result<(), AllocError>
-    ensures { OnOk result (out.new.items ≡ out.old.items ++ tape_bytes tape.now) }
+    ensures ok { OnOk result (out.new.items ≡ out.old.items ++ tape_bytes tape.now) }
+    ensures range { IsTape tape.now }
 {
     let frames = tape.frames();
     let count = frames.len() as u16;
@@ -42,7 +48,8 @@ fn put_tape(out: &mut Vec<u8>, tape: &TapeRef<'_>) -> Result<(), AllocError>
 }
 
 fn put_report(out: &mut Vec<u8>, report: &Option<VoteRef<'_>>) -> Result<(), AllocError>
-    ensures { OnOk result (out.new.items ≡ out.old.items ++ report_bytes report.now) }
+    ensures ok { OnOk result (out.new.items ≡ out.old.items ++ report_bytes report.now) }
+    ensures range { OnOk result (IsBody (Promise report.now)) }
 {
     match report {
         None => out.push(0)?,
@@ -56,7 +63,8 @@ fn put_report(out: &mut Vec<u8>, report: &Option<VoteRef<'_>>) -> Result<(), All
 }
 
 fn put_body(out: &mut Vec<u8>, body: &BodyRef<'_>) -> Result<(), AllocError>
-    ensures { OnOk result (out.new.items ≡ out.old.items ++ body_bytes (said body.now)) }
+    ensures ok { OnOk result (out.new.items ≡ out.old.items ++ body_bytes (said body.now)) }
+    ensures range { OnOk result (IsBody (said body.now)) }
 {
     match body {
         BodyRef::Prepare => Ok(()),
@@ -107,9 +115,9 @@ fn body_len(body: &BodyRef<'_>) -> usize
     }
 }
 
-/// The one spelling of a packet, 17 to 4,121 bytes. Its memory is asked for once.
-pub fn encode(alloc: Global, packet: &PacketRef<'_>) -> Result<Vec<u8>, AllocError>
+fn written(alloc: Global, packet: &PacketRef<'_>) -> Result<Vec<u8>, AllocError>
     ensures exact { IfOk result (λ v. v.items ≡ spelling packet.now) }
+    ensures range { OnOk result (IsPacket packet.now) }
 {
     let body = packet.body();
     let (from, to) = (packet.from().get(), packet.to().get());
@@ -125,4 +133,14 @@ pub fn encode(alloc: Global, packet: &PacketRef<'_>) -> Result<Vec<u8>, AllocErr
     put_ballot(&mut out, packet.ballot())?;
     put_body(&mut out, body)?;
     Ok(out)
+}
+
+/// The one spelling of a packet, 17 to 4,121 bytes. Its memory is asked for once.
+pub fn encode(alloc: Global, packet: &PacketRef<'_>) -> Result<Vec<u8>, AllocError>
+    ensures spelled { IfOk result (λ v. Spells v.items packet.now) }
+    // No other bytes spell the packet.
+    ensures only { IfOk result (λ v. (other : List ℕ) → Spells other packet.now → other ≡ v.items) }
+    ensures exact { IfOk result (λ v. v.items ≡ spelling packet.now) }
+{
+    written(alloc, packet)
 }
