@@ -1,0 +1,4 @@
+pub mod Lists
+pub mod Looking
+pub mod Assembly
+pub mod Numbers

@@ -1,0 +1,32 @@
+-- One step of the assembler: what a frame does to the line, as a function of what is kept.
+use Rattle.std.specs.Prelude.{◌≡◌, ℕ, List, [], ◌∷◌, ◌++◌, Option, Some, None, unwrap_or, option_to_list, true, false}
+use Rattle.code_table.specs.declared.case.Case.TheVariants as cases
+use Rattle.code_table.specs.declared.meaning.Meaning.{Meaning}
+use Rattle.widths.specs.Widths.{WidthFile}
+use Rattle.slug_reader.specs.declared.item.Item.{Item}
+use Rattle.slug_reader.specs.declared.line.Quad.{Quad}
+use Rattle.slug_reader.specs.declared.line.Line.{Line}
+use Rattle.slug_reader.specs.declared.assembler.Assembler.{Assembler}
+use Rattle.slug_reader.specs.declared.assembler.Taken.{Taken}
+use Rattle.slug_reader.specs.declared.assembler.Taken.TheVariants.{Kept, Cut, Flawed}
+use Rattle.slug_reader.specs.Positions.{or_else}
+use Rattle.slug_reader.specs.Meanings.{Meanings, case_of, rail_of, quad_of, is_elevate, item_of}
+use Rattle.slug_reader.specs.Faults.{frame_flaw}
+
+-- what is kept after a frame that means m
+pub record Keeps (means : Meanings) (widths : WidthFile) (frame : ℕ) (m : Option Meaning) (old new : Assembler) : Type 0 where
+  pub fine : frame_flaw widths m ≡ None
+  pub case : new.case ≡ unwrap_or (case_of (means cases.Unshift frame)) old.case
+  pub rail : new.rail ≡ unwrap_or (rail_of m) old.rail
+  pub items : new.items.items ≡ old.items.items ++ option_to_list (item_of widths old.rail m)
+  pub quad : new.quad ≡ or_else (quad_of m) old.quad
+
+abbrev pub Takes : Meanings → WidthFile → ℕ → Assembler → Assembler → Taken → Type 0
+Takes means widths frame old new (Flawed flaw) = frame_flaw widths (means old.case frame) ≡ Some flaw
+Takes means widths frame old new Kept = Keeps means widths frame (means old.case frame) old new × (is_elevate (means old.case frame) ≡ false)
+Takes means widths frame old new Cut = Keeps means widths frame (means old.case frame) old new × (is_elevate (means old.case frame) ≡ true)
+
+-- the line that is cut, if it has an item
+abbrev pub line_cut : List Item → Option Quad → ℕ → Option Line
+line_cut [] quad at = None
+line_cut (item ∷ rest) quad at = Some (record { items = item ∷ rest; quad = quad; elevate_at = at })

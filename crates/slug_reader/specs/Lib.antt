@@ -1,0 +1,6 @@
+pub mod Positions
+pub mod Meanings
+pub mod Lines
+pub mod Faults
+pub mod Assembling
+pub mod Answers

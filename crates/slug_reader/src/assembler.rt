@@ -1,0 +1,99 @@
+//! The line that is being assembled.
+
+ghost use Rattle.std.specs.Prelude.{◌≡◌, ◌≤◌, ◌++◌, [], length, Some, None, IfOk, unwrap_or, option_to_list};
+ghost use Rattle.code_table.specs.Tables.{mean};
+ghost use Rattle.slug_reader.specs.Assembling.{Takes, line_cut};
+
+use crate::codes::{case_of, is_elevate, item_of, quad_of, rail_of};
+use crate::fault::Flaw;
+use crate::item::{Item, Rail};
+use crate::items::Items;
+use crate::line::{Line, Quad};
+use code_table::{Case, CodeTable};
+use std::alloc::{AllocError, Global};
+use std::mem;
+use widths::Widths;
+
+/// What a frame did.
+#[derive(Clone, Copy, Debug, PartialEq, Eq)]
+pub enum Taken {
+    /// The line goes on.
+    Kept,
+    /// The line is sent to be cast.
+    Cut,
+    /// The frame is faulty.
+    Flawed(Flaw),
+}
+
+/// The case and the rail that hold, and the line since the last cut.
+#[derive(Debug, Drop)]
+pub struct Assembler {
+    pub case: Case,
+    pub rail: Rail,
+    pub items: Vec<Item>,
+    pub quad: Option<Quad>,
+}
+
+impl Assembler {
+    /// At the start of a tape.
+    pub fn new(alloc: Global) -> Assembler
+        ensures case { result.case ≡ Case.Unshift }
+        ensures rail { result.rail ≡ Rail.Lower }
+        ensures items { result.items.items ≡ [] }
+        ensures quad { result.quad ≡ None }
+    {
+        Assembler {
+            case: Case::Unshift,
+            rail: Rail::Lower,
+            items: Vec::new(alloc),
+            quad: None,
+        }
+    }
+
+    /// Takes in the next frame. A case code stands in both columns of a table, so it is looked up in the first.
+    pub fn take(
+        &mut self,
+        table: &CodeTable,
+        widths: &Widths,
+        frame: u8,
+    ) -> Result<Taken, AllocError>
+        ensures { IfOk result (λ taken. Takes (mean table.now) widths.now frame self.old self.new taken) }
+    {
+        let meaning = match table.meaning(self.case, frame) {
+            Some(meaning) => meaning,
+            None => return Ok(Taken::Flawed(Flaw::UnknownCode)),
+        };
+        match item_of(widths, self.rail, meaning) {
+            Ok(Some(item)) => self.items.push(item)?,
+            Ok(None) => {}
+            Err(flaw) => return Ok(Taken::Flawed(flaw)),
+        }
+        self.case = case_of(table.meaning(Case::Unshift, frame)).unwrap_or(self.case);
+        self.rail = rail_of(meaning).unwrap_or(self.rail);
+        self.quad = quad_of(meaning).or(self.quad);
+        Ok(if is_elevate(meaning) {
+            Taken::Cut
+        } else {
+            Taken::Kept
+        })
+    }
+
+    /// Sends the line to be cast at this position. There is none where it has no item.
+    pub fn cut(&mut self, alloc: Global, at: u32) -> Option<Line>
+        requires { length self.old.items.items ≤ 4096 }
+        ensures line { result ≡ line_cut self.old.items.items self.old.quad at }
+        ensures items { self.new.items.items ≡ [] }
+        ensures quad { self.new.quad ≡ None }
+        ensures case { self.new.case ≡ self.old.case }
+        ensures rail { self.new.rail ≡ self.old.rail }
+    {
+        let items = mem::replace(&mut self.items, Vec::new(alloc));
+        let quad = self.quad.take();
+        let items = Items::new(items)?;
+        Some(Line {
+            items,
+            quad,
+            elevate_at: at,
+        })
+    }
+}

@@ -1,0 +1,77 @@
+//! What a meaning does to the line that is assembled.
+
+ghost use Rattle.std.specs.Prelude.{◌≡◌, Some, None, MatchResult, option_copied};
+ghost use Rattle.slug_reader.specs.Meanings.{case_of, rail_of, quad_of, is_elevate, item_of};
+ghost use Rattle.slug_reader.specs.Faults.{frame_flaw};
+
+use crate::fault::Flaw;
+use crate::item::{Item, Rail};
+use crate::line::Quad;
+use code_table::{Case, Meaning};
+use widths::Widths;
+
+/// The case that a case code selects.
+pub fn case_of(meaning: Option<&Meaning>) -> Option<Case>
+    ensures { result ≡ case_of (option_copied meaning.entry) }
+{
+    match meaning {
+        Some(Meaning::Shift) => Some(Case::Shift),
+        Some(Meaning::Unshift) => Some(Case::Unshift),
+        _ => None,
+    }
+}
+
+/// The rail that a rail code selects.
+pub fn rail_of(meaning: &Meaning) -> Option<Rail>
+    ensures { result ≡ rail_of (Some meaning.now) }
+{
+    match meaning {
+        Meaning::Upper => Some(Rail::Upper),
+        Meaning::Lower => Some(Rail::Lower),
+        _ => None,
+    }
+}
+
+/// The quad that a quad code asks for its line.
+pub fn quad_of(meaning: &Meaning) -> Option<Quad>
+    ensures { result ≡ quad_of (Some meaning.now) }
+{
+    match meaning {
+        Meaning::QuadLeft => Some(Quad::Left),
+        Meaning::QuadCenter => Some(Quad::Center),
+        Meaning::QuadRight => Some(Quad::Right),
+        _ => None,
+    }
+}
+
+/// Whether the line is sent to be cast.
+pub fn is_elevate(meaning: &Meaning) -> bool
+    ensures { result ≡ is_elevate (Some meaning.now) }
+{
+    matches!(meaning, Meaning::Elevate)
+}
+
+/// What goes into the line, if anything, where this rail holds.
+pub fn item_of(widths: &Widths, rail: Rail, meaning: &Meaning) -> Result<Option<Item>, Flaw>
+    ensures { MatchResult result
+        (λ item. (frame_flaw widths.now (Some meaning.now) ≡ None) × (item ≡ item_of widths.now rail (Some meaning.now)))
+        (λ flaw. frame_flaw widths.now (Some meaning.now) ≡ Some flaw) }
+{
+    match meaning {
+        Meaning::Matrix(name) => match widths.of(name.as_str()) {
+            Some(width) => Ok(Some(Item::Matrix {
+                name: name.copy(),
+                rail,
+                width,
+            })),
+            None => Err(Flaw::NoWidth),
+        },
+        Meaning::Spaceband => Ok(Some(Item::Band)),
+        Meaning::Thin => Ok(Some(Item::Space {
+            width: widths.thin(),
+        })),
+        Meaning::En => Ok(Some(Item::Space { width: widths.en() })),
+        Meaning::Em => Ok(Some(Item::Space { width: widths.em() })),
+        _ => Ok(None),
+    }
+}

@@ -1,0 +1,18 @@
+//! The lines of a tape: what is assembled between two elevate codes, read by a code table and a width file.
+#![tactic(auto)]
+
+mod assembler;
+mod codes;
+mod fault;
+mod item;
+mod items;
+mod line;
+mod numbering;
+mod reading;
+
+pub use fault::{Flaw, ReadFault, Stop};
+pub use item::{Item, Rail};
+pub use items::Items;
+pub use line::{Line, Quad};
+pub use numbering::line_at;
+pub use reading::{Reading, read, read_lines};
