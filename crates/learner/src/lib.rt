@@ -1,0 +1,10 @@
+//! The votes that were heard for one number, and what they show as chosen.
+#![tactic(auto)]
+
+mod heard;
+pub mod laws;
+
+pub use heard::Heard;
+
+#[cfg(test)]
+mod tests;
