@@ -1,2 +1,5 @@
+pub mod Entries
 pub mod Names
+pub mod Reading
 pub mod Tables
+pub mod Texts

@@ -1,5 +1,5 @@
 -- What a code table is, and what its frames mean.
-use Rattle.std.specs.Prelude.{ℕ, List, Option, slice_get, option_map}
+use Rattle.std.specs.Prelude.{ℕ, List, Bool, Option, is_some, slice_get, option_map}
 use Rattle.std.specs.Option.{option_flatten}
 use Rattle.code_table.specs.declared.case.Case.{Case}
 use Rattle.code_table.specs.declared.case.Case.TheVariants.{Unshift, Shift}
@@ -13,6 +13,10 @@ Places = List (Option Entry)
 -- the entry of a frame, where the table has one
 abbrev pub entry_of : Places → ℕ → Option Entry
 entry_of table frame = option_flatten (slice_get table frame)
+
+-- there is an entry of this frame
+abbrev pub is_placed : Places → ℕ → Bool
+is_placed table frame = is_some (entry_of table frame)
 
 -- what an entry has in the column of a case
 abbrev pub in_column : Case → Entry → Meaning

@@ -1,5 +1,8 @@
 //! What a frame means.
 
+ghost use Rattle.std.specs.Prelude.{◌≡◌};
+ghost use Rattle.code_table.specs.Texts.{function_of, matrix_of, meaning_of, may_stand};
+
 use crate::name::Name;
 
 /// What a frame means in one case.
@@ -35,4 +38,63 @@ pub enum Meaning {
     QuadRight,
     /// Nothing.
     Ignore,
+}
+
+/// The function with this name.
+#[tactic(auto, unfolding(crate::specs::Texts::function_of))]
+fn function_of(text: &str) -> Option<Meaning>
+    ensures { result ≡ function_of text.now }
+{
+    match text {
+        "@shift" => Some(Meaning::Shift),
+        "@unshift" => Some(Meaning::Unshift),
+        "@elevate" => Some(Meaning::Elevate),
+        "@return" => Some(Meaning::Return),
+        "@spaceband" => Some(Meaning::Spaceband),
+        "@thin" => Some(Meaning::Thin),
+        "@en" => Some(Meaning::En),
+        "@em" => Some(Meaning::Em),
+        "@upper" => Some(Meaning::Upper),
+        "@lower" => Some(Meaning::Lower),
+        "@quadleft" => Some(Meaning::QuadLeft),
+        "@quadcenter" => Some(Meaning::QuadCenter),
+        "@quadright" => Some(Meaning::QuadRight),
+        "@ignore" => Some(Meaning::Ignore),
+        _ => None,
+    }
+}
+
+/// The matrix of this name, where a matrix may have it.
+#[tactic(auto, unfolding(crate::specs::Texts::matrix_of))]
+fn matrix_of(text: &str) -> Option<Meaning>
+    ensures { result ≡ matrix_of text.now }
+{
+    let name = Name::new(text.as_bytes())?;
+    Some(Meaning::Matrix(name))
+}
+
+impl Meaning {
+    /// What a text of a code table means: the function or the matrix of this name.
+    #[tactic(auto, unfolding(crate::specs::Texts::meaning_of))]
+    pub(crate) fn of(text: &str) -> Option<Meaning>
+        ensures { result ≡ meaning_of text.now }
+    {
+        match function_of(text) {
+            Some(function) => Some(function),
+            None => matrix_of(text),
+        }
+    }
+
+    /// Whether the two may be the columns of one entry: where one is a shift or an unshift, so is the other.
+    #[tactic(auto, unfolding(crate::specs::Texts::may_stand))]
+    pub(crate) fn may_stand(unshift: &Meaning, shift: &Meaning) -> bool
+        ensures { result ≡ may_stand unshift.now shift.now }
+    {
+        match (unshift, shift) {
+            (Meaning::Shift, Meaning::Shift) | (Meaning::Unshift, Meaning::Unshift) => true,
+            (Meaning::Shift | Meaning::Unshift, _) | (_, Meaning::Shift | Meaning::Unshift) =>
+                false,
+            _ => true,
+        }
+    }
 }

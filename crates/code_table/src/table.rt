@@ -1,15 +1,20 @@
 //! Code tables, frame by frame.
 
-ghost use Rattle.std.specs.Prelude.{◌≡◌, ◌≤◌, None, option_copied};
+ghost use Rattle.std.specs.Prelude.{◌≡◌, ◌≤◌, ◌⊎◌, Some, None, Ok, Err, IfOk, IfErr, option_copied};
+ghost use Rattle.toml.specs.Parse.{parse_document};
+ghost use Rattle.toml.specs.View.{table_view};
+ghost use Rattle.code_table.specs.Reading.{read_table};
+ghost use Rattle.code_table.specs.declared.fault.TableFault.TheVariants.{NotToml, OutOfMemory};
 ghost use Rattle.code_table.specs.Tables.{mean};
 
 use crate::case::Case;
 use crate::entry::Entry;
+use crate::fault::TableFault;
 use crate::meaning::Meaning;
+use crate::reading::{codes_in, read_places};
+use std::alloc::Global;
 use std::marker::Model;
-
-/// How many frames there are.
-const FRAMES: usize = 64;
+use toml::Table;
 
 /// What each of the 64 frames means in each case. Clauses see the entry of each frame, in their order.
 #[derive(Debug, Drop)]
@@ -28,7 +33,36 @@ impl Model for CodeTable {
     ghost invariant = { λ t. length t.places.items ≡ 64 };
 }
 
+/// The document of a text.
+fn document_of(alloc: Global, text: &str) -> Result<Table, TableFault>
+    ensures ok { IfOk result (λ document. parse_document text.now ≡ Some (table_view document)) }
+    ensures err { IfErr result (λ fault. (fault ≡ OutOfMemory) ⊎ ((fault ≡ NotToml) × (parse_document text.now ≡ None))) }
+{
+    toml::table_from_str(alloc, text).map_err(|error| {
+        if error.is_memory() {
+            TableFault::OutOfMemory
+        } else {
+            TableFault::NotToml
+        }
+    })
+}
+
 impl CodeTable {
+    /// The table of a TOML text: an array `code` of tables with the keys `frame`, `unshift` and `shift`.
+    ///
+    /// The first fault that holds is answered: `NotToml`, `MissingCodes`, and then that of the first faulty entry.
+    /// `OutOfMemory` comes where the text could not be read or the table not be made for want of memory.
+    #[tactic(auto, unfolding(crate::specs::Reading::read_table))]
+    pub fn read(alloc: Global, text: &str) -> Result<CodeTable, TableFault>
+        ensures ok { IfOk result (λ table. read_table (parse_document text.now) ≡ Ok table) }
+        ensures err { IfErr result (λ fault. (fault ≡ OutOfMemory) ⊎ (read_table (parse_document text.now) ≡ Err fault)) }
+    {
+        let document = document_of(alloc, text)?;
+        let codes = codes_in(&document)?;
+        let places = read_places(alloc, codes)?;
+        Ok(CodeTable { places })
+    }
+
     /// What the frame means in the case; `None` where the table has no entry of it, and for a frame above 63.
     #[tactic(auto, unfolding(crate::specs::Tables::mean))]
     pub fn meaning(&self, case: Case, frame: u8) -> Option<&Meaning>

@@ -1,0 +1,162 @@
+-- The places of the entries that were read, and one entry more.
+use Rattle.std.proofs.Common.{◌≡◌, ℕ, zero, suc, ℤ, pos, negsuc, nat_le, ◌+◌, ◌<◌, ◌≤◌, ◌==◌, ◌≢◌, Bool, true, false, not, cond, List, [], ◌∷◌, ◌++◌, length, get_or, drop, replicate, slice_get, slice_set, Option, Some, None, is_some, Result, Ok, Err, refl, sym, ap, ◌∙◌, arith, add-zero, zero-add, add-one, drop-cons, length-append}
+use Rattle.std.specs.Option.{option_flatten}
+use Rattle.std.proofs.lemmas.List.{drop_all}
+use Rattle.std.proofs.lemmas.Option.{cond_some}
+use Rattle.std.proofs.lemmas.Bool.Decides.{nat_tests}
+use Rattle.toml.specs.Data.{Data}
+use Rattle.toml.specs.View.{view, items_view}
+use Rattle.toml.specs.declared.value.Value.{Value}
+use Rattle.code_table.specs.Tables.{Places, is_placed}
+use Rattle.code_table.specs.Entries.{Keys, ◌>>=◌, wanted, holds, frame_of, keys_of, free_frame, columns_of, read_entry}
+use Rattle.code_table.specs.Reading.{entry_among, is_taken, places_from, places_of, read_entries, read_places}
+use Rattle.code_table.specs.declared.entry.Entry.{Entry}
+use Rattle.code_table.specs.declared.fault.TableFault.{TableFault}
+use Rattle.code_table.specs.declared.fault.TableFault.TheVariants.{WrongType, BadFrame, DuplicateFrame}
+
+abbrev pub Entries : Type 0
+Entries = List (ℕ × Entry)
+
+-- a test that found nothing
+none_after : {A : Type 0} (test : Bool) (x : A) (rest : Option A) → cond test (Some x) rest ≡ None → (test ≡ false) × (rest ≡ None)
+none_after true x rest h = absurd cc
+none_after false x rest h = (refl, h)
+
+-- two tests of which one fails may be tried in either order
+crossed : {A : Type 0} (a b : Bool) (x y rest : A) → (a ≡ true → b ≡ true → ⊥) → cond a x (cond b y rest) ≡ cond b y (cond a x rest)
+crossed true true x y rest h = absurd (h refl refl)
+crossed true false x y rest h = refl
+crossed false b x y rest h = refl
+
+differ : (a b c : ℕ) → (a == b) ≡ false → (a == c) ≡ true → (b == c) ≡ true → ⊥
+differ a b c h e f = grind (arith, nat_tests)
+
+-- an entry more, of a frame that none had
+among_more : (entries : Entries) (frame : ℕ) (entry : Entry) (asked : ℕ) → entry_among entries frame ≡ None → entry_among (entries ++ (frame, entry) ∷ []) asked ≡ cond (frame == asked) (Some entry) (entry_among entries asked)
+among_more [] frame entry asked h = refl
+among_more (first ∷ rest) frame entry asked h =
+    let parts = none_after (first.0 == frame) first.1 (entry_among rest frame) h in
+    rw (among_more rest frame entry asked parts.1)
+    (crossed (first.0 == asked) (frame == asked) (Some first.1) (Some entry) (entry_among rest asked) (differ first.0 frame asked parts.0))
+
+among_other : (entries : Entries) (frame : ℕ) (entry : Entry) (asked : ℕ) → entry_among entries frame ≡ None → frame ≢ asked → entry_among (entries ++ (frame, entry) ∷ []) asked ≡ entry_among entries asked
+among_other entries frame entry asked h apart =
+    let test : (frame == asked) ≡ false = grind (arith, nat_tests) in
+    rw test at (among_more entries frame entry asked h)
+
+among_same : (entries : Entries) (frame : ℕ) (entry : Entry) (asked : ℕ) → entry_among entries frame ≡ None → frame ≡ asked → entry_among (entries ++ (frame, entry) ∷ []) asked ≡ Some entry
+among_same entries frame entry asked h same =
+    let test : (frame == asked) ≡ true = grind (arith, nat_tests) in
+    rw test at (among_more entries frame entry asked h)
+
+get_places : (entries : Entries) (start many at : ℕ) → at < many → slice_get (places_from start many entries) at ≡ Some (entry_among entries (start + at))
+get_places entries start zero at lt = absurd (omega arith)
+get_places entries start (suc many) zero lt = rw add-zero refl
+get_places entries start (suc many) (suc at) lt = get_places entries (suc start) many at (omega arith) ∙ ap (λ f. Some (entry_among entries f)) {x = suc start + at} {y = start + suc at} (omega arith)
+
+-- the places above the frame stay
+places_above : (entries : Entries) (frame : ℕ) (entry : Entry) (start many : ℕ) → entry_among entries frame ≡ None → frame < start → places_from start many (entries ++ (frame, entry) ∷ []) ≡ places_from start many entries
+places_above entries frame entry start zero h lt = refl
+places_above entries frame entry start (suc many) h lt =
+    rw (among_other entries frame entry start h (omega arith), places_above entries frame entry (suc start) many h (omega arith)) refl
+
+-- one place is filled
+places_more : (entries : Entries) (frame : ℕ) (entry : Entry) (start many at : ℕ) → entry_among entries frame ≡ None → frame ≡ start + at → at < many → places_from start many (entries ++ (frame, entry) ∷ []) ≡ slice_set (places_from start many entries) at (Some entry)
+places_more entries frame entry start zero at h is lt = absurd (omega arith)
+places_more entries frame entry start (suc many) zero h is lt =
+    rw (among_same entries frame entry start h (omega arith), places_above entries frame entry (suc start) many h (omega arith)) refl
+places_more entries frame entry start (suc many) (suc at) h is lt =
+    rw (among_other entries frame entry start h (omega arith), places_more entries frame entry (suc start) many at h (omega arith) (omega arith)) refl
+
+-- the places say of each frame whether an entry has taken it
+placed_taken : (entries : Entries) (frame : ℕ) → frame ≤ 63 → is_placed (places_of entries) frame ≡ is_taken entries frame
+unfolding places_of
+placed_taken entries frame le = ap (λ o. is_some (option_flatten o)) (rw zero-add at (get_places entries 0 64 frame (omega arith)))
+
+-- a frame is 0 to 63
+frame_small : (number : ℤ) (frame : ℕ) → frame_of number ≡ Some frame → frame ≤ 63
+unfolding frame_of
+frame_small (pos n) frame h =
+    let parts = cond_some (nat_le n 63) n frame h in
+    grind (arith, nat_tests)
+frame_small (negsuc n) frame h = absurd cc
+
+-- tests that agree on the frames give one answer
+free_frame-same : (t u : ℕ → Bool) → ((frame : ℕ) → frame ≤ 63 → t frame ≡ u frame) → (place : ℕ) (number : ℤ) → free_frame t place number ≡ free_frame u place number
+unfolding free_frame
+free_frame-same t u agree place number = go (frame_of number) (frame_small number)
+  where
+    go : (o : Option ℕ) → ((frame : ℕ) → o ≡ Some frame → frame ≤ 63) → (wanted (BadFrame place) o >>= (λ frame. holds (DuplicateFrame place) (not (t frame)) >>= (λ _. Ok frame))) ≡ (wanted (BadFrame place) o >>= (λ frame. holds (DuplicateFrame place) (not (u frame)) >>= (λ _. Ok frame)))
+    go None small = refl
+    go (Some frame) small = rw (agree frame (small frame refl)) refl
+
+-- what is read of an entry after its keys
+abbrev after_keys : (ℕ → Bool) → ℕ → Keys → Result (ℕ × Entry) TableFault
+after_keys is_taken place keys = do
+  frame ← free_frame is_taken place keys.frame
+  entry ← columns_of place keys.unshift keys.shift
+  Ok (frame, entry)
+
+read_entry-same : (t u : ℕ → Bool) → ((frame : ℕ) → frame ≤ 63 → t frame ≡ u frame) → (place : ℕ) (code : Data) → read_entry t place code ≡ read_entry u place code
+unfolding read_entry
+read_entry-same t u agree place code = go (keys_of code)
+  where
+    go : (o : Option Keys) → (wanted (WrongType place) o >>= after_keys t place) ≡ (wanted (WrongType place) o >>= after_keys u place)
+    go None = refl
+    go (Some keys) = rw (free_frame-same t u agree place keys.frame) refl
+
+untaken_none : (entries : Entries) (frame : ℕ) → is_taken entries frame ≡ false → entry_among entries frame ≡ None
+untaken_none entries frame h = none_of (entry_among entries frame) h
+  where
+    none_of : (o : Option Entry) → is_some o ≡ false → o ≡ None
+    none_of None h = refl
+    none_of (Some entry) h = absurd cc
+
+-- how far the entries were read: those that are done, and what reading on from them gives
+pub record ReadSoFar (codes : List Value) (places : Places) (index : ℕ) : Type 0 where
+  pub done : Entries
+  pub filled : places ≡ places_of done
+  pub count : length done ≡ index
+  pub on : read_entries done (items_view (drop index codes)) ≡ read_entries [] (items_view codes)
+
+pub starts : (codes : List Value) → ReadSoFar codes (replicate 64 None) 0
+unfolding places_of
+starts codes = record { done = []; filled = refl; count = refl; on = refl }
+
+-- what is read next
+module _ (codes : List Value) (places : Places) (index : ℕ) (so_far : ReadSoFar codes places index) (d : Value) (within : index < length codes) where
+  reads : read_entry (is_taken so_far.done) (suc (length so_far.done)) (view (get_or codes index d)) ≡ read_entry (is_placed places) (index + 1) (view (get_or codes index d))
+  reads = rw (so_far.count, so_far.filled, add-one) (read_entry-same (is_taken so_far.done) (is_placed (places_of so_far.done)) (λ frame le. sym (placed_taken so_far.done frame le)) (suc index) (view (get_or codes index d)))
+
+  next : (read_entry (is_placed places) (index + 1) (view (get_or codes index d)) >>= (λ entry. read_entries (so_far.done ++ entry ∷ []) (items_view (drop (index + 1) codes)))) ≡ read_entries [] (items_view codes)
+  next = rw (← reads, add-one) (rw (drop-cons codes index d) at so_far.on)
+
+  pub stops : (e : TableFault) → read_entry (is_placed places) (index + 1) (view (get_or codes index d)) ≡ Err e → read_places (items_view codes) ≡ Err e
+  unfolding read_places
+  stops e h = rw (← next, h) refl
+
+  pub goes_on : (frame : ℕ) (entry : Entry) → read_entry (is_placed places) (index + 1) (view (get_or codes index d)) ≡ Ok (frame, entry) → frame ≤ 63 → is_placed places frame ≡ false → ReadSoFar codes (slice_set places frame (Some entry)) (index + 1)
+  unfolding places_of
+  goes_on frame entry h small free =
+      let untaken : is_taken so_far.done frame ≡ false = sym (placed_taken so_far.done frame small) ∙ rw so_far.filled at free in
+      record {
+        done = so_far.done ++ (frame, entry) ∷ [];
+        filled = rw so_far.filled (sym (places_more so_far.done frame entry 0 64 frame (untaken_none so_far.done frame untaken) (omega arith) (omega arith)));
+        count = rw length-append (omega (arith, so_far.count));
+        on = rw h at next;
+      }
+
+pub ends : (codes : List Value) (places : Places) (index : ℕ) → ReadSoFar codes places index → length codes ≤ index → read_places (items_view codes) ≡ Ok places
+unfolding read_places
+ends codes places index so_far past =
+    let none : drop index codes ≡ [] = drop_all index codes past in
+    let all = rw none at so_far.on in
+    rw (← all, so_far.filled) refl
+
+length_places : (entries : Entries) (start many : ℕ) → length (places_from start many entries) ≡ many
+length_places entries start zero = refl
+length_places entries start (suc many) = ap suc (length_places entries (suc start) many)
+
+pub full : (codes : List Value) (places : Places) (index : ℕ) → ReadSoFar codes places index → length places ≡ 64
+unfolding places_of
+full codes places index so_far = rw so_far.filled (length_places so_far.done 0 64)

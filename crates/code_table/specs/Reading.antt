@@ -1,0 +1,56 @@
+-- A code table as a TOML document gives it: the table, or its first fault.
+use Rattle.std.specs.Prelude.{ℕ, zero, suc, List, [], ◌∷◌, ◌++◌, length, Bool, codes, Option, Some, None, is_some, Result, Ok, Err, ◌==◌, if◌then◌else◌}
+use Rattle.std.specs.Option.{option_and_then}
+use Rattle.toml.specs.Data.{Items, no_items, item, Members}
+use Rattle.code_table.specs.Tables.{Places}
+use Rattle.code_table.specs.Entries.{◌>>=◌, wanted, array_at, read_entry}
+use Rattle.code_table.specs.declared.entry.Entry.{Entry}
+use Rattle.code_table.specs.declared.fault.TableFault.{TableFault}
+use Rattle.code_table.specs.declared.fault.TableFault.TheVariants.{NotToml, MissingCodes}
+
+-- the entry of a frame among some
+abbrev pub entry_among : List (ℕ × Entry) → ℕ → Option Entry
+entry_among [] frame = None
+entry_among (entry ∷ rest) frame = if entry.0 == frame then Some entry.1 else entry_among rest frame
+
+-- one of these entries has this frame
+abbrev pub is_taken : List (ℕ × Entry) → ℕ → Bool
+is_taken earlier frame = is_some (entry_among earlier frame)
+
+-- the entries of an array after the earlier ones, up to the first fault
+abbrev pub read_entries : List (ℕ × Entry) → Items → Result (List (ℕ × Entry)) TableFault
+read_entries earlier no_items = Ok earlier
+read_entries earlier (item code rest) = do
+  entry ← read_entry (is_taken earlier) (suc (length earlier)) code
+  read_entries (earlier ++ entry ∷ []) rest
+
+-- the places of so many frames from this one on, each with its entry among these
+abbrev pub places_from : ℕ → ℕ → List (ℕ × Entry) → Places
+places_from frame zero entries = []
+places_from frame (suc more) entries = entry_among entries frame ∷ places_from (suc frame) more entries
+
+-- the places of all 64 frames
+unfoldable pub places_of : List (ℕ × Entry) → Places
+places_of entries = places_from 0 64 entries
+
+-- the places of an array's entries, or their first fault
+unfoldable pub read_places : Items → Result Places TableFault
+read_places codes = do
+  entries ← read_entries [] codes
+  Ok (places_of entries)
+
+-- an array that is not empty
+abbrev pub filled : Items → Option Items
+filled no_items = None
+filled (item code rest) = Some (item code rest)
+
+-- the entries of a document: the array at `code`, which is not empty
+unfoldable pub codes_in : Members → Result Items TableFault
+codes_in document = wanted MissingCodes (option_and_then filled (array_at (codes "code") document))
+
+-- the table of a document that was read, or its first fault; where none was read, it is not TOML
+unfoldable pub read_table : Option Members → Result Places TableFault
+read_table None = Err NotToml
+read_table (Some document) = do
+  items ← codes_in document
+  read_places items
