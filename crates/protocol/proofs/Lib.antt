@@ -9,8 +9,10 @@ pub mod Moves
 pub mod Looking
 pub mod Reading
 pub mod Station
+pub mod Due
 pub mod Meeting
 pub mod Proposing
 pub mod Turns
 pub mod Steps
 pub mod Agreements
+pub mod Rehearsing

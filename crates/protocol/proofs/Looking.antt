@@ -1,6 +1,6 @@
 -- What the words of Lists find.
 use Rattle.std.proofs.Common.{◌≡◌, ◌⊎◌, inl, inr, refl, sym, ap, subst, ◌∙◌, List, [], ◌∷◌, ◌++◌, Option, Some, None, Bool, true, false}
-use Rattle.std.specs.Prelude.{filter_map, find}
+use Rattle.std.specs.Prelude.{filter, filter_map, find}
 use Rattle.protocol.specs.Lists.{IsAmong, has, until, or_else, first, greatest}
 
 pub has_one : {A : Type 0} (p : A → Bool) (xs : List A) → has p xs ≡ true → (x : A) × IsAmong xs x × (p x ≡ true)
@@ -206,3 +206,22 @@ find_append {A = A} p (x ∷ xs) ys = go (p x) refl (find_append p xs ys)
     go : (b : Bool) → p x ≡ b → find p (xs ++ ys) ≡ or_else (find p xs) (find p ys) → find p (x ∷ xs ++ ys) ≡ or_else (find p (x ∷ xs)) (find p ys)
     go true t rest = rw t refl
     go false t rest = rw t rest
+
+pub among_filter : {A : Type 0} (p : A → Bool) (xs : List A) (y : A) → IsAmong (filter p xs) y → IsAmong xs y × (p y ≡ true)
+among_filter p [] y i = absurd i
+among_filter {A = A} p (x ∷ xs) y i = go (p x) refl (λ j. among_filter p xs y j)
+  where
+    go : (b : Bool) → p x ≡ b → (IsAmong (filter p xs) y → IsAmong xs y × (p y ≡ true)) → IsAmong (x ∷ xs) y × (p y ≡ true)
+    go false e rest = let (j, g) = rest (rw e at i) in (inr j, g)
+    go true e rest =
+        let split : (y ≡ x) ⊎ IsAmong (filter p xs) y = rw e at i in
+        elim split [ inl g ↦ (inl g, ap p g ∙ e) | inr j ↦ (let (k, g) = rest j in (inr k, g)) ]
+
+pub filter_among : {A : Type 0} (p : A → Bool) (xs : List A) (y : A) → IsAmong xs y → p y ≡ true → IsAmong (filter p xs) y
+filter_among p [] y i e = absurd i
+filter_among {A = A} p (x ∷ xs) y (inl g) e = let h : p x ≡ true = ap p (sym g) ∙ e in rw h (inl g)
+filter_among {A = A} p (x ∷ xs) y (inr i) e = go (p x) refl (filter_among p xs y i e)
+  where
+    go : (b : Bool) → p x ≡ b → IsAmong (filter p xs) y → IsAmong (filter p (x ∷ xs)) y
+    go false f rest = rw f rest
+    go true f rest = rw f (inr rest)

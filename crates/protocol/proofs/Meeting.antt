@@ -13,7 +13,8 @@ use Rattle.protocol.specs.Table.{Hears, was_settled, waits, releases, Proposes, 
 use Rattle.protocol.specs.Table as table
 use Rattle.protocol.specs.Learner.{ripe}
 use Rattle.protocol.proofs.Below.{below_weaken, at_most_cases}
-use Rattle.protocol.proofs.Reading.{is_same-true, is_same-self, is_below-true, is_below-false, released_is, unreleased_is, OpenAs, open_is, ReadAs, open_read, proposal_is, proposal_none, gathering_is, gathering_none, is_counted-one, one-is_counted, majority_of, no_majority_of, pick_is, denied_is, moved_is, moved_read, ripe_is, ripe_none}
+use Rattle.protocol.proofs.Due.{due_as, not_due, none_due}
+use Rattle.protocol.proofs.Reading.{is_same-true, is_same-self, is_below-true, is_below-false, released_is, unreleased_is, OpenAs, open_is, ReadAs, open_read, proposal_is, proposal_none, gathering_is, gathering_none, is_counted-one, one-is_counted, majority_of, no_majority_of, pick_is, denied_is, ripe_is, ripe_none}
 
 some_none : {A : Type 0} {x : A} → Some x ≡ None → ⊥
 some_none e = cc
@@ -67,36 +68,6 @@ greater_is (Some p) (Some q) = go (is_below p q) refl
 pub due_is : (circuit c m n now : ℕ) (marks : List Mark) (row : Row) → 1 ≤ c → DueTurn circuit c m n now marks row (due_turn circuit c m n now marks row (open_proposal n marks))
 due_is circuit c m n now marks row l = go (open_proposal n marks) refl
   where
-    idle : (p : Opening) → open_proposal n marks ≡ Some p → nat_le (due_moment m n p (since_began n marks)) now ≡ false → (b : Ballot) (own : Option Tape) → ¬ IsDue m marks now n b own
-    idle p e f b own d = early (open_read n marks b own d.report d.since d.is_open)
-      where
-        early : ReadAs marks n (record { ballot = b; own = own; report = d.report; now = d.is_open.now }) d.since → ⊥
-        early r =
-            let q : Opening = record { ballot = b; own = own; report = d.report; now = d.is_open.now } in
-            let same : p ≡ q = some_same (sym e ∙ r.read) in
-            let g : due_moment m n p (since_began n marks) ≡ due_moment m n q d.since = ap (λ (x : Opening). due_moment m n x (since_began n marks)) same ∙ ap (due_moment m n q) r.since_is in
-            let k : moved n q d.since ≡ d.moment = moved_read n q d.since d.moment d.moved in
-            let l : now < due_moment m n p (since_began n marks) = leb-false (due_moment m n p (since_began n marks)) now f in
-            let h : due_moment m n q d.since ≤ now = rw k d.has_come in
-            let i : now < due_moment m n q d.since = subst (λ (x : ℕ). now < x) g l in
-            omega (arith, h, i)
-          where
-            some_same : {A : Type 0} {x y : A} → Some x ≡ Some y → x ≡ y
-            some_same e = cc
-
-    none : open_proposal n marks ≡ None → (b : Ballot) (own : Option Tape) → ¬ IsDue m marks now n b own
-    none e b own d = some_none (sym (open_read n marks b own d.report d.since d.is_open).read ∙ e)
-
-    due : (p : Opening) → OpenAs marks n p → nat_le (due_moment m n p (since_began n marks)) now ≡ true → IsDue m marks now n p.ballot p.own
-    due p o e = record {
-      report = p.report;
-      since = since_began n marks;
-      is_open = o.is_open;
-      moment = moved n p (since_began n marks);
-      moved = subst (λ (i : ℕ). LastMoved n p.ballot (since_began n marks) i (moved n p (since_began n marks))) (sym o.now) (moved_is n p (since_began n marks));
-      has_come = leb-true (due_moment m n p (since_began n marks)) now e;
-    }
-
     anew : (p : Opening) → IsDue m marks now n p.ballot p.own → (s : Bool) → nat_le 32 (begun n marks) ≡ s → (r : Option Ballot) → next (greater_ballot row.promised (denied n marks)) m ≡ r → DueTurn circuit c m n now marks row (renew circuit c m n now p marks row (if s then None else r))
     anew p d true e r f = gives_up p.ballot p.own (denied n marks) (greater_ballot row.promised (denied n marks)) d (denied_is n marks) (greater_is row.promised (denied n marks)) (inl (leb-true 32 (begun n marks) e)) refl
     anew p d false e None f = gives_up p.ballot p.own (denied n marks) (greater_ballot row.promised (denied n marks)) d (denied_is n marks) (greater_is row.promised (denied n marks)) (inr f) refl
@@ -104,12 +75,12 @@ due_is circuit c m n now marks row l = go (open_proposal n marks) refl
         begins_anew p.ballot p.own (denied n marks) (greater_ballot row.promised (denied n marks)) b d (denied_is n marks) (greater_is row.promised (denied n marks)) (leb-false 32 (begun n marks) e) f (begin_is circuit c m n b p.own now row marks l)
 
     go : (r : Option Opening) → open_proposal n marks ≡ r → DueTurn circuit c m n now marks row (due_turn circuit c m n now marks row r)
-    go None e = is_idle (none e) refl
+    go None e = is_idle (none_due m n now marks e) refl
     go (Some p) e = come (nat_le (due_moment m n p (since_began n marks)) now) refl
       where
         come : (s : Bool) → nat_le (due_moment m n p (since_began n marks)) now ≡ s → DueTurn circuit c m n now marks row (due_turn circuit c m n now marks row (Some p))
-        come true f = rw f (anew p (due p (open_is n marks p e) f) (nat_le 32 (begun n marks)) refl (next (greater_ballot row.promised (denied n marks)) m) refl)
-        come false f = rw f (is_idle (idle p e f) refl)
+        come true f = rw f (anew p (due_as m n now marks p (open_is n marks p e) f) (nat_le 32 (begun n marks)) refl (next (greater_ballot row.promised (denied n marks)) m) refl)
+        come false f = rw f (is_idle (not_due m n now marks p e f) refl)
 
 -- packets
 

@@ -7,8 +7,10 @@ pub mod Marks
 pub mod Proposals
 pub mod Learner
 pub mod Turn
+pub mod Runs
 pub mod Readings
 pub mod Table
 pub mod Refusals
 pub mod Circuit
 pub mod Agreement
+pub mod Rehearsals

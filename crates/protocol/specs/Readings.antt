@@ -1,10 +1,10 @@
 -- What is read from marks, said as facts: a mark stands where the list splits at it, and the marks in front of it came after it.
-use Rattle.std.specs.Prelude.{◌≡◌, ℕ, ◌+◌, ◌*◌, ◌-◌, ◌^◌, ◌≤◌, ◌⊎◌, min, List, ◌∷◌, ◌++◌, Option, Some, None}
+use Rattle.std.specs.Prelude.{◌≡◌, ℕ, ◌+◌, ◌*◌, ◌-◌, ◌^◌, ◌≤◌, ◌⊎◌, min, List, ◌∷◌, ◌++◌, Option, Some, None, MatchOption}
 use Rattle.protocol.specs.Lists.{IsAmong}
 use Rattle.protocol.specs.Ballots.{Ballot, IsBelow, IsAtMost, IsMember, Majority}
 use Rattle.protocol.specs.Rows.{Tape, Vote}
 use Rattle.protocol.specs.Marks.{Mark, Began, Promised, Proposed, Denied, Heard, Closed, Released}
-use Rattle.protocol.specs.Proposals.{since_first}
+use Rattle.protocol.specs.Proposals.{since_first, next_due}
 
 -- n was released
 abbrev pub IsReleased : List Mark → ℕ → Type 0
@@ -88,3 +88,7 @@ pub record IsLeastDue (me : ℕ) (marks : List Mark) (now n : ℕ) : Type 0 wher
   pub own : Option Tape
   pub is_due : IsDue me marks now n ballot own
   pub is_least : (j : ℕ) (b : Ballot) (o : Option Tape) → IsDue me marks now j b o → n ≤ j
+
+-- the next number that is due is the least, and there is none only where none is due
+abbrev pub NextDueIsLeast : Type 0
+NextDueIsLeast = (me now : ℕ) (marks : List Mark) → MatchOption (next_due me now marks) (NoneIsDue me marks now) (λ n. IsLeastDue me marks now n)

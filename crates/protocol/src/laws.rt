@@ -3,11 +3,19 @@
 
 ghost use Rattle.protocol.specs.Acceptor.{StepsAreOfTheWhole};
 ghost use Rattle.protocol.specs.Agreement.{BallotsHaveOneTape, ChosenIsOne, HeardIsVoted, HistoriesAgree, PromisesBind, ReportsAreGreatest, RipeIsChosen, VotesAreBacked, VotesAreOffered};
+ghost use Rattle.protocol.specs.Readings.{NextDueIsLeast};
+ghost use Rattle.protocol.specs.Rehearsals.{NumbersAreRefused, OneMemberReleases, PacketsAreRefused, SavedVoteIsReleased, ThreeMembersRelease};
+ghost use Rattle.protocol.specs.Runs.{BallotsStandApart, BeginsAbovePromise, FallsDueAbove, FirstAcceptStands, FirstOfTwoReleases, GivesUp, GreaterReportIsTaken, LastRoundIsSpent, LowerIsNacked, OneFindsNothing, OneReleases, PassedIsOvertaken, ReleasedIsSettled, RepeatedVoteCountsOnce, SecondOfTwoReleases, ThirdTakesOver};
 ghost use Rattle.protocol.specs.Table.{TurnsAreOfTheTable};
 
 /// An acceptor that keeps one row answers as the whole list of its requests says.
 pub fn acceptor_steps()
     ensures { StepsAreOfTheWhole }
+{}
+
+/// What is due next is the least number that is due.
+pub fn next_due_is_least()
+    ensures { NextDueIsLeast }
 {}
 
 /// The turn that is computed is one of the table.
@@ -51,4 +59,49 @@ pub fn chosen_is_one<D, G, F>()
 /// and what is made of it is what its member's table and widths make of it.
 pub fn agreement<D, G, F>()
     ensures { HistoriesAgree D G F }
+{}
+
+/// Worked examples of turns, of one and of two members.
+pub fn turns_of_one_and_two()
+    ensures one { OneReleases }
+    ensures nothing { OneFindsNothing }
+    ensures first { FirstOfTwoReleases }
+    ensures second { SecondOfTwoReleases }
+    ensures gives_up { GivesUp }
+{}
+
+/// Worked examples of turns, of three and of five members.
+pub fn turns_of_more()
+    ensures third { ThirdTakesOver }
+    ensures greater { GreaterReportIsTaken }
+    ensures overtaken { PassedIsOvertaken }
+    ensures nacked { LowerIsNacked }
+    ensures due { FallsDueAbove }
+    ensures above { BeginsAbovePromise }
+    ensures spent { LastRoundIsSpent }
+    ensures apart { BallotsStandApart }
+    ensures once { RepeatedVoteCountsOnce }
+    ensures stands { FirstAcceptStands }
+    ensures settled { ReleasedIsSettled }
+{}
+
+/// Worked examples of refusals.
+pub fn refusals<D, F>()
+    ensures packets { PacketsAreRefused D F }
+    ensures numbers { NumbersAreRefused D F }
+{}
+
+/// A circuit of one member releases what it is offered.
+pub fn one_member_releases<D, G, F>()
+    ensures { OneMemberReleases D G F }
+{}
+
+/// A vote that was saved as the store failed is released after the restart.
+pub fn saved_vote_is_released<D, G, F>()
+    ensures { SavedVoteIsReleased D G F }
+{}
+
+/// Three members release what one of them is offered.
+pub fn three_members_release<D, G, F>()
+    ensures { ThreeMembersRelease D G F }
 {}

@@ -1,0 +1,112 @@
+-- Histories that release.
+use Rattle.std.proofs.Common.{◌≡◌, ℕ, ◌≤◌, ◌⊎◌, inl, inr, refl, ap, sym, subst, arith, List, [], ◌∷◌, ◌++◌, Option, Some, None, Bool, true, false}
+use Rattle.std.specs.Prelude.{◌==◌, map, Result, Ok, Err}
+use Rattle.std.specs.List.{AllZip}
+use Rattle.std.proofs.lemmas.Bool.{eq-eqb}
+use Rattle.protocol.specs.Ballots.{IsMember}
+use Rattle.protocol.specs.Rows.{Tape, Vote, Row, blank, voted}
+use Rattle.protocol.specs.Packets.{Packet, Prepare, Promise, Accept, Accepted}
+use Rattle.protocol.specs.Turn.{Note_began, Note_promised, Note_proposed, Note_heard, Note_voted, Event, Offered, Sought, Arrived, number_of, Turn, packet_to, turn}
+use Rattle.protocol.specs.Refusals.{Call, Offering, Seeking, Receiving, Stopped, refusal, early_refusal, event_of}
+use Rattle.protocol.specs.Circuit.{Circuit, setup_of, Datagram, State, IsSameState, fresh, Step, Offers, Seeks, Delivers, Restarts, Balks, Outcome, Done, Refused, Torn_by_store, Restarted, Armed, with_at, saved, Carries, task_of, offers_with, releases_with, Leaves, at_save, StepsTo, is_refused, is_done, is_torn, restarts, is_armed, History, starts, goes_on}
+use Rattle.protocol.specs.Runs.{ballot}
+use Rattle.protocol.specs.Rehearsals.{steps_of, OneMemberReleases, SavedVoteIsReleased, ThreeMembersRelease, packets_of_three, datagram_of, release_by}
+
+same : {G F : Type 0} (w : State G F) → IsSameState w w
+same w = record { rows = λ m n. refl; marks = λ m. refl; is_stopped = λ m. refl; armed = λ m. refl; sent = refl; offers = refl; releases = refl }
+
+abbrev begins : {D G F : Type 0} (z : Circuit D G F) → History z fresh
+begins z = starts (same fresh)
+
+-- what holds of each circuit of this count
+abbrev of_count : {D G F : Type 0} → ℕ → (Circuit D G F → Type 0) → Type 0
+of_count {D = D} {G = G} {F = F} c P = (k : ℕ) (reads : List ℕ → Result Packet D) (sets : ℕ → Tape → Result G F) → P (record { number = k; count = c; reads = reads; sets = sets })
+
+at_count : {D G F : Type 0} (c : ℕ) (P : Circuit D G F → Type 0) → of_count c P → (z : Circuit D G F) → z.count ≡ c → P z
+at_count c P h z e = subst (λ (x : ℕ). P (record z { count = x })) (sym e) (h z.number z.reads z.sets)
+
+abbrev IsReleasedByOne : {D G F : Type 0} → Circuit D G F → Type 0
+IsReleasedByOne {D = D} {G = G} {F = F} z =
+    (tape : Tape) (slugs : G) → z.sets 1 tape ≡ Ok slugs
+    → (w : State G F) × (h : History z w) × (w.releases ≡ release_by z 1 tape ∷ [])
+    × (steps_of h ≡ record { step = Offers 1 12 tape 0; outcome = Done (Note_proposed (ballot 1 1)) } ∷ [])
+
+is_released_by_one : {D G F : Type 0} → of_count {D = D} {G = G} {F = F} 1 IsReleasedByOne
+is_released_by_one k reads sets tape slugs s =
+    (_, goes_on (begins _) (Offers 1 12 tape 0) (Done (Note_proposed (ballot 1 1))) (is_done 1 (Offering 12 tape 0) (Offered 12 tape 0) _ [] refl (omega arith, omega arith) (rw s refl) refl refl tt (inl refl) refl (same _)), refl, refl)
+
+pub one_member_releases : {D G F : Type 0} → OneMemberReleases D G F
+one_member_releases z tape slugs one sets = at_count 1 IsReleasedByOne is_released_by_one z one tape slugs sets
+
+abbrev IsSavedAndReleased : {D G F : Type 0} → Circuit D G F → Type 0
+IsSavedAndReleased {D = D} {G = G} {F = F} z =
+    (tape : Tape) (slugs : G) → z.sets 1 tape ≡ Ok slugs
+    → (w : State G F) × (h : History z w) × (w.releases ≡ release_by z 1 tape ∷ [])
+    × (steps_of h
+        ≡ record { step = Balks 1 true; outcome = Armed true }
+        ∷ record { step = Offers 1 12 tape 0; outcome = Torn_by_store }
+        ∷ record { step = Seeks 1 12 0; outcome = Refused Stopped }
+        ∷ record { step = Restarts 1; outcome = Restarted }
+        ∷ record { step = Seeks 1 12 0; outcome = Done (Note_proposed (ballot 2 1)) } ∷ [])
+
+changes : (tape : Tape) → ¬ (voted (ballot 1 1) tape ≡ blank)
+changes tape e = let no : Some (ballot 1 1) ≡ None = ap (λ (r : Row). r.promised) e in cc
+
+is_saved_and_released : {D G F : Type 0} → of_count {D = D} {G = G} {F = F} 1 IsSavedAndReleased
+is_saved_and_released {D = D} {G = G} {F = F} k reads sets tape slugs s =
+    let z : Circuit D G F = record { number = k; count = 1; reads = reads; sets = sets } in
+    let me : IsMember 1 1 = (omega arith, omega arith) in
+    let h1 : History z _ = goes_on (begins z) (Balks 1 true) (Armed true) (is_armed 1 true me refl refl (same _)) in
+    let h2 : History z _ = goes_on h1 (Offers 1 12 tape 0) Torn_by_store (is_torn 1 (Offering 12 tape 0) (Offered 12 tape 0) (voted (ballot 1 1) tape) None refl me refl refl (at_save _ refl (rw s refl) refl (changes tape) (inr refl) refl) (same _)) in
+    let h3 : History z _ = goes_on h2 (Seeks 1 12 0) (Refused Stopped) (is_refused 1 (Seeking 12 0) Stopped refl me refl refl (same _)) in
+    let h4 : History z _ = goes_on h3 (Restarts 1) Restarted (restarts 1 me refl refl (same _)) in
+    let h5 : History z _ = goes_on h4 (Seeks 1 12 0) (Done (Note_proposed (ballot 2 1))) (is_done 1 (Seeking 12 0) (Sought 12 0) _ [] refl me refl refl refl tt (inl refl) refl (same _)) in
+    (_, h5, refl, refl)
+
+pub saved_vote_is_released : {D G F : Type 0} → SavedVoteIsReleased D G F
+saved_vote_is_released z tape slugs one sets = at_count 1 IsSavedAndReleased is_saved_and_released z one tape slugs sets
+
+abbrev AreReleasedByThree : {D G F : Type 0} → Circuit D G F → Type 0
+AreReleasedByThree {D = D} {G = G} {F = F} z =
+    (spell : Packet → List ℕ) (tape : Tape) (slugs : G) → z.sets 1 tape ≡ Ok slugs
+    → AllZip (Carries z) (packets_of_three z.number tape) (map (datagram_of spell) (packets_of_three z.number tape))
+    → (w : State G F) × (h : History z w) × (w.releases ≡ release_by z 2 tape ∷ release_by z 1 tape ∷ release_by z 3 tape ∷ [])
+    × (w.sent ≡ map (datagram_of spell) (packets_of_three z.number tape))
+    × (steps_of h
+        ≡ record { step = Offers 1 12 tape 0; outcome = Done (Note_began (ballot 1 1)) }
+        ∷ record { step = Delivers 1 0; outcome = Done (Note_promised (ballot 1 1)) }
+        ∷ record { step = Delivers 3 0; outcome = Done (Note_proposed (ballot 1 1)) }
+        ∷ record { step = Delivers 6 0; outcome = Done (Note_heard (ballot 1 1)) }
+        ∷ record { step = Delivers 4 0; outcome = Done (Note_voted (ballot 1 1)) }
+        ∷ record { step = Delivers 8 0; outcome = Done (Note_heard (ballot 1 1)) }
+        ∷ record { step = Delivers 9 0; outcome = Done (Note_heard (ballot 1 1)) }
+        ∷ record { step = Delivers 7 0; outcome = Done (Note_heard (ballot 1 1)) } ∷ [])
+
+are_released_by_three : {D G F : Type 0} → of_count {D = D} {G = G} {F = F} 3 AreReleasedByThree
+are_released_by_three {D = D} {G = G} {F = F} k reads sets spell tape slugs s spelled =
+    let z : Circuit D G F = record { number = k; count = 3; reads = reads; sets = sets } in
+    let e : (k == k) ≡ true = eq-eqb k k refl in
+    let ((_, r1), ((_, r2), ((_, r3), ((_, r4), ((_, r5), ((_, r6), ((_, r7), ((_, r8), ((_, r9), _))))))))) = spelled in
+    let one : IsMember 3 1 = (omega arith, omega arith) in
+    let two : IsMember 3 2 = (omega arith, omega arith) in
+    let three : IsMember 3 3 = (omega arith, omega arith) in
+    let h0 : History z _ = goes_on (begins z) (Offers 1 12 tape 0) (Done (Note_began (ballot 1 1)))
+        (is_done 1 (Offering 12 tape 0) (Offered 12 tape 0) _ (datagram_of spell (packet_to k 1 12 (ballot 1 1) Prepare 2) ∷ datagram_of spell (packet_to k 1 12 (ballot 1 1) Prepare 3) ∷ []) refl one (rw s refl) refl refl ((refl, r1), ((refl, r2), tt)) (inl refl) refl (same _)) in
+    let h1 : History z _ = goes_on h0 (Delivers 1 0) (Done (Note_promised (ballot 1 1)))
+        (is_done 2 (Receiving _ 0) (Arrived (packet_to k 1 12 (ballot 1 1) Prepare 2) 0) _ (datagram_of spell (packet_to k 2 12 (ballot 1 1) (Promise None) 1) ∷ []) refl two (rw (r1, e) refl) (rw r1 refl) refl ((refl, r3), tt) (inl refl) refl (same _)) in
+    let h2 : History z _ = goes_on h1 (Delivers 3 0) (Done (Note_proposed (ballot 1 1)))
+        (is_done 1 (Receiving _ 0) (Arrived (packet_to k 2 12 (ballot 1 1) (Promise None) 1) 0) _ (datagram_of spell (packet_to k 1 12 (ballot 1 1) (Accept tape) 2) ∷ datagram_of spell (packet_to k 1 12 (ballot 1 1) (Accept tape) 3) ∷ datagram_of spell (packet_to k 1 12 (ballot 1 1) (Accepted tape) 2) ∷ datagram_of spell (packet_to k 1 12 (ballot 1 1) (Accepted tape) 3) ∷ []) refl one (rw (r3, e) refl) (rw r3 refl) refl ((refl, r4), ((refl, r5), ((refl, r6), ((refl, r7), tt)))) (inl refl) refl (same _)) in
+    let h3 : History z _ = goes_on h2 (Delivers 6 0) (Done (Note_heard (ballot 1 1)))
+        (is_done 2 (Receiving _ 0) (Arrived (packet_to k 1 12 (ballot 1 1) (Accepted tape) 2) 0) _ [] refl two (rw (r6, e) refl) (rw r6 refl) refl tt (inl refl) refl (same _)) in
+    let h4 : History z _ = goes_on h3 (Delivers 4 0) (Done (Note_voted (ballot 1 1)))
+        (is_done 2 (Receiving _ 0) (Arrived (packet_to k 1 12 (ballot 1 1) (Accept tape) 2) 0) _ (datagram_of spell (packet_to k 2 12 (ballot 1 1) (Accepted tape) 1) ∷ datagram_of spell (packet_to k 2 12 (ballot 1 1) (Accepted tape) 3) ∷ []) refl two (rw (r4, e) refl) (rw r4 refl) refl ((refl, r8), ((refl, r9), tt)) (inl refl) refl (same _)) in
+    let h5 : History z _ = goes_on h4 (Delivers 8 0) (Done (Note_heard (ballot 1 1)))
+        (is_done 1 (Receiving _ 0) (Arrived (packet_to k 2 12 (ballot 1 1) (Accepted tape) 1) 0) _ [] refl one (rw (r8, e) refl) (rw r8 refl) refl tt (inl refl) refl (same _)) in
+    let h6 : History z _ = goes_on h5 (Delivers 9 0) (Done (Note_heard (ballot 1 1)))
+        (is_done 3 (Receiving _ 0) (Arrived (packet_to k 2 12 (ballot 1 1) (Accepted tape) 3) 0) _ [] refl three (rw (r9, e) refl) (rw r9 refl) refl tt (inl refl) refl (same _)) in
+    let h7 : History z _ = goes_on h6 (Delivers 7 0) (Done (Note_heard (ballot 1 1)))
+        (is_done 3 (Receiving _ 0) (Arrived (packet_to k 1 12 (ballot 1 1) (Accepted tape) 3) 0) _ [] refl three (rw (r7, e) refl) (rw r7 refl) refl tt (inl refl) refl (same _)) in
+    (_, h7, refl, refl, refl)
+
+pub three_members_release : {D G F : Type 0} → ThreeMembersRelease D G F
+three_members_release z spell tape slugs three sets reads = at_count 3 AreReleasedByThree are_released_by_three z three spell tape slugs sets reads

@@ -1,0 +1,96 @@
+-- Worked examples of refusals and of histories, of number 12: the definitions are not empty.
+use Rattle.std.specs.Prelude.{◌≡◌, ℕ, List, [], ◌∷◌, ◌++◌, Option, Some, None, Result, Ok, Bool, true, false, map}
+use Rattle.std.specs.List.{AllZip}
+use Rattle.protocol.specs.Ballots.{Ballot}
+use Rattle.protocol.specs.Rows.{Tape, vote_for}
+use Rattle.protocol.specs.Packets.{Packet, Body, Prepare, Promise, Accept, Accepted, Nack}
+use Rattle.protocol.specs.Turn.{Offered, Note_began, Note_promised, Note_proposed, Note_heard, Note_voted, packet_to}
+use Rattle.protocol.specs.Runs.{ballot, run_of}
+use Rattle.protocol.specs.Refusals.{Refusal, Stopped, Wrong_circuit, Not_for_me, Stranger, Bad_number, Already_released, Already_open, packet_refusal, number_refusal}
+use Rattle.protocol.specs.Circuit.{Circuit, Carries, Datagram, Release, State, Step, Offers, Seeks, Delivers, Restarts, Balks, Outcome, Done, Refused, Torn_by_store, Restarted, Armed, StepsTo, History, starts, goes_on}
+
+-- a member of 3 refuses packets of another circuit, for another, and of strangers: the sender, the owner of the ballot, of a reported vote, of a Nack's promise
+pub record PacketsAreRefused (D F : Type 0) : Type 0 where
+  pub circuit : packet_refusal {D = D} {F = F} 7 3 2 (packet_to 8 1 12 (ballot 1 1) Prepare 2) ≡ Some Wrong_circuit
+  pub addressee : packet_refusal {D = D} {F = F} 7 3 2 (packet_to 7 1 12 (ballot 1 1) Prepare 3) ≡ Some Not_for_me
+  pub sender : packet_refusal {D = D} {F = F} 7 3 2 (packet_to 7 4 12 (ballot 1 2) (Promise None) 2) ≡ Some Stranger
+  pub owner : packet_refusal {D = D} {F = F} 7 3 2 (packet_to 7 1 12 (ballot 1 4) (Accepted (1 ∷ [])) 2) ≡ Some Stranger
+  pub reported : packet_refusal {D = D} {F = F} 7 3 2 (packet_to 7 1 12 (ballot 2 2) (Promise (Some (vote_for (ballot 1 4) (1 ∷ [])))) 2) ≡ Some Stranger
+  pub denied : packet_refusal {D = D} {F = F} 7 3 2 (packet_to 7 1 12 (ballot 1 2) (Nack (ballot 1 4)) 2) ≡ Some Stranger
+  pub first : packet_refusal {D = D} {F = F} 7 3 2 (packet_to 8 4 12 (ballot 1 4) Prepare 3) ≡ Some Wrong_circuit
+  pub none : packet_refusal {D = D} {F = F} 7 3 2 (packet_to 7 3 12 (ballot 1 3) Prepare 2) ≡ None
+
+-- numbers out of range, a number that was released and one that is open are refused to an offer or a search
+pub record NumbersAreRefused (D F : Type 0) : Type 0 where
+  pub low : number_refusal {D = D} {F = F} 0 [] ≡ Some Bad_number
+  pub least : number_refusal {D = D} {F = F} 1 [] ≡ None
+  pub most : number_refusal {D = D} {F = F} 999999 [] ≡ None
+  pub high : number_refusal {D = D} {F = F} 1000000 [] ≡ Some Bad_number
+  pub released : (tape : Tape) → number_refusal {D = D} {F = F} 12 (run_of 7 1 1 (Offered 12 tape 0 ∷ [])).marks ≡ Some Already_released
+  pub open_one : (tape : Tape) → number_refusal {D = D} {F = F} 12 (run_of 7 3 1 (Offered 12 tape 0 ∷ [])).marks ≡ Some Already_open
+  pub other : (tape : Tape) → number_refusal {D = D} {F = F} 13 (run_of 7 3 1 (Offered 12 tape 0 ∷ [])).marks ≡ None
+
+-- a step that was taken, and how it ended
+pub record Taken (D F : Type 0) : Type 0 where
+  pub step : Step
+  pub outcome : Outcome D F
+
+-- the steps of a history, the first first
+abbrev pub steps_of : {D G F : Type 0} {z : Circuit D G F} {w : State G F} → History z w → List (Taken D F)
+steps_of (starts f) = []
+steps_of (goes_on h s o st) = steps_of h ++ record { step = s; outcome = o } ∷ []
+
+-- a member's release of a tape, set as it sets it
+abbrev pub release_by : {D G F : Type 0} → Circuit D G F → ℕ → Tape → Release G F
+release_by z m tape = record { member = m; number = 12; tape = tape; set = z.sets m tape }
+
+-- 1 of 1 that is offered a tape that sets releases it
+abbrev pub OneMemberReleases : (D G F : Type 0) → Type 0
+OneMemberReleases D G F =
+    (z : Circuit D G F) (tape : Tape) (slugs : G) → z.count ≡ 1 → z.sets 1 tape ≡ Ok slugs
+    → (w : State G F) × (h : History z w) × (w.releases ≡ release_by z 1 tape ∷ [])
+    × (steps_of h ≡ record { step = Offers 1 12 tape 0; outcome = Done (Note_proposed (ballot 1 1)) } ∷ [])
+
+-- a vote that was saved as the store failed is released after the restart:
+-- the station is stopped in between, and finds it as its own report by a search
+abbrev pub SavedVoteIsReleased : (D G F : Type 0) → Type 0
+SavedVoteIsReleased D G F =
+    (z : Circuit D G F) (tape : Tape) (slugs : G) → z.count ≡ 1 → z.sets 1 tape ≡ Ok slugs
+    → (w : State G F) × (h : History z w) × (w.releases ≡ release_by z 1 tape ∷ [])
+    × (steps_of h
+        ≡ record { step = Balks 1 true; outcome = Armed true }
+        ∷ record { step = Offers 1 12 tape 0; outcome = Torn_by_store }
+        ∷ record { step = Seeks 1 12 0; outcome = Refused Stopped }
+        ∷ record { step = Restarts 1; outcome = Restarted }
+        ∷ record { step = Seeks 1 12 0; outcome = Done (Note_proposed (ballot 2 1)) } ∷ [])
+
+-- what goes out as 1 of 3 is offered a tape and 2 promises and votes
+abbrev pub packets_of_three : ℕ → Tape → List Packet
+packets_of_three k tape =
+    packet_to k 1 12 (ballot 1 1) Prepare 2 ∷ packet_to k 1 12 (ballot 1 1) Prepare 3
+    ∷ packet_to k 2 12 (ballot 1 1) (Promise None) 1
+    ∷ packet_to k 1 12 (ballot 1 1) (Accept tape) 2 ∷ packet_to k 1 12 (ballot 1 1) (Accept tape) 3
+    ∷ packet_to k 1 12 (ballot 1 1) (Accepted tape) 2 ∷ packet_to k 1 12 (ballot 1 1) (Accepted tape) 3
+    ∷ packet_to k 2 12 (ballot 1 1) (Accepted tape) 1 ∷ packet_to k 2 12 (ballot 1 1) (Accepted tape) 3 ∷ []
+
+-- the packet, spelled and on its way
+abbrev pub datagram_of : (Packet → List ℕ) → Packet → Datagram
+datagram_of spell p = record { to = p.to; bytes = spell p }
+
+-- of three members, of which the first is offered a tape, all release it, though the third never voted:
+-- 2 as it votes, 1 as it hears the vote of 2, and 3 as it has heard both
+abbrev pub ThreeMembersRelease : (D G F : Type 0) → Type 0
+ThreeMembersRelease D G F =
+    (z : Circuit D G F) (spell : Packet → List ℕ) (tape : Tape) (slugs : G) → z.count ≡ 3 → z.sets 1 tape ≡ Ok slugs
+    → AllZip (Carries z) (packets_of_three z.number tape) (map (datagram_of spell) (packets_of_three z.number tape))
+    → (w : State G F) × (h : History z w) × (w.releases ≡ release_by z 2 tape ∷ release_by z 1 tape ∷ release_by z 3 tape ∷ [])
+    × (w.sent ≡ map (datagram_of spell) (packets_of_three z.number tape))
+    × (steps_of h
+        ≡ record { step = Offers 1 12 tape 0; outcome = Done (Note_began (ballot 1 1)) }
+        ∷ record { step = Delivers 1 0; outcome = Done (Note_promised (ballot 1 1)) }
+        ∷ record { step = Delivers 3 0; outcome = Done (Note_proposed (ballot 1 1)) }
+        ∷ record { step = Delivers 6 0; outcome = Done (Note_heard (ballot 1 1)) }
+        ∷ record { step = Delivers 4 0; outcome = Done (Note_voted (ballot 1 1)) }
+        ∷ record { step = Delivers 8 0; outcome = Done (Note_heard (ballot 1 1)) }
+        ∷ record { step = Delivers 9 0; outcome = Done (Note_heard (ballot 1 1)) }
+        ∷ record { step = Delivers 7 0; outcome = Done (Note_heard (ballot 1 1)) } ∷ [])

@@ -1,0 +1,190 @@
+-- One station's turns, one after another, and worked examples of them: each holds by computing the turns.
+-- The examples are of number 12 in circuit 7; c of m stands for a circuit of c members and its station m.
+use Rattle.std.specs.Prelude.{◌≡◌, ℕ, zero, suc, ◌*◌, List, [], ◌∷◌, ◌++◌, Option, Some, None, map}
+use Rattle.protocol.specs.Ballots.{Ballot}
+use Rattle.protocol.specs.Rows.{Tape, Row, vote_for, raised, blank}
+use Rattle.protocol.specs.Packets.{Packet, Body, Prepare, Promise, Accept, Accepted, Nack}
+use Rattle.protocol.specs.Marks.{Mark}
+use Rattle.protocol.specs.Proposals.{open_ballot}
+use Rattle.protocol.specs.Turn.{Event, Offered, Sought, Came_due, Arrived, Note, Note_began, Note_nothing, Note_proposed, Note_idle, Note_gave_up, Note_promised, Note_silent, Note_nacked, Note_voted_again, Note_voted, Note_overtaken, Note_counted, Note_denied, Note_settled, Note_heard, Turn, packet_to, turn}
+
+-- what a turn shows to the outside
+pub record Shown : Type 0 where
+  pub note : Note
+  pub out : List Packet
+  pub release : Option Tape
+
+-- where a station stands, and what it has shown so far, the first first
+pub record Run : Type 0 where
+  pub marks : List Mark
+  pub row : Row
+  pub shown : List Shown
+
+-- the run after a turn; it stays where no ballot is left
+abbrev pub went_on : Run → Option Turn → Run
+went_on r None = r
+went_on r (Some t) = record { marks = t.marks; row = t.row; shown = r.shown ++ record { note = t.note; out = t.out; release = t.release } ∷ [] }
+
+-- the run after these events too, the first first
+abbrev pub ran_on : ℕ → ℕ → ℕ → Run → List Event → Run
+ran_on k c m r [] = r
+ran_on k c m r (e ∷ es) = ran_on k c m (went_on r (turn k c m r.marks r.row e)) es
+
+-- the run of a station that starts with this row
+abbrev pub run_from : ℕ → ℕ → ℕ → Row → List Event → Run
+run_from k c m row es = ran_on k c m (record { marks = []; row = row; shown = [] }) es
+
+-- the run of a station that starts with a blank row
+abbrev pub run_of : ℕ → ℕ → ℕ → List Event → Run
+run_of k c m es = run_from k c m blank es
+
+abbrev pub notes_of : Run → List Note
+notes_of r = map (λ (s : Shown). s.note) r.shown
+
+abbrev pub releases_of : Run → List (Option Tape)
+releases_of r = map (λ (s : Shown). s.release) r.shown
+
+-- the ballot of this round and owner
+abbrev pub ballot : ℕ → ℕ → Ballot
+ballot round owner = record { round = round; owner = owner }
+
+-- a packet for 12 from a member to another
+abbrev pub sends : ℕ → Ballot → Body → ℕ → Packet
+sends from b body to = packet_to 7 from 12 b body to
+
+-- it arrives at the moment 0
+abbrev pub gets : ℕ → Ballot → Body → ℕ → Event
+gets from b body to = Arrived (sends from b body to) 0
+
+-- a turn that releases nothing
+abbrev pub shows : Note → List Packet → Shown
+shows note out = record { note = note; out = out; release = None }
+
+-- 1 of 1 that is offered a tape releases it at once
+abbrev pub OneReleases : Type 0
+OneReleases =
+    (tape : Tape)
+    → (run_of 7 1 1 (Offered 12 tape 0 ∷ [])).shown
+    ≡ record { note = Note_proposed (ballot 1 1); out = []; release = Some tape } ∷ []
+
+-- 1 of 1 that seeks a tape of which nobody voted closes its proposal
+abbrev pub OneFindsNothing : Type 0
+OneFindsNothing =
+    (run_of 7 1 1 (Sought 12 0 ∷ Came_due 12 1000 ∷ [])).shown
+    ≡ shows (Note_nothing (ballot 1 1)) [] ∷ shows Note_idle [] ∷ []
+
+-- 1 of 2, which is offered a tape, releases it once 2 has promised and voted
+abbrev pub FirstOfTwoReleases : Type 0
+FirstOfTwoReleases =
+    (tape : Tape)
+    → (run_of 7 2 1 (Offered 12 tape 0 ∷ gets 2 (ballot 1 1) (Promise None) 1 ∷ gets 2 (ballot 1 1) (Accepted tape) 1 ∷ [])).shown
+    ≡ shows (Note_began (ballot 1 1)) (sends 1 (ballot 1 1) Prepare 2 ∷ [])
+    ∷ shows (Note_proposed (ballot 1 1)) (sends 1 (ballot 1 1) (Accept tape) 2 ∷ sends 1 (ballot 1 1) (Accepted tape) 2 ∷ [])
+    ∷ record { note = Note_heard (ballot 1 1); out = []; release = Some tape } ∷ []
+
+-- 2 of 2 promises, hears the vote of 1, and releases once it has voted itself
+abbrev pub SecondOfTwoReleases : Type 0
+SecondOfTwoReleases =
+    (tape : Tape)
+    → (run_of 7 2 2 (gets 1 (ballot 1 1) Prepare 2 ∷ gets 1 (ballot 1 1) (Accepted tape) 2 ∷ gets 1 (ballot 1 1) (Accept tape) 2 ∷ [])).shown
+    ≡ shows (Note_promised (ballot 1 1)) (sends 2 (ballot 1 1) (Promise None) 1 ∷ [])
+    ∷ shows (Note_heard (ballot 1 1)) []
+    ∷ record { note = Note_voted (ballot 1 1); out = sends 2 (ballot 1 1) (Accepted tape) 1 ∷ []; release = Some tape } ∷ []
+
+-- 3 of 3 is told that 2 voted at 1.1, and proposes that tape and not its own
+abbrev pub ThirdTakesOver : Type 0
+ThirdTakesOver =
+    (own tape : Tape)
+    → (run_of 7 3 3 (Offered 12 own 0 ∷ gets 2 (ballot 1 3) (Promise (Some (vote_for (ballot 1 1) tape))) 3 ∷ gets 2 (ballot 1 3) (Accepted tape) 3 ∷ [])).shown
+    ≡ shows (Note_began (ballot 1 3)) (sends 3 (ballot 1 3) Prepare 1 ∷ sends 3 (ballot 1 3) Prepare 2 ∷ [])
+    ∷ shows (Note_proposed (ballot 1 3))
+        (sends 3 (ballot 1 3) (Accept tape) 1 ∷ sends 3 (ballot 1 3) (Accept tape) 2
+        ∷ sends 3 (ballot 1 3) (Accepted tape) 1 ∷ sends 3 (ballot 1 3) (Accepted tape) 2 ∷ [])
+    ∷ record { note = Note_heard (ballot 1 3); out = []; release = Some tape } ∷ []
+
+-- 3 of 5 takes the greater of two reports
+abbrev pub GreaterReportIsTaken : Type 0
+GreaterReportIsTaken =
+    (own x y : Tape)
+    → (run_of 7 5 3 (Offered 12 own 0 ∷ gets 1 (ballot 1 3) (Promise (Some (vote_for (ballot 1 1) x))) 3 ∷ gets 2 (ballot 1 3) (Promise (Some (vote_for (ballot 1 2) y))) 3 ∷ [])).row.vote
+    ≡ Some (vote_for (ballot 1 3) y)
+
+-- 1 of 3 that promised 1.3 while it gathered at 1.1 counts no promise at 1.1, and gathers on
+abbrev pub PassedIsOvertaken : Type 0
+PassedIsOvertaken =
+    (tape : Tape)
+    → (notes_of (run_of 7 3 1 (Offered 12 tape 0 ∷ gets 3 (ballot 1 3) Prepare 1 ∷ gets 2 (ballot 1 1) (Promise None) 1 ∷ []))
+        ≡ Note_began (ballot 1 1) ∷ Note_promised (ballot 1 3) ∷ Note_overtaken (ballot 1 1) ∷ [])
+    × (open_ballot 12 (run_of 7 3 1 (Offered 12 tape 0 ∷ gets 3 (ballot 1 3) Prepare 1 ∷ gets 2 (ballot 1 1) (Promise None) 1 ∷ [])).marks ≡ Some (ballot 1 1))
+
+-- 2 of 3 that promised 1.3 answers 1.1 with a Nack, and 1.3 again with nothing
+abbrev pub LowerIsNacked : Type 0
+LowerIsNacked =
+    (run_of 7 3 2 (gets 3 (ballot 1 3) Prepare 2 ∷ gets 1 (ballot 1 1) Prepare 2 ∷ gets 3 (ballot 1 3) Prepare 2 ∷ [])).shown
+    ≡ shows (Note_promised (ballot 1 3)) (sends 2 (ballot 1 3) (Promise None) 3 ∷ [])
+    ∷ shows (Note_nacked (ballot 1 3)) (sends 2 (ballot 1 1) (Nack (ballot 1 3)) 1 ∷ [])
+    ∷ shows Note_silent [] ∷ []
+
+-- 1 of 3 is due 290 after it began, and begins above the Nack of 6.2
+abbrev pub FallsDueAbove : Type 0
+FallsDueAbove =
+    (tape : Tape)
+    → notes_of (run_of 7 3 1 (Offered 12 tape 0 ∷ gets 2 (ballot 1 1) (Nack (ballot 6 2)) 1 ∷ Came_due 12 289 ∷ Came_due 12 290 ∷ []))
+    ≡ Note_began (ballot 1 1) ∷ Note_denied (ballot 6 2) ∷ Note_idle ∷ Note_began (ballot 7 1) ∷ []
+
+-- 1 of 3 that starts with a promise of 1.1 begins above it
+abbrev pub BeginsAbovePromise : Type 0
+BeginsAbovePromise =
+    (tape : Tape)
+    → (run_from 7 3 1 (raised blank (ballot 1 1)) (Offered 12 tape 0 ∷ [])).shown
+    ≡ shows (Note_began (ballot 2 1)) (sends 1 (ballot 2 1) Prepare 2 ∷ sends 1 (ballot 2 1) Prepare 3 ∷ []) ∷ []
+
+-- 1 of 3 that promised the last round has no turn for an offer
+abbrev pub LastRoundIsSpent : Type 0
+LastRoundIsSpent = (tape : Tape) → turn 7 3 1 [] (raised blank (ballot 4294967295 2)) (Offered 12 tape 0) ≡ None
+
+-- votes of two ballots aren't added up at 3 of 3, and a later vote of a lesser ballot changes nothing
+abbrev pub BallotsStandApart : Type 0
+BallotsStandApart =
+    (x y : Tape)
+    → releases_of (run_of 7 3 3 (gets 2 (ballot 1 1) (Accepted x) 3 ∷ gets 1 (ballot 1 2) (Accepted y) 3 ∷ gets 1 (ballot 1 1) (Accepted x) 3 ∷ gets 2 (ballot 1 2) (Accepted y) 3 ∷ []))
+    ≡ None ∷ None ∷ None ∷ Some y ∷ []
+
+-- one member's vote that comes three times counts once at 3 of 3
+abbrev pub RepeatedVoteCountsOnce : Type 0
+RepeatedVoteCountsOnce =
+    (tape : Tape)
+    → (run_of 7 3 3 (gets 1 (ballot 1 1) (Accepted tape) 3 ∷ gets 1 (ballot 1 1) (Accepted tape) 3 ∷ gets 1 (ballot 1 1) (Accepted tape) 3 ∷ [])).shown
+    ≡ shows (Note_heard (ballot 1 1)) [] ∷ shows (Note_heard (ballot 1 1)) [] ∷ shows (Note_heard (ballot 1 1)) [] ∷ []
+
+-- of two Accepts at one ballot the first stands at 2 of 3, and is what it votes again
+abbrev pub FirstAcceptStands : Type 0
+FirstAcceptStands =
+    (x y : Tape)
+    → (run_of 7 3 2 (gets 1 (ballot 1 1) (Accept x) 2 ∷ gets 1 (ballot 1 1) (Accept y) 2 ∷ [])).shown
+    ≡ shows (Note_voted (ballot 1 1)) (sends 2 (ballot 1 1) (Accepted x) 1 ∷ sends 2 (ballot 1 1) (Accepted x) 3 ∷ [])
+    ∷ shows (Note_voted_again (ballot 1 1)) (sends 2 (ballot 1 1) (Accepted x) 1 ∷ sends 2 (ballot 1 1) (Accepted x) 3 ∷ []) ∷ []
+
+-- a vote that comes after the release settles nothing more at 3 of 3
+abbrev pub ReleasedIsSettled : Type 0
+ReleasedIsSettled =
+    (tape : Tape)
+    → notes_of (run_of 7 3 3 (gets 1 (ballot 1 1) (Accepted tape) 3 ∷ gets 2 (ballot 1 1) (Accepted tape) 3 ∷ gets 1 (ballot 1 1) (Accepted tape) 3 ∷ []))
+    ≡ Note_heard (ballot 1 1) ∷ Note_heard (ballot 1 1) ∷ Note_settled ∷ []
+
+-- the due moments 290, 580 and on, this many
+abbrev pub dues : ℕ → List Event
+dues zero = []
+dues (suc k) = dues k ++ Came_due 12 (290 * suc k) ∷ []
+
+-- what 1 of 2 shows at the n-th ballot
+abbrev pub begins_at : ℕ → Shown
+begins_at n = shows (Note_began (ballot n 1)) (sends 1 (ballot n 1) Prepare 2 ∷ [])
+
+-- 1 of 2 that hears nothing begins 32 ballots, and then gives up
+abbrev pub GivesUp : Type 0
+GivesUp =
+    (tape : Tape)
+    → ((run_of 7 2 1 (Offered 12 tape 0 ∷ dues 32)).shown ≡ (run_of 7 2 1 (Offered 12 tape 0 ∷ dues 31)).shown ++ shows (Note_gave_up (ballot 32 1)) [] ∷ [])
+    × ((run_of 7 2 1 (Offered 12 tape 0 ∷ dues 31)).shown ≡ (run_of 7 2 1 (Offered 12 tape 0 ∷ dues 30)).shown ++ begins_at 32 ∷ [])
+    × (open_ballot 12 (run_of 7 2 1 (Offered 12 tape 0 ∷ dues 32)).marks ≡ None)
