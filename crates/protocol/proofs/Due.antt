@@ -1,12 +1,12 @@
 -- What is due, as it is computed and as a fact.
-use Rattle.std.proofs.Common.{◌≡◌, ℕ, ◌<◌, ◌≤◌, inl, inr, refl, sym, ap, subst, ◌∙◌, arith, List, [], ◌∷◌, Option, Some, None, Bool, true, false}
-use Rattle.std.specs.Prelude.{nat_lt, nat_le, filter, filter_map, MatchOption}
+use Rattle.std.proofs.Common.{◌≡◌, ℕ, ◌<◌, ◌≤◌, refl, sym, ap, subst, ◌∙◌, arith, List, Option, Some, None, Bool, true, false}
+use Rattle.std.specs.Prelude.{nat_lt, filter, filter_map, MatchOption}
 use Rattle.std.proofs.lemmas.Bool.{leb-true, leb-false, ltb-false}
 use Rattle.std.proofs.lemmas.Bool.Decides.{nat_tests}
 use Rattle.protocol.specs.Ballots.{Ballot}
 use Rattle.protocol.specs.Rows.{Tape}
 use Rattle.protocol.specs.Marks.{Mark, Began}
-use Rattle.protocol.specs.Lists.{IsAmong, greatest}
+use Rattle.protocol.specs.Lists.{IsAmong}
 use Rattle.protocol.specs.Proposals.{Opening, since_began, open_proposal, moved, due_moment, is_due, is_due_number, begun_number, next_due}
 use Rattle.protocol.specs.Readings.{IsDue, LastMoved, NoneIsDue, IsLeastDue, NextDueIsLeast}
 use Rattle.protocol.proofs.Reading.{OpenAs, open_is, ReadAs, open_read, moved_is, moved_read}

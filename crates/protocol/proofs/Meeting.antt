@@ -1,20 +1,20 @@
 -- The computed turn is one that the table allows.
-use Rattle.std.proofs.Common.{◌≡◌, ℕ, ◌<◌, ◌≤◌, inl, inr, refl, sym, ap, subst, ◌∙◌, arith, List, [], ◌∷◌, Option, Some, None, Bool, true, false}
+use Rattle.std.proofs.Common.{◌≡◌, ℕ, ◌≤◌, inl, inr, refl, sym, ap, subst, ◌∙◌, arith, List, [], ◌∷◌, Option, Some, None, Bool, true, false}
 use Rattle.std.specs.Prelude.{◌==◌, nat_le, if◌then◌else◌, MatchOption}
 use Rattle.std.proofs.lemmas.Bool.{eqb-true, eqb-false, leb-true, leb-false}
 use Rattle.protocol.specs.Ballots.{Ballot, IsBelow, IsMember, IsNoneOrAtMost, IsNoneOrBelow, next, is_same, is_below, is_majority}
 use Rattle.protocol.specs.Rows.{Tape, Vote, Row, raised}
 use Rattle.protocol.specs.Packets.{Packet, Body, Prepare, Promise, Accept, Accepted, Nack}
 use Rattle.protocol.specs.Marks.{Mark, Began, Promised, Proposed, Heard}
-use Rattle.protocol.specs.Readings.{IsReleased, IsOpen, Gathers, IsCounted, Picks, LastMoved, IsDue}
-use Rattle.protocol.specs.Proposals.{begun, Opening, was_released, since_began, open_proposal, proposal_at, gathering_at, counted, is_counted, pick, denied, moved, due_moment}
+use Rattle.protocol.specs.Readings.{IsReleased, IsOpen, Gathers, IsCounted, Picks, IsDue}
+use Rattle.protocol.specs.Proposals.{begun, Opening, was_released, since_began, open_proposal, proposal_at, gathering_at, counted, is_counted, pick, denied, due_moment}
 use Rattle.protocol.specs.Turn.{Event, Offered, Sought, Came_due, Arrived, Turn, settle, hear, propose, begin, start_turn, greater_ballot, renew, due_turn, prepare_turn, take_vote, accept_turn, is_that, is_promised, promise_turn, nack_turn, accepted_turn, packet_turn, turn}
 use Rattle.protocol.specs.Table.{Hears, was_settled, waits, releases, Proposes, nothing, proposes, Begins, asks, alone, StartTurn, starts, IsGreater, DueTurn, is_idle, gives_up, begins_anew, PrepareTurn, promises, is_silent, VotedAt, AcceptTurn, votes_again, votes, PromiseTurn, is_stale, is_overtaken, is_repeated, counts, completes, NackTurn, is_denied, AcceptedTurn, settles, hears, AnswerTurn, IsTurn, IsSpent, TurnsAreOfTheTable}
 use Rattle.protocol.specs.Table as table
 use Rattle.protocol.specs.Learner.{ripe}
 use Rattle.protocol.proofs.Below.{below_weaken, at_most_cases}
 use Rattle.protocol.proofs.Due.{due_as, not_due, none_due}
-use Rattle.protocol.proofs.Reading.{is_same-true, is_same-self, is_below-true, is_below-false, released_is, unreleased_is, OpenAs, open_is, ReadAs, open_read, proposal_is, proposal_none, gathering_is, gathering_none, is_counted-one, one-is_counted, majority_of, no_majority_of, pick_is, denied_is, ripe_is, ripe_none}
+use Rattle.protocol.proofs.Reading.{is_same-true, is_same-self, is_below-true, is_below-false, released_is, unreleased_is, open_is, proposal_is, proposal_none, gathering_is, gathering_none, is_counted-one, one-is_counted, majority_of, no_majority_of, pick_is, denied_is, ripe_is, ripe_none}
 
 some_none : {A : Type 0} {x : A} → Some x ≡ None → ⊥
 some_none e = cc

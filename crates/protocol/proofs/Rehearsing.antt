@@ -1,14 +1,14 @@
 -- Histories that release.
-use Rattle.std.proofs.Common.{◌≡◌, ℕ, ◌≤◌, ◌⊎◌, inl, inr, refl, ap, sym, subst, arith, List, [], ◌∷◌, ◌++◌, Option, Some, None, Bool, true, false}
-use Rattle.std.specs.Prelude.{◌==◌, map, Result, Ok, Err}
+use Rattle.std.proofs.Common.{◌≡◌, ℕ, inl, inr, refl, ap, sym, subst, arith, List, [], ◌∷◌, Some, None, true}
+use Rattle.std.specs.Prelude.{◌==◌, map, Result, Ok}
 use Rattle.std.specs.List.{AllZip}
 use Rattle.std.proofs.lemmas.Bool.{eq-eqb}
 use Rattle.protocol.specs.Ballots.{IsMember}
-use Rattle.protocol.specs.Rows.{Tape, Vote, Row, blank, voted}
+use Rattle.protocol.specs.Rows.{Tape, Row, blank, voted}
 use Rattle.protocol.specs.Packets.{Packet, Prepare, Promise, Accept, Accepted}
-use Rattle.protocol.specs.Turn.{Note_began, Note_promised, Note_proposed, Note_heard, Note_voted, Event, Offered, Sought, Arrived, number_of, Turn, packet_to, turn}
-use Rattle.protocol.specs.Refusals.{Call, Offering, Seeking, Receiving, Stopped, refusal, early_refusal, event_of}
-use Rattle.protocol.specs.Circuit.{Circuit, setup_of, Datagram, State, IsSameState, fresh, Step, Offers, Seeks, Delivers, Restarts, Balks, Outcome, Done, Refused, Torn_by_store, Restarted, Armed, with_at, saved, Carries, task_of, offers_with, releases_with, Leaves, at_save, StepsTo, is_refused, is_done, is_torn, restarts, is_armed, History, starts, goes_on}
+use Rattle.protocol.specs.Turn.{Note_began, Note_promised, Note_proposed, Note_heard, Note_voted, Offered, Sought, Arrived, packet_to}
+use Rattle.protocol.specs.Refusals.{Offering, Seeking, Receiving, Stopped}
+use Rattle.protocol.specs.Circuit.{Circuit, State, IsSameState, fresh, Offers, Seeks, Delivers, Restarts, Balks, Done, Refused, Torn_by_store, Restarted, Armed, Carries, at_save, is_refused, is_done, is_torn, restarts, is_armed, History, starts, goes_on}
 use Rattle.protocol.specs.Runs.{ballot}
 use Rattle.protocol.specs.Rehearsals.{steps_of, OneMemberReleases, SavedVoteIsReleased, ThreeMembersRelease, packets_of_three, datagram_of, release_by}
 
@@ -43,11 +43,11 @@ IsSavedAndReleased {D = D} {G = G} {F = F} z =
     (tape : Tape) (slugs : G) → z.sets 1 tape ≡ Ok slugs
     → (w : State G F) × (h : History z w) × (w.releases ≡ release_by z 1 tape ∷ [])
     × (steps_of h
-        ≡ record { step = Balks 1 true; outcome = Armed true }
-        ∷ record { step = Offers 1 12 tape 0; outcome = Torn_by_store }
-        ∷ record { step = Seeks 1 12 0; outcome = Refused Stopped }
-        ∷ record { step = Restarts 1; outcome = Restarted }
-        ∷ record { step = Seeks 1 12 0; outcome = Done (Note_proposed (ballot 2 1)) } ∷ [])
+    ≡ record { step = Balks 1 true; outcome = Armed true }
+    ∷ record { step = Offers 1 12 tape 0; outcome = Torn_by_store }
+    ∷ record { step = Seeks 1 12 0; outcome = Refused Stopped }
+    ∷ record { step = Restarts 1; outcome = Restarted }
+    ∷ record { step = Seeks 1 12 0; outcome = Done (Note_proposed (ballot 2 1)) } ∷ [])
 
 changes : (tape : Tape) → ¬ (voted (ballot 1 1) tape ≡ blank)
 changes tape e = let no : Some (ballot 1 1) ≡ None = ap (λ (r : Row). r.promised) e in cc
@@ -73,14 +73,14 @@ AreReleasedByThree {D = D} {G = G} {F = F} z =
     → (w : State G F) × (h : History z w) × (w.releases ≡ release_by z 2 tape ∷ release_by z 1 tape ∷ release_by z 3 tape ∷ [])
     × (w.sent ≡ map (datagram_of spell) (packets_of_three z.number tape))
     × (steps_of h
-        ≡ record { step = Offers 1 12 tape 0; outcome = Done (Note_began (ballot 1 1)) }
-        ∷ record { step = Delivers 1 0; outcome = Done (Note_promised (ballot 1 1)) }
-        ∷ record { step = Delivers 3 0; outcome = Done (Note_proposed (ballot 1 1)) }
-        ∷ record { step = Delivers 6 0; outcome = Done (Note_heard (ballot 1 1)) }
-        ∷ record { step = Delivers 4 0; outcome = Done (Note_voted (ballot 1 1)) }
-        ∷ record { step = Delivers 8 0; outcome = Done (Note_heard (ballot 1 1)) }
-        ∷ record { step = Delivers 9 0; outcome = Done (Note_heard (ballot 1 1)) }
-        ∷ record { step = Delivers 7 0; outcome = Done (Note_heard (ballot 1 1)) } ∷ [])
+    ≡ record { step = Offers 1 12 tape 0; outcome = Done (Note_began (ballot 1 1)) }
+    ∷ record { step = Delivers 1 0; outcome = Done (Note_promised (ballot 1 1)) }
+    ∷ record { step = Delivers 3 0; outcome = Done (Note_proposed (ballot 1 1)) }
+    ∷ record { step = Delivers 6 0; outcome = Done (Note_heard (ballot 1 1)) }
+    ∷ record { step = Delivers 4 0; outcome = Done (Note_voted (ballot 1 1)) }
+    ∷ record { step = Delivers 8 0; outcome = Done (Note_heard (ballot 1 1)) }
+    ∷ record { step = Delivers 9 0; outcome = Done (Note_heard (ballot 1 1)) }
+    ∷ record { step = Delivers 7 0; outcome = Done (Note_heard (ballot 1 1)) } ∷ [])
 
 are_released_by_three : {D G F : Type 0} → of_count {D = D} {G = G} {F = F} 3 AreReleasedByThree
 are_released_by_three {D = D} {G = G} {F = F} k reads sets spell tape slugs s spelled =
@@ -91,21 +91,21 @@ are_released_by_three {D = D} {G = G} {F = F} k reads sets spell tape slugs s sp
     let two : IsMember 3 2 = (omega arith, omega arith) in
     let three : IsMember 3 3 = (omega arith, omega arith) in
     let h0 : History z _ = goes_on (begins z) (Offers 1 12 tape 0) (Done (Note_began (ballot 1 1)))
-        (is_done 1 (Offering 12 tape 0) (Offered 12 tape 0) _ (datagram_of spell (packet_to k 1 12 (ballot 1 1) Prepare 2) ∷ datagram_of spell (packet_to k 1 12 (ballot 1 1) Prepare 3) ∷ []) refl one (rw s refl) refl refl ((refl, r1), ((refl, r2), tt)) (inl refl) refl (same _)) in
+    (is_done 1 (Offering 12 tape 0) (Offered 12 tape 0) _ (datagram_of spell (packet_to k 1 12 (ballot 1 1) Prepare 2) ∷ datagram_of spell (packet_to k 1 12 (ballot 1 1) Prepare 3) ∷ []) refl one (rw s refl) refl refl ((refl, r1), ((refl, r2), tt)) (inl refl) refl (same _)) in
     let h1 : History z _ = goes_on h0 (Delivers 1 0) (Done (Note_promised (ballot 1 1)))
-        (is_done 2 (Receiving _ 0) (Arrived (packet_to k 1 12 (ballot 1 1) Prepare 2) 0) _ (datagram_of spell (packet_to k 2 12 (ballot 1 1) (Promise None) 1) ∷ []) refl two (rw (r1, e) refl) (rw r1 refl) refl ((refl, r3), tt) (inl refl) refl (same _)) in
+    (is_done 2 (Receiving _ 0) (Arrived (packet_to k 1 12 (ballot 1 1) Prepare 2) 0) _ (datagram_of spell (packet_to k 2 12 (ballot 1 1) (Promise None) 1) ∷ []) refl two (rw (r1, e) refl) (rw r1 refl) refl ((refl, r3), tt) (inl refl) refl (same _)) in
     let h2 : History z _ = goes_on h1 (Delivers 3 0) (Done (Note_proposed (ballot 1 1)))
-        (is_done 1 (Receiving _ 0) (Arrived (packet_to k 2 12 (ballot 1 1) (Promise None) 1) 0) _ (datagram_of spell (packet_to k 1 12 (ballot 1 1) (Accept tape) 2) ∷ datagram_of spell (packet_to k 1 12 (ballot 1 1) (Accept tape) 3) ∷ datagram_of spell (packet_to k 1 12 (ballot 1 1) (Accepted tape) 2) ∷ datagram_of spell (packet_to k 1 12 (ballot 1 1) (Accepted tape) 3) ∷ []) refl one (rw (r3, e) refl) (rw r3 refl) refl ((refl, r4), ((refl, r5), ((refl, r6), ((refl, r7), tt)))) (inl refl) refl (same _)) in
+    (is_done 1 (Receiving _ 0) (Arrived (packet_to k 2 12 (ballot 1 1) (Promise None) 1) 0) _ (datagram_of spell (packet_to k 1 12 (ballot 1 1) (Accept tape) 2) ∷ datagram_of spell (packet_to k 1 12 (ballot 1 1) (Accept tape) 3) ∷ datagram_of spell (packet_to k 1 12 (ballot 1 1) (Accepted tape) 2) ∷ datagram_of spell (packet_to k 1 12 (ballot 1 1) (Accepted tape) 3) ∷ []) refl one (rw (r3, e) refl) (rw r3 refl) refl ((refl, r4), ((refl, r5), ((refl, r6), ((refl, r7), tt)))) (inl refl) refl (same _)) in
     let h3 : History z _ = goes_on h2 (Delivers 6 0) (Done (Note_heard (ballot 1 1)))
-        (is_done 2 (Receiving _ 0) (Arrived (packet_to k 1 12 (ballot 1 1) (Accepted tape) 2) 0) _ [] refl two (rw (r6, e) refl) (rw r6 refl) refl tt (inl refl) refl (same _)) in
+    (is_done 2 (Receiving _ 0) (Arrived (packet_to k 1 12 (ballot 1 1) (Accepted tape) 2) 0) _ [] refl two (rw (r6, e) refl) (rw r6 refl) refl tt (inl refl) refl (same _)) in
     let h4 : History z _ = goes_on h3 (Delivers 4 0) (Done (Note_voted (ballot 1 1)))
-        (is_done 2 (Receiving _ 0) (Arrived (packet_to k 1 12 (ballot 1 1) (Accept tape) 2) 0) _ (datagram_of spell (packet_to k 2 12 (ballot 1 1) (Accepted tape) 1) ∷ datagram_of spell (packet_to k 2 12 (ballot 1 1) (Accepted tape) 3) ∷ []) refl two (rw (r4, e) refl) (rw r4 refl) refl ((refl, r8), ((refl, r9), tt)) (inl refl) refl (same _)) in
+    (is_done 2 (Receiving _ 0) (Arrived (packet_to k 1 12 (ballot 1 1) (Accept tape) 2) 0) _ (datagram_of spell (packet_to k 2 12 (ballot 1 1) (Accepted tape) 1) ∷ datagram_of spell (packet_to k 2 12 (ballot 1 1) (Accepted tape) 3) ∷ []) refl two (rw (r4, e) refl) (rw r4 refl) refl ((refl, r8), ((refl, r9), tt)) (inl refl) refl (same _)) in
     let h5 : History z _ = goes_on h4 (Delivers 8 0) (Done (Note_heard (ballot 1 1)))
-        (is_done 1 (Receiving _ 0) (Arrived (packet_to k 2 12 (ballot 1 1) (Accepted tape) 1) 0) _ [] refl one (rw (r8, e) refl) (rw r8 refl) refl tt (inl refl) refl (same _)) in
+    (is_done 1 (Receiving _ 0) (Arrived (packet_to k 2 12 (ballot 1 1) (Accepted tape) 1) 0) _ [] refl one (rw (r8, e) refl) (rw r8 refl) refl tt (inl refl) refl (same _)) in
     let h6 : History z _ = goes_on h5 (Delivers 9 0) (Done (Note_heard (ballot 1 1)))
-        (is_done 3 (Receiving _ 0) (Arrived (packet_to k 2 12 (ballot 1 1) (Accepted tape) 3) 0) _ [] refl three (rw (r9, e) refl) (rw r9 refl) refl tt (inl refl) refl (same _)) in
+    (is_done 3 (Receiving _ 0) (Arrived (packet_to k 2 12 (ballot 1 1) (Accepted tape) 3) 0) _ [] refl three (rw (r9, e) refl) (rw r9 refl) refl tt (inl refl) refl (same _)) in
     let h7 : History z _ = goes_on h6 (Delivers 7 0) (Done (Note_heard (ballot 1 1)))
-        (is_done 3 (Receiving _ 0) (Arrived (packet_to k 1 12 (ballot 1 1) (Accepted tape) 3) 0) _ [] refl three (rw (r7, e) refl) (rw r7 refl) refl tt (inl refl) refl (same _)) in
+    (is_done 3 (Receiving _ 0) (Arrived (packet_to k 1 12 (ballot 1 1) (Accepted tape) 3) 0) _ [] refl three (rw (r7, e) refl) (rw r7 refl) refl tt (inl refl) refl (same _)) in
     (_, h7, refl, refl, refl)
 
 pub three_members_release : {D G F : Type 0} → ThreeMembersRelease D G F

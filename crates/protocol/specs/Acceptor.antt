@@ -17,10 +17,12 @@ pub data Reply : Type 0 where
   Nacks : (promised : Ballot) → Reply
   Says_nothing Votes Votes_again : Reply
 
+-- the ballot of a request
 abbrev pub ballot_of : Request → Ballot
 ballot_of (Prepares b) = b
 ballot_of (Accepts b t) = b
 
+-- the greater of a ballot, if there is one, and another
 abbrev pub higher : Option Ballot → Ballot → Option Ballot
 higher None b = Some b
 higher (Some a) b = Some (if is_below a b then b else a)
@@ -51,10 +53,12 @@ votes_after before (Accepts b t ∷ rs) =
 abbrev pub votes_of : List Request → List Vote
 votes_of rs = votes_after [] rs
 
+-- the vote of greater ballot, the first where equal
 abbrev pub later : Option Vote → Vote → Option Vote
 later None v = Some v
 later (Some w) v = Some (if is_below w.ballot v.ballot then v else w)
 
+-- the vote of greatest ballot of a vote, if there is one, and those of the list
 abbrev pub greatest_vote_from : Option Vote → List Vote → Option Vote
 greatest_vote_from most [] = most
 greatest_vote_from most (v ∷ vs) = greatest_vote_from (later most v) vs
@@ -67,21 +71,26 @@ greatest_vote vs = greatest_vote_from None vs
 abbrev pub row_after : List Request → Row
 row_after rs = record { promised = greatest_ballot rs; vote = greatest_vote (votes_of rs) }
 
+-- there is a ballot, and it is above b
 abbrev pub is_above : Option Ballot → Ballot → Bool
 is_above None b = false
 is_above (Some p) b = is_below b p
 
+-- there is a ballot, and it is b
 abbrev pub is_at : Option Ballot → Ballot → Bool
 is_at None b = false
 is_at (Some p) b = is_same p b
 
+-- there is a vote, and its ballot is b
 abbrev pub vote_is_at : Option Vote → Ballot → Bool
 vote_is_at None b = false
 vote_is_at (Some v) b = is_same v.ballot b
 
+-- some vote has the ballot b
 abbrev pub has_vote_at : Ballot → List Vote → Bool
 has_vote_at b vs = list_any (λ v. is_same v.ballot b) vs
 
+-- the Nack that carries a promise
 abbrev pub nack_of : Option Ballot → Reply
 nack_of None = Says_nothing
 nack_of (Some p) = Nacks p
@@ -95,6 +104,7 @@ reply_after before (Accepts b t) =
     if is_above (greatest_ballot before) b then nack_of (greatest_ballot before) else
     if has_vote_at b (votes_of before) then Votes_again else Votes
 
+-- the replies to requests behind those before them
 abbrev pub replies_after : List Request → List Request → List Reply
 replies_after before [] = []
 replies_after before (r ∷ rs) = reply_after before r ∷ replies_after (before ++ r ∷ []) rs

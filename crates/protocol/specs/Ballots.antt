@@ -27,6 +27,7 @@ is_below a b = nat_lt a.round b.round || ((a.round == b.round) && nat_lt a.owner
 abbrev pub IsBelow : Ballot → Ballot → Type 0
 IsBelow a b = (a.round < b.round) ⊎ ((a.round ≡ b.round) × (a.owner < b.owner))
 
+-- the first is below the second, or the same
 abbrev pub IsAtMost : Ballot → Ballot → Type 0
 IsAtMost a b = (a.round < b.round) ⊎ ((a.round ≡ b.round) × (a.owner ≤ b.owner))
 
@@ -40,6 +41,7 @@ abbrev pub IsNoneOrAtMost : Option Ballot → Ballot → Type 0
 IsNoneOrAtMost None b = Unit {0}
 IsNoneOrAtMost (Some a) b = IsAtMost a b
 
+-- the greatest round
 abbrev pub last_round : ℕ
 last_round = 4294967295
 
@@ -53,6 +55,7 @@ abbrev pub members : ℕ → List ℕ
 members zero = []
 members (suc c) = members c ++ suc c ∷ []
 
+-- members of a circuit of c are 1 to c
 abbrev pub IsMember : ℕ → ℕ → Type 0
 IsMember c m = (1 ≤ m) × (m ≤ c)
 

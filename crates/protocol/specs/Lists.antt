@@ -21,6 +21,7 @@ abbrev pub before_last : {A : Type 0} → (A → Bool) → List A → List A
 before_last p [] = []
 before_last p (x ∷ xs) = if has p xs then x ∷ before_last p xs else []
 
+-- the first if there is one, else the second
 abbrev pub or_else : {A : Type 0} → Option A → Option A → Option A
 or_else None y = y
 or_else (Some x) y = Some x
@@ -30,6 +31,7 @@ abbrev pub first : {A B : Type 0} → (A → Option B) → List A → Option B
 first f [] = None
 first f (x ∷ xs) = or_else (f x) (first f xs)
 
+-- the item, or the other where there is one that it is not above
 abbrev pub greater : {A : Type 0} → (A → A → Bool) → A → Option A → A
 greater above x None = x
 greater above x (Some y) = if above x y then x else y

@@ -4,6 +4,7 @@ use Rattle.std.specs.Prelude.{ℕ, Option}
 use Rattle.protocol.specs.Ballots.{Ballot}
 use Rattle.protocol.specs.Rows.{Tape, Vote}
 
+-- what a packet says: a request of either phase, its answer, or a Nack with the promise that stands in the way
 pub data Body : Type 0 where
   Prepare : Body
   Promise : (report : Option Vote) → Body

@@ -1,13 +1,12 @@
 -- Worked examples of refusals and of histories, of number 12: the definitions are not empty.
-use Rattle.std.specs.Prelude.{◌≡◌, ℕ, List, [], ◌∷◌, ◌++◌, Option, Some, None, Result, Ok, Bool, true, false, map}
+use Rattle.std.specs.Prelude.{◌≡◌, ℕ, List, [], ◌∷◌, ◌++◌, Some, None, Ok, true, map}
 use Rattle.std.specs.List.{AllZip}
-use Rattle.protocol.specs.Ballots.{Ballot}
 use Rattle.protocol.specs.Rows.{Tape, vote_for}
-use Rattle.protocol.specs.Packets.{Packet, Body, Prepare, Promise, Accept, Accepted, Nack}
+use Rattle.protocol.specs.Packets.{Packet, Prepare, Promise, Accept, Accepted, Nack}
 use Rattle.protocol.specs.Turn.{Offered, Note_began, Note_promised, Note_proposed, Note_heard, Note_voted, packet_to}
 use Rattle.protocol.specs.Runs.{ballot, run_of}
-use Rattle.protocol.specs.Refusals.{Refusal, Stopped, Wrong_circuit, Not_for_me, Stranger, Bad_number, Already_released, Already_open, packet_refusal, number_refusal}
-use Rattle.protocol.specs.Circuit.{Circuit, Carries, Datagram, Release, State, Step, Offers, Seeks, Delivers, Restarts, Balks, Outcome, Done, Refused, Torn_by_store, Restarted, Armed, StepsTo, History, starts, goes_on}
+use Rattle.protocol.specs.Refusals.{Stopped, Wrong_circuit, Not_for_me, Stranger, Bad_number, Already_released, Already_open, packet_refusal, number_refusal}
+use Rattle.protocol.specs.Circuit.{Circuit, Carries, Datagram, Release, State, Step, Offers, Seeks, Delivers, Restarts, Balks, Outcome, Done, Refused, Torn_by_store, Restarted, Armed, History, starts, goes_on}
 
 -- a member of 3 refuses packets of another circuit, for another, and of strangers: the sender, the owner of the ballot, of a reported vote, of a Nack's promise
 pub record PacketsAreRefused (D F : Type 0) : Type 0 where
@@ -58,11 +57,11 @@ SavedVoteIsReleased D G F =
     (z : Circuit D G F) (tape : Tape) (slugs : G) → z.count ≡ 1 → z.sets 1 tape ≡ Ok slugs
     → (w : State G F) × (h : History z w) × (w.releases ≡ release_by z 1 tape ∷ [])
     × (steps_of h
-        ≡ record { step = Balks 1 true; outcome = Armed true }
-        ∷ record { step = Offers 1 12 tape 0; outcome = Torn_by_store }
-        ∷ record { step = Seeks 1 12 0; outcome = Refused Stopped }
-        ∷ record { step = Restarts 1; outcome = Restarted }
-        ∷ record { step = Seeks 1 12 0; outcome = Done (Note_proposed (ballot 2 1)) } ∷ [])
+    ≡ record { step = Balks 1 true; outcome = Armed true }
+    ∷ record { step = Offers 1 12 tape 0; outcome = Torn_by_store }
+    ∷ record { step = Seeks 1 12 0; outcome = Refused Stopped }
+    ∷ record { step = Restarts 1; outcome = Restarted }
+    ∷ record { step = Seeks 1 12 0; outcome = Done (Note_proposed (ballot 2 1)) } ∷ [])
 
 -- what goes out as 1 of 3 is offered a tape and 2 promises and votes
 abbrev pub packets_of_three : ℕ → Tape → List Packet
@@ -86,11 +85,11 @@ ThreeMembersRelease D G F =
     → (w : State G F) × (h : History z w) × (w.releases ≡ release_by z 2 tape ∷ release_by z 1 tape ∷ release_by z 3 tape ∷ [])
     × (w.sent ≡ map (datagram_of spell) (packets_of_three z.number tape))
     × (steps_of h
-        ≡ record { step = Offers 1 12 tape 0; outcome = Done (Note_began (ballot 1 1)) }
-        ∷ record { step = Delivers 1 0; outcome = Done (Note_promised (ballot 1 1)) }
-        ∷ record { step = Delivers 3 0; outcome = Done (Note_proposed (ballot 1 1)) }
-        ∷ record { step = Delivers 6 0; outcome = Done (Note_heard (ballot 1 1)) }
-        ∷ record { step = Delivers 4 0; outcome = Done (Note_voted (ballot 1 1)) }
-        ∷ record { step = Delivers 8 0; outcome = Done (Note_heard (ballot 1 1)) }
-        ∷ record { step = Delivers 9 0; outcome = Done (Note_heard (ballot 1 1)) }
-        ∷ record { step = Delivers 7 0; outcome = Done (Note_heard (ballot 1 1)) } ∷ [])
+    ≡ record { step = Offers 1 12 tape 0; outcome = Done (Note_began (ballot 1 1)) }
+    ∷ record { step = Delivers 1 0; outcome = Done (Note_promised (ballot 1 1)) }
+    ∷ record { step = Delivers 3 0; outcome = Done (Note_proposed (ballot 1 1)) }
+    ∷ record { step = Delivers 6 0; outcome = Done (Note_heard (ballot 1 1)) }
+    ∷ record { step = Delivers 4 0; outcome = Done (Note_voted (ballot 1 1)) }
+    ∷ record { step = Delivers 8 0; outcome = Done (Note_heard (ballot 1 1)) }
+    ∷ record { step = Delivers 9 0; outcome = Done (Note_heard (ballot 1 1)) }
+    ∷ record { step = Delivers 7 0; outcome = Done (Note_heard (ballot 1 1)) } ∷ [])

@@ -11,6 +11,7 @@ pub record Vote : Type 0 where
   pub ballot : Ballot
   pub tape : Tape
 
+-- a vote for the tape at the ballot
 abbrev pub vote_for : Ballot → Tape → Vote
 vote_for b t = record { ballot = b; tape = t }
 

@@ -6,7 +6,7 @@ use Rattle.protocol.specs.Rows.{Tape, Row, vote_for, raised, blank}
 use Rattle.protocol.specs.Packets.{Packet, Body, Prepare, Promise, Accept, Accepted, Nack}
 use Rattle.protocol.specs.Marks.{Mark}
 use Rattle.protocol.specs.Proposals.{open_ballot}
-use Rattle.protocol.specs.Turn.{Event, Offered, Sought, Came_due, Arrived, Note, Note_began, Note_nothing, Note_proposed, Note_idle, Note_gave_up, Note_promised, Note_silent, Note_nacked, Note_voted_again, Note_voted, Note_overtaken, Note_counted, Note_denied, Note_settled, Note_heard, Turn, packet_to, turn}
+use Rattle.protocol.specs.Turn.{Event, Offered, Sought, Came_due, Arrived, Note, Note_began, Note_nothing, Note_proposed, Note_idle, Note_gave_up, Note_promised, Note_silent, Note_nacked, Note_voted_again, Note_voted, Note_overtaken, Note_denied, Note_settled, Note_heard, Turn, packet_to, turn}
 
 -- what a turn shows to the outside
 pub record Shown : Type 0 where
@@ -38,9 +38,11 @@ run_from k c m row es = ran_on k c m (record { marks = []; row = row; shown = []
 abbrev pub run_of : ℕ → ℕ → ℕ → List Event → Run
 run_of k c m es = run_from k c m blank es
 
+-- the notes of a run, the first first
 abbrev pub notes_of : Run → List Note
 notes_of r = map (λ (s : Shown). s.note) r.shown
 
+-- what each turn of a run released
 abbrev pub releases_of : Run → List (Option Tape)
 releases_of r = map (λ (s : Shown). s.release) r.shown
 
@@ -98,8 +100,8 @@ ThirdTakesOver =
     → (run_of 7 3 3 (Offered 12 own 0 ∷ gets 2 (ballot 1 3) (Promise (Some (vote_for (ballot 1 1) tape))) 3 ∷ gets 2 (ballot 1 3) (Accepted tape) 3 ∷ [])).shown
     ≡ shows (Note_began (ballot 1 3)) (sends 3 (ballot 1 3) Prepare 1 ∷ sends 3 (ballot 1 3) Prepare 2 ∷ [])
     ∷ shows (Note_proposed (ballot 1 3))
-        (sends 3 (ballot 1 3) (Accept tape) 1 ∷ sends 3 (ballot 1 3) (Accept tape) 2
-        ∷ sends 3 (ballot 1 3) (Accepted tape) 1 ∷ sends 3 (ballot 1 3) (Accepted tape) 2 ∷ [])
+    (sends 3 (ballot 1 3) (Accept tape) 1 ∷ sends 3 (ballot 1 3) (Accept tape) 2
+    ∷ sends 3 (ballot 1 3) (Accepted tape) 1 ∷ sends 3 (ballot 1 3) (Accepted tape) 2 ∷ [])
     ∷ record { note = Note_heard (ballot 1 3); out = []; release = Some tape } ∷ []
 
 -- 3 of 5 takes the greater of two reports
@@ -114,7 +116,7 @@ abbrev pub PassedIsOvertaken : Type 0
 PassedIsOvertaken =
     (tape : Tape)
     → (notes_of (run_of 7 3 1 (Offered 12 tape 0 ∷ gets 3 (ballot 1 3) Prepare 1 ∷ gets 2 (ballot 1 1) (Promise None) 1 ∷ []))
-        ≡ Note_began (ballot 1 1) ∷ Note_promised (ballot 1 3) ∷ Note_overtaken (ballot 1 1) ∷ [])
+    ≡ Note_began (ballot 1 1) ∷ Note_promised (ballot 1 3) ∷ Note_overtaken (ballot 1 1) ∷ [])
     × (open_ballot 12 (run_of 7 3 1 (Offered 12 tape 0 ∷ gets 3 (ballot 1 3) Prepare 1 ∷ gets 2 (ballot 1 1) (Promise None) 1 ∷ [])).marks ≡ Some (ballot 1 1))
 
 -- 2 of 3 that promised 1.3 answers 1.1 with a Nack, and 1.3 again with nothing

@@ -63,7 +63,7 @@ abbrev pub settle : ℕ → List Mark → Option Vote → Hearing
 settle n marks None = record { marks = marks; release = None }
 settle n marks (Some v) = record { marks = Released n v.tape ∷ marks; release = Some v.tape }
 
--- the vote of a member for n is heard, unless n was released
+-- the vote of a member for n is heard, unless n was released (Lamport: a learner is told what was accepted)
 abbrev pub hear : ℕ → ℕ → ℕ → Ballot → Tape → List Mark → Hearing
 hear c n member b t marks =
     if was_released n marks then record { marks = marks; release = None }
@@ -73,13 +73,13 @@ hear c n member b t marks =
 abbrev pub after_hearing : Row → List Packet → Note → Hearing → Turn
 after_hearing row out note h = record { row = row; marks = h.marks; out = out; release = h.release; note = note }
 
--- phase 2: the picked tape is voted for and proposed at b; where there is none, the proposal is closed
+-- Lamport, phase 2 (a): the picked tape is voted for and proposed at b; where there is none, the proposal is closed
 abbrev pub propose : ℕ → ℕ → ℕ → ℕ → Ballot → ℕ → List Mark → Row → Option Tape → Turn
 propose k c m n b now marks row None = stays row (Closed n ∷ marks) (Note_nothing b)
 propose k c m n b now marks row (Some tape) =
     after_hearing (voted b tape) (to_others k c m n b (Accept tape) ++ to_others k c m n b (Accepted tape)) (Note_proposed b) (hear c n m b tape (Proposed n b now ∷ marks))
 
--- phase 1: the row is promised to b, and the others are asked; a member of one proposes at once
+-- Lamport, phase 1 (a): the row is promised to b, and the others are asked; a member of one proposes at once
 abbrev pub begin : ℕ → ℕ → ℕ → ℕ → Ballot → Option Tape → ℕ → List Mark → Row → Turn
 begin k c m n b own now marks row =
     if c == 1
@@ -122,7 +122,7 @@ due_turn k c m n now marks row (Some p) =
 abbrev pub answer : ℕ → ℕ → List Mark → Row → Packet → Body → Note → Turn
 answer k m marks row p body note = record { row = row; marks = marks; out = packet_to k m p.number p.ballot body p.from ∷ []; release = None; note = note }
 
--- a Prepare, at a row with this promise: promised above it, silent at it, a Nack below it
+-- Lamport, phase 1 (b): a Prepare, at a row with this promise, is promised above it, silent at it, a Nack below it
 abbrev pub prepare_turn : ℕ → ℕ → List Mark → Row → Packet → Option Ballot → Turn
 prepare_turn k m marks row p None = answer k m marks (raised row p.ballot) p (Promise row.vote) (Note_promised p.ballot)
 prepare_turn k m marks row p (Some a) =
@@ -135,7 +135,7 @@ abbrev pub vote_turn : ℕ → ℕ → ℕ → List Mark → Row → Packet → 
 vote_turn k c m marks row p tape note =
     after_hearing row (to_others k c m p.number p.ballot (Accepted tape)) note (hear c p.number m p.ballot tape marks)
 
--- an Accept that isn't below the promise, at a row with this vote: a vote at its ballot stands, else its tape is voted for
+-- Lamport, phase 2 (b): an Accept that isn't below the promise, at a row with this vote: a vote at its ballot stands, else its tape is voted for
 abbrev pub take_vote : ℕ → ℕ → ℕ → List Mark → Row → Packet → Tape → Option Vote → Turn
 take_vote k c m marks row p tape None = vote_turn k c m marks (voted p.ballot tape) p tape (Note_voted p.ballot)
 take_vote k c m marks row p tape (Some v) =
