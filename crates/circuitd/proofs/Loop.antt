@@ -67,4 +67,3 @@ left_at ls i d lt =
 pub standing_at : (circuit me : ℕ) (rows : ℕ → Row) (ls : List (Bor (List ℕ))) (i : ℕ) (d : Bor (List ℕ)) (old new : Option (List ℕ)) → i < length ls → Standing circuit me rows (texts ls) (drop i (texts ls)) old new → Standing circuit me rows (texts ls) ((get_or ls i d).now ∷ drop (i + 1) (texts ls)) old new
 standing_at circuit me rows ls i d old new lt s =
     subst (λ (rest : List (List ℕ)). Standing circuit me rows (texts ls) rest old new) (left_at ls i d lt) s
-

@@ -63,12 +63,7 @@ fn put_line<W: Write>(
 }
 
 /// Answers the lines, one after the other.
-fn put_lines<W: Write>(
-    alloc: Global,
-    seat: &Seat,
-    lines: &[&[u8]],
-    out: &mut W,
-) -> Result<(), Stop>
+fn put_lines<W: Write>(alloc: Global, seat: &Seat, lines: &[&[u8]], out: &mut W) -> Result<(), Stop>
     ensures text { OnOk result (Appends (W.contents out.old) (W.contents out.new) (lines_text seat.now.circuit seat.now.me [] (map (λ l. l.now) lines.now))) }
     ensures front { OnErr result (AppendsFront (W.contents out.old) (W.contents out.new) (lines_text seat.now.circuit seat.now.me [] (map (λ l. l.now) lines.now))) }
 {
@@ -83,12 +78,7 @@ fn put_lines<W: Write>(
     Ok(())
 }
 
-fn put_answer<W: Write>(
-    alloc: Global,
-    seat: &Seat,
-    input: &[u8],
-    out: &mut W,
-) -> Result<(), Stop>
+fn put_answer<W: Write>(alloc: Global, seat: &Seat, input: &[u8], out: &mut W) -> Result<(), Stop>
     ensures text { OnOk result (Appends (W.contents out.old) (W.contents out.new) (answer_text seat.now.circuit seat.now.me input.now)) }
     ensures front { OnErr result (AppendsFront (W.contents out.old) (W.contents out.new) (answer_text seat.now.circuit seat.now.me input.now)) }
 {
@@ -141,3 +131,6 @@ pub fn answer<R: Read, W: Write, E: Write>(
         Err(Stop::CannotWrite) => Fault::CannotWrite.tell(err),
     }
 }
+
+#[cfg(test)]
+mod tests;

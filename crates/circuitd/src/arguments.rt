@@ -25,7 +25,9 @@ fn answer_command<'a>(alloc: Global) -> Result<Command<'a>, Error> {
         .value_parser(clap::value_parser!(u8).range(1..=15))
         .help("The member that answers, 1 to 15");
     let command = Command::new(alloc, "answer")
-        .about("Answers requests as one acceptor: a datagram in hex per line in, its reply per line out")
+        .about(
+            "Answers requests as one acceptor: a datagram in hex per line in, its reply per line out",
+        )
         .arg(circuit)?
         .arg(member)?;
     Ok(command)

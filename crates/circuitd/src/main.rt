@@ -7,8 +7,7 @@ mod end;
 mod fault;
 mod line;
 mod refusal;
-#[cfg(test)]
-mod tests;
+mod script;
 
 use arguments::{Asked, parse};
 use ballots::Member;
