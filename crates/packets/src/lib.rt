@@ -14,3 +14,6 @@ pub use decoding::decode;
 pub use encoding::encode;
 pub use fault::PacketFault;
 pub use packet::{Packet, PacketRef};
+
+#[cfg(test)]
+mod tests;

@@ -137,13 +137,14 @@ impl<'a> PacketRef<'a> {
     pub fn lend(&self) -> PacketRef<'a>
         ensures { result ≡ self.now }
     {
+        let body = self.body.lend();
         PacketRef {
             circuit: self.circuit,
             from: self.from,
             to: self.to,
             number: self.number,
             ballot: self.ballot,
-            body: self.body.lend(),
+            body,
         }
     }
 
