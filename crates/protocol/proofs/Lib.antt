@@ -1,5 +1,6 @@
 pub mod Order
 pub mod Requests
+pub mod Answering
 pub mod Below
 pub mod Majorities
 pub mod Sound

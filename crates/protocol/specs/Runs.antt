@@ -119,11 +119,13 @@ PassedIsOvertaken =
     ≡ Note_began (ballot 1 1) ∷ Note_promised (ballot 1 3) ∷ Note_overtaken (ballot 1 1) ∷ [])
     × (open_ballot 12 (run_of 7 3 1 (Offered 12 tape 0 ∷ gets 3 (ballot 1 3) Prepare 1 ∷ gets 2 (ballot 1 1) (Promise None) 1 ∷ [])).marks ≡ Some (ballot 1 1))
 
--- 2 of 3 that promised 1.3 answers 1.1 with a Nack, and 1.3 again with nothing
+-- 2 of 3 that promised 1.3 answers a Prepare and an Accept of 1.1 with a Nack, and a Prepare of 1.3 again with nothing
 abbrev pub LowerIsNacked : Type 0
 LowerIsNacked =
-    (run_of 7 3 2 (gets 3 (ballot 1 3) Prepare 2 ∷ gets 1 (ballot 1 1) Prepare 2 ∷ gets 3 (ballot 1 3) Prepare 2 ∷ [])).shown
+    (tape : Tape)
+    → (run_of 7 3 2 (gets 3 (ballot 1 3) Prepare 2 ∷ gets 1 (ballot 1 1) Prepare 2 ∷ gets 1 (ballot 1 1) (Accept tape) 2 ∷ gets 3 (ballot 1 3) Prepare 2 ∷ [])).shown
     ≡ shows (Note_promised (ballot 1 3)) (sends 2 (ballot 1 3) (Promise None) 3 ∷ [])
+    ∷ shows (Note_nacked (ballot 1 3)) (sends 2 (ballot 1 1) (Nack (ballot 1 3)) 1 ∷ [])
     ∷ shows (Note_nacked (ballot 1 3)) (sends 2 (ballot 1 1) (Nack (ballot 1 3)) 1 ∷ [])
     ∷ shows Note_silent [] ∷ []
 

@@ -4,10 +4,11 @@ use Rattle.std.specs.Prelude.{◌≡◌, ℕ, ◌<◌, ◌≤◌, ◌⊎◌, Lis
 use Rattle.protocol.specs.Ballots.{Ballot, IsBelow, IsNoneOrBelow, IsNoneOrAtMost, IsMember, next, Majority}
 use Rattle.protocol.specs.Rows.{Tape, Vote, vote_for, Row, raised, voted}
 use Rattle.protocol.specs.Packets.{Packet, Body, Prepare, Promise, Accept, Accepted, Nack}
+use Rattle.protocol.specs.Acceptor.{Prepares, Accepts, Reply, Promises, Nacks, Says_nothing, Votes, Votes_again, reply_of, next_row}
 use Rattle.protocol.specs.Marks.{Mark, Began, Promised, Proposed, Denied, Heard, Closed, Released}
 use Rattle.protocol.specs.Proposals.{begun}
 use Rattle.protocol.specs.Readings.{IsReleased, IsOpen, Gathers, IsCounted, Picks, Ripe, GreatestDenied, IsDue}
-use Rattle.protocol.specs.Turn.{Event, Offered, Sought, Came_due, Arrived, Note_began, Note_proposed, Note_nothing, Note_gave_up, Note_promised, Note_voted_again, Note_voted, Note_counted, Note_heard, Note_denied, Note_nacked, Note_overtaken, Note_idle, Note_silent, Note_stale, Note_repeated, Note_settled, Turn, stays, packet_to, to_others, turn}
+use Rattle.protocol.specs.Turn.{Event, Offered, Sought, Came_due, Arrived, Note, Note_began, Note_proposed, Note_nothing, Note_gave_up, Note_promised, Note_voted_again, Note_voted, Note_counted, Note_heard, Note_denied, Note_nacked, Note_overtaken, Note_idle, Note_silent, Note_stale, Note_repeated, Note_settled, Turn, stays, packet_to, to_others, packet_turn, turn}
 
 -- the vote of a member for n is heard
 pub data Hears (c n j : ℕ) (b : Ballot) (t : Tape) (marks : List Mark) (release : Option Tape) (after : List Mark) : Type 0 where
@@ -170,3 +171,21 @@ abbrev pub TurnsAreOfTheTable : Type 0
 TurnsAreOfTheTable =
     (k c m : ℕ) (marks : List Mark) (row : Row) (e : Event) → IsMember c m
     → MatchOption (turn k c m marks row e) (IsSpent m row e) (λ t. IsTurn k c m marks row e t)
+
+-- the note on an acceptor's reply to a request at b
+abbrev pub note_on : Ballot → Reply → Note
+note_on b (Promises report) = Note_promised b
+note_on b (Nacks p) = Note_nacked p
+note_on b Says_nothing = Note_silent
+note_on b Votes = Note_voted b
+note_on b Votes_again = Note_voted_again b
+
+-- a station answers each Prepare and Accept as an acceptor with its row does, and leaves the row that the acceptor does
+abbrev pub TurnsAreAnAcceptors : Type 0
+TurnsAreAnAcceptors =
+    (k c m now : ℕ) (marks : List Mark) (row : Row) (p : Packet)
+    → ((packet_turn k c m now marks row p Prepare).row ≡ next_row row (Prepares p.ballot))
+    × ((packet_turn k c m now marks row p Prepare).note ≡ note_on p.ballot (reply_of row (Prepares p.ballot)))
+    × ((tape : Tape)
+    → ((packet_turn k c m now marks row p (Accept tape)).row ≡ next_row row (Accepts p.ballot tape))
+    × ((packet_turn k c m now marks row p (Accept tape)).note ≡ note_on p.ballot (reply_of row (Accepts p.ballot tape))))

@@ -122,7 +122,8 @@ due_turn k c m n now marks row (Some p) =
 abbrev pub answer : ℕ → ℕ → List Mark → Row → Packet → Body → Note → Turn
 answer k m marks row p body note = record { row = row; marks = marks; out = packet_to k m p.number p.ballot body p.from ∷ []; release = None; note = note }
 
--- Lamport, phase 1 (b): a Prepare, at a row with this promise, is promised above it, silent at it, a Nack below it
+-- Lamport, phase 1 (b): a Prepare is promised where the row has no promise or a lower one, and isn't answered where it has an equal one;
+-- a higher one goes back in a Nack
 abbrev pub prepare_turn : ℕ → ℕ → List Mark → Row → Packet → Option Ballot → Turn
 prepare_turn k m marks row p None = answer k m marks (raised row p.ballot) p (Promise row.vote) (Note_promised p.ballot)
 prepare_turn k m marks row p (Some a) =
@@ -135,7 +136,7 @@ abbrev pub vote_turn : ℕ → ℕ → ℕ → List Mark → Row → Packet → 
 vote_turn k c m marks row p tape note =
     after_hearing row (to_others k c m p.number p.ballot (Accepted tape)) note (hear c p.number m p.ballot tape marks)
 
--- Lamport, phase 2 (b): an Accept that isn't below the promise, at a row with this vote: a vote at its ballot stands, else its tape is voted for
+-- Lamport, phase 2 (b): an Accept that isn't below the promise is voted for; a vote that the row has at its ballot stands
 abbrev pub take_vote : ℕ → ℕ → ℕ → List Mark → Row → Packet → Tape → Option Vote → Turn
 take_vote k c m marks row p tape None = vote_turn k c m marks (voted p.ballot tape) p tape (Note_voted p.ballot)
 take_vote k c m marks row p tape (Some v) =

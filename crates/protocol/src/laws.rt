@@ -6,11 +6,16 @@ ghost use Rattle.protocol.specs.Agreement.{BallotsHaveOneTape, ChosenIsOne, Hear
 ghost use Rattle.protocol.specs.Readings.{NextDueIsLeast};
 ghost use Rattle.protocol.specs.Rehearsals.{NumbersAreRefused, OneMemberReleases, PacketsAreRefused, SavedVoteIsReleased, ThreeMembersRelease};
 ghost use Rattle.protocol.specs.Runs.{BallotsStandApart, BeginsAbovePromise, FallsDueAbove, FirstAcceptStands, FirstOfTwoReleases, GivesUp, GreaterReportIsTaken, LastRoundIsSpent, LowerIsNacked, OneFindsNothing, OneReleases, PassedIsOvertaken, ReleasedIsSettled, RepeatedVoteCountsOnce, SecondOfTwoReleases, ThirdTakesOver};
-ghost use Rattle.protocol.specs.Table.{TurnsAreOfTheTable};
+ghost use Rattle.protocol.specs.Table.{TurnsAreAnAcceptors, TurnsAreOfTheTable};
 
 /// An acceptor that keeps one row answers as the whole list of its requests says.
 pub fn acceptor_steps()
     ensures { StepsAreOfTheWhole }
+{}
+
+/// A station answers each Prepare and Accept as an acceptor with its row does.
+pub fn turns_are_an_acceptors()
+    ensures { TurnsAreAnAcceptors }
 {}
 
 /// What is due next is the least number that is due.
