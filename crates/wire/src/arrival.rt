@@ -1,0 +1,30 @@
+//! What a station asks of the network.
+
+ghost use Rattle.std.specs.Prelude.{◌≤◌, length};
+ghost use Rattle.wire.specs.Arrival.{Fits};
+
+use ballots::Member;
+
+/// What came within the time limit of a receive.
+#[derive(Clone, Copy, Debug, PartialEq, Eq)]
+pub enum Arrival {
+    /// Nothing came.
+    Nothing,
+    /// A datagram of so many bytes, at the front of the buffer.
+    Datagram { length: usize },
+    /// The network failed, otherwise than by the time limit.
+    Failed,
+}
+
+/// A network of datagrams, with a clock.
+pub trait Wire {
+    /// Takes one datagram at most, within the time limit.
+    fn receive(&mut self, buffer: &mut [u8]) -> Arrival
+        ensures { Fits result (length buffer.new) };
+
+    /// Sends a datagram to a member, and answers whether the network took it. It may be lost all the same.
+    fn send(&mut self, to: Member, bytes: &[u8]) -> bool;
+
+    /// The moment, in milliseconds since the start.
+    fn now(&mut self) -> u64;
+}

@@ -1,0 +1,87 @@
+//! Datagrams over UDP.
+
+use crate::address::Address;
+use crate::arrival::{Arrival, Wire};
+use ballots::Member;
+use std::io;
+use std::io::ErrorKind;
+use std::net::{IpAddr, Ipv4Addr, Net, SocketAddr, UdpSocket};
+use std::rt::Clock;
+use std::time::{Duration, Instant};
+
+/// How long a receive waits at most, in milliseconds.
+const LIMIT: u64 = 50;
+
+/// A UDP socket, the addresses of all members in their order, and the clock.
+#[derive(Drop)]
+pub struct UdpWire<'a, C: Clock> {
+    socket: UdpSocket,
+    stations: Vec<Address>,
+    clock: &'a C,
+    start: Instant,
+    // The last moment that the clock gave.
+    moment: u64,
+}
+
+/// The socket address of a station.
+fn socket_address(address: &Address) -> SocketAddr {
+    let [a, b, c, d] = address.ip;
+    SocketAddr::new(IpAddr::V4(Ipv4Addr::new(a, b, c, d)), address.port)
+}
+
+impl<'a, C: Clock> UdpWire<'a, C> {
+    /// A socket at the own address, that sends to these stations, in order of members from 1. The clock starts now.
+    pub fn bind<R: Net>(
+        net: &R,
+        clock: &'a C,
+        own: &Address,
+        stations: Vec<Address>,
+    ) -> io::Result<UdpWire<'a, C>> {
+        let socket = UdpSocket::bind(net, socket_address(own))?;
+        socket.set_read_timeout(Some(Duration::from_millis(LIMIT)))?;
+        let start = Instant::now(clock)?;
+        Ok(UdpWire {
+            socket,
+            stations,
+            clock,
+            start,
+            moment: 0,
+        })
+    }
+
+    /// The port that the socket has.
+    pub fn port(&self) -> io::Result<u16> {
+        Ok(self.socket.local_addr()?.port())
+    }
+}
+
+impl<'a, C: Clock> Wire for UdpWire<'a, C> {
+    fn receive(&mut self, buffer: &mut [u8]) -> Arrival {
+        match self.socket.recv_from(buffer) {
+            Ok((length, _)) => Arrival::Datagram { length },
+            Err(error) => match error.kind() {
+                ErrorKind::WouldBlock | ErrorKind::TimedOut | ErrorKind::Interrupted =>
+                    Arrival::Nothing,
+                _ => Arrival::Failed,
+            },
+        }
+    }
+
+    fn send(&mut self, to: Member, bytes: &[u8]) -> bool {
+        let place = usize::from(to.get()) - 1;
+        match self.stations.get(place) {
+            Some(address) => match self.socket.send_to(bytes, socket_address(address)) {
+                Ok(count) => count == bytes.len(),
+                Err(_) => false,
+            },
+            None => false,
+        }
+    }
+
+    fn now(&mut self) -> u64 {
+        if let Ok(elapsed) = self.start.elapsed(self.clock) {
+            self.moment = u64::try_from(elapsed.as_millis()).unwrap_or(u64::MAX);
+        }
+        self.moment
+    }
+}
