@@ -76,7 +76,8 @@ impl Ballot {
     pub fn is_below(self, other: Ballot) -> bool
         ensures { result ≡ is_below self other }
     {
-        self.round < other.round || (self.round == other.round && self.owner.get() < other.owner.get())
+        self.round < other.round
+            || (self.round == other.round && self.owner.get() < other.owner.get())
     }
 
     /// Whether the two are one ballot.
