@@ -104,12 +104,25 @@ ThirdTakesOver =
     ∷ sends 3 (ballot 1 3) (Accepted tape) 1 ∷ sends 3 (ballot 1 3) (Accepted tape) 2 ∷ [])
     ∷ record { note = Note_heard (ballot 1 3); out = []; release = Some tape } ∷ []
 
--- 3 of 5 takes the greater of two reports
+-- 3 of 5 takes the greater of two reports, whichever came first
 abbrev pub GreaterReportIsTaken : Type 0
 GreaterReportIsTaken =
     (own x y : Tape)
-    → (run_of 7 5 3 (Offered 12 own 0 ∷ gets 1 (ballot 1 3) (Promise (Some (vote_for (ballot 1 1) x))) 3 ∷ gets 2 (ballot 1 3) (Promise (Some (vote_for (ballot 1 2) y))) 3 ∷ [])).row.vote
-    ≡ Some (vote_for (ballot 1 3) y)
+    → ((run_of 7 5 3 (Offered 12 own 0 ∷ gets 1 (ballot 1 3) (Promise (Some (vote_for (ballot 1 1) x))) 3 ∷ gets 2 (ballot 1 3) (Promise (Some (vote_for (ballot 1 2) y))) 3 ∷ [])).row.vote
+        ≡ Some (vote_for (ballot 1 3) y))
+    × ((run_of 7 5 3 (Offered 12 own 0 ∷ gets 2 (ballot 1 3) (Promise (Some (vote_for (ballot 1 2) y))) 3 ∷ gets 1 (ballot 1 3) (Promise (Some (vote_for (ballot 1 1) x))) 3 ∷ [])).row.vote
+        ≡ Some (vote_for (ballot 1 3) y))
+
+-- of reports at one ballot 3 of 5 takes that of the least member, and of votes heard at one ballot its tape
+abbrev pub LeastMemberDecides : Type 0
+LeastMemberDecides =
+    (own x y : Tape)
+    → ((run_of 7 5 3 (Offered 12 own 0 ∷ gets 1 (ballot 1 3) (Promise (Some (vote_for (ballot 1 1) x))) 3 ∷ gets 2 (ballot 1 3) (Promise (Some (vote_for (ballot 1 1) y))) 3 ∷ [])).row.vote
+        ≡ Some (vote_for (ballot 1 3) x))
+    × ((run_of 7 5 3 (Offered 12 own 0 ∷ gets 2 (ballot 1 3) (Promise (Some (vote_for (ballot 1 1) y))) 3 ∷ gets 1 (ballot 1 3) (Promise (Some (vote_for (ballot 1 1) x))) 3 ∷ [])).row.vote
+        ≡ Some (vote_for (ballot 1 3) x))
+    × (releases_of (run_of 7 3 3 (gets 2 (ballot 1 1) (Accepted y) 3 ∷ gets 1 (ballot 1 1) (Accepted x) 3 ∷ [])) ≡ None ∷ Some x ∷ [])
+    × (releases_of (run_of 7 3 3 (gets 1 (ballot 1 1) (Accepted x) 3 ∷ gets 2 (ballot 1 1) (Accepted y) 3 ∷ [])) ≡ None ∷ Some x ∷ [])
 
 -- 1 of 3 that promised 1.3 while it gathered at 1.1 counts no promise at 1.1, and gathers on
 abbrev pub PassedIsOvertaken : Type 0

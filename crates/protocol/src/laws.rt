@@ -5,7 +5,7 @@ ghost use Rattle.protocol.specs.Acceptor.{StepsAreOfTheWhole};
 ghost use Rattle.protocol.specs.Agreement.{BallotsHaveOneTape, ChosenIsOne, HeardIsVoted, HistoriesAgree, PromisesBind, ReportsAreGreatest, RipeIsChosen, VotesAreBacked, VotesAreOffered};
 ghost use Rattle.protocol.specs.Readings.{NextDueIsLeast};
 ghost use Rattle.protocol.specs.Rehearsals.{NumbersAreRefused, OneMemberReleases, PacketsAreRefused, SavedVoteIsReleased, ThreeMembersRelease};
-ghost use Rattle.protocol.specs.Runs.{BallotsStandApart, BeginsAbovePromise, FallsDueAbove, FirstAcceptStands, FirstOfTwoReleases, GivesUp, GreaterReportIsTaken, LastRoundIsSpent, LowerIsNacked, OneFindsNothing, OneReleases, PassedIsOvertaken, ReleasedIsSettled, RepeatedVoteCountsOnce, SecondOfTwoReleases, ThirdTakesOver};
+ghost use Rattle.protocol.specs.Runs.{BallotsStandApart, BeginsAbovePromise, FallsDueAbove, FirstAcceptStands, FirstOfTwoReleases, GivesUp, GreaterReportIsTaken, LastRoundIsSpent, LeastMemberDecides, LowerIsNacked, OneFindsNothing, OneReleases, PassedIsOvertaken, ReleasedIsSettled, RepeatedVoteCountsOnce, SecondOfTwoReleases, ThirdTakesOver};
 ghost use Rattle.protocol.specs.Table.{TurnsAreAnAcceptors, TurnsAreOfTheTable};
 
 /// An acceptor that keeps one row answers as the whole list of its requests says.
@@ -79,6 +79,7 @@ pub fn turns_of_one_and_two()
 pub fn turns_of_more()
     ensures third { ThirdTakesOver }
     ensures greater { GreaterReportIsTaken }
+    ensures least { LeastMemberDecides }
     ensures overtaken { PassedIsOvertaken }
     ensures nacked { LowerIsNacked }
     ensures due { FallsDueAbove }
