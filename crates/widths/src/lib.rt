@@ -2,7 +2,14 @@
 #![tactic(auto)]
 
 mod entry;
+mod fault;
+mod matrix;
+mod measures;
 mod widths;
 
 pub use entry::MatrixWidth;
+pub use fault::{WidthFault, WidthKey};
 pub use widths::Widths;
+
+#[cfg(test)]
+mod tests;

@@ -1,10 +1,19 @@
 //! The measures and widths of a file.
 
-ghost use Rattle.std.specs.Prelude.{◌≡◌, IfSome};
+ghost use Rattle.std.specs.Prelude.{◌≡◌, ◌⊎◌, Some, None, Ok, Err, IfSome, IfOk, IfErr};
+ghost use Rattle.toml.specs.Parse.{parse_document};
+ghost use Rattle.toml.specs.View.{table_view};
+ghost use Rattle.widths.specs.Reading.{read_file, read_widths};
+ghost use Rattle.widths.specs.declared.fault.WidthFault.TheVariants.{NotToml, OutOfMemory};
 ghost use Rattle.widths.specs.Widths.{width_of, IsWidth, IsWidthFile};
 
 use crate::entry::{MatrixWidth, width_among};
+use crate::fault::WidthFault;
+use crate::matrix::read_matrix;
+use crate::measures::{matrix_in, measures_in};
+use std::alloc::Global;
 use std::marker::Model;
+use toml::Table;
 
 /// The measure of a slug and the widths of what stands in it, in whole units.
 /// Clauses see the record of its keys, its matrices in byte order of their names.
@@ -29,7 +38,60 @@ impl Model for Widths {
     ghost invariant = { λ w. IsWidthFile (record { measure = w.measure; band_min = w.band_min; band_max = w.band_max; thin = w.thin; en = w.en; em = w.em; matrix = w.matrix.items }) };
 }
 
+/// The document of a text.
+fn document_of(alloc: Global, text: &str) -> Result<Table, WidthFault>
+    ensures ok { IfOk result (λ document. parse_document text.now ≡ Some (table_view document)) }
+    ensures err { IfErr result (λ fault. (fault ≡ OutOfMemory) ⊎ ((fault ≡ NotToml) × (parse_document text.now ≡ None))) }
+{
+    toml::table_from_str(alloc, text).map_err(|error| {
+        if error.is_memory() {
+            WidthFault::OutOfMemory
+        } else {
+            WidthFault::NotToml
+        }
+    })
+}
+
+/// The measures and widths of a document.
+#[tactic(auto, unfolding(crate::specs::Reading::read_file))]
+fn read_file(alloc: Global, file: &Table) -> Result<Widths, WidthFault>
+    ensures ok { IfOk result (λ widths. read_file (table_view file.now) ≡ Ok widths) }
+    ensures err { IfErr result (λ fault. (fault ≡ OutOfMemory) ⊎ (read_file (table_view file.now) ≡ Err fault)) }
+{
+    let measures = measures_in(file)?;
+    let table = matrix_in(file)?;
+    if measures.band_min > measures.band_max {
+        return Err(WidthFault::BandsCrossed);
+    }
+    let matrix = read_matrix(alloc, table)?;
+    Ok(Widths {
+        measure: measures.measure,
+        band_min: measures.band_min,
+        band_max: measures.band_max,
+        thin: measures.thin,
+        en: measures.en,
+        em: measures.em,
+        matrix,
+    })
+}
+
 impl Widths {
+    /// The measures and widths of a TOML text: whole numbers at `measure`, `band_min`, `band_max`, `thin`, `en` and `em`,
+    /// and a table `matrix` from names to widths.
+    ///
+    /// The first fault that holds is answered: `NotToml`; `Missing`, `WrongType` or `OutOfRange` of each key in the order
+    /// of [`WidthKey`](crate::WidthKey); `BandsCrossed`; and then for the entries of `matrix` in byte order of their names
+    /// `BadName`, `WrongType` or `OutOfRange`. `OutOfMemory` comes where the text could not be read or the widths not be
+    /// kept for want of memory.
+    #[tactic(auto, unfolding(crate::specs::Reading::read_widths))]
+    pub fn read(alloc: Global, text: &str) -> Result<Widths, WidthFault>
+        ensures ok { IfOk result (λ widths. read_widths (parse_document text.now) ≡ Ok widths) }
+        ensures err { IfErr result (λ fault. (fault ≡ OutOfMemory) ⊎ (read_widths (parse_document text.now) ≡ Err fault)) }
+    {
+        let file = document_of(alloc, text)?;
+        read_file(alloc, &file)
+    }
+
     /// The width of the matrix with this name, 1 to 999 units; `None` where the file has none of that name.
     #[tactic(auto, unfolding(crate::specs::Widths::width_of))]
     pub fn of(&self, name: &str) -> Option<u16>
