@@ -1,0 +1,4 @@
+pub mod Spread
+pub mod Uniqueness
+pub mod Written
+pub mod FirstFault

@@ -1,0 +1,5 @@
+pub mod Slugs
+pub mod Sets
+pub mod Galley
+pub mod Spreading
+pub mod Laws

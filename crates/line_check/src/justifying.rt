@@ -1,0 +1,192 @@
+//! Lines made into slugs.
+
+ghost use Rattle.std.specs.Prelude.{◌≡◌, ◌≤◌, ◌<◌, ◌+◌, ◌*◌, ◌-◌, length, Some, None, IfOk, IfErr, map};
+ghost use Rattle.line_check.specs.declared.fault.LineFault.TheVariants.{OutOfMemory};
+ghost use Rattle.line_check.specs.Slugs.{fixed_width, is_band, fixed_of, bands_of, least_width, greatest_width, kind_of, item_of_piece, misfit, looseness, StandsAt, IsSlug, Justifies, Quads};
+ghost use Rattle.line_check.specs.Spreading.{pieces_of, IsMisfit};
+
+use crate::fault::LineFault;
+use crate::piece::{Piece, Pieces};
+use crate::slug::{Kind, Slug};
+use slug_reader::{Item, Line, Quad};
+use std::alloc::{AllocError, Global};
+use widths::Widths;
+
+/// The width that an item has before its line is cast.
+fn fixed_width(item: &Item) -> u32
+    ensures value { result ≡ fixed_width item.now }
+    ensures range { result ≤ 65535 }
+{
+    match item {
+        Item::Matrix { width, .. } | Item::Space { width } => u32::from(*width),
+        Item::Band => 0,
+    }
+}
+
+/// The width of the matrices and fixed spaces.
+fn fixed_of(items: &[Item]) -> u32
+    requires { length items.now ≤ 4096 }
+    ensures value { result ≡ fixed_of items.now }
+    ensures range { result ≤ 65535 * 4096 }
+{
+    let mut total = 0;
+    for item in items {
+        total += fixed_width(item);
+    }
+    total
+}
+
+/// How many spacebands there are.
+fn bands_of(items: &[Item]) -> u32
+    requires { length items.now ≤ 4096 }
+    ensures value { result ≡ bands_of items.now }
+    ensures range { result ≤ 4096 }
+{
+    items
+        .iter()
+        .filter(|item| matches!(item, Item::Band))
+        .count() as u32
+}
+
+/// The pieces of a line whose bands have this width, the first `wider` of them a unit more.
+fn pieces_of(alloc: Global, items: &[Item], width: u16, wider: u32) -> Result<Pieces, AllocError>
+    requires { width < 65535 }
+    ensures { IfOk result (λ pieces. pieces ≡ pieces_of width wider items.now) }
+{
+    let mut pieces = Vec::new(alloc);
+    let mut wider = wider;
+    for item in items {
+        let piece = match item {
+            Item::Matrix { name, rail, width } => Piece::Matrix {
+                name: name.copy(),
+                rail: *rail,
+                width: *width,
+            },
+            Item::Band => {
+                let more = wider.min(1);
+                wider -= more;
+                Piece::Band {
+                    width: width + more as u16,
+                }
+            }
+            Item::Space { width } => Piece::Space { width: *width },
+        };
+        pieces.push(piece)?;
+    }
+    Ok(Pieces::new(pieces))
+}
+
+/// So much shared out over the bands: the width of each, and how many of the first take a unit more.
+fn share(rest: u32, bands: u32) -> (u16, u32)
+    requires fits { rest ≤ bands * 999 }
+    requires bands { bands ≤ 4096 }
+    ensures whole { bands * result.0 + result.1 ≡ rest }
+    ensures less { 0 < bands → result.1 < bands }
+    ensures small { result.0 ≤ 999 }
+{
+    if bands == 0 {
+        return (0, 0);
+    }
+    ((rest / bands) as u16, rest % bands)
+}
+
+/// A line without a quad, whose least width the measure has room for.
+fn justified(
+    alloc: Global,
+    items: &[Item],
+    widths: &Widths,
+    fixed: u32,
+    bands: u32,
+) -> Result<Slug, LineFault>
+    requires fixed { (fixed ≡ fixed_of items.now) × (fixed ≤ 65535 * 4096) }
+    requires bands { (bands ≡ bands_of items.now) × (bands ≤ 4096) }
+    requires fits { least_width widths.now items.now ≤ widths.now.measure }
+    ensures slug { IfOk result (λ slug. (looseness widths.now items.now None ≡ None) × (map item_of_piece slug.items ≡ items.now) × Justifies widths.now (fixed_of items.now) slug) }
+    ensures fault { IfErr result (λ e. IsMisfit (looseness widths.now items.now None) e) }
+{
+    let measure = u32::from(widths.measure());
+    let greatest = fixed + bands * u32::from(widths.band_max());
+    if greatest < measure {
+        return Err(LineFault::Loose {
+            under: measure - greatest,
+        });
+    }
+    let (width, wider) = share(measure - fixed, bands);
+    let items = pieces_of(alloc, items, width, wider)?;
+    Ok(Slug {
+        items,
+        kind: Kind::J,
+        left: 0,
+        right: 0,
+    })
+}
+
+/// The blank on the left and on the right.
+fn sides(quad: Quad, blank: u16) -> (u16, u16)
+    ensures whole { result.0 + result.1 ≡ blank }
+    ensures stands { StandsAt quad result.0 result.1 }
+{
+    match quad {
+        Quad::Left => (0, blank),
+        Quad::Center => (blank / 2, blank - blank / 2),
+        Quad::Right => (blank, 0),
+    }
+}
+
+/// A line with a quad, beside which so much blank is left.
+fn quadded(
+    alloc: Global,
+    items: &[Item],
+    widths: &Widths,
+    quad: Quad,
+    blank: u16,
+) -> Result<Slug, LineFault>
+    requires { blank + least_width widths.now items.now ≡ widths.now.measure }
+    ensures slug { IfOk result (λ slug. (map item_of_piece slug.items ≡ items.now) × Quads widths.now (fixed_of items.now) quad slug) }
+    ensures memory { IfErr result (λ e. e ≡ OutOfMemory) }
+{
+    let (left, right) = sides(quad, blank);
+    let items = pieces_of(alloc, items, widths.band_min(), 0)?;
+    Ok(Slug {
+        items,
+        kind: kind_of(quad),
+        left,
+        right,
+    })
+}
+
+/// The kind of a slug with this quad.
+fn kind_of(quad: Quad) -> Kind
+    ensures { result ≡ kind_of quad }
+{
+    match quad {
+        Quad::Left => Kind::L,
+        Quad::Center => Kind::C,
+        Quad::Right => Kind::R,
+    }
+}
+
+/// The slug of a line.
+///
+/// `Overset` comes where the line has more than the measure though its bands are at their least, else `Loose` where
+/// it has no quad and less than the measure though its bands are at their greatest. A line that fits has a slug, and
+/// `OutOfMemory` comes where that could not be kept.
+pub fn check(alloc: Global, line: &Line, widths: &Widths) -> Result<Slug, LineFault>
+    ensures slug { IfOk result (λ slug. (misfit widths.now line.now ≡ None) × IsSlug widths.now line.now slug) }
+    ensures fault { IfErr result (λ e. IsMisfit (misfit widths.now line.now) e) }
+{
+    let items = line.items.as_slice();
+    let fixed = fixed_of(items);
+    let bands = bands_of(items);
+    let measure = u32::from(widths.measure());
+    let least = fixed + bands * u32::from(widths.band_min());
+    if least > measure {
+        return Err(LineFault::Overset {
+            over: least - measure,
+        });
+    }
+    match line.quad {
+        None => justified(alloc, items, widths, fixed, bands),
+        Some(quad) => quadded(alloc, items, widths, quad, (measure - least) as u16),
+    }
+}

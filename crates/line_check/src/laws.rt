@@ -1,0 +1,23 @@
+//! Laws over the definitions. The functions do nothing: their contracts are the laws.
+
+ghost use Rattle.line_check.specs.Laws.{OneSlug, AddsUp, HasNoSlug, OneSetting};
+
+/// A line has at most one slug.
+pub fn one_slug()
+    ensures { OneSlug }
+{}
+
+/// The left, the items and the right of a slug add up to the measure.
+pub fn adds_up()
+    ensures { AddsUp }
+{}
+
+/// A line that is overset or loose has no slug.
+pub fn no_slug()
+    ensures { HasNoSlug }
+{}
+
+/// A tape gives one list of slugs, or one fault.
+pub fn one_setting()
+    ensures { OneSetting }
+{}

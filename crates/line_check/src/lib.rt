@@ -1,0 +1,19 @@
+//! Slugs: the lines of a tape, each filled to the measure, and their galley.
+#![tactic(auto)]
+
+mod fault;
+mod galleys;
+mod justifying;
+pub mod laws;
+mod piece;
+mod setting;
+mod slug;
+mod writing;
+
+pub use fault::{Cause, LineFault, SetError, SetFault};
+pub use galleys::galley;
+pub use justifying::check;
+pub use piece::{Piece, Pieces};
+pub use setting::set;
+pub use slug::{Kind, Slug};
+pub use streams::CannotWrite as WriteFault;
