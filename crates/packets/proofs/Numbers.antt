@@ -2,11 +2,7 @@
 use Rattle.std.proofs.Common.{◌≡◌, ℕ, zero, suc, ◌<◌, List, [], ◌∷◌, get_or, refl, sym, arith, lit<}
 use Rattle.std.specs.Int.{w16, w32, from_be_bytes, to_be_bytes}
 use Rattle.std.proofs.lemmas.Nat.{be_bytes_2, be_bytes_4}
-use Rattle.packets.specs.Grammar.{SpellsTwo, SpellsFour}
-
--- each byte is one
-abbrev pub IsBytes : List ℕ → Type 0
-IsBytes bytes = (i : ℕ) → get_or bytes i 0 < 256
+use Rattle.packets.specs.Grammar.{IsBytes, SpellsTwo, SpellsFour}
 
 two_fit : (b1 b0 : ℕ) → b1 < 256 → b0 < 256 → IsBytes (b1 ∷ b0 ∷ [])
 two_fit b1 b0 h1 h0 zero = h1

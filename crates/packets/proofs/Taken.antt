@@ -14,9 +14,9 @@ use Rattle.packets.specs.declared.body.Kind.TheVariants as kinds
 use Rattle.packets.specs.declared.header.Header.{Header}
 use Rattle.packets.specs.Rules.{kind_of, may_send, may_say, keeps_rules}
 use Rattle.packets.specs.Spelling.{kind_byte}
-use Rattle.packets.specs.Grammar.{SpellsTwo, SpellsFour, SpellsBallot, SpellsTape, SpellsBody, Spells, number_of_kind}
+use Rattle.packets.specs.Grammar.{IsBytes, SpellsTwo, SpellsFour, SpellsBallot, SpellsTape, SpellsBody, Spells, number_of_kind}
 use Rattle.packets.specs.Reading.{◌>>=◌, ends, wanted, u16_at, u32_at, kind_of_byte, frames_at, whole_tape_at, ballot_at, vote_at, promise_at, nack_at, body_at, kind_at, members_at, member_at, number_at, header_at, packet_at}
-use Rattle.packets.proofs.Numbers.{IsBytes, two_read, four_read}
+use Rattle.packets.proofs.Numbers.{two_read, four_read}
 use Rattle.packets.proofs.Tapes.{is_tape}
 
 IsBytes-drop : (n : ℕ) (bytes : List ℕ) → IsBytes bytes → IsBytes (drop n bytes)

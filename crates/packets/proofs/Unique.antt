@@ -1,14 +1,16 @@
 -- The laws of the grammar, and what a reader's answer says in its words.
-use Rattle.std.proofs.Common.{◌≡◌, List, ℕ, [], ◌∷◌, ◌++◌, Result, Ok, Err, sym, ap, ◌∙◌}
-use Rattle.std.specs.Prelude.{IfOk, OnErr}
+use Rattle.std.proofs.Common.{◌≡◌, List, ℕ, [], ◌∷◌, ◌++◌, Result, Ok, Err, sym, ap, subst, ◌∙◌}
+use Rattle.std.specs.Prelude.{IfOk, OnOk, OnErr}
+use Rattle.std.specs.declared.alloc.AllocError.{AllocError}
+use Rattle.std.specs.Global.{Vec}
 use Rattle.std.proofs.lemmas.List.{append-nil}
 use Rattle.protocol.specs.Packets.{Packet}
 use Rattle.packets.specs.declared.fault.PacketFault.{PacketFault}
-use Rattle.packets.specs.Grammar.{Spells}
+use Rattle.packets.specs.Spelling.{spelling}
+use Rattle.packets.specs.Grammar.{IsBytes, Spells, IsPacket}
 use Rattle.packets.specs.Reading.{ends, packet_at}
-use Rattle.packets.proofs.Written.{packet_are, packet_is}
+use Rattle.packets.proofs.Written.{packet_are, packet_is, packet_written}
 use Rattle.packets.proofs.Again.{packet_again}
-use Rattle.packets.proofs.Numbers.{IsBytes}
 use Rattle.packets.proofs.Taken.{ok_is, packet_takes}
 
 -- what spells a packet is read as it, and bytes behind it are too many
@@ -39,3 +41,7 @@ is_nothing bytes (Err f) e = λ p s. not_both f p (e ∙ is_read bytes p s)
   where
     not_both : (f : PacketFault) (p : Packet) → Err f ≡ Ok p → ⊥
     not_both f p h = absurd cc
+
+pub is_again : (p : Packet) (r : Result (Vec ℕ) AllocError) → IfOk r (λ v. v.items ≡ spelling p) → OnOk r (IsPacket p) → IfOk r (λ v. packet_at v.items ≡ Ok p)
+is_again p (Ok v) e is = is_read v.items p (subst (λ (x : List ℕ). Spells x p) (sym e) (packet_written p is))
+is_again p (Err x) e is = tt

@@ -1,11 +1,15 @@
 -- The grammar of packets, version 1: which bytes spell which packet. Every number is big-endian.
 -- It says what each field is, and neither how a packet is read nor how it is written.
-use Rattle.std.specs.Prelude.{◌≡◌, ℕ, ◌+◌, ◌*◌, ◌<◌, ◌≤◌, List, [], ◌∷◌, ◌++◌, length, Some, None, IsTrue}
+use Rattle.std.specs.Prelude.{◌≡◌, ℕ, ◌+◌, ◌*◌, ◌<◌, ◌≤◌, List, [], ◌∷◌, ◌++◌, length, slice_index, Some, None, IsTrue}
 use Rattle.tape_frames.specs.Frames.{IsTape}
 use Rattle.protocol.specs.Ballots.{Ballot, IsBallot, IsMember}
 use Rattle.protocol.specs.Rows.{Tape, Vote}
 use Rattle.protocol.specs.Packets.{Packet, Body, Prepare, Promise, Accept, Accepted, Nack}
 use Rattle.packets.specs.Rules.{keeps_rules}
+
+-- each of the list is a byte
+abbrev pub IsBytes : List ℕ → Type 0
+IsBytes bytes = (i : ℕ) → slice_index bytes i < 256
 
 -- two bytes that are the number
 abbrev pub SpellsTwo : List ℕ → ℕ → Type 0

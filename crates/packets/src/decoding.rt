@@ -161,7 +161,7 @@ pub fn decode(bytes: &[u8]) -> Result<PacketRef<'_>, PacketFault>
     ensures only { (p : PacketValue) → Spells bytes.now p → result ≡ Ok p }
     // A fault comes only where they spell nothing.
     ensures nothing { OnErr result ((p : PacketValue) → Spells bytes.now p → ⊥) }
-    // It is the first in the order in which a packet is read.
+    // It is the first that is met where a packet is read from its front.
     ensures exact { result ≡ packet_at bytes.now }
 {
     packet_of(bytes)

@@ -1,11 +1,12 @@
 //! Writing a packet as bytes.
 
-ghost use Rattle.std.specs.Prelude.{◌≡◌, ◌++◌, ◌≤◌, List, ℕ, length, IfOk, OnOk};
+ghost use Rattle.std.specs.Prelude.{◌≡◌, ◌++◌, ◌≤◌, List, ℕ, length, IfOk, OnOk, Ok};
 ghost use Rattle.tape_frames.specs.Frames.{IsTape};
 ghost use Rattle.protocol.specs.Ballots.{IsBallot};
 ghost use Rattle.protocol.specs.Packets.{Promise};
 ghost use Rattle.packets.specs.Bodies.{said};
 ghost use Rattle.packets.specs.Grammar.{Spells, IsBody, IsPacket};
+ghost use Rattle.packets.specs.Reading.{packet_at};
 ghost use Rattle.packets.specs.Spelling.{kind_byte, ballot_bytes, header_bytes, tape_bytes, report_bytes, body_bytes, spelling};
 
 use crate::body::{BodyRef, Kind};
@@ -140,6 +141,8 @@ pub fn encode(alloc: Global, packet: &PacketRef<'_>) -> Result<Vec<u8>, AllocErr
     ensures spelled { IfOk result (λ v. Spells v.items packet.now) }
     // No other bytes spell the packet.
     ensures only { IfOk result (λ v. (other : List ℕ) → Spells other packet.now → other ≡ v.items) }
+    // They are read again as the packet.
+    ensures again { IfOk result (λ v. packet_at v.items ≡ Ok packet.now) }
     ensures exact { IfOk result (λ v. v.items ≡ spelling packet.now) }
 {
     written(alloc, packet)

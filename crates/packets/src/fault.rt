@@ -18,9 +18,10 @@ pub enum PacketFault {
     BadNumber,
     /// The round is 0, or the owner is no member.
     BadBallot,
-    /// A request's ballot is not its sender's, or the ballot of an answer to it not its addressee's.
+    /// The ballot of a Prepare or an Accept is not its sender's, or that of a Promise or a Nack not its addressee's.
     BadSender,
-    /// The flag of a report is above 1, or the ballot behind it is none or on the wrong side of the packet's.
+    /// The flag of a report is above 1. Or what stands for a reported ballot, or for the promise of a Nack,
+    /// is no ballot, or the one is not below the packet's ballot, or the other not above it.
     BadReport,
     /// The length of a tape is not 1 to 4,096, or a frame is above 63.
     BadFrames,
