@@ -124,6 +124,14 @@ LeastMemberDecides =
     × (releases_of (run_of 7 3 3 (gets 2 (ballot 1 1) (Accepted y) 3 ∷ gets 1 (ballot 1 1) (Accepted x) 3 ∷ [])) ≡ None ∷ Some x ∷ [])
     × (releases_of (run_of 7 3 3 (gets 1 (ballot 1 1) (Accepted x) 3 ∷ gets 2 (ballot 1 1) (Accepted y) 3 ∷ [])) ≡ None ∷ Some x ∷ [])
 
+-- 2 of 3 that voted at 1.1 reports that vote as it promises 1.3
+abbrev pub VoteIsReported : Type 0
+VoteIsReported =
+    (tape : Tape)
+    → (run_of 7 3 2 (gets 1 (ballot 1 1) (Accept tape) 2 ∷ gets 3 (ballot 1 3) Prepare 2 ∷ [])).shown
+    ≡ shows (Note_voted (ballot 1 1)) (sends 2 (ballot 1 1) (Accepted tape) 1 ∷ sends 2 (ballot 1 1) (Accepted tape) 3 ∷ [])
+    ∷ shows (Note_promised (ballot 1 3)) (sends 2 (ballot 1 3) (Promise (Some (vote_for (ballot 1 1) tape))) 3 ∷ []) ∷ []
+
 -- 1 of 3 that promised 1.3 while it gathered at 1.1 counts no promise at 1.1, and gathers on
 abbrev pub PassedIsOvertaken : Type 0
 PassedIsOvertaken =

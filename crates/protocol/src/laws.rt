@@ -5,7 +5,7 @@ ghost use Rattle.protocol.specs.Acceptor.{StepsAreOfTheWhole};
 ghost use Rattle.protocol.specs.Agreement.{BallotsHaveOneTape, ChosenIsOne, HeardIsVoted, HistoriesAgree, PromisesBind, ReportsAreGreatest, RipeIsChosen, VotesAreBacked, VotesAreOffered};
 ghost use Rattle.protocol.specs.Readings.{NextDueIsLeast};
 ghost use Rattle.protocol.specs.Rehearsals.{NumbersAreRefused, OneMemberReleases, PacketsAreRefused, SavedVoteIsReleased, ThreeMembersRelease};
-ghost use Rattle.protocol.specs.Runs.{BallotsStandApart, BeginsAbovePromise, FallsDueAbove, FirstAcceptStands, FirstOfTwoReleases, GivesUp, GreaterReportIsTaken, LastRoundIsSpent, LeastMemberDecides, LowerIsNacked, OneFindsNothing, OneReleases, PassedIsOvertaken, ReleasedIsSettled, RepeatedVoteCountsOnce, SecondOfTwoReleases, ThirdTakesOver};
+ghost use Rattle.protocol.specs.Runs.{BallotsStandApart, BeginsAbovePromise, FallsDueAbove, FirstAcceptStands, FirstOfTwoReleases, GivesUp, GreaterReportIsTaken, LastRoundIsSpent, LeastMemberDecides, LowerIsNacked, OneFindsNothing, OneReleases, PassedIsOvertaken, ReleasedIsSettled, RepeatedVoteCountsOnce, SecondOfTwoReleases, ThirdTakesOver, VoteIsReported};
 ghost use Rattle.protocol.specs.Table.{TurnsAreAnAcceptors, TurnsAreOfTheTable};
 
 /// An acceptor that keeps one row answers as the whole list of its requests says.
@@ -77,6 +77,7 @@ pub fn turns_of_one_and_two()
 
 /// Worked examples of turns, of three and of five members.
 pub fn turns_of_more()
+    ensures reported { VoteIsReported }
     ensures third { ThirdTakesOver }
     ensures greater { GreaterReportIsTaken }
     ensures least { LeastMemberDecides }
