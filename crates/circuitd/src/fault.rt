@@ -4,9 +4,14 @@ ghost use Rattle.std.specs.Prelude.{◌≡◌};
 ghost use Rattle.circuitd.specs.declared.end.End.TheVariants.{Done};
 
 use crate::end::End;
+use crate::words::{CauseText, KeyText};
+use code_table::TableFault;
+use line_check::SetFault;
 use std::io::Write;
 use streams::InputFault;
+use tape_frames::TapeFault;
 use thiserror::Error;
+use widths::{WidthFault, WidthKey};
 
 /// Why a command did not end well. Its text is one line.
 #[derive(Debug, Drop, Error)]
@@ -19,6 +24,24 @@ pub enum Fault<'a> {
     InputTooLong,
     #[error("out of memory")]
     OutOfMemory,
+    #[error("table: {0}")]
+    Table(&'static str),
+    #[error("table entry {entry}: {what}")]
+    TableEntry { entry: usize, what: &'static str },
+    #[error("widths: {0}")]
+    Widths(&'static str),
+    #[error("widths: {what} {}", KeyText(*.key))]
+    WidthsKey { what: &'static str, key: WidthKey },
+    #[error("widths: bad name {0}")]
+    WidthsName(usize),
+    #[error("tape: empty")]
+    TapeEmpty,
+    #[error("tape: too long {0}")]
+    TapeTooLong(usize),
+    #[error("tape: bad frame at {0}")]
+    TapeBadFrame(usize),
+    #[error("fault: {}", CauseText(*.0))]
+    Unset(SetFault),
 }
 
 impl<'a> Fault<'a> {
@@ -31,13 +54,52 @@ impl<'a> Fault<'a> {
         }
     }
 
+    /// Why a text is no code table.
+    pub fn of_table(fault: TableFault) -> Fault<'a> {
+        let (entry, what) = match fault {
+            TableFault::NotToml => return Fault::Table("not toml"),
+            TableFault::MissingCodes => return Fault::Table("no codes"),
+            TableFault::OutOfMemory => return Fault::OutOfMemory,
+            TableFault::WrongType { entry } => (entry, "wrong type"),
+            TableFault::BadFrame { entry } => (entry, "bad frame"),
+            TableFault::DuplicateFrame { entry } => (entry, "duplicate frame"),
+            TableFault::BadMeaning { entry } => (entry, "bad meaning"),
+            TableFault::CaseCodeDiffers { entry } => (entry, "case code differs"),
+        };
+        Fault::TableEntry { entry, what }
+    }
+
+    /// Why a text is no width file.
+    pub fn of_widths(fault: WidthFault) -> Fault<'a> {
+        let (what, key) = match fault {
+            WidthFault::NotToml => return Fault::Widths("not toml"),
+            WidthFault::BandsCrossed => return Fault::Widths("bands crossed"),
+            WidthFault::BadName { place } => return Fault::WidthsName(place),
+            WidthFault::OutOfMemory => return Fault::OutOfMemory,
+            WidthFault::Missing { key } => ("missing", key),
+            WidthFault::WrongType { key } => ("wrong type", key),
+            WidthFault::OutOfRange { key } => ("out of range", key),
+        };
+        Fault::WidthsKey { what, key }
+    }
+
+    /// Why bytes are no tape.
+    pub fn of_tape(fault: TapeFault) -> Fault<'a> {
+        match fault {
+            TapeFault::Empty => Fault::TapeEmpty,
+            TapeFault::TooLong { len } => Fault::TapeTooLong(len),
+            TapeFault::BadFrame { at } => Fault::TapeBadFrame(at),
+            TapeFault::OutOfMemory => Fault::OutOfMemory,
+        }
+    }
+
     /// How a command ends by this fault.
     pub fn end(&self) -> End
         ensures { ¬ (result ≡ Done) }
     {
         match self {
-            Fault::CannotRead(_) | Fault::CannotWrite | Fault::InputTooLong => End::Input,
             Fault::OutOfMemory => End::Memory,
+            _ => End::Input,
         }
     }
 

@@ -3,21 +3,26 @@
 
 mod answering;
 mod arguments;
+mod checking;
 mod end;
 mod fault;
 mod line;
+mod opened;
 mod refusal;
 mod script;
+mod sources;
+mod words;
 
 use arguments::{Asked, parse};
 use ballots::Member;
 use end::End;
 use fault::Fault;
+use opened::Opened;
 use std::env;
 use std::io::{BufWriter, ErrorKind};
 use std::process::ExitCode;
 
-fn words(rt: &HostRuntime) -> Result<Vec<String>, End> {
+fn command_words(rt: &HostRuntime) -> Result<Vec<String>, End> {
     let args = match env::args(rt) {
         Ok(args) => args,
         Err(e) if e.kind() == ErrorKind::OutOfMemory => {
@@ -40,14 +45,35 @@ fn run_answer(rt: &HostRuntime, circuit: u16, me: Member) -> End {
     answering::answer(rt.alloc(), circuit, me, &mut input, &mut out, &mut err)
 }
 
-fn run_command(rt: &HostRuntime, asked: &Asked) -> End {
+fn run_check(rt: &HostRuntime, paths: &checking::Paths<'_>, listing: bool) -> End {
+    let Ok(mut out) = BufWriter::new(rt.alloc(), rt.stdout()) else {
+        return Fault::OutOfMemory.tell(&mut rt.stderr());
+    };
+    let mut table = Opened::at(rt, paths.table);
+    let mut widths = Opened::at(rt, paths.widths);
+    let mut tape = Opened::at(rt, paths.tape);
+    let mut err = rt.stderr();
+    checking::check(
+        rt.alloc(),
+        paths,
+        &mut table,
+        &mut widths,
+        &mut tape,
+        listing,
+        &mut out,
+        &mut err,
+    )
+}
+
+fn run_command(rt: &HostRuntime, asked: &Asked<'_>) -> End {
     match asked {
         Asked::Answer { circuit, me } => run_answer(rt, *circuit, *me),
+        Asked::Check { paths, listing } => run_check(rt, paths, *listing),
     }
 }
 
 fn run(rt: &HostRuntime) -> End {
-    let words = match words(rt) {
+    let words = match command_words(rt) {
         Ok(words) => words,
         Err(end) => return end,
     };

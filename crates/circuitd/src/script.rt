@@ -12,29 +12,13 @@ pub enum Order {
     Members(u8),
     /// The moment from here on, in milliseconds.
     At(u64),
-    Offer {
-        member: u8,
-        number: u32,
-        tape: Tape,
-    },
-    Seek {
-        member: u8,
-        number: u32,
-    },
-    Due {
-        member: u8,
-    },
+    Offer { member: u8, number: u32, tape: Tape },
+    Seek { member: u8, number: u32 },
+    Due { member: u8 },
     /// The k-th datagram ever sent, from 1, goes to its addressee.
-    Deliver {
-        k: u32,
-    },
-    Restart {
-        member: u8,
-    },
-    Balk {
-        member: u8,
-        saved: bool,
-    },
+    Deliver { k: u32 },
+    Restart { member: u8 },
+    Balk { member: u8, saved: bool },
 }
 
 /// Why a line asks for nothing.

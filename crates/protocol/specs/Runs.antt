@@ -109,18 +109,18 @@ abbrev pub GreaterReportIsTaken : Type 0
 GreaterReportIsTaken =
     (own x y : Tape)
     → ((run_of 7 5 3 (Offered 12 own 0 ∷ gets 1 (ballot 1 3) (Promise (Some (vote_for (ballot 1 1) x))) 3 ∷ gets 2 (ballot 1 3) (Promise (Some (vote_for (ballot 1 2) y))) 3 ∷ [])).row.vote
-        ≡ Some (vote_for (ballot 1 3) y))
+    ≡ Some (vote_for (ballot 1 3) y))
     × ((run_of 7 5 3 (Offered 12 own 0 ∷ gets 2 (ballot 1 3) (Promise (Some (vote_for (ballot 1 2) y))) 3 ∷ gets 1 (ballot 1 3) (Promise (Some (vote_for (ballot 1 1) x))) 3 ∷ [])).row.vote
-        ≡ Some (vote_for (ballot 1 3) y))
+    ≡ Some (vote_for (ballot 1 3) y))
 
 -- of reports at one ballot 3 of 5 takes that of the least member, and of votes heard at one ballot its tape
 abbrev pub LeastMemberDecides : Type 0
 LeastMemberDecides =
     (own x y : Tape)
     → ((run_of 7 5 3 (Offered 12 own 0 ∷ gets 1 (ballot 1 3) (Promise (Some (vote_for (ballot 1 1) x))) 3 ∷ gets 2 (ballot 1 3) (Promise (Some (vote_for (ballot 1 1) y))) 3 ∷ [])).row.vote
-        ≡ Some (vote_for (ballot 1 3) x))
+    ≡ Some (vote_for (ballot 1 3) x))
     × ((run_of 7 5 3 (Offered 12 own 0 ∷ gets 2 (ballot 1 3) (Promise (Some (vote_for (ballot 1 1) y))) 3 ∷ gets 1 (ballot 1 3) (Promise (Some (vote_for (ballot 1 1) x))) 3 ∷ [])).row.vote
-        ≡ Some (vote_for (ballot 1 3) x))
+    ≡ Some (vote_for (ballot 1 3) x))
     × (releases_of (run_of 7 3 3 (gets 2 (ballot 1 1) (Accepted y) 3 ∷ gets 1 (ballot 1 1) (Accepted x) 3 ∷ [])) ≡ None ∷ Some x ∷ [])
     × (releases_of (run_of 7 3 3 (gets 1 (ballot 1 1) (Accepted x) 3 ∷ gets 2 (ballot 1 1) (Accepted y) 3 ∷ [])) ≡ None ∷ Some x ∷ [])
 

@@ -31,15 +31,30 @@ fn faulty_tapes(rt: HostRuntime) {
     for line in [b"offer 9 12 40", b"offer 9 12 0x", b"offer 9 12 0g"] {
         assert!(rt; matches!(order_of(rt.alloc(), line), Err(LineFault::BadTape)));
     }
-    assert!(rt; matches!(order_of(rt.alloc(), b"offer 9 12 010"), Err(LineFault::BadTape)));
-    assert!(rt; matches!(order_of(rt.alloc(), b"offer 300 12 40"), Err(LineFault::BadLine)));
+    assert!(rt;
+        matches!(
+            order_of(rt.alloc(), b"offer 9 12 010"),
+            Err(LineFault::BadTape)
+        )
+    );
+    assert!(rt;
+        matches!(
+            order_of(rt.alloc(), b"offer 300 12 40"),
+            Err(LineFault::BadLine)
+        )
+    );
 }
 
 #[test]
 fn good_lines(rt: HostRuntime) -> Result<(), Fail> {
     assert!(rt; matches!(order_of(rt.alloc(), b"members 15"), Ok(Order::Members(15))));
     assert!(rt; matches!(order_of(rt.alloc(), b"  at   007 "), Ok(Order::At(7))));
-    assert!(rt; matches!(order_of(rt.alloc(), b"deliver 12"), Ok(Order::Deliver { k: 12 })));
+    assert!(rt;
+        matches!(
+            order_of(rt.alloc(), b"deliver 12"),
+            Ok(Order::Deliver { k: 12 })
+        )
+    );
     assert!(rt;
         matches!(
             order_of(rt.alloc(), b"balk 2 unsaved"),
@@ -53,7 +68,7 @@ fn good_lines(rt: HostRuntime) -> Result<(), Fail> {
     match order {
         Order::Offer { number, tape, .. } => {
             assert_eq!(rt; number, 12);
-            assert_eq!(rt; tape.frames(), &[1, 2, 63]);
+            assert_eq!(rt; tape.frames(), [1, 2, 63].as_slice());
         }
         _ => return Err(Fail::from("an offer")),
     }

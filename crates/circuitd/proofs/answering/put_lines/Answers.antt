@@ -1,4 +1,4 @@
-use Rattle.std.proofs.Common.{refl, sym, ◌∙◌}
+use Rattle.std.proofs.Common.{sym, ◌∙◌}
 use Rattle.acceptor_store.specs.Memory.{saved}
 use Rattle.circuitd.proofs.Loop.{texts, standing_at, starts, skips, goes_on, stops, on_err}
 use Rattle.circuitd.proofs.answering.put_lines.Goals as goal
