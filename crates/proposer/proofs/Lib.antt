@@ -1,0 +1,5 @@
+pub mod Greatest
+pub mod Slots
+pub mod Counting
+pub mod Reading
+pub mod Standing

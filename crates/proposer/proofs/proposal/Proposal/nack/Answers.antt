@@ -1,0 +1,6 @@
+-- One Nack more.
+use Rattle.proposer.proofs.Standing.{opened, stands_denied}
+use Rattle.proposer.proofs.proposal.Proposal.nack.Goals as goal
+
+pub returns-clause-stands : goal.returns-clause-stands
+returns-clause-stands c = λ n marks h. stands_denied _ n marks c.args.promised c.greater-self-inside.result (opened c.self.view_is h) c.greater-self-inside.ensures

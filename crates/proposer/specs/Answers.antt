@@ -1,0 +1,53 @@
+-- What the answers of a proposal's calls say of the marks, and the marks after them.
+use Rattle.std.specs.Prelude.{◌≡◌, ℕ, List, ◌∷◌, Option, Some, None, Bool, true, false}
+use Rattle.protocol.specs.Ballots.{Ballot, is_majority}
+use Rattle.protocol.specs.Rows.{Tape, Vote, Row}
+use Rattle.protocol.specs.Marks.{Mark, Began, Promised}
+use Rattle.protocol.specs.Proposals.{Opening, gathering_at, since_began, counted, is_counted, is_due}
+use Rattle.protocol.specs.Turn.{next_ballot}
+use Rattle.proposer.specs.declared.answer.Counted.{Counted}
+use Rattle.proposer.specs.declared.answer.Counted.TheVariants as kinds
+use Rattle.proposer.specs.declared.answer.DueAnswer.{DueAnswer}
+use Rattle.proposer.specs.declared.answer.DueAnswer.TheVariants as answers
+
+-- a proposal of n gathers promises at b, and the member is not counted
+pub record IsNew (me n : ℕ) (b : Ballot) (from : ℕ) (marks : List Mark) : Type 0 where
+  pub opening : Opening
+  pub gathers : gathering_at n b marks ≡ Some opening
+  pub is_new : is_counted (counted me n opening (since_began n marks)) from ≡ false
+
+-- a proposal of n gathers promises at b, and the member is counted
+pub record IsRepeated (me n : ℕ) (b : Ballot) (from : ℕ) (marks : List Mark) : Type 0 where
+  pub opening : Opening
+  pub gathers : gathering_at n b marks ≡ Some opening
+  pub is_repeated : is_counted (counted me n opening (since_began n marks)) from ≡ true
+
+-- those counted are a majority of the c, once this promise is counted
+abbrev pub completes : ℕ → ℕ → ℕ → Ballot → ℕ → Option Vote → List Mark → Opening → Bool
+completes c me n b from report marks p = is_majority c (is_counted (counted me n p (Promised n from b report ∷ since_began n marks)))
+
+-- what became of the promise of a member for n at b, with this report
+abbrev pub IsCountedAs : Counted → ℕ → ℕ → ℕ → Ballot → ℕ → Option Vote → List Mark → Type 0
+IsCountedAs kinds.Stale c me n b from report marks = gathering_at n b marks ≡ None
+IsCountedAs kinds.Repeated c me n b from report marks = IsRepeated me n b from marks
+IsCountedAs kinds.More c me n b from report marks = (p : IsNew me n b from marks) × (completes c me n b from report marks p.opening ≡ false)
+IsCountedAs kinds.Quorum c me n b from report marks = (p : IsNew me n b from marks) × (completes c me n b from report marks p.opening ≡ true)
+
+-- the marks after it
+abbrev pub marks_after_promise : Counted → ℕ → ℕ → Ballot → Option Vote → List Mark → List Mark
+marks_after_promise kinds.Stale n from b report marks = marks
+marks_after_promise kinds.Repeated n from b report marks = marks
+marks_after_promise kinds.More n from b report marks = Promised n from b report ∷ marks
+marks_after_promise kinds.Quorum n from b report marks = Promised n from b report ∷ marks
+
+-- what an open proposal does at a moment, with this row saved
+abbrev pub IsDueAnswer : DueAnswer → ℕ → ℕ → ℕ → Opening → List Mark → Row → Type 0
+IsDueAnswer answers.Wait me n now p marks row = is_due me n now (since_began n marks) (Some p) ≡ false
+IsDueAnswer answers.GaveUp me n now p marks row = (is_due me n now (since_began n marks) (Some p) ≡ true) × (next_ballot me n marks row ≡ None)
+IsDueAnswer (answers.Began b) me n now p marks row = (is_due me n now (since_began n marks) (Some p) ≡ true) × (next_ballot me n marks row ≡ Some b)
+
+-- the marks after it
+abbrev pub marks_after_due : DueAnswer → ℕ → Option Tape → Option Vote → ℕ → List Mark → List Mark
+marks_after_due answers.Wait n own report now marks = marks
+marks_after_due answers.GaveUp n own report now marks = marks
+marks_after_due (answers.Began b) n own report now marks = Began n b own report now ∷ marks

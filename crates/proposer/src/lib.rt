@@ -1,0 +1,13 @@
+//! One number's proposal, from its first ballot until it is closed.
+#![tactic(auto)]
+
+mod answer;
+pub mod laws;
+mod promises;
+mod proposal;
+
+pub use answer::{BeginRefusal, Counted, DueAnswer};
+pub use proposal::Proposal;
+
+#[cfg(test)]
+mod tests;

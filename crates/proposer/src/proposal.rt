@@ -1,0 +1,259 @@
+//! A proposal, over a plain list of the promises that came.
+
+ghost use Rattle.std.specs.Prelude.{◌≡◌, ◌≤◌, ◌<◌, ◌+◌, ◌*◌, ◌-◌, ◌^◌, ℕ, List, ◌∷◌, Option, Some, None, Ok, Err, IfOk, OnErr, IsOk, MatchResult, MatchBool, min, false, nat_le, ◌&&◌, if◌then◌else◌};
+ghost use Rattle.protocol.specs.Ballots.{next, is_same};
+ghost use Rattle.protocol.specs.Rows.{Row};
+ghost use Rattle.protocol.specs.Marks.{Mark, Began, Proposed, Denied};
+ghost use Rattle.protocol.specs.Proposals.{Opening, was_released, open_proposal, open_ballot, proposal_at, gathering_at, since_began, counted, pick, due_moment};
+ghost use Rattle.protocol.specs.Turn.{greater_ballot, most_ballots};
+ghost use Rattle.proposer.specs.InHand.{StandsFor, IsOfTheSame};
+ghost use Rattle.proposer.specs.Answers.{IsNew, IsCountedAs, marks_after_promise, IsDueAnswer, marks_after_due};
+
+use crate::answer::{BeginRefusal, Counted, DueAnswer};
+use crate::promises::{Promise, greatest_vote, is_counted, is_quorum};
+use ballots::{Ballot, Member, Vote, VoteRef};
+use std::alloc::{AllocError, Global};
+use std::marker::Model;
+use tape_frames::{Tape, TapeRef};
+
+/// How many ballots a proposal begins at most.
+const MOST_BALLOTS: u8 = 32;
+
+/// The proposal of one member for one number.
+///
+/// Lamport, Paxos Made Simple: with the promises of a majority it proposes the tape of the highest vote that was
+/// reported, or its own where none was.
+#[derive(Debug, Drop)]
+pub struct Proposal {
+    alloc: Global,
+    members: u8,
+    ballot: Ballot,
+    own: Option<Tape>,
+    mine: Promise,
+    promises: Vec<Promise>,
+    gathers: bool,
+    denied: Option<Ballot>,
+    begun: u8,
+    moved: u64,
+}
+
+impl Model for Proposal {
+    ghost use Rattle.std.specs.Prelude.{◌≤◌, ◌∷◌};
+    ghost use Rattle.proposer.specs.InHand.{InHand, reports_of};
+
+    ghost Value = { InHand };
+
+    ghost view = { λ p. record { me = p.mine.member; members = p.members; ballot = p.ballot; own = p.own; reports = reports_of p.members (p.mine ∷ p.promises.items); gathers = p.gathers; denied = p.denied; begun = p.begun; moved = p.moved } };
+
+    ghost invariant = { λ p. p.members ≤ 15 };
+}
+
+/// The greater of two ballots that may be none.
+fn greater(a: Option<Ballot>, b: Option<Ballot>) -> Option<Ballot>
+    ensures { result ≡ greater_ballot a b }
+{
+    match (a, b) {
+        (None, b) => b,
+        (Some(a), None) => Some(a),
+        (Some(a), Some(b)) => Some(if a.is_below(b) { b } else { a }),
+    }
+}
+
+/// The vote with frames of its own, where there is one.
+fn copy_of(alloc: Global, vote: Option<VoteRef<'_>>) -> Result<Option<Vote>, AllocError>
+    ensures { IfOk result (λ copy. copy ≡ vote.entry) }
+{
+    match vote {
+        None => Ok(None),
+        Some(vote) => Ok(Some(vote.copy(alloc)?)),
+    }
+}
+
+/// The tape, lent, where there is one.
+fn lent(tape: &Option<Tape>) -> Option<TapeRef<'_>>
+    ensures { result ≡ tape.now }
+{
+    match tape {
+        None => None,
+        Some(tape) => Some(tape.lend()),
+    }
+}
+
+impl Proposal {
+    /// Begins the member's first ballot above the one that was seen. The own member counts as promised with `report`.
+    ///
+    /// `RoundsSpent` where there is no such ballot; the tapes are given up then. No memory is taken.
+    /// `now` is in milliseconds.
+    pub fn begin(
+        alloc: Global,
+        seen: Option<Ballot>,
+        me: Member,
+        members: u8,
+        own: Option<Tape>,
+        report: Option<Vote>,
+        now: u64,
+    ) -> Result<Proposal, BeginRefusal>
+        requires member { me ≤ members }
+        requires few { members ≤ 15 }
+        ensures ballot { MatchResult result (λ p. next seen me ≡ Some p.ballot) (λ e. (e ≡ BeginRefusal.RoundsSpent) × (next seen me ≡ None)) }
+        ensures stands { IfOk result (λ p. (n : ℕ) (marks : List Mark) → was_released n marks ≡ false → open_proposal n marks ≡ None → StandsFor p n (Began n p.ballot own report now ∷ marks)) }
+        ensures circuit { IfOk result (λ p. (p.me ≡ me) × (p.members ≡ members)) }
+    {
+        // The member's range is known once it is read.
+        let _range = me.get();
+        match Ballot::next(seen, me) {
+            None => Err(BeginRefusal::RoundsSpent),
+            Some(ballot) => Ok(Proposal {
+                alloc,
+                members,
+                ballot,
+                own,
+                mine: Promise::new(me, report),
+                promises: Vec::new(alloc),
+                gathers: true,
+                denied: None,
+                begun: 1,
+                moved: now,
+            }),
+        }
+    }
+
+    /// Its ballot.
+    pub fn ballot(&self) -> Ballot
+        ensures value { result ≡ self.now.ballot }
+        ensures open { (n : ℕ) (marks : List Mark) → StandsFor self.now n marks → open_ballot n marks ≡ Some result }
+    {
+        self.ballot
+    }
+
+    /// Whether it gathers promises at this ballot.
+    pub fn gathers_at(&self, ballot: Ballot) -> bool
+        ensures value { result ≡ self.now.gathers && is_same self.now.ballot ballot }
+        ensures marks { (n : ℕ) (marks : List Mark) → StandsFor self.now n marks → MatchBool result ((p : Opening) × (gathering_at n ballot marks ≡ Some p)) (gathering_at n ballot marks ≡ None) }
+    {
+        self.gathers && self.ballot.is_same(ballot)
+    }
+
+    /// Counts the promise of a member for a ballot, with the vote that it reported.
+    ///
+    /// `Err` comes only where the promise is to be counted; the proposal is as before then.
+    pub fn promise(
+        &mut self,
+        from: Member,
+        ballot: Ballot,
+        report: Option<VoteRef<'_>>,
+    ) -> Result<Counted, AllocError>
+        requires { from ≤ self.old.members }
+        ensures kind { IfOk result (λ kind. (n : ℕ) (marks : List Mark) → StandsFor self.old n marks → IsCountedAs kind self.old.members self.old.me n ballot from report.entry marks) }
+        ensures stands { IfOk result (λ kind. (n : ℕ) (marks : List Mark) → StandsFor self.old n marks → StandsFor self.new n (marks_after_promise kind n from ballot report.entry marks)) }
+        ensures circuit { IsOfTheSame self.old self.new }
+        ensures err { OnErr result (self.new ≡ self.old) }
+        ensures err_where_new { OnErr result ((n : ℕ) (marks : List Mark) → StandsFor self.old n marks → IsNew self.old.me n ballot from marks) }
+    {
+        if !self.gathers_at(ballot) {
+            return Ok(Counted::Stale);
+        }
+        if is_counted(&self.mine, &self.promises, from.get()) {
+            return Ok(Counted::Repeated);
+        }
+        let report = copy_of(self.alloc, report)?;
+        self.promises.push(Promise::new(from, report))?;
+        if !is_quorum(&self.mine, &self.promises, self.members) {
+            return Ok(Counted::More);
+        }
+        Ok(Counted::Quorum)
+    }
+
+    /// Keeps the promise by which an acceptor denied the ballot, where it is the greatest so far.
+    ///
+    /// `false` where the ballot is another: nothing is kept then.
+    pub fn nack(&mut self, ballot: Ballot, promised: Ballot) -> bool
+        ensures kept { (n : ℕ) (marks : List Mark) → StandsFor self.old n marks → MatchBool result ((p : Opening) × (proposal_at n ballot marks ≡ Some p)) (proposal_at n ballot marks ≡ None) }
+        ensures stands { (n : ℕ) (marks : List Mark) → StandsFor self.old n marks → StandsFor self.new n (if result then Denied n promised ∷ marks else marks) }
+        ensures circuit { IsOfTheSame self.old self.new }
+    {
+        if !self.ballot.is_same(ballot) {
+            return false;
+        }
+        self.denied = greater(self.denied, Some(promised));
+        true
+    }
+
+    /// The tape to propose: that of the greatest reported vote (of the least member where equal), else the own one, if any.
+    pub fn pick(&self) -> Option<TapeRef<'_>>
+        ensures { (n : ℕ) (marks : List Mark) (p : Opening) → StandsFor self.now n marks → open_proposal n marks ≡ Some p → result ≡ pick p.own (counted self.now.me n p (since_began n marks)) }
+    {
+        match greatest_vote(&self.mine, &self.promises, self.members) {
+            Some(vote) => Some(vote.tape()),
+            None => lent(&self.own),
+        }
+    }
+
+    /// It was proposed at this moment, in milliseconds: it gathers no more promises, and its due moment is set anew.
+    pub fn proposed(&mut self, now: u64)
+        ensures stands { (n : ℕ) (marks : List Mark) → StandsFor self.old n marks → StandsFor self.new n (Proposed n self.old.ballot now ∷ marks) }
+        ensures circuit { IsOfTheSame self.old self.new }
+    {
+        self.gathers = false;
+        self.moved = now;
+    }
+
+    /// The moment from which on it is due, in milliseconds: 250, and 40 for each of the member's number, after it
+    /// last began a ballot or was proposed; at most the last moment of all.
+    pub fn due_moment(&self) -> u64
+        ensures value { result ≡ min (self.now.moved + 250 + 40 * self.now.me) (2 ^ 64 - 1) }
+        ensures moment { (n : ℕ) (marks : List Mark) (p : Opening) → StandsFor self.now n marks → open_proposal n marks ≡ Some p → result ≡ due_moment self.now.me n p (since_began n marks) }
+    {
+        let member = u64::from(self.mine.member().get());
+        self.moved.saturating_add(250 + 40 * member)
+    }
+
+    /// The ballot after the saved promise and the greatest Nack; `None` after the most ballots, or where the rounds are spent.
+    fn next_ballot(&self, promised: Option<Ballot>) -> Option<Ballot>
+        ensures { result ≡ (if nat_le most_ballots self.now.begun then None else next (greater_ballot promised self.now.denied) self.now.me) }
+    {
+        if self.begun >= MOST_BALLOTS {
+            return None;
+        }
+        Ballot::next(greater(promised, self.denied), self.mine.member())
+    }
+
+    /// What it does at this moment, in milliseconds, where `promised` is the saved promise and `report` the saved vote.
+    ///
+    /// Where it begins anew, the own tape is kept, and the own member counts as promised with `report`.
+    /// No memory is taken, and `Err` never comes.
+    pub fn due(
+        &mut self,
+        promised: Option<Ballot>,
+        report: Option<Vote>,
+        now: u64,
+    ) -> Result<DueAnswer, AllocError>
+        ensures answer { IfOk result (λ answer. (n : ℕ) (marks : List Mark) (p : Opening) (row : Row) → StandsFor self.old n marks → open_proposal n marks ≡ Some p → row.promised ≡ promised → IsDueAnswer answer self.old.me n now p marks row) }
+        ensures stands { IfOk result (λ answer. (n : ℕ) (marks : List Mark) → StandsFor self.old n marks → StandsFor self.new n (marks_after_due answer n self.old.own report now marks)) }
+        ensures circuit { IsOfTheSame self.old self.new }
+        ensures no_memory { IsOk result }
+    {
+        if now < self.due_moment() {
+            return Ok(DueAnswer::Wait);
+        }
+        match self.next_ballot(promised) {
+            None => Ok(DueAnswer::GaveUp),
+            Some(ballot) => {
+                self.ballot = ballot;
+                self.mine = Promise::new(self.mine.member(), report);
+                self.promises.clear();
+                self.gathers = true;
+                self.begun += 1;
+                self.moved = now;
+                Ok(DueAnswer::Began { ballot })
+            }
+        }
+    }
+
+    /// The own tape, given up.
+    pub fn into_own(self) -> Option<Tape>
+        ensures { result ≡ self.own }
+    {
+        self.own
+    }
+}
