@@ -2,3 +2,4 @@ pub mod Spread
 pub mod Uniqueness
 pub mod Written
 pub mod FirstFault
+pub mod Existence

@@ -11,6 +11,7 @@ use Rattle.line_check.specs.declared.slug.Slug.{Slug}
 abbrev pub number_text : ℕ → List ℕ
 number_text n = replicate (4 - length (decimal n)) 48 ++ decimal n
 
+-- the letter of a kind
 abbrev pub kind_text : Kind → ℕ
 kind_text kinds.J = 74
 kind_text kinds.L = 76

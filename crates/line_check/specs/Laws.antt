@@ -1,5 +1,5 @@
 -- The laws of slugs.
-use Rattle.std.specs.Prelude.{◌≡◌, ℕ, ◌+◌, List, Some, Result, sum_by}
+use Rattle.std.specs.Prelude.{◌≡◌, ℕ, ◌+◌, List, Some, None, Result, sum_by}
 use Rattle.widths.specs.Widths.{WidthFile}
 use Rattle.slug_reader.specs.declared.line.Line.{Line}
 use Rattle.slug_reader.specs.Meanings.{Meanings}
@@ -20,6 +20,10 @@ AddsUp = (widths : WidthFile) (line : Line) (slug : Slug) → IsSlug widths line
 -- no slug meets the equations of a line that does not fit
 abbrev pub HasNoSlug : Type 0
 HasNoSlug = (widths : WidthFile) (line : Line) (cause : Cause) (slug : Slug) → misfit widths line ≡ Some cause → IsSlug widths line slug → ⊥
+
+-- a line that is neither overset nor loose has one
+abbrev pub HasSlug : Type 0
+HasSlug = (widths : WidthFile) (line : Line) → misfit widths line ≡ None → (slug : Slug) × IsSlug widths line slug
 
 -- a tape sets in one way
 abbrev pub OneSetting : Type 0

@@ -15,6 +15,7 @@ use Rattle.line_check.specs.declared.fault.SetError.{SetError}
 use Rattle.line_check.specs.declared.fault.SetError.TheVariants as errors
 use Rattle.line_check.specs.Slugs.{misfit, AreSlugs}
 
+-- what is wrong where a tape cannot be read
 abbrev pub cause_of : Flaw → Cause
 cause_of flaws.UnknownCode = causes.UnknownCode
 cause_of flaws.NoWidth = causes.NoWidth
@@ -33,6 +34,7 @@ cause_at means widths tape i = or_else (option_map cause_of (flaw_at means width
 abbrev pub fault_at : Meanings → List ℕ → ℕ → Cause → SetFault
 fault_at means tape i cause = record { at = i; line = line_number means tape i; cause = cause }
 
+-- the fault of a position, if it is faulty
 unfoldable pub set_fault_at : Meanings → WidthFile → List ℕ → ℕ → Option SetFault
 set_fault_at means widths tape i = option_map (fault_at means tape i) (cause_at means widths tape i)
 

@@ -21,6 +21,7 @@ fixed_width (items.Matrix name rail width) = width
 fixed_width items.Band = 0
 fixed_width (items.Space width) = width
 
+-- the item is a spaceband
 abbrev pub is_band : Item → Bool
 is_band (items.Matrix name rail width) = false
 is_band items.Band = true
@@ -40,11 +41,13 @@ item_of_piece (pieces.Matrix name rail width) = items.Matrix name rail width
 item_of_piece (pieces.Band width) = items.Band
 item_of_piece (pieces.Space width) = items.Space width
 
+-- the width of a piece
 abbrev pub piece_width : Piece → ℕ
 piece_width (pieces.Matrix name rail width) = width
 piece_width (pieces.Band width) = width
 piece_width (pieces.Space width) = width
 
+-- the width of a band; the other pieces are none
 abbrev pub band_width : Piece → Option ℕ
 band_width (pieces.Matrix name rail width) = None
 band_width (pieces.Band width) = Some width
@@ -68,6 +71,7 @@ pub record Justifies (widths : WidthFile) (fixed : ℕ) (slug : Slug) : Type 0 w
   pub range : AllByRecursion (λ w. (widths.band_min ≤ w) × (w ≤ widths.band_max)) (band_widths slug.items)
   pub even : IsEven (band_widths slug.items)
 
+-- the kind of a slug with this quad
 abbrev pub kind_of : Quad → Kind
 kind_of quads.Left = kinds.L
 kind_of quads.Center = kinds.C
@@ -86,6 +90,7 @@ pub record Quads (widths : WidthFile) (fixed : ℕ) (quad : Quad) (slug : Slug) 
   pub full : slug.left + fixed + sum (band_widths slug.items) + slug.right ≡ widths.measure
   pub sides : StandsAt quad slug.left slug.right
 
+-- the slug fills the measure, as its quad asks
 abbrev pub Fills : WidthFile → ℕ → Option Quad → Slug → Type 0
 Fills widths fixed None slug = Justifies widths fixed slug
 Fills widths fixed (Some quad) slug = Quads widths fixed quad slug

@@ -28,10 +28,12 @@ IsMisfit cause (faults.Overset over) = cause ≡ Some (causes.Overset over)
 IsMisfit cause (faults.Loose under) = cause ≡ Some (causes.Loose under)
 IsMisfit cause faults.OutOfMemory = cause ≡ None
 
+-- the first line that does not fit: where it is cut, and why
 abbrev pub misfit_among : WidthFile → List Line → Option (ℕ × Cause)
 misfit_among widths [] = None
 misfit_among widths (line ∷ lines) = or_else (option_map (λ cause. (line.elevate_at, cause)) (misfit widths line)) (misfit_among widths lines)
 
+-- what was answered is that line, or memory ran out
 abbrev pub IsFirstMisfit : Option (ℕ × Cause) → Unset → Type 0
 IsFirstMisfit found (unset.Misfit at cause) = found ≡ Some (at, cause)
 IsFirstMisfit found unset.OutOfMemory = Unit {0}

@@ -1,6 +1,6 @@
 //! Laws over the definitions. The functions do nothing: their contracts are the laws.
 
-ghost use Rattle.line_check.specs.Laws.{OneSlug, AddsUp, HasNoSlug, OneSetting};
+ghost use Rattle.line_check.specs.Laws.{OneSlug, AddsUp, HasNoSlug, HasSlug, OneSetting};
 
 /// A line has at most one slug.
 pub fn one_slug()
@@ -15,6 +15,11 @@ pub fn adds_up()
 /// A line that is overset or loose has no slug.
 pub fn no_slug()
     ensures { HasNoSlug }
+{}
+
+/// A line that is neither overset nor loose has a slug.
+pub fn has_slug()
+    ensures { HasSlug }
 {}
 
 /// A tape gives one list of slugs, or one fault.

@@ -21,6 +21,7 @@ pub record Keeps (means : Meanings) (widths : WidthFile) (frame : ℕ) (m : Opti
   pub items : new.items.items ≡ old.items.items ++ option_to_list (item_of widths old.rail m)
   pub quad : new.quad ≡ or_else (quad_of m) old.quad
 
+-- what a frame does: it is faulty, it is kept, or it cuts the line
 abbrev pub Takes : Meanings → WidthFile → ℕ → Assembler → Assembler → Taken → Type 0
 Takes means widths frame old new (Flawed flaw) = frame_flaw widths (means old.case frame) ≡ Some flaw
 Takes means widths frame old new Kept = Keeps means widths frame (means old.case frame) old new × (is_elevate (means old.case frame) ≡ false)

@@ -28,9 +28,11 @@ unfoldable pub flaw_at : Meanings → WidthFile → List ℕ → ℕ → Option 
 flaw_at means widths tape i =
     if i == length tape then end_flaw means widths tape else frame_flaw widths (meaning_at means tape i)
 
+-- what is wrong, with its position
 abbrev pub stop_of : ℕ → Flaw → Stop
 stop_of i flaw = record { at = i; flaw = flaw }
 
+-- the same with the position
 unfoldable pub stop_at : Meanings → WidthFile → List ℕ → ℕ → Option Stop
 stop_at means widths tape i = option_map (stop_of i) (flaw_at means widths tape i)
 
@@ -47,14 +49,17 @@ stop_place end (Some stop) = stop.at
 abbrev pub lines_read : Meanings → WidthFile → List ℕ → List Line
 lines_read means widths tape = lines_before means widths tape (stop_place (length tape) (first_stop means widths tape))
 
+-- what is wrong at a position, as the fault that reading answers
 abbrev pub fault_with : ℕ → Flaw → ReadFault
 fault_with at flaws.UnknownCode = faults.UnknownCode at
 fault_with at flaws.NoWidth = faults.NoWidth at
 fault_with at flaws.Unfinished = faults.Unfinished at
 
+-- the fault of a first faulty position
 abbrev pub fault_of : Stop → ReadFault
 fault_of stop = fault_with stop.at stop.flaw
 
+-- the lines, or the fault where there is one
 abbrev pub unless_stopped : Option Stop → List Line → Result (List Line) ReadFault
 unless_stopped None lines = Ok lines
 unless_stopped (Some stop) lines = Err (fault_of stop)

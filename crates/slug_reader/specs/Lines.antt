@@ -39,6 +39,7 @@ quad_before means tape i = last (λ j. quad_of (meaning_at means tape j)) (line_
 abbrev pub line_of : Meanings → WidthFile → List ℕ → ℕ → Line
 line_of means widths tape cut = record { items = items_before means widths tape cut; quad = quad_before means tape cut; elevate_at = cut }
 
+-- there is an item
 abbrev pub is_filled : List Item → Bool
 is_filled [] = false
 is_filled (item ∷ rest) = true

@@ -1,0 +1,64 @@
+-- A line that is neither overset nor loose has a slug.
+use Rattle.std.proofs.Common.{◌≡◌, ℕ, zero, suc, ◌+◌, ◌-◌, ◌*◌, ◌/◌, ◌%◌, ◌<◌, ◌≤◌, Bool, true, false, cond, ltb, List, map, Option, Some, None, refl, arith}
+use Rattle.std.proofs.lemmas.Bool.{ltb-false}
+use Rattle.widths.specs.Widths.{WidthFile}
+use Rattle.slug_reader.specs.declared.item.Item.{Item}
+use Rattle.slug_reader.specs.declared.line.Quad.{Quad}
+use Rattle.slug_reader.specs.declared.line.Quad.TheVariants as quads
+use Rattle.line_check.specs.declared.slug.Slug.{Slug}
+use Rattle.line_check.specs.declared.slug.Kind.TheVariants as kinds
+use Rattle.line_check.specs.Slugs.{fixed_of, bands_of, kind_of, StandsAt, Fills, IsSlug, least_width, greatest_width, looseness, misfit, item_of_piece}
+use Rattle.line_check.specs.Spreading.{pieces_of}
+use Rattle.line_check.specs.Laws.{HasSlug}
+use Rattle.line_check.proofs.Spread.{items_kept, justifies, quads_line}
+
+-- a test that chose nothing
+unchosen : {A : Type 0} (b : Bool) (x : A) (y : Option A) → cond b (Some x) y ≡ None → (b ≡ false) × (y ≡ None)
+unchosen true x y e = absurd cc
+unchosen false x y e = (refl, e)
+
+-- so much shared out over k bands
+record Share (k rest : ℕ) : Type 0 where
+  width : ℕ
+  wider : ℕ
+  whole : k * width + wider ≡ rest
+  less : 0 < k → wider < k
+
+shared : (k rest : ℕ) → Share k rest
+shared zero rest = record { width = 0; wider = rest; whole = omega arith; less = λ h. absurd (omega (arith, h)) }
+shared (suc k) rest = record { width = rest / suc k; wider = rest % suc k; whole = omega arith; less = λ h. omega arith }
+
+-- the blank on both sides
+record Sides (quad : Quad) (blank : ℕ) : Type 0 where
+  left : ℕ
+  right : ℕ
+  whole : left + right ≡ blank
+  stands : StandsAt quad left right
+
+sides : (quad : Quad) (blank : ℕ) → Sides quad blank
+sides quads.Left blank = record { left = 0; right = blank; whole = omega arith; stands = refl }
+sides quads.Center blank = record { left = blank / 2; right = blank - blank / 2; whole = omega arith; stands = (omega arith, omega arith) }
+sides quads.Right blank = record { left = blank; right = 0; whole = omega arith; stands = refl }
+
+filled : (widths : WidthFile) (line : List Item) (quad : Option Quad) → least_width widths line ≤ widths.measure → looseness widths line quad ≡ None
+    → (slug : Slug) × (map item_of_piece slug.items ≡ line) × Fills widths (fixed_of line) quad slug
+filled widths line None least e =
+    let close = ltb-false (greatest_width widths line) widths.measure (unchosen (ltb (greatest_width widths line) widths.measure) _ None e).0 in
+    let share = shared (bands_of line) (widths.measure - fixed_of line) in (
+      record { items = pieces_of share.width share.wider line; kind = kinds.J; left = 0; right = 0 },
+      items_kept share.width share.wider line,
+      justifies widths line share.width share.wider (widths.measure - fixed_of line) least close refl share.whole share.less,
+    )
+filled widths line (Some quad) least e =
+    let blank = sides quad (widths.measure - least_width widths line) in
+    let whole : blank.left + blank.right + least_width widths line ≡ widths.measure = omega (arith, blank.whole, least) in (
+      record { items = pieces_of widths.band_min 0 line; kind = kind_of quad; left = blank.left; right = blank.right },
+      items_kept widths.band_min 0 line,
+      quads_line widths line quad blank.left blank.right whole blank.stands,
+    )
+
+pub has_slug : HasSlug
+has_slug widths line e =
+    let fits = unchosen (ltb widths.measure (least_width widths line.items)) _ (looseness widths line.items line.quad) e in
+    let found = filled widths line.items line.quad (ltb-false widths.measure (least_width widths line.items) fits.0) fits.1 in
+    (found.0, record { items = found.1; fills = found.2 })
