@@ -1,0 +1,11 @@
+pub mod KeyLemmas
+pub mod TextLemmas
+pub mod QueryLemmas
+pub mod PutLemmas
+pub mod StateLemmas
+pub mod PutClauses
+pub mod GetLemmas
+pub mod AllLemmas
+pub mod RisingLemmas
+pub mod MakeLemmas
+pub mod StationLemmas

@@ -1,0 +1,7 @@
+use Rattle.std.proofs.Common.{◌≡◌, true, None, sym, ◌∙◌}
+use Rattle.row_table.specs.Rising.{rise_from}
+use Rattle.row_table.proofs.RisingLemmas.{listed}
+use Rattle.row_table.proofs.rising.are_rising.Goals as goal
+
+pub returns-clause-table : goal.returns-clause-table
+returns-clause-table c rises table listing = listed table c.args.rows.now (sym c.rise.ensures ∙ rises) listing

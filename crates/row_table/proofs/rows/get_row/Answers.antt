@@ -1,0 +1,30 @@
+use Rattle.std.proofs.Common.{◌≡◌, ℕ, List, [], ◌∷◌, Vec}
+use Rattle.std.specs.Prelude.{option_to_list}
+use Rattle.std.specs.declared.alloc.Global.{Global}
+use Rattle.sqlite_value.specs.Order.{Row}
+use Rattle.sqlite.specs.Held.{state}
+use Rattle.row_table.specs.Rows.{whole, columns_at}
+use Rattle.row_table.proofs.TextLemmas.{get_text, get_plain}
+use Rattle.row_table.proofs.GetLemmas.{gets}
+use Rattle.row_table.proofs.PutClauses.{IsSettled, query_serves, query_kept, query_open, query_answers, query_crash}
+use Rattle.row_table.proofs.rows.get_row.Goals as goal
+
+pub returns : goal.returns
+returns g c =
+    let old = state g.S.Store c.args.conn.now in
+    let new = state g.S.Store c.query_all.new.self in
+    let params : List _ = whole c.args.number ∷ [] in
+    let items = λ (v : Vec Row Global). v.items in
+    let ok = rw c.params-to_sql.ensures at c.query_all.ensures.ok in
+    let err = rw c.params-to_sql.ensures at c.query_all.ensures.err in
+    let survives = rw c.params-to_sql.ensures at c.query_all.ensures.survives in
+    let law_old : IsSettled old = λ db. g.met.S.Store.settled c.args.conn.now.store db in
+    record {
+      serves = λ serves. query_serves get_text params old new get_plain serves law_old survives items c.query_all.result ok err;
+      found = λ serves. query_answers get_text params old new get_plain serves law_old survives items c.query_all.result ok err _
+        (λ v rest h. gets old new c.args.number v.items rest.schema rest.rows h);
+      «open» = λ serves. query_open get_text params old new get_plain serves law_old survives items c.query_all.result ok err;
+      same = λ serves. query_kept get_text params old new get_plain serves law_old survives items c.query_all.result ok err;
+      crash = λ serves. query_crash get_text params old new get_plain serves law_old survives;
+      clean = survives.clean;
+    }

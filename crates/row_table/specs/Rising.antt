@@ -1,0 +1,53 @@
+-- Rows whose numbers rise.
+use Rattle.std.specs.Prelude.{◌≡◌, ◌==◌, option_map, find, ℕ, ℤ, pos, negsuc, Bool, true, false, ◌&&◌, nat_lt, List, [], ◌∷◌, Option, Some, None}
+use Rattle.std.specs.List.{AllByRecursion}
+use Rattle.sqlite_value.specs.declared.value.Value.{Value}
+use Rattle.sqlite_value.specs.declared.value.Value.TheVariants.{Null, Int, Real, Text, Blob}
+use Rattle.sqlite_value.specs.Order.{Row, column}
+use Rattle.row_table.specs.Rows.{whole, AreRows, columns_at}
+
+abbrev pub number_in : ℤ → Option ℕ
+number_in (pos n) = Some n
+number_in (negsuc n) = None
+
+abbrev pub key_of : Value → Option ℕ
+key_of Null = None
+key_of (Int z) = number_in z
+key_of (Real x) = None
+key_of (Text t) = None
+key_of (Blob b) = None
+
+abbrev pub is_above : Option ℕ → ℕ → Bool
+is_above None n = true
+is_above (Some last) n = nat_lt last n
+
+abbrev pub goes_on : Option ℕ → Option ℕ → (Option ℕ → Bool) → Bool
+goes_on last None rest = false
+goes_on last (Some n) rest = is_above last n && rest (Some n)
+
+-- each number is above the one before
+abbrev pub rise_from : Option ℕ → List Row → Bool
+rise_from last [] = true
+rise_from last (r ∷ rs) = goes_on last (key_of (column r 0)) (λ next. rise_from next rs)
+
+abbrev pub is_at : ℕ → Option ℕ → Bool
+is_at n None = false
+is_at n (Some k) = n == k
+
+-- the columns beside the number, of a row of a listing
+abbrev pub listed_columns : Row → Row
+listed_columns r = column r 1 ∷ column r 2 ∷ column r 3 ∷ column r 4 ∷ column r 5 ∷ []
+
+-- those of the row that has the number, if there is one
+abbrev pub listed_at : List Row → ℕ → Option Row
+listed_at rows n = option_map listed_columns (find (λ r. is_at n (key_of (column r 0))) rows)
+
+-- a row of a listing stands in the table, under its number
+abbrev pub IsInTable : List Row → Row → Type 0
+IsInTable table r = (n : ℕ) × (column r 0 ≡ whole n) × (columns_at table n ≡ Some (listed_columns r))
+
+-- the table has whole numbers as keys, each once, and at each of them what its listing has
+pub record AreListed (table listing : List Row) : Type 0 where
+  pub rows : AreRows table
+  pub found : (n : ℕ) → columns_at table n ≡ listed_at listing n
+  pub each : AllByRecursion (IsInTable table) listing

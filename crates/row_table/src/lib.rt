@@ -1,0 +1,12 @@
+//! The two tables of a row store, as SQL: the statements, and what each makes of the tables.
+#![tactic(auto)]
+
+mod rising;
+mod rows;
+mod station;
+mod tables;
+
+pub use rising::are_rising;
+pub use station::get_station;
+pub use tables::create_tables;
+pub use rows::{all_rows, get_row, put_row};

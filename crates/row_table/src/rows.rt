@@ -1,0 +1,80 @@
+//! The statements on the table of rows.
+
+ghost use Rattle.std.specs.Prelude.{◌≡◌, ◌⊎◌, ◌≤◌, OnOk, OnErr, IfOk, option_to_list, IsTrue, option_map, false};
+ghost use Rattle.sqlite_trees.specs.View.{doubt};
+ghost use Rattle.sqlite.specs.State.{HasCleanDisk, IsUnchanged};
+ghost use Rattle.sqlite.specs.Held.{state};
+ghost use Rattle.row_table.specs.Tables.{rows_tree, row_schema};
+ghost use Rattle.row_table.specs.Rows.{columns_of, columns_at, SavesIn, Serves, WasSaved, WasKept, IsListing, AreRows};
+
+use sqlite::{Alter, Connection, Error, Row, params};
+
+/// Saves one row: one statement.
+pub fn put_row<S: Alter>(
+    conn: &mut Connection<S>,
+    number: u32,
+    promised_round: u32,
+    promised_owner: u32,
+    vote_round: Option<u32>,
+    vote_owner: Option<u32>,
+    tape: Option<&[u8]>,
+) -> Result<usize, Error>
+    ensures serves { Serves (state S.Store conn.old) → Serves (state S.Store conn.new) }
+    ensures saved { Serves (state S.Store conn.old) → HasCleanDisk (state S.Store conn.new) → OnOk result (WasSaved number (columns_of promised_round promised_owner vote_round vote_owner (option_map (λ b. b.now) tape.entry)) (state S.Store conn.old) (state S.Store conn.new)) }
+    ensures err { Serves (state S.Store conn.old) → HasCleanDisk (state S.Store conn.new) → IsTrue (state S.Store conn.new).is_open → OnErr result (WasKept (state S.Store conn.old) (state S.Store conn.new)) }
+    ensures crash { Serves (state S.Store conn.old) → HasCleanDisk (state S.Store conn.new) → IsTrue (state S.Store conn.old).is_open
+        → (db : _) → (state S.Store conn.new).may_leave db → (db ≡ (state S.Store conn.old).now.trees)
+            ⊎ SavesIn number (columns_of promised_round promised_owner vote_round vote_owner (option_map (λ b. b.now) tape.entry)) (state S.Store conn.old).now.trees db }
+    ensures clean { doubt (state S.Store conn.old).is_clean ≤ doubt (state S.Store conn.new).is_clean }
+{
+    conn.execute(
+        "INSERT INTO acceptor_row VALUES (?1, ?2, ?3, ?4, ?5, ?6) ON CONFLICT (number) DO UPDATE SET promised_round = excluded.promised_round, promised_owner = excluded.promised_owner, vote_round = excluded.vote_round, vote_owner = excluded.vote_owner, tape = excluded.tape",
+        params![number, promised_round, promised_owner, vote_round, vote_owner, tape],
+    )
+}
+
+/// The columns that are saved under a number: at most one row.
+pub fn get_row<S: Alter>(conn: &mut Connection<S>, number: u32) -> Result<Vec<Row>, Error>
+    ensures serves { Serves (state S.Store conn.old) → Serves (state S.Store conn.new) }
+    ensures found { Serves (state S.Store conn.old) → HasCleanDisk (state S.Store conn.new) → IfOk result (λ rows. rows.items ≡ option_to_list (columns_at ((state S.Store conn.old).now.trees rows_tree) number)) }
+    ensures open { Serves (state S.Store conn.old) → HasCleanDisk (state S.Store conn.new) → OnOk result (IsTrue (state S.Store conn.new).is_open) }
+    ensures same { Serves (state S.Store conn.old) → HasCleanDisk (state S.Store conn.new) → IsTrue (state S.Store conn.new).is_open → WasKept (state S.Store conn.old) (state S.Store conn.new) }
+    ensures crash { Serves (state S.Store conn.old) → HasCleanDisk (state S.Store conn.new) → IsTrue (state S.Store conn.old).is_open
+        → (db : _) → (state S.Store conn.new).may_leave db → (state S.Store conn.old).may_leave db }
+    ensures clean { doubt (state S.Store conn.old).is_clean ≤ doubt (state S.Store conn.new).is_clean }
+{
+    conn.query_all(
+        "SELECT promised_round, promised_owner, vote_round, vote_owner, tape FROM acceptor_row WHERE number = ?1",
+        params![number],
+    )
+}
+
+/// All rows, by their numbers.
+pub fn all_rows<S: Alter>(conn: &mut Connection<S>) -> Result<Vec<Row>, Error>
+    ensures unchanged { HasCleanDisk (state S.Store conn.new) → (state S.Store conn.old).now.schema ≡ row_schema → OnOk result (IsUnchanged (state S.Store conn.old) (state S.Store conn.new)) }
+    ensures listed { HasCleanDisk (state S.Store conn.new) → (state S.Store conn.old).now.schema ≡ row_schema → IfOk result (λ rows. IsListing ((state S.Store conn.old).now.trees rows_tree) rows.items) }
+    ensures serves { Serves (state S.Store conn.old) → Serves (state S.Store conn.new) }
+    ensures open { Serves (state S.Store conn.old) → HasCleanDisk (state S.Store conn.new) → OnOk result (IsTrue (state S.Store conn.new).is_open) }
+    ensures at_rest { Serves (state S.Store conn.old) → HasCleanDisk (state S.Store conn.new) → OnOk result ((state S.Store conn.old).now.schema ≡ row_schema) }
+    ensures same { Serves (state S.Store conn.old) → HasCleanDisk (state S.Store conn.new) → IsTrue (state S.Store conn.new).is_open → WasKept (state S.Store conn.old) (state S.Store conn.new) }
+    ensures crash { Serves (state S.Store conn.old) → HasCleanDisk (state S.Store conn.new) → IsTrue (state S.Store conn.old).is_open
+        → (db : _) → (state S.Store conn.new).may_leave db → (state S.Store conn.old).may_leave db }
+
+    // On any table, outside a transaction, it changes nothing.
+    ensures rests { HasCleanDisk (state S.Store conn.new) → (state S.Store conn.old).now.schema ≡ row_schema
+        → (IsTrue (state S.Store conn.old).is_open → (state S.Store conn.old).now ≡ (state S.Store conn.old).committed) → IsTrue (state S.Store conn.new).is_open
+        → WasKept (state S.Store conn.old) (state S.Store conn.new) × ((state S.Store conn.new).now ≡ (state S.Store conn.new).committed) }
+    ensures alone { (state S.Store conn.old).in_transaction ≡ false → (state S.Store conn.new).in_transaction ≡ false }
+
+    // A connection on a table of rows serves.
+    ensures begins { (state S.Store conn.old).now.schema ≡ row_schema → (state S.Store conn.old).in_transaction ≡ false
+        → (IsTrue (state S.Store conn.old).is_open → (state S.Store conn.old).now ≡ (state S.Store conn.old).committed)
+        → AreRows ((state S.Store conn.old).now.trees rows_tree) → HasCleanDisk (state S.Store conn.new) → OnOk result (Serves (state S.Store conn.new)) }
+    ensures clean { doubt (state S.Store conn.old).is_clean ≤ doubt (state S.Store conn.new).is_clean }
+{
+    conn.query_all(
+        "SELECT number, promised_round, promised_owner, vote_round, vote_owner, tape FROM acceptor_row ORDER BY number",
+        &[],
+    )
+}
+
