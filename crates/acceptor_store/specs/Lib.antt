@@ -1,2 +1,5 @@
 pub mod Saved
 pub mod Memory
+pub mod Columns
+pub mod Identity
+pub mod Sqlite

@@ -1,5 +1,6 @@
 -- Saved rows: a map from numbers to rows, blank where none is saved, with a count of refusals.
-use Rattle.std.specs.Prelude.{◌≡◌, ◌⊎◌, ◌<◌, ◌≤◌, ◌-◌, ◌^◌, ◌==◌, ℕ, if◌then◌else◌, Option, Some, None, IsSome}
+use Rattle.std.specs.Prelude.{◌≡◌, ◌⊎◌, ◌<◌, ◌≤◌, ◌-◌, ◌^◌, ◌==◌, ℕ, if◌then◌else◌, List, [], ◌∷◌, Option, Some, None, IsSome}
+use Rattle.std.specs.List.{AllByRecursion}
 use Rattle.protocol.specs.Rows.{Row, blank}
 
 -- the row of each number
@@ -32,3 +33,19 @@ Rises old new = (old < new) ⊎ (2 ^ 64 - 1 ≤ old)
 
 abbrev pub HasPromise : Row → Type 0
 HasPromise row = IsSome row.promised
+
+-- the row under a number in a list of numbers and rows
+abbrev pub saved_by : List (ℕ × Row) → Saved
+saved_by [] n = blank
+saved_by (p ∷ ps) n = if n == p.0 then p.1 else saved_by ps n
+
+-- each number is above the one before
+abbrev pub RiseFrom : ℕ → List (ℕ × Row) → Type 0
+RiseFrom low [] = Unit {0}
+RiseFrom low (p ∷ ps) = (low < p.0) × RiseFrom p.0 ps
+
+-- the list is the map: its numbers rise, each stands for a row with a promise, and every other is blank
+pub record IsListOf (saved : Saved) (items : List (ℕ × Row)) : Type 0 where
+  pub rise : RiseFrom 0 items
+  pub promised : AllByRecursion (λ p. HasPromise p.1) items
+  pub same : SameRows saved (saved_by items)

@@ -3,6 +3,7 @@ ghost use Rattle.acceptor_store.specs.Saved.{HasPromise};
 
 use super::*;
 use ballots::{Ballot, Member, Number, Row, Vote};
+use sqlite::Connection;
 use std::alloc::Global;
 use std::test::Fail;
 use tape_frames::Tape;
@@ -120,5 +121,143 @@ fn in_memory(rt: HostRuntime) -> Result<(), Fail> {
     rows.save(twelve, row)?;
     assert!(rt; is_voted(rows.row(twelve).ok_or("a row")?));
     assert!(rt; rows.row(Number::new(4).ok_or("a number")?).is_none());
+    Ok(())
+}
+
+/// Member 2 of 3 of circuit 7.
+const STATION: Identity = Identity {
+    circuit: 7,
+    member: 2,
+    members: 3,
+};
+
+#[test]
+fn in_a_database(rt: HostRuntime) -> Result<(), Fail> {
+    let alloc = rt.alloc();
+    let conn = Connection::open_in_memory(alloc).ok().ok_or("a database")?;
+    let mut rows = SqliteRows::create(alloc, conn, STATION)
+        .ok()
+        .ok_or("created")?;
+    assert!(rt; saves_two(alloc, &mut rows)?);
+    let all = rows.all().ok().ok_or("rows")?;
+    assert_eq!(rt; all.len(), 2);
+    for (place, (number, row)) in all.iter().enumerate() {
+        if place == 0 {
+            assert_eq!(rt; number.get(), 3);
+            assert!(rt; row.promised() == ballot(1, 1));
+        } else {
+            assert_eq!(rt; number.get(), 12);
+            assert!(rt; is_voted(row));
+        }
+    }
+    assert!(rt; rows.identity() == STATION);
+
+    let conn = rows.into_connection();
+    let mut rows = SqliteRows::open(alloc, conn, Some(STATION))
+        .ok()
+        .ok_or("opened")?;
+    assert!(rt; is_voted_at(&mut rows, Number::new(12).ok_or("a number")?));
+
+    let other = Identity {
+        circuit: 7,
+        member: 1,
+        members: 3,
+    };
+    let conn = match SqliteRows::open(alloc, rows.into_connection(), Some(other)) {
+        Ok(_) => return Err("another station".into()),
+        Err((fault, conn)) => {
+            assert!(rt; fault == RowsFault::WrongStation);
+            conn
+        }
+    };
+    let conn = match SqliteRows::create(alloc, conn, STATION) {
+        Ok(_) => return Err("made again".into()),
+        Err((fault, conn)) => {
+            assert!(rt; fault == RowsFault::Store);
+            conn
+        }
+    };
+    let mut rows = SqliteRows::open(alloc, conn, None).ok().ok_or("opened")?;
+    assert!(rt; rows.identity() == STATION);
+    assert!(rt; is_voted_at(&mut rows, Number::new(12).ok_or("a number")?));
+    Ok(())
+}
+
+/// The fault of an open after this statement; none where it opens.
+fn fault_after(alloc: Global, change: &str) -> Result<Option<RowsFault>, Fail> {
+    let conn = Connection::open_in_memory(alloc).ok().ok_or("a database")?;
+    let rows = SqliteRows::create(alloc, conn, STATION)
+        .ok()
+        .ok_or("created")?;
+    let mut conn = rows.into_connection();
+    conn.execute(change, &[]).ok().ok_or("changed")?;
+    match SqliteRows::open(alloc, conn, Some(STATION)) {
+        Ok(_) => Ok(None),
+        Err((fault, _)) => Ok(Some(fault)),
+    }
+}
+
+#[test]
+fn faults_by_name(rt: HostRuntime) -> Result<(), Fail> {
+    let alloc = rt.alloc();
+    let twelve = RowsFault::Damaged { number: 12 };
+    for (change, fault) in [
+        // The vote is above its promise.
+        ("INSERT INTO acceptor_row VALUES (12, 1, 1, 2, 1, x'01')", twelve),
+        ("INSERT INTO acceptor_row VALUES (12, 1, 1, NULL, 1, NULL)", twelve),
+        ("INSERT INTO acceptor_row VALUES (12, 1, 16, NULL, NULL, NULL)", twelve),
+        ("INSERT INTO acceptor_row VALUES (12, 0, 1, NULL, NULL, NULL)", twelve),
+        ("INSERT INTO acceptor_row VALUES (12, 1, 1, 1, 1, x'40')", twelve),
+        ("INSERT INTO acceptor_row VALUES (12, 1, 1, 1, 1, x'')", twelve),
+        ("INSERT INTO acceptor_row VALUES (12, 0, 1, NULL, NULL, NULL), (13, 0, 1, NULL, NULL, NULL)", twelve),
+        ("INSERT INTO acceptor_row VALUES (12, 1, 1, NULL, NULL, NULL), (-4, 1, 1, NULL, NULL, NULL)", RowsFault::Damaged { number: -4 }),
+        ("INSERT INTO acceptor_row VALUES (1000000, 1, 1, NULL, NULL, NULL)", RowsFault::Damaged { number: 1_000_000 }),
+        ("UPDATE station SET layout = 9", RowsFault::WrongSchema),
+        ("UPDATE station SET member = 4", RowsFault::WrongSchema),
+        ("DELETE FROM station", RowsFault::WrongSchema),
+        ("UPDATE station SET circuit = 8", RowsFault::WrongStation),
+        ("DROP TABLE acceptor_row", RowsFault::Store),
+    ] {
+        assert!(rt; fault_after(alloc, change)? == Some(fault), "after {change}");
+    }
+    assert!(rt; fault_after(alloc, "INSERT INTO acceptor_row VALUES (999999, 1, 1, 1, 1, x'3f')")?.is_none());
+
+    let conn = Connection::open_in_memory(alloc).ok().ok_or("a database")?;
+    match SqliteRows::open(alloc, conn, None) {
+        Ok(_) => return Err("opened without tables".into()),
+        Err((fault, _)) => assert!(rt; fault == RowsFault::Store),
+    }
+    Ok(())
+}
+
+/// The database refuses the second save.
+#[test]
+fn a_refused_save_stops_it(rt: HostRuntime) -> Result<(), Fail> {
+    let alloc = rt.alloc();
+    let mut conn = Connection::open_in_memory(alloc).ok().ok_or("a database")?;
+    conn.execute_batch(
+        "CREATE TABLE station (one INTEGER PRIMARY KEY CHECK (one = 1), layout INTEGER NOT NULL, circuit INTEGER NOT NULL, member INTEGER NOT NULL, members INTEGER NOT NULL) STRICT;
+        INSERT INTO station VALUES (1, 1, 7, 2, 3);
+        CREATE TABLE acceptor_row (number INTEGER PRIMARY KEY CHECK (number < 100), promised_round INTEGER NOT NULL, promised_owner INTEGER NOT NULL, vote_round INTEGER, vote_owner INTEGER, tape BLOB) STRICT",
+    )
+    .ok()
+    .ok_or("tables")?;
+    let mut rows = SqliteRows::open(alloc, conn, None).ok().ok_or("opened")?;
+    let low = Number::new(12).ok_or("a number")?;
+    let high = Number::new(100).ok_or("a number")?;
+    let row = promised(1, 1).ok_or("a row")?;
+    assert!(rt; rows.put(low, &row) == Ok(()));
+    assert!(rt; rows.put(high, &row) == Err(RowsFault::Store));
+    match rows.get(low) {
+        Ok(_) => return Err("answered a row".into()),
+        Err(fault) => assert!(rt; fault == RowsFault::Store),
+    }
+    assert!(rt; rows.put(low, &row) == Err(RowsFault::Store));
+    assert!(rt; rows.all().is_err());
+
+    let mut again = SqliteRows::open(alloc, rows.into_connection(), None)
+        .ok()
+        .ok_or("opened again")?;
+    assert!(rt; has_promise(&mut again, low, 1, 1));
     Ok(())
 }

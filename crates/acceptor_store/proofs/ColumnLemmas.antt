@@ -1,0 +1,87 @@
+-- A row comes back out of its columns.
+use Rattle.std.proofs.Common.{◌≡◌, ◌<◌, ◌≤◌, ◌^◌, ◌==◌, ◌+◌, ℕ, pos, Bool, true, false, cond, List, [], ◌∷◌, length, Option, Some, None, option_map, unwrap_or, true≢false, IfSome, IsSome, nat_lt, nat_le, ◌&&◌, refl, sym, ap, subst, ◌∙◌, arith, inl, inr, ◌⊎◌}
+use Rattle.std.specs.List.{AllByRecursion, position_from}
+use Rattle.std.proofs.lemmas.Bool.Decides.{Decides-ltb, Decides-eqb, same_from_decides}
+use Rattle.std.proofs.lemmas.Bool.{le-leb, cases_Bool}
+use Rattle.tape_frames.specs.Frames.{IsTape, tape_fault}
+use Rattle.sqlite_trees.specs.Tree.{Trees}
+use Rattle.sqlite_value.specs.Order.{Row as Columns, column}
+use Rattle.row_table.specs.Tables.{rows_tree, station_tree}
+use Rattle.row_table.specs.Rows.{whole, stored, found_at, columns_at, shown_of, SavesIn}
+use Rattle.protocol.specs.Ballots.{Ballot, IsBallot}
+use Rattle.protocol.specs.Rows.{Tape, Vote, Row, blank, may_stand}
+use Rattle.acceptor_store.specs.Saved.{Saved, with_row, WithRow}
+use Rattle.acceptor_store.specs.Columns.{small, ballot_from, tape_in, unless, row_of, row_in, columns_with, columns_for, row_or_blank, saved_in, IsSound, AreSound}
+
+pub ranged : (n : ℕ) → n < 2 ^ 32 → small (pos n) ≡ Some n
+ranged n h = ap (λ b. cond b (Some n) None) ((Decides-ltb n (2 ^ 32)).1 h)
+
+a_ballot : (b : Ballot) → IsBallot b → ballot_from (small (pos b.round)) (small (pos b.owner)) ≡ Some b
+a_ballot b h =
+    let low : b.round < 2 ^ 32 = omega (arith, h.round_high) in
+    let few : b.owner < 2 ^ 32 = omega (arith, h.owner_high) in
+    rw (ranged b.round low, ranged b.owner few, le-leb 1 b.round h.round_low, le-leb 1 b.owner h.owner_low, le-leb b.owner 15 h.owner_high) refl
+
+not_below : (a b : ℕ) → b ≤ a → nat_lt a b ≡ false
+not_below a b h = elim (cases_Bool (nat_lt a b)) [
+  | inl less ↦ absurd (let lt : a < b = (Decides-ltb a b).0 less in omega arith)
+  | inr other ↦ other
+]
+
+none_bad : (k : ℕ) (frames : List ℕ) → AllByRecursion (λ f. f < 64) frames → position_from (λ f. nat_lt 63 f) k frames ≡ None
+none_bad k [] all = refl
+none_bad k (f ∷ fs) all = rw (not_below 63 f (omega (arith, all.0))) (none_bad (k + 1) fs all.1)
+
+is_some_length : (n : ℕ) → 1 ≤ n → (n == 0) ≡ false
+is_some_length n h = elim (cases_Bool (n == 0)) [
+  | inl none ↦ absurd (let e : n ≡ 0 = (Decides-eqb n 0).0 none in omega arith)
+  | inr other ↦ other
+]
+
+no_fault : (frames : List ℕ) → IsTape frames → tape_fault frames ≡ None
+no_fault frames h = rw (is_some_length (length frames) h.some, not_below 4096 (length frames) h.few, none_bad 0 frames h.small) refl
+
+pub back_with : (p : Ballot) (vote : Option Vote) → IsBallot p → IfSome vote (λ v. IsBallot v.ballot × IsTape v.tape) → may_stand (Some p) vote ≡ true
+    → row_in 0 (columns_with (Some p) vote) ≡ Some (row_of p vote)
+back_with p None promise none stands = rw (a_ballot p promise) refl
+back_with p (Some v) promise voted stands = rw (a_ballot p promise, a_ballot v.ballot voted.0, no_fault v.tape voted.1, stands) refl
+
+-- ---- after a save
+
+flip : (a b : ℕ) → (a == b) ≡ (b == a)
+flip a b = same_from_decides {P = a ≡ b} (a == b) (b == a) (Decides-eqb a b) ((λ t. sym ((Decides-eqb b a).0 t)), (λ e. (Decides-eqb b a).1 (sym e)))
+
+shown_stored : (n : ℕ) (promised : Option Ballot) (vote : Option Vote) → IsSome promised → shown_of (stored n (columns_with promised vote)) ≡ columns_with promised vote
+shown_stored n None vote has = absurd (true≢false (sym has))
+shown_stored n (Some p) vote has = refl
+
+module _ (old new : Trees) (n : ℕ) (row : Row) (has : IsSome row.promised) (back : row_in 0 (columns_for row) ≡ Some row) (h : SavesIn n (columns_for row) old new) where
+  shown : shown_of (stored n (columns_for row)) ≡ columns_for row
+  shown = shown_stored n row.promised row.vote has
+
+  found : (k : ℕ) → columns_at (new rows_tree) k ≡ option_map shown_of (cond (n == k) (Some (stored n (columns_for row))) (found_at (old rows_tree) k))
+  found k = ap (option_map shown_of) (h.rows.saved k)
+
+  -- the table has this row, and the others
+  pub saves_row : WithRow (saved_in old) n row (saved_in new)
+  saves_row k = ap row_or_blank (found k) ∙ pick (n == k) ∙ ap (λ b. cond b row (saved_in old k)) (flip n k)
+    where
+      pick : (b : Bool) → row_or_blank (option_map shown_of (cond b (Some (stored n (columns_for row))) (found_at (old rows_tree) k))) ≡ cond b row (saved_in old k)
+      pick true = ap (λ c. unwrap_or (row_in 0 c) blank) shown ∙ ap (λ o. unwrap_or o blank) back
+      pick false = refl
+
+  -- and they are sound
+  pub stays_sound : 1 ≤ n → n ≤ 999999 → AreSound (old rows_tree) → AreSound (new rows_tree)
+  stays_sound low high sound k c is = at (n == k) refl (sym (found k) ∙ is)
+    where
+      at : (b : Bool) → (n == k) ≡ b → option_map shown_of (cond b (Some (stored n (columns_for row))) (found_at (old rows_tree) k)) ≡ Some c → IsSound k c
+      at true same e =
+          let key : n ≡ k = (Decides-eqb n k).0 same in
+          let these : shown_of (stored n (columns_for row)) ≡ c = cc in
+          let read : row_in 0 c ≡ Some row = ap (row_in 0) (sym these ∙ shown) ∙ back in
+          record { low = subst (λ m. 1 ≤ m) key low; high = subst (λ m. m ≤ 999999) key high; row = rw read refl }
+      at false same e = sound k c e
+
+  -- the station is as it was
+  pub stays_station : new station_tree ≡ old station_tree
+  stays_station = h.others station_tree (λ e. absurd (omega (arith, e)))

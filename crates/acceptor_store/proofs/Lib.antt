@@ -1,0 +1,4 @@
+pub mod ColumnLemmas
+pub mod ListLemmas
+pub mod IdentityLemmas
+pub mod StandLemmas

@@ -1,0 +1,63 @@
+-- What a call leaves of a connection that stands on the tables of a station.
+use Rattle.std.proofs.Common.{◌≡◌, ◌≢◌, ◌⊎◌, inl, inr, ◌<◌, ◌≤◌, ℕ, Bool, true, false, Option, Some, None, Result, Ok, Err, OnOk, OnErr, IsTrue, IsSome, is_some, map, refl, sym, ap, subst, ◌∙◌, arith, true≢false}
+use Rattle.sqlite_trees.specs.declared.store.Store.{Ghosts}
+use Rattle.sqlite_trees.specs.Tree.{Trees}
+use Rattle.sqlite_trees.specs.View.{doubt}
+use Rattle.sqlite.specs.Effect.{Database}
+use Rattle.sqlite.specs.State.{State, HasCleanDisk, IsUnchanged}
+use Rattle.sqlite.specs.Held.{Held, state}
+use Rattle.row_table.specs.Tables.{rows_tree, station_tree, row_schema}
+use Rattle.row_table.specs.Rows.{Serves, SavesIn, WasSaved, WasKept, columns_at}
+use Rattle.row_table.specs.Station.{WasMade, HoldsNone, station_columns}
+use Rattle.protocol.specs.Rows.{Row, blank}
+use Rattle.acceptor_store.specs.Saved.{SameRows, WithRow, IsEither, HasPromise}
+use Rattle.acceptor_store.specs.declared.identity.Identity.{Identity}
+use Rattle.acceptor_store.specs.Identity.{IsIdentity, identity_in, stored_identity}
+use Rattle.acceptor_store.specs.Columns.{row_in, row_or_blank, columns_for, saved_in, AreSound}
+use Rattle.acceptor_store.specs.Sqlite.{HoldsRows, Stands}
+use Rattle.acceptor_store.proofs.ColumnLemmas.{saves_row, stays_sound, stays_station}
+use Rattle.acceptor_store.proofs.IdentityLemmas.{added}
+
+-- the rows and the station that a database holds are its trees' alone
+pub same_holds : (i : Identity) (old new : Database) → new ≡ old → HoldsRows i old.trees → HoldsRows i new.trees
+same_holds i old new same h = subst (λ (d : Database). HoldsRows i d.trees) (sym same) h
+
+pub same_rows : (old new : State) → new.now ≡ old.now → SameRows (saved_in old.now.trees) (saved_in new.now.trees)
+same_rows old new same n = ap (λ (d : Database). saved_in d.trees n) same
+
+was_clean : (old new : State) → doubt old.is_clean ≤ doubt new.is_clean → HasCleanDisk new → HasCleanDisk old
+was_clean old new falls clean = omega (arith, falls, clean)
+
+module _ {S : Type 0} (g : Ghosts S) (old new : Held S) (falls : doubt (state g old).is_clean ≤ doubt (state g new).is_clean) (i : Identity) (stands : Stands g old i) where
+  -- after a reading
+  pub stands_kept : (Serves (state g old) → Serves (state g new)) → (Serves (state g old) → HasCleanDisk (state g new) → IsTrue (state g new).is_open → WasKept (state g old) (state g new)) → Stands g new i
+  stands_kept serves kept = record {
+    serves = serves stands.serves;
+    holds = λ clean opened. let same = kept stands.serves clean opened in same_holds i (state g old).now (state g new).now same.same (stands.holds (was_clean (state g old) (state g new) falls clean) same.was_open);
+  }
+
+  module _ (n : ℕ) (row : Row) (has : HasPromise row) (back : row_in 0 (columns_for row) ≡ Some row) (low : 1 ≤ n) (high : n ≤ 999999) where
+    saved_holds : WasSaved n (columns_for row) (state g old) (state g new) → HasCleanDisk (state g new) → HoldsRows i (state g new).now.trees
+    saved_holds done clean =
+        let held = stands.holds (was_clean (state g old) (state g new) falls clean) done.was_open in
+        let trees = done.saved.trees in record {
+          sound = stays_sound (state g old).now.trees (state g new).now.trees n row has back trees low high held.sound;
+          station = ap (λ rows. identity_in (map station_columns rows)) (stays_station (state g old).now.trees (state g new).now.trees n row has back trees) ∙ held.station;
+        }
+
+    -- after a save
+    pub stands_saved : {A E : Type 0} (r : Result A E) → (Serves (state g old) → Serves (state g new))
+        → (Serves (state g old) → HasCleanDisk (state g new) → OnOk r (WasSaved n (columns_for row) (state g old) (state g new)))
+        → (Serves (state g old) → HasCleanDisk (state g new) → IsTrue (state g new).is_open → OnErr r (WasKept (state g old) (state g new))) → Stands g new i
+    stands_saved (Ok a) serves ok err = record { serves = serves stands.serves; holds = λ clean opened. saved_holds (ok stands.serves clean) clean }
+    stands_saved (Err e) serves ok err = stands_kept serves err
+
+-- the rows of a database that was just made
+pub none_saved : (circuit member members : ℕ) (trees : Trees) → HoldsNone circuit member members trees → (n : ℕ) → saved_in trees n ≡ blank
+none_saved circuit member members trees h n = ap (λ rows. row_or_blank (columns_at rows n)) h.rows
+
+pub made_holds : (i : Identity) (trees : Trees) → IsIdentity i → i.circuit < 65536 → HoldsNone i.circuit i.member i.members trees → HoldsRows i trees
+made_holds i trees is small made = record {
+  sound = λ n c e. absurd (true≢false (ap is_some (sym e ∙ ap (λ rows. columns_at rows n) made.rows)));
+  station = added i trees is small made;
+}

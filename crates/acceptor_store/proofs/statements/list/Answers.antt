@@ -1,0 +1,33 @@
+use Rattle.std.proofs.Common.{rules, ◌≡◌, true, Some, None, IsTrue, sym, ◌∙◌, subst, refl}
+use Rattle.std.specs.List.{filter_map}
+use Rattle.sqlite.specs.Held.{state}
+use Rattle.row_table.specs.Tables.{rows_tree, row_schema}
+use Rattle.row_table.specs.Rising.{rise_from, AreListed}
+use Rattle.acceptor_store.specs.Columns.{damage_in, item_in, saved_in}
+use Rattle.acceptor_store.specs.Saved.{IsListOf}
+use Rattle.acceptor_store.proofs.ListLemmas.{lists, no_damage}
+use Rattle.acceptor_store.proofs.statements.list.Goals as goal
+
+pub returns-in-Some-clause-refusal : goal.returns-in-Some-clause-refusal
+returns-in-Some-clause-refusal g c serves clean sound =
+    let rows = c.in-Ok.rows.items in
+    let table = (g.S.Store.view c.args.conn.now.store).trees rows_tree in
+    let has = c.in-Ok.ensures.at_rest serves clean in
+    let was = (c.all_rows.ensures.same serves clean (c.in-Ok.ensures.open serves clean)).was_open in
+    let went : IsTrue c.are_rising.result = search rules in
+    let listed : AreListed table rows = (rw c.as_slice.ensures.value at c.are_rising.ensures.table) went table (c.in-Ok.ensures.listed clean has) in
+    let some : damage_in rows ≡ Some c.in-Some.number = search rules in
+    absurd (let e : None ≡ Some c.in-Some.number = sym (no_damage table rows listed.each (sound was)) ∙ some in cc)
+
+pub returns-in-Ok-items_in-clause-listed : goal.returns-in-Ok-items_in-clause-listed
+returns-in-Ok-items_in-clause-listed g c serves clean =
+    let rows = c.in-Ok.rows.items in
+    let trees = (g.S.Store.view c.args.conn.now.store).trees in
+    let table = trees rows_tree in
+    let has = c.in-Ok.ensures.at_rest serves clean in
+    let rises : rise_from None rows ≡ true = search rules in
+    let none : damage_in rows ≡ None = search rules in
+    let went : IsTrue c.are_rising.result = search rules in
+    let listed : AreListed table rows = (rw c.as_slice.ensures.value at c.are_rising.ensures.table) went table (c.in-Ok.ensures.listed clean has) in
+    let items : c.in-Ok-items_in.items.items ≡ filter_map item_in rows = search rules in
+    subst (IsListOf (saved_in trees)) (sym items) (lists table rows (saved_in trees) (λ n. refl) listed rises none)

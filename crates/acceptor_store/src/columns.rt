@@ -1,0 +1,226 @@
+//! A row as the columns of its table, and back.
+
+ghost use Rattle.std.specs.Prelude.{◌≡◌, ◌≤◌, IfOk, option_map, Some};
+ghost use Rattle.std.specs.List.{filter_map};
+ghost use Rattle.sqlite_value.specs.Value.{owned};
+ghost use Rattle.sqlite_value.specs.Order.{column};
+ghost use Rattle.acceptor_store.specs.Columns.{whole_in, ballot_from, tape_in, is_null, vote_in, row_of, row_in, damage_of, damage_in, item_in, columns_for};
+ghost use Rattle.row_table.specs.Rows.{columns_of};
+ghost use Rattle.acceptor_store.specs.Saved.{HasPromise};
+
+use ballots::{Ballot, Member, Number, Row, VoteRef};
+use sqlite::types::ValueRef;
+use std::alloc::{AllocError, Global};
+use tape_frames::TapeRef;
+
+pub(crate) fn value_at(columns: &sqlite::Row, at: usize) -> ValueRef<'_>
+    ensures { owned result ≡ column columns.now at }
+{
+    match columns.get_ref(at) {
+        Ok(value) => value,
+        Err(_) => ValueRef::Null,
+    }
+}
+
+/// The whole number of 32 bits in a column.
+pub(crate) fn whole_in(value: ValueRef<'_>) -> Option<u32>
+    ensures { result ≡ whole_in (owned value.entry) }
+{
+    match value {
+        ValueRef::Int(n) => {
+            if 0 <= n && n < 4_294_967_296 {
+                Some(n as u32)
+            } else {
+                None
+            }
+        }
+        _ => None,
+    }
+}
+
+fn ballot_from(round: Option<u32>, owner: Option<u32>) -> Option<Ballot>
+    ensures { result ≡ ballot_from round owner }
+{
+    let round = round?;
+    let owner = owner?;
+    if 1 <= round && 1 <= owner && owner <= 15 {
+        Ballot::new(round, Member::new(owner as u8)?)
+    } else {
+        None
+    }
+}
+
+/// The tape in a column, lent.
+fn tape_in(value: ValueRef<'_>) -> Option<TapeRef<'_>>
+    ensures { result ≡ tape_in (owned value.entry) }
+{
+    match value {
+        ValueRef::Blob(frames) => match TapeRef::from_bytes(frames) {
+            Ok(tape) => Some(tape),
+            Err(_) => None,
+        },
+        _ => None,
+    }
+}
+
+fn is_null(value: &ValueRef<'_>) -> bool
+    ensures { result ≡ is_null (owned value.now) }
+{
+    matches!(value, ValueRef::Null)
+}
+
+/// The vote in three columns, its tape lent: none where all three are null.
+fn vote_in<'a>(
+    round: ValueRef<'a>,
+    owner: ValueRef<'a>,
+    tape: ValueRef<'a>,
+) -> Option<Option<VoteRef<'a>>>
+    ensures { result ≡ vote_in (owned round.entry) (owned owner.entry) (owned tape.entry) }
+{
+    if is_null(&round) && is_null(&owner) && is_null(&tape) {
+        return Some(None);
+    }
+    let ballot = ballot_from(whole_in(round), whole_in(owner))?;
+    let tape = tape_in(tape)?;
+    Some(Some(VoteRef::new(ballot, tape)))
+}
+
+/// The promise and the vote of the row that five columns from `first` on are, the tape lent;
+/// `None` where they are no row.
+fn parts_in(columns: &sqlite::Row, first: usize) -> Option<(Ballot, Option<VoteRef<'_>>)>
+    requires { first ≤ 1 }
+    ensures { option_map (λ p. row_of p.0 p.1) result ≡ row_in first columns.now }
+{
+    let promise = ballot_from(
+        whole_in(value_at(columns, first)),
+        whole_in(value_at(columns, first + 1)),
+    )?;
+    let vote = vote_in(
+        value_at(columns, first + 2),
+        value_at(columns, first + 3),
+        value_at(columns, first + 4),
+    )?;
+    let stands = match &vote {
+        None => true,
+        Some(vote) => !promise.is_below(vote.ballot()),
+    };
+    if stands {
+        Some((promise, vote))
+    } else {
+        None
+    }
+}
+
+/// The row that five columns from `first` on are; `None` where they are no row.
+pub(crate) fn row_in(
+    alloc: Global,
+    columns: &sqlite::Row,
+    first: usize,
+) -> Result<Option<Row>, AllocError>
+    requires { first ≤ 1 }
+    ensures { IfOk result (λ row. row ≡ row_in first columns.now) }
+{
+    let Some((promise, vote)) = parts_in(columns, first) else {
+        return Ok(None);
+    };
+    let vote = match vote {
+        None => None,
+        Some(vote) => Some(vote.copy(alloc)?),
+    };
+    Ok(Row::new(Some(promise), vote))
+}
+
+fn damage_of(row: &sqlite::Row) -> Option<i64>
+    ensures { result ≡ damage_of (column row.now 0) (row_in 1 row.now) }
+{
+    let ValueRef::Int(key) = value_at(row, 0) else {
+        return None;
+    };
+    if 1 <= key && key <= 999_999 && parts_in(row, 1).is_some() {
+        None
+    } else {
+        Some(key)
+    }
+}
+
+/// The key of the first row of a listing that is none, or that stands under no circuit number.
+pub(crate) fn damage_in(rows: &[sqlite::Row]) -> Option<i64>
+    ensures { result ≡ damage_in rows.now }
+{
+    for row in rows {
+        if let Some(key) = damage_of(row) {
+            return Some(key);
+        }
+    }
+    None
+}
+
+fn item_in(alloc: Global, row: &sqlite::Row) -> Result<Option<(Number, Row)>, AllocError>
+    ensures { IfOk result (λ item. item ≡ item_in row.now) }
+{
+    let Some(value) = whole_in(value_at(row, 0)) else {
+        return Ok(None);
+    };
+    let Some(number) = Number::new(value) else {
+        return Ok(None);
+    };
+    match row_in(alloc, row, 1)? {
+        Some(row) => Ok(Some((number, row))),
+        None => Ok(None),
+    }
+}
+
+/// The numbers and rows of a listing.
+pub(crate) fn items_in(
+    alloc: Global,
+    rows: &[sqlite::Row],
+) -> Result<Vec<(Number, Row)>, AllocError>
+    ensures { IfOk result (λ items. items.items ≡ filter_map item_in rows.now) }
+{
+    let mut items = Vec::new(alloc);
+    for row in rows {
+        if let Some(item) = item_in(alloc, row)? {
+            items.push(item)?;
+        }
+    }
+    Ok(items)
+}
+
+/// The columns of a row.
+#[derive(Drop)]
+pub(crate) struct RowColumns<'a> {
+    pub(crate) promised_round: u32,
+    pub(crate) promised_owner: u32,
+    pub(crate) vote_round: Option<u32>,
+    pub(crate) vote_owner: Option<u32>,
+    pub(crate) tape: Option<&'a [u8]>,
+}
+
+/// The columns of a row that has a promise; they are the row again.
+pub(crate) fn columns_for(row: &Row) -> RowColumns<'_>
+    requires { HasPromise row.now }
+    ensures columns { columns_of result.promised_round result.promised_owner result.vote_round result.vote_owner (option_map (λ b. b.now) result.tape) ≡ columns_for row.now }
+    ensures back { row_in 0 (columns_for row.now) ≡ Some row.now }
+{
+    let Some(promise) = row.promised() else {
+        unreachable!()
+    };
+    let promised_round = promise.round();
+    let promised_owner = u32::from(promise.owner().get());
+    match row.vote() {
+        None => RowColumns {
+            promised_round,
+            promised_owner,
+            vote_round: None,
+            vote_owner: None,
+            tape: None,
+        },
+        Some(vote) => RowColumns {
+            promised_round,
+            promised_owner,
+            vote_round: Some(vote.ballot().round()),
+            vote_owner: Some(u32::from(vote.ballot().owner().get())),
+            tape: Some(vote.tape().frames()),
+        },
+    }
+}
