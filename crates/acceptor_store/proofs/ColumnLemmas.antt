@@ -1,17 +1,16 @@
 -- A row comes back out of its columns.
-use Rattle.std.proofs.Common.{◌≡◌, ◌<◌, ◌≤◌, ◌^◌, ◌==◌, ◌+◌, ℕ, pos, Bool, true, false, cond, List, [], ◌∷◌, length, Option, Some, None, option_map, unwrap_or, true≢false, IfSome, IsSome, nat_lt, nat_le, ◌&&◌, refl, sym, ap, subst, ◌∙◌, arith, inl, inr, ◌⊎◌}
+use Rattle.std.proofs.Common.{◌≡◌, ◌<◌, ◌≤◌, ◌^◌, ◌==◌, ◌+◌, ℕ, pos, Bool, true, false, cond, List, [], ◌∷◌, length, Option, Some, None, option_map, unwrap_or, true≢false, IfSome, IsSome, nat_lt, refl, sym, ap, subst, ◌∙◌, arith, inl, inr}
 use Rattle.std.specs.List.{AllByRecursion, position_from}
 use Rattle.std.proofs.lemmas.Bool.Decides.{Decides-ltb, Decides-eqb, same_from_decides}
 use Rattle.std.proofs.lemmas.Bool.{le-leb, cases_Bool}
 use Rattle.tape_frames.specs.Frames.{IsTape, tape_fault}
 use Rattle.sqlite_trees.specs.Tree.{Trees}
-use Rattle.sqlite_value.specs.Order.{Row as Columns, column}
 use Rattle.row_table.specs.Tables.{rows_tree, station_tree}
-use Rattle.row_table.specs.Rows.{whole, stored, found_at, columns_at, shown_of, SavesIn}
+use Rattle.row_table.specs.Rows.{stored, found_at, columns_at, shown_of, SavesIn}
 use Rattle.protocol.specs.Ballots.{Ballot, IsBallot}
-use Rattle.protocol.specs.Rows.{Tape, Vote, Row, blank, may_stand}
-use Rattle.acceptor_store.specs.Saved.{Saved, with_row, WithRow}
-use Rattle.acceptor_store.specs.Columns.{small, ballot_from, tape_in, unless, row_of, row_in, columns_with, columns_for, row_or_blank, saved_in, IsSound, AreSound}
+use Rattle.protocol.specs.Rows.{Vote, Row, blank, may_stand}
+use Rattle.acceptor_store.specs.Saved.{WithRow}
+use Rattle.acceptor_store.specs.Columns.{small, ballot_from, row_of, row_in, columns_with, columns_for, row_or_blank, saved_in, IsSound, AreSound}
 
 pub ranged : (n : ℕ) → n < 2 ^ 32 → small (pos n) ≡ Some n
 ranged n h = ap (λ b. cond b (Some n) None) ((Decides-ltb n (2 ^ 32)).1 h)

@@ -1,13 +1,12 @@
 -- The identity in the station table.
-use Rattle.std.proofs.Common.{◌≡◌, ◌<◌, ◌≤◌, ◌^◌, ◌==◌, ℕ, pos, List, [], ◌∷◌, map, length, Option, Some, None, refl, sym, ap, subst, ◌∙◌, arith}
+use Rattle.std.proofs.Common.{◌≡◌, ◌<◌, List, [], ◌∷◌, map, Some, refl, sym, ap, ◌∙◌, arith}
 use Rattle.std.specs.List.Sorted.{IsPermutation}
 use Rattle.std.proofs.lemmas.List.Sorted.{length_permutation}
 use Rattle.std.proofs.lemmas.Bool.{le-leb}
 use Rattle.sqlite_value.specs.Order.{Row as Columns}
 use Rattle.sqlite_trees.specs.Tree.{Trees}
 use Rattle.sqlite.proofs.Callers.{one_permutation}
-use Rattle.row_table.specs.Tables.{station_tree}
-use Rattle.row_table.specs.Station.{station_columns, station_row, HoldsNone}
+use Rattle.row_table.specs.Station.{station_columns, HoldsNone}
 use Rattle.acceptor_store.specs.declared.identity.Identity.{Identity}
 use Rattle.acceptor_store.specs.Identity.{IsIdentity, identity_in, stored_identity}
 use Rattle.acceptor_store.proofs.ColumnLemmas.{ranged}
@@ -26,6 +25,12 @@ pub added : (i : Identity) (trees : Trees) → IsIdentity i → i.circuit < 6553
 added i trees h small made =
     ap (λ rows. identity_in (map station_columns rows)) made.station
     ∙ rw (
-      ranged 1 (omega arith), ranged i.circuit (omega (arith, small)), ranged i.member (omega (arith, h.within, h.high)), ranged i.members (omega (arith, h.high)),
-      le-leb i.circuit 65535 (omega (arith, small)), le-leb 1 i.member h.low, le-leb i.member i.members h.within, le-leb i.members 15 h.high
+      ranged 1 (omega arith),
+      ranged i.circuit (omega (arith, small)),
+      ranged i.member (omega (arith, h.within, h.high)),
+      ranged i.members (omega (arith, h.high)),
+      le-leb i.circuit 65535 (omega (arith, small)),
+      le-leb 1 i.member h.low,
+      le-leb i.member i.members h.within,
+      le-leb i.members 15 h.high,
     ) refl

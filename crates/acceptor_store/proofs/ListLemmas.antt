@@ -1,9 +1,9 @@
 -- What a listing of the table of rows says of the rows.
-use Rattle.std.proofs.Common.{◌≡◌, ◌<◌, ◌≤◌, ◌^◌, ◌==◌, ℕ, ℤ, pos, negsuc, Bool, true, false, cond, not, ◌&&◌, List, [], ◌∷◌, Option, Some, None, option_map, unwrap_or, is_some, IsSome, nat_lt, nat_le, true≢false, refl, sym, ap, subst, ◌∙◌, arith, inl, inr, ◌⊎◌}
+use Rattle.std.proofs.Common.{◌≡◌, ◌<◌, ◌≤◌, ◌==◌, ℕ, ℤ, pos, negsuc, Bool, true, false, cond, ◌&&◌, List, [], ◌∷◌, Option, Some, None, option_map, unwrap_or, is_some, nat_le, true≢false, refl, sym, ap, subst, ◌∙◌, arith, inl, inr}
 use Rattle.std.specs.Prelude.{find}
 use Rattle.std.specs.List.{AllByRecursion, filter_map}
 use Rattle.std.proofs.lemmas.Bool.Decides.{Decides-ltb, Decides-eqb, leb_tells}
-use Rattle.std.proofs.lemmas.Bool.{le-leb, cases_Bool}
+use Rattle.std.proofs.lemmas.Bool.{le-leb}
 use Rattle.sqlite_value.specs.declared.value.Value.{Value}
 use Rattle.sqlite_value.specs.declared.value.Value.TheVariants.{Null, Int, Real, Text, Blob}
 use Rattle.sqlite_value.specs.Order.{Row as Columns, column}
@@ -11,8 +11,8 @@ use Rattle.row_table.specs.Rows.{whole, columns_at}
 use Rattle.row_table.specs.Rising.{key_of, is_above, is_at, goes_on, rise_from, listed_columns, listed_at, IsInTable, AreListed}
 use Rattle.protocol.specs.Ballots.{Ballot}
 use Rattle.protocol.specs.Rows.{Vote, Row, blank, may_stand}
-use Rattle.acceptor_store.specs.Saved.{HasPromise, saved_by, RiseFrom, IsListOf, SameRows}
-use Rattle.acceptor_store.specs.Columns.{small, row_in, row_from, row_of, is_number, damage_of, first_of, damage_in, item_from, item_in, row_or_blank, ballot_from, vote_in, whole_in, IsSound, AreSound}
+use Rattle.acceptor_store.specs.Saved.{HasPromise, saved_by, RiseFrom, IsListOf}
+use Rattle.acceptor_store.specs.Columns.{row_in, row_from, row_of, is_number, damage_of, first_of, damage_in, item_in, row_or_blank, ballot_from, vote_in, whole_in, IsSound, AreSound}
 use Rattle.acceptor_store.proofs.ColumnLemmas.{ranged}
 
 split : (a b : Bool) → (a && b) ≡ true → (a ≡ true) × (b ≡ true)
@@ -20,7 +20,7 @@ split true b e = (refl, e)
 split false b e = absurd (true≢false (sym e))
 
 at_most : (a b : ℕ) → nat_le a b ≡ true → a ≤ b
-at_most a b e = elim (leb_tells a b) [ | inl holds ↦ holds.1 | inr fails ↦ absurd (true≢false (sym e ∙ fails.0)) ]
+at_most a b e = elim (leb_tells a b) [ inl holds ↦ holds.1 | inr fails ↦ absurd (true≢false (sym e ∙ fails.0)) ]
 
 -- a row of a listing that is no damage: its number, in range, and its row
 record IsItem (r : Columns) : Type 0 where
@@ -37,6 +37,7 @@ with_row_in k r o is key none = at (is_number (pos k) && is_some o) refl none
     from : (o : Option Row) → row_in 1 r ≡ o → is_some o ≡ true → 1 ≤ k → k ≤ 999999 → IsItem r
     from None e some low high = absurd (true≢false (sym some))
     from (Some row) e some low high = record { number = k; row = row; key = key; low = low; high = high; is = e }
+
     at : (b : Bool) → (is_number (pos k) && is_some o) ≡ b → cond b None (Some (pos k)) ≡ None → IsItem r
     at false e n = absurd cc
     at true e n =

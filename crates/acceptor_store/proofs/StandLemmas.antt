@@ -1,21 +1,20 @@
 -- What a call leaves of a connection that stands on the tables of a station.
-use Rattle.std.proofs.Common.{◌≡◌, ◌≢◌, ◌⊎◌, inl, inr, ◌<◌, ◌≤◌, ℕ, Bool, true, false, Option, Some, None, Result, Ok, Err, OnOk, OnErr, IsTrue, IsSome, is_some, map, refl, sym, ap, subst, ◌∙◌, arith, true≢false}
+use Rattle.std.proofs.Common.{◌≡◌, ◌<◌, ◌≤◌, ℕ, Some, Result, Ok, Err, OnOk, OnErr, IsTrue, is_some, map, sym, ap, subst, ◌∙◌, arith, true≢false}
 use Rattle.sqlite_trees.specs.declared.store.Store.{Ghosts}
 use Rattle.sqlite_trees.specs.Tree.{Trees}
 use Rattle.sqlite_trees.specs.View.{doubt}
 use Rattle.sqlite.specs.Effect.{Database}
-use Rattle.sqlite.specs.State.{State, HasCleanDisk, IsUnchanged}
+use Rattle.sqlite.specs.State.{State, HasCleanDisk}
 use Rattle.sqlite.specs.Held.{Held, state}
-use Rattle.row_table.specs.Tables.{rows_tree, station_tree, row_schema}
-use Rattle.row_table.specs.Rows.{Serves, SavesIn, WasSaved, WasKept, columns_at}
-use Rattle.row_table.specs.Station.{WasMade, HoldsNone, station_columns}
+use Rattle.row_table.specs.Rows.{Serves, WasSaved, WasKept, columns_at}
+use Rattle.row_table.specs.Station.{HoldsNone, station_columns}
 use Rattle.protocol.specs.Rows.{Row, blank}
-use Rattle.acceptor_store.specs.Saved.{SameRows, WithRow, IsEither, HasPromise}
+use Rattle.acceptor_store.specs.Saved.{SameRows, HasPromise}
 use Rattle.acceptor_store.specs.declared.identity.Identity.{Identity}
-use Rattle.acceptor_store.specs.Identity.{IsIdentity, identity_in, stored_identity}
-use Rattle.acceptor_store.specs.Columns.{row_in, row_or_blank, columns_for, saved_in, AreSound}
+use Rattle.acceptor_store.specs.Identity.{IsIdentity, identity_in}
+use Rattle.acceptor_store.specs.Columns.{row_in, row_or_blank, columns_for, saved_in}
 use Rattle.acceptor_store.specs.Sqlite.{HoldsRows, Stands}
-use Rattle.acceptor_store.proofs.ColumnLemmas.{saves_row, stays_sound, stays_station}
+use Rattle.acceptor_store.proofs.ColumnLemmas.{stays_sound, stays_station}
 use Rattle.acceptor_store.proofs.IdentityLemmas.{added}
 
 -- the rows and the station that a database holds are its trees' alone

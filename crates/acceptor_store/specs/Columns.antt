@@ -1,12 +1,11 @@
 -- A row as the columns of its table, and back.
-use Rattle.std.specs.Prelude.{◌≡◌, ◌<◌, ◌≤◌, ◌^◌, ◌==◌, ◌+◌, ℕ, ℤ, pos, negsuc, Bool, true, false, nat_lt, nat_le, ◌&&◌, if◌then◌else◌, List, [], ◌∷◌, Option, Some, None, option_map, unwrap_or, is_some, IsSome}
+use Rattle.std.specs.Prelude.{◌≡◌, ◌≤◌, ◌^◌, ◌+◌, ℕ, ℤ, pos, negsuc, Bool, true, false, nat_lt, nat_le, ◌&&◌, if◌then◌else◌, List, [], ◌∷◌, Option, Some, None, option_map, unwrap_or, is_some, IsSome}
 use Rattle.sqlite_value.specs.declared.value.Value.{Value}
 use Rattle.sqlite_value.specs.declared.value.Value.TheVariants.{Null, Int, Real, Text, Blob}
 use Rattle.sqlite_value.specs.Order.{Row as Columns, column}
 use Rattle.sqlite_trees.specs.Tree.{Trees}
 use Rattle.row_table.specs.Tables.{rows_tree}
 use Rattle.row_table.specs.Rows.{columns_of, columns_at}
-use Rattle.tape_frames.specs.declared.fault.TapeFault.{TapeFault}
 use Rattle.tape_frames.specs.Frames.{tape_fault}
 use Rattle.protocol.specs.Ballots.{Ballot}
 use Rattle.protocol.specs.Rows.{Tape, Vote, Row, blank, may_stand}

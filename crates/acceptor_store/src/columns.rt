@@ -104,11 +104,7 @@ fn parts_in(columns: &sqlite::Row, first: usize) -> Option<(Ballot, Option<VoteR
         None => true,
         Some(vote) => !promise.is_below(vote.ballot()),
     };
-    if stands {
-        Some((promise, vote))
-    } else {
-        None
-    }
+    if stands { Some((promise, vote)) } else { None }
 }
 
 /// The row that five columns from `first` on are; `None` where they are no row.

@@ -203,24 +203,60 @@ fn faults_by_name(rt: HostRuntime) -> Result<(), Fail> {
     let twelve = RowsFault::Damaged { number: 12 };
     for (change, fault) in [
         // The vote is above its promise.
-        ("INSERT INTO acceptor_row VALUES (12, 1, 1, 2, 1, x'01')", twelve),
-        ("INSERT INTO acceptor_row VALUES (12, 1, 1, NULL, 1, NULL)", twelve),
-        ("INSERT INTO acceptor_row VALUES (12, 1, 16, NULL, NULL, NULL)", twelve),
-        ("INSERT INTO acceptor_row VALUES (12, 0, 1, NULL, NULL, NULL)", twelve),
-        ("INSERT INTO acceptor_row VALUES (12, 1, 1, 1, 1, x'40')", twelve),
-        ("INSERT INTO acceptor_row VALUES (12, 1, 1, 1, 1, x'')", twelve),
-        ("INSERT INTO acceptor_row VALUES (12, 0, 1, NULL, NULL, NULL), (13, 0, 1, NULL, NULL, NULL)", twelve),
-        ("INSERT INTO acceptor_row VALUES (12, 1, 1, NULL, NULL, NULL), (-4, 1, 1, NULL, NULL, NULL)", RowsFault::Damaged { number: -4 }),
-        ("INSERT INTO acceptor_row VALUES (1000000, 1, 1, NULL, NULL, NULL)", RowsFault::Damaged { number: 1_000_000 }),
+        (
+            "INSERT INTO acceptor_row VALUES (12, 1, 1, 2, 1, x'01')",
+            twelve,
+        ),
+        (
+            "INSERT INTO acceptor_row VALUES (12, 1, 1, NULL, 1, NULL)",
+            twelve,
+        ),
+        (
+            "INSERT INTO acceptor_row VALUES (12, 1, 16, NULL, NULL, NULL)",
+            twelve,
+        ),
+        (
+            "INSERT INTO acceptor_row VALUES (12, 0, 1, NULL, NULL, NULL)",
+            twelve,
+        ),
+        (
+            "INSERT INTO acceptor_row VALUES (12, 1, 1, 1, 1, x'40')",
+            twelve,
+        ),
+        (
+            "INSERT INTO acceptor_row VALUES (12, 1, 1, 1, 1, x'')",
+            twelve,
+        ),
+        (
+            "INSERT INTO acceptor_row VALUES (12, 0, 1, NULL, NULL, NULL), (13, 0, 1, NULL, NULL, NULL)",
+            twelve,
+        ),
+        (
+            "INSERT INTO acceptor_row VALUES (12, 1, 1, NULL, NULL, NULL), (-4, 1, 1, NULL, NULL, NULL)",
+            RowsFault::Damaged { number: -4 },
+        ),
+        (
+            "INSERT INTO acceptor_row VALUES (1000000, 1, 1, NULL, NULL, NULL)",
+            RowsFault::Damaged { number: 1_000_000 },
+        ),
         ("UPDATE station SET layout = 9", RowsFault::WrongSchema),
         ("UPDATE station SET member = 4", RowsFault::WrongSchema),
         ("DELETE FROM station", RowsFault::WrongSchema),
         ("UPDATE station SET circuit = 8", RowsFault::WrongStation),
         ("DROP TABLE acceptor_row", RowsFault::Store),
     ] {
-        assert!(rt; fault_after(alloc, change)? == Some(fault), "after {change}");
+        assert!(rt;
+            fault_after(alloc, change)? == Some(fault),
+            "after {change}"
+        );
     }
-    assert!(rt; fault_after(alloc, "INSERT INTO acceptor_row VALUES (999999, 1, 1, 1, 1, x'3f')")?.is_none());
+    assert!(rt;
+        fault_after(
+            alloc,
+            "INSERT INTO acceptor_row VALUES (999999, 1, 1, 1, 1, x'3f')"
+        )?
+        .is_none()
+    );
 
     let conn = Connection::open_in_memory(alloc).ok().ok_or("a database")?;
     match SqliteRows::open(alloc, conn, None) {

@@ -1,21 +1,17 @@
 -- What the query by the number answers.
-use Rattle.std.proofs.Common.{◌≡◌, ◌⊎◌, inl, inr, ℕ, pos, List, [], ◌∷◌, ◌++◌, length, Bool, true, false, Some, None, Option, Ok, Err, Result, IsTrue, refl, sym, ap, subst, ◌∙◌, arith, option_map}
-use Rattle.std.specs.Prelude.{find, filter, option_to_list}
+use Rattle.std.proofs.Common.{◌≡◌, ℕ, List, [], ◌∷◌, length, Some, None, Option, refl, sym, ap, ◌∙◌, arith, option_map}
+use Rattle.std.specs.Prelude.{option_to_list}
 use Rattle.std.specs.List.{AllByRecursion}
-use Rattle.sqlite_value.specs.Order.{Row, column}
-use Rattle.sqlite_trees.specs.Tree.{Trees}
+use Rattle.sqlite_value.specs.Order.{Row}
 use Rattle.sqlite_trees.proofs.ListLemmas.{all_weaker}
-use Rattle.sqlite_rules.specs.Lists.{Has}
 use Rattle.sqlite.specs.Command.TheVariants.{Select}
-use Rattle.sqlite.specs.Effect.{Database, Answers}
-use Rattle.sqlite.specs.declared.error.Error.{Error}
 use Rattle.sqlite.specs.State.{State, Shown}
 use Rattle.sqlite.proofs.Callers.{reads_as}
 use Rattle.row_table.specs.Tables.{rows_tree, row_schema}
 use Rattle.row_table.specs.Rows.{whole, AreRows, found_at, shown_of, columns_at}
-use Rattle.row_table.proofs.KeyLemmas.{has, the_row}
+use Rattle.row_table.proofs.KeyLemmas.{the_row}
 use Rattle.row_table.proofs.TextLemmas.{get_text, get_is, get_plain, by_key, shown_columns, names}
-use Rattle.row_table.proofs.QueryLemmas.{IsShownOf, shows, counts}
+use Rattle.row_table.proofs.QueryLemmas.{shows, counts}
 
 same_some : {a b : Row} → ◌≡◌ {A = Option Row} (Some a) (Some b) → a ≡ b
 same_some e = cc

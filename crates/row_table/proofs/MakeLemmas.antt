@@ -1,20 +1,20 @@
 -- What the statements that make the two tables do.
-use Rattle.std.proofs.Common.{None, ◌≡◌, ◌≢◌, ◌⊎◌, inl, inr, ℕ, pos, List, [], ◌∷◌, codes, Bool, true, false, cond, Ok, Err, Result, OnOk, IsTrue, refl, sym, ap, subst, ◌∙◌, arith}
+use Rattle.std.proofs.Common.{None, ◌≡◌, inl, inr, ℕ, pos, List, [], ◌∷◌, codes, false, Ok, Err, Result, refl, sym, ap, subst, ◌∙◌, arith}
 use Rattle.sqlite.specs.declared.types.Value.TheVariants.{Null, Int}
 use Rattle.sqlite.specs.Term.{Term, lit, col}
 use Rattle.sqlite.specs.Source.TheVariants.{Values}
 use Rattle.sqlite.specs.Schema.{Schema}
 use Rattle.sqlite.specs.Table.{Table}
-use Rattle.sqlite.specs.Command.TheVariants.{CreateTable, Insert, Nothing}
+use Rattle.sqlite.specs.Command.TheVariants.{CreateTable, Insert}
 use Rattle.sqlite.specs.Compile.{table_defined_by}
 use Rattle.sqlite.specs.Change.{created, next_tree}
 use Rattle.sqlite.specs.Does.{Tally, Does, lacks_sequence}
 use Rattle.sqlite_tied.specs.Compute.{everything}
 use Rattle.sqlite.specs.declared.error.Error.{Error}
-use Rattle.sqlite.specs.Listing.{understood, reads_listing}
+use Rattle.sqlite.specs.Listing.{understood}
 use Rattle.sqlite.specs.Effect.{Database}
 use Rattle.sqlite.specs.State.{State, mode_of, Writes, ExecutesInside, KeepsCommit}
-use Rattle.sqlite.specs.Edit.{Edit, edit_of, edited}
+use Rattle.sqlite.specs.Edit.{edit_of, edited}
 use Rattle.sqlite.specs.Rowids.TheVariants.{Chosen}
 use Rattle.sqlite.specs.Rows.{Written}
 use Rattle.sqlite_value.specs.Order.{Row}
@@ -97,8 +97,7 @@ module _ (sql : List ℕ) (before after : Schema) (table : Table)
       let same : made.table ≡ table = cc in
       let schema : first.0.schema ≡ after = made.is ∙ ap (λ s. created s made.table) has ∙ ap (created before) same ∙ placed in
       let calm : lacks_sequence first.0.schema ≡ false = ap lacks_sequence schema ∙ uncounted in
-      let now : new.now ≡ first.0 = ap (λ (p : Tally × Database). p.1) (same_value all.2) ∙ same_value (rw calm at first.2) in
-      (
+      let now : new.now ≡ first.0 = ap (λ (p : Tally × Database). p.1) (same_value all.2) ∙ same_value (rw calm at first.2) in (
         ap (λ (d : Database). d.schema) now ∙ schema,
         ap (λ (d : Database). d.trees (next_tree before)) now ∙ subst (λ s. first.0.trees (next_tree s) ≡ []) has made.empty,
         λ tree there. ap (λ (d : Database). d.trees tree) now ∙ all_has (λ t. first.0.trees t ≡ old.now.trees t) (map (λ (t : Table). t.tree) before.tables) tree (all-map _ _ _ (subst (λ s. KeepsRows s.tables old.now.trees first.0.trees) has made.others)) there,
@@ -132,8 +131,7 @@ adds old new circuit member members count has none inside =
     let trees : done.0.trees ≡ written.0 = ap (λ (it : Written). it.trees) (same_value counted.2) ∙ same_value counted.1 in
     let step = one_step row_schema _ db written.0 (edit_of db station [] Chosen 0 given.0) refl written.1 in
     let edit : edited db (edit_of db station [] Chosen 0 given.0) ≡ station_row circuit member members ∷ [] =
-    ap (λ all. edited db (edit_of db station [] Chosen 0 all)) given.1.1 ∙ rw (none, cast_null, cast_int (pos 1), cast_int (pos circuit), cast_int (pos member), cast_int (pos members)) refl in
-    (
+    ap (λ all. edited db (edit_of db station [] Chosen 0 all)) given.1.1 ∙ rw (none, cast_null, cast_int (pos 1), cast_int (pos circuit), cast_int (pos member), cast_int (pos members)) refl in (
       ap (λ (d : Database). d.schema) now,
       ap (λ (d : Database). d.trees station_tree) now ∙ ap (λ (t : Trees). t station_tree) trees ∙ step.rows ∙ edit,
       ap (λ (d : Database). d.trees rows_tree) now ∙ ap (λ (t : Trees). t rows_tree) trees ∙ step.others rows_tree apart tt,

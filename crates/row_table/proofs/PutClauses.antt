@@ -1,5 +1,5 @@
 -- What `put_row` leaves of a connection.
-use Rattle.std.proofs.Common.{◌≡◌, ◌⊎◌, inl, inr, ℕ, ◌≤◌, List, [], ◌∷◌, Bool, true, false, Ok, Err, Result, OnOk, OnErr, IfOk, IfErr, IsTrue, refl, sym, ap, subst, ◌∙◌, arith}
+use Rattle.std.proofs.Common.{◌≡◌, ◌⊎◌, inl, inr, ℕ, ◌≤◌, List, [], ◌∷◌, Ok, Err, Result, OnOk, OnErr, IfOk, IfErr, IsTrue, sym, ap, subst, ◌∙◌, arith}
 use Rattle.sqlite_value.specs.declared.value.Value.{Value}
 use Rattle.sqlite_value.specs.Order.{Row}
 use Rattle.sqlite_trees.specs.Tree.{Trees}
@@ -193,4 +193,4 @@ module _ {V : Type 0} (items : V → List Row) (sql : List ℕ) (params : Row) (
 
   pub query_rests : (r : Result V Error) → IfOk r (λ v. Shown sql params old new (items v)) → IfErr r (FailsToQuery sql params old new) → IsTrue new.is_open → WasKept old new × (new.now ≡ new.committed)
   query_rests (Ok v) h e opened = rests_unchanged (shown_same sql params old new (items v) (subst (λ s. IsPlain (understood s sql)) (sym has) plain) h)
-  query_rests (Err x) h e opened = elim (query_leaves sql params old new x e) [ | inl same ↦ rests_unchanged same | inr undone ↦ rests_undone opened undone ]
+  query_rests (Err x) h e opened = elim (query_leaves sql params old new x e) [ inl same ↦ rests_unchanged same | inr undone ↦ rests_undone opened undone ]

@@ -1,13 +1,13 @@
 -- What the upsert does to the row table.
-use Rattle.std.proofs.Common.{subst₂, append-nil, drop, ◌≡◌, ◌≢◌, ◌⊎◌, inl, inr, ℕ, ℤ, pos, negsuc, List, [], ◌∷◌, ◌++◌, map, length, Bool, true, false, cond, not, ◌==◌, Some, None, Option, Ok, Err, Result, OnOk, IsTrue, MatchBool, refl, sym, ap, subst, ◌∙◌, unwrap_or, true≢false, arith}
+use Rattle.std.proofs.Common.{subst₂, append-nil, drop, ◌≡◌, ◌⊎◌, inl, inr, ℕ, ℤ, pos, List, [], ◌∷◌, ◌++◌, map, length, Bool, true, false, cond, not, ◌==◌, Some, None, Option, Ok, Err, Result, OnOk, IsTrue, refl, sym, ap, subst, ◌∙◌, true≢false, arith}
 use Rattle.std.proofs.lemmas.Bool.Decides.{Decides-eqb}
 use Rattle.std.specs.Prelude.{find, filter, ◌&&◌, ◌||◌, ◌<◌}
-use Rattle.std.specs.List.{AllByRecursion, list_any}
+use Rattle.std.specs.List.{AllByRecursion}
 use Rattle.std.specs.Ordering.{is_eq}
 use Rattle.std.proofs.lemmas.List.{length-map}
 use Rattle.sqlite_value.specs.declared.value.Value.{Value}
 use Rattle.sqlite_value.specs.declared.value.Value.TheVariants.{Null, Int}
-use Rattle.sqlite_value.specs.Order.{Row, column, value_cmp}
+use Rattle.sqlite_value.specs.Order.{Row, value_cmp}
 use Rattle.sqlite_trees.specs.Tree.{Trees, rowid, put_row, without_rowid}
 use Rattle.sqlite_trees.proofs.ListLemmas.{all-filter, all-map, all_weaker}
 use Rattle.sqlite_trees.proofs.TreeLemmas.{all-put_row}
@@ -16,31 +16,29 @@ use Rattle.sqlite_rules.proofs.ListLemmas.{has_kept, all_has}
 use Rattle.sqlite_schema.specs.declared.schema.Keys.{Keys}
 use Rattle.sqlite_schema.specs.declared.schema.Schema.{Schema}
 use Rattle.sqlite_schema.specs.declared.command.Conflict.TheVariants.{Abort}
-use Rattle.sqlite_schema.specs.declared.command.Upsert.{Upsert}
 use Rattle.sqlite_rules.specs.declared.error.Refusal.{Refusal}
 use Rattle.sqlite_rules.specs.Keys.{AreConflicts, conflicts}
-use Rattle.sqlite_rules.specs.Steps.{IsJudged}
 use Rattle.sqlite_rules.specs.Calls.{ids_of}
-use Rattle.sqlite_rules.specs.Edit.{Edit, edit_of, edited, left_by, is_taken, are_fresh, put_all, without_all, numbered, with_rowid, row_at, taken_by, Applies, id_in}
+use Rattle.sqlite_rules.specs.Edit.{Edit, edit_of, left_by, is_taken, are_fresh, put_all, without_all, numbered, with_rowid, Applies, id_in}
 use Rattle.sqlite_rules.specs.Cast.{cast, cast_row}
-use Rattle.sqlite.specs.Kind.TheVariants.{Integer, Blob}
+use Rattle.sqlite.specs.Kind.TheVariants.{Integer}
 use Rattle.sqlite.specs.Source.TheVariants.{Values}
-use Rattle.sqlite.specs.Command.TheVariants.{InsertOr, Commit, Release}
-use Rattle.sqlite.specs.Rowids.TheVariants.{Chosen, Given}
+use Rattle.sqlite.specs.Command.TheVariants.{InsertOr, Release}
+use Rattle.sqlite.specs.Rowids.TheVariants.{Given}
 use Rattle.sqlite.specs.Ops.{unary, binary, is_true, from_truth}
 use Rattle.sqlite.specs.Does.{Tally, Does}
-use Rattle.sqlite.specs.Rows.{Written, Task, Tries, TriesEach, Judged, Upserts, Meets, Puts, Updates, Clears, Resolves, nothing, rowids_for, count_of}
+use Rattle.sqlite.specs.Rows.{Written, Task, Tries, TriesEach, Judged, Upserts, Meets, Puts, Updates, Clears, nothing, rowids_for, count_of}
 use Rattle.sqlite_value.proofs.KeyLemmas.{first_key-plain}
-use Rattle.sqlite.specs.Effect.{Database, Answers}
+use Rattle.sqlite.specs.Effect.{Database}
 use Rattle.sqlite.specs.declared.error.Error.{Error}
-use Rattle.sqlite.specs.State.{State, mode_of, Writes, Executes, CommitsBy, MayCommit}
+use Rattle.sqlite.specs.State.{State, mode_of, Executes, CommitsBy, MayCommit}
 use Rattle.sqlite.specs.declared.run.Mode.{Mode}
 use Rattle.sqlite.specs.Command.{Command}
 use Rattle.sqlite.specs.Listing.{understood}
 use Rattle.sqlite.proofs.Callers.{IsPlain, command_of, statement_of, runs_as, one_step}
 use Rattle.row_table.specs.Tables.{rows_tree, acceptor_row, row_schema}
 use Rattle.row_table.specs.Rows.{whole, stored, IsKeyed, AreOnce, AreRows, found_at, Saves, SavesIn, IsSaved}
-use Rattle.row_table.proofs.KeyLemmas.{has, same_key, is_self, key_is, has_stored, find_other, find_new, found_any, find_kept, once_put, once_without}
+use Rattle.row_table.proofs.KeyLemmas.{has, key_is, find_other, find_new, found_any, find_kept, once_put, once_without}
 use Rattle.row_table.proofs.TextLemmas.{put_text, put_is, put_plain, given, clause, by_key, rewritten}
 use Rattle.row_table.proofs.QueryLemmas.{IsShownOf, shows, counts}
 
@@ -278,8 +276,7 @@ module _ (old : State) (n : ℕ) (c1 c2 c3 c4 c5 : Value) (taken : AreTaken c1 c
       → OnOk r (IsSaved n given_row old.now new.now × (new.committed ≡ new.now) × IsTrue new.is_open × (new.in_transaction ≡ false))
   puts new (Err e) alone h = tt
   puts new (Ok count) alone h =
-      let w = runs_as put_text (whole n ∷ given_row) old new row_schema has put_command put_is put_plain count h in
-      (
+      let w = runs_as put_text (whole n ∷ given_row) old new row_schema has put_command put_is put_plain count h in (
         does old.step_limit (mode_of old) old.now new.now (statement_of put_text (understood row_schema put_text)) w.tally n c1 c2 c3 c4 c5 taken has keyed w.changed,
         w.shown.committed_is ∙ ap (λ b. cond b old.committed new.now) alone,
         w.shown.is_open,

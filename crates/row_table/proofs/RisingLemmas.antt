@@ -1,5 +1,5 @@
 -- A table whose listing rises has each number once.
-use Rattle.std.proofs.Common.{◌≡◌, ◌⊎◌, inl, inr, ℕ, zero, suc, ◌≤◌, ◌<◌, ℤ, pos, negsuc, nat_lt, nat_le, List, [], ◌∷◌, map, length, Bool, true, false, cond, ◌&&◌, ◌==◌, Some, None, Option, refl, sym, ap, subst, ◌∙◌, arith, true≢false, IsTrue}
+use Rattle.std.proofs.Common.{◌≡◌, inl, inr, ℕ, ◌≤◌, ◌<◌, pos, negsuc, List, [], ◌∷◌, map, length, Bool, true, false, cond, ◌&&◌, ◌==◌, Some, None, Option, refl, sym, ap, subst, ◌∙◌, arith, true≢false, IsTrue}
 use Rattle.std.specs.Prelude.{find, filter, option_to_list, option_map}
 use Rattle.std.specs.List.{AllByRecursion}
 use Rattle.std.specs.List.Sorted.{IsPermutation}
@@ -10,8 +10,8 @@ use Rattle.sqlite_value.specs.declared.value.Value.{Value}
 use Rattle.sqlite_value.specs.declared.value.Value.TheVariants.{Null, Int, Real, Text, Blob}
 use Rattle.sqlite_value.specs.Order.{Row, column}
 use Rattle.sqlite_rules.proofs.ListLemmas.{all_from, all_has}
-use Rattle.sqlite_trees.proofs.ListLemmas.{all-permutation, all-map, all_from_map, all_weaker, filter-map, map-map, IsPermutation-filter, filter_none}
-use Rattle.row_table.specs.Rows.{found_at, listed_row, shown_of, Serves, whole, IsKeyed, AreKeyed, AreOnce, AreRows, with_key, IsListing}
+use Rattle.sqlite_trees.proofs.ListLemmas.{all-permutation, all-map, all_from_map, filter-map, map-map, IsPermutation-filter}
+use Rattle.row_table.specs.Rows.{found_at, listed_row, shown_of, Serves, whole, IsKeyed, AreKeyed, AreRows, with_key, IsListing}
 use Rattle.row_table.specs.Rising.{number_in, key_of, is_above, is_at, rise_from, listed_columns, IsInTable, AreListed}
 use Rattle.row_table.proofs.KeyLemmas.{has, same_key, is_self, the_row}
 use Rattle.sqlite.proofs.Callers.{one_permutation}
@@ -60,7 +60,7 @@ none_below last (r ∷ rs) h n low =
     rw apart (none_below g.number rs g.rest n (omega arith))
   where
     differ : (a b : ℕ) → b < a → (a == b) ≡ false
-    differ a b lt = elim (Rattle.std.proofs.lemmas.Bool.cases_Bool (a == b)) [ | inl tied ↦ absurd (let e : a ≡ b = (Decides-eqb a b).0 tied in omega arith) | inr apart ↦ apart ]
+    differ a b lt = elim (Rattle.std.proofs.lemmas.Bool.cases_Bool (a == b)) [ inl tied ↦ absurd (let e : a ≡ b = (Decides-eqb a b).0 tied in omega arith) | inr apart ↦ apart ]
 
 pub at_most_one : (last : Option ℕ) (rows : List Row) → rise_from last rows ≡ true → (n : ℕ) → length (filter (has n) rows) ≤ 1
 at_most_one last [] h n = omega arith
@@ -96,12 +96,12 @@ rows_of_listing table rows listing rises =
     record {
       keyed = all_from_map _ with_key table back;
       once = λ n.
-        let q = λ (p : Row × Row). has n p.1 in
-        let here : length (filter (has n) table) ≡ length (filter q (map with_key table)) = sym (ap length (filter-map q with_key table) ∙ length-map (filter (has n) table) with_key) in
-        let moved : length (filter q listing.ordered) ≡ length (filter q (map with_key table)) = length_permutation _ _ (IsPermutation-filter q _ _ listing.same) in
-        let there : length (filter (has n) rows) ≡ length (filter q listing.ordered) =
-        ap (λ l. length (filter (has n) l)) listing.shown ∙ ap length (filter-map (has n) second listing.ordered) ∙ length-map (filter q listing.ordered) second in
-        short (has n) table (omega (arith, here ∙ sym moved ∙ sym there, at_most_one None rows rises n));
+          let q = λ (p : Row × Row). has n p.1 in
+          let here : length (filter (has n) table) ≡ length (filter q (map with_key table)) = sym (ap length (filter-map q with_key table) ∙ length-map (filter (has n) table) with_key) in
+          let moved : length (filter q listing.ordered) ≡ length (filter q (map with_key table)) = length_permutation _ _ (IsPermutation-filter q _ _ listing.same) in
+          let there : length (filter (has n) rows) ≡ length (filter q listing.ordered) =
+          ap (λ l. length (filter (has n) l)) listing.shown ∙ ap length (filter-map (has n) second listing.ordered) ∙ length-map (filter q listing.ordered) second in
+          short (has n) table (omega (arith, here ∙ sym moved ∙ sym there, at_most_one None rows rises n));
     }
 
 -- a connection on a table of rows serves
@@ -154,9 +154,9 @@ stands table rows are listing =
     let moved : IsPermutation (map listed_row table) rows =
     subst (λ l. IsPermutation l rows) (map-map second with_key table) (subst (IsPermutation (map second (map with_key table))) (sym listing.shown) (IsPermutation-map second _ _ listing.same)) in
     let mine : AllByRecursion (λ t. IsInTable table (listed_row t)) table = all_from (λ t. IsInTable table (listed_row t)) table (λ t there.
-      let keyed = all_has IsKeyed table t are.keyed there in
-      let here : has keyed.0 t ≡ true = ap (λ v. Rattle.std.specs.Ordering.is_eq (Rattle.sqlite_value.specs.Order.value_cmp v (whole keyed.0))) keyed.1 ∙ same_key keyed.0 keyed.0 ∙ is_self keyed.0 in
-      (keyed.0, keyed.1, ap (option_map shown_of) (the_row keyed.0 table are.once t there here))) in
+    let keyed = all_has IsKeyed table t are.keyed there in
+    let here : has keyed.0 t ≡ true = ap (λ v. Rattle.std.specs.Ordering.is_eq (Rattle.sqlite_value.specs.Order.value_cmp v (whole keyed.0))) keyed.1 ∙ same_key keyed.0 keyed.0 ∙ is_self keyed.0 in
+    (keyed.0, keyed.1, ap (option_map shown_of) (the_row keyed.0 table are.once t there here))) in
     all-permutation (IsInTable table) _ _ moved (all-map _ _ _ mine)
 
 pub listed : (table rows : List Row) → rise_from None rows ≡ true → IsListing table rows → AreListed table rows
@@ -165,12 +165,12 @@ listed table rows rises listing =
       rows = are;
       each = stands table rows are listing;
       found = λ n.
-        let second = λ (p : Row × Row). p.1 in
-        let moved : IsPermutation (map listed_row table) rows =
-        subst (λ l. IsPermutation l rows) (map-map second with_key table) (subst (IsPermutation (map second (map with_key table))) (sym listing.shown) (IsPermutation-map second _ _ listing.same)) in
-        let mine : filter (has n) (map listed_row table) ≡ option_to_list (option_map listed_row (found_at table n)) = filter-map (has n) listed_row table ∙ ap (map listed_row) (are.once n) ∙ map_option listed_row (found_at table n) in
-        let both : filter (has n) rows ≡ option_to_list (option_map listed_row (found_at table n)) =
-        short_permutation _ _ (subst (λ l. IsPermutation l (filter (has n) rows)) mine (IsPermutation-filter (has n) _ _ moved)) in
-        let found : find (has n) rows ≡ option_map listed_row (found_at table n) = same_options _ _ (sym (short (has n) rows (at_most_one None rows rises n)) ∙ both) in
-        then_map (found_at table n) ∙ ap (option_map listed_columns) (sym found ∙ by_number n None rows rises);
+          let second = λ (p : Row × Row). p.1 in
+          let moved : IsPermutation (map listed_row table) rows =
+          subst (λ l. IsPermutation l rows) (map-map second with_key table) (subst (IsPermutation (map second (map with_key table))) (sym listing.shown) (IsPermutation-map second _ _ listing.same)) in
+          let mine : filter (has n) (map listed_row table) ≡ option_to_list (option_map listed_row (found_at table n)) = filter-map (has n) listed_row table ∙ ap (map listed_row) (are.once n) ∙ map_option listed_row (found_at table n) in
+          let both : filter (has n) rows ≡ option_to_list (option_map listed_row (found_at table n)) =
+          short_permutation _ _ (subst (λ l. IsPermutation l (filter (has n) rows)) mine (IsPermutation-filter (has n) _ _ moved)) in
+          let found : find (has n) rows ≡ option_map listed_row (found_at table n) = same_options _ _ (sym (short (has n) rows (at_most_one None rows rises n)) ∙ both) in
+          then_map (found_at table n) ∙ ap (option_map listed_columns) (sym found ∙ by_number n None rows rises);
     }

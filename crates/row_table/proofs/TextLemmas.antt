@@ -1,20 +1,18 @@
 -- What the statements are.
-use Rattle.std.proofs.Common.{◌≡◌, ℕ, pos, negsuc, List, [], ◌∷◌, codes, true, false, Bool, Some, None, Option, Ok, refl}
+use Rattle.std.proofs.Common.{◌≡◌, ℕ, pos, negsuc, List, [], ◌∷◌, codes, false, Some, None, refl}
 use Rattle.sqlite.specs.Term.{Term, lit, col, op2}
 use Rattle.sqlite_sql.specs.declared.ops.BinaryOp.TheVariants.{Compare}
 use Rattle.sqlite_sql.specs.declared.ops.CompareOp.TheVariants.{Eq}
 use Rattle.sqlite.specs.Collation.TheVariants.{Binary}
 use Rattle.sqlite.specs.declared.types.Value.TheVariants.{Null, Int}
 use Rattle.sqlite.specs.Source.TheVariants.{Values}
-use Rattle.sqlite.specs.Command.{Command}
-use Rattle.sqlite.specs.Command.TheVariants.{InsertOr, Select, Nothing}
-use Rattle.sqlite_schema.specs.declared.command.Conflict.TheVariants.{Abort, Ignore, Replace}
+use Rattle.sqlite.specs.Command.TheVariants.{InsertOr, Select}
+use Rattle.sqlite_schema.specs.declared.command.Conflict.TheVariants.{Abort}
 use Rattle.sqlite_schema.specs.declared.command.Upsert.{Upsert}
-use Rattle.sqlite_schema.specs.declared.program.Program.{Program}
 use Rattle.sqlite.specs.Query.{Query, inner, end}
 use Rattle.sqlite_tied.specs.Compute.{everything}
 use Rattle.sqlite.specs.Listing.{understood, reads_listing}
-use Rattle.sqlite.proofs.Callers.{IsPlain, command_of, statement_of}
+use Rattle.sqlite.proofs.Callers.{IsPlain, command_of}
 use Rattle.row_table.specs.Tables.{row_schema}
 
 abbrev pub put_text : List ℕ

@@ -1,5 +1,5 @@
 -- What a table of rows has at a number.
-use Rattle.std.specs.Prelude.{IsPermutation, IsSorted, map, find, filter, option_to_list, option_map, drop, ◌≡◌, ◌≢◌, ℕ, ℤ, pos, List, [], ◌∷◌, Option, Some, None, cond, ◌==◌, false, IsTrue}
+use Rattle.std.specs.Prelude.{IsPermutation, IsSorted, map, find, filter, option_to_list, option_map, ◌≡◌, ◌≢◌, ℕ, pos, List, [], ◌∷◌, Option, Some, cond, ◌==◌, false, IsTrue}
 use Rattle.std.specs.List.{AllByRecursion}
 use Rattle.sqlite_value.specs.declared.value.Value.{Value}
 use Rattle.sqlite_value.specs.declared.value.Value.TheVariants.{Null, Int, Blob}

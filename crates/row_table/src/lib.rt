@@ -7,6 +7,6 @@ mod station;
 mod tables;
 
 pub use rising::are_rising;
+pub use rows::{all_rows, get_row, put_row};
 pub use station::get_station;
 pub use tables::create_tables;
-pub use rows::{all_rows, get_row, put_row};

@@ -12,13 +12,7 @@ fn key_of(row: &Row) -> Option<u64>
     ensures { result ≡ key_of (column row.now 0) }
 {
     match row.get_ref(0) {
-        Ok(ValueRef::Int(n)) => {
-            if 0 <= n {
-                Some(n as u64)
-            } else {
-                None
-            }
-        }
+        Ok(ValueRef::Int(n)) => { if 0 <= n { Some(n as u64) } else { None } }
         _ => None,
     }
 }

@@ -24,12 +24,19 @@ pub fn put_row<S: Alter>(
     ensures err { Serves (state S.Store conn.old) → HasCleanDisk (state S.Store conn.new) → IsTrue (state S.Store conn.new).is_open → OnErr result (WasKept (state S.Store conn.old) (state S.Store conn.new)) }
     ensures crash { Serves (state S.Store conn.old) → HasCleanDisk (state S.Store conn.new) → IsTrue (state S.Store conn.old).is_open
         → (db : _) → (state S.Store conn.new).may_leave db → (db ≡ (state S.Store conn.old).now.trees)
-            ⊎ SavesIn number (columns_of promised_round promised_owner vote_round vote_owner (option_map (λ b. b.now) tape.entry)) (state S.Store conn.old).now.trees db }
+        ⊎ SavesIn number (columns_of promised_round promised_owner vote_round vote_owner (option_map (λ b. b.now) tape.entry)) (state S.Store conn.old).now.trees db }
     ensures clean { doubt (state S.Store conn.old).is_clean ≤ doubt (state S.Store conn.new).is_clean }
 {
     conn.execute(
         "INSERT INTO acceptor_row VALUES (?1, ?2, ?3, ?4, ?5, ?6) ON CONFLICT (number) DO UPDATE SET promised_round = excluded.promised_round, promised_owner = excluded.promised_owner, vote_round = excluded.vote_round, vote_owner = excluded.vote_owner, tape = excluded.tape",
-        params![number, promised_round, promised_owner, vote_round, vote_owner, tape],
+        params![
+            number,
+            promised_round,
+            promised_owner,
+            vote_round,
+            vote_owner,
+            tape
+        ],
     )
 }
 
@@ -77,4 +84,3 @@ pub fn all_rows<S: Alter>(conn: &mut Connection<S>) -> Result<Vec<Row>, Error>
         &[],
     )
 }
-

@@ -1,7 +1,6 @@
 use Rattle.std.proofs.Common.{rules, ◌≡◌, true, Some, None, IsTrue, sym, ◌∙◌, subst, refl}
 use Rattle.std.specs.List.{filter_map}
-use Rattle.sqlite.specs.Held.{state}
-use Rattle.row_table.specs.Tables.{rows_tree, row_schema}
+use Rattle.row_table.specs.Tables.{rows_tree}
 use Rattle.row_table.specs.Rising.{rise_from, AreListed}
 use Rattle.acceptor_store.specs.Columns.{damage_in, item_in, saved_in}
 use Rattle.acceptor_store.specs.Saved.{IsListOf}

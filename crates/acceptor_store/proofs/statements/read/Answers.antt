@@ -1,4 +1,4 @@
-use Rattle.std.proofs.Common.{◌≡◌, Some, None, Option, List, [], ◌∷◌, ◌++◌, length, length-append, arith, sym, ap, ◌∙◌, option_map, true≢false, is_some}
+use Rattle.std.proofs.Common.{◌≡◌, Some, None, Option, List, [], ◌∷◌, ◌++◌, length, length-append, arith, sym, ap, ◌∙◌, true≢false, is_some}
 use Rattle.std.specs.Prelude.{option_to_list}
 use Rattle.sqlite_value.specs.Order.{Row as Columns}
 use Rattle.row_table.specs.Tables.{rows_tree}

@@ -1,10 +1,5 @@
-use Rattle.std.proofs.Common.{rules, ◌≡◌, ◌≢◌, inl, Some, None, Option, map, sym, ap, ◌∙◌}
-use Rattle.sqlite.specs.Held.{state}
-use Rattle.sqlite.specs.State.{HasCleanDisk}
-use Rattle.row_table.specs.Tables.{row_schema, station_tree}
-use Rattle.row_table.specs.Station.{station_columns}
-use Rattle.acceptor_store.specs.declared.identity.Identity.{Identity}
-use Rattle.acceptor_store.specs.Identity.{identity_in, stored_identity}
+use Rattle.std.proofs.Common.{rules, ◌≡◌, ◌≢◌, inl, Some, None, ◌∙◌}
+use Rattle.acceptor_store.specs.Identity.{identity_in}
 use Rattle.acceptor_store.proofs.IdentityLemmas.{same_identity}
 use Rattle.acceptor_store.proofs.taking_up.take_identity.Goals as goal
 

@@ -1,4 +1,4 @@
-use Rattle.std.proofs.Common.{rules, ◌≡◌, true, None, IsTrue}
+use Rattle.std.proofs.Common.{rules, ◌≡◌, true, None}
 use Rattle.row_table.specs.Rising.{rise_from, AreListed}
 use Rattle.row_table.specs.Tables.{rows_tree}
 use Rattle.acceptor_store.specs.Columns.{damage_in}

@@ -1,5 +1,4 @@
-use Rattle.std.proofs.Common.{◌≡◌, true, None, sym, ◌∙◌}
-use Rattle.row_table.specs.Rising.{rise_from}
+use Rattle.std.proofs.Common.{sym, ◌∙◌}
 use Rattle.row_table.proofs.RisingLemmas.{listed}
 use Rattle.row_table.proofs.rising.are_rising.Goals as goal
 

@@ -1,11 +1,10 @@
-use Rattle.std.proofs.Common.{◌≡◌, List, [], ◌∷◌, Vec, subst, sym}
+use Rattle.std.proofs.Common.{[], Vec, subst, sym}
 use Rattle.sqlite.specs.Listing.{understood}
 use Rattle.sqlite.proofs.Callers.{IsPlain}
 use Rattle.row_table.proofs.StateLemmas.{shown_same}
 use Rattle.std.specs.declared.alloc.Global.{Global}
 use Rattle.sqlite_value.specs.Order.{Row}
 use Rattle.sqlite.specs.Held.{state}
-use Rattle.sqlite.specs.declared.error.Error.{Error}
 use Rattle.row_table.proofs.TextLemmas.{all_text, all_plain}
 use Rattle.row_table.proofs.AllLemmas.{lists, mapped, on_ok}
 use Rattle.row_table.proofs.RisingLemmas.{opens}

@@ -1,9 +1,8 @@
-use Rattle.std.proofs.Common.{◌≡◌, ℕ, List, [], ◌∷◌, Vec}
-use Rattle.std.specs.Prelude.{option_to_list}
+use Rattle.std.proofs.Common.{List, [], ◌∷◌, Vec}
 use Rattle.std.specs.declared.alloc.Global.{Global}
 use Rattle.sqlite_value.specs.Order.{Row}
 use Rattle.sqlite.specs.Held.{state}
-use Rattle.row_table.specs.Rows.{whole, columns_at}
+use Rattle.row_table.specs.Rows.{whole}
 use Rattle.row_table.proofs.TextLemmas.{get_text, get_plain}
 use Rattle.row_table.proofs.GetLemmas.{gets}
 use Rattle.row_table.proofs.PutClauses.{IsSettled, query_serves, query_kept, query_open, query_answers, query_crash}
@@ -22,7 +21,7 @@ returns g c =
     record {
       serves = λ serves. query_serves get_text params old new get_plain serves law_old survives items c.query_all.result ok err;
       found = λ serves. query_answers get_text params old new get_plain serves law_old survives items c.query_all.result ok err _
-        (λ v rest h. gets old new c.args.number v.items rest.schema rest.rows h);
+          (λ v rest h. gets old new c.args.number v.items rest.schema rest.rows h);
       «open» = λ serves. query_open get_text params old new get_plain serves law_old survives items c.query_all.result ok err;
       same = λ serves. query_kept get_text params old new get_plain serves law_old survives items c.query_all.result ok err;
       crash = λ serves. query_crash get_text params old new get_plain serves law_old survives;

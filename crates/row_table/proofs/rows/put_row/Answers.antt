@@ -1,13 +1,10 @@
-use Rattle.std.proofs.Common.{rules, ◌≡◌, OnOk, option_map, ℕ, Some, None, pos, refl, arith, Option, List, Bor}
-use Rattle.sqlite_value.specs.declared.value.Value.{Value}
-use Rattle.sqlite_value.specs.declared.value.Value.TheVariants.{Null, Int, Blob}
+use Rattle.std.proofs.Common.{◌≡◌, option_map, ℕ, Some, None, pos, refl, Option, List, Bor}
+use Rattle.sqlite_value.specs.declared.value.Value.TheVariants.{Blob}
 use Rattle.sqlite.specs.Kind.TheVariants.{Integer}
 use Rattle.sqlite_rules.specs.Cast.{cast}
 use Rattle.sqlite.specs.Values.{or_null, bound_value}
-use Rattle.sqlite.specs.State.{HasCleanDisk}
 use Rattle.sqlite.specs.Held.{state}
-use Rattle.row_table.specs.Tables.{row_schema, rows_tree}
-use Rattle.row_table.specs.Rows.{whole, columns_of, AreRows, IsSaved}
+use Rattle.row_table.specs.Rows.{whole}
 use Rattle.row_table.proofs.PutLemmas.{AreTaken, cast_int, cast_null}
 use Rattle.row_table.proofs.PutClauses.{IsSettled, serves_on, saved_on, kept_on, crash_on}
 use Rattle.row_table.proofs.rows.put_row.Goals as goal
@@ -31,10 +28,28 @@ returns g c =
     let tape = or_null Blob (option_map (λ (b : Bor (List ℕ)). b.now) c.args.tape) in
     let taken : AreTaken (whole c.args.promised_round) (whole c.args.promised_owner) (or_null whole c.args.vote_round) (or_null whole c.args.vote_owner) =
     record { first = cast_int _; second = cast_int _; third = optional c.args.vote_round; fourth = optional c.args.vote_owner } in
-    let runs = rw (c.params-to_sql.ensures, c.params-to_sql-2.ensures, c.params-to_sql-3.ensures, c.params-to_sql-4.ensures, c.params-to_sql-5.ensures, c.params-to_sql-6.ensures,
-      bound_number c.args.vote_round, bound_number c.args.vote_owner, bound_tape c.args.tape) at c.execute.ensures.runs in
-    let survives = rw (c.params-to_sql.ensures, c.params-to_sql-2.ensures, c.params-to_sql-3.ensures, c.params-to_sql-4.ensures, c.params-to_sql-5.ensures, c.params-to_sql-6.ensures,
-      bound_number c.args.vote_round, bound_number c.args.vote_owner, bound_tape c.args.tape) at c.execute.ensures.survives in
+    let runs = rw (
+      c.params-to_sql.ensures,
+      c.params-to_sql-2.ensures,
+      c.params-to_sql-3.ensures,
+      c.params-to_sql-4.ensures,
+      c.params-to_sql-5.ensures,
+      c.params-to_sql-6.ensures,
+      bound_number c.args.vote_round,
+      bound_number c.args.vote_owner,
+      bound_tape c.args.tape,
+    ) at c.execute.ensures.runs in
+    let survives = rw (
+      c.params-to_sql.ensures,
+      c.params-to_sql-2.ensures,
+      c.params-to_sql-3.ensures,
+      c.params-to_sql-4.ensures,
+      c.params-to_sql-5.ensures,
+      c.params-to_sql-6.ensures,
+      bound_number c.args.vote_round,
+      bound_number c.args.vote_owner,
+      bound_tape c.args.tape,
+    ) at c.execute.ensures.survives in
     let law_old : IsSettled old = λ db. g.met.S.Store.settled c.args.conn.now.store db in
     let law_new : IsSettled new = λ db. g.met.S.Store.settled c.execute.new.self.store db in
     record {

@@ -1,4 +1,4 @@
-use Rattle.std.proofs.Common.{◌≡◌, [], subst, sym, Vec}
+use Rattle.std.proofs.Common.{[], subst, sym, Vec}
 use Rattle.sqlite.specs.Listing.{understood}
 use Rattle.std.specs.declared.alloc.Global.{Global}
 use Rattle.sqlite_value.specs.Order.{Row}

@@ -1,4 +1,4 @@
-use Rattle.std.proofs.Common.{◌≡◌, ◌∙◌}
+use Rattle.std.proofs.Common.{◌∙◌}
 use Rattle.sqlite.specs.Held.{state}
 use Rattle.row_table.proofs.MakeLemmas.{adds}
 use Rattle.row_table.proofs.tables.add_station.Goals as goal

@@ -1,6 +1,5 @@
-use Rattle.std.proofs.Common.{rules, ◌≡◌, IsTrue, sym, ◌∙◌}
+use Rattle.std.proofs.Common.{rules, IsTrue, sym, ◌∙◌}
 use Rattle.sqlite.specs.Held.{state}
-use Rattle.row_table.specs.Tables.{no_schema}
 use Rattle.acceptor_store.proofs.sqlite_rows.SqliteRows.create.Goals as goal
 
 pub returns-in-Err-clause-unchanged : goal.returns-in-Err-clause-unchanged

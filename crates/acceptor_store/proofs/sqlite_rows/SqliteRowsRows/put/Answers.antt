@@ -1,4 +1,4 @@
-use Rattle.std.proofs.Common.{◌≡◌, ◌⊎◌, inl, inr, ap, ◌∙◌, sym, true≢false}
+use Rattle.std.proofs.Common.{inl, inr, ap, ◌∙◌, sym, true≢false}
 use Rattle.std.proofs.lemmas.Bool.{cases_Bool}
 use Rattle.sqlite.specs.Held.{state}
 use Rattle.acceptor_store.specs.Columns.{saved_in}
@@ -42,4 +42,4 @@ returns-in-Err-clause-either g c = rw (← c.self.view_is) (λ kept.
 pub invariant_of-self-in-Ok : goal.invariant_of-self-in-Ok
 invariant_of-self-in-Ok g c ours =
     stands_saved g.S.Store c.self.inside.conn c.save.new.conn c.save.ensures.clean c.self.inside.identity (c.self.invariant ours) c.args.number c.args.row.now c.requires c.save.ensures.back c.save.ensures.low c.save.ensures.high
-      c.save.result c.save.ensures.serves c.save.ensures.saved c.save.ensures.err
+    c.save.result c.save.ensures.serves c.save.ensures.saved c.save.ensures.err
