@@ -1,10 +1,11 @@
 -- What the marks say of a number's proposal, once a mark stands in front.
-use Rattle.std.proofs.Common.{◌≡◌, ℕ, ◌+◌, refl, ap, ◌∙◌, List, [], ◌∷◌, Option, Some, None, Bool, true, false, cond}
-use Rattle.std.specs.Prelude.{◌||◌, ◌==◌, count_by}
+use Rattle.std.proofs.Common.{◌≡◌, ℕ, suc, ◌+◌, ◌≤◌, inl, refl, sym, ap, ◌∙◌, List, [], ◌∷◌, Option, Some, None, Bool, true, false, cond, arith}
+use Rattle.std.specs.Prelude.{◌||◌, ◌==◌, nat_lt, count_by}
 use Rattle.std.proofs.lemmas.Bool.{eq-eqb}
+use Rattle.std.proofs.lemmas.Bool.Decides.{nat_tests}
 use Rattle.std.proofs.lemmas.List.Sums.{sum_by-cons}
 use Rattle.protocol.specs.Lists.{has, first, greater}
-use Rattle.protocol.specs.Ballots.{Ballot, is_below}
+use Rattle.protocol.specs.Ballots.{Ballot, is_below, IsBelow, IsNoneOrBelow, last_round, next}
 use Rattle.protocol.specs.Rows.{Tape, Vote}
 use Rattle.protocol.specs.Marks.{Mark, Began, Promised, Proposed, Denied, Heard, Closed, Released, begins, closes}
 use Rattle.protocol.specs.Proposals.{Opening, opening_of, was_released, since_began, open_proposal, since_end, begun, denied}
@@ -109,3 +110,39 @@ one_more_denial n p marks h = let here = itself n in rw (h, here) (go (denied n 
     go : (d : Option Ballot) → Some (greater (λ (x y : Ballot). is_below y x) p d) ≡ greater_ballot d (Some p)
     go None = refl
     go (Some g) = elim (is_below g p) as (λ t. Some (cond t p g) ≡ cond t (Some p) (Some g)) [ true ↦ refl | false ↦ refl ]
+
+-- the ballot after another
+
+some_same : {A : Type 0} {x y : A} → Some x ≡ Some y → x ≡ y
+some_same e = cc
+
+next_owner : (seen : Option Ballot) (m : ℕ) (b : Ballot) → next seen m ≡ Some b → b.owner ≡ m
+next_owner None m b e = ap (λ (a : Ballot). a.owner) (sym (some_same e))
+next_owner (Some s) m b e = go (nat_lt s.round last_round) refl
+  where
+    go : (t : Bool) → nat_lt s.round last_round ≡ t → b.owner ≡ m
+    go true f = ap (λ (a : Ballot). a.owner) (sym (some_same (rw f at e)))
+    go false f = absurd (let bad : None ≡ Some b = rw f at e in cc)
+
+next_round : (s : Ballot) (m : ℕ) (b : Ballot) → next (Some s) m ≡ Some b → b.round ≡ suc s.round
+next_round s m b e = go (nat_lt s.round last_round) refl
+  where
+    go : (t : Bool) → nat_lt s.round last_round ≡ t → b.round ≡ suc s.round
+    go true f = ap (λ (a : Ballot). a.round) (sym (some_same (rw f at e)))
+    go false f = absurd (let bad : None ≡ Some b = rw f at e in cc)
+
+not_above_round : (p q : Ballot) → is_below p q ≡ true → p.round ≤ q.round
+not_above_round p q h = grind (arith, nat_tests)
+
+next_above : (p d : Option Ballot) (m : ℕ) (b : Ballot) → next (greater_ballot p d) m ≡ Some b → IsNoneOrBelow p b
+next_above None d m b e = tt
+next_above (Some p) None m b e = let r : b.round ≡ suc p.round = next_round p m b e in inl (omega arith)
+next_above (Some p) (Some q) m b e = go (is_below p q) refl
+  where
+    go : (t : Bool) → is_below p q ≡ t → IsBelow p b
+    go true f = let r : b.round ≡ suc q.round = next_round q m b (rw f at e) in let l : p.round ≤ q.round = not_above_round p q f in inl (omega arith)
+    go false f = let r : b.round ≡ suc p.round = next_round p m b (rw f at e) in inl (omega arith)
+
+pub renewed_ballot : (t : Bool) (p d : Option Ballot) (m : ℕ) (b : Ballot) → Some b ≡ cond t None (next (greater_ballot p d) m) → (b.owner ≡ m) × IsNoneOrBelow p b
+renewed_ballot true p d m b e = absurd cc
+renewed_ballot false p d m b e = (next_owner (greater_ballot p d) m b (sym e), next_above p d m b (sym e))

@@ -1,10 +1,11 @@
 -- What the answers of a proposal's calls say of the marks, and the marks after them.
 use Rattle.std.specs.Prelude.{◌≡◌, ℕ, List, ◌∷◌, Option, Some, None, Bool, true, false}
-use Rattle.protocol.specs.Ballots.{Ballot, is_majority}
+use Rattle.protocol.specs.Ballots.{Ballot, IsNoneOrBelow, is_majority}
 use Rattle.protocol.specs.Rows.{Tape, Vote, Row}
 use Rattle.protocol.specs.Marks.{Mark, Began, Promised}
 use Rattle.protocol.specs.Proposals.{Opening, gathering_at, since_began, counted, is_counted, is_due}
 use Rattle.protocol.specs.Turn.{next_ballot}
+use Rattle.proposer.specs.InHand.{InHand}
 use Rattle.proposer.specs.declared.answer.Counted.{Counted}
 use Rattle.proposer.specs.declared.answer.Counted.TheVariants as kinds
 use Rattle.proposer.specs.declared.answer.DueAnswer.{DueAnswer}
@@ -51,3 +52,22 @@ abbrev pub marks_after_due : DueAnswer → ℕ → Option Tape → Option Vote �
 marks_after_due answers.Wait n own report now marks = marks
 marks_after_due answers.GaveUp n own report now marks = marks
 marks_after_due (answers.Began b) n own report now marks = Began n b own report now ∷ marks
+
+-- a promise that isn't counted leaves the proposal as it was
+abbrev pub StaysWhereUncounted : Counted → InHand → InHand → Type 0
+StaysWhereUncounted kinds.Stale old new = new ≡ old
+StaysWhereUncounted kinds.Repeated old new = new ≡ old
+StaysWhereUncounted kinds.More old new = Unit {0}
+StaysWhereUncounted kinds.Quorum old new = Unit {0}
+
+-- so does a moment at which no ballot is begun
+abbrev pub StaysWhereNotBegun : DueAnswer → InHand → InHand → Type 0
+StaysWhereNotBegun answers.Wait old new = new ≡ old
+StaysWhereNotBegun answers.GaveUp old new = new ≡ old
+StaysWhereNotBegun (answers.Began b) old new = Unit {0}
+
+-- a ballot that is begun is the member's own, and above the saved promise
+abbrev pub IsOwnAndAbove : DueAnswer → ℕ → Option Ballot → Type 0
+IsOwnAndAbove answers.Wait me promised = Unit {0}
+IsOwnAndAbove answers.GaveUp me promised = Unit {0}
+IsOwnAndAbove (answers.Began b) me promised = (b.owner ≡ me) × IsNoneOrBelow promised b

@@ -1,13 +1,14 @@
 //! A proposal, over a plain list of the promises that came.
 
 ghost use Rattle.std.specs.Prelude.{◌≡◌, ◌≤◌, ◌<◌, ◌+◌, ◌*◌, ◌-◌, ◌^◌, ℕ, List, ◌∷◌, Option, Some, None, Ok, Err, IfOk, OnErr, IsOk, MatchResult, MatchBool, min, false, nat_le, ◌&&◌, if◌then◌else◌};
+ghost use Rattle.std.specs.Bool.{OnFalse};
 ghost use Rattle.protocol.specs.Ballots.{next, is_same};
 ghost use Rattle.protocol.specs.Rows.{Row};
 ghost use Rattle.protocol.specs.Marks.{Mark, Began, Proposed, Denied};
 ghost use Rattle.protocol.specs.Proposals.{Opening, was_released, open_proposal, open_ballot, proposal_at, gathering_at, since_began, counted, pick, due_moment};
 ghost use Rattle.protocol.specs.Turn.{greater_ballot, most_ballots};
 ghost use Rattle.proposer.specs.InHand.{StandsFor, IsOfTheSame};
-ghost use Rattle.proposer.specs.Answers.{IsNew, IsCountedAs, marks_after_promise, IsDueAnswer, marks_after_due};
+ghost use Rattle.proposer.specs.Answers.{IsNew, IsCountedAs, marks_after_promise, StaysWhereUncounted, IsDueAnswer, marks_after_due, StaysWhereNotBegun, IsOwnAndAbove};
 
 use crate::answer::{BeginRefusal, Counted, DueAnswer};
 use crate::promises::{Promise, greatest_vote, is_counted, is_quorum};
@@ -147,6 +148,7 @@ impl Proposal {
         ensures kind { IfOk result (λ kind. (n : ℕ) (marks : List Mark) → StandsFor self.old n marks → IsCountedAs kind self.old.members self.old.me n ballot from report.entry marks) }
         ensures stands { IfOk result (λ kind. (n : ℕ) (marks : List Mark) → StandsFor self.old n marks → StandsFor self.new n (marks_after_promise kind n from ballot report.entry marks)) }
         ensures circuit { IsOfTheSame self.old self.new }
+        ensures stays { IfOk result (λ kind. StaysWhereUncounted kind self.old self.new) }
         ensures err { OnErr result (self.new ≡ self.old) }
         ensures err_where_new { OnErr result ((n : ℕ) (marks : List Mark) → StandsFor self.old n marks → IsNew self.old.me n ballot from marks) }
     {
@@ -170,6 +172,7 @@ impl Proposal {
     pub fn nack(&mut self, ballot: Ballot, promised: Ballot) -> bool
         ensures kept { (n : ℕ) (marks : List Mark) → StandsFor self.old n marks → MatchBool result ((p : Opening) × (proposal_at n ballot marks ≡ Some p)) (proposal_at n ballot marks ≡ None) }
         ensures stands { (n : ℕ) (marks : List Mark) → StandsFor self.old n marks → StandsFor self.new n (if result then Denied n promised ∷ marks else marks) }
+        ensures stays { OnFalse result (self.new ≡ self.old) }
         ensures circuit { IsOfTheSame self.old self.new }
     {
         if !self.ballot.is_same(ballot) {
@@ -231,6 +234,8 @@ impl Proposal {
         ensures answer { IfOk result (λ answer. (n : ℕ) (marks : List Mark) (p : Opening) (row : Row) → StandsFor self.old n marks → open_proposal n marks ≡ Some p → row.promised ≡ promised → IsDueAnswer answer self.old.me n now p marks row) }
         ensures stands { IfOk result (λ answer. (n : ℕ) (marks : List Mark) → StandsFor self.old n marks → StandsFor self.new n (marks_after_due answer n self.old.own report now marks)) }
         ensures circuit { IsOfTheSame self.old self.new }
+        ensures ballot { IfOk result (λ answer. IsOwnAndAbove answer self.old.me promised) }
+        ensures stays { IfOk result (λ answer. StaysWhereNotBegun answer self.old self.new) }
         ensures no_memory { IsOk result }
     {
         if now < self.due_moment() {
