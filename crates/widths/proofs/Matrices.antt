@@ -1,17 +1,15 @@
 -- The matrices of a table, one after another.
-use Rattle.std.proofs.Common.{◌≡◌, ℕ, suc, ◌+◌, ◌≤◌, Bool, true, false, cond, List, [], ◌∷◌, ◌++◌, length, map, String, Global, Option, Some, None, Result, Ok, Err, Ordering, Less, Equal, Greater, nat_cmp, string_bytes, refl, sym, ap, ◌∙◌, arith, append_assoc, add-one}
+use Rattle.std.proofs.Common.{◌≡◌, ◌+◌, List, [], ◌∷◌, ◌++◌, length, map, String, Global, Ok, Err, Less, nat_cmp, string_bytes, refl, sym, append_assoc, add-one}
 use Rattle.std.proofs.lemmas.List.{map-append, append-nil}
 use Rattle.std.specs.Cmp.Lexicographic.{slice_cmp}
 use Rattle.std.specs.List.{AllByRecursion}
 use Rattle.std.specs.List.Sorted.{IsStrictlySortedBy}
 use Rattle.std.specs.Map.{keys_of}
 use Rattle.std.specs.String.{string_cmp}
-use Rattle.toml.specs.Data.{Data, Members, no_members, member}
 use Rattle.toml.specs.View.{view, members_view}
 use Rattle.toml.specs.declared.value.Value.{Value}
-use Rattle.code_table.specs.Names.{is_name}
 use Rattle.widths.specs.Widths.{IsWidth, IsInNameOrder}
-use Rattle.widths.specs.Numbers.{◌>>=◌, holds, number_of, in_range}
+use Rattle.widths.specs.Numbers.{◌>>=◌}
 use Rattle.widths.specs.Reading.{read_entry, read_entries, put_in_order, in_name_order, read_matrix}
 use Rattle.widths.specs.declared.entry.MatrixWidth.{MatrixWidth}
 use Rattle.widths.specs.declared.fault.WidthFault.{WidthFault}

@@ -1,6 +1,6 @@
 -- Each member that is read is a matrix more, up to the first fault.
-use Rattle.std.proofs.Common.{rules, ◌≡◌, List, [], length, sym, ap, ◌∙◌, arith, inr, inl, string_bytes}
-use Rattle.widths.proofs.Matrices.{Member, goes_on, stops, ends, ascends}
+use Rattle.std.proofs.Common.{rules, ◌≡◌, [], length, sym, arith}
+use Rattle.widths.proofs.Matrices.{goes_on, stops, ends, ascends}
 use Rattle.widths.proofs.matrix.read_matrix.Goals as goal
 
 pub loop-name-preserved : goal.loop-name-preserved
