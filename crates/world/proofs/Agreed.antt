@@ -1,0 +1,20 @@
+-- Agreement of stations, from that of any circuit.
+use Rattle.std.proofs.Common.{◌≡◌, ℕ, List, sym, subst, Result}
+use Rattle.protocol.specs.Circuit.{Release, State, History}
+use Rattle.protocol.specs.Agreement.{HistoriesAgree}
+use Rattle.packets.specs.declared.fault.PacketFault.{PacketFault}
+use Rattle.code_table.specs.Tables.{Places, mean}
+use Rattle.widths.specs.Widths.{WidthFile}
+use Rattle.line_check.specs.declared.slug.Slug.{Slug}
+use Rattle.line_check.specs.declared.fault.SetFault.{SetFault}
+use Rattle.line_check.specs.Sets.{Sets}
+use Rattle.world.specs.Laws.{AreAgreed, StationsAgree}
+
+pub agreed : HistoriesAgree PacketFault (List Slug) SetFault → StationsAgree
+agreed histories tables files z is_set_up w h =
+    let a = histories z w h in
+    record {
+      one = a.one;
+      offered = a.offered;
+      set = λ x i. let P : Result (List Slug) SetFault → Type 0 = λ r. Sets (mean (tables x.member)) (files x.member) x.tape r in subst P (sym (a.set x i)) (is_set_up.sets x.member x.tape);
+    }

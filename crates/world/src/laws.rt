@@ -1,0 +1,61 @@
+//! The laws over every history, at the packets' own reading and at what tables and widths make of tapes.
+//! The functions do nothing but cite the laws that they rest on.
+
+ghost use Rattle.world.specs.Laws.{OneTape, VotesOffered, PromisesKept, ReportsGreatest, VotesBacked, HeardVoted, RipeChosen, OneChosen, StationsAgree};
+
+use crate::slugs::Slugs;
+use line_check::SetFault;
+use packets::PacketFault;
+use protocol::laws;
+
+/// All votes and Accepts of one number and ballot carry one tape.
+pub fn one_tape()
+    ensures { OneTape }
+{
+    laws::one_tape::<PacketFault, Slugs, SetFault>();
+}
+
+/// Every voted tape was offered.
+pub fn votes_are_offered()
+    ensures { VotesOffered }
+{
+    laws::votes_are_offered::<PacketFault, Slugs, SetFault>();
+}
+
+/// After a Promise of a member at a ballot it takes no vote below that ballot, and the report was its greatest vote there.
+pub fn promises_are_kept()
+    ensures bind { PromisesKept }
+    ensures reports { ReportsGreatest }
+{
+    laws::promises_are_kept::<PacketFault, Slugs, SetFault>();
+}
+
+/// Below each vote every ballot is backed by a majority.
+pub fn votes_are_backed()
+    ensures { VotesBacked }
+{
+    laws::votes_are_backed::<PacketFault, Slugs, SetFault>();
+}
+
+/// Each vote that was heard was taken.
+pub fn heard_is_voted()
+    ensures { HeardVoted }
+{
+    laws::heard_is_voted::<PacketFault, Slugs, SetFault>();
+}
+
+/// What is ripe is chosen, and two chosen tapes of one number are equal.
+pub fn chosen_is_one()
+    ensures ripe { RipeChosen }
+    ensures one { OneChosen }
+{
+    laws::chosen_is_one::<PacketFault, Slugs, SetFault>();
+}
+
+/// Over every history no two releases of one number differ, each released tape was offered for its number,
+/// and its slugs are those that its member's table and widths give it, or its fault is.
+pub fn agreement()
+    ensures { StationsAgree }
+{
+    laws::agreement::<PacketFault, Slugs, SetFault>();
+}
