@@ -1,0 +1,13 @@
+-- The desk is put back, or its number noted: by the lemma on either.
+use Rattle.std.proofs.Common.{◌≡◌, sym, ap, subst, ◌∙◌}
+use Rattle.node_core.specs.Standing.{Core, StandsFor, DeskStands, Grows, with_desk, without}
+use Rattle.node_core.proofs.Keeping.{kept_at}
+use Rattle.node_core.proofs.Phases.{when_ok}
+use Rattle.node_core.proofs.node.NodeCore.settle.Goals as goal
+
+pub returns-clause-stands : goal.returns-clause-stands
+returns-clause-stands c =
+    when_ok c.keep.result _ _ c.keep.ensures.kept
+    (λ kept before n marks after release number taken stands unreleased grows is_it left.
+        let is : c.keep.new.self ≡ with_desk (record before { desks = without n before.desks }) c.args.desk c.args.is_released = kept ∙ ap (λ (v : Core). with_desk v c.args.desk c.args.is_released) taken in
+        subst (λ (v : Core). StandsFor v after) (sym is) (kept_at c.other_marks_pass.ensures c.other_marks_pass-2.ensures before marks after c.args.desk n number stands unreleased grows release c.args.is_released is_it left))

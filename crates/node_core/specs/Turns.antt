@@ -1,0 +1,56 @@
+-- What the code's events, notes and turns say, in the protocol's words.
+use Rattle.std.specs.Prelude.{◌≡◌, List, [], ◌∷◌, Option, Some, None}
+use Rattle.protocol.specs.Rows.{Row}
+use Rattle.protocol.specs.Packets.{Packet}
+use Rattle.protocol.specs.Turn as said
+use Rattle.node_core.specs.declared.event.Event.{Event}
+use Rattle.node_core.specs.declared.event.Event.TheVariants as events
+use Rattle.node_core.specs.declared.turn.Note.{Note}
+use Rattle.node_core.specs.declared.turn.Note.TheVariants as notes
+use Rattle.node_core.specs.declared.turn.Turn.{Turn}
+
+-- what comes to the station
+abbrev pub event_value : Event → said.Event
+event_value (events.Offer number tape now) = said.Offered number tape now
+event_value (events.Seek number now) = said.Sought number now
+event_value (events.Due number now) = said.Came_due number now
+event_value (events.Arrived packet now) = said.Arrived packet now
+
+-- what the turn did
+abbrev pub note_value : Note → said.Note
+note_value (notes.Began b) = said.Note_began b
+note_value (notes.Nothing b) = said.Note_nothing b
+note_value (notes.Proposed b) = said.Note_proposed b
+note_value notes.Idle = said.Note_idle
+note_value (notes.GaveUp b) = said.Note_gave_up b
+note_value (notes.Promised b) = said.Note_promised b
+note_value notes.Silent = said.Note_silent
+note_value (notes.Nacked p) = said.Note_nacked p
+note_value (notes.VotedAgain b) = said.Note_voted_again b
+note_value (notes.Voted b) = said.Note_voted b
+note_value notes.Stale = said.Note_stale
+note_value (notes.Overtaken b) = said.Note_overtaken b
+note_value notes.Repeated = said.Note_repeated
+note_value (notes.Counted b) = said.Note_counted b
+note_value (notes.Denied p) = said.Note_denied p
+note_value notes.Settled = said.Note_settled
+note_value (notes.Heard b) = said.Note_heard b
+
+-- the row after a turn: it is given where it differs from the row before, and only there
+abbrev pub IsRowAfter : Row → Row → Option Row → Type 0
+IsRowAfter before after None = after ≡ before
+IsRowAfter before after (Some row) = (after ≡ row) × ¬ (row ≡ before)
+
+-- what the code hands out is the turn t of the definitions, from this row
+pub record IsTurn (row : Row) (t : said.Turn) (x : Turn) : Type 0 where
+  pub row_after : IsRowAfter row t.row x.row
+  pub out : x.out.items ≡ t.out
+  pub release : x.release ≡ t.release
+  pub note : note_value x.note ≡ t.note
+
+-- what the code hands out is this one reply, with this row after and this note
+pub record IsReply (x : Turn) (row : Option Row) (note : Note) (reply : Packet) : Type 0 where
+  pub row_after : x.row ≡ row
+  pub out : x.out.items ≡ reply ∷ []
+  pub release : x.release ≡ None
+  pub noted : x.note ≡ note

@@ -1,0 +1,378 @@
+//! What is in hand of one number: its proposal, if one is open, and the votes that were heard.
+
+ghost use Rattle.std.specs.Prelude.{◌≡◌, ◌≤◌, ℕ, List, [], ◌∷◌, Option, Some, None, IfOk, IfSome, OnOk, Ok, MatchBool, true, false, if◌then◌else◌};
+ghost use Rattle.protocol.specs.Ballots.{Ballot as BallotValue, next};
+ghost use Rattle.protocol.specs.Rows.{Row as RowValue, Tape as TapeValue, raised};
+ghost use Rattle.protocol.specs.Marks.{Mark, Began, Proposed, Denied, Closed};
+ghost use Rattle.protocol.specs.Acceptor.{is_above};
+ghost use Rattle.protocol.specs.Proposals.{Opening, open_proposal, open_ballot, proposal_at, gathering_at, since_began, counted, pick, is_due_number};
+ghost use Rattle.protocol.specs.Turn.{hear, propose, begin, due_turn, promise_turn, nack_turn};
+ghost use Rattle.proposer.specs.InHand.{StandsFor as ProposalStandsFor};
+ghost use Rattle.proposer.specs.Answers.{IsCountedAs, marks_after_promise, IsDueAnswer, IsOwnAndAbove, marks_after_due};
+ghost use Rattle.node_core.specs.Standing.{DeskStands, fresh, IsDeskOf, IsLeft, Answers};
+ghost use Rattle.node_core.specs.Seats.{Seat as SeatValue};
+
+use crate::hearing;
+use crate::mail::to_others;
+use crate::rows::{copied, is_promised, raise, vote};
+use crate::seat::Seat;
+use crate::turn::{Note, Turn};
+use ballots::{Ballot, Member, Number, Row, Vote, VoteRef};
+use learner::Heard;
+use packets::{BodyRef, PacketRef};
+use proposer::{Counted, DueAnswer, Proposal};
+use std::alloc::{AllocError, Global};
+use tape_frames::{Tape, TapeRef};
+
+/// One number's open proposal and heard votes. The number was not released.
+#[derive(Debug, Drop)]
+pub(crate) struct Desk {
+    pub number: Number,
+    pub proposal: Option<Proposal>,
+    pub heard: Heard,
+}
+
+impl Desk {
+    /// Nothing is in hand of the number yet.
+    pub fn new(alloc: Global, number: Number, seat: Seat) -> Desk
+        ensures desk { result ≡ fresh seat.members number }
+        ensures of { IsDeskOf seat result }
+    {
+        Desk {
+            number,
+            proposal: None,
+            heard: Heard::new(alloc, seat.members()),
+        }
+    }
+
+    /// The ballot of the open proposal.
+    pub fn open_ballot(&self) -> Option<Ballot>
+        ensures { (marks : List Mark) → DeskStands self.now marks → result ≡ open_ballot self.now.number marks }
+    {
+        match &self.proposal {
+            None => None,
+            Some(proposal) => Some(proposal.ballot()),
+        }
+    }
+
+    /// Whether the open proposal is due at this moment.
+    pub fn is_due(&self, now: u64) -> bool
+        ensures { (s : SeatValue) (marks : List Mark) → IsDeskOf s self.now → DeskStands self.now marks → result ≡ is_due_number s.me now marks self.now.number }
+    {
+        match &self.proposal {
+            None => false,
+            Some(proposal) => proposal.due_moment() <= now,
+        }
+    }
+
+    /// Hears a member's vote, and answers the tape that is then released, if any.
+    pub fn hear(
+        &mut self,
+        alloc: Global,
+        member: Member,
+        ballot: Ballot,
+        tape: TapeRef<'_>,
+    ) -> Result<Option<Tape>, AllocError>
+        requires { member ≤ self.old.heard.members }
+        ensures release { IfOk result (λ release. (marks : List Mark) → DeskStands self.old marks → release ≡ (hear self.old.heard.members self.old.number member ballot tape.entry marks).release) }
+        ensures left { IfOk result (λ release. (marks : List Mark) → DeskStands self.old marks → IsLeft self.new release (hear self.old.heard.members self.old.number member ballot tape.entry marks).marks) }
+        ensures of { (s : SeatValue) → IsDeskOf s self.old → IsDeskOf s self.new }
+        ensures number { self.new.number ≡ self.old.number }
+    {
+        // A vote that is heard changes nothing of the proposal.
+        proposer::laws::other_marks_pass();
+        hearing::hear(alloc, &mut self.heard, member, ballot, tape)
+    }
+
+    /// The tape that the proposal picks, copied.
+    fn picked(&self, alloc: Global) -> Result<Option<Tape>, AllocError>
+        ensures { IfOk result (λ tape. (s : SeatValue) (marks : List Mark) (o : Opening) → IsDeskOf s self.now → DeskStands self.now marks → open_proposal self.now.number marks ≡ Some o → tape ≡ pick o.own (counted s.me self.now.number o (since_began self.now.number marks))) }
+    {
+        let Some(proposal) = &self.proposal else {
+            return Ok(None);
+        };
+        match proposal.pick() {
+            None => Ok(None),
+            Some(tape) => Ok(Some(tape.copy(alloc)?)),
+        }
+    }
+
+    /// Notes that the proposal was proposed.
+    fn proposed(&mut self, now: u64)
+        ensures stands { (marks : List Mark) (o : Opening) → DeskStands self.old marks → open_proposal self.old.number marks ≡ Some o → DeskStands self.new (Proposed self.old.number o.ballot now ∷ marks) }
+        ensures of { (s : SeatValue) → IsDeskOf s self.old → IsDeskOf s self.new }
+        ensures number { self.new.number ≡ self.old.number }
+        ensures heard { self.new.heard ≡ self.old.heard }
+    {
+        learner::laws::other_marks_pass();
+        if let Some(proposal) = &mut self.proposal {
+            proposal.proposed(now);
+        }
+    }
+
+    /// Proposes the tape at the proposal's ballot, and votes for it.
+    fn propose_tape(
+        &mut self,
+        alloc: Global,
+        seat: Seat,
+        ballot: Ballot,
+        tape: Tape,
+        now: u64,
+        row: &Row,
+    ) -> Result<Turn, AllocError>
+        requires of { IsDeskOf seat self.old }
+        requires owner { ballot.owner ≡ seat.me }
+        ensures turn { IfOk result (λ x. (marks : List Mark) (o : Opening) (before : RowValue) → DeskStands self.old marks → open_proposal self.old.number marks ≡ Some o → o.ballot ≡ ballot → Answers row.now (propose seat.circuit seat.members seat.me self.old.number ballot now marks before (Some tape)) x self.new) }
+        ensures of { IsDeskOf seat self.new }
+        ensures number { self.new.number ≡ self.old.number }
+    {
+        let me = seat.me();
+        let mut out = Vec::new(alloc);
+        let accept = BodyRef::Accept { tape: tape.lend() };
+        to_others(alloc, seat, self.number, ballot, &accept, &mut out)?;
+        let accepted = BodyRef::Accepted { tape: tape.lend() };
+        to_others(alloc, seat, self.number, ballot, &accepted, &mut out)?;
+        self.proposed(now);
+        let release = self.hear(alloc, me, ballot, tape.lend())?;
+        Ok(Turn {
+            row: vote(row, ballot, tape),
+            out,
+            release,
+            note: Note::Proposed { ballot },
+        })
+    }
+
+    /// Phase 2 (Lamport): proposes the tape that the proposal picks, or closes it where there is none.
+    fn propose(
+        &mut self,
+        alloc: Global,
+        seat: Seat,
+        ballot: Ballot,
+        now: u64,
+        row: &Row,
+    ) -> Result<Turn, AllocError>
+        requires of { IsDeskOf seat self.old }
+        requires owner { ballot.owner ≡ seat.me }
+        ensures turn { IfOk result (λ x. (marks : List Mark) (o : Opening) → is_above row.now.promised ballot ≡ false → DeskStands self.old marks → open_proposal self.old.number marks ≡ Some o → o.ballot ≡ ballot → Answers row.now (propose seat.circuit seat.members seat.me self.old.number ballot now marks (raised row.now ballot) (pick o.own (counted seat.me self.old.number o (since_began self.old.number marks)))) x self.new) }
+        ensures of { IsDeskOf seat self.new }
+        ensures number { self.new.number ≡ self.old.number }
+    {
+        match self.picked(alloc)? {
+            Some(tape) => self.propose_tape(alloc, seat, ballot, tape, now, row),
+            None => {
+                let row = raise(alloc, row, ballot)?;
+                Ok(self.close(alloc, row, Note::Nothing { ballot }))
+            }
+        }
+    }
+
+    /// Closes the proposal.
+    fn close(&mut self, alloc: Global, row: Option<Row>, note: Note) -> Turn
+        ensures row { result.row ≡ row }
+        ensures out { result.out.items ≡ [] }
+        ensures release { result.release ≡ None }
+        ensures note { result.note ≡ note }
+        ensures stands { (marks : List Mark) → DeskStands self.old marks → DeskStands self.new (Closed self.old.number ∷ marks) }
+        ensures of { (s : SeatValue) → IsDeskOf s self.old → IsDeskOf s self.new }
+        ensures number { self.new.number ≡ self.old.number }
+    {
+        learner::laws::other_marks_pass();
+        self.proposal = None;
+        Turn {
+            row,
+            out: Vec::new(alloc),
+            release: None,
+            note,
+        }
+    }
+
+    /// Phase 1 (Lamport) of the ballot that the proposal has begun: asks the others for their promises.
+    /// A member of one proposes at once.
+    pub fn begun(
+        &mut self,
+        alloc: Global,
+        seat: Seat,
+        ballot: Ballot,
+        now: u64,
+        row: &Row,
+    ) -> Result<Turn, AllocError>
+        requires of { IsDeskOf seat self.old }
+        requires owner { ballot.owner ≡ seat.me }
+        ensures turn { IfOk result (λ x. (marks : List Mark) (own : Option TapeValue) → is_above row.now.promised ballot ≡ false → DeskStands self.old (Began self.old.number ballot own row.now.vote now ∷ marks) → Answers row.now (begin seat.circuit seat.members seat.me self.old.number ballot own now marks row.now) x self.new) }
+        ensures of { IsDeskOf seat self.new }
+        ensures number { self.new.number ≡ self.old.number }
+    {
+        if seat.members() == 1 {
+            return self.propose(alloc, seat, ballot, now, row);
+        }
+        let mut out = Vec::new(alloc);
+        to_others(alloc, seat, self.number, ballot, &BodyRef::Prepare, &mut out)?;
+        Ok(Turn {
+            row: raise(alloc, row, ballot)?,
+            out,
+            release: None,
+            note: Note::Began { ballot },
+        })
+    }
+
+    /// Begins with a new proposal, whose ballot was just begun.
+    pub fn start(
+        &mut self,
+        alloc: Global,
+        seat: Seat,
+        proposal: Proposal,
+        now: u64,
+        row: &Row,
+    ) -> Result<Turn, AllocError>
+        requires of { IsDeskOf seat self.old }
+        requires proposal { (proposal.me ≡ seat.me) × (proposal.members ≡ seat.members) }
+        requires owner { proposal.ballot.owner ≡ seat.me }
+        ensures turn { IfOk result (λ x. (marks : List Mark) (own : Option TapeValue) → is_above row.now.promised proposal.ballot ≡ false → DeskStands self.old marks → ProposalStandsFor proposal self.old.number (Began self.old.number proposal.ballot own row.now.vote now ∷ marks) → Answers row.now (begin seat.circuit seat.members seat.me self.old.number proposal.ballot own now marks row.now) x self.new) }
+        ensures of { IsDeskOf seat self.new }
+        ensures number { self.new.number ≡ self.old.number }
+    {
+        learner::laws::other_marks_pass();
+        let ballot = proposal.ballot();
+        self.proposal = Some(proposal);
+        self.begun(alloc, seat, ballot, now, row)
+    }
+
+    /// Whether the proposal gathers promises at this ballot.
+    fn gathers_at(&self, ballot: Ballot) -> bool
+        ensures { (marks : List Mark) → DeskStands self.now marks → MatchBool result ((p : Opening) × (gathering_at self.now.number ballot marks ≡ Some p)) (gathering_at self.now.number ballot marks ≡ None) }
+    {
+        match &self.proposal {
+            None => false,
+            Some(proposal) => proposal.gathers_at(ballot),
+        }
+    }
+
+    /// Hands a member's promise to the proposal.
+    fn count(
+        &mut self,
+        seat: Seat,
+        from: Member,
+        ballot: Ballot,
+        report: Option<VoteRef<'_>>,
+    ) -> Result<Counted, AllocError>
+        requires of { IsDeskOf seat self.old }
+        requires from { from ≤ seat.members }
+        ensures kind { IfOk result (λ kind. (marks : List Mark) → DeskStands self.old marks → IsCountedAs kind seat.members seat.me self.old.number ballot from report.entry marks) }
+        ensures stands { IfOk result (λ kind. (marks : List Mark) → DeskStands self.old marks → DeskStands self.new (marks_after_promise kind self.old.number from ballot report.entry marks)) }
+        ensures of { IsDeskOf seat self.new }
+        ensures number { self.new.number ≡ self.old.number }
+    {
+        learner::laws::other_marks_pass();
+        match &mut self.proposal {
+            None => Ok(Counted::Stale),
+            Some(proposal) => proposal.promise(from, ballot, report),
+        }
+    }
+
+    /// Takes a promise in; with those of a majority it proposes.
+    pub fn promise(
+        &mut self,
+        alloc: Global,
+        seat: Seat,
+        packet: &PacketRef<'_>,
+        report: Option<VoteRef<'_>>,
+        now: u64,
+        row: &Row,
+    ) -> Result<Turn, AllocError>
+        requires of { IsDeskOf seat self.old }
+        requires number { packet.now.number ≡ self.old.number }
+        requires from { packet.now.from ≤ seat.members }
+        requires owner { packet.now.ballot.owner ≡ seat.me }
+        ensures turn { IfOk result (λ x. (marks : List Mark) → DeskStands self.old marks → Answers row.now (promise_turn seat.circuit seat.members seat.me now marks row.now packet.now report.entry (gathering_at packet.now.number packet.now.ballot marks)) x self.new) }
+        ensures of { IsDeskOf seat self.new }
+        ensures number { self.new.number ≡ self.old.number }
+    {
+        let ballot = packet.ballot();
+        if !self.gathers_at(ballot) {
+            return Ok(Turn::quiet(alloc, Note::Stale));
+        }
+        if !is_promised(row, ballot) {
+            return Ok(Turn::quiet(alloc, Note::Overtaken { ballot }));
+        }
+        match self.count(seat, packet.from(), ballot, report)? {
+            Counted::Stale => Ok(Turn::quiet(alloc, Note::Stale)),
+            Counted::Repeated => Ok(Turn::quiet(alloc, Note::Repeated)),
+            Counted::More => Ok(Turn::quiet(alloc, Note::Counted { ballot })),
+            Counted::Quorum => self.propose(alloc, seat, ballot, now, row),
+        }
+    }
+
+    /// Hands a Nack to the proposal; `false` where the proposal is not at its ballot.
+    fn deny(&mut self, ballot: Ballot, promised: Ballot) -> bool
+        ensures kept { (marks : List Mark) → DeskStands self.old marks → MatchBool result ((p : Opening) × (proposal_at self.old.number ballot marks ≡ Some p)) (proposal_at self.old.number ballot marks ≡ None) }
+        ensures stands { (marks : List Mark) → DeskStands self.old marks → DeskStands self.new (if result then Denied self.old.number promised ∷ marks else marks) }
+        ensures of { (s : SeatValue) → IsDeskOf s self.old → IsDeskOf s self.new }
+        ensures number { self.new.number ≡ self.old.number }
+    {
+        learner::laws::other_marks_pass();
+        match &mut self.proposal {
+            None => false,
+            Some(proposal) => proposal.nack(ballot, promised),
+        }
+    }
+
+    /// Takes a Nack in.
+    pub fn nack(&mut self, alloc: Global, packet: &PacketRef<'_>, promised: Ballot) -> Turn
+        requires { packet.now.number ≡ self.old.number }
+        ensures turn { (row : RowValue) (marks : List Mark) → DeskStands self.old marks → Answers row (nack_turn marks row packet.now promised (proposal_at packet.now.number packet.now.ballot marks)) result self.new }
+        ensures of { (s : SeatValue) → IsDeskOf s self.old → IsDeskOf s self.new }
+        ensures number { self.new.number ≡ self.old.number }
+    {
+        if self.deny(packet.ballot(), promised) {
+            Turn::quiet(alloc, Note::Denied { promised })
+        } else {
+            Turn::quiet(alloc, Note::Stale)
+        }
+    }
+
+    /// What the proposal does at this moment.
+    fn renew(
+        &mut self,
+        seat: Seat,
+        promised: Option<Ballot>,
+        report: Option<Vote>,
+        now: u64,
+    ) -> Result<DueAnswer, AllocError>
+        requires { IsDeskOf seat self.old }
+        ensures answer { IfOk result (λ answer. (marks : List Mark) (o : Opening) (row : RowValue) → DeskStands self.old marks → open_proposal self.old.number marks ≡ Some o → row.promised ≡ promised → IsDueAnswer answer seat.me self.old.number now o marks row) }
+        ensures stands { IfOk result (λ answer. (marks : List Mark) (o : Opening) → DeskStands self.old marks → open_proposal self.old.number marks ≡ Some o → DeskStands self.new (marks_after_due answer self.old.number o.own report now marks)) }
+        ensures ballot { IfOk result (λ answer. IsOwnAndAbove answer seat.me promised) }
+        ensures of { IsDeskOf seat self.new }
+        ensures number { self.new.number ≡ self.old.number }
+    {
+        learner::laws::other_marks_pass();
+        match &mut self.proposal {
+            None => Ok(DueAnswer::Wait),
+            Some(proposal) => proposal.due(promised, report, now),
+        }
+    }
+
+    /// Sees to the proposal where its due moment has come: it begins anew, or gives up.
+    pub fn due(
+        &mut self,
+        alloc: Global,
+        seat: Seat,
+        now: u64,
+        row: &Row,
+    ) -> Result<Turn, AllocError>
+        requires { IsDeskOf seat self.old }
+        ensures turn { IfOk result (λ x. (marks : List Mark) → DeskStands self.old marks → Answers row.now (due_turn seat.circuit seat.members seat.me self.old.number now marks row.now (open_proposal self.old.number marks)) x self.new) }
+        ensures of { IsDeskOf seat self.new }
+        ensures number { self.new.number ≡ self.old.number }
+    {
+        let Some(last) = self.open_ballot() else {
+            return Ok(Turn::quiet(alloc, Note::Idle));
+        };
+        let report = copied(alloc, row.vote())?;
+        match self.renew(seat, row.promised(), report, now)? {
+            DueAnswer::Wait => Ok(Turn::quiet(alloc, Note::Idle)),
+            DueAnswer::GaveUp => Ok(self.close(alloc, None, Note::GaveUp { ballot: last })),
+            DueAnswer::Began { ballot } => self.begun(alloc, seat, ballot, now, row),
+        }
+    }
+}

@@ -1,0 +1,22 @@
+//! What comes to a station.
+
+use ballots::Number;
+use packets::Packet;
+use tape_frames::Tape;
+
+/// An event of one number. `now` is its moment, in milliseconds.
+#[derive(Debug, Drop)]
+pub enum Event {
+    /// The tape is offered for the number.
+    Offer {
+        number: Number,
+        tape: Tape,
+        now: u64,
+    },
+    /// The number's tape is sought.
+    Seek { number: Number, now: u64 },
+    /// The due moment of the number's proposal may have come.
+    Due { number: Number, now: u64 },
+    /// A packet came.
+    Arrived { packet: Packet, now: u64 },
+}

@@ -1,0 +1,17 @@
+//! A station's turn: what it takes in, and what then goes out.
+#![tactic(auto)]
+
+mod desk;
+mod desks;
+mod event;
+mod hearing;
+mod mail;
+mod node;
+mod rows;
+mod seat;
+mod turn;
+mod voting;
+
+pub use event::Event;
+pub use node::NodeCore;
+pub use turn::{CoreRefusal, Note, Turn};

@@ -1,0 +1,345 @@
+//! The core of a station: all that it took in since its start, and the turn that it takes at each event.
+
+ghost use Rattle.std.specs.Prelude.{◌≡◌, ◌≤◌, ◌==◌, ℕ, List, [], ◌∷◌, ◌++◌, Option, Some, None, IfOk, OnOk, MatchBool, IsTrue, true, false, length, is_some};
+ghost use Rattle.std.specs.List.{list_any};
+ghost use Rattle.protocol.specs.Ballots.{Ballot as BallotValue, next};
+ghost use Rattle.protocol.specs.Rows.{Tape as TapeValue, Row as RowValue};
+ghost use Rattle.protocol.specs.Marks.{Mark, Began};
+ghost use Rattle.protocol.specs.Proposals.{was_released, open_ballot, open_proposal, next_due, gathering_at, proposal_at};
+ghost use Rattle.protocol.specs.Turn.{hear, begin, due_turn, promise_turn, nack_turn, accepted_turn, accept_turn, prepare_turn, packet_turn, vote_turn, turn, Note as NoteValue};
+ghost use Rattle.node_core.specs.Standing.{Core, StandsFor, DeskStands, IsDeskOf, IsLeft, Grows, Took, IsSameSeat, seat_of, desk_of, without, with_desk};
+ghost use Rattle.protocol.specs.Packets.{Accept as AcceptBody};
+ghost use Rattle.packets.specs.Rules.{keeps_rules};
+ghost use Rattle.protocol.specs.Acceptor.{is_above};
+ghost use Rattle.proposer.specs.InHand.{StandsFor as ProposalStandsFor};
+ghost use Rattle.node_core.specs.Turns.{event_value, note_value, IsTurn, IsRowAfter};
+
+use crate::desk::Desk;
+use crate::desks;
+use crate::event::Event;
+use crate::mail::to_others;
+use crate::rows::copied;
+use crate::seat::Seat;
+use crate::turn::{CoreRefusal, Note, Turn};
+use crate::voting;
+use acceptor::AcceptAnswer;
+use ballots::{Ballot, Member, Number, Row, VoteRef};
+use packets::{BodyRef, Packet, PacketRef};
+use proposer::{BeginRefusal, Proposal};
+use std::alloc::{AllocError, Global};
+use std::marker::Model;
+use tape_frames::{Tape, TapeRef};
+
+/// What a station took in since its start, of all numbers, and its seat.
+///
+/// Memory that was refused leaves it failed: nothing of it can be used then until it is cleared.
+#[derive(Debug, Drop)]
+pub struct NodeCore {
+    alloc: Global,
+    seat: Seat,
+    failed: bool,
+    desks: Vec<Desk>,
+    released: Vec<Number>,
+}
+
+impl Model for NodeCore {
+    ghost use Rattle.node_core.specs.Standing.{Core, AreDesksOf};
+
+    ghost Value = { Core };
+
+    ghost view = { λ c. record { circuit = c.seat.circuit; me = c.seat.me; members = c.seat.members; failed = c.failed; desks = c.desks.items; released = c.released.items } };
+
+    ghost invariant = { λ c. AreDesksOf c.seat c.desks.items };
+}
+
+/// Whether the number is among these.
+fn contains(numbers: &[Number], number: Number) -> bool
+    ensures { result ≡ list_any (λ k. k == number) numbers.now }
+{
+    numbers.iter().any(|other| other.get() == number.get())
+}
+
+impl NodeCore {
+    /// The core of a member of a circuit that just started.
+    pub fn new(alloc: Global, circuit: u16, me: Member, members: u8) -> NodeCore
+        requires low { 1 ≤ members }
+        requires high { members ≤ 15 }
+        requires member { me ≤ members }
+        ensures circuit { result.circuit ≡ circuit }
+        ensures me { result.me ≡ me }
+        ensures members { result.members ≡ members }
+        ensures failed { result.failed ≡ false }
+        ensures stands { StandsFor result [] }
+    {
+        NodeCore {
+            alloc,
+            seat: Seat::new(circuit, me, members),
+            failed: false,
+            desks: Vec::new(alloc),
+            released: Vec::new(alloc),
+        }
+    }
+
+    /// Forgets all that was taken in, as at a start.
+    pub fn clear(&mut self)
+        ensures circuit { self.new.circuit ≡ self.old.circuit }
+        ensures me { self.new.me ≡ self.old.me }
+        ensures members { self.new.members ≡ self.old.members }
+        ensures failed { self.new.failed ≡ false }
+        ensures stands { StandsFor self.new [] }
+    {
+        self.failed = false;
+        self.desks.clear();
+        self.released.clear();
+    }
+
+    /// Whether the number's tape was released since the start; `false` while the core is failed.
+    pub fn released(&self, number: Number) -> bool
+        ensures failed { self.now.failed ≡ true → result ≡ false }
+        ensures value { (marks : List Mark) → StandsFor self.now marks → result ≡ was_released number marks }
+    {
+        !self.failed && contains(&self.released, number)
+    }
+
+    /// The ballot of the number's open proposal, if there is one; `None` while the core is failed.
+    pub fn open_ballot(&self, number: Number) -> Option<Ballot>
+        ensures failed { self.now.failed ≡ true → result ≡ None }
+        ensures value { (marks : List Mark) → StandsFor self.now marks → result ≡ open_ballot number marks }
+    {
+        if self.failed {
+            return None;
+        }
+        match desks::find(&self.desks, number) {
+            None => None,
+            Some(desk) => desk.open_ballot(),
+        }
+    }
+
+    /// Whether a proposal of the number is open.
+    fn is_open(&self, number: Number) -> bool
+        ensures { (marks : List Mark) → StandsFor self.now marks → MatchBool result (was_released number marks ≡ false) (open_proposal number marks ≡ None) }
+    {
+        self.open_ballot(number).is_some()
+    }
+
+    /// Its seat.
+    fn seat(&self) -> Seat
+        ensures { result ≡ seat_of self.now }
+    {
+        self.seat
+    }
+
+    /// Takes the number's desk out, or makes one.
+    fn desk(&mut self, number: Number) -> Desk
+        ensures desk { result ≡ desk_of self.old.members number self.old.desks }
+        ensures left { self.new ≡ record self.old { desks = without number self.old.desks } }
+        ensures of { IsDeskOf (seat_of self.old) result }
+        ensures number { result.number ≡ number }
+        ensures stands { (marks : List Mark) → StandsFor self.old marks → was_released number marks ≡ false → DeskStands result marks }
+    {
+        match desks::take(&mut self.desks, number) {
+            Some(desk) => desk,
+            None => Desk::new(self.alloc, number, self.seat),
+        }
+    }
+
+    /// Puts the desk back, or notes its number as released.
+    fn keep(&mut self, desk: Desk, is_released: bool) -> Result<(), AllocError>
+        requires { IsDeskOf (seat_of self.old) desk }
+        ensures kept { OnOk result (self.new ≡ with_desk self.old desk is_released) }
+        ensures seat { IsSameSeat self.old self.new }
+    {
+        if is_released {
+            self.released.push(desk.number)?;
+        } else {
+            self.desks.push(desk)?;
+        }
+        Ok(())
+    }
+
+    /// Puts the desk back with what its turn left in it.
+    fn settle(&mut self, desk: Desk, is_released: bool) -> Result<(), AllocError>
+        requires { IsDeskOf (seat_of self.old) desk }
+        ensures stands { OnOk result ((before : Core) (n : ℕ) (marks after : List Mark) (release : Option TapeValue) → desk.number ≡ n → self.old ≡ record before { desks = without n before.desks } → StandsFor before marks → was_released n marks ≡ false → Grows n marks after → is_some release ≡ is_released → IsLeft desk release after → StandsFor self.new after) }
+        ensures seat { IsSameSeat self.old self.new }
+    {
+        // Marks of one number change nothing that is read of another.
+        learner::laws::other_marks_pass();
+        proposer::laws::other_marks_pass();
+        self.keep(desk, is_released)
+    }
+
+    /// Hears a member's vote, where the number was not released; answers the tape that is released then, if any.
+    fn hear(
+        &mut self,
+        number: Number,
+        member: Member,
+        ballot: Ballot,
+        tape: TapeRef<'_>,
+    ) -> Result<Option<Tape>, AllocError>
+        requires { member ≤ self.old.members }
+        ensures release { IfOk result (λ release. (marks : List Mark) → StandsFor self.old marks → release ≡ (hear self.old.members number member ballot tape.entry marks).release) }
+        ensures stands { OnOk result ((marks : List Mark) → StandsFor self.old marks → StandsFor self.new (hear self.old.members number member ballot tape.entry marks).marks) }
+        ensures seat { IsSameSeat self.old self.new }
+    {
+        if self.released(number) {
+            return Ok(None);
+        }
+        let mut desk = self.desk(number);
+        let release = desk.hear(self.alloc, member, ballot, tape)?;
+        self.settle(desk, release.is_some())?;
+        Ok(release)
+    }
+
+    /// Opens the number's proposal, whose first ballot was just begun.
+    fn open(
+        &mut self,
+        number: Number,
+        proposal: Proposal,
+        now: u64,
+        row: &Row,
+    ) -> Result<Turn, AllocError>
+        requires proposal { (proposal.me ≡ self.old.me) × (proposal.members ≡ self.old.members) }
+        requires owner { proposal.ballot.owner ≡ self.old.me }
+        ensures turn { IfOk result (λ x. (marks : List Mark) (own : Option TapeValue) → StandsFor self.old marks → was_released number marks ≡ false → is_above row.now.promised proposal.ballot ≡ false → ProposalStandsFor proposal number (Began number proposal.ballot own row.now.vote now ∷ marks) → Took row.now (begin self.old.circuit self.old.members self.old.me number proposal.ballot own now marks row.now) x self.new) }
+        ensures seat { IsSameSeat self.old self.new }
+    {
+        let seat = self.seat();
+        let mut desk = self.desk(number);
+        let turn = desk.start(self.alloc, seat, proposal, now, row)?;
+        self.settle(desk, turn.release.is_some())?;
+        Ok(turn)
+    }
+
+    /// Sees to the number's proposal where its due moment has come.
+    fn due(&mut self, number: Number, now: u64, row: &Row) -> Result<Turn, AllocError>
+        ensures turn { IfOk result (λ x. (marks : List Mark) → StandsFor self.old marks → Took row.now (due_turn self.old.circuit self.old.members self.old.me number now marks row.now (open_proposal number marks)) x self.new) }
+        ensures seat { IsSameSeat self.old self.new }
+    {
+        if !self.is_open(number) {
+            return Ok(Turn::quiet(self.alloc, Note::Idle));
+        }
+        let seat = self.seat();
+        let mut desk = self.desk(number);
+        let turn = desk.due(self.alloc, seat, now, row)?;
+        self.settle(desk, turn.release.is_some())?;
+        Ok(turn)
+    }
+
+    /// Takes a Promise in.
+    fn promise(
+        &mut self,
+        packet: &PacketRef<'_>,
+        report: Option<VoteRef<'_>>,
+        now: u64,
+        row: &Row,
+    ) -> Result<Turn, AllocError>
+        requires from { packet.now.from ≤ self.old.members }
+        requires owner { packet.now.ballot.owner ≡ self.old.me }
+        ensures turn { IfOk result (λ x. (marks : List Mark) → StandsFor self.old marks → Took row.now (promise_turn self.old.circuit self.old.members self.old.me now marks row.now packet.now report.entry (gathering_at packet.now.number packet.now.ballot marks)) x self.new) }
+        ensures seat { IsSameSeat self.old self.new }
+    {
+        let number = packet.number();
+        if !self.is_open(number) {
+            return Ok(Turn::quiet(self.alloc, Note::Stale));
+        }
+        let seat = self.seat();
+        let mut desk = self.desk(number);
+        let turn = desk.promise(self.alloc, seat, packet, report, now, row)?;
+        self.settle(desk, turn.release.is_some())?;
+        Ok(turn)
+    }
+
+    /// Takes a Nack in.
+    fn nack(&mut self, packet: &PacketRef<'_>, promised: Ballot) -> Result<Turn, AllocError>
+        ensures turn { IfOk result (λ x. (row : RowValue) (marks : List Mark) → StandsFor self.old marks → Took row (nack_turn marks row packet.now promised (proposal_at packet.now.number packet.now.ballot marks)) x self.new) }
+        ensures seat { IsSameSeat self.old self.new }
+    {
+        let number = packet.number();
+        if !self.is_open(number) {
+            return Ok(Turn::quiet(self.alloc, Note::Stale));
+        }
+        let mut desk = self.desk(number);
+        let turn = desk.nack(self.alloc, packet, promised);
+        self.settle(desk, turn.release.is_some())?;
+        Ok(turn)
+    }
+
+    /// Takes an Accepted in.
+    fn accepted(&mut self, packet: &PacketRef<'_>, tape: TapeRef<'_>) -> Result<Turn, AllocError>
+        requires { packet.now.from ≤ self.old.members }
+        ensures turn { IfOk result (λ x. (row : RowValue) (marks : List Mark) → StandsFor self.old marks → Took row (accepted_turn self.old.members marks row packet.now tape.entry) x self.new) }
+        ensures seat { IsSameSeat self.old self.new }
+    {
+        let number = packet.number();
+        let ballot = packet.ballot();
+        let note = if self.released(number) {
+            Note::Settled
+        } else {
+            Note::Heard { ballot }
+        };
+        let release = self.hear(number, packet.from(), ballot, tape)?;
+        Ok(Turn {
+            row: None,
+            out: Vec::new(self.alloc),
+            release,
+            note,
+        })
+    }
+
+    /// Sends the own vote to the others, and hears it.
+    fn voted(
+        &mut self,
+        packet: &PacketRef<'_>,
+        tape: TapeRef<'_>,
+        row: Option<Row>,
+        note: Note,
+    ) -> Result<Turn, AllocError>
+        ensures turn { IfOk result (λ x. (marks : List Mark) (before after : RowValue) (said : NoteValue) → StandsFor self.old marks → IsRowAfter before after row → note_value note ≡ said → Took before (vote_turn self.old.circuit self.old.members self.old.me marks after packet.now tape.entry said) x self.new) }
+        ensures seat { IsSameSeat self.old self.new }
+    {
+        let number = packet.number();
+        let ballot = packet.ballot();
+        let seat = self.seat();
+        let mut out = Vec::new(self.alloc);
+        let accepted = BodyRef::Accepted { tape: tape.lend() };
+        to_others(self.alloc, seat, number, ballot, &accepted, &mut out)?;
+        let release = self.hear(number, seat.me(), ballot, tape)?;
+        Ok(Turn {
+            row,
+            out,
+            release,
+            note,
+        })
+    }
+
+    /// Takes an Accept in.
+    fn accept(
+        &mut self,
+        packet: &PacketRef<'_>,
+        tape: TapeRef<'_>,
+        row: &Row,
+    ) -> Result<Turn, AllocError>
+        requires to { packet.now.to ≡ self.old.me }
+        requires rules { IsTrue (keeps_rules packet.now) }
+        requires kind { packet.now.body ≡ AcceptBody tape }
+        ensures turn { IfOk result (λ x. (marks : List Mark) → StandsFor self.old marks → Took row.now (accept_turn self.old.circuit self.old.members self.old.me marks row.now packet.now tape.entry row.now.promised) x self.new) }
+        ensures seat { IsSameSeat self.old self.new }
+    {
+        let ballot = packet.ballot();
+        match acceptor::accept(self.alloc, row, ballot, tape.lend())? {
+            AcceptAnswer::Nack { promised } => {
+                let body = BodyRef::Nack { promised };
+                let note = Note::Nacked { promised };
+                voting::answer(self.alloc, self.seat(), packet, body, None, note)
+            }
+            AcceptAnswer::Again => match row.vote() {
+                None => unreachable!(),
+                Some(vote) => self.voted(packet, vote.tape(), None, Note::VotedAgain { ballot }),
+            },
+            AcceptAnswer::Voted { row: after } => {
+                self.voted(packet, tape, Some(after), Note::Voted { ballot })
+            }
+        }
+    }
+}

@@ -1,0 +1,92 @@
+//! What a turn hands out, and why there is none.
+
+ghost use Rattle.std.specs.Prelude.{◌≡◌, []};
+
+use ballots::{Ballot, Row};
+use packets::Packet;
+use std::alloc::Global;
+use tape_frames::Tape;
+
+/// What a turn did.
+#[derive(Clone, Copy, Debug, PartialEq, Eq)]
+pub enum Note {
+    /// It began a ballot, and asks the others for their promises.
+    Began { ballot: Ballot },
+    /// There was no tape to propose: the proposal is closed.
+    Nothing { ballot: Ballot },
+    /// It voted for a tape and proposes it.
+    Proposed { ballot: Ballot },
+    /// Nothing was due.
+    Idle,
+    /// The proposal, whose last ballot this was, is closed.
+    GaveUp { ballot: Ballot },
+    /// It promised.
+    Promised { ballot: Ballot },
+    /// It has promised this ballot already.
+    Silent,
+    /// It has promised this higher ballot.
+    Nacked { promised: Ballot },
+    /// Its vote at this ballot stands.
+    VotedAgain { ballot: Ballot },
+    /// It voted.
+    Voted { ballot: Ballot },
+    /// No proposal is at the packet's ballot, or it no longer gathers promises.
+    Stale,
+    /// Its own row has passed the ballot.
+    Overtaken { ballot: Ballot },
+    /// The sender's promise is counted already.
+    Repeated,
+    /// The promise is counted.
+    Counted { ballot: Ballot },
+    /// The Nack is kept.
+    Denied { promised: Ballot },
+    /// The number's tape was released already.
+    Settled,
+    /// The vote was heard.
+    Heard { ballot: Ballot },
+}
+
+/// What a turn hands out.
+#[derive(Debug, Drop)]
+pub struct Turn {
+    /// The number's row after it, where it changes: it has to be saved before anything is handed out.
+    pub row: Option<Row>,
+    /// The packets that go out, in this order.
+    pub out: Vec<Packet>,
+    /// The tape that is released.
+    pub release: Option<Tape>,
+    /// What the turn did.
+    pub note: Note,
+}
+
+impl Turn {
+    /// A turn that saves, sends and releases nothing.
+    pub(crate) fn quiet(alloc: Global, note: Note) -> Turn
+        ensures row { result.row ≡ None }
+        ensures out { result.out.items ≡ [] }
+        ensures release { result.release ≡ None }
+        ensures note { result.note ≡ note }
+    {
+        Turn {
+            row: None,
+            out: Vec::new(alloc),
+            release: None,
+            note,
+        }
+    }
+}
+
+/// Why there is no turn.
+#[derive(Clone, Copy, Debug, PartialEq, Eq)]
+pub enum CoreRefusal {
+    /// Memory was refused before, and the core was not cleared since.
+    Failed,
+    /// The number's tape was released already.
+    AlreadyReleased,
+    /// A proposal of the number is open.
+    AlreadyOpen,
+    /// There is no round above the saved promise.
+    RoundsSpent,
+    /// Memory was refused: the core has failed.
+    OutOfMemory,
+}
