@@ -3,3 +3,4 @@ pub mod Memory
 pub mod Columns
 pub mod Identity
 pub mod Sqlite
+pub mod Files

@@ -4,6 +4,7 @@
 mod balky;
 mod columns;
 mod fault;
+mod files;
 mod identity;
 mod memory;
 mod rows;

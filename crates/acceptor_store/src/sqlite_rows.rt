@@ -2,6 +2,7 @@
 
 ghost use Rattle.std.specs.Prelude.{◌≡◌, ◌≤◌, ◌⊎◌, ℕ, true, false, Some, None, Err, IsTrue, IsOk, IfOk, IfErr, OnOk, OnErr};
 ghost use Rattle.protocol.specs.Rows.{blank};
+ghost use Rattle.sqlite_trees.specs.View.{doubt};
 ghost use Rattle.sqlite.specs.State.{HasCleanDisk};
 ghost use Rattle.row_table.specs.Tables.{no_schema, row_schema};
 ghost use Rattle.row_table.specs.Station.{HoldsNone};
@@ -126,6 +127,7 @@ impl<S: Alter + Drop> SqliteRows<S> {
         ensures given { IfOk result (λ s. Agrees given s.identity) }
         ensures stored { IfOk result (λ s. IsKept S.Store s → stored_identity (state S.Store conn).now.trees ≡ Some s.identity) }
         ensures unstopped { IfOk result (λ s. s.stopped ≡ false) }
+        ensures clean { IfOk result (λ s. doubt (state S.Store conn).is_clean ≤ doubt (state S.Store s.conn).is_clean) }
         ensures kept { IfOk result (λ s. HasCleanDisk (state S.Store s.conn) → (state S.Store conn).now.schema ≡ row_schema → IsKept S.Store s) }
 
         // Why it is refused; nothing is changed then either.

@@ -1,0 +1,16 @@
+use Rattle.std.proofs.Common.{◌≡◌, arith}
+use Rattle.sqlite.specs.State.{HasCleanDisk}
+use Rattle.sqlite.specs.Files.{file_state}
+use Rattle.acceptor_store.proofs.files.SqliteRows+FileStore+FileFrom+T.open_from.Goals as goal
+
+pub returns-in-Ok-open-clause-rows : goal.returns-in-Ok-open-clause-rows
+returns-in-Ok-open-clause-rows g c clean ours =
+    let was = c.in-Ok.conn in
+    let early : HasCleanDisk (file_state was) = omega (arith, clean, c.in-Ok-open.ensures.clean) in
+    record {
+      was = was;
+      opened = c.in-Ok.ensures.opened early;
+      found = c.in-Ok.ensures.found early;
+      same = c.in-Ok-open.ensures.same (clean, ours);
+      station = c.in-Ok-open.ensures.stored (clean, ours);
+    }

@@ -1,0 +1,51 @@
+//! Rows in a host's file.
+
+ghost use Rattle.std.specs.Prelude.{◌≡◌, None, IsTrue, IfOk, IfErr};
+ghost use Rattle.sqlite.specs.State.{HasCleanDisk};
+ghost use Rattle.sqlite.specs.Files.{file_state};
+ghost use Rattle.sqlite.specs.WalFiles.{image_at};
+ghost use Rattle.acceptor_store.specs.Sqlite.{IsOurs, IsRefusal, Agrees};
+
+use crate::fault::RowsFault;
+use crate::identity::Identity;
+use crate::sqlite_rows::SqliteRows;
+use crate::statements::fault_of;
+use sqlite::{Connection, FileFrom, FileStore, Leftover, Start};
+
+impl<T: Start> SqliteRows<FileStore<FileFrom<T>>> {
+    ghost use Rattle.acceptor_store.specs.Files.{IsTakenUp};
+
+    /// Opens a file and takes up the rows that it holds, as [`SqliteRows::open`] does. `path`, `new_has_sums`
+    /// and `start` are as for `Connection::open_from`.
+    ///
+    /// A file that can't be opened is `Store`, or `OutOfMemory` where memory was refused. With the fault comes
+    /// the connection, where the file was opened, or what is left of the files, if anything.
+    pub fn open_from(
+        rt: &HostRuntime,
+        path: &str,
+        new_has_sums: bool,
+        start: T,
+        given: Option<Identity>,
+    ) -> Result<
+        SqliteRows<FileStore<FileFrom<T>>>,
+        (
+            RowsFault,
+            Option<Connection<FileStore<FileFrom<T>>>>,
+            Option<Leftover<FileFrom<T>>>,
+        ),
+    >
+        ensures open { IfOk result (λ s. HasCleanDisk (file_state s.conn) → IsOurs s.alone s.found → IsTrue (file_state s.conn).is_open) }
+        ensures rows { IfOk result (λ s. HasCleanDisk (file_state s.conn) → IsOurs s.alone s.found → IsTakenUp (image_at T.Start) s) }
+        ensures given { IfOk result (λ s. Agrees given s.identity) }
+        ensures refusal { IfErr result (λ e. e.1 ≡ None → IsRefusal e.0) }
+    {
+        let conn = match Connection::open_from(rt, path, new_has_sums, start) {
+            Ok(conn) => conn,
+            Err((error, left)) => return Err((fault_of(&error), None, left)),
+        };
+        match SqliteRows::open(rt.alloc(), conn, given) {
+            Ok(rows) => Ok(rows),
+            Err((fault, conn)) => Err((fault, Some(conn), None)),
+        }
+    }
+}
