@@ -103,3 +103,13 @@ module _ (k c m : ℕ) (marks : List Mark) (row : Row) (p : Packet) (t : Tape) w
             changes = λ same.
               let f : vote_is_at row.vote p.ballot ≡ true = ap (λ (r : Row). vote_is_at r.vote p.ballot) (sym same ∙ after_is) ∙ is_same-self p.ballot in
               let g : true ≡ false = sym f ∙ u in cc }
+
+-- a Prepare adds no mark
+pub prepare_adds_none : (k m : ℕ) (marks : List Mark) (row : Row) (p : Packet) (o : Option Ballot) → (prepare_turn k m marks row p o).marks ≡ marks
+prepare_adds_none k m marks row p None = refl
+prepare_adds_none k m marks row p (Some a) = go (is_below a p.ballot) refl (is_same a p.ballot) refl
+  where
+    go : (x : Bool) → is_below a p.ballot ≡ x → (y : Bool) → is_same a p.ballot ≡ y → (prepare_turn k m marks row p (Some a)).marks ≡ marks
+    go true e y f = rw e refl
+    go false e true f = rw (e, f) refl
+    go false e false f = rw (e, f) refl

@@ -6,3 +6,4 @@ pub mod Keeping
 pub mod Growing
 pub mod Accepting
 pub mod Telling
+pub mod Calling

@@ -5,7 +5,7 @@ use Rattle.protocol.specs.Ballots.{Ballot}
 use Rattle.protocol.specs.Rows.{Tape, Vote, Row}
 use Rattle.protocol.specs.Packets.{Packet, Accepted}
 use Rattle.protocol.specs.Marks.{Mark}
-use Rattle.protocol.specs.Proposals.{Opening, was_released, open_proposal, open_ballot}
+use Rattle.protocol.specs.Proposals.{Opening, was_released, open_proposal, open_ballot, opening_ballot}
 use Rattle.protocol.specs.Turn.{begin, due_turn, promise_turn, hear, to_others}
 use Rattle.node_core.specs.Seats.{Seat}
 use Rattle.node_core.specs.declared.desk.Desk.{Desk}
@@ -30,10 +30,14 @@ begin_told s z j n b own now marks row x d e f a =
 pub left_without : (v w : Core) (j n : ℕ) → j ≡ n → w ≡ record v { desks = without j v.desks } → w ≡ record v { desks = without n v.desks }
 left_without v w j n e f = f ∙ ap (λ i. let u : Core = record v { desks = without i v.desks } in u) e
 
+is_open : (p : Option Opening) (b : Ballot) → Some b ≡ opening_ballot p → is_some p ≡ true
+is_open None b e = absurd cc
+is_open (Some o) b e = refl
+
 -- whether a number is open, by its ballot
-pub open_so : (n : ℕ) (marks : List Mark) (b : Bool) (o : Option Ballot) → b ≡ is_some o → o ≡ open_ballot n marks → MatchBool b (was_released n marks ≡ false) (open_proposal n marks ≡ None)
+pub open_so : (n : ℕ) (marks : List Mark) (b : Bool) (o : Option Ballot) → b ≡ is_some o → o ≡ open_ballot n marks → MatchBool b ((was_released n marks ≡ false) × (is_some (open_proposal n marks) ≡ true)) (open_proposal n marks ≡ None)
 open_so n marks true None e f = absurd cc
-open_so n marks true (Some b) e f = some_at n marks b f
+open_so n marks true (Some b) e f = (some_at n marks b f, is_open (open_proposal n marks) b f)
 open_so n marks false None e f = none_at n marks f
 open_so n marks false (Some b) e f = absurd cc
 

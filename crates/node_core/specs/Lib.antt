@@ -1,3 +1,4 @@
+pub mod Calls
 pub mod Seats
 pub mod Standing
 pub mod Turns

@@ -1,6 +1,6 @@
 //! The core of a station: all that it took in since its start, and the turn that it takes at each event.
 
-ghost use Rattle.std.specs.Prelude.{◌≡◌, ◌≤◌, ◌==◌, ℕ, List, [], ◌∷◌, ◌++◌, Option, Some, None, IfOk, OnOk, MatchBool, IsTrue, true, false, length, is_some};
+ghost use Rattle.std.specs.Prelude.{◌≡◌, ◌≤◌, ◌==◌, ℕ, List, [], ◌∷◌, ◌++◌, Option, Some, None, Err, IfOk, IfErr, OnOk, MatchBool, IsTrue, true, false, length, is_some};
 ghost use Rattle.std.specs.List.{list_any};
 ghost use Rattle.protocol.specs.Ballots.{Ballot as BallotValue, next};
 ghost use Rattle.protocol.specs.Rows.{Tape as TapeValue, Row as RowValue};
@@ -12,13 +12,14 @@ ghost use Rattle.protocol.specs.Packets.{Accept as AcceptBody};
 ghost use Rattle.packets.specs.Rules.{keeps_rules};
 ghost use Rattle.protocol.specs.Acceptor.{is_above};
 ghost use Rattle.proposer.specs.InHand.{StandsFor as ProposalStandsFor};
+ghost use Rattle.node_core.specs.Calls.{IsForMember, IsFree, Started, RefusesToStart, MayCome, TookTurn, RefusesEvent, Refuses};
 ghost use Rattle.node_core.specs.Turns.{event_value, note_value, IsTurn, IsRowAfter};
 
 use crate::desk::Desk;
 use crate::desks;
 use crate::event::Event;
 use crate::mail::to_others;
-use crate::rows::copied;
+use crate::rows::{copied, relent};
 use crate::seat::Seat;
 use crate::turn::{CoreRefusal, Note, Turn};
 use crate::voting;
@@ -117,7 +118,7 @@ impl NodeCore {
 
     /// Whether a proposal of the number is open.
     fn is_open(&self, number: Number) -> bool
-        ensures { (marks : List Mark) → StandsFor self.now marks → MatchBool result (was_released number marks ≡ false) (open_proposal number marks ≡ None) }
+        ensures { (marks : List Mark) → StandsFor self.now marks → MatchBool result ((was_released number marks ≡ false) × (is_some (open_proposal number marks) ≡ true)) (open_proposal number marks ≡ None) }
     {
         self.open_ballot(number).is_some()
     }
@@ -339,6 +340,121 @@ impl NodeCore {
             },
             AcceptAnswer::Voted { row: after } => {
                 self.voted(packet, tape, Some(after), Note::Voted { ballot })
+            }
+        }
+    }
+
+    /// Offers or seeks the number's tape: begins the next ballot above the saved promise.
+    fn start(
+        &mut self,
+        number: Number,
+        own: Option<Tape>,
+        now: u64,
+        row: &Row,
+    ) -> Result<Turn, CoreRefusal>
+        requires { self.old.failed ≡ false }
+        ensures turn { IfOk result (λ x. (marks : List Mark) → StandsFor self.old marks → Started self.old number own now marks row.now x self.new) }
+        ensures refused { IfErr result (λ e. RefusesToStart e self.old number row.now self.new) }
+        ensures seat { IsSameSeat self.old self.new }
+    {
+        if self.released(number) {
+            return Err(CoreRefusal::AlreadyReleased);
+        }
+        if self.is_open(number) {
+            return Err(CoreRefusal::AlreadyOpen);
+        }
+        let Ok(report) = copied(self.alloc, row.vote()) else {
+            return Err(CoreRefusal::OutOfMemory);
+        };
+        let seat = self.seat();
+        let begun = Proposal::begin(
+            self.alloc,
+            row.promised(),
+            seat.me(),
+            seat.members(),
+            own,
+            report,
+            now,
+        );
+        match begun {
+            Err(_) => Err(CoreRefusal::RoundsSpent),
+            Ok(proposal) => match self.open(number, proposal, now, row) {
+                Ok(turn) => Ok(turn),
+                Err(_) => Err(CoreRefusal::OutOfMemory),
+            },
+        }
+    }
+
+    /// Takes a packet in.
+    fn receive(&mut self, packet: &PacketRef<'_>, now: u64, row: &Row) -> Result<Turn, AllocError>
+        requires { IsForMember self.old.me self.old.members packet.now }
+        ensures turn { IfOk result (λ x. (marks : List Mark) → StandsFor self.old marks → Took row.now (packet_turn self.old.circuit self.old.members self.old.me now marks row.now packet.now packet.now.body) x self.new) }
+        ensures seat { IsSameSeat self.old self.new }
+    {
+        match packet.body() {
+            BodyRef::Prepare => voting::prepare(self.alloc, self.seat(), packet, row),
+            BodyRef::Promise { report } => self.promise(packet, relent(report), now, row),
+            BodyRef::Accept { tape } => self.accept(packet, tape.lend(), row),
+            BodyRef::Accepted { tape } => self.accepted(packet, tape.lend()),
+            BodyRef::Nack { promised } => self.nack(packet, *promised),
+        }
+    }
+
+    /// The turn of the event, or why there is none; memory that was refused may leave anything behind.
+    fn take_turn(&mut self, event: Event, row: &Row) -> Result<Turn, CoreRefusal>
+        requires unfailed { self.old.failed ≡ false }
+        requires arrived { MayCome self.old.me self.old.members event }
+        ensures ok { IfOk result (λ x. (marks : List Mark) → StandsFor self.old marks → TookTurn self.old event marks row.now x self.new) }
+        ensures refused { IfErr result (λ e. RefusesEvent event e self.old row.now self.new) }
+        ensures seat { IsSameSeat self.old self.new }
+    {
+        match event {
+            Event::Offer { number, tape, now } => self.start(number, Some(tape), now, row),
+            Event::Seek { number, now } => self.start(number, None, now, row),
+            Event::Due { number, now } => match self.due(number, now, row) {
+                Ok(turn) => Ok(turn),
+                Err(_) => Err(CoreRefusal::OutOfMemory),
+            },
+            Event::Arrived { packet, now } => match self.receive(&packet.lend(), now, row) {
+                Ok(turn) => Ok(turn),
+                Err(_) => Err(CoreRefusal::OutOfMemory),
+            },
+        }
+    }
+
+    /// Forgets all that was taken in, and refuses each event until it is cleared.
+    fn fail(&mut self)
+        ensures failed { self.new.failed ≡ true }
+        ensures seat { IsSameSeat self.old self.new }
+    {
+        self.clear();
+        self.failed = true;
+    }
+
+    /// Takes the turn of the event, where `row` is the saved row of its number.
+    ///
+    /// `Failed` where memory was refused before and the core was not cleared since. To an offer or a search:
+    /// `AlreadyReleased` and `AlreadyOpen` for a number that is, and `RoundsSpent` where there is no ballot above
+    /// the row's promise. These change nothing. `OutOfMemory` leaves the core failed.
+    /// A packet that comes has to be for this member, from a member of its circuit.
+    pub fn handle(&mut self, event: Event, row: &Row) -> Result<Turn, CoreRefusal>
+        requires arrived { MayCome self.old.me self.old.members event }
+        ensures ok { IfOk result (λ x. (marks : List Mark) → StandsFor self.old marks → TookTurn self.old event marks row.now x self.new) }
+        ensures refused { IfErr result (λ e. Refuses e event self.old row.now self.new) }
+        ensures failed { self.old.failed ≡ true → result ≡ Err CoreRefusal.Failed }
+        ensures seat { IsSameSeat self.old self.new }
+    {
+        if self.failed {
+            return Err(CoreRefusal::Failed);
+        }
+        match self.take_turn(event, row) {
+            Ok(turn) => Ok(turn),
+            Err(refusal) => {
+                if refusal.is_memory() {
+                    self.fail();
+                    return Err(CoreRefusal::OutOfMemory);
+                }
+                Err(refusal)
             }
         }
     }

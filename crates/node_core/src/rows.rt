@@ -29,6 +29,16 @@ pub(crate) fn lent(vote: Option<&Vote>) -> Option<VoteRef<'_>>
     }
 }
 
+/// The lent vote, if there is one, lent once more.
+pub(crate) fn relent<'a>(vote: &Option<VoteRef<'a>>) -> Option<VoteRef<'a>>
+    ensures { result ≡ vote.now }
+{
+    match vote {
+        None => None,
+        Some(vote) => Some(vote.lend()),
+    }
+}
+
 /// Whether the row's promise is this ballot.
 pub(crate) fn is_promised(row: &Row, ballot: Ballot) -> bool
     ensures { IsTrue result ↔ (row.now.promised ≡ Some ballot) }

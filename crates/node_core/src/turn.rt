@@ -1,6 +1,7 @@
 //! What a turn hands out, and why there is none.
 
 ghost use Rattle.std.specs.Prelude.{◌≡◌, []};
+ghost use Rattle.node_core.specs.Calls.{is_memory};
 
 use ballots::{Ballot, Row};
 use packets::Packet;
@@ -89,4 +90,16 @@ pub enum CoreRefusal {
     RoundsSpent,
     /// Memory was refused: the core has failed.
     OutOfMemory,
+}
+
+impl CoreRefusal {
+    /// Whether memory was refused.
+    pub(crate) fn is_memory(self) -> bool
+        ensures { result ≡ is_memory self }
+    {
+        match self {
+            CoreRefusal::OutOfMemory => true,
+            _ => false,
+        }
+    }
 }

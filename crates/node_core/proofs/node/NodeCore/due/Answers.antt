@@ -14,7 +14,7 @@ returns-then-not-is_open-clause-turn c = λ marks h.
 
 pub returns-clause-turn : goal.returns-clause-turn
 returns-clause-turn c = λ marks h.
-    let unreleased : was_released c.args.number marks ≡ false = c.if-not-is_open.ensures marks h in
+    let unreleased : was_released c.args.number marks ≡ false = (c.if-not-is_open.ensures marks h).0 in
     let answer = due_told c.seat-seat.result (seat_of c.args.self.now) c.desk-desk.result.number c.args.number c.args.now marks c.args.row.now c.in_ok-turn.turn c.due.new.self c.seat-seat.ensures c.desk-desk.ensures.number
       (c.in_ok-turn.ensures.turn marks (c.desk-desk.ensures.stands marks h unreleased)) in
     record {

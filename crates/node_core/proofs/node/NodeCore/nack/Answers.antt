@@ -18,7 +18,7 @@ settle-requires c = rw c.desk-desk.ensures.left (c.nack-turn.ensures.of _ c.desk
 
 pub returns-clause-turn : goal.returns-clause-turn
 returns-clause-turn c = λ row marks h.
-    let unreleased = c.if-not-is_open.ensures marks h in
+    let unreleased = (c.if-not-is_open.ensures marks h).0 in
     let unreleased_here : was_released c.args.packet.now.number marks ≡ false = rw c.number-number.ensures at unreleased in
     let answer = c.nack-turn.ensures.turn row marks (c.desk-desk.ensures.stands marks h unreleased) in
     record {

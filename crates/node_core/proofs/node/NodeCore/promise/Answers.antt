@@ -15,7 +15,7 @@ returns-then-not-is_open-clause-turn c = λ marks h.
 
 pub returns-clause-turn : goal.returns-clause-turn
 returns-clause-turn c = λ marks h.
-    let unreleased = c.if-not-is_open.ensures marks h in
+    let unreleased = (c.if-not-is_open.ensures marks h).0 in
     let unreleased_here : was_released c.args.packet.now.number marks ≡ false = rw c.number-number.ensures at unreleased in
     let answer = promise_told c.seat-seat.result (seat_of c.args.self.now) c.args.now marks c.args.row.now c.args.packet.now c.args.report (gathering_at c.args.packet.now.number c.args.packet.now.ballot marks) c.in_ok-turn.turn c.promise.new.self c.seat-seat.ensures
       (c.in_ok-turn.ensures.turn marks (c.desk-desk.ensures.stands marks h unreleased)) in
