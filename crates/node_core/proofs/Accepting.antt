@@ -101,8 +101,9 @@ module _ (k c m : ℕ) (marks : List Mark) (row : Row) (p : Packet) (t : Tape) w
           record {
             line = taking row.promised a ∙ new_vote row.vote u ∙ ap (λ (r : Row). vote_turn k c m marks r p t (said.Note_voted p.ballot)) (sym after_is);
             changes = λ same.
-              let f : vote_is_at row.vote p.ballot ≡ true = ap (λ (r : Row). vote_is_at r.vote p.ballot) (sym same ∙ after_is) ∙ is_same-self p.ballot in
-              let g : true ≡ false = sym f ∙ u in cc }
+                let f : vote_is_at row.vote p.ballot ≡ true = ap (λ (r : Row). vote_is_at r.vote p.ballot) (sym same ∙ after_is) ∙ is_same-self p.ballot in
+                let g : true ≡ false = sym f ∙ u in cc;
+          }
 
 -- a Prepare adds no mark
 pub prepare_adds_none : (k m : ℕ) (marks : List Mark) (row : Row) (p : Packet) (o : Option Ballot) → (prepare_turn k m marks row p o).marks ≡ marks

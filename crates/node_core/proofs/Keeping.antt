@@ -34,7 +34,6 @@ has_own n (x ∷ xs) = ap (λ b. (x == n) || b) (has_own n xs) ∙ or_true (x ==
 
 module _ (votes : OtherVotesPass) (proposals : OtherProposalsPass) (v : Core) (marks after : List Mark) (d : Desk)
     (h : StandsFor v marks) (u : was_released d.number marks ≡ false) (g : Grows d.number marks after) where
-
   module _ (k : ℕ) (other : (d.number == k) ≡ false) where
     stays_released : was_released k after ≡ was_released k marks
     stays_released = other_released votes proposals d.number k other marks after g

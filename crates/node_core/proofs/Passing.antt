@@ -48,7 +48,8 @@ module _ (votes : OtherVotesPass) (proposals : OtherProposalsPass) where
   desk_stands_by d x marks h s = record {
     unreleased = same_release d.number x marks h ∙ s.unreleased;
     proposal = stands_by d.proposal d.number x marks h s.proposal;
-    heard = votes d.heard d.number x marks h.hears s.heard }
+    heard = votes d.heard d.number x marks h.hears s.heard;
+  }
 
   module _ (n k : ℕ) (other : (n == k) ≡ false) where
     about_other : (x : Mark) → marked_number x ≡ n → SaysNothing k x

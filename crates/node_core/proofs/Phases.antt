@@ -145,7 +145,7 @@ module _ (k c m now : ℕ) (marks : List Mark) (row : Row) (p : Packet) (r : Opt
 
     pub completes_so : (h : IsNew m p.number p.ballot p.from marks) → completes c m p.number p.ballot p.from r marks h.opening ≡ true
         → promise_turn k c m now marks row p r (gathering_at p.number p.ballot marks)
-          ≡ propose k c m p.number p.ballot now (Promised p.number p.from p.ballot r ∷ marks) row (pick h.opening.own (counted m p.number h.opening (Promised p.number p.from p.ballot r ∷ since_began p.number marks)))
+        ≡ propose k c m p.number p.ballot now (Promised p.number p.from p.ballot r ∷ marks) row (pick h.opening.own (counted m p.number h.opening (Promised p.number p.from p.ballot r ∷ since_began p.number marks)))
     completes_so h many =
         let e : gathering_at p.number p.ballot marks ≡ Some h.opening = h.gathers in
         let t : is_that row.promised p.ballot ≡ true = at_it in
@@ -160,7 +160,7 @@ module _ (k c m now : ℕ) (marks : List Mark) (row : Row) (p : Packet) (r : Opt
         let opens = gathers_open p.number p.ballot marks h.0.opening h.0.gathers in
         let answer = turn h.0.opening opens.0 opens.1 in
         rw (completes_so h.0 h.1)
-          (subst (λ (w : Row). Answers row (propose k c m p.number p.ballot now (Promised p.number p.from p.ballot r ∷ marks) w (pick h.0.opening.own (counted m p.number h.0.opening (Promised p.number p.from p.ballot r ∷ since_began p.number marks)))) x d) (raised_same row p.ballot promised) answer)
+        (subst (λ (w : Row). Answers row (propose k c m p.number p.ballot now (Promised p.number p.from p.ballot r ∷ marks) w (pick h.0.opening.own (counted m p.number h.0.opening (Promised p.number p.from p.ballot r ∷ since_began p.number marks)))) x d) (raised_same row p.ballot promised) answer)
 
 -- what became of a promise, told of the packet
 pub counted_as : (kind : Counted) (c m : ℕ) (n j : ℕ) (b a : Ballot) (from k : ℕ) (r : Option Vote) (marks : List Mark) → n ≡ j → b ≡ a → from ≡ k → IsCountedAs kind c m n b from r marks → IsCountedAs kind c m j a k r marks
@@ -232,7 +232,7 @@ pub told :
 told s now row x d e b n a marks is_n is_a h above stands o opens at =
     subst (λ j. Answers row (propose s.circuit s.members s.me j a now marks (raised row a) (pick o.own (counted s.me j o (since_began j marks)))) x d) is_n
     (subst (λ (y : Ballot). Answers row (propose s.circuit s.members s.me e.number y now marks (raised row y) (pick o.own (counted s.me e.number o (since_began e.number marks)))) x d) is_a
-      (h o (subst (λ (y : Ballot). is_above row.promised y ≡ false) (sym is_a) above) stands (subst (λ j. open_proposal j marks ≡ Some o) (sym is_n) opens) (at ∙ sym is_a)))
+    (h o (subst (λ (y : Ballot). is_above row.promised y ≡ false) (sym is_a) above) stands (subst (λ j. open_proposal j marks ≡ Some o) (sym is_n) opens) (at ∙ sym is_a)))
 
 -- where nothing is open, nothing gathers, and a Nack is stale
 pub none_gathers : (n : ℕ) (b : Ballot) (marks : List Mark) → open_proposal n marks ≡ None → gathering_at n b marks ≡ None

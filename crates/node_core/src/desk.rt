@@ -206,7 +206,14 @@ impl Desk {
             return self.propose(alloc, seat, ballot, now, row);
         }
         let mut out = Vec::new(alloc);
-        to_others(alloc, seat, self.number, ballot, &BodyRef::Prepare, &mut out)?;
+        to_others(
+            alloc,
+            seat,
+            self.number,
+            ballot,
+            &BodyRef::Prepare,
+            &mut out,
+        )?;
         Ok(Turn {
             row: raise(alloc, row, ballot)?,
             out,

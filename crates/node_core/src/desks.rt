@@ -11,9 +11,7 @@ use ballots::Number;
 pub(crate) fn find(desks: &[Desk], number: Number) -> Option<&Desk>
     ensures { option_copied result ≡ find (is_of number) desks.now }
 {
-    desks
-        .iter()
-        .find(|desk| desk.number.get() == number.get())
+    desks.iter().find(|desk| desk.number.get() == number.get())
 }
 
 /// The place of the number's desk.

@@ -14,9 +14,18 @@ pub enum Event {
         now: u64,
     },
     /// The number's tape is sought.
-    Seek { number: Number, now: u64 },
+    Seek {
+        number: Number,
+        now: u64,
+    },
     /// The due moment of the number's proposal may have come.
-    Due { number: Number, now: u64 },
+    Due {
+        number: Number,
+        now: u64,
+    },
     /// A packet came.
-    Arrived { packet: Packet, now: u64 },
+    Arrived {
+        packet: Packet,
+        now: u64,
+    },
 }

@@ -16,13 +16,12 @@ ghost use Rattle.node_core.specs.Calls.{IsForMember, IsFree, Started, RefusesToS
 ghost use Rattle.node_core.specs.Turns.{event_value, note_value, IsTurn, IsRowAfter};
 
 use crate::desk::Desk;
-use crate::desks;
 use crate::event::Event;
 use crate::mail::to_others;
 use crate::rows::{copied, relent};
 use crate::seat::Seat;
 use crate::turn::{CoreRefusal, Note, Turn};
-use crate::voting;
+use crate::{desks, voting};
 use acceptor::AcceptAnswer;
 use ballots::{Ballot, Member, Number, Row, VoteRef};
 use packets::{BodyRef, Packet, PacketRef};

@@ -12,10 +12,11 @@ pub returns-in_ok-after-in-Promise : goal.returns-in_ok-after-in-Promise
 returns-in_ok-after-in-Promise c =
     on_ok c.answer-in-Promise.result _ _ c.answer-in-Promise.ensures
     (λ x h marks.
-        let p = promising c.args.seat.circuit c.args.seat.me marks c.args.row.now c.args.packet.now (option_copied c.in-Promise.report) (rw c.ballot-ballot.ensures at (sym c.in-Promise.ensures.reply)) in
-        let after = c.in_ok-after-in-Promise.ensures (rw c.ballot-ballot.ensures p.above) in
-        rw p.line (record {
-          row_after = rw h.row_after (rw c.ballot-ballot.ensures at after);
-          out = h.out ∙ ap (λ (r : Option Vote). packet_to c.args.seat.circuit c.args.seat.me c.args.packet.now.number c.args.packet.now.ballot (Promise r) c.args.packet.now.from ∷ []) (c.lent.ensures ∙ sym p.report);
-          release = h.release;
-          note = rw (h.noted, c.ballot-ballot.ensures) refl }))
+    let p = promising c.args.seat.circuit c.args.seat.me marks c.args.row.now c.args.packet.now (option_copied c.in-Promise.report) (rw c.ballot-ballot.ensures at (sym c.in-Promise.ensures.reply)) in
+    let after = c.in_ok-after-in-Promise.ensures (rw c.ballot-ballot.ensures p.above) in
+    rw p.line (record {
+      row_after = rw h.row_after (rw c.ballot-ballot.ensures at after);
+      out = h.out ∙ ap (λ (r : Option Vote). packet_to c.args.seat.circuit c.args.seat.me c.args.packet.now.number c.args.packet.now.ballot (Promise r) c.args.packet.now.from ∷ []) (c.lent.ensures ∙ sym p.report);
+      release = h.release;
+      note = rw (h.noted, c.ballot-ballot.ensures) refl;
+    }))

@@ -11,7 +11,7 @@ pub returns-then-members-eq1-clause-turn : goal.returns-then-members-eq1-clause-
 returns-then-members-eq1-clause-turn c =
     on_ok c.propose.result _ _ c.propose.ensures.turn
     (λ x h marks own above stands.
-        let alone : (c.args.seat.members == 1) ≡ true = eq-eqb c.args.seat.members 1 (sym c.members.ensures.value ∙ c.if-members-eq1.true) in
-        let since : since_began c.args.self.now.number (Began c.args.self.now.number c.args.ballot own c.args.row.now.vote c.args.now ∷ marks) ≡ [] = none_since c.args.self.now.number c.args.ballot own c.args.row.now.vote c.args.now marks in
-        let turn = h (Began c.args.self.now.number c.args.ballot own c.args.row.now.vote c.args.now ∷ marks) (opening c.args.ballot own c.args.row.now.vote c.args.now) above stands (began_opens c.args.self.now.number c.args.ballot own c.args.row.now.vote c.args.now marks stands.unreleased) refl in
-        rw alone (rw since at turn))
+    let alone : (c.args.seat.members == 1) ≡ true = eq-eqb c.args.seat.members 1 (sym c.members.ensures.value ∙ c.if-members-eq1.true) in
+    let since : since_began c.args.self.now.number (Began c.args.self.now.number c.args.ballot own c.args.row.now.vote c.args.now ∷ marks) ≡ [] = none_since c.args.self.now.number c.args.ballot own c.args.row.now.vote c.args.now marks in
+    let turn = h (Began c.args.self.now.number c.args.ballot own c.args.row.now.vote c.args.now ∷ marks) (opening c.args.ballot own c.args.row.now.vote c.args.now) above stands (began_opens c.args.self.now.number c.args.ballot own c.args.row.now.vote c.args.now marks stands.unreleased) refl in
+    rw alone (rw since at turn))

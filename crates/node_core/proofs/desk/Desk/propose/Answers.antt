@@ -11,8 +11,8 @@ pub returns-in-Some-clause-turn : goal.returns-in-Some-clause-turn
 returns-in-Some-clause-turn c =
     on_ok c.propose_tape.result _ _ c.propose_tape.ensures.turn
     (λ x h marks o above stands opens at.
-        let chosen : pick o.own (counted c.args.seat.me c.args.self.now.number o (since_began c.args.self.now.number marks)) ≡ Some c.in-Some.tape = sym (c.in_ok-tape.ensures c.args.seat marks o c.requires.of stands opens) ∙ c.in-Some.is in
-        rw chosen (h marks o (raised c.args.row.now c.args.ballot) stands opens at))
+    let chosen : pick o.own (counted c.args.seat.me c.args.self.now.number o (since_began c.args.self.now.number marks)) ≡ Some c.in-Some.tape = sym (c.in_ok-tape.ensures c.args.seat marks o c.requires.of stands opens) ∙ c.in-Some.is in
+    rw chosen (h marks o (raised c.args.row.now c.args.ballot) stands opens at))
 
 pub returns-in_ok-row-in-None-clause-turn : goal.returns-in_ok-row-in-None-clause-turn
 returns-in_ok-row-in-None-clause-turn c = λ marks o above stands opens at.

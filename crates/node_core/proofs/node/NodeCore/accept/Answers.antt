@@ -24,26 +24,27 @@ pub returns-in-Nack-clause-turn : goal.returns-in-Nack-clause-turn
 returns-in-Nack-clause-turn c =
     on_ok c.answer.result _ _ c.answer.ensures
     (λ x r marks h.
-        let reply = reply_told c.args.row.now c.ballot-ballot.result c.args.packet.now.ballot c.lend.result c.args.tape (Nacks c.in-Nack.promised) c.ballot-ballot.ensures c.lend.ensures (ap said_of_accept (sym c.in-Nack.is) ∙ c.in_ok-promised.ensures.reply) in
-        rw (refusing c.args.self.now.circuit c.args.self.now.members c.args.self.now.me marks c.args.row.now c.args.packet.now c.args.tape c.in-Nack.promised reply)
-          (record {
-            is_turn = record { row_after = rw r.row_after refl; out = r.out ∙ ap (λ (s : Seat). packet_to s.circuit s.me c.args.packet.now.number c.args.packet.now.ballot (Nack c.in-Nack.promised) c.args.packet.now.from ∷ []) c.seat.ensures; release = r.release; note = rw r.noted refl };
-            stands = h }))
+    let reply = reply_told c.args.row.now c.ballot-ballot.result c.args.packet.now.ballot c.lend.result c.args.tape (Nacks c.in-Nack.promised) c.ballot-ballot.ensures c.lend.ensures (ap said_of_accept (sym c.in-Nack.is) ∙ c.in_ok-promised.ensures.reply) in
+    rw (refusing c.args.self.now.circuit c.args.self.now.members c.args.self.now.me marks c.args.row.now c.args.packet.now c.args.tape c.in-Nack.promised reply)
+    (record {
+      is_turn = record { row_after = rw r.row_after refl; out = r.out ∙ ap (λ (s : Seat). packet_to s.circuit s.me c.args.packet.now.number c.args.packet.now.ballot (Nack c.in-Nack.promised) c.args.packet.now.from ∷ []) c.seat.ensures; release = r.release; note = rw r.noted refl };
+      stands = h;
+    }))
 
 pub returns-in-Some-clause-turn : goal.returns-in-Some-clause-turn
 returns-in-Some-clause-turn c =
     on_ok c.voted.result _ _ c.voted.ensures.turn
     (λ x t marks h.
-        let reply = reply_told c.args.row.now c.ballot-ballot.result c.args.packet.now.ballot c.lend.result c.args.tape Votes_again c.ballot-ballot.ensures c.lend.ensures (ap said_of_accept (sym c.in-Again.is) ∙ c.in_ok-promised.ensures.reply) in
-        let turn = t marks c.args.row.now c.args.row.now (said.Note_voted_again c.args.packet.now.ballot) h refl (ap said.Note_voted_again c.ballot-ballot.ensures) in
-        rw (standing c.args.self.now.circuit c.args.self.now.members c.args.self.now.me marks c.args.row.now c.args.packet.now c.args.tape c.in-Some.vote.now (sym c.in-Some.ensures.value) reply)
-          (subst (λ (y : Tape). Took c.args.row.now (vote_turn c.args.self.now.circuit c.args.self.now.members c.args.self.now.me marks c.args.row.now c.args.packet.now y (said.Note_voted_again c.args.packet.now.ballot)) x c.voted.new.self) c.tape.ensures turn))
+    let reply = reply_told c.args.row.now c.ballot-ballot.result c.args.packet.now.ballot c.lend.result c.args.tape Votes_again c.ballot-ballot.ensures c.lend.ensures (ap said_of_accept (sym c.in-Again.is) ∙ c.in_ok-promised.ensures.reply) in
+    let turn = t marks c.args.row.now c.args.row.now (said.Note_voted_again c.args.packet.now.ballot) h refl (ap said.Note_voted_again c.ballot-ballot.ensures) in
+    rw (standing c.args.self.now.circuit c.args.self.now.members c.args.self.now.me marks c.args.row.now c.args.packet.now c.args.tape c.in-Some.vote.now (sym c.in-Some.ensures.value) reply)
+    (subst (λ (y : Tape). Took c.args.row.now (vote_turn c.args.self.now.circuit c.args.self.now.members c.args.self.now.me marks c.args.row.now c.args.packet.now y (said.Note_voted_again c.args.packet.now.ballot)) x c.voted.new.self) c.tape.ensures turn))
 
 pub returns-in-Voted-clause-turn : goal.returns-in-Voted-clause-turn
 returns-in-Voted-clause-turn c =
     on_ok c.voted-in-Voted.result _ _ c.voted-in-Voted.ensures.turn
     (λ x t marks h.
-        let reply = reply_told c.args.row.now c.ballot-ballot.result c.args.packet.now.ballot c.lend.result c.args.tape Votes c.ballot-ballot.ensures c.lend.ensures (ap said_of_accept (sym c.in-Voted.is) ∙ c.in_ok-promised.ensures.reply) in
-        let is = row_told c.args.row.now c.in-Voted.after c.ballot-ballot.result c.args.packet.now.ballot c.lend.result c.args.tape c.ballot-ballot.ensures c.lend.ensures (ap (λ (a : AcceptAnswer). row_of a c.args.row.now) (sym c.in-Voted.is) ∙ c.in_ok-promised.ensures.row) in
-        let v = voting c.args.self.now.circuit c.args.self.now.members c.args.self.now.me marks c.args.row.now c.args.packet.now c.args.tape c.in-Voted.after reply is in
-        rw v.line (t marks c.args.row.now c.in-Voted.after (said.Note_voted c.args.packet.now.ballot) h (refl, v.changes) (ap said.Note_voted c.ballot-ballot.ensures)))
+    let reply = reply_told c.args.row.now c.ballot-ballot.result c.args.packet.now.ballot c.lend.result c.args.tape Votes c.ballot-ballot.ensures c.lend.ensures (ap said_of_accept (sym c.in-Voted.is) ∙ c.in_ok-promised.ensures.reply) in
+    let is = row_told c.args.row.now c.in-Voted.after c.ballot-ballot.result c.args.packet.now.ballot c.lend.result c.args.tape c.ballot-ballot.ensures c.lend.ensures (ap (λ (a : AcceptAnswer). row_of a c.args.row.now) (sym c.in-Voted.is) ∙ c.in_ok-promised.ensures.row) in
+    let v = voting c.args.self.now.circuit c.args.self.now.members c.args.self.now.me marks c.args.row.now c.args.packet.now c.args.tape c.in-Voted.after reply is in
+    rw v.line (t marks c.args.row.now c.in-Voted.after (said.Note_voted c.args.packet.now.ballot) h (refl, v.changes) (ap said.Note_voted c.ballot-ballot.ensures)))

@@ -25,6 +25,6 @@ returns-clause-stands c = λ marks h.
     let unreleased : was_released c.args.number marks ≡ false = sym (c.if-released.ensures.value marks h) in
     let there = c.in_ok-release.ensures.left marks (c.desk-desk.ensures.stands marks h unreleased) in
     let left = subst (λ n. IsLeft c.hear.new.self c.in_ok-release.release (hear c.args.self.now.members n c.args.member c.args.ballot c.args.tape marks).marks) c.desk-desk.ensures.number
-      (subst (λ k. IsLeft c.hear.new.self c.in_ok-release.release (hear k c.desk-desk.result.number c.args.member c.args.ballot c.args.tape marks).marks) c.desk-desk.ensures.of.heard there) in
+    (subst (λ k. IsLeft c.hear.new.self c.in_ok-release.release (hear k c.desk-desk.result.number c.args.member c.args.ballot c.args.tape marks).marks) c.desk-desk.ensures.of.heard there) in
     c.in_ok-settle.ensures.stands c.args.self.now c.args.number marks _ c.in_ok-release.release (c.hear.ensures.number ∙ c.desk-desk.ensures.number) c.desk-desk.ensures.left h unreleased
-      (hears c.args.self.now.members c.args.number c.args.member c.args.ballot c.args.tape marks marks (stays c.args.number marks)) (sym c.is_some.ensures) left
+    (hears c.args.self.now.members c.args.number c.args.member c.args.ballot c.args.tape marks marks (stays c.args.number marks)) (sym c.is_some.ensures) left

@@ -11,7 +11,7 @@ pub returns-then-not-is_open-clause-turn : goal.returns-then-not-is_open-clause-
 returns-then-not-is_open-clause-turn c = λ row marks h.
     let none : open_proposal c.args.packet.now.number marks ≡ None = rw c.number-number.ensures at (c.if-not-is_open.ensures marks h) in
     rw (stale_nack marks row c.args.packet.now c.args.promised none)
-      (took_nothing row marks said.Note_stale c.quiet.result c.args.self.now c.quiet.ensures.row c.quiet.ensures.out c.quiet.ensures.release (rw c.quiet.ensures.note refl) h)
+    (took_nothing row marks said.Note_stale c.quiet.result c.args.self.now c.quiet.ensures.row c.quiet.ensures.out c.quiet.ensures.release (rw c.quiet.ensures.note refl) h)
 
 pub settle-requires : goal.settle-requires
 settle-requires c = rw c.desk-desk.ensures.left (c.nack-turn.ensures.of _ c.desk-desk.ensures.of)
@@ -24,5 +24,6 @@ returns-clause-turn c = λ row marks h.
     record {
       is_turn = answer.is_turn;
       stands = c.in_ok-settle.ensures.stands c.args.self.now c.args.packet.now.number marks _ c.nack-turn.result.release (c.nack-turn.ensures.number ∙ c.desk-desk.ensures.number ∙ c.number-number.ensures)
-        (left_without c.args.self.now c.desk-desk.new.self c.number-number.result c.args.packet.now.number c.number-number.ensures c.desk-desk.ensures.left) h unreleased_here
-        (denies marks row c.args.packet.now c.args.promised (proposal_at c.args.packet.now.number c.args.packet.now.ballot marks)) (sym c.is_some.ensures) answer.left }
+          (left_without c.args.self.now c.desk-desk.new.self c.number-number.result c.args.packet.now.number c.number-number.ensures c.desk-desk.ensures.left) h unreleased_here
+          (denies marks row c.args.packet.now c.args.promised (proposal_at c.args.packet.now.number c.args.packet.now.ballot marks)) (sym c.is_some.ensures) answer.left;
+    }

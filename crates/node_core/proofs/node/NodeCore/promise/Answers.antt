@@ -11,16 +11,17 @@ pub returns-then-not-is_open-clause-turn : goal.returns-then-not-is_open-clause-
 returns-then-not-is_open-clause-turn c = λ marks h.
     let none : open_proposal c.args.packet.now.number marks ≡ None = rw c.number-number.ensures at (c.if-not-is_open.ensures marks h) in
     rw (not_gathering c.args.self.now.circuit c.args.self.now.members c.args.self.now.me c.args.now marks c.args.row.now c.args.packet.now c.args.report (none_gathers c.args.packet.now.number c.args.packet.now.ballot marks none))
-      (took_nothing c.args.row.now marks said.Note_stale c.quiet.result c.args.self.now c.quiet.ensures.row c.quiet.ensures.out c.quiet.ensures.release (rw c.quiet.ensures.note refl) h)
+    (took_nothing c.args.row.now marks said.Note_stale c.quiet.result c.args.self.now c.quiet.ensures.row c.quiet.ensures.out c.quiet.ensures.release (rw c.quiet.ensures.note refl) h)
 
 pub returns-clause-turn : goal.returns-clause-turn
 returns-clause-turn c = λ marks h.
     let unreleased = (c.if-not-is_open.ensures marks h).0 in
     let unreleased_here : was_released c.args.packet.now.number marks ≡ false = rw c.number-number.ensures at unreleased in
     let answer = promise_told c.seat-seat.result (seat_of c.args.self.now) c.args.now marks c.args.row.now c.args.packet.now c.args.report (gathering_at c.args.packet.now.number c.args.packet.now.ballot marks) c.in_ok-turn.turn c.promise.new.self c.seat-seat.ensures
-      (c.in_ok-turn.ensures.turn marks (c.desk-desk.ensures.stands marks h unreleased)) in
+    (c.in_ok-turn.ensures.turn marks (c.desk-desk.ensures.stands marks h unreleased)) in
     record {
       is_turn = answer.is_turn;
       stands = c.in_ok-settle.ensures.stands c.args.self.now c.args.packet.now.number marks _ c.in_ok-turn.turn.release (c.promise.ensures.number ∙ c.desk-desk.ensures.number ∙ c.number-number.ensures)
-        (left_without c.args.self.now c.desk-desk.new.self c.number-number.result c.args.packet.now.number c.number-number.ensures c.desk-desk.ensures.left) h unreleased_here
-        (promises c.args.self.now.circuit c.args.self.now.members c.args.self.now.me c.args.now marks c.args.row.now c.args.packet.now c.args.report (gathering_at c.args.packet.now.number c.args.packet.now.ballot marks)) (sym c.is_some.ensures) answer.left }
+          (left_without c.args.self.now c.desk-desk.new.self c.number-number.result c.args.packet.now.number c.number-number.ensures c.desk-desk.ensures.left) h unreleased_here
+          (promises c.args.self.now.circuit c.args.self.now.members c.args.self.now.me c.args.now marks c.args.row.now c.args.packet.now c.args.report (gathering_at c.args.packet.now.number c.args.packet.now.ballot marks)) (sym c.is_some.ensures) answer.left;
+    }

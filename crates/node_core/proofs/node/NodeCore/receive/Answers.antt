@@ -16,28 +16,29 @@ pub returns-in-Prepare-clause-turn : goal.returns-in-Prepare-clause-turn
 returns-in-Prepare-clause-turn c =
     on_ok c.prepare.result _ _ c.prepare.ensures
     (λ x t marks h.
-        subst (λ (y : Body). Took c.args.row.now (packet_turn c.args.self.now.circuit c.args.self.now.members c.args.self.now.me c.args.now marks c.args.row.now c.args.packet.now y) x c.args.self.now) (sym (ap said c.in-Prepare.is) ∙ c.body.ensures.body)
-        (record {
-          is_turn = subst (λ (s : Seat). IsTurn c.args.row.now (prepare_turn s.circuit s.me marks c.args.row.now c.args.packet.now c.args.row.now.promised) x) c.seat.ensures (t marks);
-          stands = rw (prepare_adds_none c.args.self.now.circuit c.args.self.now.me marks c.args.row.now c.args.packet.now c.args.row.now.promised) h }))
+    subst (λ (y : Body). Took c.args.row.now (packet_turn c.args.self.now.circuit c.args.self.now.members c.args.self.now.me c.args.now marks c.args.row.now c.args.packet.now y) x c.args.self.now) (sym (ap said c.in-Prepare.is) ∙ c.body.ensures.body)
+    (record {
+      is_turn = subst (λ (s : Seat). IsTurn c.args.row.now (prepare_turn s.circuit s.me marks c.args.row.now c.args.packet.now c.args.row.now.promised) x) c.seat.ensures (t marks);
+      stands = rw (prepare_adds_none c.args.self.now.circuit c.args.self.now.me marks c.args.row.now c.args.packet.now c.args.row.now.promised) h;
+    }))
 
 pub returns-in-Promise-clause-turn : goal.returns-in-Promise-clause-turn
 returns-in-Promise-clause-turn c =
     on_ok c.promise.result _ _ c.promise.ensures.turn
     (λ x t marks h.
-        subst (λ (y : Body). Took c.args.row.now (packet_turn c.args.self.now.circuit c.args.self.now.members c.args.self.now.me c.args.now marks c.args.row.now c.args.packet.now y) x c.promise.new.self) (sym (ap said c.in-Promise.is) ∙ c.body.ensures.body)
-        (subst (λ (r : Option Vote). Took c.args.row.now (promise_turn c.args.self.now.circuit c.args.self.now.members c.args.self.now.me c.args.now marks c.args.row.now c.args.packet.now r (gathering_at c.args.packet.now.number c.args.packet.now.ballot marks)) x c.promise.new.self) c.relent.ensures (t marks h)))
+    subst (λ (y : Body). Took c.args.row.now (packet_turn c.args.self.now.circuit c.args.self.now.members c.args.self.now.me c.args.now marks c.args.row.now c.args.packet.now y) x c.promise.new.self) (sym (ap said c.in-Promise.is) ∙ c.body.ensures.body)
+    (subst (λ (r : Option Vote). Took c.args.row.now (promise_turn c.args.self.now.circuit c.args.self.now.members c.args.self.now.me c.args.now marks c.args.row.now c.args.packet.now r (gathering_at c.args.packet.now.number c.args.packet.now.ballot marks)) x c.promise.new.self) c.relent.ensures (t marks h)))
 
 pub returns-in-Accepted-clause-turn : goal.returns-in-Accepted-clause-turn
 returns-in-Accepted-clause-turn c =
     on_ok c.accepted.result _ _ c.accepted.ensures.turn
     (λ x t marks h.
-        subst (λ (y : Body). Took c.args.row.now (packet_turn c.args.self.now.circuit c.args.self.now.members c.args.self.now.me c.args.now marks c.args.row.now c.args.packet.now y) x c.accepted.new.self) (sym (ap said c.in-Accepted.is) ∙ c.body.ensures.body)
-        (subst (λ (u : Tape). Took c.args.row.now (accepted_turn c.args.self.now.members marks c.args.row.now c.args.packet.now u) x c.accepted.new.self) c.lend-in-Accepted.ensures (t c.args.row.now marks h)))
+    subst (λ (y : Body). Took c.args.row.now (packet_turn c.args.self.now.circuit c.args.self.now.members c.args.self.now.me c.args.now marks c.args.row.now c.args.packet.now y) x c.accepted.new.self) (sym (ap said c.in-Accepted.is) ∙ c.body.ensures.body)
+    (subst (λ (u : Tape). Took c.args.row.now (accepted_turn c.args.self.now.members marks c.args.row.now c.args.packet.now u) x c.accepted.new.self) c.lend-in-Accepted.ensures (t c.args.row.now marks h)))
 
 pub returns-in-Nack-clause-turn : goal.returns-in-Nack-clause-turn
 returns-in-Nack-clause-turn c =
     on_ok c.nack.result _ _ c.nack.ensures.turn
     (λ x t marks h.
-        subst (λ (y : Body). Took c.args.row.now (packet_turn c.args.self.now.circuit c.args.self.now.members c.args.self.now.me c.args.now marks c.args.row.now c.args.packet.now y) x c.nack.new.self) (sym (ap said c.in-Nack.is) ∙ c.body.ensures.body)
-        (t c.args.row.now marks h))
+    subst (λ (y : Body). Took c.args.row.now (packet_turn c.args.self.now.circuit c.args.self.now.members c.args.self.now.me c.args.now marks c.args.row.now c.args.packet.now y) x c.nack.new.self) (sym (ap said c.in-Nack.is) ∙ c.body.ensures.body)
+    (t c.args.row.now marks h))

@@ -9,5 +9,5 @@ pub returns-clause-stands : goal.returns-clause-stands
 returns-clause-stands c =
     when_ok c.keep.result _ _ c.keep.ensures.kept
     (λ kept before n marks after release number taken stands unreleased grows is_it left.
-        let is : c.keep.new.self ≡ with_desk (record before { desks = without n before.desks }) c.args.desk c.args.is_released = kept ∙ ap (λ (v : Core). with_desk v c.args.desk c.args.is_released) taken in
-        subst (λ (v : Core). StandsFor v after) (sym is) (kept_at c.other_marks_pass.ensures c.other_marks_pass-2.ensures before marks after c.args.desk n number stands unreleased grows release c.args.is_released is_it left))
+    let is : c.keep.new.self ≡ with_desk (record before { desks = without n before.desks }) c.args.desk c.args.is_released = kept ∙ ap (λ (v : Core). with_desk v c.args.desk c.args.is_released) taken in
+    subst (λ (v : Core). StandsFor v after) (sym is) (kept_at c.other_marks_pass.ensures c.other_marks_pass-2.ensures before marks after c.args.desk n number stands unreleased grows release c.args.is_released is_it left))

@@ -29,5 +29,9 @@ returns-in-Ok-clause-ok c = λ marks h.
 pub returns-in-Ok-receive-clause-ok : goal.returns-in-Ok-receive-clause-ok
 returns-in-Ok-receive-clause-ok c = λ marks h.
     subst (λ (e : Event). TookTurn c.args.self.now e marks c.args.row.now c.in-Ok-receive.turn c.receive.new.self) (sym c.in-Arrived.is)
-    (record { free = tt; turn = packet_turn c.args.self.now.circuit c.args.self.now.members c.args.self.now.me c.in-Arrived.now marks c.args.row.now c.in-Arrived.packet c.in-Arrived.packet.body; is_the_turn = refl;
-      took = subst (λ (p : Packet). Took c.args.row.now (packet_turn c.args.self.now.circuit c.args.self.now.members c.args.self.now.me c.in-Arrived.now marks c.args.row.now p p.body) c.in-Ok-receive.turn c.receive.new.self) c.lend.ensures (c.in-Ok-receive.ensures.turn marks h) })
+    (record {
+      free = tt;
+      turn = packet_turn c.args.self.now.circuit c.args.self.now.members c.args.self.now.me c.in-Arrived.now marks c.args.row.now c.in-Arrived.packet c.in-Arrived.packet.body;
+      is_the_turn = refl;
+      took = subst (λ (p : Packet). Took c.args.row.now (packet_turn c.args.self.now.circuit c.args.self.now.members c.args.self.now.me c.in-Arrived.now marks c.args.row.now p p.body) c.in-Ok-receive.turn c.receive.new.self) c.lend.ensures (c.in-Ok-receive.ensures.turn marks h);
+    })
