@@ -5,6 +5,7 @@ ghost use Rattle.circuitd.specs.declared.end.End.TheVariants.{Done};
 
 use crate::end::End;
 use crate::words::{CauseText, KeyText};
+use acceptor_store::RowsFault;
 use code_table::TableFault;
 use line_check::SetFault;
 use std::io::Write;
@@ -42,6 +43,10 @@ pub enum Fault<'a> {
     TapeBadFrame(usize),
     #[error("fault: {}", CauseText(*.0))]
     Unset(SetFault),
+    #[error("store: {0}")]
+    Store(&'static str),
+    #[error("store: damaged {0}")]
+    StoreDamaged(i64),
 }
 
 impl<'a> Fault<'a> {
@@ -93,12 +98,24 @@ impl<'a> Fault<'a> {
         }
     }
 
+    /// Why rows are not read or saved.
+    pub fn of_rows(fault: RowsFault) -> Fault<'a> {
+        match fault {
+            RowsFault::Store => Fault::Store("refused"),
+            RowsFault::WrongStation => Fault::Store("wrong station"),
+            RowsFault::WrongSchema => Fault::Store("wrong schema"),
+            RowsFault::Damaged { number } => Fault::StoreDamaged(number),
+            RowsFault::OutOfMemory => Fault::OutOfMemory,
+        }
+    }
+
     /// How a command ends by this fault.
     pub fn end(&self) -> End
         ensures { ¬ (result ≡ Done) }
     {
         match self {
             Fault::OutOfMemory => End::Memory,
+            Fault::Store(_) | Fault::StoreDamaged(_) => End::Store,
             _ => End::Input,
         }
     }
