@@ -1,12 +1,12 @@
 -- The acceptor's lines of the turn, from what it replies.
-use Rattle.std.proofs.Common.{◌≡◌, ℕ, refl, sym, ap, subst, ◌∙◌, List, [], ◌∷◌, Option, Some, None, Bool, true, false, arith}
-use Rattle.std.specs.Prelude.{◌==◌, ◌&&◌, ◌||◌, nat_lt, if◌then◌else◌}
+use Rattle.std.proofs.Common.{◌≡◌, ℕ, refl, sym, ap, ◌∙◌, List, Option, Some, None, Bool, true, false, arith}
+use Rattle.std.specs.Prelude.{IsSome, is_some}
 use Rattle.std.proofs.lemmas.Bool.Decides.{nat_tests}
 use Rattle.protocol.specs.Ballots.{Ballot, is_same, is_below}
-use Rattle.protocol.specs.Rows.{Tape, Vote, Row, raised, voted, vote_for}
+use Rattle.protocol.specs.Rows.{Tape, Vote, Row, raised, voted}
 use Rattle.protocol.specs.Packets.{Packet, Promise, Nack}
 use Rattle.protocol.specs.Marks.{Mark}
-use Rattle.protocol.specs.Acceptor.{Reply, Prepares, Accepts, Promises, Nacks, Votes, Votes_again, Says_nothing, reply_of, next_row, is_above, is_at, vote_is_at}
+use Rattle.protocol.specs.Acceptor.{Reply, Prepares, Accepts, Promises, Nacks, Votes, Votes_again, Says_nothing, reply_of, next_row, is_above, vote_is_at}
 use Rattle.protocol.specs.Turn as said
 use Rattle.protocol.specs.Turn.{answer, prepare_turn, accept_turn, vote_turn, take_vote}
 use Rattle.node_core.proofs.Phases.{is_same-self}
@@ -82,6 +82,7 @@ module _ (k c m : ℕ) (marks : List Mark) (row : Row) (p : Packet) (t : Tape) w
   pub record Voting (after : Row) : Type 0 where
     pub line : accept_turn k c m marks row p t row.promised ≡ vote_turn k c m marks after p t (said.Note_voted p.ballot)
     pub changes : ¬ (after ≡ row)
+    pub promised : IsSome after.promised
 
   pub voting : (after : Row) → reply_of row (Accepts p.ballot t) ≡ Votes → after ≡ next_row row (Accepts p.ballot t) → Voting after
   voting after e is = go (vote_is_at row.vote p.ballot) refl
@@ -103,6 +104,7 @@ module _ (k c m : ℕ) (marks : List Mark) (row : Row) (p : Packet) (t : Tape) w
             changes = λ same.
                 let f : vote_is_at row.vote p.ballot ≡ true = ap (λ (r : Row). vote_is_at r.vote p.ballot) (sym same ∙ after_is) ∙ is_same-self p.ballot in
                 let g : true ≡ false = sym f ∙ u in cc;
+            promised = ap (λ (r : Row). is_some r.promised) after_is;
           }
 
 -- a Prepare adds no mark

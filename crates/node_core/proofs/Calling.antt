@@ -1,5 +1,5 @@
 -- What the calls of a core answer.
-use Rattle.std.proofs.Common.{◌≡◌, ℕ, refl, sym, ap, ◌∙◌, List, Option, Some, None, Bool, true, false}
+use Rattle.std.proofs.Common.{◌≡◌, ℕ, refl, List, Some, None, false}
 use Rattle.protocol.specs.Rows.{Tape, Row}
 use Rattle.protocol.specs.Marks.{Mark}
 use Rattle.protocol.specs.Ballots.{next}

@@ -1,6 +1,6 @@
 -- A list of desks, one at most for each number.
-use Rattle.std.proofs.Common.{◌≡◌, ℕ, zero, suc, ◌+◌, ◌<◌, refl, sym, ap, subst, ◌∙◌, List, [], ◌∷◌, ◌++◌, Option, Some, None, Bool, true, false, length, take, drop, get_or, arith, add-one}
-use Rattle.std.specs.Prelude.{find, ◌==◌, ◌||◌, unwrap_or, if◌then◌else◌}
+use Rattle.std.proofs.Common.{◌≡◌, ℕ, suc, ◌+◌, ◌<◌, refl, sym, ap, subst, ◌∙◌, List, [], ◌∷◌, ◌++◌, Option, Some, None, Bool, true, false, length, take, drop, get_or, arith}
+use Rattle.std.specs.Prelude.{find, ◌==◌, ◌||◌}
 use Rattle.std.specs.List.{position_from}
 use Rattle.protocol.specs.Marks.{Mark}
 use Rattle.protocol.specs.Proposals.{was_released}
@@ -8,7 +8,7 @@ use Rattle.std.proofs.lemmas.Bool.{eqb-true, eq-eqb, ne_eqb}
 use Rattle.protocol.specs.Lists.{has}
 use Rattle.node_core.specs.declared.desk.Desk.{Desk}
 use Rattle.node_core.specs.Seats.{Seat}
-use Rattle.node_core.specs.Standing.{is_of, without, desk_of, fresh, AreDistinct, AreDesksOf, IsDeskOf, Core, StandsFor, DeskStands}
+use Rattle.node_core.specs.Standing.{is_of, without, desk_of, AreDistinct, AreDesksOf, IsDeskOf, Core, StandsFor, DeskStands}
 
 -- the desk at the first place is found, and the others are left
 pub record Found (n i j : ℕ) (ds : List Desk) : Type 0 where

@@ -1,14 +1,14 @@
 -- Each turn adds marks of its own number alone.
-use Rattle.std.proofs.Common.{◌≡◌, ℕ, refl, sym, ap, subst, ◌∙◌, List, [], ◌∷◌, ◌++◌, Option, Some, None, Bool, true, false}
-use Rattle.std.specs.Prelude.{◌==◌, not, nat_le, if◌then◌else◌}
-use Rattle.protocol.specs.Ballots.{Ballot, is_majority, is_same, is_below}
+use Rattle.std.proofs.Common.{◌≡◌, ℕ, refl, ap, List, [], ◌∷◌, Option, Some, None, Bool, true, false}
+use Rattle.std.specs.Prelude.{◌==◌}
+use Rattle.protocol.specs.Ballots.{Ballot, is_majority}
 use Rattle.protocol.specs.Rows.{Tape, Vote, Row, raised}
 use Rattle.protocol.specs.Packets.{Packet}
 use Rattle.protocol.specs.Marks.{Mark, Began, Promised, Proposed, Denied, Heard, Closed, Released}
-use Rattle.protocol.specs.Proposals.{Opening, Counted, was_released, open_proposal, since_began, counted, is_counted, pick, is_due}
+use Rattle.protocol.specs.Proposals.{Opening, was_released, since_began, counted, is_counted, pick, is_due}
 use Rattle.protocol.specs.Learner.{ripe}
-use Rattle.protocol.specs.Turn.{hear, settle, propose, begin, renew, next_ballot, due_turn, promise_turn, nack_turn, is_promised, is_that}
-use Rattle.node_core.specs.Standing.{Grows, AreAbout, marked_number}
+use Rattle.protocol.specs.Turn.{hear, propose, begin, renew, next_ballot, due_turn, promise_turn, nack_turn, is_that}
+use Rattle.node_core.specs.Standing.{Grows, marked_number}
 
 pub stays : (n : ℕ) (marks : List Mark) → Grows n marks marks
 stays n marks = record { new = []; is = refl; about = tt }

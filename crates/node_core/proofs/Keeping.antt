@@ -1,7 +1,7 @@
 -- A core goes on to stand for the marks once a desk is put back, or its number was released.
 use Rattle.std.proofs.Common.{◌≡◌, ℕ, refl, sym, ap, subst, ◌∙◌, List, [], ◌∷◌, ◌++◌, Option, Some, None, Bool, true, false}
-use Rattle.std.specs.Prelude.{find, unwrap_or, is_some, ◌==◌, ◌||◌, if◌then◌else◌}
-use Rattle.std.proofs.lemmas.Bool.{eqb-true, eqb-false, eq-eqb, ne_eqb}
+use Rattle.std.specs.Prelude.{find, is_some, ◌==◌, ◌||◌}
+use Rattle.std.proofs.lemmas.Bool.{eqb-true, eq-eqb, ne_eqb}
 use Rattle.std.specs.List.{list_any}
 use Rattle.protocol.specs.Lists.{has}
 use Rattle.protocol.specs.Rows.{Tape}
@@ -10,7 +10,7 @@ use Rattle.protocol.specs.Proposals.{was_released}
 use Rattle.learner.specs.Latest.{OtherMarksPass as OtherVotesPass}
 use Rattle.proposer.specs.InHand.{OtherMarksPass as OtherProposalsPass}
 use Rattle.node_core.specs.declared.desk.Desk.{Desk}
-use Rattle.node_core.specs.Standing.{Core, StandsFor, DeskStands, IsLeft, Grows, is_of, without, desk_of, fresh, with_desk, AreDistinct}
+use Rattle.node_core.specs.Standing.{Core, StandsFor, DeskStands, IsLeft, Grows, is_of, without, desk_of, with_desk}
 use Rattle.node_core.proofs.Finding.{has_without, none_left, distinct_without, distinct_push, has_push, find_push_other, find_push_own, find_other, desk_number}
 use Rattle.node_core.proofs.Passing.{other_released, other_desk}
 

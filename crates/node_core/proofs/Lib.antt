@@ -7,3 +7,5 @@ pub mod Growing
 pub mod Accepting
 pub mod Telling
 pub mod Calling
+pub mod Orders
+pub mod Dueing

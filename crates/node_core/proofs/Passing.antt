@@ -1,12 +1,10 @@
 -- Marks of one number change nothing that is read of another.
-use Rattle.std.proofs.Common.{◌≡◌, ℕ, refl, sym, ap, subst, ◌∙◌, List, [], ◌∷◌, ◌++◌, Option, Some, None, Bool, true, false}
-use Rattle.std.specs.Prelude.{◌==◌, ◌||◌, if◌then◌else◌}
-use Rattle.std.proofs.lemmas.Bool.{eqb-true, eq-eqb, ne_eqb}
-use Rattle.protocol.specs.Lists.{has, until, first}
+use Rattle.std.proofs.Common.{◌≡◌, ℕ, refl, sym, ap, subst, ◌∙◌, List, [], ◌∷◌, ◌++◌, Option, Some, None, false}
+use Rattle.std.specs.Prelude.{◌==◌}
 use Rattle.protocol.specs.Marks.{Mark, Began, Promised, Proposed, Denied, Heard, Closed, Released, begins, closes, releases}
-use Rattle.protocol.specs.Proposals.{Opening, was_released, open_proposal, opening_of}
+use Rattle.protocol.specs.Proposals.{was_released, open_proposal, opening_of}
 use Rattle.learner.specs.Latest.{hears, OtherMarksPass as OtherVotesPass}
-use Rattle.proposer.specs.InHand.{InHand, concerns, StandsFor as ProposalStandsFor, OtherMarksPass as OtherProposalsPass}
+use Rattle.proposer.specs.InHand.{InHand, concerns, OtherMarksPass as OtherProposalsPass}
 use Rattle.node_core.specs.declared.desk.Desk.{Desk}
 use Rattle.node_core.specs.Standing.{DeskStands, ProposalStands, marked_number, AreAbout, Grows}
 

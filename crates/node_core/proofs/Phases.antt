@@ -1,13 +1,13 @@
 -- Lemmas on the lines of the turn.
-use Rattle.std.proofs.Common.{◌≡◌, ℕ, ◌+◌, ◌<◌, suc, refl, sym, ap, subst, ◌∙◌, List, [], ◌∷◌, Option, Some, None, Bool, true, false, Result, Ok, Err, arith}
-use Rattle.std.specs.Prelude.{IfOk, OnOk, ◌==◌, ◌&&◌, ◌||◌, not, nat_lt, nat_le, IsTrue, if◌then◌else◌}
+use Rattle.std.proofs.Common.{◌≡◌, ℕ, suc, refl, sym, ap, subst, ◌∙◌, List, [], ◌∷◌, Option, Some, None, Bool, true, false, Result, Ok, Err, arith}
+use Rattle.std.specs.Prelude.{IfOk, OnOk, ◌==◌, nat_lt, nat_le}
 use Rattle.std.proofs.lemmas.Bool.{eq-eqb}
 use Rattle.std.proofs.lemmas.Bool.Decides.{nat_tests}
 use Rattle.protocol.specs.Lists.{has}
 use Rattle.protocol.specs.Ballots.{Ballot, is_same, is_below, next, last_round}
 use Rattle.protocol.specs.Rows.{Tape, Vote, Row, raised}
 use Rattle.protocol.specs.Acceptor.{is_above}
-use Rattle.protocol.specs.Marks.{Mark, Began, Promised, Closed, proposes, begins}
+use Rattle.protocol.specs.Marks.{Mark, Began, Promised, Closed, proposes}
 use Rattle.protocol.specs.Proposals.{Opening, was_released, open_proposal, gathering_at, proposal_at, since_began, where_at, counted, is_counted, pick, begun, denied, is_due, opening_ballot}
 use Rattle.protocol.specs.Packets.{Packet}
 use Rattle.protocol.specs.Turn as said
@@ -19,7 +19,7 @@ use Rattle.node_core.specs.declared.desk.Desk.{Desk}
 use Rattle.node_core.specs.declared.turn.Turn.{Turn}
 use Rattle.node_core.specs.Seats.{Seat}
 use Rattle.node_core.specs.Standing.{Answers, DeskStands, Core, StandsFor, Took}
-use Rattle.node_core.specs.Turns.{IsTurn, note_value}
+use Rattle.node_core.specs.Turns.{note_value}
 
 -- where the first fact gives the second, an Ok keeps it
 pub on_ok : {A E : Type 0} (r : Result A E) (P Q : A → Type 0) → IfOk r P → ((x : A) → P x → Q x) → IfOk r Q

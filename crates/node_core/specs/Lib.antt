@@ -1,4 +1,5 @@
 pub mod Calls
+pub mod Dues
 pub mod Seats
 pub mod Standing
 pub mod Turns

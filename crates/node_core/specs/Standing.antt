@@ -2,10 +2,9 @@
 use Rattle.std.specs.Prelude.{◌≡◌, ℕ, List, [], ◌∷◌, ◌++◌, Option, Some, None, Bool, true, false, ◌==◌, find, unwrap_or, if◌then◌else◌}
 use Rattle.std.specs.List.{list_any}
 use Rattle.protocol.specs.Lists.{has}
-use Rattle.protocol.specs.Ballots.{Ballot}
 use Rattle.protocol.specs.Marks.{Mark, Began, Promised, Proposed, Denied, Heard, Closed, Released}
 use Rattle.protocol.specs.Proposals.{was_released, open_proposal}
-use Rattle.learner.specs.Latest.{LatestVotes, latest_votes, StandsFor as VotesStandFor}
+use Rattle.learner.specs.Latest.{latest_votes, StandsFor as VotesStandFor}
 use Rattle.proposer.specs.InHand.{InHand, StandsFor as ProposalStandsFor}
 use Rattle.protocol.specs.Rows.{Tape, Row}
 use Rattle.protocol.specs.Turn as said

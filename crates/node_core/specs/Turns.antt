@@ -1,5 +1,5 @@
 -- What the code's events, notes and turns say, in the protocol's words.
-use Rattle.std.specs.Prelude.{◌≡◌, List, [], ◌∷◌, Option, Some, None}
+use Rattle.std.specs.Prelude.{◌≡◌, ◌≤◌, [], ◌∷◌, Option, Some, None, IsSome, IfSome, length}
 use Rattle.protocol.specs.Rows.{Row}
 use Rattle.protocol.specs.Packets.{Packet}
 use Rattle.protocol.specs.Turn as said
@@ -47,6 +47,15 @@ pub record IsTurn (row : Row) (t : said.Turn) (x : Turn) : Type 0 where
   pub out : x.out.items ≡ t.out
   pub release : x.release ≡ t.release
   pub note : note_value x.note ≡ t.note
+
+-- the row, if there is one, has a promise
+abbrev pub HasPromise : Option Row → Type 0
+HasPromise row = IfSome row (λ r. IsSome r.promised)
+
+-- the row that it changes has a promise, and no more than two packets go out to each of 14 others
+pub record IsOrderly (x : Turn) : Type 0 where
+  pub promised : HasPromise x.row
+  pub few : length x.out.items ≤ 28
 
 -- what the code hands out is this one reply, with this row after and this note
 pub record IsReply (x : Turn) (row : Option Row) (note : Note) (reply : Packet) : Type 0 where

@@ -11,6 +11,7 @@ ghost use Rattle.proposer.specs.InHand.{StandsFor as ProposalStandsFor};
 ghost use Rattle.proposer.specs.Answers.{IsCountedAs, marks_after_promise, IsDueAnswer, IsOwnAndAbove, marks_after_due};
 ghost use Rattle.node_core.specs.Standing.{DeskStands, fresh, IsDeskOf, IsLeft, Answers};
 ghost use Rattle.node_core.specs.Seats.{Seat as SeatValue};
+ghost use Rattle.node_core.specs.Turns.{HasPromise, IsOrderly};
 
 use crate::hearing;
 use crate::mail::to_others;
@@ -123,6 +124,7 @@ impl Desk {
         requires of { IsDeskOf seat self.old }
         requires owner { ballot.owner ≡ seat.me }
         ensures turn { IfOk result (λ x. (marks : List Mark) (o : Opening) (before : RowValue) → DeskStands self.old marks → open_proposal self.old.number marks ≡ Some o → o.ballot ≡ ballot → Answers row.now (propose seat.circuit seat.members seat.me self.old.number ballot now marks before (Some tape)) x self.new) }
+        ensures orderly { IfOk result (λ x. IsOrderly x) }
         ensures of { IsDeskOf seat self.new }
         ensures number { self.new.number ≡ self.old.number }
     {
@@ -154,6 +156,7 @@ impl Desk {
         requires of { IsDeskOf seat self.old }
         requires owner { ballot.owner ≡ seat.me }
         ensures turn { IfOk result (λ x. (marks : List Mark) (o : Opening) → is_above row.now.promised ballot ≡ false → DeskStands self.old marks → open_proposal self.old.number marks ≡ Some o → o.ballot ≡ ballot → Answers row.now (propose seat.circuit seat.members seat.me self.old.number ballot now marks (raised row.now ballot) (pick o.own (counted seat.me self.old.number o (since_began self.old.number marks)))) x self.new) }
+        ensures orderly { IfOk result (λ x. IsOrderly x) }
         ensures of { IsDeskOf seat self.new }
         ensures number { self.new.number ≡ self.old.number }
     {
@@ -172,6 +175,7 @@ impl Desk {
         ensures out { result.out.items ≡ [] }
         ensures release { result.release ≡ None }
         ensures note { result.note ≡ note }
+        ensures orderly { HasPromise row → IsOrderly result }
         ensures stands { (marks : List Mark) → DeskStands self.old marks → DeskStands self.new (Closed self.old.number ∷ marks) }
         ensures of { (s : SeatValue) → IsDeskOf s self.old → IsDeskOf s self.new }
         ensures number { self.new.number ≡ self.old.number }
@@ -199,6 +203,7 @@ impl Desk {
         requires of { IsDeskOf seat self.old }
         requires owner { ballot.owner ≡ seat.me }
         ensures turn { IfOk result (λ x. (marks : List Mark) (own : Option TapeValue) → is_above row.now.promised ballot ≡ false → DeskStands self.old (Began self.old.number ballot own row.now.vote now ∷ marks) → Answers row.now (begin seat.circuit seat.members seat.me self.old.number ballot own now marks row.now) x self.new) }
+        ensures orderly { IfOk result (λ x. IsOrderly x) }
         ensures of { IsDeskOf seat self.new }
         ensures number { self.new.number ≡ self.old.number }
     {
@@ -235,6 +240,7 @@ impl Desk {
         requires proposal { (proposal.me ≡ seat.me) × (proposal.members ≡ seat.members) }
         requires owner { proposal.ballot.owner ≡ seat.me }
         ensures turn { IfOk result (λ x. (marks : List Mark) (own : Option TapeValue) → is_above row.now.promised proposal.ballot ≡ false → DeskStands self.old marks → ProposalStandsFor proposal self.old.number (Began self.old.number proposal.ballot own row.now.vote now ∷ marks) → Answers row.now (begin seat.circuit seat.members seat.me self.old.number proposal.ballot own now marks row.now) x self.new) }
+        ensures orderly { IfOk result (λ x. IsOrderly x) }
         ensures of { IsDeskOf seat self.new }
         ensures number { self.new.number ≡ self.old.number }
     {
@@ -291,6 +297,7 @@ impl Desk {
         requires from { packet.now.from ≤ seat.members }
         requires owner { packet.now.ballot.owner ≡ seat.me }
         ensures turn { IfOk result (λ x. (marks : List Mark) → DeskStands self.old marks → Answers row.now (promise_turn seat.circuit seat.members seat.me now marks row.now packet.now report.entry (gathering_at packet.now.number packet.now.ballot marks)) x self.new) }
+        ensures orderly { IfOk result (λ x. IsOrderly x) }
         ensures of { IsDeskOf seat self.new }
         ensures number { self.new.number ≡ self.old.number }
     {
@@ -327,6 +334,7 @@ impl Desk {
     pub fn nack(&mut self, alloc: Global, packet: &PacketRef<'_>, promised: Ballot) -> Turn
         requires { packet.now.number ≡ self.old.number }
         ensures turn { (row : RowValue) (marks : List Mark) → DeskStands self.old marks → Answers row (nack_turn marks row packet.now promised (proposal_at packet.now.number packet.now.ballot marks)) result self.new }
+        ensures orderly { IsOrderly result }
         ensures of { (s : SeatValue) → IsDeskOf s self.old → IsDeskOf s self.new }
         ensures number { self.new.number ≡ self.old.number }
     {
@@ -369,6 +377,7 @@ impl Desk {
     ) -> Result<Turn, AllocError>
         requires { IsDeskOf seat self.old }
         ensures turn { IfOk result (λ x. (marks : List Mark) → DeskStands self.old marks → Answers row.now (due_turn seat.circuit seat.members seat.me self.old.number now marks row.now (open_proposal self.old.number marks)) x self.new) }
+        ensures orderly { IfOk result (λ x. IsOrderly x) }
         ensures of { IsDeskOf seat self.new }
         ensures number { self.new.number ≡ self.old.number }
     {

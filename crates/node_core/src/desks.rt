@@ -1,8 +1,13 @@
 //! A list of desks, one at most for each number.
 
-ghost use Rattle.std.specs.Prelude.{◌≡◌, ◌<◌, IfSome, find, length, option_copied};
+ghost use Rattle.std.specs.Prelude.{◌≡◌, ◌<◌, List, IfSome, find, length, nat_lt, option_copied};
 ghost use Rattle.std.specs.List.{position_from};
-ghost use Rattle.node_core.specs.Standing.{is_of, without};
+ghost use Rattle.protocol.specs.Lists.{greater};
+ghost use Rattle.protocol.specs.Marks.{Mark};
+ghost use Rattle.protocol.specs.Proposals.{is_due_number};
+ghost use Rattle.node_core.specs.Dues.{AllStand, IsLeastPassing};
+ghost use Rattle.node_core.specs.Seats.{Seat as SeatValue};
+ghost use Rattle.node_core.specs.Standing.{AreDesksOf, is_of, without};
 
 use crate::desk::Desk;
 use ballots::Number;
@@ -33,4 +38,27 @@ pub(crate) fn take(desks: &mut Vec<Desk>, number: Number) -> Option<Desk>
         None => None,
         Some(place) => Some(desks.remove(place)),
     }
+}
+
+/// The lesser of the two numbers, where there is a first.
+fn lesser(first: Option<Number>, second: Number) -> Number
+    ensures { result ≡ greater (λ i j. nat_lt i j) second first }
+{
+    match first {
+        Some(first) if first.get() <= second.get() => first,
+        _ => second,
+    }
+}
+
+/// The least number of a desk whose proposal is due at this moment.
+pub(crate) fn least_due(desks: &[Desk], now: u64) -> Option<Number>
+    ensures { (s : SeatValue) (marks : List Mark) → AreDesksOf s desks.now → AllStand desks.now marks → IsLeastPassing (is_due_number s.me now marks) desks.now result }
+{
+    let mut least = None;
+    for desk in desks {
+        if desk.is_due(now) {
+            least = Some(lesser(least, desk.number));
+        }
+    }
+    least
 }

@@ -1,6 +1,6 @@
 //! The packets that go out.
 
-ghost use Rattle.std.specs.Prelude.{◌≡◌, ◌≤◌, ℕ, ◌++◌, IsTrue, IfOk, OnOk};
+ghost use Rattle.std.specs.Prelude.{◌≡◌, ◌≤◌, ℕ, ◌+◌, ◌++◌, IsTrue, IfOk, OnOk, length};
 ghost use Rattle.protocol.specs.Turn.{packet_to, to_others};
 ghost use Rattle.packets.specs.Bodies.{said};
 ghost use Rattle.packets.specs.Rules.{keeps_rules, may_send, kind_of, may_say};
@@ -39,7 +39,8 @@ pub(crate) fn to_others(
 ) -> Result<(), AllocError>
     requires sender { (to : ℕ) → IsTrue (may_send (kind_of (said body.now)) ballot.owner seat.me to) }
     requires says { IsTrue (may_say (said body.now) ballot) }
-    ensures { OnOk result (out.new.items ≡ out.old.items ++ to_others seat.circuit seat.members seat.me number ballot (said body.now)) }
+    ensures packets { OnOk result (out.new.items ≡ out.old.items ++ to_others seat.circuit seat.members seat.me number ballot (said body.now)) }
+    ensures few { OnOk result (length out.new.items ≤ length out.old.items + 14) }
 {
     let me = seat.me().get();
     for before in 0..seat.members() {

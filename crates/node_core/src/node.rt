@@ -1,6 +1,6 @@
 //! The core of a station: all that it took in since its start, and the turn that it takes at each event.
 
-ghost use Rattle.std.specs.Prelude.{◌≡◌, ◌≤◌, ◌==◌, ℕ, List, [], ◌∷◌, ◌++◌, Option, Some, None, Err, IfOk, IfErr, OnOk, MatchBool, IsTrue, true, false, length, is_some};
+ghost use Rattle.std.specs.Prelude.{◌≡◌, ◌≤◌, ◌==◌, ℕ, List, [], ◌∷◌, ◌++◌, Option, Some, None, Err, IfOk, IfErr, OnOk, MatchBool, IsTrue, IsSome, IfSome, true, false, length, is_some};
 ghost use Rattle.std.specs.List.{list_any};
 ghost use Rattle.protocol.specs.Ballots.{Ballot as BallotValue, next};
 ghost use Rattle.protocol.specs.Rows.{Tape as TapeValue, Row as RowValue};
@@ -13,7 +13,7 @@ ghost use Rattle.packets.specs.Rules.{keeps_rules};
 ghost use Rattle.protocol.specs.Acceptor.{is_above};
 ghost use Rattle.proposer.specs.InHand.{StandsFor as ProposalStandsFor};
 ghost use Rattle.node_core.specs.Calls.{IsForMember, IsFree, Started, RefusesToStart, MayCome, TookTurn, RefusesEvent, Refuses};
-ghost use Rattle.node_core.specs.Turns.{event_value, note_value, IsTurn, IsRowAfter};
+ghost use Rattle.node_core.specs.Turns.{event_value, note_value, IsTurn, IsRowAfter, HasPromise, IsOrderly};
 
 use crate::desk::Desk;
 use crate::event::Event;
@@ -93,6 +93,30 @@ impl NodeCore {
         self.released.clear();
     }
 
+    /// The circuit's number.
+    pub fn circuit(&self) -> u16
+        ensures { result ≡ self.now.circuit }
+    {
+        self.seat.circuit()
+    }
+
+    /// The member whose core it is.
+    pub fn me(&self) -> Member
+        ensures value { result ≡ self.now.me }
+        ensures member { (1 ≤ self.now.me) × (self.now.me ≤ self.now.members) }
+    {
+        self.seat.me()
+    }
+
+    /// How many members the circuit has, 1 to 15.
+    pub fn members(&self) -> u8
+        ensures value { result ≡ self.now.members }
+        ensures low { 1 ≤ result }
+        ensures few { result ≤ 15 }
+    {
+        self.seat.members()
+    }
+
     /// Whether the number's tape was released since the start; `false` while the core is failed.
     pub fn released(&self, number: Number) -> bool
         ensures failed { self.now.failed ≡ true → result ≡ false }
@@ -113,6 +137,18 @@ impl NodeCore {
             None => None,
             Some(desk) => desk.open_ballot(),
         }
+    }
+
+    /// The least number whose proposal is due at this moment, in milliseconds, if there is one; `None` while the core
+    /// is failed.
+    pub fn next_due(&self, now: u64) -> Option<Number>
+        ensures failed { self.now.failed ≡ true → result ≡ None }
+        ensures value { (marks : List Mark) → StandsFor self.now marks → result ≡ next_due self.now.me now marks }
+    {
+        if self.failed {
+            return None;
+        }
+        desks::least_due(&self.desks, now)
     }
 
     /// Whether a proposal of the number is open.
@@ -202,6 +238,7 @@ impl NodeCore {
         requires proposal { (proposal.me ≡ self.old.me) × (proposal.members ≡ self.old.members) }
         requires owner { proposal.ballot.owner ≡ self.old.me }
         ensures turn { IfOk result (λ x. (marks : List Mark) (own : Option TapeValue) → StandsFor self.old marks → was_released number marks ≡ false → is_above row.now.promised proposal.ballot ≡ false → ProposalStandsFor proposal number (Began number proposal.ballot own row.now.vote now ∷ marks) → Took row.now (begin self.old.circuit self.old.members self.old.me number proposal.ballot own now marks row.now) x self.new) }
+        ensures orderly { IfOk result (λ x. IsOrderly x) }
         ensures seat { IsSameSeat self.old self.new }
     {
         let seat = self.seat();
@@ -214,6 +251,7 @@ impl NodeCore {
     /// Sees to the number's proposal where its due moment has come.
     fn due(&mut self, number: Number, now: u64, row: &Row) -> Result<Turn, AllocError>
         ensures turn { IfOk result (λ x. (marks : List Mark) → StandsFor self.old marks → Took row.now (due_turn self.old.circuit self.old.members self.old.me number now marks row.now (open_proposal number marks)) x self.new) }
+        ensures orderly { IfOk result (λ x. IsOrderly x) }
         ensures seat { IsSameSeat self.old self.new }
     {
         if !self.is_open(number) {
@@ -237,6 +275,7 @@ impl NodeCore {
         requires from { packet.now.from ≤ self.old.members }
         requires owner { packet.now.ballot.owner ≡ self.old.me }
         ensures turn { IfOk result (λ x. (marks : List Mark) → StandsFor self.old marks → Took row.now (promise_turn self.old.circuit self.old.members self.old.me now marks row.now packet.now report.entry (gathering_at packet.now.number packet.now.ballot marks)) x self.new) }
+        ensures orderly { IfOk result (λ x. IsOrderly x) }
         ensures seat { IsSameSeat self.old self.new }
     {
         let number = packet.number();
@@ -253,6 +292,7 @@ impl NodeCore {
     /// Takes a Nack in.
     fn nack(&mut self, packet: &PacketRef<'_>, promised: Ballot) -> Result<Turn, AllocError>
         ensures turn { IfOk result (λ x. (row : RowValue) (marks : List Mark) → StandsFor self.old marks → Took row (nack_turn marks row packet.now promised (proposal_at packet.now.number packet.now.ballot marks)) x self.new) }
+        ensures orderly { IfOk result (λ x. IsOrderly x) }
         ensures seat { IsSameSeat self.old self.new }
     {
         let number = packet.number();
@@ -269,6 +309,7 @@ impl NodeCore {
     fn accepted(&mut self, packet: &PacketRef<'_>, tape: TapeRef<'_>) -> Result<Turn, AllocError>
         requires { packet.now.from ≤ self.old.members }
         ensures turn { IfOk result (λ x. (row : RowValue) (marks : List Mark) → StandsFor self.old marks → Took row (accepted_turn self.old.members marks row packet.now tape.entry) x self.new) }
+        ensures orderly { IfOk result (λ x. IsOrderly x) }
         ensures seat { IsSameSeat self.old self.new }
     {
         let number = packet.number();
@@ -296,6 +337,7 @@ impl NodeCore {
         note: Note,
     ) -> Result<Turn, AllocError>
         ensures turn { IfOk result (λ x. (marks : List Mark) (before after : RowValue) (said : NoteValue) → StandsFor self.old marks → IsRowAfter before after row → note_value note ≡ said → Took before (vote_turn self.old.circuit self.old.members self.old.me marks after packet.now tape.entry said) x self.new) }
+        ensures orderly { HasPromise row → IfOk result (λ x. IsOrderly x) }
         ensures seat { IsSameSeat self.old self.new }
     {
         let number = packet.number();
@@ -324,6 +366,7 @@ impl NodeCore {
         requires rules { IsTrue (keeps_rules packet.now) }
         requires kind { packet.now.body ≡ AcceptBody tape }
         ensures turn { IfOk result (λ x. (marks : List Mark) → StandsFor self.old marks → Took row.now (accept_turn self.old.circuit self.old.members self.old.me marks row.now packet.now tape.entry row.now.promised) x self.new) }
+        ensures orderly { IfOk result (λ x. IsOrderly x) }
         ensures seat { IsSameSeat self.old self.new }
     {
         let ballot = packet.ballot();
@@ -353,6 +396,7 @@ impl NodeCore {
     ) -> Result<Turn, CoreRefusal>
         requires { self.old.failed ≡ false }
         ensures turn { IfOk result (λ x. (marks : List Mark) → StandsFor self.old marks → Started self.old number own now marks row.now x self.new) }
+        ensures orderly { IfOk result (λ x. IsOrderly x) }
         ensures refused { IfErr result (λ e. RefusesToStart e self.old number row.now self.new) }
         ensures seat { IsSameSeat self.old self.new }
     {
@@ -388,6 +432,7 @@ impl NodeCore {
     fn receive(&mut self, packet: &PacketRef<'_>, now: u64, row: &Row) -> Result<Turn, AllocError>
         requires { IsForMember self.old.me self.old.members packet.now }
         ensures turn { IfOk result (λ x. (marks : List Mark) → StandsFor self.old marks → Took row.now (packet_turn self.old.circuit self.old.members self.old.me now marks row.now packet.now packet.now.body) x self.new) }
+        ensures orderly { IfOk result (λ x. IsOrderly x) }
         ensures seat { IsSameSeat self.old self.new }
     {
         match packet.body() {
@@ -404,6 +449,7 @@ impl NodeCore {
         requires unfailed { self.old.failed ≡ false }
         requires arrived { MayCome self.old.me self.old.members event }
         ensures ok { IfOk result (λ x. (marks : List Mark) → StandsFor self.old marks → TookTurn self.old event marks row.now x self.new) }
+        ensures orderly { IfOk result (λ x. IsOrderly x) }
         ensures refused { IfErr result (λ e. RefusesEvent event e self.old row.now self.new) }
         ensures seat { IsSameSeat self.old self.new }
     {
@@ -439,6 +485,8 @@ impl NodeCore {
     pub fn handle(&mut self, event: Event, row: &Row) -> Result<Turn, CoreRefusal>
         requires arrived { MayCome self.old.me self.old.members event }
         ensures ok { IfOk result (λ x. (marks : List Mark) → StandsFor self.old marks → TookTurn self.old event marks row.now x self.new) }
+        ensures promised { IfOk result (λ x. IfSome x.row (λ r. IsSome r.promised)) }
+        ensures few { IfOk result (λ x. length x.out.items ≤ 28) }
         ensures refused { IfErr result (λ e. Refuses e event self.old row.now self.new) }
         ensures failed { self.old.failed ≡ true → result ≡ Err CoreRefusal.Failed }
         ensures seat { IsSameSeat self.old self.new }

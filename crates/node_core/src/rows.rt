@@ -3,7 +3,7 @@
 ghost use Rattle.std.specs.Prelude.{◌≡◌, ◌↔◌, IsTrue, IfOk, Some, false, option_copied};
 ghost use Rattle.protocol.specs.Rows.{raised, voted};
 ghost use Rattle.protocol.specs.Acceptor.{is_above};
-ghost use Rattle.node_core.specs.Turns.{IsRowAfter};
+ghost use Rattle.node_core.specs.Turns.{IsRowAfter, HasPromise};
 
 use ballots::{Ballot, Row, Vote, VoteRef};
 use std::alloc::{AllocError, Global};
@@ -61,7 +61,8 @@ fn is_vote(row: &Row, ballot: Ballot, tape: TapeRef<'_>) -> bool
 
 /// The row with its promise raised to the ballot, where that changes it; `None` too where the ballot is below its vote.
 pub(crate) fn raise(alloc: Global, row: &Row, ballot: Ballot) -> Result<Option<Row>, AllocError>
-    ensures { IfOk result (λ after. is_above row.now.promised ballot ≡ false → IsRowAfter row.now (raised row.now ballot) after) }
+    ensures row { IfOk result (λ after. is_above row.now.promised ballot ≡ false → IsRowAfter row.now (raised row.now ballot) after) }
+    ensures promised { IfOk result (λ after. HasPromise after) }
 {
     if is_promised(row, ballot) {
         return Ok(None);
@@ -72,7 +73,8 @@ pub(crate) fn raise(alloc: Global, row: &Row, ballot: Ballot) -> Result<Option<R
 
 /// The row with a vote for the tape at the ballot, where that changes it.
 pub(crate) fn vote(row: &Row, ballot: Ballot, tape: Tape) -> Option<Row>
-    ensures { IsRowAfter row.now (voted ballot tape) result }
+    ensures row { IsRowAfter row.now (voted ballot tape) result }
+    ensures promised { HasPromise result }
 {
     if is_promised(row, ballot) && is_vote(row, ballot, tape.lend()) {
         return None;

@@ -2,6 +2,7 @@
 
 ghost use Rattle.std.specs.Prelude.{◌≡◌, []};
 ghost use Rattle.node_core.specs.Calls.{is_memory};
+ghost use Rattle.node_core.specs.Turns.{IsOrderly};
 
 use ballots::{Ballot, Row};
 use packets::Packet;
@@ -67,6 +68,7 @@ impl Turn {
         ensures out { result.out.items ≡ [] }
         ensures release { result.release ≡ None }
         ensures note { result.note ≡ note }
+        ensures orderly { IsOrderly result }
     {
         Turn {
             row: None,

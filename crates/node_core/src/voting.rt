@@ -6,7 +6,7 @@ ghost use Rattle.protocol.specs.Packets.{Prepare};
 ghost use Rattle.protocol.specs.Turn.{packet_to, prepare_turn};
 ghost use Rattle.packets.specs.Bodies.{said};
 ghost use Rattle.packets.specs.Rules.{keeps_rules};
-ghost use Rattle.node_core.specs.Turns.{IsTurn, IsReply};
+ghost use Rattle.node_core.specs.Turns.{IsTurn, IsReply, IsOrderly};
 
 use crate::mail;
 use crate::rows::{lent, raise};
@@ -57,7 +57,8 @@ pub(crate) fn prepare(
     requires to { packet.now.to ≡ seat.me }
     requires rules { IsTrue (keeps_rules packet.now) }
     requires kind { packet.now.body ≡ Prepare }
-    ensures { IfOk result (λ x. (marks : List Mark) → IsTurn row.now (prepare_turn seat.circuit seat.me marks row.now packet.now row.now.promised) x) }
+    ensures turn { IfOk result (λ x. (marks : List Mark) → IsTurn row.now (prepare_turn seat.circuit seat.me marks row.now packet.now row.now.promised) x) }
+    ensures orderly { IfOk result (λ x. IsOrderly x) }
 {
     let ballot = packet.ballot();
     match acceptor::prepare(row, ballot) {

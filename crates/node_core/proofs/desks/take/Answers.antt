@@ -1,8 +1,8 @@
 -- The desk at the first place.
-use Rattle.std.proofs.Common.{◌≡◌, ℕ, ◌+◌, suc, List, sym, ap, ◌∙◌, Option, Some, None, zero-add, take, drop, ◌++◌}
+use Rattle.std.proofs.Common.{◌≡◌, ℕ, List, sym, ap, ◌∙◌, Some, zero-add}
 use Rattle.std.specs.List.{position_from, remove}
 use Rattle.node_core.specs.declared.desk.Desk.{Desk}
-use Rattle.node_core.specs.Standing.{is_of, without}
+use Rattle.node_core.specs.Standing.{is_of}
 use Rattle.node_core.proofs.Finding.{Found, found_at, none_found}
 use Rattle.node_core.proofs.desks.take.Goals as goal
 

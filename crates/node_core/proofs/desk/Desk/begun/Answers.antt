@@ -1,9 +1,9 @@
 -- A member of one proposes at once: the proposal is open as it was just begun.
-use Rattle.std.proofs.Common.{◌≡◌, refl, sym, ap, subst, ◌∙◌, List, [], ◌∷◌, true}
+use Rattle.std.proofs.Common.{◌≡◌, refl, sym, ◌∙◌, [], ◌∷◌, true}
 use Rattle.std.specs.Prelude.{◌==◌}
 use Rattle.std.proofs.lemmas.Bool.{eq-eqb}
-use Rattle.protocol.specs.Marks.{Mark, Began}
-use Rattle.protocol.specs.Proposals.{counted, pick, since_began}
+use Rattle.protocol.specs.Marks.{Began}
+use Rattle.protocol.specs.Proposals.{since_began}
 use Rattle.node_core.proofs.Phases.{on_ok, opening, began_opens, none_since}
 use Rattle.node_core.proofs.desk.Desk.begun.Goals as goal
 

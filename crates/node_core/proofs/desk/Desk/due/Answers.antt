@@ -1,12 +1,8 @@
 -- The lines of the due moment: idle, given up, or begun anew.
-use Rattle.std.proofs.Common.{◌≡◌, refl, sym, ap, subst, ◌∙◌, List, [], ◌∷◌, Option, Some, None}
-use Rattle.protocol.specs.Ballots.{Ballot}
-use Rattle.protocol.specs.Rows.{Vote}
-use Rattle.protocol.specs.Marks.{Mark, Began, Closed}
-use Rattle.protocol.specs.Proposals.{Opening, open_proposal}
+use Rattle.std.proofs.Common.{◌≡◌, refl, sym, subst, ◌∙◌, ◌∷◌}
+use Rattle.protocol.specs.Marks.{Began, Closed}
 use Rattle.protocol.specs.Turn as said
 use Rattle.protocol.specs.Turn.{due_turn, stays, begin}
-use Rattle.proposer.specs.Answers.{IsDueAnswer, marks_after_due}
 use Rattle.node_core.specs.Standing.{Answers, DeskStands}
 use Rattle.node_core.proofs.Phases.{on_ok, stays_so, not_due, gives_up, renews, renews_above, ballot_open}
 use Rattle.node_core.proofs.desk.Desk.due.Goals as goal

@@ -1,13 +1,10 @@
 -- The lines of a promise: stale, overtaken, repeated, counted, or enough of them.
-use Rattle.std.proofs.Common.{◌≡◌, refl, sym, ap, subst, ◌∙◌, List, [], ◌∷◌, Option, Some, None, true, false}
-use Rattle.std.specs.Prelude.{IsTrue}
-use Rattle.protocol.specs.Marks.{Mark, Promised}
-use Rattle.protocol.specs.Proposals.{Opening, gathering_at, open_proposal, counted, since_began, pick}
-use Rattle.protocol.specs.Rows.{Row, raised}
+use Rattle.std.proofs.Common.{◌≡◌, refl, sym, ap, ◌∙◌, ◌∷◌, Some, None, true, false}
+use Rattle.protocol.specs.Marks.{Promised}
+use Rattle.protocol.specs.Proposals.{gathering_at}
 use Rattle.protocol.specs.Turn as said
 use Rattle.protocol.specs.Turn.{promise_turn, propose, stays}
 use Rattle.proposer.specs.declared.answer.Counted.TheVariants as kinds
-use Rattle.node_core.specs.Standing.{Answers, DeskStands}
 use Rattle.node_core.proofs.Phases.{on_ok, stays_so, not_gathering, overtaken, repeated, counts_as, completes_as, counted_as, promised_not_above, told}
 use Rattle.node_core.proofs.desk.Desk.promise.Goals as goal
 

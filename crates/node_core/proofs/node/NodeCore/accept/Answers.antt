@@ -1,5 +1,5 @@
 -- The lines of an Accept: refused, its vote stands, or it votes.
-use Rattle.std.proofs.Common.{◌≡◌, refl, sym, ap, subst, ◌∙◌, List, [], ◌∷◌, Some}
+use Rattle.std.proofs.Common.{◌≡◌, refl, sym, ap, subst, ◌∙◌, [], ◌∷◌, None}
 use Rattle.protocol.specs.Ballots.{Ballot}
 use Rattle.protocol.specs.Rows.{Tape, Row}
 use Rattle.protocol.specs.Packets.{Nack}
@@ -12,6 +12,7 @@ use Rattle.node_core.specs.Seats.{Seat}
 use Rattle.node_core.specs.Standing.{Took}
 use Rattle.node_core.proofs.Phases.{on_ok}
 use Rattle.node_core.proofs.Accepting.{refusing, standing, voting}
+use Rattle.node_core.proofs.Orders.{replied}
 use Rattle.node_core.proofs.node.NodeCore.accept.Goals as goal
 
 reply_told : (row : Row) (b a : Ballot) (t u : Tape) (r : Reply) → b ≡ a → t ≡ u → r ≡ reply_of row (Accepts b t) → reply_of row (Accepts a u) ≡ r
@@ -48,3 +49,12 @@ returns-in-Voted-clause-turn c =
     let is = row_told c.args.row.now c.in-Voted.after c.ballot-ballot.result c.args.packet.now.ballot c.lend.result c.args.tape c.ballot-ballot.ensures c.lend.ensures (ap (λ (a : AcceptAnswer). row_of a c.args.row.now) (sym c.in-Voted.is) ∙ c.in_ok-promised.ensures.row) in
     let v = voting c.args.self.now.circuit c.args.self.now.members c.args.self.now.me marks c.args.row.now c.args.packet.now c.args.tape c.in-Voted.after reply is in
     rw v.line (t marks c.args.row.now c.in-Voted.after (said.Note_voted c.args.packet.now.ballot) h (refl, v.changes) (ap said.Note_voted c.ballot-ballot.ensures)))
+
+pub returns-in-Nack-clause-orderly : goal.returns-in-Nack-clause-orderly
+returns-in-Nack-clause-orderly c = on_ok c.answer.result _ _ c.answer.ensures (λ x r. replied x None _ _ tt r)
+
+pub returns-in-Voted-clause-orderly : goal.returns-in-Voted-clause-orderly
+returns-in-Voted-clause-orderly c =
+    let reply = reply_told c.args.row.now c.ballot-ballot.result c.args.packet.now.ballot c.lend.result c.args.tape Votes c.ballot-ballot.ensures c.lend.ensures (ap said_of_accept (sym c.in-Voted.is) ∙ c.in_ok-promised.ensures.reply) in
+    let is = row_told c.args.row.now c.in-Voted.after c.ballot-ballot.result c.args.packet.now.ballot c.lend.result c.args.tape c.ballot-ballot.ensures c.lend.ensures (ap (λ (a : AcceptAnswer). row_of a c.args.row.now) (sym c.in-Voted.is) ∙ c.in_ok-promised.ensures.row) in
+    c.voted-in-Voted.ensures.orderly (voting c.args.self.now.circuit c.args.self.now.members c.args.self.now.me [] c.args.row.now c.args.packet.now c.args.tape c.in-Voted.after reply is).promised

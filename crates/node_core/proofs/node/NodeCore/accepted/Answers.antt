@@ -1,5 +1,5 @@
 -- The sender's vote, heard.
-use Rattle.std.proofs.Common.{◌≡◌, refl, sym, ap, subst, ◌∙◌, true, false}
+use Rattle.std.proofs.Common.{◌≡◌, refl, sym, ap, ◌∙◌, true, false}
 use Rattle.protocol.specs.Proposals.{was_released}
 use Rattle.node_core.proofs.Telling.{release_told, stands_told}
 use Rattle.node_core.proofs.node.NodeCore.accepted.Goals.{then-released, else-released}

@@ -1,5 +1,5 @@
 -- The desk that is taken out is the seat's, and so are those that are left.
-use Rattle.std.proofs.Common.{◌≡◌, sym, ap, ◌∙◌, Option, Some}
+use Rattle.std.proofs.Common.{sym, ap, ◌∙◌}
 use Rattle.node_core.specs.declared.desk.Desk.{Desk}
 use Rattle.node_core.proofs.Finding.{without_of, found_of, found_number}
 use Rattle.node_core.proofs.node.NodeCore.desk.Goals.{in-Some, in-None}

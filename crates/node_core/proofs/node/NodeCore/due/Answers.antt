@@ -1,7 +1,7 @@
-use Rattle.std.proofs.Common.{◌≡◌, refl, sym, ap, subst, ◌∙◌, None, false}
+use Rattle.std.proofs.Common.{◌≡◌, refl, sym, ◌∙◌, false}
 use Rattle.protocol.specs.Proposals.{open_proposal, was_released}
 use Rattle.protocol.specs.Turn as said
-use Rattle.node_core.specs.Standing.{Took, seat_of}
+use Rattle.node_core.specs.Standing.{seat_of}
 use Rattle.node_core.proofs.Phases.{took_nothing, none_open}
 use Rattle.node_core.proofs.Growing.{falls_due}
 use Rattle.node_core.proofs.Telling.{due_told}

@@ -1,7 +1,6 @@
-use Rattle.std.proofs.Common.{◌≡◌, refl, sym, ap, subst, ◌∙◌, None, false}
+use Rattle.std.proofs.Common.{◌≡◌, refl, sym, ◌∙◌, None, false}
 use Rattle.protocol.specs.Proposals.{open_proposal, was_released, proposal_at}
 use Rattle.protocol.specs.Turn as said
-use Rattle.node_core.specs.Standing.{Took}
 use Rattle.node_core.proofs.Phases.{took_nothing, stale_nack}
 use Rattle.node_core.proofs.Growing.{denies}
 use Rattle.node_core.proofs.Telling.{left_without}

@@ -1,7 +1,7 @@
-use Rattle.std.proofs.Common.{◌≡◌, refl, sym, ap, subst, ◌∙◌, ◌∷◌, false}
+use Rattle.std.proofs.Common.{sym, subst, ◌∙◌, ◌∷◌}
 use Rattle.protocol.specs.Marks.{Began}
 use Rattle.proposer.specs.InHand.{StandsFor as ProposalStandsFor}
-use Rattle.node_core.specs.Standing.{Took, seat_of}
+use Rattle.node_core.specs.Standing.{seat_of}
 use Rattle.node_core.proofs.Growing.{begins}
 use Rattle.node_core.proofs.Telling.{begin_told}
 use Rattle.node_core.proofs.node.NodeCore.open.Goals as goal

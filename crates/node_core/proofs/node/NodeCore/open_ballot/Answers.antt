@@ -1,5 +1,5 @@
 -- The desk that is found stands for the marks.
-use Rattle.std.proofs.Common.{◌≡◌, sym, ap, ◌∙◌, Option, Some}
+use Rattle.std.proofs.Common.{◌≡◌, sym, ap, ◌∙◌, Some}
 use Rattle.std.specs.Prelude.{find}
 use Rattle.protocol.specs.Proposals.{open_ballot}
 use Rattle.node_core.specs.Standing.{Core, is_of}

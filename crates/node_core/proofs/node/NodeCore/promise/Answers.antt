@@ -1,7 +1,7 @@
-use Rattle.std.proofs.Common.{◌≡◌, refl, sym, ap, subst, ◌∙◌, None, false}
+use Rattle.std.proofs.Common.{◌≡◌, refl, sym, ◌∙◌, None, false}
 use Rattle.protocol.specs.Proposals.{open_proposal, was_released, gathering_at}
 use Rattle.protocol.specs.Turn as said
-use Rattle.node_core.specs.Standing.{Took, seat_of}
+use Rattle.node_core.specs.Standing.{seat_of}
 use Rattle.node_core.proofs.Phases.{took_nothing, none_gathers, not_gathering}
 use Rattle.node_core.proofs.Growing.{promises}
 use Rattle.node_core.proofs.Telling.{left_without, promise_told}

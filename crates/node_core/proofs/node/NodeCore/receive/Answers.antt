@@ -1,12 +1,12 @@
 -- A packet, by its body.
-use Rattle.std.proofs.Common.{◌≡◌, refl, sym, ap, subst, ◌∙◌, Option}
-use Rattle.protocol.specs.Rows.{Tape, Vote, Row}
-use Rattle.protocol.specs.Packets.{Body, Prepare, Promise, Accepted, Nack}
+use Rattle.std.proofs.Common.{sym, ap, subst, ◌∙◌, Option}
+use Rattle.protocol.specs.Rows.{Tape, Vote}
+use Rattle.protocol.specs.Packets.{Body}
 use Rattle.protocol.specs.Proposals.{gathering_at}
 use Rattle.protocol.specs.Turn.{packet_turn, prepare_turn, promise_turn, accepted_turn}
 use Rattle.packets.specs.Bodies.{said}
 use Rattle.node_core.specs.Seats.{Seat}
-use Rattle.node_core.specs.Standing.{Took, StandsFor}
+use Rattle.node_core.specs.Standing.{Took}
 use Rattle.node_core.specs.Turns.{IsTurn}
 use Rattle.node_core.proofs.Phases.{on_ok}
 use Rattle.node_core.proofs.Accepting.{prepare_adds_none}
@@ -14,7 +14,7 @@ use Rattle.node_core.proofs.node.NodeCore.receive.Goals as goal
 
 pub returns-in-Prepare-clause-turn : goal.returns-in-Prepare-clause-turn
 returns-in-Prepare-clause-turn c =
-    on_ok c.prepare.result _ _ c.prepare.ensures
+    on_ok c.prepare.result _ _ c.prepare.ensures.turn
     (λ x t marks h.
     subst (λ (y : Body). Took c.args.row.now (packet_turn c.args.self.now.circuit c.args.self.now.members c.args.self.now.me c.args.now marks c.args.row.now c.args.packet.now y) x c.args.self.now) (sym (ap said c.in-Prepare.is) ∙ c.body.ensures.body)
     (record {

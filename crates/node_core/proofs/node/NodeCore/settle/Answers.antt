@@ -1,6 +1,6 @@
 -- The desk is put back, or its number noted: by the lemma on either.
 use Rattle.std.proofs.Common.{◌≡◌, sym, ap, subst, ◌∙◌}
-use Rattle.node_core.specs.Standing.{Core, StandsFor, DeskStands, Grows, with_desk, without}
+use Rattle.node_core.specs.Standing.{Core, StandsFor, with_desk, without}
 use Rattle.node_core.proofs.Keeping.{kept_at}
 use Rattle.node_core.proofs.Phases.{when_ok}
 use Rattle.node_core.proofs.node.NodeCore.settle.Goals as goal

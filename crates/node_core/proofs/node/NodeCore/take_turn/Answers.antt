@@ -1,10 +1,9 @@
 -- Each event's turn is that of the definitions.
-use Rattle.std.proofs.Common.{◌≡◌, refl, sym, ap, subst, ◌∙◌, Some, None}
+use Rattle.std.proofs.Common.{refl, sym, subst}
 use Rattle.protocol.specs.Packets.{Packet}
 use Rattle.protocol.specs.Proposals.{open_proposal}
 use Rattle.protocol.specs.Turn.{due_turn, packet_turn}
 use Rattle.node_core.specs.declared.event.Event.{Event}
-use Rattle.node_core.specs.declared.event.Event.TheVariants as events
 use Rattle.node_core.specs.Standing.{Took}
 use Rattle.node_core.specs.Calls.{TookTurn}
 use Rattle.node_core.proofs.Phases.{on_ok}
