@@ -1,5 +1,8 @@
 //! Where a station listens.
 
+ghost use Rattle.std.specs.Prelude.{IfSome};
+ghost use Rattle.wire.specs.Octets.{IsOctet};
+
 use ballots::Member;
 
 /// The address of a member's station.
@@ -13,7 +16,9 @@ pub struct Address {
 }
 
 /// A number of one to three decimal digits, up to 255.
-fn octet_of(word: &str) -> Option<u8> {
+fn octet_of(word: &str) -> Option<u8>
+    ensures { IfSome result (IsOctet word.now) }
+{
     if word.len() > 3 || !word.bytes().all(|b| b.is_ascii_digit()) {
         return None;
     }

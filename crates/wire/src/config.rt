@@ -1,6 +1,9 @@
 //! The configuration of a station, read from TOML.
 
-ghost use Rattle.std.specs.Prelude.{◌≡◌, length};
+ghost use Rattle.std.specs.Prelude.{◌≡◌, ◌≤◌, ◌<◌, length, map, true, Some, IfOk, IfSome, IsSome, vec_len};
+ghost use Rattle.std.specs.List.{All};
+ghost use Rattle.wire.specs.Places.{AreOwn, TakesPlace};
+ghost use Rattle.wire.specs.Stations.{AreInOrder, IsCircuit};
 
 use crate::address::{Address, ip_of};
 use crate::fault::{ConfigFault, ConfigKey};
@@ -55,7 +58,9 @@ fn member_of(number: i64) -> Option<Member> {
 }
 
 /// The stations' entries, 15 at most.
-fn entries_at(document: &Table) -> Result<&Array, ConfigFault> {
+fn entries_at(document: &Table) -> Result<&Array, ConfigFault>
+    ensures { IfOk result (λ a. vec_len a.now ≤ 15) }
+{
     let entries = match value_at(document, ConfigKey::Station)? {
         Value::Array(entries) => entries,
         _ => return Err(ConfigFault::WrongType(ConfigKey::Station)),
@@ -67,7 +72,9 @@ fn entries_at(document: &Table) -> Result<&Array, ConfigFault> {
 }
 
 /// The address that an entry gives; `None` where a key is absent, of another type or out of range.
-fn address_of(entry: &Value) -> Option<Address> {
+fn address_of(entry: &Value) -> Option<Address>
+    ensures { IfSome result (λ a. 0 < a.port) }
+{
     let entry = entry.as_table()?;
     let member = member_of(entry.get("member")?.as_integer()?)?;
     let ip = ip_of(entry.get("ip")?.as_str()?)?;
@@ -78,22 +85,25 @@ fn address_of(entry: &Value) -> Option<Address> {
     Some(Address { member, ip, port })
 }
 
-/// Puts an address into its member's place, which is one of the places and still free.
-fn place(addresses: &mut [Option<Address>], address: Address) -> bool
-    ensures { length addresses.new ≡ length addresses.old }
+/// Puts an address into its member's place, where that is one of the places and still free.
+fn place(places: &mut [Option<Address>], address: Address) -> bool
+    ensures length { length places.new ≡ length places.old }
+    ensures puts { result ≡ true → TakesPlace places.old address places.new }
 {
-    let at = usize::from(address.member.get());
-    match addresses.get_mut(at - 1) {
-        Some(slot) if slot.is_none() => {
-            *slot = Some(address);
-            true
-        }
-        _ => false,
+    let at = usize::from(address.member.get()) - 1;
+    if at >= places.len() || places[at].is_some() {
+        return false;
     }
+    places[at] = Some(address);
+    true
 }
 
-/// The addresses of all members, in their order.
-fn stations_of(alloc: Global, entries: &Array) -> Result<Vec<Address>, ConfigFault> {
+/// The places of as many members as there are entries, each with its member's address.
+fn places_of(alloc: Global, entries: &Array) -> Result<Vec<Option<Address>>, ConfigFault>
+    ensures length { IfOk result (λ v. length v.items ≤ vec_len entries.now) }
+    ensures own { IfOk result (λ v. AreOwn v.items) }
+    ensures filled { IfOk result (λ v. All IsSome v.items) }
+{
     let mut places = vec![in alloc; None; entries.len()]?;
     for (index, entry) in entries.iter().enumerate() {
         let placed = match address_of(entry) {
@@ -104,18 +114,38 @@ fn stations_of(alloc: Global, entries: &Array) -> Result<Vec<Address>, ConfigFau
             return Err(ConfigFault::BadStation(index + 1));
         }
     }
-    let mut stations = Vec::new(alloc);
-    for address in places.iter().flatten() {
-        stations
-            .push(*address)
-            .map_err(|_| ConfigFault::OutOfMemory)?;
+    Ok(places)
+}
+
+/// The addresses in places that are all filled.
+fn addresses_in(alloc: Global, places: &[Option<Address>]) -> Result<Vec<Address>, AllocError>
+    requires { All IsSome places.now }
+    ensures { IfOk result (λ v. map Some v.items ≡ places.now) }
+{
+    let mut addresses = Vec::with_capacity(alloc, places.len())?;
+    for place in places {
+        match place {
+            Some(address) => addresses.push(*address)?,
+            None => unreachable!(),
+        }
     }
-    Ok(stations)
+    Ok(addresses)
+}
+
+/// The addresses of all members, in their order.
+fn stations_of(alloc: Global, entries: &Array) -> Result<Vec<Address>, ConfigFault>
+    ensures length { IfOk result (λ v. length v.items ≤ vec_len entries.now) }
+    ensures order { IfOk result (λ v. AreInOrder v.items) }
+{
+    let places = places_of(alloc, entries)?;
+    Ok(addresses_in(alloc, &places)?)
 }
 
 impl Config {
     /// The configuration of a TOML text. The first fault that holds is answered, in the order of the keys.
-    pub fn read(alloc: Global, text: &str) -> Result<Config, ConfigFault> {
+    pub fn read(alloc: Global, text: &str) -> Result<Config, ConfigFault>
+        ensures { IfOk result (λ c. IsCircuit c.member c.stations.items) }
+    {
         let document = match toml::table_from_str(alloc, text) {
             Ok(document) => document,
             Err(error) if error.is_memory() => return Err(ConfigFault::OutOfMemory),

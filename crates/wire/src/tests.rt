@@ -124,6 +124,128 @@ fn faults_of_stations(rt: HostRuntime) -> Result<(), Fail> {
     Ok(())
 }
 
+/// The good text up to its stations.
+const HEAD: &str =
+    "circuit = 7\nmember = 1\ntable = \"codes.toml\"\nwidths = \"widths.toml\"\nrows = \"station1.db\"\n";
+
+/// A configuration of member 1 with stations of these members and ports, in this order.
+fn with_stations(alloc: Global, stations: &[(u8, u32)]) -> Result<String, Fail> {
+    let mut text = HEAD.to_string(alloc)?;
+    for (member, port) in stations {
+        let entry = format!(in alloc;
+            "[[station]]\nmember = {member}\nip = \"10.0.0.{member}\"\nport = {port}\n"
+        )?;
+        text.push_str(&entry)?;
+    }
+    Ok(text)
+}
+
+#[test]
+fn stations_in_order(rt: HostRuntime) -> Result<(), Fail> {
+    let alloc = rt.alloc();
+    let text = with_stations(alloc, &[(3, 7003), (1, 65535), (2, 1)])?;
+    let config = Config::read(alloc, &text).map_err(|_| "a configuration")?;
+    let wanted = [(1u8, 65535u16), (2, 1), (3, 7003)];
+    assert_eq!(rt; config.stations.len(), 3);
+    for ((member, port), station) in wanted.iter().zip(config.stations.iter()) {
+        assert_eq!(rt; station.member.get(), *member);
+        assert_eq!(rt; station.ip, [10, 0, 0, *member]);
+        assert_eq!(rt; station.port, *port);
+    }
+    Ok(())
+}
+
+#[test]
+fn faults_at_each_entry(rt: HostRuntime) -> Result<(), Fail> {
+    let alloc = rt.alloc();
+    let lists: [([(u8, u32); 3], usize); 9] = [
+        // No port, one too large, and none that is its own.
+        ([(1, 0), (2, 7002), (3, 7003)], 1),
+        ([(1, 7001), (2, 65536), (3, 7003)], 2),
+        ([(1, 7001), (2, 7002), (3, 0)], 3),
+        // A member that is none, above the number of entries, or there twice.
+        ([(0, 7001), (2, 7002), (3, 7003)], 1),
+        ([(1, 7001), (4, 7002), (3, 7003)], 2),
+        ([(1, 7001), (2, 7002), (16, 7003)], 3),
+        ([(2, 7001), (2, 7002), (3, 7003)], 2),
+        ([(1, 7001), (2, 7002), (1, 7003)], 3),
+        // The first of two.
+        ([(1, 7001), (2, 0), (3, 0)], 2),
+    ];
+    for (stations, place) in lists {
+        let text = with_stations(alloc, &stations)?;
+        assert_eq!(rt;
+            fault_of(alloc, &text),
+            Some(ConfigFault::BadStation(place))
+        );
+    }
+    Ok(())
+}
+
+#[test]
+fn fifteen_stations_at_most(rt: HostRuntime) -> Result<(), Fail> {
+    let alloc = rt.alloc();
+    let mut stations = Vec::new(alloc);
+    for member in 1..=15u8 {
+        stations.push((member, 7000u32))?;
+    }
+    let text = with_stations(alloc, &stations)?;
+    let config = Config::read(alloc, &text).map_err(|_| "a configuration")?;
+    assert_eq!(rt; config.stations.len(), 15);
+    // One more is found before its entries are read.
+    stations.push((0, 0))?;
+    let text = with_stations(alloc, &stations)?;
+    assert_eq!(rt;
+        fault_of(alloc, &text),
+        Some(ConfigFault::OutOfRange(ConfigKey::Station))
+    );
+    let none = format!(in alloc; "{HEAD}station = []\n")?;
+    assert_eq!(rt;
+        fault_of(alloc, &none),
+        Some(ConfigFault::OutOfRange(ConfigKey::Member))
+    );
+    Ok(())
+}
+
+#[test]
+fn the_first_fault(rt: HostRuntime) -> Result<(), Fail> {
+    let alloc = rt.alloc();
+    let texts = [
+        (
+            "circuit = 65536",
+            ConfigFault::OutOfRange(ConfigKey::Circuit),
+        ),
+        (
+            "circuit = 7\ntable = 1",
+            ConfigFault::Missing(ConfigKey::Member),
+        ),
+        (
+            "circuit = 7\nmember = 0\ntable = 1",
+            ConfigFault::OutOfRange(ConfigKey::Member),
+        ),
+        (
+            "circuit = 7\nmember = 9\ntable = 1",
+            ConfigFault::WrongType(ConfigKey::Table),
+        ),
+        (
+            "circuit = 7\nmember = 9\ntable = \"\"\nrows = 1",
+            ConfigFault::Missing(ConfigKey::Widths),
+        ),
+        (
+            "circuit = 7\nmember = 9\ntable = \"\"\nwidths = \"\"\nrows = 1\nstation = 1",
+            ConfigFault::WrongType(ConfigKey::Rows),
+        ),
+        (
+            "circuit = 7\nmember = 9\ntable = \"\"\nwidths = \"\"\nrows = \"\"\nstation = [1]",
+            ConfigFault::BadStation(1),
+        ),
+    ];
+    for (text, fault) in texts {
+        assert_eq!(rt; fault_of(alloc, text), Some(fault), "{text}");
+    }
+    Ok(())
+}
+
 #[test]
 fn two_sockets(rt: HostRuntime) -> Result<(), Fail> {
     let member = Member::new(1).ok_or("a member")?;
