@@ -1,0 +1,253 @@
+-- From the checks of a call to its step.
+use Rattle.std.proofs.Common.{◌≡◌, ◌≤◌, ℕ, inl, inr, refl, sym, ap, subst, ◌∙◌, List, [], Option, Some, None, Bool, true, false}
+use Rattle.std.specs.Prelude.{Result, Ok, Err, IsErr, IsErrAnd, not, is_some, if◌then◌else◌}
+use Rattle.std.proofs.lemmas.Bool.{le-leb}
+use Rattle.protocol.specs.Lists.{or_else}
+use Rattle.protocol.specs.Packets.{Packet}
+use Rattle.protocol.specs.Marks.{Mark}
+use Rattle.protocol.specs.Ballots.{Ballot}
+use Rattle.protocol.specs.Proposals.{Opening, was_released, open_proposal, opening_ballot, open_ballot, next_due}
+use Rattle.protocol.specs.Turn.{Event, Offered, Sought, Came_due, Arrived}
+use Rattle.protocol.specs.Refusals as refusals
+use Rattle.code_table.specs.Tables.{mean}
+use Rattle.packets.specs.Reading.{packet_at}
+use Rattle.packets.specs.declared.fault.PacketFault.{PacketFault}
+use Rattle.line_check.specs.Sets.{first_fault}
+use Rattle.line_check.specs.declared.fault.SetFault.{SetFault}
+use Rattle.node_core.specs.Standing.{StandsFor}
+use Rattle.station.specs.declared.answer.Answer.{Answer}
+use Rattle.station.specs.declared.station.Station.{Station}
+use Rattle.station.specs.declared.refusal.StepRefusal.{StepRefusal}
+use Rattle.station.specs.declared.refusal.StepRefusal.TheVariants.{Stopped, BadDatagram, WrongCircuit, NotForMe, Stranger, BadNumber, AlreadyReleased, AlreadyOpen, TapeFaulty, RoundsSpent, Store, OutOfMemory}
+use Rattle.station.specs.Refusing.{Refusal, IsRefusal}
+use Rattle.station.specs.Stations.{Sight, setup_of, unless_faulty, IsFixed}
+use Rattle.station.specs.Steps.{Ends, Asks, AsksEarly, TornByMemory, Steps}
+
+none_first : {A : Type 0} (o p : Option A) → or_else o p ≡ None → o ≡ None
+none_first None p h = refl
+none_first (Some v) p h = cc
+
+pub early : {R : Type 0} (s : Station R) (marks : List Mark) (call : refusals.Call) (e : Event) → Asks s marks call e → AsksEarly s marks call e
+early s marks call e h = record {
+  unrefused = none_first (refusals.early_refusal (setup_of s) s.stopped marks call) (refusals.tape_refusal (setup_of s) call) h.unrefused;
+  event = h.event;
+}
+
+-- an event that nothing refused, as the step of its call
+pub stepped :
+    {R : Type 0} (x : Sight R) (call : refusals.Call) (e : Event) (old new : Station R) (marks : List Mark) (r : Result Answer StepRefusal)
+    → Asks old marks call e → Ends x e old new marks r → Steps x call old new marks r
+stepped x call e old new marks (Ok a) h s = inr (e, h, s)
+stepped x call e old new marks (Err (Store fault)) h s = (e, h, s)
+stepped x call e old new marks (Err OutOfMemory) h s = (e, early old marks call e h, s)
+stepped x call e old new marks (Err RoundsSpent) h s = (e, h, s)
+stepped x call e old new marks (Err Stopped) h s = absurd s
+stepped x call e old new marks (Err (BadDatagram fault)) h s = absurd s
+stepped x call e old new marks (Err WrongCircuit) h s = absurd s
+stepped x call e old new marks (Err NotForMe) h s = absurd s
+stepped x call e old new marks (Err Stranger) h s = absurd s
+stepped x call e old new marks (Err BadNumber) h s = absurd s
+stepped x call e old new marks (Err AlreadyReleased) h s = absurd s
+stepped x call e old new marks (Err AlreadyOpen) h s = absurd s
+stepped x call e old new marks (Err (TapeFaulty fault)) h s = absurd s
+
+-- where nothing is refused before a tape is set, what setting it refuses is
+pub last_refusal :
+    (s : refusals.Setup PacketFault (Unit {0}) SetFault) (stopped : Bool) (marks : List Mark) (call : refusals.Call)
+    → stopped ≡ false → refusals.call_refusal s marks call ≡ None → refusals.refusal s stopped marks call ≡ refusals.tape_refusal s call
+last_refusal s stopped marks call goes h =
+    subst (λ (b : Bool). refusals.refusal s b marks call ≡ refusals.tape_refusal s call) (sym goes) (ap (λ (o : Option Refusal). or_else o (refusals.tape_refusal s call)) h)
+
+-- nothing is refused to a station that goes on, before a tape is set
+pub early_none :
+    (s : refusals.Setup PacketFault (Unit {0}) SetFault) (stopped : Bool) (marks : List Mark) (call : refusals.Call)
+    → stopped ≡ false → refusals.call_refusal s marks call ≡ None → refusals.early_refusal s stopped marks call ≡ None
+early_none s stopped marks call goes h = subst (λ (b : Bool). refusals.early_refusal s b marks call ≡ None) (sym goes) h
+
+number_test : Bool → Bool → Option Opening → Option Refusal
+number_test a b o =
+    if not a then Some refusals.Bad_number
+    else if b then Some refusals.Already_released
+    else if is_some o then Some refusals.Already_open
+    else None
+
+number_free : (a b : Bool) (o : Option Opening) → number_test a b o ≡ None → (b ≡ false) × (o ≡ None)
+unfolding number_test
+number_free false b o h = cc
+number_free true true o h = cc
+number_free true false (Some p) h = cc
+number_free true false None h = (refl, refl)
+
+-- a number that is not refused is neither released nor open
+pub free : (n : ℕ) (marks : List Mark) → refusals.number_refusal {D = PacketFault} {F = SetFault} n marks ≡ None → (was_released n marks ≡ false) × (open_proposal n marks ≡ None)
+unfolding number_test
+free n marks h = number_free (refusals.is_number n) (was_released n marks) (open_proposal n marks) h
+
+is_known : (n : ℕ) → 1 ≤ n → n ≤ 999999 → refusals.is_number n ≡ true
+is_known n low high = rw (le-leb 1 n low) (le-leb n 999999 high)
+
+is_opened : (o : Option Opening) → is_some (opening_ballot o) ≡ is_some o
+is_opened None = refl
+is_opened (Some p) = refl
+
+known_released : (a b : Bool) (o : Option Opening) → a ≡ true → b ≡ true → number_test a b o ≡ Some refusals.Already_released
+unfolding number_test
+known_released a b o x y = rw x (rw y refl)
+
+known_open : (a b : Bool) (o : Option Opening) → a ≡ true → b ≡ false → is_some o ≡ true → number_test a b o ≡ Some refusals.Already_open
+unfolding number_test
+known_open a b o x y z = rw x (rw y (rw z refl))
+
+known_free : (a b : Bool) (o : Option Opening) → a ≡ true → b ≡ false → is_some o ≡ false → number_test a b o ≡ None
+unfolding number_test
+known_free a b o x y z = rw x (rw y (rw z refl))
+
+-- what the tests of a number tell
+module _ (n : ℕ) (marks : List Mark) (low : 1 ≤ n) (high : n ≤ 999999) (m : ℕ) (same : m ≡ n) where
+  pub refused_released : (b : Bool) → b ≡ was_released m marks → b ≡ true → refusals.number_refusal {D = PacketFault} {F = SetFault} n marks ≡ Some refusals.Already_released
+  unfolding number_test
+  refused_released b is h =
+      known_released (refusals.is_number n) (was_released n marks) (open_proposal n marks) (is_known n low high) (sym (is ∙ ap (λ (k : ℕ). was_released k marks) same) ∙ h)
+
+  module _ (b : Bool) (is : b ≡ was_released m marks) (kept : b ≡ false) (o : Option Ballot) (opened : o ≡ open_ballot m marks) where
+    unreleased : was_released n marks ≡ false
+    unreleased = sym (is ∙ ap (λ (k : ℕ). was_released k marks) same) ∙ kept
+
+    has_ballot : (s : Bool) → is_some o ≡ s → is_some (open_proposal n marks) ≡ s
+    has_ballot s h =
+        sym (ap (λ (p : Option Ballot). is_some p) opened ∙ (is_opened (open_proposal m marks) ∙ ap (λ (k : ℕ). is_some (open_proposal k marks)) same)) ∙ h
+
+    pub refused_open : is_some o ≡ true → refusals.number_refusal {D = PacketFault} {F = SetFault} n marks ≡ Some refusals.Already_open
+    unfolding number_test
+    refused_open h = known_open (refusals.is_number n) (was_released n marks) (open_proposal n marks) (is_known n low high) unreleased (has_ballot true h)
+
+    pub unrefused : is_some o ≡ false → refusals.number_refusal {D = PacketFault} {F = SetFault} n marks ≡ None
+    unfolding number_test
+    unrefused h = known_free (refusals.is_number n) (was_released n marks) (open_proposal n marks) (is_known n low high) unreleased (has_ballot false h)
+
+-- the same of an equal number
+pub free_at :
+    (n m : ℕ) (marks : List Mark) → m ≡ n → refusals.number_refusal {D = PacketFault} {F = SetFault} n marks ≡ None
+    → (was_released m marks ≡ false) × (open_proposal m marks ≡ None)
+free_at n m marks same h = subst (λ (k : ℕ). (was_released k marks ≡ false) × (open_proposal k marks ≡ None)) (sym same) (free n marks h)
+
+-- an offer that nothing refuses
+pub offered :
+    {R : Type 0} (s : Station R) (marks : List Mark) (n m : ℕ) (tape t : List ℕ) (now : ℕ)
+    → s.stopped ≡ false → refusals.number_refusal {D = PacketFault} {F = SetFault} n marks ≡ None → first_fault (mean s.table) s.widths tape ≡ None → m ≡ n → t ≡ tape
+    → Asks s marks (refusals.Offering n tape now) (Offered m t now)
+offered s marks n m tape t now goes h sets same equal = record {
+  unrefused = last_refusal (setup_of s) s.stopped marks (refusals.Offering n tape now) goes h ∙ ap (λ (o : Option SetFault). refusals.setting_refusal (unless_faulty o)) sets;
+  event = λ i. Some (Offered (sym same i) (sym equal i) now);
+}
+
+-- the same before its tape is set
+pub offered_early :
+    {R : Type 0} (s : Station R) (marks : List Mark) (n : ℕ) (tape : List ℕ) (now : ℕ)
+    → s.stopped ≡ false → refusals.number_refusal {D = PacketFault} {F = SetFault} n marks ≡ None → AsksEarly s marks (refusals.Offering n tape now) (Offered n tape now)
+offered_early s marks n tape now goes h = record {
+  unrefused = early_none (setup_of s) s.stopped marks (refusals.Offering n tape now) goes h;
+  event = refl;
+}
+
+-- a search that nothing refuses
+pub sought :
+    {R : Type 0} (s : Station R) (marks : List Mark) (n m now : ℕ)
+    → s.stopped ≡ false → refusals.number_refusal {D = PacketFault} {F = SetFault} n marks ≡ None → m ≡ n → Asks s marks (refusals.Seeking n now) (Sought m now)
+sought s marks n m now goes h same = record {
+  unrefused = last_refusal (setup_of s) s.stopped marks (refusals.Seeking n now) goes h;
+  event = λ i. Some (Sought (sym same i) now);
+}
+
+-- a number that is due
+pub came_due :
+    {R : Type 0} (s : Station R) (marks : List Mark) (n now : ℕ) → s.stopped ≡ false → next_due s.core.me now marks ≡ Some n → Asks s marks (refusals.Falling_due now) (Came_due n now)
+came_due s marks n now goes h = record {
+  unrefused = last_refusal (setup_of s) s.stopped marks (refusals.Falling_due now) goes refl;
+  event = ap (λ (o : Option ℕ). refusals.due_event o now) h;
+}
+
+-- bytes of a packet that nothing refuses
+pub received :
+    {R : Type 0} (s : Station R) (marks : List Mark) (bytes : List ℕ) (now k c m : ℕ) (p q : Packet)
+    → s.stopped ≡ false → packet_at bytes ≡ Ok p → k ≡ s.core.circuit → c ≡ s.core.members → m ≡ s.core.me
+    → refusals.packet_refusal {D = PacketFault} {F = SetFault} k c m p ≡ None → q ≡ p → Asks s marks (refusals.Receiving bytes now) (Arrived q now)
+received s marks bytes now k c m p q goes read circuit members me h same =
+    let here : refusals.packet_refusal {D = PacketFault} {F = SetFault} s.core.circuit s.core.members s.core.me p ≡ None =
+    sym (λ i. refusals.packet_refusal {D = PacketFault} {F = SetFault} (circuit i) (members i) (me i) p) ∙ h in
+    record {
+      unrefused = last_refusal (setup_of s) s.stopped marks (refusals.Receiving bytes now) goes
+          (ap (λ (r : Result Packet PacketFault). refusals.reading_refusal {D = PacketFault} {F = SetFault} s.core.circuit s.core.members s.core.me r) read ∙ here);
+      event = ap (λ (r : Result Packet PacketFault). refusals.arrival r now) read ∙ (λ i. Some (Arrived (sym same i) now));
+    }
+
+-- memory was refused before the store was asked
+pub torn_early :
+    {R : Type 0} (x : Sight R) (call : refusals.Call) (e : Event) (old new : Station R) (marks : List Mark) (q : StepRefusal)
+    → q ≡ OutOfMemory → AsksEarly old marks call e → IsFixed old new → new ≡ record old { core = new.core; stopped = true } → StandsFor new.core []
+    → Steps x call old new marks (Err q)
+torn_early {R = R} x call e old new marks q same asks fixed is none =
+    let torn : TornByMemory x old new =
+    record { fixed = fixed; stops = ap (λ (t : Station R). t.stopped) is; stands_for = none; rows = inl (ap (λ (t : Station R). t.rows) is) } in
+    subst (λ (r : StepRefusal). Steps x call old new marks (Err r)) (sym same) (e, asks, torn)
+
+-- a call that is refused for its first reason
+pub refused :
+    {R : Type 0} (x : Sight R) (call : refusals.Call) (s : Station R) (marks : List Mark) (r : StepRefusal)
+    → IsRefusal (refusals.refusal (setup_of s) s.stopped marks call) r → Steps x call s s marks (Err r)
+refused x call s marks Stopped h = (h, refl)
+refused x call s marks (BadDatagram fault) h = (h, refl)
+refused x call s marks WrongCircuit h = (h, refl)
+refused x call s marks NotForMe h = (h, refl)
+refused x call s marks Stranger h = (h, refl)
+refused x call s marks BadNumber h = (h, refl)
+refused x call s marks AlreadyReleased h = (h, refl)
+refused x call s marks AlreadyOpen h = (h, refl)
+refused x call s marks (TapeFaulty fault) h = (h, refl)
+refused x call s marks RoundsSpent h = absurd h
+refused x call s marks (Store fault) h = absurd h
+refused x call s marks OutOfMemory h = absurd h
+
+-- a refusal is none, or it is the one of a call that goes on
+known_refusal : (o p : Option Refusal) (r : StepRefusal) → IsRefusal o r → or_else o p ≡ o
+known_refusal (Some v) p r h = refl
+known_refusal None p Stopped h = cc
+known_refusal None p (BadDatagram fault) h = cc
+known_refusal None p WrongCircuit h = cc
+known_refusal None p NotForMe h = cc
+known_refusal None p Stranger h = cc
+known_refusal None p BadNumber h = cc
+known_refusal None p AlreadyReleased h = cc
+known_refusal None p AlreadyOpen h = cc
+known_refusal None p (TapeFaulty fault) h = cc
+known_refusal None p RoundsSpent h = absurd h
+known_refusal None p (Store fault) h = absurd h
+known_refusal None p OutOfMemory h = absurd h
+
+-- a call of a station that goes on, refused before a tape is set
+pub refused_early :
+    {R : Type 0} (x : Sight R) (call : refusals.Call) (s : Station R) (marks : List Mark) (r : StepRefusal)
+    → s.stopped ≡ false → IsRefusal (refusals.call_refusal (setup_of s) marks call) r → Steps x call s s marks (Err r)
+refused_early x call s marks r goes h =
+    let first : refusals.early_refusal (setup_of s) s.stopped marks call ≡ refusals.call_refusal (setup_of s) marks call =
+    ap (λ (b : Bool). refusals.early_refusal (setup_of s) b marks call) goes in
+    let whole : refusals.refusal (setup_of s) s.stopped marks call ≡ refusals.call_refusal (setup_of s) marks call =
+    ap (λ (o : Option Refusal). or_else o (refusals.tape_refusal (setup_of s) call)) first
+    ∙ known_refusal (refusals.call_refusal (setup_of s) marks call) (refusals.tape_refusal (setup_of s) call) r h in
+    refused x call s marks r (subst (λ (o : Option Refusal). IsRefusal o r) (sym whole) h)
+
+-- an offer whose tape has a fault here
+pub refused_faulty :
+    {R : Type 0} (x : Sight R) (s : Station R) (marks : List Mark) (n : ℕ) (tape : List ℕ) (now : ℕ) (fault : SetFault)
+    → s.stopped ≡ false → refusals.number_refusal {D = PacketFault} {F = SetFault} n marks ≡ None → first_fault (mean s.table) s.widths tape ≡ Some fault
+    → Steps x (refusals.Offering n tape now) s s marks (Err (TapeFaulty fault))
+refused_faulty x s marks n tape now fault goes h faulty =
+    refused x (refusals.Offering n tape now) s marks (TapeFaulty fault)
+    (last_refusal (setup_of s) s.stopped marks (refusals.Offering n tape now) goes h ∙ ap (λ (o : Option SetFault). refusals.setting_refusal (unless_faulty o)) faulty)
+
+-- the same, handed on by a `?`
+pub handed_on :
+    {R : Type 0} (x : Sight R) (call : refusals.Call) (s : Station R) (marks : List Mark) (r : Result Answer StepRefusal) (q : StepRefusal)
+    → IsErr r × IsErrAnd r (λ e. e ≡ q) → Steps x call s s marks (Err q) → Steps x call s s marks r
+handed_on x call s marks (Ok a) q h step = absurd h.1
+handed_on x call s marks (Err e) q h step = subst (λ (t : StepRefusal). Steps x call s s marks (Err t)) (sym h.1) step

@@ -1,0 +1,5 @@
+pub mod Zips
+pub mod Saving
+pub mod Taking
+pub mod Asking
+pub mod Refused

@@ -1,0 +1,49 @@
+-- Why the core took no turn.
+use Rattle.std.proofs.Common.{◌≡◌, List, Option, None, true, false, refl, sym, ap, ◌∙◌}
+use Rattle.std.specs.Prelude.{is_some}
+use Rattle.protocol.specs.Rows.{Row}
+use Rattle.protocol.specs.Marks.{Mark}
+use Rattle.protocol.specs.Proposals.{Opening}
+use Rattle.protocol.specs.Turn as said
+use Rattle.node_core.specs.Standing.{Core, StandsFor}
+use Rattle.node_core.specs.Turns.{event_value}
+use Rattle.node_core.specs.Calls.{RefusesEvent}
+use Rattle.node_core.specs.declared.event.Event.{Event}
+use Rattle.node_core.specs.declared.event.Event.TheVariants as events
+use Rattle.node_core.specs.declared.turn.CoreRefusal.TheVariants as refusals
+use Rattle.station.specs.Steps.{IsFree}
+
+-- where the rounds are spent there is no turn, and the core stays
+pub spent_stays : (event : Event) (old new : Core) (row : Row) → RefusesEvent event refusals.RoundsSpent old row new → new ≡ old
+spent_stays (events.Offer number tape now) old new row h = h.0
+spent_stays (events.Seek number now) old new row h = h.0
+spent_stays (events.Due number now) old new row h = absurd cc
+spent_stays (events.Arrived packet now) old new row h = absurd cc
+
+pub spent_none :
+    (event : Event) (old new : Core) (row : Row) (marks : List Mark) → RefusesEvent event refusals.RoundsSpent old row new
+    → said.turn old.circuit old.members old.me marks row (event_value event) ≡ None
+spent_none (events.Offer number tape now) old new row marks h = rw h.2 refl
+spent_none (events.Seek number now) old new row marks h = rw h.2 refl
+spent_none (events.Due number now) old new row marks h = absurd cc
+spent_none (events.Arrived packet now) old new row marks h = absurd cc
+
+-- a free number is not refused as released
+pub not_released :
+    (event : Event) (old new : Core) (row : Row) (marks : List Mark) → StandsFor old marks → IsFree marks (event_value event)
+    → RefusesEvent event refusals.AlreadyReleased old row new → ⊥
+not_released (events.Offer number tape now) old new row marks stands free h = let e : true ≡ false = sym (h.1 marks stands) ∙ free.0 in cc
+not_released (events.Seek number now) old new row marks stands free h = let e : true ≡ false = sym (h.1 marks stands) ∙ free.0 in cc
+not_released (events.Due number now) old new row marks stands free h = cc
+not_released (events.Arrived packet now) old new row marks stands free h = cc
+
+-- nor as open
+pub not_open :
+    (event : Event) (old new : Core) (row : Row) (marks : List Mark) → StandsFor old marks → IsFree marks (event_value event)
+    → RefusesEvent event refusals.AlreadyOpen old row new → ⊥
+not_open (events.Offer number tape now) old new row marks stands free h =
+    let e : true ≡ false = sym (h.1 marks stands).1 ∙ ap (λ (o : Option Opening). is_some o) free.1 in cc
+not_open (events.Seek number now) old new row marks stands free h =
+    let e : true ≡ false = sym (h.1 marks stands).1 ∙ ap (λ (o : Option Opening). is_some o) free.1 in cc
+not_open (events.Due number now) old new row marks stands free h = cc
+not_open (events.Arrived packet now) old new row marks stands free h = cc

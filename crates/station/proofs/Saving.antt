@@ -1,0 +1,8 @@
+-- A save that was refused.
+use Rattle.std.proofs.Common.{◌≡◌, ℕ, Option, Some, sym, subst}
+use Rattle.protocol.specs.Rows.{Row}
+use Rattle.station.specs.Stations.{Sight}
+use Rattle.station.specs.Readiness.{RowBalked}
+
+pub balked : {R : Type 0} (x : Sight R) (n : ℕ) (o : Option Row) (row : Row) (old new : R) → o ≡ Some row → RowBalked x n (Some row) old new → RowBalked x n o old new
+balked x n o row old new is h = subst (λ (p : Option Row). RowBalked x n p old new) (sym is) h

@@ -1,0 +1,141 @@
+-- A station that took a turn, and saved its row or was refused to.
+use Rattle.std.proofs.Common.{◌≡◌, ℕ, ◌⊎◌, inl, inr, refl, sym, ap, subst, ◌∙◌, List, [], Option, Some, None, Bool, true, false}
+use Rattle.std.specs.Prelude.{Result, Ok, Err, ◌==◌}
+use Rattle.std.specs.List.{AllZip}
+use Rattle.std.proofs.lemmas.Bool.{eqb-true}
+use Rattle.protocol.specs.Rows.{Tape, Row}
+use Rattle.protocol.specs.Packets.{Packet}
+use Rattle.protocol.specs.Marks.{Mark}
+use Rattle.protocol.specs.Turn as said
+use Rattle.acceptor_store.specs.Saved.{Saved, SameRows, WithRow, with_row}
+use Rattle.node_core.specs.Standing.{Core, StandsFor}
+use Rattle.node_core.specs.Turns.{note_value, IsTurn, IsRowAfter}
+use Rattle.node_core.specs.declared.turn.Turn.{Turn}
+use Rattle.station.specs.declared.answer.Answer.{Answer}
+use Rattle.station.specs.declared.station.Station.{Station}
+use Rattle.station.specs.declared.refusal.StepRefusal.{StepRefusal}
+use Rattle.station.specs.declared.refusal.StepRefusal.TheVariants.{Stopped, BadDatagram, WrongCircuit, NotForMe, Stranger, BadNumber, AlreadyReleased, AlreadyOpen, TapeFaulty, RoundsSpent, Store, OutOfMemory}
+use Rattle.station.specs.Stations.{Sight, IsFixed}
+use Rattle.station.specs.Readiness.{Carries, IsReleased, RowSaved, RowBalked, Saves}
+use Rattle.station.specs.Steps.{WasRead, WasSaved, turn_of, Done, AtSave, Ends}
+
+-- the row that it has, saved once more
+with_row-self : (rows : Saved) (n k : ℕ) → with_row rows n (rows n) k ≡ rows k
+with_row-self rows n k = go (k == n) refl
+  where
+    go : (b : Bool) → (k == n) ≡ b → with_row rows n (rows n) k ≡ rows k
+    go true e = rw e (ap rows (sym (eqb-true k n e)))
+    go false e = rw e refl
+
+-- a save beside equal rows
+with_row-same : (rows others : Saved) (n : ℕ) (row : Row) → SameRows rows others → (k : ℕ) → with_row others n row k ≡ with_row rows n row k
+with_row-same rows others n row same k = λ i. with_row (λ j. same j i) n row k
+
+-- what is known of a station whose core took a turn of the row that was read
+pub record Taking {R : Type 0} (x : Sight R) (e : said.Event) (old : Station R) (marks : List Mark) (mid : R) (core : Core) (move : Turn) (row : Row) (n : ℕ) : Type 0 where
+  pub number : said.number_of e ≡ n
+  pub goes : old.stopped ≡ false
+  pub read : WasRead x old.rows mid
+  pub is_open : x.is_open mid
+  pub is_row : row ≡ x.saved old.rows n
+  pub taken : said.Turn
+  pub is_turn : said.turn old.core.circuit old.core.members old.core.me marks row e ≡ Some taken
+  pub gives : IsTurn row taken move
+  pub stands : StandsFor core taken.marks
+  pub circuit : core.circuit ≡ old.core.circuit
+  pub members : core.members ≡ old.core.members
+  pub me : core.me ≡ old.core.me
+
+module _ {R : Type 0} (x : Sight R) (e : said.Event) (old : Station R) (marks : List Mark) (mid new : R) (core : Core) (move : Turn) (row : Row) (n : ℕ) (k : Taking x e old marks mid core move row n) where
+  is_its_row : row ≡ x.saved old.rows (said.number_of e)
+  is_its_row = k.is_row ∙ ap (x.saved old.rows) (sym k.number)
+
+  its_save : (r : Result Answer StepRefusal) → Saves x old.table old.widths n move mid new r → Saves x old.table old.widths (said.number_of e) move mid new r
+  its_save r s = subst (λ (i : ℕ). Saves x old.table old.widths i move mid new r) (sym k.number) s
+
+  is_saved_turn : turn_of x old marks e ≡ Some k.taken
+  is_saved_turn = subst (λ (r : Row). said.turn old.core.circuit old.core.members old.core.me marks r e ≡ Some k.taken) is_its_row k.is_turn
+
+  saves_row :
+      (o : Option Row) → IsRowAfter row k.taken.row o → RowSaved x (said.number_of e) o mid new
+      → WithRow (x.saved old.rows) (said.number_of e) k.taken.row (x.saved new)
+      × x.is_open new
+      × ((x.alike old.rows new × (k.taken.row ≡ x.saved old.rows (said.number_of e))) ⊎ WasSaved x old.rows new)
+  saves_row None l s =
+      let same : k.taken.row ≡ x.saved old.rows (said.number_of e) = l ∙ is_its_row in (
+        λ i. ap (λ (r : R). x.saved r i) s ∙ (k.read.same k.is_open i ∙ (sym (with_row-self (x.saved old.rows) (said.number_of e) i) ∙ ap (λ (r : Row). with_row (x.saved old.rows) (said.number_of e) r i) (sym same))),
+        subst (λ (r : R). x.is_open r) (sym s) k.is_open,
+        inl (subst (λ (r : R). x.alike old.rows r) (sym s) k.read.alike, same),
+      )
+  saves_row (Some r) l s = (
+    λ i. s.3 i ∙ (with_row-same (x.saved old.rows) (x.saved mid) (said.number_of e) r (k.read.same k.is_open) i ∙ ap (λ (r : Row). with_row (x.saved old.rows) (said.number_of e) r i) (sym l.0)),
+    s.1,
+    inr (record { mid = mid; read = k.read; passes = s.0 }),
+  )
+
+  pub done : (a : Answer) → Saves x old.table old.widths n move mid new (Ok a) → Done x e old (record old { rows = new; core = core }) marks a
+  done a given =
+      let s : Saves x old.table old.widths (said.number_of e) move mid new (Ok a) = its_save (Ok a) given in
+      let rows = saves_row move.row k.gives.row_after s.0 in
+      record {
+        taken = k.taken;
+        is_turn = is_saved_turn;
+        fixed = record { circuit = k.circuit; members = k.members; me = k.me; table = refl; widths = refl };
+        goes_on = k.goes;
+        stands_for = k.stands;
+        was_open = k.read.was_open k.is_open;
+        is_open = rows.1;
+        rows = rows.0;
+        told = rows.2;
+        out = subst (λ (l : List Packet). AllZip Carries l a.out.items) k.gives.out s.1;
+        release = subst (λ (o : Option Tape). IsReleased old.table old.widths (said.number_of e) o a.release) k.gives.release s.2;
+        note = ap note_value s.3 ∙ k.gives.note;
+      }
+
+  balked : (o : Option Row) → IsRowAfter row k.taken.row o → RowBalked x (said.number_of e) o mid new → AtSave x e old marks new
+  balked None l s = absurd s
+  balked (Some r) l s = record {
+    taken = k.taken;
+    is_turn = is_saved_turn;
+    changes = λ same. l.1 (sym l.0 ∙ (same ∙ sym is_its_row));
+    was_open = k.read.was_open k.is_open;
+    balked = record {
+      mid = mid;
+      mid_open = k.is_open;
+      read = k.read;
+      was_open = s.1;
+      tells = rw l.0 s.0;
+      either = rw l.0 s.2;
+    };
+  }
+
+  -- the station that stopped with this refusal
+  torn :
+      (after : Station R) (r : StepRefusal) → IsFixed old after → after.stopped ≡ true → StandsFor after.core [] → after.rows ≡ new
+      → Saves x old.table old.widths (said.number_of e) move mid new (Err r) → Ends x e old after marks (Err r)
+  torn after (Store fault) fixed stops none rows s =
+      record { fixed = fixed; stops = stops; stands_for = none; at = inr (subst (λ (q : R). AtSave x e old marks q) (sym rows) (balked move.row k.gives.row_after s)) }
+  torn after OutOfMemory fixed stops none rows s =
+      record { fixed = fixed; stops = stops; stands_for = none; rows = inr (subst (λ (q : R). WasRead x old.rows q) (sym (rows ∙ s)) k.read) }
+  torn after Stopped fixed stops none rows s = absurd s
+  torn after (BadDatagram fault) fixed stops none rows s = absurd s
+  torn after WrongCircuit fixed stops none rows s = absurd s
+  torn after NotForMe fixed stops none rows s = absurd s
+  torn after Stranger fixed stops none rows s = absurd s
+  torn after BadNumber fixed stops none rows s = absurd s
+  torn after AlreadyReleased fixed stops none rows s = absurd s
+  torn after AlreadyOpen fixed stops none rows s = absurd s
+  torn after (TapeFaulty fault) fixed stops none rows s = absurd s
+  torn after RoundsSpent fixed stops none rows s = absurd s
+
+  -- the same, of a station that the code stopped
+  pub ended :
+      (before after : Station R) (r q : StepRefusal) → before ≡ record old { rows = new; core = core } → IsFixed before after
+      → after ≡ record before { core = after.core; stopped = true } → q ≡ r → StandsFor after.core []
+      → Saves x old.table old.widths n move mid new (Err r) → Ends x e old after marks (Err q)
+  ended before after r q was fixed is same none s =
+      let f : IsFixed (record old { rows = new; core = core }) after = subst (λ (t : Station R). IsFixed t after) was fixed in
+      subst (λ (t : StepRefusal). Ends x e old after marks (Err t)) (sym same)
+      (torn after r
+      (record { circuit = f.circuit ∙ k.circuit; members = f.members ∙ k.members; me = f.me ∙ k.me; table = f.table; widths = f.widths })
+      (ap (λ (t : Station R). t.stopped) is) none (ap (λ (t : Station R). t.rows) is ∙ ap (λ (t : Station R). t.rows) was) (its_save (Err r) s))

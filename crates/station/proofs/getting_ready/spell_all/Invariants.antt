@@ -1,0 +1,8 @@
+-- The packets so far are spelled.
+use Rattle.std.specs.Prelude.{take}
+use Rattle.std.specs.List.{AllZip}
+use Rattle.station.specs.Readiness.{Carries}
+use Rattle.station.proofs.getting_ready.spell_all.Given as goal
+
+abbrev pub invariant-loop-packet : goal.invariant-loop-packet
+invariant-loop-packet l = AllZip Carries (take l.packet-index l.packets) l.out.items

@@ -1,0 +1,49 @@
+-- The row was saved, or the save was refused.
+use Rattle.std.proofs.Common.{rules, refl}
+use Rattle.node_core.specs.Turns.{event_value}
+use Rattle.station.specs.Stations.{sight}
+use Rattle.station.proofs.Taking.{Taking, done, ended}
+use Rattle.station.proofs.station.Station.take.Goals as goal
+
+pub returns-in-Ok-save-clause-takes : goal.returns-in-Ok-save-clause-takes
+returns-in-Ok-save-clause-takes g c = λ kept marks stands free.
+    let x = sight g.R.Rows.kept g.R.Rows.is_open g.R.Rows.saved g.R.Rows.alike g.R.Rows.passes g.R.Rows.tells in
+    let l = c.in-Ok-handle.ensures.ok marks stands in
+    let k : Taking x (event_value c.args.event) c.args.self.now marks c.get.new.self c.handle.new.self c.in-Ok-handle.turn c.in-Ok.row c.args.number = record {
+      number = c.requires.number;
+      goes = c.requires.goes;
+      read = search rules;
+      is_open = search rules;
+      is_row = search rules;
+      taken = l.turn;
+      is_turn = l.is_the_turn;
+      gives = l.took.is_turn;
+      stands = l.took.stands;
+      circuit = c.handle.ensures.seat.circuit;
+      members = c.handle.ensures.seat.members;
+      me = c.handle.ensures.seat.me;
+    } in
+    done x (event_value c.args.event) c.args.self.now marks c.get.new.self c.save.new.rows c.handle.new.self c.in-Ok-handle.turn c.in-Ok.row c.args.number k c.in-Ok-save.answer (c.in-Ok-save.ensures.saves kept)
+
+pub returns-in-Ok-handle-clause-takes : goal.returns-in-Ok-handle-clause-takes
+returns-in-Ok-handle-clause-takes g c = λ kept marks stands free.
+    let x = sight g.R.Rows.kept g.R.Rows.is_open g.R.Rows.saved g.R.Rows.alike g.R.Rows.passes g.R.Rows.tells in
+    let here : g.R.Rows.kept c.save.new.rows = rw c.stop-in-Err-save.ensures.stopped at kept in
+    let l = c.in-Ok-handle.ensures.ok marks stands in
+    let k : Taking x (event_value c.args.event) c.args.self.now marks c.get.new.self c.handle.new.self c.in-Ok-handle.turn c.in-Ok.row c.args.number = record {
+      number = c.requires.number;
+      goes = c.requires.goes;
+      read = search rules;
+      is_open = search rules;
+      is_row = search rules;
+      taken = l.turn;
+      is_turn = l.is_the_turn;
+      gives = l.took.is_turn;
+      stands = l.took.stands;
+      circuit = c.handle.ensures.seat.circuit;
+      members = c.handle.ensures.seat.members;
+      me = c.handle.ensures.seat.me;
+    } in
+    ended x (event_value c.args.event) c.args.self.now marks c.get.new.self c.save.new.rows c.handle.new.self c.in-Ok-handle.turn c.in-Ok.row c.args.number k
+    (record c.args.self.now { core = c.handle.new.self; rows = c.save.new.rows }) c.stop-in-Err-save.new.self c.in-Err-save.refusal c.stop-in-Err-save.result refl
+    c.stop-in-Err-save.ensures.fixed c.stop-in-Err-save.ensures.stopped c.stop-in-Err-save.ensures.same c.stop-in-Err-save.ensures.stands (c.in-Err-save.ensures.saves here)

@@ -1,0 +1,4 @@
+pub mod Refusing
+pub mod Stations
+pub mod Readiness
+pub mod Steps

@@ -1,0 +1,57 @@
+-- What a turn hands out, made ready before its row is saved; and what the save leaves.
+use Rattle.std.specs.Prelude.{◌≡◌, ◌⊎◌, ℕ, List, Option, Some, None, Result, Ok, Err}
+use Rattle.std.specs.List.{AllZip}
+use Rattle.std.specs.declared.vec.Vec.{Vec}
+use Rattle.std.specs.Global.{Global}
+use Rattle.protocol.specs.Rows.{Tape, Row}
+use Rattle.protocol.specs.Packets.{Packet}
+use Rattle.protocol.specs.Circuit.{Datagram}
+use Rattle.acceptor_store.specs.Saved.{WithRow, IsEither}
+use Rattle.packets.specs.Reading.{packet_at}
+use Rattle.code_table.specs.Tables.{Places, mean}
+use Rattle.widths.specs.Widths.{WidthFile}
+use Rattle.line_check.specs.Sets.{Sets}
+use Rattle.line_check.specs.declared.fault.SetFault.{SetFault}
+use Rattle.line_check.specs.declared.slug.Slug.{Slug}
+use Rattle.node_core.specs.declared.turn.Turn.{Turn}
+use Rattle.station.specs.declared.answer.Answer.{Answer}
+use Rattle.station.specs.declared.answer.Release.{Release}
+use Rattle.station.specs.declared.refusal.StepRefusal.{StepRefusal}
+use Rattle.station.specs.declared.refusal.StepRefusal.TheVariants.{Store, OutOfMemory}
+use Rattle.station.specs.Stations.{Sight}
+
+-- the datagram spells the packet, and goes to its addressee
+abbrev pub Carries : Packet → Datagram → Type 0
+Carries p d = (d.to ≡ p.to) × (packet_at d.bytes ≡ Ok p)
+
+-- what setting a tape gave, its slugs as a list
+abbrev pub slugs_of : Result (Vec Slug Global) SetFault → Result (List Slug) SetFault
+slugs_of (Ok slugs) = Ok slugs.items
+slugs_of (Err fault) = Err fault
+
+-- what is handed out of a released tape: its number, the tape, and what the code table and the widths make of it
+abbrev pub IsReleased : Places → WidthFile → ℕ → Option Tape → Option Release → Type 0
+IsReleased table widths n None None = Unit {0}
+IsReleased table widths n None (Some r) = ⊥
+IsReleased table widths n (Some tape) None = ⊥
+IsReleased table widths n (Some tape) (Some r) = (r.number ≡ n) × (r.tape ≡ tape) × Sets (mean table) widths tape (slugs_of r.set)
+
+-- the rows after a save of the turn's row that was done; where it has none, the rows stay
+abbrev pub RowSaved : {R : Type 0} → Sight R → ℕ → Option Row → R → R → Type 0
+RowSaved x n None old new = new ≡ old
+RowSaved x n (Some row) old new =
+    x.passes old new × x.is_open new × (x.is_open new → x.is_open old) × WithRow (x.saved old) n row (x.saved new)
+
+-- the rows after a save that was refused
+abbrev pub RowBalked : {R : Type 0} → Sight R → ℕ → Option Row → R → R → Type 0
+RowBalked x n None old new = ⊥
+RowBalked x n (Some row) old new =
+    x.tells old new n row × (x.is_open new → x.is_open old) × ((¬ x.is_open new) ⊎ IsEither (x.saved old) n row (x.saved new))
+
+-- what is handed out was ready before the row was saved
+abbrev pub Saves : {R : Type 0} → Sight R → Places → WidthFile → ℕ → Turn → R → R → Result Answer StepRefusal → Type 0
+Saves x table widths n turn old new (Ok a) =
+    RowSaved x n turn.row old new × AllZip Carries turn.out.items a.out.items × IsReleased table widths n turn.release a.release × (a.note ≡ turn.note)
+Saves x table widths n turn old new (Err (Store fault)) = RowBalked x n turn.row old new
+Saves x table widths n turn old new (Err OutOfMemory) = new ≡ old
+Saves x table widths n turn old new (Err _) = ⊥

@@ -1,0 +1,41 @@
+-- A station's refusals, as the protocol's.
+use Rattle.std.specs.Prelude.{◌≡◌, ℕ, List, Option, Some, None, Result, Ok, Err}
+use Rattle.protocol.specs.Packets.{Packet}
+use Rattle.protocol.specs.Marks.{Mark}
+use Rattle.protocol.specs.Refusals as refusals
+use Rattle.packets.specs.declared.fault.PacketFault.{PacketFault}
+use Rattle.line_check.specs.declared.fault.SetFault.{SetFault}
+use Rattle.station.specs.declared.refusal.StepRefusal.{StepRefusal}
+use Rattle.station.specs.declared.refusal.StepRefusal.TheVariants.{Stopped, BadDatagram, WrongCircuit, NotForMe, Stranger, BadNumber, AlreadyReleased, AlreadyOpen, TapeFaulty, RoundsSpent, Store, OutOfMemory}
+
+-- why the protocol has a station refuse
+abbrev pub Refusal : Type 0
+Refusal = refusals.Refusal PacketFault SetFault
+
+-- what was answered is this refusal, of those that come before the store is asked
+abbrev pub IsRefusal : Option Refusal → StepRefusal → Type 0
+IsRefusal o Stopped = o ≡ Some refusals.Stopped
+IsRefusal o (BadDatagram fault) = o ≡ Some (refusals.Bad_datagram fault)
+IsRefusal o WrongCircuit = o ≡ Some refusals.Wrong_circuit
+IsRefusal o NotForMe = o ≡ Some refusals.Not_for_me
+IsRefusal o Stranger = o ≡ Some refusals.Stranger
+IsRefusal o BadNumber = o ≡ Some refusals.Bad_number
+IsRefusal o AlreadyReleased = o ≡ Some refusals.Already_released
+IsRefusal o AlreadyOpen = o ≡ Some refusals.Already_open
+IsRefusal o (TapeFaulty fault) = o ≡ Some (refusals.Tape_faulty fault)
+IsRefusal o RoundsSpent = ⊥
+IsRefusal o (Store fault) = ⊥
+IsRefusal o OutOfMemory = ⊥
+
+-- there is no refusal, or it is the one that was answered
+abbrev pub Checks : {A : Type 0} → Option Refusal → Result A StepRefusal → Type 0
+Checks o (Ok x) = o ≡ None
+Checks o (Err r) = IsRefusal o r
+
+-- a packet, checked
+abbrev pub ChecksPacket : {A : Type 0} → ℕ → ℕ → ℕ → Packet → Result A StepRefusal → Type 0
+ChecksPacket k c me p r = Checks (refusals.packet_refusal k c me p) r
+
+-- a number that is offered or sought, checked
+abbrev pub ChecksNumber : {A : Type 0} → ℕ → List Mark → Result A StepRefusal → Type 0
+ChecksNumber n marks r = Checks (refusals.number_refusal n marks) r

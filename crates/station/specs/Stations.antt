@@ -1,0 +1,48 @@
+-- A station: how it is set up, and the words of its rows.
+use Rattle.std.specs.Prelude.{◌≡◌, ℕ, Option, Some, None, Result, Ok, Err}
+use Rattle.protocol.specs.Rows.{Row}
+use Rattle.protocol.specs.Refusals.{Setup}
+use Rattle.acceptor_store.specs.Saved.{Saved}
+use Rattle.code_table.specs.Tables.{mean}
+use Rattle.packets.specs.Reading.{packet_at}
+use Rattle.packets.specs.declared.fault.PacketFault.{PacketFault}
+use Rattle.line_check.specs.Sets.{first_fault}
+use Rattle.line_check.specs.declared.fault.SetFault.{SetFault}
+use Rattle.station.specs.declared.station.Station.{Station}
+
+-- the words of the trait of rows, together
+pub record Sight (R : Type 0) : Type 1 where
+  pub kept : R → Type 0
+  pub is_open : R → Type 0
+  pub saved : R → Saved
+  pub alike : R → R → Type 0
+  pub passes : R → R → Type 0
+  pub tells : R → R → ℕ → Row → Type 0
+
+abbrev pub sight :
+    {R : Type 0} → (R → Type 0) → (R → Type 0) → (R → Saved) → (R → R → Type 0) → (R → R → Type 0) → (R → R → ℕ → Row → Type 0) → Sight R
+sight kept is_open saved alike passes tells =
+    record { kept = kept; is_open = is_open; saved = saved; alike = alike; passes = passes; tells = tells }
+
+-- a tape sets where it has no first fault
+abbrev pub unless_faulty : Option SetFault → Result (Unit {0}) SetFault
+unless_faulty None = Ok tt
+unless_faulty (Some fault) = Err fault
+
+-- the station's circuit, the count of its members and which it is, the grammar of packets,
+-- and whether a tape sets by its own code table and widths
+abbrev pub setup_of : {R : Type 0} → Station R → Setup PacketFault (Unit {0}) SetFault
+setup_of s =
+    record { circuit = s.core.circuit; count = s.core.members; me = s.core.me; reads = packet_at; sets = λ tape. unless_faulty (first_fault (mean s.table) s.widths tape) }
+
+-- the circuit, the count, which member it is, the code table and the widths stay
+pub record IsFixed {R : Type 0} (old new : Station R) : Type 0 where
+  pub circuit : new.core.circuit ≡ old.core.circuit
+  pub members : new.core.members ≡ old.core.members
+  pub me : new.core.me ≡ old.core.me
+  pub table : new.table ≡ old.table
+  pub widths : new.widths ≡ old.widths
+
+-- the station with these rows
+abbrev pub with_rows : {R : Type 0} → Station R → R → Station R
+with_rows s rows = record s { rows = rows }

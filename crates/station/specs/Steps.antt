@@ -1,0 +1,166 @@
+-- What a step of a station does, for marks that its core stands for.
+use Rattle.std.specs.Prelude.{◌≡◌, ◌⊎◌, ℕ, List, [], Bool, true, false, ◌||◌, Option, Some, None, Result, Ok, Err}
+use Rattle.std.specs.List.{AllZip}
+use Rattle.protocol.specs.Rows.{Row}
+use Rattle.protocol.specs.Marks.{Mark}
+use Rattle.protocol.specs.Proposals.{was_released, open_proposal}
+use Rattle.protocol.specs.Turn.{Event, Offered, Sought, Came_due, Arrived, number_of, Note_idle, Turn, turn}
+use Rattle.protocol.specs.Refusals.{Call, refusal, early_refusal, event_of}
+use Rattle.acceptor_store.specs.Saved.{SameRows, WithRow, IsEither}
+use Rattle.node_core.specs.Standing.{StandsFor}
+use Rattle.node_core.specs.Turns.{note_value}
+use Rattle.station.specs.declared.answer.Answer.{Answer}
+use Rattle.station.specs.declared.station.Station.{Station}
+use Rattle.station.specs.declared.refusal.StepRefusal.{StepRefusal}
+use Rattle.station.specs.declared.refusal.StepRefusal.TheVariants.{Stopped, BadDatagram, WrongCircuit, NotForMe, Stranger, BadNumber, AlreadyReleased, AlreadyOpen, TapeFaulty, RoundsSpent, Store, OutOfMemory}
+use Rattle.station.specs.Refusing.{IsRefusal}
+use Rattle.station.specs.Stations.{Sight, setup_of, IsFixed}
+use Rattle.station.specs.Readiness.{Carries, IsReleased}
+
+-- rows that were read, and no more
+pub record WasRead {R : Type 0} (x : Sight R) (old new : R) : Type 0 where
+  pub alike : x.alike old new
+  pub was_open : x.is_open new → x.is_open old
+  pub same : x.is_open new → SameRows (x.saved old) (x.saved new)
+
+-- rows that were read and then saved
+pub record WasSaved {R : Type 0} (x : Sight R) (old new : R) : Type 0 where
+  pub mid : R
+  pub read : WasRead x old mid
+  pub passes : x.passes mid new
+
+-- rows that were read, of which a save was refused
+pub record WasBalked {R : Type 0} (x : Sight R) (old new : R) (n : ℕ) (row : Row) : Type 0 where
+  pub mid : R
+  pub mid_open : x.is_open mid
+  pub read : WasRead x old mid
+  pub was_open : x.is_open new → x.is_open mid
+  pub tells : x.tells mid new n row
+  pub either : (¬ x.is_open new) ⊎ IsEither (x.saved mid) n row (x.saved new)
+
+-- the turn of this event at the saved row of its number, if there is one
+abbrev pub turn_of : {R : Type 0} → Sight R → Station R → List Mark → Event → Option Turn
+turn_of x s marks e = turn s.core.circuit s.core.members s.core.me marks (x.saved s.rows (number_of e)) e
+
+-- the turn is taken: its row is saved, and what it sends and releases is handed out
+pub record Done {R : Type 0} (x : Sight R) (e : Event) (old new : Station R) (marks : List Mark) (a : Answer) : Type 0 where
+  pub taken : Turn
+  pub is_turn : turn_of x old marks e ≡ Some taken
+  pub fixed : IsFixed old new
+  pub goes_on : new.stopped ≡ false
+  pub stands_for : StandsFor new.core taken.marks
+  pub was_open : x.is_open old.rows
+  pub is_open : x.is_open new.rows
+  pub rows : WithRow (x.saved old.rows) (number_of e) taken.row (x.saved new.rows)
+  pub told : (x.alike old.rows new.rows × (taken.row ≡ x.saved old.rows (number_of e))) ⊎ WasSaved x old.rows new.rows
+  pub out : AllZip Carries taken.out a.out.items
+  pub release : IsReleased old.table old.widths (number_of e) taken.release a.release
+  pub note : note_value a.note ≡ taken.note
+
+-- the save of the turn's row was refused
+pub record AtSave {R : Type 0} (x : Sight R) (e : Event) (old : Station R) (marks : List Mark) (rows : R) : Type 0 where
+  pub taken : Turn
+  pub is_turn : turn_of x old marks e ≡ Some taken
+  pub changes : ¬ (taken.row ≡ x.saved old.rows (number_of e))
+  pub was_open : x.is_open old.rows
+  pub balked : WasBalked x old.rows rows (number_of e) taken.row
+
+-- the store refused: the station stops and forgets what it took in
+pub record TornByStore {R : Type 0} (x : Sight R) (e : Event) (old new : Station R) (marks : List Mark) : Type 0 where
+  pub fixed : IsFixed old new
+  pub stops : new.stopped ≡ true
+  pub stands_for : StandsFor new.core []
+  pub at : WasRead x old.rows new.rows ⊎ AtSave x e old marks new.rows
+
+-- memory was refused before any save: the station stops and forgets what it took in
+pub record TornByMemory {R : Type 0} (x : Sight R) (old new : Station R) : Type 0 where
+  pub fixed : IsFixed old new
+  pub stops : new.stopped ≡ true
+  pub stands_for : StandsFor new.core []
+  pub rows : (new.rows ≡ old.rows) ⊎ WasRead x old.rows new.rows
+
+-- no ballot is left: only the row was read
+pub record Spent {R : Type 0} (x : Sight R) (e : Event) (old new : Station R) (marks : List Mark) : Type 0 where
+  pub none : turn_of x old marks e ≡ None
+  pub same : new ≡ record old { rows = new.rows }
+  pub was_open : x.is_open old.rows
+  pub read : WasRead x old.rows new.rows
+
+-- an offer or a search is of a number that is neither released nor open
+abbrev pub IsFree : List Mark → Event → Type 0
+IsFree marks (Offered n tape now) = (was_released n marks ≡ false) × (open_proposal n marks ≡ None)
+IsFree marks (Sought n now) = (was_released n marks ≡ false) × (open_proposal n marks ≡ None)
+IsFree marks (Came_due n now) = Unit {0}
+IsFree marks (Arrived p now) = Unit {0}
+
+-- how an event ends that nothing refused
+abbrev pub Ends : {R : Type 0} → Sight R → Event → Station R → Station R → List Mark → Result Answer StepRefusal → Type 0
+Ends x e old new marks (Ok a) = Done x e old new marks a
+Ends x e old new marks (Err (Store fault)) = TornByStore x e old new marks
+Ends x e old new marks (Err OutOfMemory) = TornByMemory x old new
+Ends x e old new marks (Err RoundsSpent) = Spent x e old new marks
+Ends x e old new marks (Err _) = ⊥
+
+-- nothing refuses the call, and it brings this event
+pub record Asks {R : Type 0} (s : Station R) (marks : List Mark) (call : Call) (e : Event) : Type 0 where
+  pub unrefused : refusal (setup_of s) s.stopped marks call ≡ None
+  pub event : event_of (setup_of s) marks call ≡ Some e
+
+-- nothing refuses the call but for an offered tape's own fault, and it brings this event
+pub record AsksEarly {R : Type 0} (s : Station R) (marks : List Mark) (call : Call) (e : Event) : Type 0 where
+  pub unrefused : early_refusal (setup_of s) s.stopped marks call ≡ None
+  pub event : event_of (setup_of s) marks call ≡ Some e
+
+-- nothing refuses the call, and it brings no event: the station stays
+pub record Idles {R : Type 0} (old new : Station R) (marks : List Mark) (call : Call) (a : Answer) : Type 0 where
+  pub unrefused : refusal (setup_of old) old.stopped marks call ≡ None
+  pub no_event : event_of (setup_of old) marks call ≡ None
+  pub same : new ≡ old
+  pub out : a.out.items ≡ []
+  pub release : a.release ≡ None
+  pub note : note_value a.note ≡ Note_idle
+
+-- the call is refused for its first reason, and the station stays
+abbrev pub Refuses : {R : Type 0} → Station R → Station R → List Mark → Call → StepRefusal → Type 0
+Refuses old new marks call r = IsRefusal (refusal (setup_of old) old.stopped marks call) r × (new ≡ old)
+
+-- one step of a station whose core stands for these marks
+abbrev pub Steps : {R : Type 0} → Sight R → Call → Station R → Station R → List Mark → Result Answer StepRefusal → Type 0
+Steps x call old new marks (Ok a) = Idles old new marks call a ⊎ ((e : Event) × Asks old marks call e × Done x e old new marks a)
+Steps x call old new marks (Err (Store fault)) = (e : Event) × Asks old marks call e × TornByStore x e old new marks
+Steps x call old new marks (Err OutOfMemory) = (e : Event) × AsksEarly old marks call e × TornByMemory x old new
+Steps x call old new marks (Err RoundsSpent) = (e : Event) × Asks old marks call e × Spent x e old new marks
+Steps x call old new marks (Err Stopped) = Refuses old new marks call Stopped
+Steps x call old new marks (Err (BadDatagram fault)) = Refuses old new marks call (BadDatagram fault)
+Steps x call old new marks (Err WrongCircuit) = Refuses old new marks call WrongCircuit
+Steps x call old new marks (Err NotForMe) = Refuses old new marks call NotForMe
+Steps x call old new marks (Err Stranger) = Refuses old new marks call Stranger
+Steps x call old new marks (Err BadNumber) = Refuses old new marks call BadNumber
+Steps x call old new marks (Err AlreadyReleased) = Refuses old new marks call AlreadyReleased
+Steps x call old new marks (Err AlreadyOpen) = Refuses old new marks call AlreadyOpen
+Steps x call old new marks (Err (TapeFaulty fault)) = Refuses old new marks call (TapeFaulty fault)
+
+-- what holds where the store refused
+abbrev pub OnStore : {A : Type 0} → Result A StepRefusal → Type 0 → Type 0
+OnStore (Err (Store fault)) P = P
+OnStore _ P = Unit {0}
+
+-- the refusals that stop a station
+abbrev pub tears : StepRefusal → Bool
+tears Stopped = false
+tears (BadDatagram fault) = false
+tears WrongCircuit = false
+tears NotForMe = false
+tears Stranger = false
+tears BadNumber = false
+tears AlreadyReleased = false
+tears AlreadyOpen = false
+tears (TapeFaulty fault) = false
+tears RoundsSpent = false
+tears (Store fault) = true
+tears OutOfMemory = true
+
+-- whether a station is stopped after this answer
+abbrev pub stopped_after : Bool → Result Answer StepRefusal → Bool
+stopped_after was (Ok a) = was
+stopped_after was (Err r) = tears r || was

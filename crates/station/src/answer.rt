@@ -1,0 +1,42 @@
+//! What a step of a station hands out.
+
+ghost use Rattle.std.specs.Prelude.{◌≡◌, [], None};
+
+use crate::datagram::Datagram;
+use ballots::Number;
+use line_check::{SetFault, Slug};
+use node_core::Note;
+use std::alloc::Global;
+use tape_frames::Tape;
+
+/// A tape that was released, and what the station's own code table and widths make of it.
+#[derive(Debug, Drop)]
+pub struct Release {
+    pub number: Number,
+    pub tape: Tape,
+    pub set: Result<Vec<Slug>, SetFault>,
+}
+
+/// What a step that was done hands out: the datagrams to send, at most 28, the release if there is one,
+/// and what the step did in a word.
+#[derive(Debug, Drop)]
+pub struct Answer {
+    pub out: Vec<Datagram>,
+    pub release: Option<Release>,
+    pub note: Note,
+}
+
+impl Answer {
+    /// The answer where nothing is due.
+    pub(crate) fn idle(alloc: Global) -> Answer
+        ensures out { result.out.items ≡ [] }
+        ensures release { result.release ≡ None }
+        ensures note { result.note ≡ Note.Idle }
+    {
+        Answer {
+            out: Vec::new(alloc),
+            release: None,
+            note: Note::Idle,
+        }
+    }
+}

@@ -1,0 +1,18 @@
+//! A station of a circuit: what it takes in changes its saved rows, and only then goes out.
+#![tactic(auto)]
+
+mod answer;
+mod checks;
+mod datagram;
+mod getting_ready;
+mod refusal;
+mod station;
+mod steps;
+
+pub use answer::{Answer, Release};
+pub use datagram::Datagram;
+pub use refusal::StepRefusal;
+pub use station::{BadMember, Station};
+
+#[cfg(test)]
+mod tests;

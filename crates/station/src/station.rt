@@ -1,0 +1,144 @@
+//! A station, and what can be read of it.
+
+ghost use Rattle.std.specs.Prelude.{◌≡◌, ◌≤◌, ◌↔◌, List, [], true, false, None, IsOk, IfOk, IfErr};
+ghost use Rattle.std.specs.Borrow.{Lends, sem};
+ghost use Rattle.protocol.specs.Marks.{Mark};
+ghost use Rattle.protocol.specs.Proposals.{was_released, open_ballot};
+ghost use Rattle.node_core.specs.Standing.{StandsFor};
+ghost use Rattle.station.specs.Stations.{IsFixed, with_rows};
+ghost use Rattle.station.specs.contracts.station.Station.{the_row};
+
+use acceptor_store::Rows;
+use ballots::{Ballot, Member, Number};
+use code_table::CodeTable;
+use node_core::NodeCore;
+use std::alloc::Global;
+use widths::Widths;
+
+/// A member of a circuit: its core, its code table and widths, and its saved rows.
+/// Clauses see these, and whether it has stopped.
+#[derive(Drop)]
+pub struct Station<R: Rows> {
+    pub(crate) core: NodeCore,
+    pub(crate) table: CodeTable,
+    pub(crate) widths: Widths,
+    pub(crate) rows: R,
+    pub(crate) stopped: bool,
+    pub(crate) alloc: Global,
+}
+
+/// What [`Station::new`] was given, handed back: the member is not 1 to the member count, or the count is above 15.
+#[derive(Drop)]
+pub struct BadMember<R: Rows> {
+    pub table: CodeTable,
+    pub widths: Widths,
+    pub rows: R,
+}
+
+impl<R: Rows> Station<R> {
+    /// Member `me` of the `members` of a circuit, over these rows. It has taken nothing in.
+    ///
+    /// Refused unless `1 <= me <= members <= 15`.
+    pub fn new(
+        alloc: Global,
+        circuit: u16,
+        me: u8,
+        members: u8,
+        table: CodeTable,
+        widths: Widths,
+        rows: R,
+    ) -> Result<Station<R>, BadMember<R>>
+        ensures some { IsOk result ↔ ((1 ≤ me) × (me ≤ members) × (members ≤ 15)) }
+        ensures circuit { IfOk result (λ s. s.core.circuit ≡ circuit) }
+        ensures me { IfOk result (λ s. s.core.me ≡ me) }
+        ensures members { IfOk result (λ s. s.core.members ≡ members) }
+        ensures table { IfOk result (λ s. s.table ≡ table) }
+        ensures widths { IfOk result (λ s. s.widths ≡ widths) }
+        ensures rows { IfOk result (λ s. s.rows ≡ rows) }
+        ensures stopped { IfOk result (λ s. s.stopped ≡ false) }
+        ensures stands { IfOk result (λ s. StandsFor s.core []) }
+        ensures back { IfErr result (λ b. b ≡ record { table = table; widths = widths; rows = rows }) }
+    {
+        match Member::new(me) {
+            Some(member) if me <= members && members <= Member::LAST => Ok(Station {
+                core: NodeCore::new(alloc, circuit, member, members),
+                table,
+                widths,
+                rows,
+                stopped: false,
+                alloc,
+            }),
+            _ => Err(BadMember {
+                table,
+                widths,
+                rows,
+            }),
+        }
+    }
+
+    /// Starts again: it forgets what it took in, and keeps its rows, its code table and its widths.
+    pub fn restart(&mut self)
+        ensures stands { StandsFor self.new.core [] }
+        ensures fixed { IsFixed self.old self.new }
+        ensures starts { self.new ≡ record self.old { core = self.new.core; stopped = false } }
+    {
+        self.core.clear();
+        self.stopped = false;
+    }
+
+    /// Whether a step stopped it, and it was not restarted since.
+    pub fn stopped(&self) -> bool
+        ensures { result ≡ self.now.stopped }
+    {
+        self.stopped
+    }
+
+    /// Whether the number's tape was released since the station started; false while it is stopped.
+    pub fn released(&self, number: Number) -> bool
+        ensures stopped { self.now.stopped ≡ true → result ≡ false }
+        ensures released { self.now.stopped ≡ false → (marks : List Mark) → StandsFor self.now.core marks → result ≡ was_released number marks }
+    {
+        !self.stopped && self.core.released(number)
+    }
+
+    /// The ballot of the number's open proposal; `None` while the station is stopped.
+    pub fn open_ballot(&self, number: Number) -> Option<Ballot>
+        ensures stopped { self.now.stopped ≡ true → result ≡ None }
+        ensures opened { self.now.stopped ≡ false → (marks : List Mark) → StandsFor self.now.core marks → result ≡ open_ballot number marks }
+    {
+        if self.stopped {
+            return None;
+        }
+        self.core.open_ballot(number)
+    }
+
+    /// The saved rows.
+    pub fn rows(&self) -> &R
+        ensures { result.now ≡ self.now.rows }
+    {
+        &self.rows
+    }
+
+    /// The saved rows, to be changed beside the steps, as to arm them.
+    pub fn rows_mut(&mut self) -> &mut R
+        ensures* writes_back { sem 𝓛 (Lends (the_row R.row) R.row self.entry result (with_rows self.old)) }
+        ensures value { result.now ≡ self.old.rows }
+    {
+        &mut self.rows
+    }
+
+    /// The saved rows, given up.
+    pub fn into_rows(self) -> R
+        ensures { result ≡ self.rows }
+    {
+        let Station {
+            core: _,
+            table: _,
+            widths: _,
+            rows,
+            stopped: _,
+            alloc: _,
+        } = self;
+        rows
+    }
+}

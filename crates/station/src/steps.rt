@@ -1,0 +1,194 @@
+//! The steps of a station.
+
+ghost use Rattle.std.specs.Prelude.{◌≡◌, ◌≤◌, List, [], true, false, Err, IfOk, IfErr, length};
+ghost use Rattle.protocol.specs.Marks.{Mark};
+ghost use Rattle.protocol.specs.Turn.{number_of};
+ghost use Rattle.protocol.specs.Refusals.{Offering, Seeking, Falling_due, Receiving};
+ghost use Rattle.acceptor_store.specs.Saved.{Rises};
+ghost use Rattle.node_core.specs.Standing.{StandsFor};
+ghost use Rattle.node_core.specs.Calls.{MayCome};
+ghost use Rattle.node_core.specs.Turns.{event_value};
+ghost use Rattle.station.specs.Refusing.{ChecksNumber};
+ghost use Rattle.station.specs.Stations.{sight, IsFixed};
+ghost use Rattle.station.specs.Steps.{Ends, IsFree, Steps, OnStore, tears, stopped_after};
+
+use crate::answer::Answer;
+use crate::checks::check_packet;
+use crate::getting_ready::save;
+use crate::refusal::StepRefusal;
+use crate::station::Station;
+use acceptor_store::Rows;
+use ballots::Number;
+use line_check::{SetError, set};
+use node_core::{CoreRefusal, Event};
+use packets::decode;
+use tape_frames::Tape;
+
+impl<R: Rows> Station<R> {
+    /// Offers a tape for a number, at a moment in milliseconds.
+    ///
+    /// Refused, in this order: `Stopped`, `BadNumber`, `AlreadyReleased`, `AlreadyOpen`,
+    /// `TapeFaulty`, `RoundsSpent`; `Store` and `OutOfMemory` stop the station.
+    pub fn offer(&mut self, number: u32, tape: &Tape, now: u64) -> Result<Answer, StepRefusal>
+        ensures steps { R.kept self.new.rows → (marks : List Mark) → StandsFor self.old.core marks
+            → Steps (sight R.kept R.is_open R.saved R.alike R.passes R.tells) (Offering number tape.now now) self.old self.new marks result }
+        ensures was_kept { R.kept self.new.rows → R.kept self.old.rows }
+        ensures few { IfOk result (λ a. length a.out.items ≤ 28) }
+        ensures cause { OnStore result (Rises (R.refusals self.old.rows) (R.refusals self.new.rows)) }
+        ensures stops { self.new.stopped ≡ stopped_after self.old.stopped result }
+        ensures stopped { self.old.stopped ≡ true → (result ≡ Err StepRefusal.Stopped) × (self.new ≡ self.old) }
+    {
+        if self.stopped {
+            return Err(StepRefusal::Stopped);
+        }
+        let number = self.check_number(number)?;
+        match set(self.alloc, &self.table, &self.widths, tape) {
+            Ok(_) => {}
+            Err(SetError::Fault(fault)) => return Err(StepRefusal::TapeFaulty(fault)),
+            Err(SetError::OutOfMemory) => return Err(self.stop(StepRefusal::OutOfMemory)),
+        }
+        match tape.copy(self.alloc) {
+            Ok(tape) => self.take(number, Event::Offer { number, tape, now }),
+            Err(_) => Err(self.stop(StepRefusal::OutOfMemory)),
+        }
+    }
+
+    /// Seeks the tape of a number, at a moment in milliseconds.
+    ///
+    /// Refused, in this order: `Stopped`, `BadNumber`, `AlreadyReleased`, `AlreadyOpen`,
+    /// `RoundsSpent`; `Store` and `OutOfMemory` stop the station.
+    pub fn seek(&mut self, number: u32, now: u64) -> Result<Answer, StepRefusal>
+        ensures steps { R.kept self.new.rows → (marks : List Mark) → StandsFor self.old.core marks
+            → Steps (sight R.kept R.is_open R.saved R.alike R.passes R.tells) (Seeking number now) self.old self.new marks result }
+        ensures was_kept { R.kept self.new.rows → R.kept self.old.rows }
+        ensures few { IfOk result (λ a. length a.out.items ≤ 28) }
+        ensures cause { OnStore result (Rises (R.refusals self.old.rows) (R.refusals self.new.rows)) }
+        ensures stops { self.new.stopped ≡ stopped_after self.old.stopped result }
+        ensures stopped { self.old.stopped ≡ true → (result ≡ Err StepRefusal.Stopped) × (self.new ≡ self.old) }
+    {
+        if self.stopped {
+            return Err(StepRefusal::Stopped);
+        }
+        let number = self.check_number(number)?;
+        self.take(number, Event::Seek { number, now })
+    }
+
+    /// Sees to the least number that is due at a moment in milliseconds. Where none is due, the note is
+    /// `Idle`, and the store is not asked.
+    ///
+    /// Refused as `Stopped`; `Store` and `OutOfMemory` stop the station.
+    pub fn due(&mut self, now: u64) -> Result<Answer, StepRefusal>
+        ensures steps { R.kept self.new.rows → (marks : List Mark) → StandsFor self.old.core marks
+            → Steps (sight R.kept R.is_open R.saved R.alike R.passes R.tells) (Falling_due now) self.old self.new marks result }
+        ensures was_kept { R.kept self.new.rows → R.kept self.old.rows }
+        ensures few { IfOk result (λ a. length a.out.items ≤ 28) }
+        ensures cause { OnStore result (Rises (R.refusals self.old.rows) (R.refusals self.new.rows)) }
+        ensures stops { self.new.stopped ≡ stopped_after self.old.stopped result }
+        ensures stopped { self.old.stopped ≡ true → (result ≡ Err StepRefusal.Stopped) × (self.new ≡ self.old) }
+    {
+        if self.stopped {
+            return Err(StepRefusal::Stopped);
+        }
+        match self.core.next_due(now) {
+            None => Ok(Answer::idle(self.alloc)),
+            Some(number) => self.take(number, Event::Due { number, now }),
+        }
+    }
+
+    /// Takes in the bytes of a datagram that came, at a moment in milliseconds.
+    ///
+    /// Refused, in this order: `Stopped`, `BadDatagram`, `WrongCircuit`, `NotForMe`, `Stranger`;
+    /// `Store` and `OutOfMemory` stop the station.
+    pub fn receive(&mut self, bytes: &[u8], now: u64) -> Result<Answer, StepRefusal>
+        ensures steps { R.kept self.new.rows → (marks : List Mark) → StandsFor self.old.core marks
+            → Steps (sight R.kept R.is_open R.saved R.alike R.passes R.tells) (Receiving bytes.now now) self.old self.new marks result }
+        ensures was_kept { R.kept self.new.rows → R.kept self.old.rows }
+        ensures few { IfOk result (λ a. length a.out.items ≤ 28) }
+        ensures cause { OnStore result (Rises (R.refusals self.old.rows) (R.refusals self.new.rows)) }
+        ensures stops { self.new.stopped ≡ stopped_after self.old.stopped result }
+        ensures stopped { self.old.stopped ≡ true → (result ≡ Err StepRefusal.Stopped) × (self.new ≡ self.old) }
+    {
+        if self.stopped {
+            return Err(StepRefusal::Stopped);
+        }
+        let packet = match decode(bytes) {
+            Ok(packet) => packet,
+            Err(fault) => return Err(StepRefusal::BadDatagram(fault)),
+        };
+        let (circuit, members, me) = (self.core.circuit(), self.core.members(), self.core.me());
+        check_packet(circuit, members, me, &packet)?;
+        let number = packet.number();
+        match packet.copy(self.alloc) {
+            Ok(packet) => self.take(number, Event::Arrived { packet, now }),
+            Err(_) => Err(self.stop(StepRefusal::OutOfMemory)),
+        }
+    }
+
+    /// The number, where it is one that can be asked for.
+    fn check_number(&self, number: u32) -> Result<Number, StepRefusal>
+        ensures value { IfOk result (λ n. n ≡ number) }
+        ensures checks { (marks : List Mark) → StandsFor self.now.core marks → ChecksNumber number marks result }
+        ensures cause { OnStore result ⊥ }
+        ensures goes_on { IfErr result (λ r. tears r ≡ false) }
+    {
+        let Some(number) = Number::new(number) else {
+            return Err(StepRefusal::BadNumber);
+        };
+        if self.core.released(number) {
+            return Err(StepRefusal::AlreadyReleased);
+        }
+        if self.core.open_ballot(number).is_some() {
+            return Err(StepRefusal::AlreadyOpen);
+        }
+        Ok(number)
+    }
+
+    /// Takes the turn of an event at its number's saved row, and saves the row before anything is handed out.
+    #[tactic(auto, using(crate::proofs::Refused::spent_stays, crate::proofs::Refused::spent_none, crate::proofs::Refused::not_released, crate::proofs::Refused::not_open))]
+    fn take(&mut self, number: Number, event: Event) -> Result<Answer, StepRefusal>
+        requires goes { self.old.stopped ≡ false }
+        requires number { number_of (event_value event) ≡ number }
+        requires arrived { MayCome self.old.core.me self.old.core.members event }
+        ensures takes { R.kept self.new.rows → (marks : List Mark) → StandsFor self.old.core marks → IsFree marks (event_value event)
+            → Ends (sight R.kept R.is_open R.saved R.alike R.passes R.tells) (event_value event) self.old self.new marks result }
+        ensures was_kept { R.kept self.new.rows → R.kept self.old.rows }
+        ensures few { IfOk result (λ a. length a.out.items ≤ 28) }
+        ensures cause { OnStore result (Rises (R.refusals self.old.rows) (R.refusals self.new.rows)) }
+        ensures stops { self.new.stopped ≡ stopped_after self.old.stopped result }
+    {
+        let row = match self.rows.get(number) {
+            Ok(row) => row,
+            Err(fault) => return Err(self.stop(StepRefusal::Store(fault))),
+        };
+        match self.core.handle(event, &row) {
+            Ok(turn) => match save(
+                &mut self.rows,
+                self.alloc,
+                &self.table,
+                &self.widths,
+                number,
+                turn,
+            ) {
+                Ok(answer) => Ok(answer),
+                Err(refusal) => Err(self.stop(refusal)),
+            },
+            Err(CoreRefusal::RoundsSpent) => Err(StepRefusal::RoundsSpent),
+            Err(CoreRefusal::AlreadyReleased) => Err(StepRefusal::AlreadyReleased),
+            Err(CoreRefusal::AlreadyOpen) => Err(StepRefusal::AlreadyOpen),
+            Err(CoreRefusal::Failed) => Err(self.stop(StepRefusal::OutOfMemory)),
+            Err(CoreRefusal::OutOfMemory) => Err(self.stop(StepRefusal::OutOfMemory)),
+        }
+    }
+
+    /// Stops: it forgets what it took in, and takes no step until it is restarted.
+    fn stop(&mut self, refusal: StepRefusal) -> StepRefusal
+        ensures same { result ≡ refusal }
+        ensures stands { StandsFor self.new.core [] }
+        ensures fixed { IsFixed self.old self.new }
+        ensures stopped { self.new ≡ record self.old { core = self.new.core; stopped = true } }
+    {
+        self.core.clear();
+        self.stopped = true;
+        refusal
+    }
+}
