@@ -9,8 +9,11 @@ mod fault;
 mod line;
 mod opened;
 mod refusal;
+mod releases;
 mod script;
 mod sources;
+#[cfg(test)]
+mod trying;
 mod words;
 
 use arguments::{Asked, parse};

@@ -2,10 +2,11 @@
 
 use super::answer;
 use crate::end::End;
+use crate::trying::{Broken, Slow};
 use ballots::Member;
 use std::alloc::Global;
 use std::io;
-use std::io::{ErrorKind, Read, Write};
+use std::io::Read;
 use std::test::Fail;
 
 /// A Prepare of 1.1 for number 12, and the Promise that reports no vote.
@@ -25,50 +26,6 @@ const TOLD: &[u8] = b"544e0102000702010000000c000000010100\n\
 silent\n\
 544e0102000702030000000c00000001030100000001010003010204\n\
 544e0105000702010000000c00000001010000000103\n";
-
-/// A writer that takes one byte a call, and at most so many.
-#[derive(Drop)]
-struct Slow {
-    taken: Vec<u8>,
-    room: usize,
-}
-
-impl Write for Slow {
-    fn write(&mut self, buf: &[u8]) -> io::Result<usize> {
-        if self.room == 0 {
-            return Ok(0);
-        }
-        match buf.first() {
-            None => Ok(0),
-            Some(byte) => {
-                self.taken.push(*byte)?;
-                self.room -= 1;
-                Ok(1)
-            }
-        }
-    }
-
-    fn flush(&mut self) -> io::Result<()> {
-        Ok(())
-    }
-}
-
-/// A reader that gives a byte and then fails.
-#[derive(Drop)]
-struct Broken {
-    given: bool,
-}
-
-impl Read for Broken {
-    fn read(&mut self, buf: &mut [u8]) -> io::Result<usize> {
-        if self.given || buf.is_empty() {
-            return Err(io::Error::from(ErrorKind::Other));
-        }
-        self.given = true;
-        buf[0] = b'5';
-        Ok(1)
-    }
-}
 
 /// What member 2 of circuit 7 answers to the input.
 fn told(alloc: Global, mut input: &[u8]) -> Result<Vec<u8>, Fail> {

@@ -2,28 +2,9 @@
 
 use super::{Paths, check};
 use crate::end::End;
+use crate::trying::{Broken, Slow, TABLE, Told, WIDTHS};
 use std::alloc::Global;
-use std::io;
-use std::io::{ErrorKind, Read, Write};
 use std::test::Fail;
-
-/// The table and the widths of the repository's `examples/`, without comments.
-const TABLE: &str = "[[code]]\nframe = 0\nunshift = \"@ignore\"\nshift = \"@ignore\"\n\
-[[code]]\nframe = 1\nunshift = \"a\"\nshift = \"A\"\n\
-[[code]]\nframe = 2\nunshift = \"b\"\nshift = \"B\"\n\
-[[code]]\nframe = 3\nunshift = \"@spaceband\"\nshift = \"@spaceband\"\n\
-[[code]]\nframe = 4\nunshift = \"@elevate\"\nshift = \"@elevate\"\n\
-[[code]]\nframe = 5\nunshift = \"@shift\"\nshift = \"@shift\"\n\
-[[code]]\nframe = 6\nunshift = \"@unshift\"\nshift = \"@unshift\"\n\
-[[code]]\nframe = 7\nunshift = \"@quadleft\"\nshift = \"@quadcenter\"\n\
-[[code]]\nframe = 8\nunshift = \"@upper\"\nshift = \"@upper\"\n\
-[[code]]\nframe = 9\nunshift = \"@lower\"\nshift = \"@lower\"\n\
-[[code]]\nframe = 10\nunshift = \"@thin\"\nshift = \"@em\"\n\
-[[code]]\nframe = 11\nunshift = \"fi\"\nshift = \"@quadright\"\n\
-[[code]]\nframe = 63\nunshift = \"@ignore\"\nshift = \"@ignore\"\n";
-
-const WIDTHS: &str = "measure = 30\nband_min = 2\nband_max = 6\nthin = 2\nen = 5\nem = 10\n\
-[matrix]\na = 5\nb = 6\nA = 8\nB = 9\nfi = 7\n";
 
 const PATHS: Paths<'static> = Paths {
     table: "codes.toml",
@@ -31,27 +12,7 @@ const PATHS: Paths<'static> = Paths {
     tape: "story.tape",
 };
 
-/// What a command came to: its end, its output and its fault.
-#[derive(Drop)]
-struct Outcome {
-    end: End,
-    out: Vec<u8>,
-    err: Vec<u8>,
-}
-
-impl Outcome {
-    /// Whether it wrote this galley and no fault.
-    fn is_galley(&self, text: &str) -> bool {
-        self.end == End::Done && self.out.as_slice() == text.as_bytes() && self.err.is_empty()
-    }
-
-    /// Whether it wrote nothing but this fault of an input.
-    fn is_fault(&self, text: &str) -> bool {
-        self.end == End::Input && self.out.is_empty() && self.err.as_slice() == text.as_bytes()
-    }
-}
-
-fn told_of(alloc: Global, table: &str, widths: &str, tape: &[u8], listing: bool) -> Outcome {
+fn told_of(alloc: Global, table: &str, widths: &str, tape: &[u8], listing: bool) -> Told {
     let (mut table, mut widths, mut tape) = (table.as_bytes(), widths.as_bytes(), tape);
     let mut out = Vec::new(alloc);
     let mut err = Vec::new(alloc);
@@ -65,27 +26,27 @@ fn told_of(alloc: Global, table: &str, widths: &str, tape: &[u8], listing: bool)
         &mut out,
         &mut err,
     );
-    Outcome { end, out, err }
+    Told { end, out, err }
 }
 
-fn set(alloc: Global, tape: &[u8]) -> Outcome {
+fn set(alloc: Global, tape: &[u8]) -> Told {
     told_of(alloc, TABLE, WIDTHS, tape, false)
 }
 
 #[test]
 fn galleys(rt: HostRuntime) {
     let alloc = rt.alloc();
-    assert!(rt; set(alloc, &[1, 2, 3, 1, 3, 2, 4]).is_galley("0001 J 0 0 a b _4 a _4 b\n"));
-    assert!(rt; set(alloc, &[1, 2, 3, 1, 3, 11, 4]).is_galley("0001 J 0 0 a b _4 a _3 fi\n"));
-    assert!(rt; set(alloc, &[2, 2, 3, 2, 2, 4]).is_galley("0001 J 0 0 b b _6 b b\n"));
-    assert!(rt; set(alloc, &[11, 11, 3, 11, 11, 4]).is_galley("0001 J 0 0 fi fi _2 fi fi\n"));
-    assert!(rt; set(alloc, &[5, 2, 7, 4, 1, 11, 4]).is_galley("0001 C 10 11 B\n0002 R 22 0 A\n"));
-    assert!(rt; set(alloc, &[4, 4, 63]).is_galley(""));
-    assert!(rt; set(alloc, &[8, 1, 10, 9, 2, 7, 4]).is_galley("0001 L 0 17 ^a ~2 b\n"));
-    assert!(rt; set(alloc, &[8, 1, 7, 4, 1, 7, 4]).is_galley("0001 L 0 25 ^a\n0002 L 0 25 ^a\n"));
-    assert!(rt; set(alloc, &[1, 7, 5, 7, 4]).is_galley("0001 C 12 13 a\n"));
-    assert!(rt; set(alloc, &[1, 3, 1, 7, 4]).is_galley("0001 L 0 18 a _2 a\n"));
-    assert!(rt; set(alloc, &[1, 1, 1, 1, 1, 1, 4]).is_galley("0001 J 0 0 a a a a a a\n"));
+    assert!(rt; set(alloc, &[1, 2, 3, 1, 3, 2, 4]).is_text("0001 J 0 0 a b _4 a _4 b\n"));
+    assert!(rt; set(alloc, &[1, 2, 3, 1, 3, 11, 4]).is_text("0001 J 0 0 a b _4 a _3 fi\n"));
+    assert!(rt; set(alloc, &[2, 2, 3, 2, 2, 4]).is_text("0001 J 0 0 b b _6 b b\n"));
+    assert!(rt; set(alloc, &[11, 11, 3, 11, 11, 4]).is_text("0001 J 0 0 fi fi _2 fi fi\n"));
+    assert!(rt; set(alloc, &[5, 2, 7, 4, 1, 11, 4]).is_text("0001 C 10 11 B\n0002 R 22 0 A\n"));
+    assert!(rt; set(alloc, &[4, 4, 63]).is_text(""));
+    assert!(rt; set(alloc, &[8, 1, 10, 9, 2, 7, 4]).is_text("0001 L 0 17 ^a ~2 b\n"));
+    assert!(rt; set(alloc, &[8, 1, 7, 4, 1, 7, 4]).is_text("0001 L 0 25 ^a\n0002 L 0 25 ^a\n"));
+    assert!(rt; set(alloc, &[1, 7, 5, 7, 4]).is_text("0001 C 12 13 a\n"));
+    assert!(rt; set(alloc, &[1, 3, 1, 7, 4]).is_text("0001 L 0 18 a _2 a\n"));
+    assert!(rt; set(alloc, &[1, 1, 1, 1, 1, 1, 4]).is_text("0001 J 0 0 a a a a a a\n"));
 }
 
 #[test]
@@ -109,7 +70,7 @@ fn a_listing_of_holes(rt: HostRuntime) {
     let listed = told_of(rt.alloc(), TABLE, WIDTHS, &[5, 2, 7, 4, 1, 11, 4], true);
     let text = "o.o... 5\n.o.... 2\nooo... 7\n..o... 4\no..... 1\noo.o.. 11\n..o... 4\n\
 0001 C 10 11 B\n0002 R 22 0 A\n";
-    assert!(rt; listed.is_galley(text));
+    assert!(rt; listed.is_text(text));
     let unset = told_of(rt.alloc(), TABLE, WIDTHS, &[1], true);
     assert!(rt; unset.end == End::Input);
     assert!(rt; unset.out.as_slice() == b"o..... 1\n".as_slice());
@@ -140,43 +101,6 @@ fn faults_of_files(rt: HostRuntime) -> Result<(), Fail> {
     Ok(())
 }
 
-/// A reader that fails at once.
-#[derive(Drop)]
-struct Broken;
-
-impl Read for Broken {
-    fn read(&mut self, _buf: &mut [u8]) -> io::Result<usize> {
-        Err(io::Error::from(ErrorKind::Other))
-    }
-}
-
-/// A writer that takes one byte a call, and at most so many.
-#[derive(Drop)]
-struct Slow {
-    taken: Vec<u8>,
-    room: usize,
-}
-
-impl Write for Slow {
-    fn write(&mut self, buf: &[u8]) -> io::Result<usize> {
-        if self.room == 0 {
-            return Ok(0);
-        }
-        match buf.first() {
-            None => Ok(0),
-            Some(byte) => {
-                self.taken.push(*byte)?;
-                self.room -= 1;
-                Ok(1)
-            }
-        }
-    }
-
-    fn flush(&mut self) -> io::Result<()> {
-        Ok(())
-    }
-}
-
 #[test]
 fn files_that_do_not_open(rt: HostRuntime) {
     let alloc = rt.alloc();
@@ -188,7 +112,7 @@ fn files_that_do_not_open(rt: HostRuntime) {
         &PATHS,
         &mut table,
         &mut widths,
-        &mut Broken,
+        &mut Broken { given: true },
         false,
         &mut out,
         &mut err,
