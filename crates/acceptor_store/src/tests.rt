@@ -3,7 +3,7 @@ ghost use Rattle.acceptor_store.specs.Saved.{HasPromise};
 
 use super::*;
 use ballots::{Ballot, Member, Number, Row, Vote};
-use sqlite::Connection;
+use sqlite::{Connection, MemStore};
 use std::alloc::Global;
 use std::test::Fail;
 use tape_frames::Tape;
@@ -131,14 +131,30 @@ const STATION: Identity = Identity {
     members: 3,
 };
 
+fn no_rows(alloc: Global) -> Result<SqliteRows<MemStore>, Fail> {
+    let conn = Connection::open_in_memory(alloc).ok().ok_or("a database")?;
+    let rows = SqliteRows::create(alloc, conn, STATION)
+        .ok()
+        .ok_or("created")?;
+    Ok(rows)
+}
+
 #[test]
 fn in_a_database(rt: HostRuntime) -> Result<(), Fail> {
     let alloc = rt.alloc();
-    let conn = Connection::open_in_memory(alloc).ok().ok_or("a database")?;
-    let mut rows = SqliteRows::create(alloc, conn, STATION)
-        .ok()
-        .ok_or("created")?;
+    let mut rows = no_rows(alloc)?;
+    assert!(rt; rows.identity() == STATION);
     assert!(rt; saves_two(alloc, &mut rows)?);
+
+    let row = rows
+        .get(Number::new(12).ok_or("a number")?)
+        .ok()
+        .ok_or("a row")?;
+    assert!(rt; is_voted(&row.copy(alloc)?));
+    let vote = row.vote().ok_or("a vote")?;
+    let copy = vote.copy(alloc)?;
+    assert!(rt; copy.ballot() == vote.ballot() && copy.tape().same(vote.tape()));
+
     let all = rows.all().ok().ok_or("rows")?;
     assert_eq!(rt; all.len(), 2);
     for (place, (number, row)) in all.iter().enumerate() {
@@ -150,10 +166,15 @@ fn in_a_database(rt: HostRuntime) -> Result<(), Fail> {
             assert!(rt; is_voted(row));
         }
     }
-    assert!(rt; rows.identity() == STATION);
+    Ok(())
+}
 
-    let conn = rows.into_connection();
-    let mut rows = SqliteRows::open(alloc, conn, Some(STATION))
+#[test]
+fn taken_up_again(rt: HostRuntime) -> Result<(), Fail> {
+    let alloc = rt.alloc();
+    let mut rows = no_rows(alloc)?;
+    assert!(rt; saves_two(alloc, &mut rows)?);
+    let mut rows = SqliteRows::open(alloc, rows.into_connection(), Some(STATION))
         .ok()
         .ok_or("opened")?;
     assert!(rt; is_voted_at(&mut rows, Number::new(12).ok_or("a number")?));
@@ -170,7 +191,18 @@ fn in_a_database(rt: HostRuntime) -> Result<(), Fail> {
             conn
         }
     };
-    let conn = match SqliteRows::create(alloc, conn, STATION) {
+    let mut rows = SqliteRows::open(alloc, conn, None).ok().ok_or("opened")?;
+    assert!(rt; rows.identity() == STATION);
+    assert!(rt; is_voted_at(&mut rows, Number::new(12).ok_or("a number")?));
+    Ok(())
+}
+
+#[test]
+fn made_once(rt: HostRuntime) -> Result<(), Fail> {
+    let alloc = rt.alloc();
+    let mut rows = no_rows(alloc)?;
+    assert!(rt; saves_two(alloc, &mut rows)?);
+    let conn = match SqliteRows::create(alloc, rows.into_connection(), STATION) {
         Ok(_) => return Err("made again".into()),
         Err((fault, conn)) => {
             assert!(rt; fault == RowsFault::Store);
@@ -178,18 +210,13 @@ fn in_a_database(rt: HostRuntime) -> Result<(), Fail> {
         }
     };
     let mut rows = SqliteRows::open(alloc, conn, None).ok().ok_or("opened")?;
-    assert!(rt; rows.identity() == STATION);
     assert!(rt; is_voted_at(&mut rows, Number::new(12).ok_or("a number")?));
     Ok(())
 }
 
 /// The fault of an open after this statement; none where it opens.
 fn fault_after(alloc: Global, change: &str) -> Result<Option<RowsFault>, Fail> {
-    let conn = Connection::open_in_memory(alloc).ok().ok_or("a database")?;
-    let rows = SqliteRows::create(alloc, conn, STATION)
-        .ok()
-        .ok_or("created")?;
-    let mut conn = rows.into_connection();
+    let mut conn = no_rows(alloc)?.into_connection();
     conn.execute(change, &[]).ok().ok_or("changed")?;
     match SqliteRows::open(alloc, conn, Some(STATION)) {
         Ok(_) => Ok(None),
@@ -197,67 +224,71 @@ fn fault_after(alloc: Global, change: &str) -> Result<Option<RowsFault>, Fail> {
     }
 }
 
+/// Whether an open after this statement has this fault.
+fn refuses_after(alloc: Global, change: &str, fault: RowsFault) -> Result<bool, Fail> {
+    Ok(fault_after(alloc, change)? == Some(fault))
+}
+
+const DAMAGED: RowsFault = RowsFault::Damaged { number: 12 };
+
 #[test]
-fn faults_by_name(rt: HostRuntime) -> Result<(), Fail> {
-    let alloc = rt.alloc();
-    let twelve = RowsFault::Damaged { number: 12 };
-    for (change, fault) in [
+fn columns_that_are_no_row(rt: HostRuntime) -> Result<(), Fail> {
+    for change in [
         // The vote is above its promise.
-        (
-            "INSERT INTO acceptor_row VALUES (12, 1, 1, 2, 1, x'01')",
-            twelve,
-        ),
-        (
-            "INSERT INTO acceptor_row VALUES (12, 1, 1, NULL, 1, NULL)",
-            twelve,
-        ),
-        (
-            "INSERT INTO acceptor_row VALUES (12, 1, 16, NULL, NULL, NULL)",
-            twelve,
-        ),
-        (
-            "INSERT INTO acceptor_row VALUES (12, 0, 1, NULL, NULL, NULL)",
-            twelve,
-        ),
-        (
-            "INSERT INTO acceptor_row VALUES (12, 1, 1, 1, 1, x'40')",
-            twelve,
-        ),
-        (
-            "INSERT INTO acceptor_row VALUES (12, 1, 1, 1, 1, x'')",
-            twelve,
-        ),
-        (
-            "INSERT INTO acceptor_row VALUES (12, 0, 1, NULL, NULL, NULL), (13, 0, 1, NULL, NULL, NULL)",
-            twelve,
-        ),
-        (
-            "INSERT INTO acceptor_row VALUES (12, 1, 1, NULL, NULL, NULL), (-4, 1, 1, NULL, NULL, NULL)",
-            RowsFault::Damaged { number: -4 },
-        ),
-        (
-            "INSERT INTO acceptor_row VALUES (1000000, 1, 1, NULL, NULL, NULL)",
-            RowsFault::Damaged { number: 1_000_000 },
-        ),
+        "INSERT INTO acceptor_row VALUES (12, 1, 1, 2, 1, x'01')",
+        // A vote lacks its round and its tape.
+        "INSERT INTO acceptor_row VALUES (12, 1, 1, NULL, 1, NULL)",
+        // No owner, and no round.
+        "INSERT INTO acceptor_row VALUES (12, 1, 16, NULL, NULL, NULL)",
+        "INSERT INTO acceptor_row VALUES (12, 0, 1, NULL, NULL, NULL)",
+        // No tape.
+        "INSERT INTO acceptor_row VALUES (12, 1, 1, 1, 1, x'40')",
+        "INSERT INTO acceptor_row VALUES (12, 1, 1, 1, 1, x'')",
+    ] {
+        assert!(rt;
+            refuses_after(rt.alloc(), change, DAMAGED)?,
+            "after {change}"
+        );
+    }
+    let whole = "INSERT INTO acceptor_row VALUES (999999, 1, 1, 1, 1, x'3f')";
+    assert!(rt; fault_after(rt.alloc(), whole)?.is_none());
+    Ok(())
+}
+
+#[test]
+fn the_least_damaged_key(rt: HostRuntime) -> Result<(), Fail> {
+    let alloc = rt.alloc();
+    let two =
+        "INSERT INTO acceptor_row VALUES (13, 0, 1, NULL, NULL, NULL), (12, 0, 1, NULL, NULL, NULL)";
+    assert!(rt; refuses_after(alloc, two, DAMAGED)?);
+    let below =
+        "INSERT INTO acceptor_row VALUES (12, 0, 1, NULL, NULL, NULL), (-4, 1, 1, NULL, NULL, NULL)";
+    assert!(rt; refuses_after(alloc, below, RowsFault::Damaged { number: -4 })?);
+    let above = "INSERT INTO acceptor_row VALUES (1000000, 1, 1, NULL, NULL, NULL)";
+    let number = 1_000_000;
+    assert!(rt; refuses_after(alloc, above, RowsFault::Damaged { number })?);
+    Ok(())
+}
+
+#[test]
+fn a_station_that_is_none_or_another(rt: HostRuntime) -> Result<(), Fail> {
+    for (change, fault) in [
         ("UPDATE station SET layout = 9", RowsFault::WrongSchema),
         ("UPDATE station SET member = 4", RowsFault::WrongSchema),
         ("DELETE FROM station", RowsFault::WrongSchema),
         ("UPDATE station SET circuit = 8", RowsFault::WrongStation),
-        ("DROP TABLE acceptor_row", RowsFault::Store),
+        ("UPDATE station SET members = 2", RowsFault::WrongStation),
     ] {
-        assert!(rt;
-            fault_after(alloc, change)? == Some(fault),
-            "after {change}"
-        );
+        assert!(rt; refuses_after(rt.alloc(), change, fault)?, "after {change}");
     }
-    assert!(rt;
-        fault_after(
-            alloc,
-            "INSERT INTO acceptor_row VALUES (999999, 1, 1, 1, 1, x'3f')"
-        )?
-        .is_none()
-    );
+    Ok(())
+}
 
+#[test]
+fn tables_that_are_not_there(rt: HostRuntime) -> Result<(), Fail> {
+    let alloc = rt.alloc();
+    assert!(rt; refuses_after(alloc, "DROP TABLE acceptor_row", RowsFault::Store)?);
+    assert!(rt; refuses_after(alloc, "DROP TABLE station", RowsFault::Store)?);
     let conn = Connection::open_in_memory(alloc).ok().ok_or("a database")?;
     match SqliteRows::open(alloc, conn, None) {
         Ok(_) => return Err("opened without tables".into()),
