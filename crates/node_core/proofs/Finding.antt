@@ -1,6 +1,6 @@
 -- A list of desks, one at most for each number.
-use Rattle.std.proofs.Common.{◌≡◌, ℕ, suc, ◌+◌, ◌<◌, refl, sym, ap, subst, ◌∙◌, List, [], ◌∷◌, ◌++◌, Option, Some, None, Bool, true, false, length, take, drop, get_or, arith}
-use Rattle.std.specs.Prelude.{find, ◌==◌, ◌||◌}
+use Rattle.std.proofs.Common.{◌≡◌, ℕ, suc, ◌+◌, ◌<◌, refl, sym, ap, subst, ◌∙◌, List, [], ◌∷◌, ◌++◌, Option, Some, None, Bool, true, false, length, take, drop, get_or, set, Result, Ok, Err, arith, zero-add}
+use Rattle.std.specs.Prelude.{find, unwrap_or, OnOk, OnErr, ◌==◌}
 use Rattle.std.specs.List.{position_from}
 use Rattle.protocol.specs.Marks.{Mark}
 use Rattle.protocol.specs.Proposals.{was_released}
@@ -8,7 +8,7 @@ use Rattle.std.proofs.lemmas.Bool.{eqb-true, eq-eqb, ne_eqb}
 use Rattle.protocol.specs.Lists.{has}
 use Rattle.node_core.specs.declared.desk.Desk.{Desk}
 use Rattle.node_core.specs.Seats.{Seat}
-use Rattle.node_core.specs.Standing.{is_of, without, desk_of, AreDistinct, AreDesksOf, IsDeskOf, Core, StandsFor, DeskStands}
+use Rattle.node_core.specs.Standing.{is_of, replaced, put, without, desk_of, AreDistinct, AreDesksOf, IsDeskOf, Core, StandsFor, DeskStands}
 
 -- the desk at the first place is found, and the others are left
 pub record Found (n i j : ℕ) (ds : List Desk) : Type 0 where
@@ -19,6 +19,8 @@ pub record Found (n i j : ℕ) (ds : List Desk) : Type 0 where
   pub desk : Desk
   pub found : find (is_of n) ds ≡ Some desk
   pub there : (d : Desk) → get_or ds place d ≡ desk
+  pub replaces : (y : Desk) → y.number ≡ n → set ds place y ≡ replaced y ds
+  pub puts : (y : Desk) → y.number ≡ n → set ds place y ≡ put y ds
 
 pub found_at : (n i j : ℕ) (ds : List Desk) → position_from (is_of n) i ds ≡ Some j → Found n i j ds
 found_at n i j [] e = absurd cc
@@ -27,26 +29,90 @@ found_at n i j (d ∷ ds) e = go (d.number == n) refl (λ f. found_at n (i + 1) 
     go : (b : Bool) → (d.number == n) ≡ b → (position_from (is_of n) (i + 1) ds ≡ Some j → Found n (i + 1) j ds) → Found n i j (d ∷ ds)
     go true h rest =
         let f : Some i ≡ Some j = rw h at e in let same : i ≡ j = cc in
-        record { place = 0; is_place = omega arith; is_in = omega arith; left = rw h refl; desk = d; found = rw h refl; there = λ x. refl }
+        let here : (y : Desk) → y.number ≡ n → (d.number == y.number) ≡ true = λ y f. (ap (λ k. d.number == k) f ∙ h) in
+        record {
+          place = 0;
+          is_place = omega arith;
+          is_in = omega arith;
+          left = rw h refl;
+          desk = d;
+          found = rw h refl;
+          there = λ x. refl;
+          replaces = λ y f. rw (here y f) refl;
+          puts = λ y f. rw (here y f) refl;
+        }
     go false h rest =
         let r : Found n (i + 1) j ds = rest (rw h at e) in
         let at : j ≡ (i + 1) + r.place = r.is_place in
         let left : without n ds ≡ take r.place ds ++ drop (suc r.place) ds = r.left in
         let found : find (is_of n) ds ≡ Some r.desk = r.found in
         let below : r.place < length ds = r.is_in in
-        record { place = suc r.place; is_place = omega arith; is_in = omega arith; left = rw (h, left) refl; desk = r.desk; found = rw (h, found) refl; there = λ x. r.there x }
+        let other : (y : Desk) → y.number ≡ n → (d.number == y.number) ≡ false = λ y f. (ap (λ k. d.number == k) f ∙ h) in
+        record {
+          place = suc r.place;
+          is_place = omega arith;
+          is_in = omega arith;
+          left = rw (h, left) refl;
+          desk = r.desk;
+          found = rw (h, found) refl;
+          there = λ x. r.there x;
+          replaces = λ y f. rw (other y f) (ap (λ (xs : List Desk). d ∷ xs) (r.replaces y f));
+          puts = λ y f. rw (other y f) (ap (λ (xs : List Desk). d ∷ xs) (r.puts y f));
+        }
 
-pub none_found : (n i : ℕ) (ds : List Desk) → position_from (is_of n) i ds ≡ None → (find (is_of n) ds ≡ None) × (without n ds ≡ ds)
-none_found n i [] e = (refl, refl)
+pub none_found : (n i : ℕ) (ds : List Desk) → position_from (is_of n) i ds ≡ None → has (is_of n) ds ≡ false
+none_found n i [] e = refl
 none_found n i (d ∷ ds) e = go (d.number == n) refl (λ f. none_found n (i + 1) ds f)
   where
-    go : (b : Bool) → (d.number == n) ≡ b → (position_from (is_of n) (i + 1) ds ≡ None → (find (is_of n) ds ≡ None) × (without n ds ≡ ds)) → (find (is_of n) (d ∷ ds) ≡ None) × (without n (d ∷ ds) ≡ d ∷ ds)
+    go : (b : Bool) → (d.number == n) ≡ b → (position_from (is_of n) (i + 1) ds ≡ None → has (is_of n) ds ≡ false) → has (is_of n) (d ∷ ds) ≡ false
     go true h rest = let f : Some i ≡ None = rw h at e in absurd cc
-    go false h rest =
-        let r = rest (rw h at e) in
-        let found : find (is_of n) ds ≡ None = r.0 in
-        let left : without n ds ≡ ds = r.1 in
-        (rw (h, found) refl, rw (h, left) refl)
+    go false h rest = let there : has (is_of n) ds ≡ false = rest (rw h at e) in rw (h, there) refl
+
+-- a number that has no desk: none is found, taken out or replaced, and its desk is put behind the others
+pub record HasNone (n : ℕ) (ds : List Desk) : Type 0 where
+  pub found : find (is_of n) ds ≡ None
+  pub left : without n ds ≡ ds
+  pub replaces : (y : Desk) → y.number ≡ n → replaced y ds ≡ ds
+  pub puts : (y : Desk) → y.number ≡ n → put y ds ≡ ds ++ y ∷ []
+
+pub has_none : (n : ℕ) (ds : List Desk) → has (is_of n) ds ≡ false → HasNone n ds
+has_none n [] h = record { found = refl; left = refl; replaces = λ y f. refl; puts = λ y f. refl }
+has_none n (d ∷ ds) h = go (d.number == n) refl (λ f. has_none n ds f)
+  where
+    go : (b : Bool) → (d.number == n) ≡ b → (has (is_of n) ds ≡ false → HasNone n ds) → HasNone n (d ∷ ds)
+    go true e rest = let f : true ≡ false = rw e at h in absurd cc
+    go false e rest =
+        let r : HasNone n ds = rest (rw e at h) in
+        let other : (y : Desk) → y.number ≡ n → (d.number == y.number) ≡ false = λ y f. (ap (λ k. d.number == k) f ∙ e) in
+        let found : find (is_of n) ds ≡ None = r.found in
+        let left : without n ds ≡ ds = r.left in
+        record {
+          found = rw (e, found) refl;
+          left = rw (e, left) refl;
+          replaces = λ y f. rw (other y f) (ap (λ (xs : List Desk). d ∷ xs) (r.replaces y f));
+          puts = λ y f. rw (other y f) (ap (λ (xs : List Desk). d ∷ xs) (r.puts y f));
+        }
+
+-- the same where the search began at the first
+pub record FoundFirst (n place : ℕ) (ds : List Desk) : Type 0 where
+  pub desk : Desk
+  pub found : find (is_of n) ds ≡ Some desk
+  pub there : (d : Desk) → get_or ds place d ≡ desk
+  pub left : without n ds ≡ take place ds ++ drop (suc place) ds
+  pub replaces : (y : Desk) → y.number ≡ n → set ds place y ≡ replaced y ds
+  pub puts : (y : Desk) → y.number ≡ n → set ds place y ≡ put y ds
+
+pub found_first : (n place : ℕ) (ds shown : List Desk) → shown ≡ ds → Some place ≡ position_from (is_of n) 0 shown → FoundFirst n place ds
+found_first n place ds shown same e =
+    let f : Found n 0 place ds = found_at n 0 place ds (ap (position_from (is_of n) 0) (sym same) ∙ sym e) in
+    let at : f.place ≡ place = sym (f.is_place ∙ zero-add f.place) in
+    subst (λ i. FoundFirst n i ds) at (record { desk = f.desk; found = f.found; there = f.there; left = f.left; replaces = f.replaces; puts = f.puts })
+
+pub none_first : (n : ℕ) (ds shown : List Desk) → shown ≡ ds → None ≡ position_from (is_of n) 0 shown → HasNone n ds
+none_first n ds shown same e = has_none n ds (none_found n 0 ds (ap (position_from (is_of n) 0) (sym same) ∙ sym e))
+
+pub none_there : (n : ℕ) (ds shown : List Desk) → shown ≡ ds → None ≡ position_from (is_of n) 0 shown → has (is_of n) ds ≡ false
+none_there n ds shown same e = none_found n 0 ds (ap (position_from (is_of n) 0) (sym same) ∙ sym e)
 
 -- the desks that are left are the seat's, and so is the one that is found
 pub without_of : (s : Seat) (n : ℕ) (ds : List Desk) → AreDesksOf s ds → AreDesksOf s (without n ds)
@@ -65,9 +131,34 @@ found_of s n (d ∷ ds) x h e = go (d.number == n) refl (λ f. found_of s n ds x
     go true t rest = let f : Some d ≡ Some x = rw t at e in let d_is : d ≡ x = cc in subst (IsDeskOf s) d_is h.0
     go false t rest = rest (rw t at e)
 
-pub pushed_of : (s : Seat) (ds : List Desk) (x : Desk) → AreDesksOf s ds → IsDeskOf s x → AreDesksOf s (ds ++ x ∷ [])
-pushed_of s [] x h k = (k, tt)
-pushed_of s (d ∷ ds) x h k = (h.0, pushed_of s ds x h.1 k)
+pub replaced_of : (s : Seat) (x : Desk) (ds : List Desk) → AreDesksOf s ds → IsDeskOf s x → AreDesksOf s (replaced x ds)
+replaced_of s x [] h k = tt
+replaced_of s x (d ∷ ds) h k = go (d.number == x.number) refl (replaced_of s x ds h.1 k)
+  where
+    go : (b : Bool) → (d.number == x.number) ≡ b → AreDesksOf s (replaced x ds) → AreDesksOf s (replaced x (d ∷ ds))
+    go true e rest = rw e (k, h.1)
+    go false e rest = rw e (h.0, rest)
+
+pub put_of : (s : Seat) (x : Desk) (ds : List Desk) → AreDesksOf s ds → IsDeskOf s x → AreDesksOf s (put x ds)
+put_of s x [] h k = (k, tt)
+put_of s x (d ∷ ds) h k = go (d.number == x.number) refl (put_of s x ds h.1 k)
+  where
+    go : (b : Bool) → (d.number == x.number) ≡ b → AreDesksOf s (put x ds) → AreDesksOf s (put x (d ∷ ds))
+    go true e rest = rw e (k, h.1)
+    go false e rest = rw e (h.0, rest)
+
+-- the desk that is found, or the one in its place, is the seat's
+pub taken_of : (s : Seat) (n : ℕ) (ds : List Desk) (x : Desk) → AreDesksOf s ds → IsDeskOf s x → IsDeskOf s (unwrap_or (find (is_of n) ds) x)
+taken_of s n ds x h k = go (find (is_of n) ds) refl
+  where
+    go : (o : Option Desk) → find (is_of n) ds ≡ o → IsDeskOf s (unwrap_or (find (is_of n) ds) x)
+    go None e = rw e k
+    go (Some d) e = rw e (found_of s n ds d h e)
+
+-- a desk was put, or it was not
+pub put_or_not : {A E : Type 0} (s : Seat) (x : Desk) (ds after : List Desk) (r : Result A E) → AreDesksOf s ds → IsDeskOf s x → OnOk r (after ≡ put x ds) → OnErr r (after ≡ ds) → AreDesksOf s after
+put_or_not s x ds after (Ok u) h k e f = rw e (put_of s x ds h k)
+put_or_not s x ds after (Err u) h k e f = rw f h
 
 -- whose desk is found
 pub found_number : (n : ℕ) (ds : List Desk) (x : Desk) → find (is_of n) ds ≡ Some x → x.number ≡ n
@@ -124,43 +215,93 @@ distinct_without n (d ∷ ds) h = go (d.number == n) refl (distinct_without n ds
     go true e rest = rw e h.1
     go false e rest = rw e (has_without n d.number ds h.0, rest)
 
-pub has_push : {A : Type 0} (p : A → Bool) (xs : List A) (x : A) → has p xs ≡ false → has p (xs ++ x ∷ []) ≡ (p x || false)
-has_push p [] x h = refl
-has_push p (y ∷ ys) x h = go (p y) refl (λ f. has_push p ys x f)
-  where
-    go : (b : Bool) → p y ≡ b → (has p ys ≡ false → has p (ys ++ x ∷ []) ≡ (p x || false)) → has p (y ∷ (ys ++ x ∷ [])) ≡ (p x || false)
-    go true t rest = let f : true ≡ false = rw t at h in absurd cc
-    go false t rest = let f : has p (ys ++ x ∷ []) ≡ (p x || false) = rest (rw t at h) in rw (t, f) refl
+-- a desk that is put in the place of its number's is found there, and other numbers' desks stay
+module _ (d : Desk) where
+  itself : (d.number == d.number) ≡ true
+  itself = eq-eqb d.number d.number refl
 
-pub distinct_push : (ds : List Desk) (d : Desk) → AreDistinct ds → has (is_of d.number) ds ≡ false → AreDistinct (ds ++ d ∷ [])
-distinct_push [] d h k = (refl, tt)
-distinct_push (x ∷ xs) d h k = go (x.number == d.number) refl (λ f. distinct_push xs d h.1 f)
+  pub find_put_own : (ds : List Desk) → find (is_of d.number) (put d ds) ≡ Some d
+  find_put_own [] = let t : (d.number == d.number) ≡ true = itself in rw t refl
+  find_put_own (x ∷ xs) = go (x.number == d.number) refl (find_put_own xs)
+    where
+      go : (b : Bool) → (x.number == d.number) ≡ b → find (is_of d.number) (put d xs) ≡ Some d → find (is_of d.number) (put d (x ∷ xs)) ≡ Some d
+      go true h rest = let t : (d.number == d.number) ≡ true = itself in rw (h, t) refl
+      go false h rest = rw (h, h) rest
+
+  module _ (k : ℕ) (other : (d.number == k) ≡ false) where
+    same_number : (x : Desk) → (x.number == d.number) ≡ true → (x.number == k) ≡ false
+    same_number x h = ap (λ j. j == k) (eqb-true x.number d.number h) ∙ other
+
+    pub find_put_other : (ds : List Desk) → find (is_of k) (put d ds) ≡ find (is_of k) ds
+    find_put_other [] = rw other refl
+    find_put_other (x ∷ xs) = go (x.number == d.number) refl (find_put_other xs)
+      where
+        go : (b : Bool) → (x.number == d.number) ≡ b → find (is_of k) (put d xs) ≡ find (is_of k) xs → find (is_of k) (put d (x ∷ xs)) ≡ find (is_of k) (x ∷ xs)
+        go true h rest = let s : (x.number == k) ≡ false = same_number x h in rw (h, other, s) refl
+        go false h rest = rw (h, rest) refl
+
+    pub has_put_other : (ds : List Desk) → has (is_of k) (put d ds) ≡ has (is_of k) ds
+    has_put_other [] = rw other refl
+    has_put_other (x ∷ xs) = go (x.number == d.number) refl (has_put_other xs)
+      where
+        go : (b : Bool) → (x.number == d.number) ≡ b → has (is_of k) (put d xs) ≡ has (is_of k) xs → has (is_of k) (put d (x ∷ xs)) ≡ has (is_of k) (x ∷ xs)
+        go true h rest = let s : (x.number == k) ≡ false = same_number x h in rw (h, other, s) refl
+        go false h rest = rw (h, rest) refl
+
+pub distinct_put : (d : Desk) (ds : List Desk) → AreDistinct ds → AreDistinct (put d ds)
+distinct_put d [] h = (refl, tt)
+distinct_put d (x ∷ xs) h = go (x.number == d.number) refl (distinct_put d xs h.1)
   where
     turned : (x.number == d.number) ≡ false → (d.number == x.number) ≡ false
     turned e = ne_eqb d.number x.number (λ f. let t : (x.number == d.number) ≡ true = eq-eqb x.number d.number (sym f) in let g : true ≡ false = sym t ∙ e in cc)
 
-    go : (b : Bool) → (x.number == d.number) ≡ b → (has (is_of d.number) xs ≡ false → AreDistinct (xs ++ d ∷ [])) → AreDistinct (x ∷ (xs ++ d ∷ []))
-    go true t rest = let f : true ≡ false = rw t at k in absurd cc
-    go false t rest =
-        let s : (d.number == x.number) ≡ false = turned t in
-        let f : has (is_of d.number) xs ≡ false = rw t at k in
-        (has_push (is_of x.number) xs d h.0 ∙ rw s refl, rest f)
+    go : (b : Bool) → (x.number == d.number) ≡ b → AreDistinct (put d xs) → AreDistinct (put d (x ∷ xs))
+    go true e rest = rw e (subst (λ k. has (is_of k) xs ≡ false) (eqb-true x.number d.number e) h.0, h.1)
+    go false e rest = rw e (has_put_other d x.number (turned e) xs ∙ h.0, rest)
 
-pub find_push_other : (k : ℕ) (ds : List Desk) (d : Desk) → (d.number == k) ≡ false → find (is_of k) (ds ++ d ∷ []) ≡ find (is_of k) ds
-find_push_other k [] d e = rw e refl
-find_push_other k (x ∷ xs) d e = go (x.number == k) refl (find_push_other k xs d e)
-  where
-    go : (b : Bool) → (x.number == k) ≡ b → find (is_of k) (xs ++ d ∷ []) ≡ find (is_of k) xs → find (is_of k) (x ∷ (xs ++ d ∷ [])) ≡ find (is_of k) (x ∷ xs)
-    go true t rest = rw t refl
-    go false t rest = rw (t, rest) refl
+-- what stands in a desk's place until it is put back leaves no trace
+module _ (e : Desk) (n : ℕ) (own : e.number ≡ n) where
+  its_own : (e.number == n) ≡ true
+  its_own = eq-eqb e.number n own
 
-pub find_push_own : (ds : List Desk) (d : Desk) → has (is_of d.number) ds ≡ false → find (is_of d.number) (ds ++ d ∷ []) ≡ Some d
-find_push_own [] d h = let t : (d.number == d.number) ≡ true = eq-eqb d.number d.number refl in rw t refl
-find_push_own (x ∷ xs) d h = go (x.number == d.number) refl (λ f. find_push_own xs d f)
-  where
-    go : (b : Bool) → (x.number == d.number) ≡ b → (has (is_of d.number) xs ≡ false → find (is_of d.number) (xs ++ d ∷ []) ≡ Some d) → find (is_of d.number) (x ∷ (xs ++ d ∷ [])) ≡ Some d
-    go true t rest = let f : true ≡ false = rw t at h in absurd cc
-    go false t rest = let f : find (is_of d.number) (xs ++ d ∷ []) ≡ Some d = rest (rw t at h) in rw (t, f) refl
+  as_its : (x : Desk) (b : Bool) → (x.number == e.number) ≡ b → (x.number == n) ≡ b
+  as_its x b h = ap (λ k. x.number == k) (sym own) ∙ h
+
+  pub put_replaced : (d : Desk) → d.number ≡ n → (ds : List Desk) → put d (replaced e ds) ≡ put d ds
+  put_replaced d f [] = refl
+  put_replaced d f (x ∷ xs) = go (x.number == e.number) refl (put_replaced d f xs)
+    where
+      to_d : (k : ℕ) (b : Bool) → (k == n) ≡ b → (k == d.number) ≡ b
+      to_d k b h = ap (λ j. k == j) f ∙ h
+
+      go : (b : Bool) → (x.number == e.number) ≡ b → put d (replaced e xs) ≡ put d xs → put d (replaced e (x ∷ xs)) ≡ put d (x ∷ xs)
+      go true h rest =
+          let i : (e.number == d.number) ≡ true = to_d e.number true its_own in
+          let s : (x.number == d.number) ≡ true = to_d x.number true (as_its x true h) in
+          rw (h, i, s) refl
+      go false h rest = let s : (x.number == d.number) ≡ false = to_d x.number false (as_its x false h) in rw (h, s, rest) refl
+
+  pub without_replaced : (ds : List Desk) → without n (replaced e ds) ≡ without n ds
+  without_replaced [] = refl
+  without_replaced (x ∷ xs) = go (x.number == e.number) refl (without_replaced xs)
+    where
+      go : (b : Bool) → (x.number == e.number) ≡ b → without n (replaced e xs) ≡ without n xs → without n (replaced e (x ∷ xs)) ≡ without n (x ∷ xs)
+      go true h rest =
+          let i : (e.number == n) ≡ true = its_own in
+          let s : (x.number == n) ≡ true = as_its x true h in
+          rw (h, i, s) refl
+      go false h rest = let s : (x.number == n) ≡ false = as_its x false h in rw (h, s, rest) refl
+
+  pub has_replaced : (ds : List Desk) → has (is_of n) (replaced e ds) ≡ has (is_of n) ds
+  has_replaced [] = refl
+  has_replaced (x ∷ xs) = go (x.number == e.number) refl (has_replaced xs)
+    where
+      go : (b : Bool) → (x.number == e.number) ≡ b → has (is_of n) (replaced e xs) ≡ has (is_of n) xs → has (is_of n) (replaced e (x ∷ xs)) ≡ has (is_of n) (x ∷ xs)
+      go true h rest =
+          let i : (e.number == n) ≡ true = its_own in
+          let s : (x.number == n) ≡ true = as_its x true h in
+          rw (h, i, s) refl
+      go false h rest = let s : (x.number == n) ≡ false = as_its x false h in rw (h, s, rest) refl
 
 found_has : (n : ℕ) (ds : List Desk) (x : Desk) → find (is_of n) ds ≡ Some x → has (is_of n) ds ≡ true
 found_has n [] x e = absurd cc

@@ -10,8 +10,8 @@ use Rattle.protocol.specs.Proposals.{was_released}
 use Rattle.learner.specs.Latest.{OtherMarksPass as OtherVotesPass}
 use Rattle.proposer.specs.InHand.{OtherMarksPass as OtherProposalsPass}
 use Rattle.node_core.specs.declared.desk.Desk.{Desk}
-use Rattle.node_core.specs.Standing.{Core, StandsFor, DeskStands, IsLeft, Grows, is_of, without, desk_of, with_desk}
-use Rattle.node_core.proofs.Finding.{has_without, none_left, distinct_without, distinct_push, has_push, find_push_other, find_push_own, find_other, desk_number}
+use Rattle.node_core.specs.Standing.{Core, StandsFor, DeskStands, IsLeft, Grows, fresh, is_of, put, replaced, without, desk_of, with_desk}
+use Rattle.node_core.proofs.Finding.{has_without, none_left, distinct_without, distinct_put, has_put_other, find_put_other, find_put_own, find_other, desk_number, put_replaced, without_replaced}
 use Rattle.node_core.proofs.Passing.{other_released, other_desk}
 
 yes_or_no : {A : Type 0} (b c : Bool) → b ≡ true → b ≡ false → A
@@ -53,28 +53,27 @@ module _ (votes : OtherVotesPass) (proposals : OtherProposalsPass) (v : Core) (m
         go true e = let is : d.number ≡ k = eqb-true d.number k e in h.released k ∙ subst (λ j. was_released j marks ≡ was_released j after) is (u ∙ sym s.unreleased)
         go false e = h.released k ∙ sym (stays_released k e)
 
-    put_gone : (k : ℕ) → was_released k after ≡ true → has (is_of k) (without d.number v.desks ++ d ∷ []) ≡ false
+    put_gone : (k : ℕ) → was_released k after ≡ true → has (is_of k) (put d v.desks) ≡ false
     put_gone k f = go (d.number == k) refl
       where
-        go : (b : Bool) → (d.number == k) ≡ b → has (is_of k) (without d.number v.desks ++ d ∷ []) ≡ false
+        go : (b : Bool) → (d.number == k) ≡ b → has (is_of k) (put d v.desks) ≡ false
         go true e = let is : d.number ≡ k = eqb-true d.number k e in yes_or_no (was_released k after) true f (subst (λ j. was_released j after ≡ false) is s.unreleased)
-        go false e = has_push (is_of k) (without d.number v.desks) d (stays_gone k e f) ∙ rw e refl
+        go false e = has_put_other d k e v.desks ∙ h.gone k (sym (stays_released k e) ∙ f)
 
-    put_in_hand : (k : ℕ) → was_released k after ≡ false → DeskStands (desk_of v.members k (without d.number v.desks ++ d ∷ [])) after
+    put_in_hand : (k : ℕ) → was_released k after ≡ false → DeskStands (desk_of v.members k (put d v.desks)) after
     put_in_hand k f = go (d.number == k) refl
       where
-        go : (b : Bool) → (d.number == k) ≡ b → DeskStands (desk_of v.members k (without d.number v.desks ++ d ∷ [])) after
+        go : (b : Bool) → (d.number == k) ≡ b → DeskStands (desk_of v.members k (put d v.desks)) after
         go true e =
             let is : d.number ≡ k = eqb-true d.number k e in
-            let own : find (is_of d.number) (without d.number v.desks ++ d ∷ []) ≡ Some d = find_push_own (without d.number v.desks) d (none_left d.number v.desks h.distinct) in
-            let own_k : find (is_of k) (without d.number v.desks ++ d ∷ []) ≡ Some d = subst (λ j. find (is_of j) (without d.number v.desks ++ d ∷ []) ≡ Some d) is own in
-            rw own_k s
+            let own : find (is_of k) (put d v.desks) ≡ Some d = subst (λ j. find (is_of j) (put d v.desks) ≡ Some d) is (find_put_own d v.desks) in
+            rw own s
         go false e =
-            let same : find (is_of k) (without d.number v.desks ++ d ∷ []) ≡ find (is_of k) v.desks = find_push_other k (without d.number v.desks) d e ∙ find_other d.number k e v.desks in
+            let same : find (is_of k) (put d v.desks) ≡ find (is_of k) v.desks = find_put_other d k e v.desks in
             rw same (stays_in_hand k e f)
 
-    pub put_back : StandsFor (record v { desks = without d.number v.desks ++ d ∷ [] }) after
-    put_back = record { unfailed = h.unfailed; released = put_released; distinct = distinct_push (without d.number v.desks) d (distinct_without d.number v.desks h.distinct) (none_left d.number v.desks h.distinct); gone = put_gone; desks = put_in_hand }
+    pub put_back : StandsFor (record v { desks = put d v.desks }) after
+    put_back = record { unfailed = h.unfailed; released = put_released; distinct = distinct_put d v.desks h.distinct; gone = put_gone; desks = put_in_hand }
 
   -- the number was released
   module _ (r : was_released d.number after ≡ true) where
@@ -104,18 +103,23 @@ module _ (votes : OtherVotesPass) (proposals : OtherProposalsPass) (v : Core) (m
     pub noted : StandsFor (record v { desks = without d.number v.desks; released = v.released ++ d.number ∷ [] }) after
     noted = record { unfailed = h.unfailed; released = noted_released; distinct = distinct_without d.number v.desks h.distinct; gone = noted_gone; desks = noted_in_hand }
 
-  pub kept : (release : Option Tape) (is_released : Bool) → is_some release ≡ is_released → IsLeft d release after → StandsFor (with_desk (record v { desks = without d.number v.desks }) d is_released) after
+  pub kept : (release : Option Tape) (is_released : Bool) → is_some release ≡ is_released → IsLeft d release after → StandsFor (with_desk v d is_released) after
   kept None true e left = absurd cc
   kept None false e left = put_back left
   kept (Some t) true e left = noted left
   kept (Some t) false e left = absurd cc
+
+-- what stood in the desk's place leaves no trace
+with_replaced : (v : Core) (d : Desk) (n : ℕ) (is_released : Bool) → d.number ≡ n → with_desk (record v { desks = replaced (fresh v.members n) v.desks }) d is_released ≡ with_desk v d is_released
+with_replaced v d n false number = ap (λ (ds : List Desk). let w : Core = record v { desks = ds } in w) (put_replaced (fresh v.members n) n refl d number v.desks)
+with_replaced v d n true number = ap (λ (ds : List Desk). let w : Core = record v { desks = ds; released = v.released ++ d.number ∷ [] } in w) (without_replaced (fresh v.members n) d.number (sym number) v.desks)
 
 -- the same, where the desk's number is given
 pub kept_at :
     (votes : OtherVotesPass) (proposals : OtherProposalsPass) (v : Core) (marks after : List Mark) (d : Desk) (n : ℕ) → d.number ≡ n
     → StandsFor v marks → was_released n marks ≡ false → Grows n marks after
     → (release : Option Tape) (is_released : Bool) → is_some release ≡ is_released → IsLeft d release after
-    → StandsFor (with_desk (record v { desks = without n v.desks }) d is_released) after
+    → StandsFor (with_desk (record v { desks = replaced (fresh v.members n) v.desks }) d is_released) after
 kept_at votes proposals v marks after d n number h u g release is_released e left =
-    subst (λ k. StandsFor (with_desk (record v { desks = without k v.desks }) d is_released) after) number
+    subst (λ (w : Core). StandsFor w after) (sym (with_replaced v d n is_released number))
     (kept votes proposals v marks after d h (subst (λ k. was_released k marks ≡ false) (sym number) u) (subst (λ k. Grows k marks after) (sym number) g) release is_released e left)

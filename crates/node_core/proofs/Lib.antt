@@ -9,3 +9,4 @@ pub mod Telling
 pub mod Calling
 pub mod Orders
 pub mod Dueing
+pub mod Stirring

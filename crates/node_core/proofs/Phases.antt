@@ -1,6 +1,6 @@
 -- Lemmas on the lines of the turn.
 use Rattle.std.proofs.Common.{◌≡◌, ℕ, suc, refl, sym, ap, subst, ◌∙◌, List, [], ◌∷◌, Option, Some, None, Bool, true, false, Result, Ok, Err, arith}
-use Rattle.std.specs.Prelude.{IfOk, OnOk, ◌==◌, nat_lt, nat_le}
+use Rattle.std.specs.Prelude.{IfOk, IfErr, OnOk, OnErr, ◌==◌, nat_lt, nat_le}
 use Rattle.std.proofs.lemmas.Bool.{eq-eqb}
 use Rattle.std.proofs.lemmas.Bool.Decides.{nat_tests}
 use Rattle.protocol.specs.Lists.{has}
@@ -29,6 +29,18 @@ on_ok (Err e) P Q h f = tt
 pub when_ok : {A E : Type 0} (r : Result A E) (P Q : Type 0) → OnOk r P → (P → Q) → OnOk r Q
 when_ok (Ok x) P Q h f = f h
 when_ok (Err e) P Q h f = tt
+
+pub when_err : {A E : Type 0} (r : Result A E) (P Q : Type 0) → OnErr r P → (P → Q) → OnErr r Q
+when_err (Ok x) P Q h f = tt
+when_err (Err e) P Q h f = f h
+
+pub if_err : {A E : Type 0} (r : Result A E) (P Q : E → Type 0) → IfErr r P → ((e : E) → P e → Q e) → IfErr r Q
+if_err (Ok x) P Q h f = tt
+if_err (Err e) P Q h f = f e h
+
+pub on_any_err : {A E : Type 0} (r : Result A E) (Q : Type 0) → Q → OnErr r Q
+on_any_err (Ok x) Q q = tt
+on_any_err (Err e) Q q = q
 
 abbrev pub opening : Ballot → Option Tape → Option Vote → ℕ → Opening
 opening b own report now = record { ballot = b; own = own; report = report; now = now }

@@ -1,16 +1,16 @@
 -- The same lines, told of the core's own seat and number.
-use Rattle.std.proofs.Common.{◌≡◌, ℕ, refl, ap, subst, ◌∙◌, List, [], ◌++◌, Option, Some, None, Bool, true, false}
+use Rattle.std.proofs.Common.{sym, ◌≡◌, ℕ, refl, ap, subst, ◌∙◌, List, [], ◌++◌, Option, Some, None, Bool, true, false}
 use Rattle.std.specs.Prelude.{is_some, MatchBool}
 use Rattle.protocol.specs.Ballots.{Ballot}
 use Rattle.protocol.specs.Rows.{Tape, Vote, Row}
 use Rattle.protocol.specs.Packets.{Packet, Accepted}
 use Rattle.protocol.specs.Marks.{Mark}
-use Rattle.protocol.specs.Proposals.{Opening, was_released, open_proposal, open_ballot, opening_ballot}
+use Rattle.protocol.specs.Proposals.{Opening, is_due_number, was_released, open_proposal, open_ballot, opening_ballot}
 use Rattle.protocol.specs.Turn.{begin, due_turn, promise_turn, hear, to_others}
 use Rattle.node_core.specs.Seats.{Seat}
 use Rattle.node_core.specs.declared.desk.Desk.{Desk}
 use Rattle.node_core.specs.declared.turn.Turn.{Turn}
-use Rattle.node_core.specs.Standing.{Answers, Core, StandsFor, without}
+use Rattle.node_core.specs.Standing.{Answers, Core, StandsFor, fresh, replaced}
 use Rattle.node_core.proofs.Phases.{none_at, some_at}
 
 pub due_told : (s z : Seat) (j n now : ℕ) (marks : List Mark) (row : Row) (x : Turn) (d : Desk) → s ≡ z → j ≡ n → Answers row (due_turn s.circuit s.members s.me j now marks row (open_proposal j marks)) x d → Answers row (due_turn z.circuit z.members z.me n now marks row (open_proposal n marks)) x d
@@ -27,8 +27,8 @@ begin_told s z j n b own now marks row x d e f a =
     (subst (λ (y : Seat). Answers row (begin y.circuit y.members y.me j b own now marks row) x d) e a)
 
 -- what is left where n's desk is taken out
-pub left_without : (v w : Core) (j n : ℕ) → j ≡ n → w ≡ record v { desks = without j v.desks } → w ≡ record v { desks = without n v.desks }
-left_without v w j n e f = f ∙ ap (λ i. let u : Core = record v { desks = without i v.desks } in u) e
+pub left_without : (v w : Core) (j n : ℕ) → j ≡ n → w ≡ record v { desks = replaced (fresh v.members j) v.desks } → w ≡ record v { desks = replaced (fresh v.members n) v.desks }
+left_without v w j n e f = f ∙ ap (λ i. let u : Core = record v { desks = replaced (fresh v.members i) v.desks } in u) e
 
 is_open : (p : Option Opening) (b : Ballot) → Some b ≡ opening_ballot p → is_some p ≡ true
 is_open None b e = absurd cc
@@ -54,3 +54,6 @@ others_told s z j n b a t u old out e f g h is_new o =
     o ∙ ap (λ (xs : List Packet). xs ++ to_others s.circuit s.members s.me j b (Accepted t)) is_new
     ∙ ap (λ (y : Seat). to_others y.circuit y.members y.me j b (Accepted t)) e ∙ ap (λ i. to_others z.circuit z.members z.me i b (Accepted t)) f
     ∙ ap (λ (x : Ballot). to_others z.circuit z.members z.me n x (Accepted t)) g ∙ ap (λ (x : Tape). to_others z.circuit z.members z.me n a (Accepted x)) h
+
+pub is_due_told : (s z : Seat) (j n now : ℕ) (marks : List Mark) → s ≡ z → j ≡ n → is_due_number s.me now marks j ≡ true → is_due_number z.me now marks n ≡ true
+is_due_told s z j n now marks e f d = ap (λ (y : Seat). is_due_number y.me now marks n) (sym e) ∙ ap (is_due_number s.me now marks) (sym f) ∙ d

@@ -1,5 +1,6 @@
 pub mod Calls
 pub mod Dues
+pub mod Memory
 pub mod Seats
 pub mod Standing
 pub mod Turns

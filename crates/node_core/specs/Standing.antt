@@ -47,6 +47,16 @@ abbrev pub without : ℕ → List Desk → List Desk
 without n [] = []
 without n (d ∷ ds) = if d.number == n then ds else d ∷ without n ds
 
+-- the desks, where d stands in the place of the first of its number
+abbrev pub replaced : Desk → List Desk → List Desk
+replaced d [] = []
+replaced d (x ∷ xs) = if x.number == d.number then d ∷ xs else x ∷ replaced d xs
+
+-- the desks, where d stands in the place of the first of its number, or else behind them all
+abbrev pub put : Desk → List Desk → List Desk
+put d [] = d ∷ []
+put d (x ∷ xs) = if x.number == d.number then d ∷ xs else x ∷ put d xs
+
 -- what is in hand of n
 abbrev pub desk_of : ℕ → ℕ → List Desk → Desk
 desk_of c n desks = unwrap_or (find (is_of n) desks) (fresh c n)
@@ -117,8 +127,8 @@ pub record Grows (n : ℕ) (before after : List Mark) : Type 0 where
 
 -- the core where a desk is put back, or its number is noted as released
 abbrev pub with_desk : Core → Desk → Bool → Core
-with_desk v d false = record v { desks = v.desks ++ d ∷ [] }
-with_desk v d true = record v { released = v.released ++ d.number ∷ [] }
+with_desk v d false = record v { desks = put d v.desks }
+with_desk v d true = record v { desks = without d.number v.desks; released = v.released ++ d.number ∷ [] }
 
 -- the two sit on one seat
 pub record IsSameSeat (old new : Core) : Type 0 where

@@ -1,6 +1,6 @@
 //! What is in hand of one number: its proposal, if one is open, and the votes that were heard.
 
-ghost use Rattle.std.specs.Prelude.{◌≡◌, ◌≤◌, ℕ, List, [], ◌∷◌, Option, Some, None, IfOk, IfSome, OnOk, Ok, MatchBool, true, false, if◌then◌else◌};
+ghost use Rattle.std.specs.Prelude.{◌≡◌, ◌≤◌, ℕ, List, [], ◌∷◌, Option, Some, None, IfOk, IfSome, OnOk, OnErr, Ok, MatchBool, true, false, if◌then◌else◌};
 ghost use Rattle.protocol.specs.Ballots.{Ballot as BallotValue, next};
 ghost use Rattle.protocol.specs.Rows.{Row as RowValue, Tape as TapeValue, raised};
 ghost use Rattle.protocol.specs.Marks.{Mark, Began, Proposed, Denied, Closed};
@@ -8,8 +8,9 @@ ghost use Rattle.protocol.specs.Acceptor.{is_above};
 ghost use Rattle.protocol.specs.Proposals.{Opening, open_proposal, open_ballot, proposal_at, gathering_at, since_began, counted, pick, is_due_number};
 ghost use Rattle.protocol.specs.Turn.{hear, propose, begin, due_turn, promise_turn, nack_turn};
 ghost use Rattle.proposer.specs.InHand.{StandsFor as ProposalStandsFor};
-ghost use Rattle.proposer.specs.Answers.{IsCountedAs, marks_after_promise, IsDueAnswer, IsOwnAndAbove, marks_after_due};
+ghost use Rattle.proposer.specs.Answers.{IsNew, IsCountedAs, marks_after_promise, IsDueAnswer, IsOwnAndAbove, marks_after_due};
 ghost use Rattle.node_core.specs.Standing.{DeskStands, fresh, IsDeskOf, IsLeft, Answers};
+ghost use Rattle.node_core.specs.Memory.{IsStill};
 ghost use Rattle.node_core.specs.Seats.{Seat as SeatValue};
 ghost use Rattle.node_core.specs.Turns.{HasPromise, IsOrderly};
 
@@ -272,6 +273,7 @@ impl Desk {
         requires from { from ≤ seat.members }
         ensures kind { IfOk result (λ kind. (marks : List Mark) → DeskStands self.old marks → IsCountedAs kind seat.members seat.me self.old.number ballot from report.entry marks) }
         ensures stands { IfOk result (λ kind. (marks : List Mark) → DeskStands self.old marks → DeskStands self.new (marks_after_promise kind self.old.number from ballot report.entry marks)) }
+        ensures memory { OnErr result ((marks : List Mark) → DeskStands self.old marks → IsNew seat.me self.old.number ballot from marks) }
         ensures of { IsDeskOf seat self.new }
         ensures number { self.new.number ≡ self.old.number }
     {
@@ -298,6 +300,7 @@ impl Desk {
         requires owner { packet.now.ballot.owner ≡ seat.me }
         ensures turn { IfOk result (λ x. (marks : List Mark) → DeskStands self.old marks → Answers row.now (promise_turn seat.circuit seat.members seat.me now marks row.now packet.now report.entry (gathering_at packet.now.number packet.now.ballot marks)) x self.new) }
         ensures orderly { IfOk result (λ x. IsOrderly x) }
+        ensures memory { OnErr result ((marks : List Mark) → DeskStands self.old marks → ¬ IsStill row.now marks (promise_turn seat.circuit seat.members seat.me now marks row.now packet.now report.entry (gathering_at packet.now.number packet.now.ballot marks))) }
         ensures of { IsDeskOf seat self.new }
         ensures number { self.new.number ≡ self.old.number }
     {
@@ -378,12 +381,16 @@ impl Desk {
         requires { IsDeskOf seat self.old }
         ensures turn { IfOk result (λ x. (marks : List Mark) → DeskStands self.old marks → Answers row.now (due_turn seat.circuit seat.members seat.me self.old.number now marks row.now (open_proposal self.old.number marks)) x self.new) }
         ensures orderly { IfOk result (λ x. IsOrderly x) }
+        ensures memory { OnErr result ((marks : List Mark) → DeskStands self.old marks → is_due_number seat.me now marks self.old.number ≡ true) }
         ensures of { IsDeskOf seat self.new }
         ensures number { self.new.number ≡ self.old.number }
     {
         let Some(last) = self.open_ballot() else {
             return Ok(Turn::quiet(alloc, Note::Idle));
         };
+        if !self.is_due(now) {
+            return Ok(Turn::quiet(alloc, Note::Idle));
+        }
         let report = copied(alloc, row.vote())?;
         match self.renew(seat, row.promised(), report, now)? {
             DueAnswer::Wait => Ok(Turn::quiet(alloc, Note::Idle)),

@@ -1,18 +1,20 @@
 //! The core of a station: all that it took in since its start, and the turn that it takes at each event.
 
-ghost use Rattle.std.specs.Prelude.{◌≡◌, ◌≤◌, ◌==◌, ℕ, List, [], ◌∷◌, ◌++◌, Option, Some, None, Err, IfOk, IfErr, OnOk, MatchBool, IsTrue, IsSome, IfSome, true, false, length, is_some};
+ghost use Rattle.std.specs.Prelude.{◌≡◌, ◌≤◌, ◌==◌, ℕ, List, [], ◌∷◌, ◌++◌, Option, Some, None, Err, IfOk, IfErr, OnOk, OnErr, MatchBool, IsTrue, IsSome, IfSome, true, false, length, is_some};
 ghost use Rattle.std.specs.List.{list_any};
 ghost use Rattle.protocol.specs.Ballots.{Ballot as BallotValue, next};
 ghost use Rattle.protocol.specs.Rows.{Tape as TapeValue, Row as RowValue};
+ghost use Rattle.protocol.specs.Lists.{has};
 ghost use Rattle.protocol.specs.Marks.{Mark, Began};
 ghost use Rattle.protocol.specs.Proposals.{was_released, open_ballot, open_proposal, next_due, gathering_at, proposal_at};
 ghost use Rattle.protocol.specs.Turn.{hear, begin, due_turn, promise_turn, nack_turn, accepted_turn, accept_turn, prepare_turn, packet_turn, vote_turn, turn, Note as NoteValue};
-ghost use Rattle.node_core.specs.Standing.{Core, StandsFor, DeskStands, IsDeskOf, IsLeft, Grows, Took, IsSameSeat, seat_of, desk_of, without, with_desk};
+ghost use Rattle.node_core.specs.Standing.{Core, StandsFor, DeskStands, IsDeskOf, IsLeft, Grows, Took, IsSameSeat, seat_of, desk_of, is_of, fresh, replaced, with_desk};
 ghost use Rattle.protocol.specs.Packets.{Accept as AcceptBody};
 ghost use Rattle.packets.specs.Rules.{keeps_rules};
 ghost use Rattle.protocol.specs.Acceptor.{is_above};
 ghost use Rattle.proposer.specs.InHand.{StandsFor as ProposalStandsFor};
 ghost use Rattle.node_core.specs.Calls.{IsForMember, IsFree, Started, RefusesToStart, MayCome, TookTurn, RefusesEvent, Refuses};
+ghost use Rattle.node_core.specs.Memory.{IsStill, MayBegin, MayTakeMemory};
 ghost use Rattle.node_core.specs.Turns.{event_value, note_value, IsTurn, IsRowAfter, HasPromise, IsOrderly};
 
 use crate::desk::Desk;
@@ -25,7 +27,7 @@ use crate::{desks, voting};
 use acceptor::AcceptAnswer;
 use ballots::{Ballot, Member, Number, Row, VoteRef};
 use packets::{BodyRef, Packet, PacketRef};
-use proposer::{BeginRefusal, Proposal};
+use proposer::Proposal;
 use std::alloc::{AllocError, Global};
 use std::marker::Model;
 use tape_frames::{Tape, TapeRef};
@@ -168,35 +170,35 @@ impl NodeCore {
     /// Takes the number's desk out, or makes one.
     fn desk(&mut self, number: Number) -> Desk
         ensures desk { result ≡ desk_of self.old.members number self.old.desks }
-        ensures left { self.new ≡ record self.old { desks = without number self.old.desks } }
+        ensures left { self.new ≡ record self.old { desks = replaced (fresh self.old.members number) self.old.desks } }
         ensures of { IsDeskOf (seat_of self.old) result }
         ensures number { result.number ≡ number }
         ensures stands { (marks : List Mark) → StandsFor self.old marks → was_released number marks ≡ false → DeskStands result marks }
     {
-        match desks::take(&mut self.desks, number) {
-            Some(desk) => desk,
-            None => Desk::new(self.alloc, number, self.seat),
-        }
+        let fresh = Desk::new(self.alloc, number, self.seat);
+        desks::take(&mut self.desks, fresh)
     }
 
     /// Puts the desk back, or notes its number as released.
     fn keep(&mut self, desk: Desk, is_released: bool) -> Result<(), AllocError>
         requires { IsDeskOf (seat_of self.old) desk }
         ensures kept { OnOk result (self.new ≡ with_desk self.old desk is_released) }
+        ensures memory { OnErr result (is_released ≡ false → has (is_of desk.number) self.old.desks ≡ false) }
         ensures seat { IsSameSeat self.old self.new }
     {
         if is_released {
             self.released.push(desk.number)?;
-        } else {
-            self.desks.push(desk)?;
+            desks::remove(&mut self.desks, desk.number);
+            return Ok(());
         }
-        Ok(())
+        desks::put(&mut self.desks, desk)
     }
 
     /// Puts the desk back with what its turn left in it.
     fn settle(&mut self, desk: Desk, is_released: bool) -> Result<(), AllocError>
         requires { IsDeskOf (seat_of self.old) desk }
-        ensures stands { OnOk result ((before : Core) (n : ℕ) (marks after : List Mark) (release : Option TapeValue) → desk.number ≡ n → self.old ≡ record before { desks = without n before.desks } → StandsFor before marks → was_released n marks ≡ false → Grows n marks after → is_some release ≡ is_released → IsLeft desk release after → StandsFor self.new after) }
+        ensures stands { OnOk result ((before : Core) (n : ℕ) (marks after : List Mark) (release : Option TapeValue) → desk.number ≡ n → self.old ≡ record before { desks = replaced (fresh before.members n) before.desks } → StandsFor before marks → was_released n marks ≡ false → Grows n marks after → is_some release ≡ is_released → IsLeft desk release after → StandsFor self.new after) }
+        ensures memory { OnErr result ((before : Core) (n : ℕ) → desk.number ≡ n → self.old ≡ record before { desks = replaced (fresh before.members n) before.desks } → is_released ≡ false → has (is_of n) before.desks ≡ false) }
         ensures seat { IsSameSeat self.old self.new }
     {
         // Marks of one number change nothing that is read of another.
@@ -216,6 +218,7 @@ impl NodeCore {
         requires { member ≤ self.old.members }
         ensures release { IfOk result (λ release. (marks : List Mark) → StandsFor self.old marks → release ≡ (hear self.old.members number member ballot tape.entry marks).release) }
         ensures stands { OnOk result ((marks : List Mark) → StandsFor self.old marks → StandsFor self.new (hear self.old.members number member ballot tape.entry marks).marks) }
+        ensures memory { OnErr result ((marks : List Mark) → StandsFor self.old marks → was_released number marks ≡ false) }
         ensures seat { IsSameSeat self.old self.new }
     {
         if self.released(number) {
@@ -252,6 +255,7 @@ impl NodeCore {
     fn due(&mut self, number: Number, now: u64, row: &Row) -> Result<Turn, AllocError>
         ensures turn { IfOk result (λ x. (marks : List Mark) → StandsFor self.old marks → Took row.now (due_turn self.old.circuit self.old.members self.old.me number now marks row.now (open_proposal number marks)) x self.new) }
         ensures orderly { IfOk result (λ x. IsOrderly x) }
+        ensures memory { OnErr result ((marks : List Mark) → StandsFor self.old marks → ¬ IsStill row.now marks (due_turn self.old.circuit self.old.members self.old.me number now marks row.now (open_proposal number marks))) }
         ensures seat { IsSameSeat self.old self.new }
     {
         if !self.is_open(number) {
@@ -276,6 +280,7 @@ impl NodeCore {
         requires owner { packet.now.ballot.owner ≡ self.old.me }
         ensures turn { IfOk result (λ x. (marks : List Mark) → StandsFor self.old marks → Took row.now (promise_turn self.old.circuit self.old.members self.old.me now marks row.now packet.now report.entry (gathering_at packet.now.number packet.now.ballot marks)) x self.new) }
         ensures orderly { IfOk result (λ x. IsOrderly x) }
+        ensures memory { OnErr result ((marks : List Mark) → StandsFor self.old marks → ¬ IsStill row.now marks (promise_turn self.old.circuit self.old.members self.old.me now marks row.now packet.now report.entry (gathering_at packet.now.number packet.now.ballot marks))) }
         ensures seat { IsSameSeat self.old self.new }
     {
         let number = packet.number();
@@ -293,6 +298,7 @@ impl NodeCore {
     fn nack(&mut self, packet: &PacketRef<'_>, promised: Ballot) -> Result<Turn, AllocError>
         ensures turn { IfOk result (λ x. (row : RowValue) (marks : List Mark) → StandsFor self.old marks → Took row (nack_turn marks row packet.now promised (proposal_at packet.now.number packet.now.ballot marks)) x self.new) }
         ensures orderly { IfOk result (λ x. IsOrderly x) }
+        ensures memory { OnErr result ((row : RowValue) (marks : List Mark) → StandsFor self.old marks → ¬ IsStill row marks (nack_turn marks row packet.now promised (proposal_at packet.now.number packet.now.ballot marks))) }
         ensures seat { IsSameSeat self.old self.new }
     {
         let number = packet.number();
@@ -310,6 +316,7 @@ impl NodeCore {
         requires { packet.now.from ≤ self.old.members }
         ensures turn { IfOk result (λ x. (row : RowValue) (marks : List Mark) → StandsFor self.old marks → Took row (accepted_turn self.old.members marks row packet.now tape.entry) x self.new) }
         ensures orderly { IfOk result (λ x. IsOrderly x) }
+        ensures memory { OnErr result ((row : RowValue) (marks : List Mark) → StandsFor self.old marks → ¬ IsStill row marks (accepted_turn self.old.members marks row packet.now tape.entry)) }
         ensures seat { IsSameSeat self.old self.new }
     {
         let number = packet.number();
@@ -363,12 +370,16 @@ impl NodeCore {
         row: &Row,
     ) -> Result<Turn, AllocError>
         requires to { packet.now.to ≡ self.old.me }
+        requires from { packet.now.from ≤ self.old.members }
         requires rules { IsTrue (keeps_rules packet.now) }
         requires kind { packet.now.body ≡ AcceptBody tape }
         ensures turn { IfOk result (λ x. (marks : List Mark) → StandsFor self.old marks → Took row.now (accept_turn self.old.circuit self.old.members self.old.me marks row.now packet.now tape.entry row.now.promised) x self.new) }
         ensures orderly { IfOk result (λ x. IsOrderly x) }
+        ensures memory { OnErr result ((marks : List Mark) → ¬ IsStill row.now marks (accept_turn self.old.circuit self.old.members self.old.me marks row.now packet.now tape.entry row.now.promised)) }
         ensures seat { IsSameSeat self.old self.new }
     {
+        // The sender is a member, and this one is among the others that it sends to.
+        let (_from, _me) = (packet.from().get(), self.me());
         let ballot = packet.ballot();
         match acceptor::accept(self.alloc, row, ballot, tape.lend())? {
             AcceptAnswer::Nack { promised } => {
@@ -386,29 +397,20 @@ impl NodeCore {
         }
     }
 
-    /// Offers or seeks the number's tape: begins the next ballot above the saved promise.
-    fn start(
+    /// Begins the number's first ballot, the next above the saved promise.
+    fn begin(
         &mut self,
         number: Number,
         own: Option<Tape>,
         now: u64,
         row: &Row,
-    ) -> Result<Turn, CoreRefusal>
-        requires { self.old.failed ≡ false }
-        ensures turn { IfOk result (λ x. (marks : List Mark) → StandsFor self.old marks → Started self.old number own now marks row.now x self.new) }
+    ) -> Result<Turn, AllocError>
+        requires { IsSome (next row.now.promised self.old.me) }
+        ensures turn { IfOk result (λ x. (marks : List Mark) → StandsFor self.old marks → IsFree number marks → Started self.old number own now marks row.now x self.new) }
         ensures orderly { IfOk result (λ x. IsOrderly x) }
-        ensures refused { IfErr result (λ e. RefusesToStart e self.old number row.now self.new) }
         ensures seat { IsSameSeat self.old self.new }
     {
-        if self.released(number) {
-            return Err(CoreRefusal::AlreadyReleased);
-        }
-        if self.is_open(number) {
-            return Err(CoreRefusal::AlreadyOpen);
-        }
-        let Ok(report) = copied(self.alloc, row.vote()) else {
-            return Err(CoreRefusal::OutOfMemory);
-        };
+        let report = copied(self.alloc, row.vote())?;
         let seat = self.seat();
         let begun = Proposal::begin(
             self.alloc,
@@ -420,11 +422,38 @@ impl NodeCore {
             now,
         );
         match begun {
-            Err(_) => Err(CoreRefusal::RoundsSpent),
-            Ok(proposal) => match self.open(number, proposal, now, row) {
-                Ok(turn) => Ok(turn),
-                Err(_) => Err(CoreRefusal::OutOfMemory),
-            },
+            Err(_) => unreachable!(),
+            Ok(proposal) => self.open(number, proposal, now, row),
+        }
+    }
+
+    /// Offers or seeks the number's tape: begins the next ballot above the saved promise.
+    fn start(
+        &mut self,
+        number: Number,
+        own: Option<Tape>,
+        now: u64,
+        row: &Row,
+    ) -> Result<Turn, CoreRefusal>
+        requires { self.old.failed ≡ false }
+        ensures turn { IfOk result (λ x. (marks : List Mark) → StandsFor self.old marks → Started self.old number own now marks row.now x self.new) }
+        ensures orderly { IfOk result (λ x. IsOrderly x) }
+        ensures memory { IfErr result (λ e. e ≡ CoreRefusal.OutOfMemory → (marks : List Mark) → StandsFor self.old marks → MayBegin self.old.me number marks row.now) }
+        ensures refused { IfErr result (λ e. RefusesToStart e self.old number row.now self.new) }
+        ensures seat { IsSameSeat self.old self.new }
+    {
+        if self.released(number) {
+            return Err(CoreRefusal::AlreadyReleased);
+        }
+        if self.is_open(number) {
+            return Err(CoreRefusal::AlreadyOpen);
+        }
+        if Ballot::next(row.promised(), self.me()).is_none() {
+            return Err(CoreRefusal::RoundsSpent);
+        }
+        match self.begin(number, own, now, row) {
+            Ok(turn) => Ok(turn),
+            Err(_) => Err(CoreRefusal::OutOfMemory),
         }
     }
 
@@ -433,6 +462,7 @@ impl NodeCore {
         requires { IsForMember self.old.me self.old.members packet.now }
         ensures turn { IfOk result (λ x. (marks : List Mark) → StandsFor self.old marks → Took row.now (packet_turn self.old.circuit self.old.members self.old.me now marks row.now packet.now packet.now.body) x self.new) }
         ensures orderly { IfOk result (λ x. IsOrderly x) }
+        ensures memory { OnErr result ((marks : List Mark) → StandsFor self.old marks → ¬ IsStill row.now marks (packet_turn self.old.circuit self.old.members self.old.me now marks row.now packet.now packet.now.body)) }
         ensures seat { IsSameSeat self.old self.new }
     {
         match packet.body() {
@@ -450,6 +480,7 @@ impl NodeCore {
         requires arrived { MayCome self.old.me self.old.members event }
         ensures ok { IfOk result (λ x. (marks : List Mark) → StandsFor self.old marks → TookTurn self.old event marks row.now x self.new) }
         ensures orderly { IfOk result (λ x. IsOrderly x) }
+        ensures memory { IfErr result (λ e. e ≡ CoreRefusal.OutOfMemory → (marks : List Mark) → StandsFor self.old marks → MayTakeMemory self.old event marks row.now) }
         ensures refused { IfErr result (λ e. RefusesEvent event e self.old row.now self.new) }
         ensures seat { IsSameSeat self.old self.new }
     {
@@ -480,7 +511,8 @@ impl NodeCore {
     ///
     /// `Failed` where memory was refused before and the core was not cleared since. To an offer or a search:
     /// `AlreadyReleased` and `AlreadyOpen` for a number that is, and `RoundsSpent` where there is no ballot above
-    /// the row's promise. These change nothing. `OutOfMemory` leaves the core failed.
+    /// the row's promise. These change nothing. `OutOfMemory` leaves the core failed, and comes only where none of these
+    /// does and the turn saves, takes in or sends something.
     /// A packet that comes has to be for this member, from a member of its circuit.
     pub fn handle(&mut self, event: Event, row: &Row) -> Result<Turn, CoreRefusal>
         requires arrived { MayCome self.old.me self.old.members event }
@@ -488,6 +520,7 @@ impl NodeCore {
         ensures promised { IfOk result (λ x. IfSome x.row (λ r. IsSome r.promised)) }
         ensures few { IfOk result (λ x. length x.out.items ≤ 28) }
         ensures refused { IfErr result (λ e. Refuses e event self.old row.now self.new) }
+        ensures memory { IfErr result (λ e. e ≡ CoreRefusal.OutOfMemory → (marks : List Mark) → StandsFor self.old marks → MayTakeMemory self.old event marks row.now) }
         ensures failed { self.old.failed ≡ true → result ≡ Err CoreRefusal.Failed }
         ensures seat { IsSameSeat self.old self.new }
     {

@@ -1,11 +1,12 @@
 //! The acceptor's part of a turn.
 
-ghost use Rattle.std.specs.Prelude.{◌≡◌, List, [], ◌∷◌, IfOk, IsTrue, None};
+ghost use Rattle.std.specs.Prelude.{◌≡◌, List, [], ◌∷◌, IfOk, OnErr, IsTrue, None};
 ghost use Rattle.protocol.specs.Marks.{Mark};
 ghost use Rattle.protocol.specs.Packets.{Prepare};
 ghost use Rattle.protocol.specs.Turn.{packet_to, prepare_turn};
 ghost use Rattle.packets.specs.Bodies.{said};
 ghost use Rattle.packets.specs.Rules.{keeps_rules};
+ghost use Rattle.node_core.specs.Memory.{IsStill};
 ghost use Rattle.node_core.specs.Turns.{IsTurn, IsReply, IsOrderly};
 
 use crate::mail;
@@ -59,6 +60,7 @@ pub(crate) fn prepare(
     requires kind { packet.now.body ≡ Prepare }
     ensures turn { IfOk result (λ x. (marks : List Mark) → IsTurn row.now (prepare_turn seat.circuit seat.me marks row.now packet.now row.now.promised) x) }
     ensures orderly { IfOk result (λ x. IsOrderly x) }
+    ensures memory { OnErr result ((marks : List Mark) → ¬ IsStill row.now marks (prepare_turn seat.circuit seat.me marks row.now packet.now row.now.promised)) }
 {
     let ballot = packet.ballot();
     match acceptor::prepare(row, ballot) {

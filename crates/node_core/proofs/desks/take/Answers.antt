@@ -1,30 +1,26 @@
--- The desk at the first place.
-use Rattle.std.proofs.Common.{◌≡◌, ℕ, List, sym, ap, ◌∙◌, Some, zero-add}
-use Rattle.std.specs.List.{position_from, remove}
+-- The desk at the first place, or none.
+use Rattle.std.proofs.Common.{refl, sym, ap, ◌∙◌, Option}
+use Rattle.std.specs.Prelude.{unwrap_or}
 use Rattle.node_core.specs.declared.desk.Desk.{Desk}
-use Rattle.node_core.specs.Standing.{is_of}
-use Rattle.node_core.proofs.Finding.{Found, found_at, none_found}
+use Rattle.node_core.proofs.Finding.{FoundFirst, HasNone, found_first, none_first}
 use Rattle.node_core.proofs.desks.take.Goals as goal
 
 pub returns-in-None-clause-desk : goal.returns-in-None-clause-desk
-returns-in-None-clause-desk c = sym (none_found c.args.number 0 c.args.desks.now.items (ap (position_from (is_of c.args.number) 0) (sym c.deref.ensures.value) ∙ sym c.in-None.ensures.place)).0
+returns-in-None-clause-desk c =
+    let n : HasNone c.args.fresh.number c.args.desks.now.items = none_first c.args.fresh.number c.args.desks.now.items c.deref.result.now c.deref.ensures.value c.in-None.ensures.place in
+    ap (λ (o : Option Desk). unwrap_or o c.args.fresh) (sym n.found)
 
 pub returns-in-None-clause-left : goal.returns-in-None-clause-left
-returns-in-None-clause-left c = sym (none_found c.args.number 0 c.args.desks.now.items (ap (position_from (is_of c.args.number) 0) (sym c.deref.ensures.value) ∙ sym c.in-None.ensures.place)).1
-
-found_here : (n place : ℕ) (ds shown : List Desk) → shown ≡ ds → Some place ≡ position_from (is_of n) 0 shown → Found n 0 place ds
-found_here n place ds shown same e = found_at n 0 place ds (ap (position_from (is_of n) 0) (sym same) ∙ sym e)
-
-at_place : (n place : ℕ) (ds : List Desk) (f : Found n 0 place ds) → f.place ≡ place
-at_place n place ds f = sym (f.is_place ∙ zero-add f.place)
+returns-in-None-clause-left c =
+    let n : HasNone c.args.fresh.number c.args.desks.now.items = none_first c.args.fresh.number c.args.desks.now.items c.deref.result.now c.deref.ensures.value c.in-None.ensures.place in
+    sym (n.replaces c.args.fresh refl)
 
 pub returns-in-Some-clause-desk : goal.returns-in-Some-clause-desk
 returns-in-Some-clause-desk c =
-    let f : Found c.args.number 0 c.in-Some.place c.args.desks.now.items = found_here c.args.number c.in-Some.place c.args.desks.now.items c.deref.result.now c.deref.ensures.value c.in-Some.ensures.place in
-    let there = f.there c.remove.result in
-    ap (λ (d : Desk). Some d) (c.remove.ensures.value ∙ rw (at_place c.args.number c.in-Some.place c.args.desks.now.items f) at there) ∙ sym f.found
+    let f : FoundFirst c.args.fresh.number c.in-Some.place c.args.desks.now.items = found_first c.args.fresh.number c.in-Some.place c.args.desks.now.items c.deref.result.now c.deref.ensures.value c.in-Some.ensures.place in
+    c.replace.ensures.value ∙ c.index_mut.ensures.value ∙ f.there c.index_mut.result.now ∙ ap (λ (o : Option Desk). unwrap_or o c.args.fresh) (sym f.found)
 
 pub returns-in-Some-clause-left : goal.returns-in-Some-clause-left
 returns-in-Some-clause-left c =
-    let f : Found c.args.number 0 c.in-Some.place c.args.desks.now.items = found_here c.args.number c.in-Some.place c.args.desks.now.items c.deref.result.now c.deref.ensures.value c.in-Some.ensures.place in
-    c.remove.ensures.items ∙ ap (remove c.args.desks.now.items) (sym (at_place c.args.number c.in-Some.place c.args.desks.now.items f)) ∙ sym f.left
+    let f : FoundFirst c.args.fresh.number c.in-Some.place c.args.desks.now.items = found_first c.args.fresh.number c.in-Some.place c.args.desks.now.items c.deref.result.now c.deref.ensures.value c.in-Some.ensures.place in
+    rw c.replace.ensures.after (f.replaces c.args.fresh refl)

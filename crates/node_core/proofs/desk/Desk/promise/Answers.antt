@@ -5,7 +5,8 @@ use Rattle.protocol.specs.Proposals.{gathering_at}
 use Rattle.protocol.specs.Turn as said
 use Rattle.protocol.specs.Turn.{promise_turn, propose, stays}
 use Rattle.proposer.specs.declared.answer.Counted.TheVariants as kinds
-use Rattle.node_core.proofs.Phases.{on_ok, stays_so, not_gathering, overtaken, repeated, counts_as, completes_as, counted_as, promised_not_above, told}
+use Rattle.node_core.proofs.Phases.{on_ok, on_any_err, stays_so, not_gathering, overtaken, repeated, counts_as, completes_as, counted_as, promised_not_above, told}
+use Rattle.node_core.proofs.Stirring.{takes_in, promise_adds, is_new_told}
 use Rattle.node_core.proofs.desk.Desk.promise.Goals as goal
 
 pub returns-then-not-gathers_at-clause-turn : goal.returns-then-not-gathers_at-clause-turn
@@ -48,3 +49,20 @@ returns-in-Quorum-clause-turn c =
     completes_as c.args.seat.circuit c.args.seat.members c.args.seat.me c.args.now marks c.args.row.now c.args.packet.now c.args.report promised x c.propose.new.self kind
     (told c.args.seat c.args.now c.args.row.now x c.propose.new.self c.count.new.self c.ballot-ballot.result c.args.packet.now.number c.args.packet.now.ballot (Promised c.args.packet.now.number c.args.packet.now.from c.args.packet.now.ballot c.args.report ∷ marks) (c.count.ensures.number ∙ sym c.requires.number) c.ballot-ballot.ensures
     (h (Promised c.args.packet.now.number c.args.packet.now.from c.args.packet.now.ballot c.args.report ∷ marks)) (promised_not_above c.args.row.now.promised c.args.packet.now.ballot promised) left))
+
+pub returns-in_err-count-clause-memory : goal.returns-in_err-count-clause-memory
+returns-in_err-count-clause-memory c =
+    on_any_err c.from_residual.result _
+    (λ marks stands.
+    let promised : c.args.row.now.promised ≡ Some c.args.packet.now.ballot = c.if-not-is_promised.ensures.0 refl ∙ ap Some c.ballot-ballot.ensures in
+    takes_in c.args.row.now marks _
+    (promise_adds c.args.seat.circuit c.args.seat.members c.args.seat.me c.args.now marks c.args.row.now c.args.packet.now c.args.report promised
+    (is_new_told c.args.seat.me c.args.self.now.number c.args.packet.now.number c.ballot-ballot.result c.args.packet.now.ballot c.from.result c.args.packet.now.from marks (sym c.requires.number) c.ballot-ballot.ensures c.from.ensures (c.in_err-count.ensures.memory marks stands))))
+
+pub returns-in-Quorum-clause-memory : goal.returns-in-Quorum-clause-memory
+returns-in-Quorum-clause-memory c =
+    on_any_err c.propose.result _
+    (λ marks stands.
+    let promised : c.args.row.now.promised ≡ Some c.args.packet.now.ballot = c.if-not-is_promised.ensures.0 refl ∙ ap Some c.ballot-ballot.ensures in
+    let kind = counted_as kinds.Quorum c.args.seat.members c.args.seat.me c.args.self.now.number c.args.packet.now.number c.ballot-ballot.result c.args.packet.now.ballot c.from.result c.args.packet.now.from c.args.report marks (sym c.requires.number) c.ballot-ballot.ensures c.from.ensures (rw c.in-Quorum.is at (c.in_ok-count.ensures.kind marks stands)) in
+    takes_in c.args.row.now marks _ (promise_adds c.args.seat.circuit c.args.seat.members c.args.seat.me c.args.now marks c.args.row.now c.args.packet.now c.args.report promised kind.0))

@@ -10,7 +10,8 @@ use Rattle.acceptor.specs.declared.answer.AcceptAnswer.{AcceptAnswer}
 use Rattle.acceptor.specs.Said.{said_of_accept, row_of}
 use Rattle.node_core.specs.Seats.{Seat}
 use Rattle.node_core.specs.Standing.{Took}
-use Rattle.node_core.proofs.Phases.{on_ok}
+use Rattle.node_core.proofs.Phases.{on_ok, on_any_err}
+use Rattle.node_core.proofs.Stirring.{sends, accept_sends, another}
 use Rattle.node_core.proofs.Accepting.{refusing, standing, voting}
 use Rattle.node_core.proofs.Orders.{replied}
 use Rattle.node_core.proofs.node.NodeCore.accept.Goals as goal
@@ -58,3 +59,35 @@ returns-in-Voted-clause-orderly c =
     let reply = reply_told c.args.row.now c.ballot-ballot.result c.args.packet.now.ballot c.lend.result c.args.tape Votes c.ballot-ballot.ensures c.lend.ensures (ap said_of_accept (sym c.in-Voted.is) ∙ c.in_ok-promised.ensures.reply) in
     let is = row_told c.args.row.now c.in-Voted.after c.ballot-ballot.result c.args.packet.now.ballot c.lend.result c.args.tape c.ballot-ballot.ensures c.lend.ensures (ap (λ (a : AcceptAnswer). row_of a c.args.row.now) (sym c.in-Voted.is) ∙ c.in_ok-promised.ensures.row) in
     c.voted-in-Voted.ensures.orderly (voting c.args.self.now.circuit c.args.self.now.members c.args.self.now.me [] c.args.row.now c.args.packet.now c.args.tape c.in-Voted.after reply is).promised
+
+pub returns-in_err-promised-clause-memory : goal.returns-in_err-promised-clause-memory
+returns-in_err-promised-clause-memory c = on_any_err c.from_residual.result _
+    (λ marks.
+    sends c.args.row.now marks _
+    (accept_sends c.args.self.now.circuit c.args.self.now.members c.args.self.now.me marks c.args.packet.now
+    (another c.args.self.now.members c.args.self.now.me c.args.packet.now c.requires.rules c.requires.to (rw (c.get-from.ensures.value, c.from.ensures) at c.get-from.ensures.low) c.requires.from c.me-me.ensures.member.0 c.me-me.ensures.member.1)
+    c.args.row.now c.args.tape c.args.row.now.promised))
+
+pub returns-in-Nack-clause-memory : goal.returns-in-Nack-clause-memory
+returns-in-Nack-clause-memory c = on_any_err c.answer.result _
+    (λ marks.
+    sends c.args.row.now marks _
+    (accept_sends c.args.self.now.circuit c.args.self.now.members c.args.self.now.me marks c.args.packet.now
+    (another c.args.self.now.members c.args.self.now.me c.args.packet.now c.requires.rules c.requires.to (rw (c.get-from.ensures.value, c.from.ensures) at c.get-from.ensures.low) c.requires.from c.me-me.ensures.member.0 c.me-me.ensures.member.1)
+    c.args.row.now c.args.tape c.args.row.now.promised))
+
+pub returns-in-Some-clause-memory : goal.returns-in-Some-clause-memory
+returns-in-Some-clause-memory c = on_any_err c.voted.result _
+    (λ marks.
+    sends c.args.row.now marks _
+    (accept_sends c.args.self.now.circuit c.args.self.now.members c.args.self.now.me marks c.args.packet.now
+    (another c.args.self.now.members c.args.self.now.me c.args.packet.now c.requires.rules c.requires.to (rw (c.get-from.ensures.value, c.from.ensures) at c.get-from.ensures.low) c.requires.from c.me-me.ensures.member.0 c.me-me.ensures.member.1)
+    c.args.row.now c.args.tape c.args.row.now.promised))
+
+pub returns-in-Voted-clause-memory : goal.returns-in-Voted-clause-memory
+returns-in-Voted-clause-memory c = on_any_err c.voted-in-Voted.result _
+    (λ marks.
+    sends c.args.row.now marks _
+    (accept_sends c.args.self.now.circuit c.args.self.now.members c.args.self.now.me marks c.args.packet.now
+    (another c.args.self.now.members c.args.self.now.me c.args.packet.now c.requires.rules c.requires.to (rw (c.get-from.ensures.value, c.from.ensures) at c.get-from.ensures.low) c.requires.from c.me-me.ensures.member.0 c.me-me.ensures.member.1)
+    c.args.row.now c.args.tape c.args.row.now.promised))

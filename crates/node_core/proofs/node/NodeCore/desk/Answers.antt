@@ -1,21 +1,25 @@
 -- The desk that is taken out is the seat's, and so are those that are left.
-use Rattle.std.proofs.Common.{sym, ap, ◌∙◌}
+use Rattle.std.proofs.Common.{ap, ◌∙◌}
+use Rattle.std.specs.Prelude.{find, unwrap_or}
 use Rattle.node_core.specs.declared.desk.Desk.{Desk}
-use Rattle.node_core.proofs.Finding.{without_of, found_of, found_number}
-use Rattle.node_core.proofs.node.NodeCore.desk.Goals.{in-Some, in-None}
+use Rattle.node_core.specs.Standing.{Core, is_of, desk_of}
+use Rattle.node_core.proofs.Finding.{replaced_of, taken_of, desk_number}
 use Rattle.node_core.proofs.node.NodeCore.desk.Goals as goal
 
 pub invariant_of-self : goal.invariant_of-self
-invariant_of-self c = rw c.take.ensures.left (without_of c.self.inside.seat c.args.number c.self.inside.desks.items c.self.invariant)
+invariant_of-self c = rw c.take.ensures.left (replaced_of c.self.inside.seat c.new-fresh.result c.self.inside.desks.items c.self.invariant c.new-fresh.ensures.of)
+
+pub returns-clause-desk : goal.returns-clause-desk
+returns-clause-desk c =
+    c.take.ensures.desk ∙ ap (λ (d : Desk). unwrap_or (find (is_of d.number) c.self.inside.desks.items) d) c.new-fresh.ensures.desk ∙ ap (λ (v : Core). desk_of v.members c.args.number v.desks) c.self.view_is
 
 pub returns-clause-of : goal.returns-clause-of
-returns-clause-of c = elim c.match-take.branch [
-  | in-Some w ↦ rw (w.result-is, ← c.self.view_is) (found_of c.self.inside.seat c.args.number c.self.inside.desks.items w.in-Some.desk c.self.invariant (sym w.in-Some.ensures.desk))
-  | in-None w ↦ rw (w.result-is, ← c.self.view_is) w.new.ensures.of
-]
+returns-clause-of c = rw (c.take.ensures.desk, ← c.self.view_is) (taken_of c.self.inside.seat c.new-fresh.result.number c.self.inside.desks.items c.new-fresh.result c.self.invariant c.new-fresh.ensures.of)
 
 pub returns-clause-number : goal.returns-clause-number
-returns-clause-number c = elim c.match-take.branch [
-  | in-Some w ↦ ap (λ (d : Desk). d.number) w.result-is ∙ found_number c.args.number c.self.inside.desks.items w.in-Some.desk (sym w.in-Some.ensures.desk)
-  | in-None w ↦ ap (λ (d : Desk). d.number) (w.result-is ∙ w.new.ensures.desk)
-]
+returns-clause-number c =
+    ap (λ (d : Desk). d.number) (c.take.ensures.desk ∙ ap (λ (d : Desk). unwrap_or (find (is_of d.number) c.self.inside.desks.items) d) c.new-fresh.ensures.desk)
+    ∙ desk_number c.self.inside.seat.members c.args.number c.self.inside.desks.items
+
+pub returns-clause-stands : goal.returns-clause-stands
+returns-clause-stands c = λ marks h unreleased. rw (returns-clause-desk c) (h.desks c.args.number unreleased)

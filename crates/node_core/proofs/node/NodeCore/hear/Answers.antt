@@ -3,6 +3,7 @@ use Rattle.protocol.specs.Proposals.{was_released}
 use Rattle.protocol.specs.Turn.{hear}
 use Rattle.node_core.specs.Standing.{IsLeft}
 use Rattle.node_core.proofs.Growing.{hears, stays}
+use Rattle.node_core.proofs.Phases.{on_any_err}
 use Rattle.node_core.proofs.node.NodeCore.hear.Goals as goal
 
 pub returns-then-released-clause-release : goal.returns-then-released-clause-release
@@ -28,3 +29,9 @@ returns-clause-stands c = λ marks h.
     (subst (λ k. IsLeft c.hear.new.self c.in_ok-release.release (hear k c.desk-desk.result.number c.args.member c.args.ballot c.args.tape marks).marks) c.desk-desk.ensures.of.heard there) in
     c.in_ok-settle.ensures.stands c.args.self.now c.args.number marks _ c.in_ok-release.release (c.hear.ensures.number ∙ c.desk-desk.ensures.number) c.desk-desk.ensures.left h unreleased
     (hears c.args.self.now.members c.args.number c.args.member c.args.ballot c.args.tape marks marks (stays c.args.number marks)) (sym c.is_some.ensures) left
+
+pub returns-in_err-release-clause-memory : goal.returns-in_err-release-clause-memory
+returns-in_err-release-clause-memory c = on_any_err c.from_residual.result _ (λ marks h. sym (c.if-released.ensures.value marks h))
+
+pub returns-in_err-settle-clause-memory : goal.returns-in_err-settle-clause-memory
+returns-in_err-settle-clause-memory c = on_any_err c.from_residual-in_err-settle.result _ (λ marks h. sym (c.if-released.ensures.value marks h))

@@ -3,6 +3,8 @@ use Rattle.protocol.specs.Proposals.{open_proposal, was_released, proposal_at}
 use Rattle.protocol.specs.Turn as said
 use Rattle.node_core.proofs.Phases.{took_nothing, stale_nack}
 use Rattle.node_core.proofs.Growing.{denies}
+use Rattle.node_core.proofs.Phases.{on_any_err}
+use Rattle.node_core.proofs.Stirring.{unsettled, open_has_desk}
 use Rattle.node_core.proofs.Telling.{left_without}
 use Rattle.node_core.proofs.node.NodeCore.nack.Goals as goal
 
@@ -26,3 +28,14 @@ returns-clause-turn c = λ row marks h.
           (left_without c.args.self.now c.desk-desk.new.self c.number-number.result c.args.packet.now.number c.number-number.ensures c.desk-desk.ensures.left) h unreleased_here
           (denies marks row c.args.packet.now c.args.promised (proposal_at c.args.packet.now.number c.args.packet.now.ballot marks)) (sym c.is_some.ensures) answer.left;
     }
+
+pub returns-in_err-settle-clause-memory : goal.returns-in_err-settle-clause-memory
+returns-in_err-settle-clause-memory c =
+    on_any_err c.from_residual.result _
+    (λ row marks h.
+    let opens = c.if-not-is_open.ensures marks h in
+    let unreleased = opens.0 in
+    let answer = c.nack-turn.ensures.turn row marks (c.desk-desk.ensures.stands marks h unreleased) in
+    let number = c.nack-turn.ensures.number ∙ c.desk-desk.ensures.number in
+    unsettled row marks _ c.nack-turn.new.self c.nack-turn.result.release c.is_some.result c.number-number.result c.args.self.now.desks number (sym c.is_some.ensures) answer.left unreleased
+    (open_has_desk c.args.self.now c.number-number.result marks h unreleased opens.1) (c.in_err-settle.ensures.memory c.args.self.now c.number-number.result number c.desk-desk.ensures.left))

@@ -3,12 +3,13 @@ use Rattle.std.proofs.Common.{sym, ap, subst, ◌∙◌, Option}
 use Rattle.protocol.specs.Rows.{Tape, Vote}
 use Rattle.protocol.specs.Packets.{Body}
 use Rattle.protocol.specs.Proposals.{gathering_at}
-use Rattle.protocol.specs.Turn.{packet_turn, prepare_turn, promise_turn, accepted_turn}
+use Rattle.protocol.specs.Turn.{packet_turn, prepare_turn, promise_turn, accept_turn, accepted_turn}
 use Rattle.packets.specs.Bodies.{said}
 use Rattle.node_core.specs.Seats.{Seat}
 use Rattle.node_core.specs.Standing.{Took}
 use Rattle.node_core.specs.Turns.{IsTurn}
-use Rattle.node_core.proofs.Phases.{on_ok}
+use Rattle.node_core.specs.Memory.{IsStill}
+use Rattle.node_core.proofs.Phases.{on_ok, when_err}
 use Rattle.node_core.proofs.Accepting.{prepare_adds_none}
 use Rattle.node_core.proofs.node.NodeCore.receive.Goals as goal
 
@@ -42,3 +43,38 @@ returns-in-Nack-clause-turn c =
     (λ x t marks h.
     subst (λ (y : Body). Took c.args.row.now (packet_turn c.args.self.now.circuit c.args.self.now.members c.args.self.now.me c.args.now marks c.args.row.now c.args.packet.now y) x c.nack.new.self) (sym (ap said c.in-Nack.is) ∙ c.body.ensures.body)
     (t c.args.row.now marks h))
+
+pub returns-in-Prepare-clause-memory : goal.returns-in-Prepare-clause-memory
+returns-in-Prepare-clause-memory c =
+    when_err c.prepare.result _ _ c.prepare.ensures.memory
+    (λ stirs marks h.
+    subst (λ (y : Body). IsStill c.args.row.now marks (packet_turn c.args.self.now.circuit c.args.self.now.members c.args.self.now.me c.args.now marks c.args.row.now c.args.packet.now y) → ⊥) (sym (ap said c.in-Prepare.is) ∙ c.body.ensures.body)
+    (subst (λ (s : Seat). IsStill c.args.row.now marks (prepare_turn s.circuit s.me marks c.args.row.now c.args.packet.now c.args.row.now.promised) → ⊥) c.seat.ensures (stirs marks)))
+
+pub returns-in-Promise-clause-memory : goal.returns-in-Promise-clause-memory
+returns-in-Promise-clause-memory c =
+    when_err c.promise.result _ _ c.promise.ensures.memory
+    (λ stirs marks h.
+    subst (λ (y : Body). IsStill c.args.row.now marks (packet_turn c.args.self.now.circuit c.args.self.now.members c.args.self.now.me c.args.now marks c.args.row.now c.args.packet.now y) → ⊥) (sym (ap said c.in-Promise.is) ∙ c.body.ensures.body)
+    (subst (λ (r : Option Vote). IsStill c.args.row.now marks (promise_turn c.args.self.now.circuit c.args.self.now.members c.args.self.now.me c.args.now marks c.args.row.now c.args.packet.now r (gathering_at c.args.packet.now.number c.args.packet.now.ballot marks)) → ⊥) c.relent.ensures (stirs marks h)))
+
+pub returns-in-Accepted-clause-memory : goal.returns-in-Accepted-clause-memory
+returns-in-Accepted-clause-memory c =
+    when_err c.accepted.result _ _ c.accepted.ensures.memory
+    (λ stirs marks h.
+    subst (λ (y : Body). IsStill c.args.row.now marks (packet_turn c.args.self.now.circuit c.args.self.now.members c.args.self.now.me c.args.now marks c.args.row.now c.args.packet.now y) → ⊥) (sym (ap said c.in-Accepted.is) ∙ c.body.ensures.body)
+    (subst (λ (u : Tape). IsStill c.args.row.now marks (accepted_turn c.args.self.now.members marks c.args.row.now c.args.packet.now u) → ⊥) c.lend-in-Accepted.ensures (stirs c.args.row.now marks h)))
+
+pub returns-in-Nack-clause-memory : goal.returns-in-Nack-clause-memory
+returns-in-Nack-clause-memory c =
+    when_err c.nack.result _ _ c.nack.ensures.memory
+    (λ stirs marks h.
+    subst (λ (y : Body). IsStill c.args.row.now marks (packet_turn c.args.self.now.circuit c.args.self.now.members c.args.self.now.me c.args.now marks c.args.row.now c.args.packet.now y) → ⊥) (sym (ap said c.in-Nack.is) ∙ c.body.ensures.body)
+    (stirs c.args.row.now marks h))
+
+pub returns-in-Accept-clause-memory : goal.returns-in-Accept-clause-memory
+returns-in-Accept-clause-memory c =
+    when_err c.accept.result _ _ c.accept.ensures.memory
+    (λ stirs marks h.
+    subst (λ (y : Body). IsStill c.args.row.now marks (packet_turn c.args.self.now.circuit c.args.self.now.members c.args.self.now.me c.args.now marks c.args.row.now c.args.packet.now y) → ⊥) (sym (ap said c.in-Accept.is) ∙ c.body.ensures.body)
+    (subst (λ (u : Tape). IsStill c.args.row.now marks (accept_turn c.args.self.now.circuit c.args.self.now.members c.args.self.now.me marks c.args.row.now c.args.packet.now u c.args.row.now.promised) → ⊥) c.lend.ensures (stirs marks)))
