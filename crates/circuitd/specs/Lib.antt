@@ -2,3 +2,4 @@ pub mod Asked
 pub mod Replies
 pub mod AnswerText
 pub mod Galley
+pub mod RowsText

@@ -19,6 +19,9 @@ pub enum Asked<'a> {
         paths: checking::Paths<'a>,
         listing: bool,
     },
+    Rows {
+        path: &'a str,
+    },
 }
 
 /// A required argument that is taken as it stands.
@@ -61,12 +64,29 @@ fn check_command<'a>(alloc: Global) -> Result<Command<'a>, Error> {
     Ok(command)
 }
 
+fn rows_command<'a>(alloc: Global) -> Result<Command<'a>, Error> {
+    let command = Command::new(alloc, "rows")
+        .about(
+            "Lists what a station saved: per number its promise, its vote and the frames of that, in hex",
+        )
+        .arg(required(
+            alloc,
+            "DB",
+            "The station's database, as its configuration names it",
+        ))?
+        .after_help(
+            "Example:\n  $ circuitd rows station2.db\n  station 2 of 3 circuit 7\n  3 1.1 - -\n  12 1.3 1.1 010204",
+        );
+    Ok(command)
+}
+
 fn matches_of<'a>(alloc: Global, words: &'a [String]) -> Result<ArgMatches<'a>, Error> {
     let command = Command::new(alloc, "circuitd")
         .about("A wire circuit whose numbers never mean two stories")
         .subcommand_required(true)
         .subcommand(answer_command(alloc)?)?
-        .subcommand(check_command(alloc)?)?;
+        .subcommand(check_command(alloc)?)?
+        .subcommand(rows_command(alloc)?)?;
     command.try_get_matches_from(words)
 }
 
@@ -86,10 +106,16 @@ fn check_of<'a>(matches: &ArgMatches<'a>) -> Option<Asked<'a>> {
     Some(Asked::Check { paths, listing })
 }
 
+fn rows_of<'a>(matches: &ArgMatches<'a>) -> Option<Asked<'a>> {
+    let path = matches.get_str("DB")?;
+    Some(Asked::Rows { path })
+}
+
 fn asked_of<'a>(matches: &ArgMatches<'a>) -> Option<Asked<'a>> {
     match matches.subcommand() {
         Some(("answer", given)) => answer_of(given),
         Some(("check", given)) => check_of(given),
+        Some(("rows", given)) => rows_of(given),
         _ => None,
     }
 }

@@ -7,6 +7,7 @@ mod checking;
 mod end;
 mod fault;
 mod line;
+mod listing;
 mod opened;
 mod refusal;
 mod releases;
@@ -68,10 +69,22 @@ fn run_check(rt: &HostRuntime, paths: &checking::Paths<'_>, listing: bool) -> En
     )
 }
 
+fn run_rows(rt: &HostRuntime, path: &str) -> End {
+    let Ok(mut out) = BufWriter::new(rt.alloc(), rt.stdout()) else {
+        return Fault::OutOfMemory.tell(&mut rt.stderr());
+    };
+    let mut err = rt.stderr();
+    match listing::open_rows(rt, path) {
+        Ok(mut rows) => listing::print_rows(rt.alloc(), &mut rows, &mut out, &mut err),
+        Err(fault) => Fault::of_rows(fault).tell(&mut err),
+    }
+}
+
 fn run_command(rt: &HostRuntime, asked: &Asked<'_>) -> End {
     match asked {
         Asked::Answer { circuit, me } => run_answer(rt, *circuit, *me),
         Asked::Check { paths, listing } => run_check(rt, paths, *listing),
+        Asked::Rows { path } => run_rows(rt, *path),
     }
 }
 
