@@ -1,14 +1,12 @@
 -- Agreement of stations, from that of any circuit.
-use Rattle.std.proofs.Common.{◌≡◌, ℕ, List, sym, subst, Result}
-use Rattle.protocol.specs.Circuit.{Release, State, History}
+use Rattle.std.proofs.Common.{List, sym, subst, Result}
 use Rattle.protocol.specs.Agreement.{HistoriesAgree}
 use Rattle.packets.specs.declared.fault.PacketFault.{PacketFault}
-use Rattle.code_table.specs.Tables.{Places, mean}
-use Rattle.widths.specs.Widths.{WidthFile}
+use Rattle.code_table.specs.Tables.{mean}
 use Rattle.line_check.specs.declared.slug.Slug.{Slug}
 use Rattle.line_check.specs.declared.fault.SetFault.{SetFault}
 use Rattle.line_check.specs.Sets.{Sets}
-use Rattle.world.specs.Laws.{AreAgreed, StationsAgree}
+use Rattle.world.specs.Laws.{StationsAgree}
 
 pub agreed : HistoriesAgree PacketFault (List Slug) SetFault → StationsAgree
 agreed histories tables files z is_set_up w h =

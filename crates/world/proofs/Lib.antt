@@ -1,1 +1,9 @@
 pub mod Agreed
+pub mod Members
+pub mod Alike
+pub mod Turning
+pub mod Stepping
+pub mod Starting
+pub mod Reaching
+pub mod Founding
+pub mod Asking

@@ -1,2 +1,7 @@
 pub mod Setups
 pub mod Laws
+pub mod Worlds
+pub mod Taking
+pub mod Reach
+pub mod Founding
+pub mod Logging

@@ -1,7 +1,15 @@
-//! All stations of a circuit and the network between them: the laws of agreement, for the packets and the setting that stations use.
+//! All stations of a circuit and the network between them, as lists of steps drive them; and the laws of agreement.
 #![tactic(auto)]
 
 pub mod laws;
+mod logging;
+mod logs;
 mod slugs;
+mod step;
+mod taking;
+mod world;
 
+pub use logs::{OfferLog, ReleaseLog};
 pub use slugs::Slugs;
+pub use step::{Outcome, RunStop, Seen, Step, WorldRefusal};
+pub use world::{NewWorldFault, World};

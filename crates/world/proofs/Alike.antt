@@ -1,0 +1,61 @@
+-- A station refuses what its member in the circuit does: both read alike, and set alike as far as there is a fault.
+use Rattle.std.proofs.Common.{◌≡◌, ℕ, refl, sym, ap, List, Option, Some, None, Bool, true, false}
+use Rattle.std.specs.Prelude.{Result, Ok, Err, if◌then◌else◌}
+use Rattle.protocol.specs.Lists.{or_else}
+use Rattle.protocol.specs.Rows.{Tape}
+use Rattle.protocol.specs.Marks.{Mark}
+use Rattle.protocol.specs.Proposals.{next_due}
+use Rattle.protocol.specs.Refusals.{Setup, Call, Offering, Seeking, Falling_due, Receiving, Refusal, Stopped, reading_refusal, call_refusal, early_refusal, setting_refusal, tape_refusal, refusal, due_event, arrival, event_of}
+use Rattle.packets.specs.declared.fault.PacketFault.{PacketFault}
+use Rattle.widths.specs.Widths.{WidthFile}
+use Rattle.slug_reader.specs.Meanings.{Meanings}
+use Rattle.line_check.specs.declared.slug.Slug.{Slug}
+use Rattle.line_check.specs.declared.fault.SetFault.{SetFault}
+use Rattle.line_check.specs.Sets.{Sets, first_fault}
+use Rattle.station.specs.Stations.{unless_faulty}
+
+-- what a tape sets as is faulty where its first fault says so
+pub faulty_alike :
+    (means : Meanings) (widths : WidthFile) (tape : List ℕ) (r : Result (List Slug) SetFault) → Sets means widths tape r
+    → setting_refusal {D = PacketFault} r ≡ setting_refusal {D = PacketFault} (unless_faulty (first_fault means widths tape))
+faulty_alike means widths tape (Ok slugs) h = sym (ap (λ (o : Option SetFault). setting_refusal {D = PacketFault} (unless_faulty o)) h.0)
+faulty_alike means widths tape (Err fault) h = sym (ap (λ (o : Option SetFault). setting_refusal {D = PacketFault} (unless_faulty o)) h)
+
+module _ {D F G H : Type 0} (a : Setup D G F) (b : Setup D H F) (circuit : a.circuit ≡ b.circuit) (count : a.count ≡ b.count) (me : a.me ≡ b.me)
+    (reads : (bytes : List ℕ) → a.reads bytes ≡ b.reads bytes) (sets : (tape : Tape) → setting_refusal {D = D} (a.sets tape) ≡ setting_refusal {D = D} (b.sets tape)) where
+  call_alike : (marks : List Mark) (call : Call) → call_refusal a marks call ≡ call_refusal b marks call
+  call_alike marks (Offering n tape now) = refl
+  call_alike marks (Seeking n now) = refl
+  call_alike marks (Falling_due now) = refl
+  call_alike marks (Receiving bytes now) = λ i. reading_refusal (circuit i) (count i) (me i) (reads bytes i)
+
+  pub early_alike : (stopped : Bool) (marks : List Mark) (call : Call) → early_refusal a stopped marks call ≡ early_refusal b stopped marks call
+  early_alike stopped marks call = ap (λ (r : Option (Refusal D F)). if stopped then Some Stopped else r) (call_alike marks call)
+
+  tape_alike : (call : Call) → tape_refusal a call ≡ tape_refusal b call
+  tape_alike (Offering n tape now) = sets tape
+  tape_alike (Seeking n now) = refl
+  tape_alike (Falling_due now) = refl
+  tape_alike (Receiving bytes now) = refl
+
+  pub refusal_alike : (stopped : Bool) (marks : List Mark) (call : Call) → refusal a stopped marks call ≡ refusal b stopped marks call
+  refusal_alike stopped marks call = λ i. or_else (early_alike stopped marks call i) (tape_alike call i)
+
+  pub event_alike : (marks : List Mark) (call : Call) → event_of a marks call ≡ event_of b marks call
+  event_alike marks (Offering n tape now) = refl
+  event_alike marks (Seeking n now) = refl
+  event_alike marks (Falling_due now) = λ i. due_event (next_due (me i) now marks) now
+  event_alike marks (Receiving bytes now) = λ i. arrival (reads bytes i) now
+
+some_none : {A : Type 0} {a : A} → Some a ≡ None → ⊥
+some_none e = cc
+
+-- where nothing refuses a call, nothing refused it early
+pub unrefused_early : {A : Type 0} (x y : Option A) → or_else x y ≡ None → x ≡ None
+unrefused_early None y e = refl
+unrefused_early (Some a) y e = absurd (some_none e)
+
+-- a station that refuses nothing has not stopped
+pub unstopped : {D F G : Type 0} (a : Setup D G F) (stopped : Bool) (marks : List Mark) (call : Call) → refusal a stopped marks call ≡ None → stopped ≡ false
+unstopped a false marks call e = refl
+unstopped a true marks call e = absurd (some_none e)

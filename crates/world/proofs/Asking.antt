@@ -1,0 +1,186 @@
+-- A station that was asked by a step of the world, of plain values.
+use Rattle.std.proofs.Common.{◌≡◌, ℕ, zero, suc, ◌-◌, ◌+◌, ◌<◌, ◌≤◌, refl, sym, ap, subst, ◌∙◌, arith, List, [], ◌∷◌, ◌++◌, Some, None, Option, Bool, true, false, length, get_or, append-nil}
+use Rattle.std.specs.Prelude.{Result, Ok, Err, slice_get, slice_set, ◌==◌, option_map, is_some, if◌then◌else◌}
+use Rattle.std.proofs.lemmas.Bool.{eqb-true}
+use Rattle.std.proofs.lemmas.Option.{slice_get-get_or}
+use Rattle.protocol.specs.Marks.{Mark}
+use Rattle.protocol.specs.Refusals.{Call, Offering, Seeking, Falling_due, Receiving}
+use Rattle.protocol.specs.Circuit as circuit
+use Rattle.protocol.specs.Circuit.{Datagram, Task, Missing, task_of, delivery, datagram_at, member_missing, datagram_missing}
+use Rattle.packets.specs.declared.fault.PacketFault.{PacketFault}
+use Rattle.line_check.specs.Laws.{OneSetting}
+use Rattle.line_check.specs.declared.fault.SetFault.{SetFault}
+use Rattle.acceptor_store.specs.Saved.{Saved}
+use Rattle.acceptor_store.specs.declared.balky.Balky.{Balky}
+use Rattle.node_core.specs.Standing.{StandsFor as CoreStandsFor}
+use Rattle.station.specs.declared.station.Station.{Station}
+use Rattle.station.specs.declared.answer.Answer.{Answer}
+use Rattle.station.specs.declared.answer.Release.{Release}
+use Rattle.station.specs.declared.refusal.StepRefusal.{StepRefusal}
+use Rattle.station.specs.Stations.{Sight}
+use Rattle.station.specs.Steps.{Steps}
+use Rattle.world.specs.declared.world.World.{World}
+use Rattle.world.specs.declared.step.Step.{Step}
+use Rattle.world.specs.declared.step.Step.TheVariants as steps
+use Rattle.world.specs.declared.step.Seen.{Seen}
+use Rattle.world.specs.declared.step.Outcome.{Outcome}
+use Rattle.world.specs.declared.step.WorldRefusal.{WorldRefusal}
+use Rattle.world.specs.Setups.{StationCircuit, StationState}
+use Rattle.world.specs.Worlds.{count_of, IsSame, station_at}
+use Rattle.world.specs.Taking.{step_value, outcome_value, was_taken, offers_after, actor, missing_in, IsReason, Tells}
+use Rattle.world.specs.Reach.{AllKept, StandsFor, Moves}
+use Rattle.world.specs.Logging.{logged, offered_of, out_of, outcome_of, released_of, seen_of, was_released}
+use Rattle.world.proofs.Members.{Changes, kept_here, kept_before, some_is}
+use Rattle.world.proofs.Turning.{balky_sight, stood}
+use Rattle.world.proofs.Stepping.{offers_of, answered}
+
+-- one station was changed where it stands
+pub changed :
+    {R : Type 0} (v v' : World R) (i m : ℕ) (s s' : Station (Balky R)) → suc i ≡ m → i < length v.stations.items → s ≡ get_or v.stations.items i s
+    → v'.stations.items ≡ slice_set v.stations.items i s' → Changes v v' i m s s'
+changed v v' i m s s' is_m within is stations = record {
+  is_member = is_m;
+  at_i = slice_get-get_or v.stations.items i s within ∙ ap Some (sym is);
+  stations = stations;
+}
+
+-- a world that is the same stands for the same state
+pub still : {R : Type 0} (is_open : R → Type 0) (saved : R → Saved) (v v' : World R) → IsSame v v' → (z : StationCircuit) (w : StationState) → StandsFor is_open saved z v w → StandsFor is_open saved z v' w
+still {R = R} is_open saved v v' same z w h = record {
+  tables = h.tables;
+  files = h.files;
+  set_up = h.set_up;
+  count = h.count ∙ ap (λ (l : List (Station (Balky R))). length l) (sym stations);
+  each = λ m s at_m. h.each m s (station_is m s at_m);
+  sent = h.sent ∙ sym same.sent;
+  offers = h.offers ∙ sym same.offers;
+  releases = h.releases ∙ sym same.releases;
+}
+  where
+    stations : v'.stations.items ≡ v.stations.items
+    stations = ap (λ q. q.items) same.stations
+
+    station_is : (m : ℕ) (s : Station (Balky R)) → station_at v' m ≡ Some s → station_at v m ≡ Some s
+    station_is zero s at_m = at_m
+    station_is (suc i) s at_m = ap (λ (l : List (Station (Balky R))). slice_get l i) (sym stations) ∙ at_m
+
+pub same_kept : {R : Type 0} (kept : R → Type 0) (v v' : World R) → IsSame v v' → AllKept kept v' → AllKept kept v
+same_kept {R = R} kept v v' same all m s at_m = all m s (there m at_m)
+  where
+    there : (k : ℕ) → station_at v k ≡ Some s → station_at v' k ≡ Some s
+    there zero at_k = at_k
+    there (suc i) at_k = ap (λ q. slice_get q.items i) same.stations ∙ at_k
+
+-- the step asks member m this call: of a world with this count and these datagrams
+pub record Brings {R : Type 0} (v : World R) (step : Step) (m : ℕ) (call : Call) : Type 0 where
+  pub task : task_of v.sent.items (step_value step) ≡ Some (record { member = m; call = call })
+  pub acts : actor v.sent.items step ≡ Some m
+  pub there : missing_in v step ≡ None
+  pub logs : (os : List circuit.Offer) (r : Result Answer StepRefusal) → os ++ offers_of m call r ≡ offers_after os step (outcome_of r)
+
+logs_offer : (m n now : ℕ) (tape : List ℕ) (os : List circuit.Offer) (o : Outcome) → os ++ offered_of m n tape o ≡ offers_after os (steps.Offer m n tape now) o
+logs_offer m n now tape os o = go (was_taken o)
+  where
+    one : List circuit.Offer
+    one = record { member = m; number = n; tape = tape } ∷ []
+
+    go : (b : Bool) → os ++ (if b then one else []) ≡ (if b then os ++ one else os)
+    go true = refl
+    go false = append-nil os
+
+pub offer_brings : {R : Type 0} (v : World R) (m n now : ℕ) (tape : List ℕ) → member_missing (count_of v) m ≡ None → Brings v (steps.Offer m n tape now) m (Offering n tape now)
+offer_brings v m n now tape there = record { task = refl; acts = refl; there = there; logs = λ os r. logs_offer m n now tape os (outcome_of r) }
+
+pub seek_brings : {R : Type 0} (v : World R) (m n now : ℕ) → member_missing (count_of v) m ≡ None → Brings v (steps.Seek m n now) m (Seeking n now)
+seek_brings v m n now there = record { task = refl; acts = refl; there = there; logs = λ os r. append-nil os }
+
+pub due_brings : {R : Type 0} (v : World R) (m now : ℕ) → member_missing (count_of v) m ≡ None → Brings v (steps.Due m now) m (Falling_due now)
+due_brings v m now there = record { task = refl; acts = refl; there = there; logs = λ os r. append-nil os }
+
+-- the k-th datagram is that of the place before
+pub datagram_is : (sent : List Datagram) (k : ℕ) → 1 ≤ k → datagram_at sent k ≡ slice_get sent (k - 1)
+datagram_is sent k low = go (k == 0) refl
+  where
+    go : (b : Bool) → (k == 0) ≡ b → datagram_at sent k ≡ slice_get sent (k - 1)
+    go true e = absurd (let none : k ≡ 0 = eqb-true k 0 e in omega arith)
+    go false e = rw e refl
+
+pub deliver_brings :
+    {R : Type 0} (v v' : World R) (k m now : ℕ) (d : Datagram) → IsSame v v' → 1 ≤ k → k ≤ length v.sent.items → d ≡ get_or v'.sent.items (k - 1) d
+    → actor v.sent.items (steps.Deliver k now) ≡ Some m → member_missing (count_of v) m ≡ None → Brings v (steps.Deliver k now) m (Receiving d.bytes now)
+deliver_brings v v' k m now d same low high is acts there = record {
+  task = ap (λ (o : Option Datagram). delivery o now) at_k ∙ ap (λ (j : ℕ). Some (record { member = j; call = Receiving d.bytes now })) to;
+  acts = acts;
+  there = ap (λ (o : Option Datagram). datagram_missing (count_of v) o) at_k ∙ (ap (λ (j : ℕ). member_missing (count_of v) j) to ∙ there);
+  logs = λ os r. append-nil os;
+}
+  where
+    at_k : datagram_at v.sent.items k ≡ Some d
+    at_k =
+        let there_is : d ≡ get_or v.sent.items (k - 1) d = is ∙ ap (λ (l : List Datagram). get_or l (k - 1) d) same.sent in
+        datagram_is v.sent.items k low ∙ (slice_get-get_or v.sent.items (k - 1) d (omega arith) ∙ ap Some (sym there_is))
+
+    to : d.to ≡ m
+    to = some_is (ap (λ (o : Option Datagram). option_map (λ (q : Datagram). q.to) o) (sym at_k) ∙ acts)
+
+so_many : (m : ℕ) (r : Result Answer StepRefusal) → length (released_of m r) ≡ (if was_released r then 1 else 0)
+so_many m (Ok a) = go a.release
+  where
+    go : (o : Option Release) → length (logged m o) ≡ (if is_some o then 1 else 0)
+    go None = refl
+    go (Some r) = refl
+so_many m (Err refusal) = refl
+
+module _ {R : Type 0} (v v1 v' : World R) (step : Step) (m : ℕ) (call : Call) (brings : Brings v step m call) (same : IsSame v v1) (r : Result Answer StepRefusal) (seen : Seen)
+    (sent : v'.sent.items ≡ v1.sent.items ++ out_of r) (offers : v'.offers.items ≡ v1.offers.items ++ offers_of m call r) (releases : v'.releases.items ≡ v1.releases.items ++ released_of m r)
+    (is_seen : seen ≡ seen_of m (length v1.sent.items) r) where
+  -- what is seen is what was logged
+  pub told : count_of v' ≡ count_of v1 → Tells step v v' (Ok seen)
+  told count = (
+    brings.there,
+    record {
+      member = brings.acts ∙ ap (λ (q : Seen). Some q.member) (sym is_seen);
+      members = count ∙ ap (λ q. length q.items) same.stations;
+      first = ap (λ (q : Seen). q.first) is_seen ∙ ap (λ (l : List Datagram). length l + 1) same.sent;
+      sent = record { more = out_of r; is = sent ∙ ap (λ (l : List Datagram). l ++ out_of r) same.sent; many = ap (λ (q : Seen). q.count) (sym is_seen) };
+      releases = record {
+        more = released_of m r;
+        is = releases ∙ ap (λ l. l ++ released_of m r) same.releases;
+        many = so_many m r ∙ ap (λ (q : Seen). if q.released then 1 else 0) (sym is_seen);
+      };
+      offers = offers ∙ (ap (λ (l : List circuit.Offer). l ++ offers_of m call r) same.offers
+          ∙ (brings.logs v.offers.items r ∙ ap (λ (q : Seen). offers_after v.offers.items step q.outcome) (sym is_seen)));
+    },
+  )
+
+  module _ (x : Sight R) (count : R → ℕ) (i : ℕ) (s s' : Station (Balky R)) (ch : Changes v1 v' i m s s') where
+    -- it is a step of every state that the world stands for
+    pub asked :
+        OneSetting → (x.kept s'.rows.rows → (marks : List Mark) → CoreStandsFor s.core marks → Steps (balky_sight x count) call s s' marks r)
+        → AllKept x.kept v' → (z : StationCircuit) (w : StationState) → StandsFor x.is_open x.saved z v w → Moves x.is_open x.saved z w step v' (Ok seen)
+    asked one answers kept z w h =
+        let h1 = still x.is_open x.saved v v1 same z w h in
+        let task = ap (λ (l : List Datagram). task_of l (step_value step)) h.sent ∙ brings.task in
+        let marks = stood x count z v1 v' w i m s s' ch h1 in
+        let did = answers (kept_here v1 v' i m s s' ch x.kept kept) (w.marks m) marks in
+        let comes = answered x count one z v1 v' w i m s s' ch h1 (step_value step) call task r did (record { sent = sent; offers = offers; releases = releases }) in
+        let ends : outcome_value seen.outcome ≡ outcome_value (outcome_of r) = ap (λ (q : Seen). outcome_value q.outcome) is_seen in
+        let P : circuit.Outcome PacketFault SetFault → Type 0 = λ o. (after : StationState) × StandsFor x.is_open x.saved z v' after × circuit.StepsTo z w (step_value step) o after in
+        subst P (sym ends) comes
+
+    pub asked_kept : (x.kept s'.rows.rows → x.kept s.rows.rows) → AllKept x.kept v' → AllKept x.kept v
+    asked_kept was all = same_kept x.kept v v1 same (kept_before v1 v' i m s s' ch x.kept was all)
+
+-- one station was changed of a world that grew only in room
+pub changed_in :
+    {R : Type 0} (v v1 v' : World R) (i m : ℕ) (s s' : Station (Balky R)) → IsSame v v1 → suc i ≡ m → i < count_of v → s ≡ get_or v1.stations.items i s
+    → v'.stations.items ≡ slice_set v1.stations.items i s' → Changes v1 v' i m s s'
+changed_in v v1 v' i m s s' same is_m within is stations =
+    let as_many : count_of v1 ≡ count_of v = ap (λ q. length q.items) same.stations in
+    changed v1 v' i m s s' is_m (omega (arith, within, as_many)) is stations
+
+-- a reason that a world had, it has while it stays the same
+pub reason_stays : {R : Type 0} (v v' : World R) (step : Step) (refusal : WorldRefusal) → IsSame v v' → IsReason (missing_in v step) refusal → IsReason (missing_in v' step) refusal
+reason_stays v v' step refusal same is =
+    let missing : missing_in v step ≡ missing_in v' step = λ j. circuit.missing (sym (ap (λ q. length q.items) same.stations) j) (sym same.sent j) (step_value step) in
+    subst (λ (o : Option Missing). IsReason o refusal) missing is

@@ -1,0 +1,133 @@
+-- A call of a station is a step of the state, however it is answered.
+use Rattle.std.proofs.Common.{◌≡◌, ℕ, inl, inr, refl, sym, ap, subst, ◌∙◌, List, [], ◌++◌, Some, None, Option, false, append-nil}
+use Rattle.std.specs.Prelude.{Result, Ok, Err}
+use Rattle.protocol.specs.Packets.{Packet}
+use Rattle.protocol.specs.Marks.{Mark}
+use Rattle.protocol.specs.Proposals.{next_due}
+use Rattle.protocol.specs.Turn.{Event}
+use Rattle.protocol.specs.Refusals.{Setup, Call, Offering, Seeking, Falling_due, Receiving, due_event, arrival, event_of}
+use Rattle.protocol.specs.Refusals as refusals
+use Rattle.protocol.specs.Circuit as circuit
+use Rattle.protocol.specs.Circuit.{offers_with}
+use Rattle.packets.specs.Reading.{packet_at}
+use Rattle.packets.specs.declared.fault.PacketFault.{PacketFault}
+use Rattle.line_check.specs.Laws.{OneSetting}
+use Rattle.acceptor_store.specs.declared.balky.Balky.{Balky}
+use Rattle.station.specs.declared.station.Station.{Station}
+use Rattle.acceptor_store.specs.declared.fault.RowsFault.{RowsFault}
+use Rattle.line_check.specs.declared.fault.SetFault.{SetFault}
+use Rattle.station.specs.declared.answer.Answer.{Answer}
+use Rattle.station.specs.declared.answer.Release.{Release}
+use Rattle.station.specs.declared.refusal.StepRefusal.{StepRefusal}
+use Rattle.station.specs.declared.refusal.StepRefusal.TheVariants.{Stopped, BadDatagram, WrongCircuit, NotForMe, Stranger, BadNumber, AlreadyReleased, AlreadyOpen, TapeFaulty, RoundsSpent, Store, OutOfMemory}
+use Rattle.station.specs.Stations.{Sight, setup_of}
+use Rattle.station.specs.Steps.{Steps}
+use Rattle.world.specs.declared.world.World.{World}
+use Rattle.world.specs.Setups.{StationCircuit, StationState}
+use Rattle.world.specs.Reach.{StandsFor}
+use Rattle.world.specs.Taking.{outcome_value, is_torn}
+use Rattle.world.specs.Logging.{logged, offered_of, out_of, outcome_of, released_of}
+use Rattle.world.proofs.Members.{Changes, some_is}
+use Rattle.world.proofs.Turning.{balky_sight, Comes, Sends, refused_comes, idle_comes, spent_comes, done_comes, memory_comes, store_comes}
+
+-- what a call adds to the offers where it ended so
+abbrev pub offers_of : ℕ → Call → Result Answer StepRefusal → List circuit.Offer
+offers_of m (Offering n tape now) r = offered_of m n tape (outcome_of r)
+offers_of m (Seeking n now) r = []
+offers_of m (Falling_due now) r = []
+offers_of m (Receiving bytes now) r = []
+
+no_event : {X : Type 0} {a : X} → None ≡ Some a → ⊥
+no_event e = cc
+
+no_error : {X : Type 0} {a : X} → Some a ≡ None → ⊥
+no_error e = cc
+
+due_offers : (os : List circuit.Offer) (m now : ℕ) (o : Option ℕ) (e : Event) → due_event o now ≡ Some e → os ++ [] ≡ offers_with os m e
+due_offers os m now None e is = absurd (no_event is)
+due_offers os m now (Some n) e is = append-nil os ∙ ap (offers_with os m) (some_is is)
+
+arrived_offers : (os : List circuit.Offer) (m now : ℕ) (q : Result Packet PacketFault) (e : Event) → arrival q now ≡ Some e → os ++ [] ≡ offers_with os m e
+arrived_offers os m now (Err fault) e is = absurd (no_event is)
+arrived_offers os m now (Ok p) e is = append-nil os ∙ ap (offers_with os m) (some_is is)
+
+module _ {R : Type 0} (s : Station R) (marks : List Mark) (os : List circuit.Offer) (m : ℕ) where
+  -- the offers with that of a step that was done or torn
+  with_done : (call : Call) (e : Event) (a : Answer) → event_of (setup_of s) marks call ≡ Some e → os ++ offers_of m call (Ok a) ≡ offers_with os m e
+  with_done (Offering n tape now) e a is = ap (offers_with os m) (some_is is)
+  with_done (Seeking n now) e a is = append-nil os ∙ ap (offers_with os m) (some_is is)
+  with_done (Falling_due now) e a is = due_offers os m now (next_due s.core.me now marks) e is
+  with_done (Receiving bytes now) e a is = arrived_offers os m now (packet_at bytes) e is
+
+  with_store : (call : Call) (e : Event) (fault : RowsFault) → event_of (setup_of s) marks call ≡ Some e → os ++ offers_of m call (Err (Store fault)) ≡ offers_with os m e
+  with_store (Offering n tape now) e fault is = ap (offers_with os m) (some_is is)
+  with_store (Seeking n now) e fault is = append-nil os ∙ ap (offers_with os m) (some_is is)
+  with_store (Falling_due now) e fault is = due_offers os m now (next_due s.core.me now marks) e is
+  with_store (Receiving bytes now) e fault is = arrived_offers os m now (packet_at bytes) e is
+
+  with_memory : (call : Call) (e : Event) → event_of (setup_of s) marks call ≡ Some e → os ++ offers_of m call (Err OutOfMemory) ≡ offers_with os m e
+  with_memory (Offering n tape now) e is = ap (offers_with os m) (some_is is)
+  with_memory (Seeking n now) e is = append-nil os ∙ ap (offers_with os m) (some_is is)
+  with_memory (Falling_due now) e is = due_offers os m now (next_due s.core.me now marks) e is
+  with_memory (Receiving bytes now) e is = arrived_offers os m now (packet_at bytes) e is
+
+  -- a refused offer is not logged
+  with_refused : (call : Call) (q : StepRefusal) → is_torn q ≡ false → os ++ offers_of m call (Err q) ≡ os
+  with_refused (Offering n tape now) q un = rw un (append-nil os)
+  with_refused (Seeking n now) q un = append-nil os
+  with_refused (Falling_due now) q un = append-nil os
+  with_refused (Receiving bytes now) q un = append-nil os
+
+  -- a step without an event is no offer
+  with_none : (call : Call) (a : Answer) → event_of (setup_of s) marks call ≡ None → os ++ offers_of m call (Ok a) ≡ os
+  with_none (Offering n tape now) a is = absurd (no_error is)
+  with_none (Seeking n now) a is = append-nil os
+  with_none (Falling_due now) a is = append-nil os
+  with_none (Receiving bytes now) a is = append-nil os
+
+module _ {R : Type 0} (x : Sight R) (count : R → ℕ) (one : OneSetting) (z : StationCircuit) (v v' : World R) (w : StationState) (i m : ℕ) (s s' : Station (Balky R))
+    (ch : Changes v v' i m s s') (h : StandsFor x.is_open x.saved z v w) (step : circuit.Step) (call : Call)
+    (task : Sends x count z v v' w i m s s' ch h step call) where
+  abbrev To : circuit.Outcome PacketFault SetFault → Type 0
+  To o = Comes x count z v v' w i m s s' ch h step o
+
+  -- the logs after an answer
+  pub record Logs (r : Result Answer StepRefusal) : Type 0 where
+    pub sent : v'.sent.items ≡ v.sent.items ++ out_of r
+    pub offers : v'.offers.items ≡ v.offers.items ++ offers_of m call r
+    pub releases : v'.releases.items ≡ v.releases.items ++ released_of m r
+
+  refused :
+      (r : refusals.Refusal PacketFault SetFault) (q : StepRefusal) → is_torn q ≡ false → refusals.refusal (setup_of s) s.stopped (w.marks m) call ≡ Some r → s' ≡ s → Logs (Err q)
+      → To (circuit.Refused r)
+  refused r q un is same l =
+      refused_comes x count z v v' w i m s s' ch h step call r task is same
+      (l.sent ∙ append-nil v.sent.items) (l.offers ∙ with_refused s (w.marks m) v.offers.items m call q un) (l.releases ∙ append-nil v.releases.items)
+
+  pub answered : (r : Result Answer StepRefusal) → Steps (balky_sight x count) call s s' (w.marks m) r → Logs r → To (outcome_value (outcome_of r))
+  answered (Ok a) (inl d) l =
+      subst (λ (o : circuit.Outcome PacketFault SetFault). To o) (ap circuit.Done (sym d.note))
+      (idle_comes x count z v v' w i m s s' ch h step call task d.unrefused d.no_event d.same
+      (l.sent ∙ (ap (λ (g : List circuit.Datagram). v.sent.items ++ g) d.out ∙ append-nil v.sent.items))
+      (l.offers ∙ with_none s (w.marks m) v.offers.items m call a d.no_event)
+      (l.releases ∙ (ap (λ (o : Option Release). v.releases.items ++ logged m o) d.release ∙ append-nil v.releases.items)))
+  answered (Ok a) (inr d) l =
+      done_comes x count z v v' w i m s s' ch h one step call d.0 a task d.1 d.2 l.sent (l.offers ∙ with_done s (w.marks m) v.offers.items m call d.0 a d.1.event) l.releases
+  answered (Err Stopped) d l = refused refusals.Stopped Stopped refl d.0 d.1 l
+  answered (Err (BadDatagram fault)) d l = refused (refusals.Bad_datagram fault) (BadDatagram fault) refl d.0 d.1 l
+  answered (Err WrongCircuit) d l = refused refusals.Wrong_circuit WrongCircuit refl d.0 d.1 l
+  answered (Err NotForMe) d l = refused refusals.Not_for_me NotForMe refl d.0 d.1 l
+  answered (Err Stranger) d l = refused refusals.Stranger Stranger refl d.0 d.1 l
+  answered (Err BadNumber) d l = refused refusals.Bad_number BadNumber refl d.0 d.1 l
+  answered (Err AlreadyReleased) d l = refused refusals.Already_released AlreadyReleased refl d.0 d.1 l
+  answered (Err AlreadyOpen) d l = refused refusals.Already_open AlreadyOpen refl d.0 d.1 l
+  answered (Err (TapeFaulty fault)) d l = refused (refusals.Tape_faulty fault) (TapeFaulty fault) refl d.0 d.1 l
+  answered (Err RoundsSpent) d l =
+      spent_comes x count z v v' w i m s s' ch h step call d.0 task d.1 d.2
+      (l.sent ∙ append-nil v.sent.items) (l.offers ∙ with_refused s (w.marks m) v.offers.items m call RoundsSpent refl) (l.releases ∙ append-nil v.releases.items)
+  answered (Err (Store fault)) d l =
+      store_comes x count z v v' w i m s s' ch h step call d.0 task d.1 d.2
+      (l.sent ∙ append-nil v.sent.items) (l.offers ∙ with_store s (w.marks m) v.offers.items m call d.0 fault d.1.event) (l.releases ∙ append-nil v.releases.items)
+  answered (Err OutOfMemory) d l =
+      memory_comes x count z v v' w i m s s' ch h step call d.0 task d.1 d.2
+      (l.sent ∙ append-nil v.sent.items) (l.offers ∙ with_memory s (w.marks m) v.offers.items m call d.0 d.1.event) (l.releases ∙ append-nil v.releases.items)

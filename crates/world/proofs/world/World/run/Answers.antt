@@ -1,0 +1,57 @@
+-- One step more; and where one is refused, the steps before it.
+use Rattle.std.proofs.Common.{◌≡◌, ◌+◌, ◌∙◌, ◌++◌, ◌∷◌, [], List, Some, take, sym, ap, subst}
+use Rattle.std.specs.Prelude.{slice_get}
+use Rattle.std.proofs.lemmas.Option.{slice_get-get_or}
+use Rattle.std.proofs.lemmas.List.{take_more, take_all}
+use Rattle.world.specs.declared.step.Step.{Step}
+use Rattle.world.specs.Taking.{outcome_value}
+use Rattle.world.specs.Reach.{Leads}
+use Rattle.world.proofs.Asking.{reason_stays}
+use Rattle.world.proofs.Reaching.{agreed, led, leads_more}
+use Rattle.world.proofs.world.World.run.Goals as goal
+
+pub returns-in-Err-clause-runs : goal.returns-in-Err-clause-runs
+returns-in-Err-clause-runs g c = λ kept z w h.
+    let l = c.loop-at.invariant.runs (c.step.ensures.was_kept kept) z w h in
+    (l.0, c.in-Err.ensures.steps kept z l.0 l.1, l.2)
+
+pub returns-in-Err-clause-stops : goal.returns-in-Err-clause-stops
+returns-in-Err-clause-stops g c =
+    let steps = c.args.steps.now in
+    let step = c.index-steps-at.result in
+    let there : slice_get steps c.loop-at.at ≡ Some step = slice_get-get_or steps c.loop-at.at step c.loop-at-test.true ∙ ap Some (sym c.index-steps-at.is) in
+    let t = c.in-Err.ensures.tells in
+    (step, there, reason_stays c.loop-at.self c.step.new.self step c.in-Err.refusal t.1 t.0)
+
+pub returns-in-Err-clause-reached : goal.returns-in-Err-clause-reached
+returns-in-Err-clause-reached g c = λ kept z r.
+    let l = c.loop-at.invariant.runs (c.step.ensures.was_kept kept) z r.0 r.1 in
+    (l.0, c.in-Err.ensures.steps kept z l.0 l.1, led z r.0 l.0 (take c.loop-at.at c.args.steps.now) r.2 l.2)
+
+pub loop-at-preserved : goal.loop-at-preserved
+loop-at-preserved g c = record {
+  was_kept = λ kept. c.loop-at.invariant.was_kept (c.step.ensures.was_kept kept);
+  runs = λ kept z w h.
+      let steps = c.args.steps.now in
+      let step = c.index-steps-at.result in
+      let l = c.loop-at.invariant.runs (c.step.ensures.was_kept kept) z w h in
+      let m = c.in_default.ensures.steps kept z l.0 l.1 in
+      let longer : take (c.loop-at.at + 1) steps ≡ take c.loop-at.at steps ++ step ∷ [] =
+      take_more steps c.loop-at.at step c.loop-at-test.true ∙ ap (λ (s : Step). take c.loop-at.at steps ++ s ∷ []) (sym c.index-steps-at.is) in
+      let more : Leads z w (take c.loop-at.at steps ++ step ∷ []) m.0 = leads_more z w l.0 m.0 (take c.loop-at.at steps) step (outcome_value c.in_default.field-0.outcome) l.2 m.2 in
+      (m.0, m.1, subst (λ (ss : List Step). Leads z w ss m.0) (sym longer) more);
+}
+
+pub returns-clause-runs : goal.returns-clause-runs
+returns-clause-runs g c = λ kept z w h.
+    let l = c.loop-at.invariant.runs kept z w h in
+    let all : take c.loop-at.at c.args.steps.now ≡ c.args.steps.now = take_all c.loop-at.at c.args.steps.now c.loop-at-test.false in
+    (l.0, l.1, subst (λ (ss : List Step). Leads z w ss l.0) all l.2)
+
+pub returns-clause-reached : goal.returns-clause-reached
+returns-clause-reached g c = λ kept z r.
+    let l = c.loop-at.invariant.runs kept z r.0 r.1 in
+    (l.0, l.1, led z r.0 l.0 (take c.loop-at.at c.args.steps.now) r.2 l.2)
+
+pub returns-clause-agreed : goal.returns-clause-agreed
+returns-clause-agreed g c = λ z r. agreed g.R.Rows.is_open g.R.Rows.saved c.agreement.ensures z _ r

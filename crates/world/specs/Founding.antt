@@ -1,0 +1,71 @@
+-- A world in which nothing has happened yet.
+use Rattle.std.specs.Prelude.{◌≡◌, ◌≤◌, ℕ, suc, List, [], Some, None, false, Result, Ok, Err, length, slice_get}
+use Rattle.protocol.specs.Rows.{blank}
+use Rattle.code_table.specs.Tables.{Places}
+use Rattle.widths.specs.Widths.{WidthFile}
+use Rattle.acceptor_store.specs.Saved.{Saved}
+use Rattle.acceptor_store.specs.declared.balky.Balky.{Balky}
+use Rattle.node_core.specs.Standing.{StandsFor as CoreStandsFor}
+use Rattle.station.specs.declared.station.Station.{Station}
+use Rattle.world.specs.declared.world.World.{World}
+use Rattle.world.specs.declared.world.NewWorldFault.{NewWorldFault}
+use Rattle.world.specs.declared.world.NewWorldFault.TheVariants.{BadCount, OutOfMemory}
+use Rattle.world.specs.Setups.{StationCircuit, IsSetUp}
+use Rattle.world.specs.Worlds.{count_of}
+
+-- what a member is given: its code table, its widths and its rows
+abbrev pub Part : Type 0 → Type 0
+Part R = Places × WidthFile × R
+
+-- a circuit has 1 to 15 members
+abbrev pub IsCount : ℕ → Type 0
+IsCount n = (1 ≤ n) × (n ≤ 15)
+
+-- member m of the c of circuit k, which has taken nothing in, with this table, these widths and these rows, unarmed
+pub record IsNew {R : Type 0} (k c m : ℕ) (part : Part R) (s : Station (Balky R)) : Type 0 where
+  pub circuit : s.core.circuit ≡ k
+  pub members : s.core.members ≡ c
+  pub me : s.core.me ≡ m
+  pub table : s.table ≡ part.0
+  pub widths : s.widths ≡ part.1
+  pub rows : s.rows.rows ≡ part.2
+  pub unarmed : s.rows.armed ≡ None
+  pub goes : s.stopped ≡ false
+  pub stands : CoreStandsFor s.core []
+
+-- the stations are those of the parts, numbered from 1 in order
+abbrev pub AreNew : {R : Type 0} → ℕ → ℕ → List (Part R) → List (Station (Balky R)) → Type 0
+AreNew {R = R} k c parts stations =
+    (i : ℕ) (s : Station (Balky R)) → slice_get stations i ≡ Some s → (part : Part R) × (slice_get parts i ≡ Some part) × IsNew k c (suc i) part s
+
+-- all members of circuit k, and nothing went between them
+pub record IsFounded {R : Type 0} (k : ℕ) (parts : List (Part R)) (v : World R) : Type 0 where
+  pub count : count_of v ≡ length parts
+  pub stations : AreNew k (length parts) parts v.stations.items
+  pub sent : v.sent.items ≡ []
+  pub offers : v.offers.items ≡ []
+  pub releases : v.releases.items ≡ []
+
+-- why there is no world: a count that is none, and the list handed back; or want of memory
+abbrev pub IsUnfounded : {R : Type 0} → List (Part R) → NewWorldFault R → Type 0
+IsUnfounded parts (BadCount back) = (¬ IsCount (length parts)) × (back.items ≡ parts)
+IsUnfounded parts OutOfMemory = IsCount (length parts)
+
+-- it was founded, of a count that a circuit has, or not
+abbrev pub Founds : {R : Type 0} → ℕ → List (Part R) → Result (World R) (NewWorldFault R) → Type 0
+Founds k parts (Ok v) = IsCount (length parts) × IsFounded k parts v
+Founds k parts (Err fault) = IsUnfounded parts fault
+
+-- no row is saved
+abbrev pub AreBlank : {R : Type 0} → (R → Type 0) → (R → Saved) → List (Part R) → Type 0
+AreBlank {R = R} is_open saved parts = (i : ℕ) (part : Part R) → slice_get parts i ≡ Some part → is_open part.2 → (n : ℕ) → saved part.2 n ≡ blank
+
+-- circuit k, set up by these members' tables and widths
+pub record IsCircuitOf {R : Type 0} (k : ℕ) (parts : List (Part R)) (z : StationCircuit) : Type 0 where
+  pub tables : ℕ → Places
+  pub files : ℕ → WidthFile
+  pub set_up : IsSetUp tables files z
+  pub number : z.number ≡ k
+  pub count : z.count ≡ length parts
+  pub table : (i : ℕ) (part : Part R) → slice_get parts i ≡ Some part → tables (suc i) ≡ part.0
+  pub widths : (i : ℕ) (part : Part R) → slice_get parts i ≡ Some part → files (suc i) ≡ part.1

@@ -1,0 +1,122 @@
+//! A world: its members, and what went between them.
+
+ghost use Rattle.std.specs.Prelude.{◌≡◌, ◌≤◌, IfOk, length, option_copied};
+ghost use Rattle.protocol.specs.Circuit.{fresh};
+ghost use Rattle.world.specs.Founding.{AreBlank, AreNew, Founds, IsCircuitOf};
+ghost use Rattle.world.specs.Reach.{Reached, StandsFor};
+ghost use Rattle.world.specs.Setups.{StationCircuit};
+ghost use Rattle.world.specs.Worlds.{station_at};
+
+use crate::logs::{OfferLog, ReleaseLog};
+use acceptor_store::{Balky, Rows};
+use code_table::CodeTable;
+use station::{Datagram, Station};
+use std::alloc::{AllocError, Global};
+use widths::Widths;
+
+/// All members of a circuit, and every datagram, offer and release so far. Clauses see these lists.
+#[derive(Drop)]
+pub struct World<R: Rows> {
+    pub(crate) stations: Vec<Station<Balky<R>>>,
+    pub(crate) sent: Vec<Datagram>,
+    pub(crate) offers: Vec<OfferLog>,
+    pub(crate) releases: Vec<ReleaseLog>,
+    pub(crate) alloc: Global,
+}
+
+/// Why there is no world.
+#[derive(Drop)]
+pub enum NewWorldFault<R: Rows> {
+    /// There are no members, or more than 15. The list is handed back.
+    BadCount(Vec<(CodeTable, Widths, R)>),
+    /// The stations could not be kept. The list is given up.
+    OutOfMemory,
+}
+
+/// The stations of these members, numbered from 1 in order.
+fn stations_of<R: Rows>(
+    alloc: Global,
+    circuit: u16,
+    count: u8,
+    members: Vec<(CodeTable, Widths, R)>,
+) -> Result<Vec<Station<Balky<R>>>, AllocError>
+    requires many { length members.items ≡ count }
+    requires few { count ≤ 15 }
+    ensures new { IfOk result (λ v. AreNew circuit count members.items v.items) }
+    ensures count { IfOk result (λ v. length v.items ≡ count) }
+{
+    let mut stations = Vec::with_capacity(alloc, members.len())?;
+    let mut me = 0;
+    for (table, widths, rows) in members {
+        me += 1;
+        let rows = Balky::new(rows);
+        match Station::new(alloc, circuit, me, count, table, widths, rows) {
+            Ok(station) => stations.push(station)?,
+            Err(_) => unreachable!(),
+        }
+    }
+    Ok(stations)
+}
+
+impl<R: Rows> World<R> {
+    /// The members of a circuit, each with its code table, its widths and its rows, numbered from 1 in the list's
+    /// order. Nothing went between them.
+    ///
+    /// `BadCount` where the list has none or more than 15; `OutOfMemory`.
+    pub fn new(
+        alloc: Global,
+        circuit: u16,
+        members: Vec<(CodeTable, Widths, R)>,
+    ) -> Result<World<R>, NewWorldFault<R>>
+        ensures founds { Founds circuit members.items result }
+        // Over rows of which none is saved it stands for a fresh state, and so it is reached.
+        ensures fresh { IfOk result (λ v. AreBlank R.is_open R.saved members.items → (z : StationCircuit) → IsCircuitOf circuit members.items z → StandsFor R.is_open R.saved z v fresh) }
+        ensures reached { IfOk result (λ v. AreBlank R.is_open R.saved members.items → (z : StationCircuit) → IsCircuitOf circuit members.items z → Reached R.is_open R.saved z v) }
+    {
+        let count = match u8::try_from(members.len()) {
+            Ok(count) if 1 <= count && count <= 15 => count,
+            _ => return Err(NewWorldFault::BadCount(members)),
+        };
+        let Ok(stations) = stations_of(alloc, circuit, count, members) else {
+            return Err(NewWorldFault::OutOfMemory);
+        };
+        Ok(World {
+            stations,
+            sent: Vec::new(alloc),
+            offers: Vec::new(alloc),
+            releases: Vec::new(alloc),
+            alloc,
+        })
+    }
+
+    /// Every datagram that was sent, in order.
+    pub fn sent(&self) -> &[Datagram]
+        ensures { result.now ≡ self.now.sent.items }
+    {
+        self.sent.as_slice()
+    }
+
+    /// Each offer that was done, or that the store or want of memory ended in the station, in order.
+    pub fn offers(&self) -> &[OfferLog]
+        ensures { result.now ≡ self.now.offers.items }
+    {
+        self.offers.as_slice()
+    }
+
+    /// Every release, in order.
+    pub fn releases(&self) -> &[ReleaseLog]
+        ensures { result.now ≡ self.now.releases.items }
+    {
+        self.releases.as_slice()
+    }
+
+    /// The station of a member; `None` where there is no such member.
+    pub fn station(&self, member: u8) -> Option<&Station<Balky<R>>>
+        ensures { option_copied result ≡ station_at self.now member }
+    {
+        if member < 1 {
+            return None;
+        }
+        self.stations.get(usize::from(member) - 1)
+    }
+}
