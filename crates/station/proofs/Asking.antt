@@ -208,7 +208,7 @@ refused x call s marks RoundsSpent h = absurd h
 refused x call s marks (Store fault) h = absurd h
 refused x call s marks OutOfMemory h = absurd h
 
--- a refusal is none, or it is the one of a call that goes on
+-- where something is refused, it does not matter what would be refused after it
 known_refusal : (o p : Option Refusal) (r : StepRefusal) → IsRefusal o r → or_else o p ≡ o
 known_refusal (Some v) p r h = refl
 known_refusal None p Stopped h = cc

@@ -13,13 +13,12 @@ ghost use Rattle.station.specs.Stations.{sight, IsFixed};
 ghost use Rattle.station.specs.Steps.{Ends, IsFree, Steps, OnStore, tears, stopped_after};
 
 use crate::answer::Answer;
-use crate::checks::check_packet;
+use crate::checks::{check_packet, fault_of};
 use crate::getting_ready::save;
 use crate::refusal::StepRefusal;
 use crate::station::Station;
 use acceptor_store::Rows;
 use ballots::Number;
-use line_check::{SetError, set};
 use node_core::{CoreRefusal, Event};
 use packets::decode;
 use tape_frames::Tape;
@@ -42,10 +41,10 @@ impl<R: Rows> Station<R> {
             return Err(StepRefusal::Stopped);
         }
         let number = self.check_number(number)?;
-        match set(self.alloc, &self.table, &self.widths, tape) {
-            Ok(_) => {}
-            Err(SetError::Fault(fault)) => return Err(StepRefusal::TapeFaulty(fault)),
-            Err(SetError::OutOfMemory) => return Err(self.stop(StepRefusal::OutOfMemory)),
+        match fault_of(self.alloc, &self.table, &self.widths, tape) {
+            Ok(None) => {}
+            Ok(Some(fault)) => return Err(StepRefusal::TapeFaulty(fault)),
+            Err(_) => return Err(self.stop(StepRefusal::OutOfMemory)),
         }
         match tape.copy(self.alloc) {
             Ok(tape) => self.take(number, Event::Offer { number, tape, now }),
