@@ -1,16 +1,26 @@
--- A line that is neither overset nor loose has a slug.
-use Rattle.std.proofs.Common.{◌≡◌, ℕ, zero, suc, ◌+◌, ◌-◌, ◌*◌, ◌/◌, ◌%◌, ◌<◌, ◌≤◌, Bool, true, false, cond, ltb, List, map, Option, Some, None, refl, arith}
+-- A line that is neither overset nor loose has a slug, and each tape sets in some way.
+use Rattle.std.proofs.Common.{◌≡◌, ℕ, zero, suc, ◌+◌, ◌-◌, ◌*◌, ◌/◌, ◌%◌, ◌<◌, ◌≤◌, Bool, true, false, cond, ltb, List, [], ◌∷◌, length, map, Option, Some, None, refl, arith}
+use Rattle.std.specs.Prelude.{option_map, Result, Ok, Err}
 use Rattle.std.proofs.lemmas.Bool.{ltb-false}
 use Rattle.widths.specs.Widths.{WidthFile}
+use Rattle.slug_reader.specs.declared.fault.Stop.{Stop}
 use Rattle.slug_reader.specs.declared.item.Item.{Item}
+use Rattle.slug_reader.specs.declared.line.Line.{Line}
 use Rattle.slug_reader.specs.declared.line.Quad.{Quad}
 use Rattle.slug_reader.specs.declared.line.Quad.TheVariants as quads
+use Rattle.slug_reader.specs.Meanings.{Meanings}
+use Rattle.slug_reader.specs.Lines.{lines_before}
+use Rattle.slug_reader.specs.Faults.{first_stop, stop_place}
 use Rattle.line_check.specs.declared.slug.Slug.{Slug}
 use Rattle.line_check.specs.declared.slug.Kind.TheVariants as kinds
-use Rattle.line_check.specs.Slugs.{fixed_of, bands_of, kind_of, StandsAt, Fills, IsSlug, least_width, greatest_width, looseness, misfit, item_of_piece}
-use Rattle.line_check.specs.Spreading.{pieces_of}
-use Rattle.line_check.specs.Laws.{HasSlug}
+use Rattle.line_check.specs.declared.fault.Cause.{Cause}
+use Rattle.line_check.specs.declared.fault.SetFault.{SetFault}
+use Rattle.line_check.specs.Slugs.{fixed_of, bands_of, kind_of, StandsAt, Fills, AreSlugs, least_width, greatest_width, looseness, misfit, item_of_piece}
+use Rattle.line_check.specs.Spreading.{pieces_of, misfit_among}
+use Rattle.line_check.specs.Sets.{cause_of, fault_at, Sets}
+use Rattle.line_check.specs.Laws.{HasSlug, HasSetting}
 use Rattle.line_check.proofs.Spread.{items_kept, justifies, quads_line}
+use Rattle.line_check.proofs.FirstFault.{neither, mapped_none, sets_slugs, sets_misfit, sets_stop}
 
 -- a test that chose nothing
 unchosen : {A : Type 0} (b : Bool) (x : A) (y : Option A) → cond b (Some x) y ≡ None → (b ≡ false) × (y ≡ None)
@@ -62,3 +72,28 @@ has_slug widths line e =
     let fits = unchosen (ltb widths.measure (least_width widths line.items)) _ (looseness widths line.items line.quad) e in
     let found = filled widths line.items line.quad (ltb-false widths.measure (least_width widths line.items) fits.0) fits.1 in
     (found.0, record { items = found.1; fills = found.2 })
+
+-- lines of which each fits have slugs
+lines_set : (widths : WidthFile) (lines : List Line) → misfit_among widths lines ≡ None → (slugs : List Slug) × AreSlugs widths lines slugs
+lines_set widths [] fit = ([], tt)
+lines_set widths (line ∷ lines) fit =
+    let both = neither (option_map (λ cause. (line.elevate_at, cause)) (misfit widths line)) (misfit_among widths lines) fit in
+    let slug = has_slug widths line (mapped_none (λ cause. (line.elevate_at, cause)) (misfit widths line) both.0) in
+    let rest = lines_set widths lines both.1 in
+    (slug.0 ∷ rest.0, (slug.1, rest.1))
+
+-- a tape sets, by how far it can be read and by the first line before that place that does not fit
+tape_sets : (means : Meanings) (widths : WidthFile) (tape : List ℕ) (stop : Option Stop) (found : Option (ℕ × Cause)) → first_stop means widths tape ≡ stop
+    → misfit_among widths (lines_before means widths tape (stop_place (length tape) stop)) ≡ found
+    → (set : Result (List Slug) SetFault) × Sets means widths tape set
+tape_sets means widths tape stop (Some found) read first =
+    (Err (fault_at means tape found.0 found.1), sets_misfit means widths tape found.0 found.1 stop read first)
+tape_sets means widths tape (Some stop) None read fit =
+    (Err (fault_at means tape stop.at (cause_of stop.flaw)), sets_stop means widths tape stop read fit)
+tape_sets means widths tape None None read fit =
+    let slugs = lines_set widths (lines_before means widths tape (length tape)) fit in
+    (Ok slugs.0, sets_slugs means widths tape slugs.0 read (rw read fit) (rw read slugs.1))
+
+pub has_setting : HasSetting
+has_setting means widths tape =
+    tape_sets means widths tape (first_stop means widths tape) (misfit_among widths (lines_before means widths tape (stop_place (length tape) (first_stop means widths tape)))) refl refl

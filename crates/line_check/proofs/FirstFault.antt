@@ -29,7 +29,7 @@ or_else_assoc None y z = refl
 or_else_assoc (Some x) y z = refl
 
 -- where there is no answer there is none in either part
-neither : {A : Type 0} (x y : Option A) → or_else x y ≡ None → (x ≡ None) × (y ≡ None)
+pub neither : {A : Type 0} (x y : Option A) → or_else x y ≡ None → (x ≡ None) × (y ≡ None)
 neither None y e = (refl, e)
 neither (Some x) y e = absurd cc
 
@@ -92,7 +92,7 @@ mapped_else : {A B : Type 0} (f : A → B) (x y : Option A) → option_map f (or
 mapped_else f None y = refl
 mapped_else f (Some x) y = refl
 
-mapped_none : {A B : Type 0} (f : A → B) (x : Option A) → option_map f x ≡ None → x ≡ None
+pub mapped_none : {A B : Type 0} (f : A → B) (x : Option A) → option_map f x ≡ None → x ≡ None
 mapped_none f None e = refl
 mapped_none f (Some x) e = absurd cc
 

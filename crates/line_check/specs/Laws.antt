@@ -28,3 +28,7 @@ HasSlug = (widths : WidthFile) (line : Line) → misfit widths line ≡ None →
 -- a tape sets in one way
 abbrev pub OneSetting : Type 0
 OneSetting = (means : Meanings) (widths : WidthFile) (tape : List ℕ) (a b : Result (List Slug) SetFault) → Sets means widths tape a → Sets means widths tape b → a ≡ b
+
+-- each tape sets in some way: as slugs, or with a fault
+abbrev pub HasSetting : Type 0
+HasSetting = (means : Meanings) (widths : WidthFile) (tape : List ℕ) → (set : Result (List Slug) SetFault) × Sets means widths tape set

@@ -1,6 +1,6 @@
 //! Laws over the definitions. The functions do nothing: their contracts are the laws.
 
-ghost use Rattle.line_check.specs.Laws.{OneSlug, AddsUp, HasNoSlug, HasSlug, OneSetting};
+ghost use Rattle.line_check.specs.Laws.{OneSlug, AddsUp, HasNoSlug, HasSlug, OneSetting, HasSetting};
 
 /// A line has at most one slug.
 pub fn one_slug()
@@ -25,4 +25,9 @@ pub fn has_slug()
 /// A tape gives one list of slugs, or one fault.
 pub fn one_setting()
     ensures { OneSetting }
+{}
+
+/// Each tape gives a list of slugs or a fault.
+pub fn has_setting()
+    ensures { HasSetting }
 {}
