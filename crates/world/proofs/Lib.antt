@@ -7,3 +7,4 @@ pub mod Starting
 pub mod Reaching
 pub mod Founding
 pub mod Asking
+pub mod Existing

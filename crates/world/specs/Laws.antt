@@ -50,6 +50,12 @@ pub record AreAgreed (tables : ℕ → Places) (files : ℕ → WidthFile) (w : 
   pub offered : (x : Release (List Slug) SetFault) → IsAmong w.releases x → WasOffered w x.number x.tape
   pub set : (x : Release (List Slug) SetFault) → IsAmong w.releases x → Sets (mean (tables x.member)) (files x.member) x.tape x.set
 
+-- there is a circuit of stations of any number and member count, whatever their tables and width files
+abbrev pub CircuitsExist : Type 0
+CircuitsExist =
+    (number count : ℕ) (tables : ℕ → Places) (files : ℕ → WidthFile)
+    → (z : StationCircuit) × (z.number ≡ number) × (z.count ≡ count) × IsSetUp tables files z
+
 -- the headline: in every history of a circuit of stations what is released is agreed
 abbrev pub StationsAgree : Type 0
 StationsAgree = (tables : ℕ → Places) (files : ℕ → WidthFile) (z : StationCircuit) → IsSetUp tables files z → (w : State (List Slug) SetFault) → History z w → AreAgreed tables files w

@@ -1,7 +1,7 @@
 //! The laws over every history, at the packets' own reading and at what tables and widths make of tapes.
 //! The functions do nothing but cite the laws that they rest on.
 
-ghost use Rattle.world.specs.Laws.{OneTape, VotesOffered, PromisesKept, ReportsGreatest, VotesBacked, HeardVoted, RipeChosen, OneChosen, StationsAgree};
+ghost use Rattle.world.specs.Laws.{OneTape, VotesOffered, PromisesKept, ReportsGreatest, VotesBacked, HeardVoted, RipeChosen, OneChosen, CircuitsExist, StationsAgree};
 
 use crate::slugs::Slugs;
 use line_check::SetFault;
@@ -50,6 +50,13 @@ pub fn chosen_is_one()
     ensures one { OneChosen }
 {
     laws::chosen_is_one::<PacketFault, Slugs, SetFault>();
+}
+
+/// There is a circuit of stations, whatever their tables and widths: each tape sets in one way.
+pub fn circuits_exist()
+    ensures { CircuitsExist }
+{
+    line_check::laws::has_setting();
 }
 
 /// Over every history no two releases of one number differ, each released tape was offered for its number,

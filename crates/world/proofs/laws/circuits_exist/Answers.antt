@@ -1,0 +1,6 @@
+-- From the setting that each tape has.
+use Rattle.world.proofs.Existing.{circuits_exist}
+use Rattle.world.proofs.laws.circuits_exist.Goals as goal
+
+pub returns : goal.returns
+returns c = circuits_exist c.has_setting.ensures
