@@ -378,7 +378,7 @@ impl NodeCore {
         ensures memory { OnErr result ((marks : List Mark) → ¬ IsStill row.now marks (accept_turn self.old.circuit self.old.members self.old.me marks row.now packet.now tape.entry row.now.promised)) }
         ensures seat { IsSameSeat self.old self.new }
     {
-        // The sender is a member, and this one is among the others that it sends to.
+        // The sender is another member: so there is one to answer.
         let (_from, _me) = (packet.from().get(), self.me());
         let ballot = packet.ballot();
         match acceptor::accept(self.alloc, row, ballot, tape.lend())? {
