@@ -13,3 +13,6 @@ pub use logs::{OfferLog, ReleaseLog};
 pub use slugs::Slugs;
 pub use step::{Outcome, RunStop, Seen, Step, WorldRefusal};
 pub use world::{NewWorldFault, World};
+
+#[cfg(test)]
+mod tests;
