@@ -1,8 +1,8 @@
 //! The command line.
 
-use crate::checking;
 use crate::end::End;
 use crate::fault::Fault;
+use crate::{checking, rehearsing};
 use ballots::Member;
 use clap::error::ErrorKind;
 use clap::{Arg, ArgAction, ArgMatches, Command, Error};
@@ -22,6 +22,9 @@ pub enum Asked<'a> {
     Rows {
         path: &'a str,
     },
+    Rehearse {
+        paths: rehearsing::Paths<'a>,
+    },
 }
 
 /// A required argument that is taken as it stands.
@@ -31,6 +34,12 @@ fn required<'a>(alloc: Global, name: &'a str, help: &'a str) -> Arg<'a> {
         .action(ArgAction::Set)
         .help(help)
 }
+
+const ANSWER_EXAMPLE: &str = "\
+Example: member 1 asks member 2 of circuit 7 to promise ballot 1.1 for number 12, and gets its promise.
+
+  $ echo 544e0101000701020000000c0000000101 | circuitd answer 7 2
+  544e0102000702010000000c000000010100";
 
 fn answer_command<'a>(alloc: Global) -> Result<Command<'a>, Error> {
     let circuit = required(alloc, "CIRCUIT", "The circuit's number, 0 to 65535").value_parser(
@@ -44,9 +53,22 @@ fn answer_command<'a>(alloc: Global) -> Result<Command<'a>, Error> {
             "Answers requests as one acceptor: a datagram in hex per line in, its reply per line out",
         )
         .arg(circuit)?
-        .arg(member)?;
+        .arg(member)?
+        .after_help(ANSWER_EXAMPLE);
     Ok(command)
 }
+
+const CHECK_EXAMPLE: &str = "\
+Example: what the linecaster will cast of a tape, a line per slug: its number, J for justified,
+the blank left and right, and the matrices with the width of each spaceband.
+
+  $ circuitd check codes.toml widths.toml flood.tape
+  0001 J 0 0 a b _4 a _4 b
+
+A tape that does not set is told with its place, counted in frames from 0:
+
+  $ circuitd check codes.toml widths.toml overset.tape
+  fault: overset 1 at 7 line 1";
 
 fn check_command<'a>(alloc: Global) -> Result<Command<'a>, Error> {
     let holes = Arg::new(alloc, "holes")
@@ -60,7 +82,8 @@ fn check_command<'a>(alloc: Global) -> Result<Command<'a>, Error> {
         .arg(required(alloc, "TABLE", "The code table, as examples/codes.toml"))?
         .arg(required(alloc, "WIDTHS", "The width file, as examples/widths.toml"))?
         .arg(required(alloc, "TAPE", "The tape, one frame per byte"))?
-        .arg(holes)?;
+        .arg(holes)?
+        .after_help(CHECK_EXAMPLE);
     Ok(command)
 }
 
@@ -80,13 +103,50 @@ fn rows_command<'a>(alloc: Global) -> Result<Command<'a>, Error> {
     Ok(command)
 }
 
+const REHEARSE_EXAMPLE: &str = "\
+Example: the first of three members offers a story, and its first request comes to member 2.
+
+  members 3
+  offer 1 12 01020301030204
+  deliver 1
+
+The lines of this script print what each member did and what it sent:
+
+  $ circuitd rehearse codes.toml widths.toml story.script
+  1 began 1.1
+   #1 prepare 1>2 12 1.1
+   #2 prepare 1>3 12 1.1
+  2 promised 1.1
+   #3 promise 2>1 12 1.1";
+
+fn rehearse_command<'a>(alloc: Global) -> Result<Command<'a>, Error> {
+    let command = Command::new(alloc, "rehearse")
+        .about(
+            "Rehearses a whole circuit by a script: who offers, what is delivered when, who starts again",
+        )
+        .arg(required(
+            alloc,
+            "TABLE",
+            "The code table of all members, as examples/codes.toml",
+        ))?
+        .arg(required(
+            alloc,
+            "WIDTHS",
+            "The width file of all members, as examples/widths.toml",
+        ))?
+        .arg(required(alloc, "SCRIPT", "The script, as examples/story.script"))?
+        .after_help(REHEARSE_EXAMPLE);
+    Ok(command)
+}
+
 fn matches_of<'a>(alloc: Global, words: &'a [String]) -> Result<ArgMatches<'a>, Error> {
     let command = Command::new(alloc, "circuitd")
         .about("A wire circuit whose numbers never mean two stories")
         .subcommand_required(true)
         .subcommand(answer_command(alloc)?)?
         .subcommand(check_command(alloc)?)?
-        .subcommand(rows_command(alloc)?)?;
+        .subcommand(rows_command(alloc)?)?
+        .subcommand(rehearse_command(alloc)?)?;
     command.try_get_matches_from(words)
 }
 
@@ -111,11 +171,21 @@ fn rows_of<'a>(matches: &ArgMatches<'a>) -> Option<Asked<'a>> {
     Some(Asked::Rows { path })
 }
 
+fn rehearse_of<'a>(matches: &ArgMatches<'a>) -> Option<Asked<'a>> {
+    let paths = rehearsing::Paths {
+        table: matches.get_str("TABLE")?,
+        widths: matches.get_str("WIDTHS")?,
+        script: matches.get_str("SCRIPT")?,
+    };
+    Some(Asked::Rehearse { paths })
+}
+
 fn asked_of<'a>(matches: &ArgMatches<'a>) -> Option<Asked<'a>> {
     match matches.subcommand() {
         Some(("answer", given)) => answer_of(given),
         Some(("check", given)) => check_of(given),
         Some(("rows", given)) => rows_of(given),
+        Some(("rehearse", given)) => rehearse_of(given),
         _ => None,
     }
 }

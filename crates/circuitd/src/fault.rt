@@ -43,6 +43,8 @@ pub enum Fault<'a> {
     TapeBadFrame(usize),
     #[error("fault: {}", CauseText(*.0))]
     Unset(SetFault),
+    #[error("script line {line}: {what}")]
+    Script { line: usize, what: &'static str },
     #[error("store: {0}")]
     Store(&'static str),
     #[error("store: damaged {0}")]
@@ -107,6 +109,11 @@ impl<'a> Fault<'a> {
             RowsFault::Damaged { number } => Fault::StoreDamaged(number),
             RowsFault::OutOfMemory => Fault::OutOfMemory,
         }
+    }
+
+    /// Why a line of a script, counted from 1, is not played.
+    pub fn script(line: usize, what: &'static str) -> Fault<'a> {
+        Fault::Script { line, what }
     }
 
     /// How a command ends by this fault.

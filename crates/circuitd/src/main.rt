@@ -10,8 +10,10 @@ mod line;
 mod listing;
 mod opened;
 mod refusal;
+mod rehearsing;
 mod releases;
 mod script;
+mod showing;
 mod sources;
 #[cfg(test)]
 mod trying;
@@ -80,11 +82,31 @@ fn run_rows(rt: &HostRuntime, path: &str) -> End {
     }
 }
 
+fn run_rehearse(rt: &HostRuntime, paths: &rehearsing::Paths<'_>) -> End {
+    let Ok(mut out) = BufWriter::new(rt.alloc(), rt.stdout()) else {
+        return Fault::OutOfMemory.tell(&mut rt.stderr());
+    };
+    let mut table = Opened::at(rt, paths.table);
+    let mut widths = Opened::at(rt, paths.widths);
+    let mut script = Opened::at(rt, paths.script);
+    let mut err = rt.stderr();
+    rehearsing::rehearse(
+        rt.alloc(),
+        paths,
+        &mut table,
+        &mut widths,
+        &mut script,
+        &mut out,
+        &mut err,
+    )
+}
+
 fn run_command(rt: &HostRuntime, asked: &Asked<'_>) -> End {
     match asked {
         Asked::Answer { circuit, me } => run_answer(rt, *circuit, *me),
         Asked::Check { paths, listing } => run_check(rt, paths, *listing),
         Asked::Rows { path } => run_rows(rt, *path),
+        Asked::Rehearse { paths } => run_rehearse(rt, paths),
     }
 }
 
