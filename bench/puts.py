@@ -14,8 +14,10 @@ beside the file, synced once at each commit (WAL, synchronous FULL), and holds t
 supposing as SQLite does that a write which power cuts off leaves each byte old or new; and a second time, as `wary`,
 it supposes nothing of such a write and syncs twice.
 
-The programs run in turn. It is seen that the files have equal rows and pass SQLite's integrity check. Printed are the
-least and the median of the runs with their ratios, the same without saves, and the syncs of one run.
+It is seen that the files have equal rows and pass SQLite's integrity check. Then the programs run in turn, in 15
+rounds, with all saves and with none. Printed are for each the least and the median time, the ratio of the least to
+the peer's, and the median of the rounds' ratios, which tells most where the disk has other work; and the syncs of
+one run.
 """
 import contextlib
 import os
@@ -32,7 +34,7 @@ HERE = os.path.dirname(os.path.abspath(__file__))
 CRATES = os.path.join(HERE, "..", "crates")
 BELOW = ("protocol", "tape_frames", "ballots", "row_table", "acceptor_store")
 PARTS = ("src", "specs", "proofs", "out/rlib")
-SAVES, RUNS = 2000, 9
+SAVES, ROUNDS = 2000, 15
 
 
 def copy_crate(name, work):
@@ -90,13 +92,17 @@ def see_equal_rows(programs, work):
 
 def compare(programs, work, saves):
     taken = {name: [] for name in programs}
-    for _ in range(RUNS):
+    for _ in range(ROUNDS):
         for name, words in programs.items():
             taken[name].append(run(words, work, saves)[0])
-    for label, of in (("least", min), ("median", statistics.median)):
-        peer = of(taken["SQLite"])
-        for name in programs:
-            print(f"{saves} saves, {label}, {name}: {of(taken[name]) * 1000:.1f} ms, ratio {of(taken[name]) / peer:.2f}")
+    peer = taken["SQLite"]
+    for name, of in taken.items():
+        least, median = min(of), statistics.median(of)
+        beside = statistics.median(one / other for one, other in zip(of, peer))
+        print(
+            f"{saves} saves, {name}: least {least * 1000:.1f} ms, median {median * 1000:.1f} ms;"
+            f" ratio of the least {least / min(peer):.2f}, median ratio {beside:.2f}"
+        )
 
 
 def count_syncs(programs, work):
