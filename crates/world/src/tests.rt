@@ -5,3 +5,4 @@ mod failing;
 mod passing;
 mod playing;
 mod refusing;
+mod storing;

@@ -9,7 +9,7 @@ use line_check::{Cause, SetFault};
 use std::test::Fail;
 
 /// Member 1 of three offers X, and all three release it.
-const THREE: [Line; 8] = [
+pub(super) const THREE: [Line; 8] = [
     Line(OfferX(1), 1, 1, 2, false, "began 1.1"),
     Line(Deliver(1), 2, 3, 1, false, "promised 1.1"),
     Line(Deliver(3), 1, 4, 4, false, "proposed 1.1"),

@@ -1,7 +1,7 @@
 //! Worlds over rows in memory, and tables of steps with what is to be seen of each.
 
 use crate::{Outcome, Seen, Step, World};
-use acceptor_store::MemoryRows;
+use acceptor_store::{MemoryRows, Rows};
 use ballots::Ballot;
 use code_table::CodeTable;
 use line_check::galley;
@@ -99,13 +99,15 @@ pub(super) struct Line(
 
 pub(super) type Sample = World<MemoryRows>;
 
-pub(super) type Part = (CodeTable, Widths, MemoryRows);
-
-/// A member's code table, these widths and blank rows.
-pub(super) fn part(alloc: Global, widths: &str) -> Result<Part, Fail> {
+/// A member's code table, these widths and these rows.
+pub(super) fn part<R: Rows>(
+    alloc: Global,
+    widths: &str,
+    rows: R,
+) -> Result<(CodeTable, Widths, R), Fail> {
     let table = CodeTable::read(alloc, TABLE)?;
     let widths = Widths::read(alloc, widths)?;
-    Ok((table, widths, MemoryRows::new(alloc)))
+    Ok((table, widths, rows))
 }
 
 /// A circuit of this many members, the last of them with these widths.
@@ -113,7 +115,7 @@ pub(super) fn circuit(alloc: Global, members: u8, last: &str) -> Result<Sample, 
     let mut parts = Vec::new(alloc);
     for member in 0..members {
         let widths = if member + 1 == members { last } else { WIDTHS };
-        parts.push(part(alloc, widths)?)?;
+        parts.push(part(alloc, widths, MemoryRows::new(alloc))?)?;
     }
     Ok(World::new(alloc, 7, parts).ok().ok_or("a world")?)
 }

@@ -3,6 +3,7 @@
 use super::playing::Act::{Deliver, OfferX, Seek};
 use super::playing::{Line, Sample, WIDTHS, circuit, part, plays, step_of};
 use crate::{NewWorldFault, RunStop, Step, World, WorldRefusal};
+use acceptor_store::MemoryRows;
 use std::alloc::Global;
 use std::test::Fail;
 
@@ -10,7 +11,7 @@ use std::test::Fail;
 fn is_handed_back(alloc: Global, members: usize) -> Result<bool, Fail> {
     let mut parts = Vec::new(alloc);
     for _ in 0..members {
-        parts.push(part(alloc, WIDTHS)?)?;
+        parts.push(part(alloc, WIDTHS, MemoryRows::new(alloc))?)?;
     }
     match World::new(alloc, 7, parts) {
         Err(NewWorldFault::BadCount(back)) => Ok(back.len() == members),
