@@ -1,30 +1,21 @@
 //! The command line.
 
-use crate::end::End;
-use crate::fault::Fault;
-use crate::{checking, rehearsing};
+use crate::starting::Plan;
 use ballots::Member;
+use clap::builder::ValueParser;
 use clap::error::ErrorKind;
 use clap::{Arg, ArgAction, ArgMatches, Command, Error};
+use commands::{End, Fault, ScriptPaths, TapePaths};
 use std::alloc::Global;
 
 /// What the command line asks for.
 #[derive(Clone, Copy, Debug)]
 pub enum Asked<'a> {
-    Answer {
-        circuit: u16,
-        me: Member,
-    },
-    Check {
-        paths: checking::Paths<'a>,
-        listing: bool,
-    },
-    Rows {
-        path: &'a str,
-    },
-    Rehearse {
-        paths: rehearsing::Paths<'a>,
-    },
+    Answer { circuit: u16, me: Member },
+    Check { paths: TapePaths<'a>, listing: bool },
+    Rows { path: &'a str },
+    Serve(Plan<'a>),
+    Rehearse { paths: ScriptPaths<'a> },
 }
 
 /// A required argument that is taken as it stands.
@@ -103,6 +94,84 @@ fn rows_command<'a>(alloc: Global) -> Result<Command<'a>, Error> {
     Ok(command)
 }
 
+/// An option that takes a value.
+fn option<'a>(
+    alloc: Global,
+    name: &'a str,
+    value: &'a str,
+    parser: ValueParser<'a>,
+    help: &'a str,
+) -> Arg<'a> {
+    Arg::new(alloc, name)
+        .long(name)
+        .value_name(value)
+        .value_parser(parser)
+        .help(help)
+}
+
+const SERVE_EXAMPLE: &str = "\
+Example: the first plant of a circuit makes its row file and puts a story on the wire as number 12.
+It serves for about a minute, and prints the story when the circuit has agreed on it:
+
+  $ circuitd serve station1.toml --turns 1200 --create --number 12 --tape story.tape
+  release 12 01020301030204
+  0001 J 0 0 a b _4 a _4 b
+
+Every other plant of the circuit runs `circuitd serve` with its own configuration at the same time.
+Later a plant that missed the story asks the others for it:
+
+  $ circuitd serve station3.toml --turns 1200 --seek 12";
+
+fn serve_command<'a>(alloc: Global) -> Result<Command<'a>, Error> {
+    let turns = option(
+        alloc,
+        "turns",
+        "T",
+        clap::value_parser!(u32).range(1..=1_000_000),
+        "How many turns to serve, 1 to 1000000: a turn takes in one datagram, or waits for 50 milliseconds",
+    );
+    let number = clap::value_parser!(u32);
+    let command = Command::new(alloc, "serve")
+        .about(
+            "Runs this plant's station on the wire, and prints each story that the circuit has agreed on",
+        )
+        .after_help(SERVE_EXAMPLE)
+        .arg(required(
+            alloc,
+            "CONFIG",
+            "The station's configuration: its circuit, its member, its files and the addresses of all stations",
+        ))?
+        .arg(turns.required(true))?
+        .arg(
+            Arg::new(alloc, "create")
+                .long("create")
+                .action(ArgAction::SetTrue)
+                .help("Make the row file: for the first start of a station, and never again"),
+        )?
+        .arg(option(
+            alloc,
+            "number",
+            "N",
+            number,
+            "First offer a story under this number, 1 to 999999; goes with --tape",
+        ))?
+        .arg(option(
+            alloc,
+            "tape",
+            "FILE",
+            ValueParser::string(),
+            "The tape that is offered, one frame per byte; goes with --number",
+        ))?
+        .arg(option(
+            alloc,
+            "seek",
+            "N",
+            clap::value_parser!(u32),
+            "Then ask the circuit for the story of this number",
+        ))?;
+    Ok(command)
+}
+
 const REHEARSE_EXAMPLE: &str = "\
 Example: the first of three members offers a story, and its first request comes to member 2.
 
@@ -146,6 +215,7 @@ fn matches_of<'a>(alloc: Global, words: &'a [String]) -> Result<ArgMatches<'a>, 
         .subcommand(answer_command(alloc)?)?
         .subcommand(check_command(alloc)?)?
         .subcommand(rows_command(alloc)?)?
+        .subcommand(serve_command(alloc)?)?
         .subcommand(rehearse_command(alloc)?)?;
     command.try_get_matches_from(words)
 }
@@ -157,7 +227,7 @@ fn answer_of<'a>(matches: &ArgMatches<'a>) -> Option<Asked<'a>> {
 }
 
 fn check_of<'a>(matches: &ArgMatches<'a>) -> Option<Asked<'a>> {
-    let paths = checking::Paths {
+    let paths = TapePaths {
         table: matches.get_str("TABLE")?,
         widths: matches.get_str("WIDTHS")?,
         tape: matches.get_str("TAPE")?,
@@ -171,8 +241,20 @@ fn rows_of<'a>(matches: &ArgMatches<'a>) -> Option<Asked<'a>> {
     Some(Asked::Rows { path })
 }
 
+fn serve_of<'a>(matches: &ArgMatches<'a>) -> Option<Asked<'a>> {
+    let plan = Plan {
+        config: matches.get_str("CONFIG")?,
+        turns: matches.get_one::<u32>("turns")?,
+        create: matches.get_flag("create"),
+        number: matches.get_one::<u32>("number"),
+        tape: matches.get_str("tape"),
+        seek: matches.get_one::<u32>("seek"),
+    };
+    Some(Asked::Serve(plan))
+}
+
 fn rehearse_of<'a>(matches: &ArgMatches<'a>) -> Option<Asked<'a>> {
-    let paths = rehearsing::Paths {
+    let paths = ScriptPaths {
         table: matches.get_str("TABLE")?,
         widths: matches.get_str("WIDTHS")?,
         script: matches.get_str("SCRIPT")?,
@@ -185,6 +267,7 @@ fn asked_of<'a>(matches: &ArgMatches<'a>) -> Option<Asked<'a>> {
         Some(("answer", given)) => answer_of(given),
         Some(("check", given)) => check_of(given),
         Some(("rows", given)) => rows_of(given),
+        Some(("serve", given)) => serve_of(given),
         Some(("rehearse", given)) => rehearse_of(given),
         _ => None,
     }

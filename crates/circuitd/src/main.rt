@@ -1,29 +1,16 @@
 //! circuitd: one station of a wire circuit, and the tools round it.
 #![tactic(auto)]
 
-mod answering;
 mod arguments;
-mod checking;
-mod end;
-mod fault;
-mod line;
-mod listing;
 mod opened;
-mod refusal;
-mod rehearsing;
-mod releases;
-mod script;
-mod showing;
-mod sources;
-#[cfg(test)]
-mod trying;
-mod words;
+mod row_files;
+mod starting;
 
 use arguments::{Asked, parse};
 use ballots::Member;
-use end::End;
-use fault::Fault;
+use commands::{End, Fault, ScriptPaths, TapePaths, answer, check, print_rows, rehearse};
 use opened::Opened;
+use sqlite::Wary;
 use std::env;
 use std::io::{BufWriter, ErrorKind};
 use std::process::ExitCode;
@@ -48,10 +35,10 @@ fn run_answer(rt: &HostRuntime, circuit: u16, me: Member) -> End {
     };
     let mut input = rt.stdin();
     let mut err = rt.stderr();
-    answering::answer(rt.alloc(), circuit, me, &mut input, &mut out, &mut err)
+    answer(rt.alloc(), circuit, me, &mut input, &mut out, &mut err)
 }
 
-fn run_check(rt: &HostRuntime, paths: &checking::Paths<'_>, listing: bool) -> End {
+fn run_check(rt: &HostRuntime, paths: &TapePaths<'_>, listing: bool) -> End {
     let Ok(mut out) = BufWriter::new(rt.alloc(), rt.stdout()) else {
         return Fault::OutOfMemory.tell(&mut rt.stderr());
     };
@@ -59,7 +46,7 @@ fn run_check(rt: &HostRuntime, paths: &checking::Paths<'_>, listing: bool) -> En
     let mut widths = Opened::at(rt, paths.widths);
     let mut tape = Opened::at(rt, paths.tape);
     let mut err = rt.stderr();
-    checking::check(
+    check(
         rt.alloc(),
         paths,
         &mut table,
@@ -76,13 +63,22 @@ fn run_rows(rt: &HostRuntime, path: &str) -> End {
         return Fault::OutOfMemory.tell(&mut rt.stderr());
     };
     let mut err = rt.stderr();
-    match listing::open_rows(rt, path) {
-        Ok(mut rows) => listing::print_rows(rt.alloc(), &mut rows, &mut out, &mut err),
+    match row_files::open_rows(rt, path, Wary, None) {
+        Ok(mut rows) => print_rows(rt.alloc(), &mut rows, &mut out, &mut err),
         Err(fault) => Fault::of_rows(fault).tell(&mut err),
     }
 }
 
-fn run_rehearse(rt: &HostRuntime, paths: &rehearsing::Paths<'_>) -> End {
+fn run_serve(rt: &HostRuntime, plan: &starting::Plan<'_>) -> End {
+    let Ok(mut out) = BufWriter::new(rt.alloc(), rt.stdout()) else {
+        return Fault::OutOfMemory.tell(&mut rt.stderr());
+    };
+    let mut err = rt.stderr();
+    // A story that is lost to a torn write would be a promise broken, so the database supposes nothing of one.
+    starting::serve(rt, plan, Wary, &mut out, &mut err)
+}
+
+fn run_rehearse(rt: &HostRuntime, paths: &ScriptPaths<'_>) -> End {
     let Ok(mut out) = BufWriter::new(rt.alloc(), rt.stdout()) else {
         return Fault::OutOfMemory.tell(&mut rt.stderr());
     };
@@ -90,7 +86,7 @@ fn run_rehearse(rt: &HostRuntime, paths: &rehearsing::Paths<'_>) -> End {
     let mut widths = Opened::at(rt, paths.widths);
     let mut script = Opened::at(rt, paths.script);
     let mut err = rt.stderr();
-    rehearsing::rehearse(
+    rehearse(
         rt.alloc(),
         paths,
         &mut table,
@@ -106,6 +102,7 @@ fn run_command(rt: &HostRuntime, asked: &Asked<'_>) -> End {
         Asked::Answer { circuit, me } => run_answer(rt, *circuit, *me),
         Asked::Check { paths, listing } => run_check(rt, paths, *listing),
         Asked::Rows { path } => run_rows(rt, *path),
+        Asked::Serve(plan) => run_serve(rt, plan),
         Asked::Rehearse { paths } => run_rehearse(rt, paths),
     }
 }

@@ -1,0 +1,4 @@
+pub mod History
+pub mod Loop
+mod Listings
+pub mod Served
