@@ -289,3 +289,6 @@ pub fn parse<'a>(rt: &HostRuntime, words: &'a [String]) -> Result<Asked<'a>, End
         }
     }
 }
+
+#[cfg(test)]
+mod tests;

@@ -2,7 +2,10 @@
 //! and what a command came to.
 
 use crate::end::End;
+use crate::listing::print_rows;
+use acceptor_store::SqliteRows;
 use code_table::CodeTable;
+use sqlite::Alter;
 use std::alloc::Global;
 use std::io;
 use std::io::{ErrorKind, Read, Write};
@@ -115,4 +118,12 @@ impl Told {
     pub fn is_fault(&self, fault: &str) -> bool {
         self.is_fault_after("", fault)
     }
+}
+
+/// What `rows` prints of these.
+pub fn listed<S: Alter + Drop>(alloc: Global, rows: &mut SqliteRows<S>) -> Told {
+    let mut out = Vec::new(alloc);
+    let mut err = Vec::new(alloc);
+    let end = print_rows(alloc, rows, &mut out, &mut err);
+    Told { end, out, err }
 }

@@ -6,7 +6,7 @@ ghost use Rattle.acceptor_store.specs.Saved.{HasPromise};
 use super::print_rows;
 use crate::end::End;
 use crate::fault::Fault;
-use crate::trying::{Slow, Told};
+use crate::trying::{Slow, listed};
 use acceptor_store::{Identity, Rows, RowsFault, SqliteRows};
 use ballots::{Ballot, Member, Number, Row, Vote};
 use sqlite::{Alter, Connection, MemStore};
@@ -74,21 +74,14 @@ fn two_rows(alloc: Global) -> Result<SqliteRows<MemStore>, Fail> {
     Ok(rows)
 }
 
-fn told_of<S: Alter + Drop>(alloc: Global, rows: &mut SqliteRows<S>) -> Told {
-    let mut out = Vec::new(alloc);
-    let mut err = Vec::new(alloc);
-    let end = print_rows(alloc, rows, &mut out, &mut err);
-    Told { end, out, err }
-}
-
 /// Whether the rows print this text and no fault.
 fn prints<S: Alter + Drop>(alloc: Global, rows: &mut SqliteRows<S>, text: &str) -> bool {
-    told_of(alloc, rows).is_text(text)
+    listed(alloc, rows).is_text(text)
 }
 
 /// Whether nothing is printed but this fault of the store.
 fn refuses<S: Alter + Drop>(alloc: Global, rows: &mut SqliteRows<S>, text: &str) -> bool {
-    let told = told_of(alloc, rows);
+    let told = listed(alloc, rows);
     told.end == End::Store && told.out.is_empty() && told.err.as_slice() == text.as_bytes()
 }
 
