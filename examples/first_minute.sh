@@ -5,7 +5,8 @@ cd "$(dirname "$0")"
 examples=$PWD
 circuitd=$PWD/../crates/circuitd/out/circuitd
 
-# Proved and built first, which takes some minutes on a fresh machine; with no change since, it only runs.
+# With no change since the last time, this only runs the program.
+echo "Proving and building the program: half an hour or more on a fresh machine."
 (cd ../crates/circuitd && rt run -- check "$examples/codes.toml" "$examples/widths.toml" "$examples/flood.tape" > /dev/null)
 
 # The stations work in a folder of their own, which goes when they are done.
