@@ -122,7 +122,39 @@ Later a plant that missed the story asks the others for it:
 
   $ circuitd serve station3.toml --turns 1200 --seek 12";
 
+/// The options by which `serve` begins: the story that it offers, and the one that it seeks.
+fn with_beginning<'a>(alloc: Global, command: Command<'a>) -> Result<Command<'a>, Error> {
+    let number = option(
+        alloc,
+        "number",
+        "N",
+        clap::value_parser!(u32),
+        "First offer a story under this number, 1 to 999999; goes with --tape",
+    );
+    let tape = option(
+        alloc,
+        "tape",
+        "FILE",
+        ValueParser::string(),
+        "The tape that is offered, one frame per byte; goes with --number",
+    );
+    let seek = option(
+        alloc,
+        "seek",
+        "N",
+        clap::value_parser!(u32),
+        "Then ask the circuit for the story of this number",
+    );
+    let command = command.arg(number)?.arg(tape)?.arg(seek)?;
+    Ok(command)
+}
+
 fn serve_command<'a>(alloc: Global) -> Result<Command<'a>, Error> {
+    let config = required(
+        alloc,
+        "CONFIG",
+        "The station's configuration: its circuit, its member, its files and the addresses of all stations",
+    );
     let turns = option(
         alloc,
         "turns",
@@ -130,46 +162,19 @@ fn serve_command<'a>(alloc: Global) -> Result<Command<'a>, Error> {
         clap::value_parser!(u32).range(1..=1_000_000),
         "How many turns to serve, 1 to 1000000: a turn takes in one datagram, or waits for 50 milliseconds",
     );
-    let number = clap::value_parser!(u32);
+    let create = Arg::new(alloc, "create")
+        .long("create")
+        .action(ArgAction::SetTrue)
+        .help("Make the row file: for the first start of a station, and never again");
     let command = Command::new(alloc, "serve")
         .about(
             "Runs this plant's station on the wire, and prints each story that the circuit has agreed on",
         )
         .after_help(SERVE_EXAMPLE)
-        .arg(required(
-            alloc,
-            "CONFIG",
-            "The station's configuration: its circuit, its member, its files and the addresses of all stations",
-        ))?
+        .arg(config)?
         .arg(turns.required(true))?
-        .arg(
-            Arg::new(alloc, "create")
-                .long("create")
-                .action(ArgAction::SetTrue)
-                .help("Make the row file: for the first start of a station, and never again"),
-        )?
-        .arg(option(
-            alloc,
-            "number",
-            "N",
-            number,
-            "First offer a story under this number, 1 to 999999; goes with --tape",
-        ))?
-        .arg(option(
-            alloc,
-            "tape",
-            "FILE",
-            ValueParser::string(),
-            "The tape that is offered, one frame per byte; goes with --number",
-        ))?
-        .arg(option(
-            alloc,
-            "seek",
-            "N",
-            clap::value_parser!(u32),
-            "Then ask the circuit for the story of this number",
-        ))?;
-    Ok(command)
+        .arg(create)?;
+    with_beginning(alloc, command)
 }
 
 const REHEARSE_EXAMPLE: &str = "\
