@@ -78,9 +78,17 @@ RefusesToOpen given trees WrongStation = (i : Identity) × (wanted : Identity) �
 RefusesToOpen given trees (Damaged number) = (i : Identity) × (stored_identity trees ≡ Some i) × Agrees given i × Lists trees (λ rows. damage_in rows ≡ Some number)
 
 module _ {S : Type 0} (g : Ghosts S) where
+  -- the disk has returned what was written
+  abbrev pub IsHonest : SqliteOf S → Type 0
+  IsHonest s = HasCleanDisk (state g s.conn)
+
   -- the tables are those that were made, and the disk has returned what was written
   abbrev pub IsKept : SqliteOf S → Type 0
-  IsKept s = HasCleanDisk (state g s.conn) × IsOurs s.alone s.found
+  IsKept s = IsHonest s × IsOurs s.alone s.found
+
+  -- of a stopped one the fault is the store's; and a kept one blames no row
+  abbrev pub Blames : SqliteOf S → SqliteOf S → RowsFault → Type 0
+  Blames old new fault = (IsTrue old.stopped → fault ≡ Store) × (IsKept new → IsRefusal fault)
 
   abbrev pub IsOpen : SqliteOf S → Type 0
   IsOpen s = IsTrue (state g s.conn).is_open

@@ -1,6 +1,6 @@
 //! Rows of which one save can be refused.
 
-ghost use Rattle.std.specs.Prelude.{◌≡◌, ◌≤◌, ◌⊎◌, ◌+◌, ℕ, None, Some, true, false, IsSome, Err, OnOk, OnErr};
+ghost use Rattle.std.specs.Prelude.{◌≡◌, ◌≤◌, ◌⊎◌, ◌+◌, ℕ, None, Some, true, false, IsSome, IfErr, Err, OnOk, OnErr};
 ghost use Rattle.acceptor_store.specs.Saved.{WithRow, IsEither, HasPromise, Rises};
 
 use crate::fault::RowsFault;
@@ -57,6 +57,12 @@ impl<R: Rows> Balky<R> {
 }
 
 impl<R: Rows> Rows for Balky<R> {
+    ghost use Rattle.acceptor_store.specs.declared.fault.RowsFault.TheVariants.{Store};
+
+    ghost made = { λ s. R.made s.rows };
+
+    ghost honest = { λ s. R.honest s.rows };
+
     ghost kept = { λ s. R.kept s.rows };
 
     ghost is_open = { λ s. R.is_open s.rows };
@@ -80,6 +86,11 @@ impl<R: Rows> Rows for Balky<R> {
         (R.kept new.rows → WithRow (R.saved old.rows) number row (R.saved new.rows))
         ⊎ (Rises (R.refusals old.rows) (R.refusals new.rows) × R.tells old.rows new.rows number row)) };
 
+    // An armed one refuses as its own fault, else its rows answer for theirs.
+    ghost blames = { λ old new fault. (IsSome old.armed × (fault ≡ Store)) ⊎ R.blames old.rows new.rows fault };
+
+    ghost halves = { λ s. R.halves s.rows };
+
     fn get(&mut self, number: Number) -> Result<Row, RowsFault> {
         self.rows.get(number)
     }
@@ -98,6 +109,8 @@ impl<R: Rows> Rows for Balky<R> {
             ⊎ (Rises (R.refusals self.old.rows) (R.refusals self.new.rows) × R.tells self.old.rows self.new.rows number row.now))) }
         ensures cause { OnErr result (Rises (R.refusals self.old.rows + self.old.refusals) (R.refusals self.new.rows + self.new.refusals)) }
         ensures counts { R.refusals self.old.rows + self.old.refusals ≤ R.refusals self.new.rows + self.new.refusals }
+        ensures blames { IfErr result (λ fault. (IsSome self.old.armed × (fault ≡ RowsFault.Store)) ⊎ R.blames self.old.rows self.new.rows fault) }
+        ensures made { R.made self.old.rows → R.made self.new.rows }
         ensures was_kept { R.kept self.new.rows → R.kept self.old.rows }
         ensures was_open { R.kept self.new.rows → R.is_open self.new.rows → R.is_open self.old.rows }
 

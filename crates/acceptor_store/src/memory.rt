@@ -78,6 +78,11 @@ impl MemoryRows {
 
 impl Rows for MemoryRows {
     ghost use Rattle.acceptor_store.specs.Memory.{saved};
+    ghost use Rattle.acceptor_store.specs.declared.fault.RowsFault.TheVariants.{OutOfMemory};
+
+    ghost made = { λ _. Unit {0} };
+
+    ghost honest = { λ _. Unit {0} };
 
     ghost kept = { λ _. Unit {0} };
 
@@ -86,6 +91,10 @@ impl Rows for MemoryRows {
     ghost saved = { saved };
 
     ghost refusals = { λ s. s.refusals };
+
+    ghost blames = { λ _ _ fault. fault ≡ OutOfMemory };
+
+    ghost halves = { λ _. (λ _. (tt, tt), λ _. tt) };
 
     fn get(&mut self, number: Number) -> Result<Row, RowsFault>
         ensures row { IfOk result (λ row. row ≡ saved self.old number) }

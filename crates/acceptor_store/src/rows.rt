@@ -1,8 +1,9 @@
 //! What a station asks of its saved rows.
 
-ghost use Rattle.std.specs.Prelude.{◌≡◌, ◌≤◌, ◌⊎◌, ℕ, IfOk, OnOk, OnErr};
+ghost use Rattle.std.specs.Prelude.{◌≡◌, ◌≤◌, ◌⊎◌, ◌↔◌, ℕ, IfOk, IfErr, OnOk, OnErr};
 ghost use Rattle.protocol.specs.Rows.{Row as RowValue};
 ghost use Rattle.acceptor_store.specs.Saved.{Saved, SameRows, WithRow, IsEither, HasPromise, Rises};
+ghost use Rattle.acceptor_store.specs.declared.fault.RowsFault.{RowsFault as FaultValue};
 
 use crate::fault::RowsFault;
 use ballots::{Number, Row};
@@ -10,7 +11,13 @@ use ballots::{Number, Row};
 /// A finite map from numbers to rows, blank where none is saved, with a count of the calls that it refused.
 /// It is the stable storage of an acceptor (Lamport 2001): what `put` saved, a later `get` finds.
 pub trait Rows: Drop {
-    // Nobody else wrote to it, and it reads back what was written.
+    // The store's half: what it stands on was made for it. A call leaves it so.
+    ghost made: { Self → Type 0 };
+
+    // The host's half: nobody else wrote to it, and it reads back what was written.
+    ghost honest: { Self → Type 0 };
+
+    // Both halves.
     ghost kept: { Self → Type 0 };
 
     // No failure has shut it.
@@ -30,6 +37,9 @@ pub trait Rows: Drop {
 
     ghost tells: { Self → Self → ℕ → RowValue → Type 0 } = { λ _ _ _ _. Unit {0} };
 
+    // What it says of the fault that a refused call answered.
+    ghost blames: { Self → Self → FaultValue → Type 0 } = { λ _ _ _. Unit {0} };
+
     /// The row of a number, blank where none is saved. No row is changed.
     ///
     /// A refusal is counted. `Damaged` comes only where another wrote to the store.
@@ -42,6 +52,10 @@ pub trait Rows: Drop {
         // It is refused only where the count rises.
         ensures cause { OnErr result (Rises (refusals self.old) (refusals self.new)) }
         ensures counts { refusals self.old ≤ refusals self.new }
+        ensures blames { IfErr result (blames self.old self.new) }
+
+        // What was made for it stays so.
+        ensures made { made self.old → made self.new }
 
         // What held as the call ended held before.
         ensures was_kept { kept self.new → kept self.old }
@@ -63,8 +77,15 @@ pub trait Rows: Drop {
         // It is refused only where the count rises.
         ensures cause { OnErr result (Rises (refusals self.old) (refusals self.new)) }
         ensures counts { refusals self.old ≤ refusals self.new }
+        ensures blames { IfErr result (blames self.old self.new) }
+
+        // What was made for it stays so.
+        ensures made { made self.old → made self.new }
 
         // What held as the call ended held before.
         ensures was_kept { kept self.new → kept self.old }
         ensures was_open { kept self.new → is_open self.new → is_open self.old };
+
+    // It is kept where both halves hold, and only there.
+    ghost halves: { (s : Self) → kept s ↔ (honest s × made s) };
 }

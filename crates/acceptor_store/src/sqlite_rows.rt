@@ -58,7 +58,7 @@ fn is_empty(schema: &Schema) -> bool
 }
 
 impl<S: Alter + Drop> SqliteRows<S> {
-    ghost use Rattle.acceptor_store.specs.Sqlite.{IsKept, IsOpen, saved_of, MayLeave, IsRefusal, RefusesToOpen, Agrees};
+    ghost use Rattle.acceptor_store.specs.Sqlite.{IsKept, IsOpen, IsOurs, saved_of, MayLeave, IsRefusal, RefusesToOpen, Agrees};
     ghost use Rattle.acceptor_store.specs.Columns.{saved_in};
     ghost use Rattle.sqlite.specs.Held.{state};
 
@@ -79,6 +79,7 @@ impl<S: Alter + Drop> SqliteRows<S> {
         ensures unstopped { IfOk result (λ s. s.stopped ≡ false) }
 
         // In an empty database the tables are then those that are wanted.
+        ensures made { IfOk result (λ s. (state S.Store conn).now.schema ≡ no_schema → IsOurs s.alone s.found) }
         ensures kept { IfOk result (λ s. HasCleanDisk (state S.Store s.conn) → (state S.Store conn).now.schema ≡ no_schema → IsKept S.Store s) }
         ensures crash { IfOk result (λ s. IsKept S.Store s → (db : _) → (state S.Store s.conn).may_leave db → HoldsNone identity.circuit identity.member identity.members db) }
 
@@ -128,6 +129,7 @@ impl<S: Alter + Drop> SqliteRows<S> {
         ensures stored { IfOk result (λ s. IsKept S.Store s → stored_identity (state S.Store conn).now.trees ≡ Some s.identity) }
         ensures unstopped { IfOk result (λ s. s.stopped ≡ false) }
         ensures clean { IfOk result (λ s. doubt (state S.Store conn).is_clean ≤ doubt (state S.Store s.conn).is_clean) }
+        ensures made { IfOk result (λ s. (state S.Store conn).now.schema ≡ row_schema → IsOurs s.alone s.found) }
         ensures kept { IfOk result (λ s. HasCleanDisk (state S.Store s.conn) → (state S.Store conn).now.schema ≡ row_schema → IsKept S.Store s) }
 
         // Why it is refused; nothing is changed then either.
@@ -170,6 +172,7 @@ impl<S: Alter + Drop> SqliteRows<S> {
         ensures stopped { IsTrue self.old.stopped → result ≡ Err RowsFault.Store }
         ensures undamaged { IsKept S.Store self.new → IfErr result IsRefusal }
         ensures stays { (self.new.stopped ≡ self.old.stopped) × (self.new.identity ≡ self.old.identity) }
+        ensures ours { (self.new.alone ≡ self.old.alone) × (self.new.found ≡ self.old.found) }
         ensures crash { IsKept S.Store self.new → IsOpen S.Store self.old → (left : _) → MayLeave S.Store self.new left → MayLeave S.Store self.old left }
     {
         if self.stopped {
@@ -210,7 +213,11 @@ impl<S: Alter + Drop> SqliteRows<S> {
 }
 
 impl<S: Alter + Drop> Rows for SqliteRows<S> {
-    ghost use Rattle.acceptor_store.specs.Sqlite.{IsKept, IsOpen, saved_of, MayLeave, IsRefusal};
+    ghost use Rattle.acceptor_store.specs.Sqlite.{IsKept, IsOpen, IsHonest, IsOurs, saved_of, MayLeave, IsRefusal, Blames};
+
+    ghost made = { λ s. IsOurs s.alone s.found };
+
+    ghost honest = { IsHonest S.Store };
 
     ghost kept = { IsKept S.Store };
 
@@ -219,6 +226,10 @@ impl<S: Alter + Drop> Rows for SqliteRows<S> {
     ghost saved = { saved_of S.Store };
 
     ghost refusals = { λ s. s.refusals };
+
+    ghost blames = { Blames S.Store };
+
+    ghost halves = { λ _. (λ both. both, λ both. both) };
 
     fn get(&mut self, number: Number) -> Result<Row, RowsFault>
         ensures row { IsKept S.Store self.new → IfOk result (λ row. row ≡ saved_of S.Store self.old number) }
@@ -230,7 +241,9 @@ impl<S: Alter + Drop> Rows for SqliteRows<S> {
         ensures was_open { IsKept S.Store self.new → IsOpen S.Store self.new → IsOpen S.Store self.old }
         ensures stopped { IsTrue self.old.stopped → result ≡ Err RowsFault.Store }
         ensures undamaged { IsKept S.Store self.new → IfErr result IsRefusal }
+        ensures blames { IfErr result (Blames S.Store self.old self.new) }
         ensures stays { (self.new.stopped ≡ self.old.stopped) × (self.new.identity ≡ self.old.identity) }
+        ensures ours { (self.new.alone ≡ self.old.alone) × (self.new.found ≡ self.old.found) }
         ensures crash { IsKept S.Store self.new → IsOpen S.Store self.old → (left : _) → MayLeave S.Store self.new left → MayLeave S.Store self.old left }
     {
         if self.stopped {
@@ -261,7 +274,9 @@ impl<S: Alter + Drop> Rows for SqliteRows<S> {
         ensures stops { OnErr result (IsTrue self.new.stopped) }
         ensures goes_on { OnOk result (self.new.stopped ≡ self.old.stopped) }
         ensures undamaged { IfErr result IsRefusal }
+        ensures blames { IfErr result (Blames S.Store self.old self.new) }
         ensures station { self.new.identity ≡ self.old.identity }
+        ensures ours { (self.new.alone ≡ self.old.alone) × (self.new.found ≡ self.old.found) }
 
         // After the Ok a crash leaves this row too; after an Err the rows as they were, or with this one.
         ensures crash_ok { IsKept S.Store self.new → OnOk result ((left : _) → MayLeave S.Store self.new left → WithRow (saved_of S.Store self.old) number row.now left) }

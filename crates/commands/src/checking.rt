@@ -103,6 +103,3 @@ pub fn check<R: Read, S: Read, T: Read, W: Write, E: Write>(
         }
     }
 }
-
-#[cfg(test)]
-mod tests;

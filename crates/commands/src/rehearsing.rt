@@ -196,6 +196,3 @@ pub fn rehearse<R: Read, S: Read, T: Read, W: Write, E: Write>(
         }
     }
 }
-
-#[cfg(test)]
-mod tests;

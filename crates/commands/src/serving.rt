@@ -79,7 +79,7 @@ fn take_in<R: Rows, N: Wire, W: Write, E: Write>(
     err: &mut E,
 ) -> Result<(), Fault<'static>>
     ensures was_kept { R.kept station.new.rows → R.kept station.old.rows }
-    ensures takes_in { R.kept station.new.rows → TakesIn (sight R.kept R.is_open R.saved R.alike R.passes R.tells) now station.old station.new }
+    ensures takes_in { R.kept station.new.rows → TakesIn (sight R.Rows) now station.old station.new }
     ensures goes_on { OnOk result (station.new.stopped ≡ station.old.stopped) }
 {
     let length = match wire.receive(buffer) {
@@ -103,7 +103,7 @@ fn see_to_due<R: Rows, N: Wire, W: Write, E: Write>(
     err: &mut E,
 ) -> Result<(), Fault<'static>>
     ensures was_kept { R.kept station.new.rows → R.kept station.old.rows }
-    ensures sees_to_due { R.kept station.new.rows → SeesToDue (sight R.kept R.is_open R.saved R.alike R.passes R.tells) now station.old station.new }
+    ensures sees_to_due { R.kept station.new.rows → SeesToDue (sight R.Rows) now station.old station.new }
     ensures goes_on { OnOk result (station.new.stopped ≡ false) }
 {
     match station.due(now) {
@@ -122,8 +122,8 @@ fn turn<R: Rows, N: Wire, W: Write, E: Write>(
     err: &mut E,
 ) -> Result<(), Fault<'static>>
     ensures was_kept { R.kept station.new.rows → R.kept station.old.rows }
-    ensures serves { R.kept station.new.rows → Serves (sight R.kept R.is_open R.saved R.alike R.passes R.tells) station.old station.new }
-    ensures turns { R.kept station.new.rows → OnOk result (Turns (sight R.kept R.is_open R.saved R.alike R.passes R.tells) now station.old station.new) }
+    ensures serves { R.kept station.new.rows → Serves (sight R.Rows) station.old station.new }
+    ensures turns { R.kept station.new.rows → OnOk result (Turns (sight R.Rows) now station.old station.new) }
     ensures goes_on { OnOk result (station.new.stopped ≡ false) }
 {
     take_in(alloc, station, wire, now, buffer, out, err)?;
@@ -145,8 +145,8 @@ pub fn serve_turn<R: Rows, N: Wire, W: Write, E: Write>(
     err: &mut E,
 ) -> End
     ensures was_kept { R.kept station.new.rows → R.kept station.old.rows }
-    ensures serves { R.kept station.new.rows → Serves (sight R.kept R.is_open R.saved R.alike R.passes R.tells) station.old station.new }
-    ensures turns { R.kept station.new.rows → result ≡ Done → Turns (sight R.kept R.is_open R.saved R.alike R.passes R.tells) now station.old station.new }
+    ensures serves { R.kept station.new.rows → Serves (sight R.Rows) station.old station.new }
+    ensures turns { R.kept station.new.rows → result ≡ Done → Turns (sight R.Rows) now station.old station.new }
     ensures goes_on { result ≡ Done → station.new.stopped ≡ false }
 {
     match turn(alloc, station, wire, now, buffer, out, err) {
@@ -165,8 +165,8 @@ fn make_offer<R: Rows, N: Wire, W: Write, E: Write>(
     err: &mut E,
 ) -> Result<(), Fault<'static>>
     ensures was_kept { R.kept station.new.rows → R.kept station.old.rows }
-    ensures serves { R.kept station.new.rows → Serves (sight R.kept R.is_open R.saved R.alike R.passes R.tells) station.old station.new }
-    ensures offers { R.kept station.new.rows → OnOk result (Offers (sight R.kept R.is_open R.saved R.alike R.passes R.tells) offer station.old station.new) }
+    ensures serves { R.kept station.new.rows → Serves (sight R.Rows) station.old station.new }
+    ensures offers { R.kept station.new.rows → OnOk result (Offers (sight R.Rows) offer station.old station.new) }
     ensures goes_on { OnOk result (station.new.stopped ≡ station.old.stopped) }
 {
     let Some((number, tape)) = offer else {
@@ -189,8 +189,8 @@ fn make_search<R: Rows, N: Wire, W: Write, E: Write>(
     err: &mut E,
 ) -> Result<(), Fault<'static>>
     ensures was_kept { R.kept station.new.rows → R.kept station.old.rows }
-    ensures serves { R.kept station.new.rows → Serves (sight R.kept R.is_open R.saved R.alike R.passes R.tells) station.old station.new }
-    ensures searches { R.kept station.new.rows → OnOk result (Searches (sight R.kept R.is_open R.saved R.alike R.passes R.tells) seek station.old station.new) }
+    ensures serves { R.kept station.new.rows → Serves (sight R.Rows) station.old station.new }
+    ensures searches { R.kept station.new.rows → OnOk result (Searches (sight R.Rows) seek station.old station.new) }
     ensures goes_on { OnOk result (station.new.stopped ≡ station.old.stopped) }
 {
     let Some(number) = seek else {
@@ -214,8 +214,8 @@ fn take_turns<R: Rows, N: Wire, W: Write, E: Write>(
     err: &mut E,
 ) -> End
     ensures was_kept { R.kept station.new.rows → R.kept station.old.rows }
-    ensures serves { R.kept station.new.rows → Serves (sight R.kept R.is_open R.saved R.alike R.passes R.tells) station.old station.new }
-    ensures turns { R.kept station.new.rows → result ≡ Done → TakesTurns (sight R.kept R.is_open R.saved R.alike R.passes R.tells) turns station.old station.new }
+    ensures serves { R.kept station.new.rows → Serves (sight R.Rows) station.old station.new }
+    ensures turns { R.kept station.new.rows → result ≡ Done → TakesTurns (sight R.Rows) turns station.old station.new }
     ensures goes_on { result ≡ Done → 1 ≤ turns → station.new.stopped ≡ false }
 {
     for _ in 0..turns {
@@ -243,8 +243,8 @@ pub fn serve_run<R: Rows, N: Wire, W: Write, E: Write>(
     err: &mut E,
 ) -> End
     ensures was_kept { R.kept station.new.rows → R.kept station.old.rows }
-    ensures serves { R.kept station.new.rows → Serves (sight R.kept R.is_open R.saved R.alike R.passes R.tells) station.old station.new }
-    ensures runs { R.kept station.new.rows → result ≡ Done → Runs (sight R.kept R.is_open R.saved R.alike R.passes R.tells) offer seek turns station.old station.new }
+    ensures serves { R.kept station.new.rows → Serves (sight R.Rows) station.old station.new }
+    ensures runs { R.kept station.new.rows → result ≡ Done → Runs (sight R.Rows) offer seek turns station.old station.new }
     ensures goes_on { result ≡ Done → 1 ≤ turns → station.new.stopped ≡ false }
 {
     let Ok(mut buffer) = vec![in alloc; 0u8; BUFFER] else {
@@ -258,6 +258,3 @@ pub fn serve_run<R: Rows, N: Wire, W: Write, E: Write>(
     }
     take_turns(alloc, station, wire, turns, &mut buffer, out, err)
 }
-
-#[cfg(test)]
-mod tests;

@@ -1,53 +1,12 @@
-//! What the tests of the commands share: the files of the repository's `examples/`, readers and writers that fail,
-//! and what a command came to.
+//! What the tests of the commands share: readers and writers that fail, and what a command came to.
 
 use crate::end::End;
 use crate::listing::print_rows;
 use acceptor_store::SqliteRows;
-use code_table::CodeTable;
 use sqlite::Alter;
 use std::alloc::Global;
 use std::io;
 use std::io::{ErrorKind, Read, Write};
-use std::test::Fail;
-use tape_frames::Tape;
-use widths::Widths;
-
-/// The table and the widths of the repository's `examples/`, without comments.
-pub const TABLE: &str = "[[code]]\nframe = 0\nunshift = \"@ignore\"\nshift = \"@ignore\"\n\
-[[code]]\nframe = 1\nunshift = \"a\"\nshift = \"A\"\n\
-[[code]]\nframe = 2\nunshift = \"b\"\nshift = \"B\"\n\
-[[code]]\nframe = 3\nunshift = \"@spaceband\"\nshift = \"@spaceband\"\n\
-[[code]]\nframe = 4\nunshift = \"@elevate\"\nshift = \"@elevate\"\n\
-[[code]]\nframe = 5\nunshift = \"@shift\"\nshift = \"@shift\"\n\
-[[code]]\nframe = 6\nunshift = \"@unshift\"\nshift = \"@unshift\"\n\
-[[code]]\nframe = 7\nunshift = \"@quadleft\"\nshift = \"@quadcenter\"\n\
-[[code]]\nframe = 8\nunshift = \"@upper\"\nshift = \"@upper\"\n\
-[[code]]\nframe = 9\nunshift = \"@lower\"\nshift = \"@lower\"\n\
-[[code]]\nframe = 10\nunshift = \"@thin\"\nshift = \"@em\"\n\
-[[code]]\nframe = 11\nunshift = \"fi\"\nshift = \"@quadright\"\n\
-[[code]]\nframe = 63\nunshift = \"@ignore\"\nshift = \"@ignore\"\n";
-
-pub const WIDTHS: &str = "measure = 30\nband_min = 2\nband_max = 6\nthin = 2\nen = 5\nem = 10\n\
-[matrix]\na = 5\nb = 6\nA = 8\nB = 9\nfi = 7\n";
-
-/// A line that sets.
-pub const STORY: [u8; 7] = [1, 2, 3, 1, 3, 2, 4];
-
-/// The text of its release for number 12.
-pub const RELEASE: &str = "release 12 01020301030204\n0001 J 0 0 a b _4 a _4 b\n";
-
-/// The code table and the widths.
-pub fn files(alloc: Global) -> Result<(CodeTable, Widths), Fail> {
-    let table = CodeTable::read(alloc, TABLE).ok().ok_or("a table")?;
-    let widths = Widths::read(alloc, WIDTHS).ok().ok_or("widths")?;
-    Ok((table, widths))
-}
-
-/// The offer of the story for number 12.
-pub fn story(alloc: Global) -> Result<Option<(u32, Tape)>, Fail> {
-    Ok(Some((12, Tape::from_bytes(alloc, &STORY)?)))
-}
 
 /// A writer that takes one byte a call, and at most so many.
 #[derive(Drop)]

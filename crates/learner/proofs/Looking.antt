@@ -1,59 +1,72 @@
--- Looking through the members for a vote, in rising order.
-use Rattle.std.proofs.Common.{◌≡◌, ℕ, zero, suc, ◌+◌, ◌<◌, refl, sym, ap, ◌∙◌, [], ◌∷◌, Option, Some, None, Bool, true, false, arith, add-one}
-use Rattle.std.specs.Prelude.{filter_map, find, ◌==◌}
+-- Looking through the slots for a vote, in rising order of members.
+use Rattle.std.proofs.Common.{◌≡◌, ℕ, zero, suc, ◌+◌, ◌*◌, ◌<◌, refl, sym, ap, ◌∙◌, List, [], ◌∷◌, ◌++◌, Option, Some, None, Bool, true, false, length, take, drop, get_or, arith}
+use Rattle.std.specs.Prelude.{filter_map, find, count_by, nat_lt, IsTrue, ◌↔◌}
+use Rattle.std.proofs.lemmas.Bool.Decides.{nat_tests}
 use Rattle.std.specs.Option.{option_or}
-use Rattle.std.proofs.lemmas.Bool.{eqb-true, eqb-false}
+use Rattle.std.proofs.lemmas.List.{take_more}
 use Rattle.std.proofs.lemmas.List.Elements.{filter_map-append}
 use Rattle.std.proofs.lemmas.List.Folds.{find-append}
-use Rattle.protocol.specs.Ballots.{Ballot, is_same, is_majority, members}
+use Rattle.protocol.specs.Ballots.{Ballot, is_same}
 use Rattle.protocol.specs.Rows.{Vote}
 use Rattle.protocol.specs.Learner.{votes_at}
-use Rattle.learner.specs.Latest.{ripe_of, least_at}
+use Rattle.learner.specs.Slots.{votes_in, ripe_in, least_in}
 
--- as `ripe_of`, among the first i members
-abbrev pub ripe_among : ℕ → (ℕ → Option Vote) → ℕ → Option Vote
-ripe_among c latest i = find (λ (v : Vote). is_majority c (λ m. votes_at v.ballot (latest m))) (filter_map latest (members i))
+abbrev pub is_ripe_in : List (Option Vote) → Vote → Bool
+is_ripe_in slots v = nat_lt (length slots) (2 * count_by (votes_at v.ballot) slots)
 
-module _ (p : Vote → Bool) (latest : ℕ → Option Vote) where
-  abbrev so_far : ℕ → Option Vote
-  so_far i = find p (filter_map latest (members i))
+-- as `ripe_in`, looked for in the first i slots
+abbrev pub ripe_before : List (Option Vote) → ℕ → Option Vote
+ripe_before slots i = find (is_ripe_in slots) (votes_in (take i slots))
 
-  one_more : (i : ℕ) → so_far (suc i) ≡ option_or (so_far i) (find p (filter_map latest (suc i ∷ [])))
-  one_more i = ap (find p) (filter_map-append latest (members i) (suc i ∷ [])) ∙ find-append p (filter_map latest (members i)) (filter_map latest (suc i ∷ []))
+module _ (p : Vote → Bool) where
+  abbrev first_in : List (Option Vote) → Option Vote
+  first_in slots = find p (votes_in slots)
 
-  found_here : (i : ℕ) (v : Vote) → so_far i ≡ None → latest (suc i) ≡ Some v → p v ≡ true → so_far (suc i) ≡ Some v
-  found_here i v none e t = one_more i ∙ rw (none, e, t) refl
+  joined : (front rest : List (Option Vote)) → first_in (front ++ rest) ≡ option_or (first_in front) (first_in rest)
+  joined front rest = ap (find p) (filter_map-append (λ (o : Option Vote). o) front rest) ∙ find-append p (votes_in front) (votes_in rest)
 
-  no_vote_here : (i : ℕ) → so_far i ≡ None → latest (suc i) ≡ None → so_far (suc i) ≡ None
-  no_vote_here i none e = one_more i ∙ rw (none, e) refl
-
-  not_here : (i : ℕ) (v : Vote) → so_far i ≡ None → latest (suc i) ≡ Some v → p v ≡ false → so_far (suc i) ≡ None
-  not_here i v none e t = one_more i ∙ rw (none, e, t) refl
-
-  found_first : (i c : ℕ) (v : Vote) → i < c → so_far i ≡ None → latest (suc i) ≡ Some v → p v ≡ true → so_far c ≡ Some v
-  found_first i zero v l none e t = absurd (omega arith)
-  found_first i (suc c) v l none e t = go (i == c) refl (λ k. found_first i c v k none e t)
+  -- the first slot that passes decides
+  pub found : (slots : List (Option Vote)) (i : ℕ) (v : Vote) → i < length slots → first_in (take i slots) ≡ None → get_or slots i None ≡ Some v → p v ≡ true → first_in slots ≡ Some v
+  found [] i v l none e t = absurd (omega arith)
+  found (o ∷ slots) zero v l none e t = let e' : o ≡ Some v = e in rw (e', t) refl
+  found (None ∷ slots) (suc i) v l none e t = found slots i v (omega arith) none e t
+  found (Some u ∷ slots) (suc i) v l none e t = go (p u) refl none (λ k. found slots i v (omega arith) k e t)
     where
-      go : (b : Bool) → (i == c) ≡ b → (i < c → so_far c ≡ Some v) → so_far (suc c) ≡ Some v
-      go true same rest = ap (λ k. so_far (suc k)) (sym (eqb-true i c same)) ∙ found_here i v none e t
-      go false other rest =
-          let below : i < c = (let o : i ≡ c → ⊥ = eqb-false i c other in omega arith) in
-          let found : so_far c ≡ Some v = rest below in
-          one_more c ∙ rw found refl
+      go : (b : Bool) → p u ≡ b → first_in (take (suc i) (Some u ∷ slots)) ≡ None → (first_in (take i slots) ≡ None → first_in slots ≡ Some v) → first_in (Some u ∷ slots) ≡ Some v
+      go true h k rest = absurd (let g : Some u ≡ None = rw h at k in cc)
+      go false h k rest = rw h (rest (rw h at k))
 
-pub first_ripe : (c : ℕ) (latest : ℕ → Option Vote) (i : ℕ) (v : Vote) → i < c → ripe_among c latest i ≡ None → latest (i + 1) ≡ Some v → is_majority c (λ m. votes_at v.ballot (latest m)) ≡ true → ripe_of c latest ≡ Some v
-first_ripe c latest i v l none e t = found_first (λ (v : Vote). is_majority c (λ m. votes_at v.ballot (latest m))) latest i c v l none (ap latest (sym (add-one i)) ∙ e) t
+  -- a slot that doesn't pass is passed over
+  pub passed : (slots : List (Option Vote)) (i : ℕ) (o : Option Vote) → i < length slots → first_in (take i slots) ≡ None → get_or slots i None ≡ o → first_in (o ∷ []) ≡ None → first_in (take (i + 1) slots) ≡ None
+  passed slots i o l none e f = ap first_in (take_more slots i None l) ∙ joined (take i slots) (get_or slots i None ∷ []) ∙ rw (none, e) f
 
-pub not_ripe : (c : ℕ) (latest : ℕ → Option Vote) (i : ℕ) (v : Vote) → ripe_among c latest i ≡ None → latest (i + 1) ≡ Some v → is_majority c (λ m. votes_at v.ballot (latest m)) ≡ false → ripe_among c latest (i + 1) ≡ None
-not_ripe c latest i v none e t = ap (ripe_among c latest) (add-one i) ∙ not_here (λ (v : Vote). is_majority c (λ m. votes_at v.ballot (latest m))) latest i v none (ap latest (sym (add-one i)) ∙ e) t
+pub first_ripe : (slots : List (Option Vote)) (i : ℕ) (v : Vote) → i < length slots → ripe_before slots i ≡ None → get_or slots i None ≡ Some v → is_ripe_in slots v ≡ true → ripe_in slots ≡ Some v
+first_ripe slots = found (is_ripe_in slots) slots
 
-pub none_ripe : (c : ℕ) (latest : ℕ → Option Vote) (i : ℕ) → ripe_among c latest i ≡ None → latest (i + 1) ≡ None → ripe_among c latest (i + 1) ≡ None
-none_ripe c latest i none e = ap (ripe_among c latest) (add-one i) ∙ no_vote_here (λ (v : Vote). is_majority c (λ m. votes_at v.ballot (latest m))) latest i none (ap latest (sym (add-one i)) ∙ e)
+pub first_least : (b : Ballot) (slots : List (Option Vote)) (i : ℕ) (o : Option Vote) → i < length slots → least_in b (take i slots) ≡ None → get_or slots i None ≡ o → votes_at b o ≡ true → o ≡ least_in b slots
+first_least b slots i None l none e t = absurd cc
+first_least b slots i (Some v) l none e t = sym (found (λ (v : Vote). is_same v.ballot b) slots i v l none e t)
 
-pub first_at : (c : ℕ) (b : Ballot) (latest : ℕ → Option Vote) (i : ℕ) (o : Option Vote) → i < c → least_at i b latest ≡ None → latest (i + 1) ≡ o → votes_at b o ≡ true → o ≡ least_at c b latest
-first_at c b latest i None l none e t = absurd cc
-first_at c b latest i (Some v) l none e t = sym (found_first (λ (v : Vote). is_same v.ballot b) latest i c v l none (ap latest (sym (add-one i)) ∙ e) t)
+pub no_least : (b : Ballot) (slots : List (Option Vote)) (i : ℕ) (o : Option Vote) → i < length slots → least_in b (take i slots) ≡ None → get_or slots i None ≡ o → votes_at b o ≡ false → least_in b (take (i + 1) slots) ≡ None
+no_least b slots i None l none e t = passed (λ (v : Vote). is_same v.ballot b) slots i None l none e refl
+no_least b slots i (Some v) l none e t = passed (λ (v : Vote). is_same v.ballot b) slots i (Some v) l none e (rw t refl)
 
-pub not_at : (b : Ballot) (latest : ℕ → Option Vote) (i : ℕ) (o : Option Vote) → least_at i b latest ≡ None → latest (i + 1) ≡ o → votes_at b o ≡ false → least_at (i + 1) b latest ≡ None
-not_at b latest i None none e t = ap (λ k. least_at k b latest) (add-one i) ∙ no_vote_here (λ (v : Vote). is_same v.ballot b) latest i none (ap latest (sym (add-one i)) ∙ e)
-not_at b latest i (Some v) none e t = ap (λ k. least_at k b latest) (add-one i) ∙ not_here (λ (v : Vote). is_same v.ballot b) latest i v none (ap latest (sym (add-one i)) ∙ e) t
+pub no_ripe : (slots : List (Option Vote)) (i : ℕ) (v : Vote) → i < length slots → ripe_before slots i ≡ None → get_or slots i None ≡ Some v → is_ripe_in slots v ≡ false → ripe_before slots (i + 1) ≡ None
+no_ripe slots i v l none e t = passed (is_ripe_in slots) slots i (Some v) l none e (rw t refl)
+
+pub empty_slot : (slots : List (Option Vote)) (i : ℕ) → i < length slots → ripe_before slots i ≡ None → get_or slots i None ≡ None → ripe_before slots (i + 1) ≡ None
+empty_slot slots i l none e = passed (is_ripe_in slots) slots i None l none e refl
+
+-- the slot that a loop reads
+pub read : (slots : List (Option Vote)) (i : ℕ) (x o : Option Vote) → i < length slots → x ≡ get_or slots i x → x ≡ o → get_or slots i None ≡ o
+read [] i x o l e f = absurd (omega arith)
+read (s ∷ slots) zero x o l e f = sym e ∙ f
+read (s ∷ slots) (suc i) x o l e f = read slots i x o (omega arith) e f
+
+-- a test of numbers is the test of the definition
+pub tested : (a b : ℕ) (r : Bool) → (IsTrue r ↔ (a < b)) → r ≡ nat_lt a b
+tested a b true h = let l : a < b = h.0 refl in sym (grind (arith, nat_tests))
+tested a b false h = let l : (a < b) → ⊥ = (λ k. let f : false ≡ true = h.1 k in absurd cc) in sym (grind (arith, nat_tests))
+
+pub tested_ripe : (slots : List (Option Vote)) (v : Vote) (b : Ballot) (count : ℕ) (r : Bool) → (IsTrue r ↔ (length slots < 2 * count)) → count ≡ count_by (votes_at b) slots → b ≡ v.ballot → is_ripe_in slots v ≡ r
+tested_ripe slots v b count r h e f = ap (λ (a : Ballot). nat_lt (length slots) (2 * count_by (votes_at a) slots)) (sym f) ∙ ap (λ i. nat_lt (length slots) (2 * i)) (sym e) ∙ sym (tested (length slots) (2 * count) r h)

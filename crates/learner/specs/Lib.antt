@@ -1,2 +1,2 @@
 pub mod Latest
-pub mod Kept
+pub mod Slots

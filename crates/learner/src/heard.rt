@@ -1,104 +1,94 @@
-//! Votes that were heard, over a plain list.
+//! Votes that were heard, in a slot for each member.
 
-ghost use Rattle.std.specs.Prelude.{◌≡◌, ◌≤◌, ℕ, List, [], ◌∷◌, Option, Some, IfOk, OnOk, OnErr, option_map, option_copied, count_by};
-ghost use Rattle.protocol.specs.Ballots.{members as all_members};
+ghost use Rattle.std.specs.Prelude.{◌≡◌, ◌≤◌, ◌<◌, ℕ, List, [], ◌∷◌, Option, Some, None, Bool, false, IfOk, IsOk, OnOk, OnErr, length, map, slice_get, option_map, option_copied, count_by};
+ghost use Rattle.protocol.specs.Ballots.{is_below, members as all_members};
 ghost use Rattle.protocol.specs.Rows.{Vote as VoteValue};
 ghost use Rattle.protocol.specs.Marks.{Mark, Heard as HeardMark};
 ghost use Rattle.protocol.specs.Learner.{latest, ripe, votes_at};
-ghost use Rattle.learner.specs.Latest.{StandsFor, ripe_of, least_at};
-ghost use Rattle.learner.specs.Kept.{latest_in, is_newer};
+ghost use Rattle.learner.specs.Latest.{StandsFor, least_at};
+ghost use Rattle.learner.specs.Slots.{is_newer, kept, slot_of, nothing_heard, ripe_in, least_in};
 
+use arrayvec::ArrayVec;
 use ballots::{Ballot, Member, Vote, majority};
 use std::alloc::{AllocError, Global};
 use std::marker::Model;
 use tape_frames::TapeRef;
 
-/// A vote that was heard, and whose it is.
-#[derive(Debug, Drop)]
-struct HeardVote {
-    member: Member,
-    vote: Vote,
-}
-
-/// The votes for one number that were heard since the station's start.
+/// The votes for one number that were heard since the station's start: of each member the one of greatest ballot.
 ///
 /// Lamport, Paxos Made Simple: a learner finds out that a tape is chosen by hearing of the votes of a majority.
 #[derive(Debug, Drop)]
 pub struct Heard {
     alloc: Global,
-    members: u8,
-    votes: Vec<HeardVote>,
+    slots: ArrayVec<Option<Vote>, 15>,
 }
 
 impl Model for Heard {
-    ghost use Rattle.std.specs.Prelude.{◌≤◌};
+    ghost use Rattle.std.specs.Prelude.{◌≤◌, length};
     ghost use Rattle.learner.specs.Latest.{LatestVotes};
 
     ghost Value = { LatestVotes };
 
-    ghost use Rattle.learner.specs.Kept.{latest_of_all};
+    ghost view = { λ h. record { members = length h.slots.items; votes = h.slots.items } };
 
-    ghost view = { λ h. latest_of_all h.members h.votes.items };
-
-    ghost invariant = { λ h. h.members ≤ 15 };
+    ghost invariant = { λ h. length h.slots.items ≤ 15 };
 }
 
-/// The member's latest vote: the one of greatest ballot, the first where equal.
-fn latest_of(votes: &[HeardVote], member: u8) -> Option<&Vote>
-    ensures { option_copied result ≡ latest_in votes.now member }
+/// A slot for each of so many members, with nothing heard.
+fn empty_slots(members: u8) -> ArrayVec<Option<Vote>, 15>
+    requires { members ≤ 15 }
+    ensures { result.items ≡ nothing_heard members }
 {
-    let mut latest: Option<&Vote> = None;
-    for heard in votes {
-        if heard.member.get() == member && is_newer(&heard.vote, latest) {
-            latest = Some(&heard.vote);
-        }
+    let mut slots = ArrayVec::new();
+    for _ in 0..members {
+        slots.push(None);
     }
-    latest
+    slots
 }
 
-/// Whether the vote takes the place of the latest so far: its ballot is greater.
-fn is_newer(vote: &Vote, latest: Option<&Vote>) -> bool
-    ensures { result ≡ is_newer vote.now (option_copied latest.entry) }
+/// Whether a vote at the ballot takes the slot: the vote in it, if any, is at a ballot below.
+fn is_newer(ballot: Ballot, slot: &Option<Vote>) -> bool
+    ensures { result ≡ is_newer ballot slot.now }
 {
-    match latest {
+    match slot {
         None => true,
-        Some(latest) => latest.ballot().is_below(vote.ballot()),
+        Some(vote) => vote.ballot().is_below(ballot),
     }
 }
 
-/// Whether there is such a vote, and its ballot is this one.
-fn is_at(vote: Option<&Vote>, ballot: Ballot) -> bool
-    ensures { result ≡ votes_at ballot (option_copied vote.entry) }
+/// Whether there is a vote in the slot, and its ballot is this one.
+fn is_at(slot: &Option<Vote>, ballot: Ballot) -> bool
+    ensures { result ≡ votes_at ballot slot.now }
 {
-    match vote {
+    match slot {
         None => false,
         Some(vote) => vote.ballot().is_same(ballot),
     }
 }
 
-/// How many of the members have their latest vote at the ballot.
-fn count_at(votes: &[HeardVote], members: u8, ballot: Ballot) -> u8
-    requires { members ≤ 15 }
-    ensures { result ≡ count_by (λ m. votes_at ballot (latest_in votes.now m)) (all_members members) }
+/// How many slots have a vote at the ballot.
+fn count_at(slots: &[Option<Vote>], ballot: Ballot) -> u8
+    requires { length slots.now ≤ 15 }
+    ensures { result ≡ count_by (votes_at ballot) slots.now }
 {
     let mut count = 0;
-    for member in 0..members {
-        if is_at(latest_of(votes, member + 1), ballot) {
+    for slot in slots {
+        if is_at(slot, ballot) {
             count += 1;
         }
     }
     count
 }
 
-/// The ballot of the least member's latest vote at whose ballot the latest votes of a majority stand.
-fn majority_at(votes: &[HeardVote], members: u8) -> Option<Ballot>
-    requires { members ≤ 15 }
-    ensures { result ≡ option_map (λ (v : VoteValue). v.ballot) (ripe_of members (latest_in votes.now)) }
+/// The ballot of the least member's vote at whose ballot the votes of a majority stand.
+fn majority_at(slots: &[Option<Vote>]) -> Option<Ballot>
+    requires { length slots.now ≤ 15 }
+    ensures { result ≡ option_map (λ (v : VoteValue). v.ballot) (ripe_in slots.now) }
 {
-    for member in 0..members {
-        if let Some(vote) = latest_of(votes, member + 1) {
+    for slot in slots {
+        if let Some(vote) = slot {
             let ballot = vote.ballot();
-            if majority(count_at(votes, members, ballot), members) {
+            if majority(count_at(slots, ballot), slots.len() as u8) {
                 return Some(ballot);
             }
         }
@@ -106,18 +96,37 @@ fn majority_at(votes: &[HeardVote], members: u8) -> Option<Ballot>
     None
 }
 
-/// The latest vote of the least member whose latest vote has this ballot.
-fn least_at(votes: &[HeardVote], members: u8, ballot: Ballot) -> Option<&Vote>
-    requires { members ≤ 15 }
-    ensures { option_copied result ≡ least_at members ballot (latest_in votes.now) }
+/// The vote of the least member whose vote has this ballot.
+fn least_at(slots: &[Option<Vote>], ballot: Ballot) -> Option<&Vote>
+    ensures { option_copied result ≡ least_in ballot slots.now }
 {
-    for member in 0..members {
-        let vote = latest_of(votes, member + 1);
-        if is_at(vote, ballot) {
-            return vote;
+    for slot in slots {
+        if is_at(slot, ballot) {
+            return slot.as_ref();
         }
     }
     None
+}
+
+/// Keeps the member's vote where it is above the one in the member's slot; else it takes no memory.
+fn keep(
+    alloc: Global,
+    slots: &mut ArrayVec<Option<Vote>, 15>,
+    member: Member,
+    ballot: Ballot,
+    tape: TapeRef<'_>,
+) -> Result<(), AllocError>
+    requires { member ≤ length slots.old.items }
+    ensures kept { OnOk result (slots.new.items ≡ kept slots.old.items member ballot tape.entry) }
+    ensures err { OnErr result (slots.new.items ≡ slots.old.items) }
+    ensures no_memory { is_newer ballot (slot_of slots.old.items member) ≡ false → IsOk result }
+{
+    let place = usize::from(member.get()) - 1;
+    if is_newer(ballot, &slots[place]) {
+        let tape = tape.copy(alloc)?;
+        slots[place] = Some(Vote::new(ballot, tape));
+    }
+    Ok(())
 }
 
 impl Heard {
@@ -130,15 +139,14 @@ impl Heard {
     {
         Heard {
             alloc,
-            members,
-            votes: Vec::new(alloc),
+            slots: empty_slots(members),
         }
     }
 
     /// Takes a member's vote in, and answers the ballot at which the latest votes of a majority now stand, if any.
     ///
     /// A vote of a member takes the place of another only where its ballot is greater.
-    /// After `Err` nothing was taken in.
+    /// After `Err` nothing was taken in. A vote that isn't above the member's own takes no memory.
     pub fn hear(
         &mut self,
         member: Member,
@@ -150,11 +158,12 @@ impl Heard {
         ensures stands { OnOk result ((n : ℕ) (marks : List Mark) → StandsFor self.old n marks → StandsFor self.new n (HeardMark n member ballot tape.entry ∷ marks)) }
         ensures members { self.new.members ≡ self.old.members }
         ensures err { OnErr result (self.new ≡ self.old) }
+        ensures no_memory { (n : ℕ) (marks : List Mark) (v : VoteValue) → StandsFor self.old n marks → latest n marks member ≡ Some v → is_below v.ballot ballot ≡ false → IsOk result }
     {
-        let tape = tape.copy(self.alloc)?;
-        let vote = Vote::new(ballot, tape);
-        self.votes.push(HeardVote { member, vote })?;
-        Ok(majority_at(&self.votes, self.members))
+        // The member's range is known once it is read.
+        let _range = member.get();
+        keep(self.alloc, &mut self.slots, member, ballot, tape)?;
+        Ok(majority_at(&self.slots))
     }
 
     /// The tape of the least member whose latest vote has this ballot, lent.
@@ -162,7 +171,7 @@ impl Heard {
         ensures least { (n : ℕ) (marks : List Mark) → StandsFor self.now n marks → result ≡ option_map (λ (v : VoteValue). v.tape) (least_at self.now.members ballot (latest n marks)) }
         ensures ripe { (n : ℕ) (marks : List Mark) (v : VoteValue) → StandsFor self.now n marks → ripe self.now.members n marks ≡ Some v → ballot ≡ v.ballot → result ≡ Some v.tape }
     {
-        match least_at(&self.votes, self.members, ballot) {
+        match least_at(&self.slots, ballot) {
             None => None,
             Some(vote) => Some(vote.tape()),
         }

@@ -1,15 +1,23 @@
 -- The least number that is due: the least of the desks that are is the least that is read from the marks.
-use Rattle.std.proofs.Common.{◌≡◌, ◌≤◌, ◌<◌, ◌⊎◌, inl, inr, ℕ, zero, suc, length, get_or, refl, sym, ap, subst, ◌∙◌, List, [], ◌∷◌, ◌++◌, Option, Some, None, Bool, true, false, arith}
-use Rattle.std.specs.Prelude.{◌==◌, ◌||◌, nat_lt, find, filter, filter_map, if◌then◌else◌}
-use Rattle.std.proofs.lemmas.Bool.{eqb-true, eq-eqb, ltb-true, ltb-false}
+use Rattle.std.proofs.Common.{◌≡◌, ◌≤◌, ◌<◌, ◌⊎◌, inl, inr, ℕ, refl, sym, ap, ◌∙◌, List, [], ◌∷◌, Option, Some, None, Bool, true, false, subst, arith}
+use Rattle.std.specs.Prelude.{◌==◌, nat_lt, filter, filter_map, if◌then◌else◌}
+use Rattle.std.specs.Ordering.{nat_cmp}
+use Rattle.std.proofs.Common.{Ordering, Less, Equal, Greater}
+use Rattle.std.specs.BTreeMap.{is_at}
+use Rattle.std.specs.List.{AllByRecursion}
+use Rattle.std.specs.List.Sorted.{IsStrictlySortedBy}
+use Rattle.std.specs.Map.{keys_of}
+use Rattle.std.proofs.lemmas.Cmp.{ranked}
+use Rattle.std.proofs.lemmas.Map.Lookups.{exact_unsigned}
+use Rattle.std.proofs.lemmas.Map.Views.{tells_apart}
+use Rattle.std.proofs.lemmas.Bool.{eqb-true, ltb-true, ltb-false}
 use Rattle.protocol.specs.Lists.{IsAmong, has, first, greater, greatest}
 use Rattle.protocol.specs.Marks.{Mark, Began, Promised, Proposed, Denied, Heard, Closed, Released, closes}
 use Rattle.protocol.specs.Proposals.{Opening, was_released, open_proposal, since_began, opening_of, begun_number, is_due_number, next_due}
 use Rattle.node_core.specs.declared.desk.Desk.{Desk}
-use Rattle.node_core.specs.Seats.{Seat}
-use Rattle.node_core.specs.Standing.{Core, StandsFor, DeskStands, is_of, desk_of, AreDistinct, AreDesksOf, IsDeskOf}
+use Rattle.node_core.specs.Standing.{Core, StandsFor, InHandStands, desk_in, desk_at}
 use Rattle.node_core.specs.Dues.{AllStand, IsLeastPassing}
-use Rattle.node_core.proofs.Finding.{in_hand, found_number}
+use Rattle.node_core.proofs.Keeping.{none_open_in_hand}
 
 -- the number is the least of all that pass; with no number, none passes
 abbrev pub IsLeast : (ℕ → Bool) → Option ℕ → Type 0
@@ -114,136 +122,101 @@ next_is_least me now marks = go (next_due me now marks) (is_least_among (filter 
     go None h = λ k d. h k (among k d)
     go (Some n) h = (kept_passes (is_due_number me now marks) (filter_map begun_number marks) n h.0, λ k d. h.1 k (among k d))
 
--- a desk that is found is among them, and one that is among them is found
-found_among : (n : ℕ) (ds : List Desk) (x : Desk) → find (is_of n) ds ≡ Some x → IsAmong ds x
-found_among n [] x e = absurd cc
-found_among n (d ∷ ds) x e = go (d.number == n) refl (λ f. found_among n ds x f)
-  where
-    go : (t : Bool) → (d.number == n) ≡ t → (find (is_of n) ds ≡ Some x → IsAmong ds x) → (x ≡ d) ⊎ IsAmong ds x
-    go true h rest = let f : Some d ≡ Some x = rw h at e in let is : d ≡ x = cc in inl (sym is)
-    go false h rest = inr (rest (rw h at e))
-
-among_has : (n : ℕ) (ds : List Desk) (x : Desk) → IsAmong ds x → x.number ≡ n → has (is_of n) ds ≡ true
-among_has n [] x a e = absurd a
-among_has n (d ∷ ds) x a e = elim a as (λ _. has (is_of n) (d ∷ ds) ≡ true) [ inl f ↦ here f | inr b ↦ there (among_has n ds x b e) ]
-  where
-    here : x ≡ d → has (is_of n) (d ∷ ds) ≡ true
-    here f = let t : (d.number == n) ≡ true = eq-eqb d.number n (ap (λ (y : Desk). y.number) (sym f) ∙ e) in rw t refl
-
-    there : has (is_of n) ds ≡ true → has (is_of n) (d ∷ ds) ≡ true
-    there h = go (d.number == n)
-      where
-        go : (t : Bool) → (t || has (is_of n) ds) ≡ true
-        go true = refl
-        go false = h
-
-among_found : (ds : List Desk) (x : Desk) → AreDistinct ds → IsAmong ds x → find (is_of x.number) ds ≡ Some x
-among_found [] x h a = absurd a
-among_found (d ∷ ds) x h a = elim a as (λ _. find (is_of x.number) (d ∷ ds) ≡ Some x) [ inl e ↦ here e | inr b ↦ there b (among_found ds x h.1 b) ]
-  where
-    here : x ≡ d → find (is_of x.number) (d ∷ ds) ≡ Some x
-    here e = let t : (d.number == x.number) ≡ true = eq-eqb d.number x.number (ap (λ (y : Desk). y.number) (sym e)) in rw t (ap (λ (y : Desk). Some y) (sym e))
-
-    there : IsAmong ds x → find (is_of x.number) ds ≡ Some x → find (is_of x.number) (d ∷ ds) ≡ Some x
-    there b f = go (d.number == x.number) refl
-      where
-        go : (t : Bool) → (d.number == x.number) ≡ t → find (is_of x.number) (d ∷ ds) ≡ Some x
-        go true e =
-            let twice : has (is_of d.number) ds ≡ true = among_has d.number ds x b (sym (eqb-true d.number x.number e)) in
-            let bad : true ≡ false = sym twice ∙ h.0 in absurd cc
-        go false e = rw e f
-
--- the desks of a core that stands for the marks stand for them too
+-- what is in hand stands for the marks
 pub all_stand : (v : Core) (marks : List Mark) → StandsFor v marks → AllStand v.desks marks
-all_stand v marks h = λ d a. (in_hand v marks d.number d h (among_found v.desks d h.distinct a)).0
+all_stand v marks h = λ n d e. subst (λ (o : Option Desk). InHandStands v.members n o marks) e (h.in_hand n)
 
--- each of a seat's desks is the seat's
-pub each_of : (s : Seat) (ds : List Desk) (x : Desk) → AreDesksOf s ds → IsAmong ds x → IsDeskOf s x
-each_of s [] x h a = absurd a
-each_of s (d ∷ ds) x h a = elim a as (λ _. IsDeskOf s x) [ inl e ↦ subst (λ (y : Desk). IsDeskOf s y) (sym e) h.0 | inr b ↦ each_of s ds x h.1 b ]
-
--- the desk at a place is among them
-pub get_among : (ds : List Desk) (i : ℕ) (x : Desk) → i < length ds → x ≡ get_or ds i x → IsAmong ds x
-get_among [] i x h e = absurd (omega arith)
-get_among (d ∷ ds) zero x h e = inl e
-get_among (d ∷ ds) (suc i) x h e = inr (get_among ds i x (omega arith) e)
-
--- a number that is due has a desk
-due_has_desk : (v : Core) (me now n : ℕ) (marks : List Mark) → StandsFor v marks → is_due_number me now marks n ≡ true → (d : Desk) × IsAmong v.desks d × (d.number ≡ n)
-due_has_desk v me now n marks h due = go (find (is_of n) v.desks) refl (due_opens me now n marks due)
+-- a number that is due is in hand
+due_in_hand : (v : Core) (me now n : ℕ) (marks : List Mark) → StandsFor v marks → is_due_number me now marks n ≡ true → (d : Desk) × (desk_at v n ≡ Some d)
+due_in_hand v me now n marks h due = go (desk_at v n) refl (due_opens me now n marks due)
   where
-    go : (q : Option Desk) → find (is_of n) v.desks ≡ q → Open n marks → (d : Desk) × IsAmong v.desks d × (d.number ≡ n)
+    go : (q : Option Desk) → desk_at v n ≡ q → Open n marks → (d : Desk) × (desk_at v n ≡ Some d)
     go None e o =
-        let s : DeskStands (desk_of v.members n v.desks) marks = h.desks n o.unreleased in
-        let closed : open_proposal n marks ≡ None = (rw e at s).proposal in
+        let closed : open_proposal n marks ≡ None = none_open_in_hand v.members n marks (subst (λ (x : Option Desk). InHandStands v.members n x marks) e (h.in_hand n)) in
         let bad : None ≡ Some o.opening = sym closed ∙ o.opens in absurd cc
-    go (Some d) e o = (d, found_among n v.desks d e, found_number n v.desks d e)
+    go (Some d) e o = (d, e)
 
--- the least of the desks that are due is the least of all numbers that are
-pub least_of_all : (v : Core) (me now : ℕ) (marks : List Mark) (o : Option ℕ) → StandsFor v marks → IsLeastPassing (is_due_number me now marks) v.desks o → IsLeast (is_due_number me now marks) o
+-- the least in hand that is due is the least of all numbers that are
+least_of_all : (v : Core) (me now : ℕ) (marks : List Mark) (o : Option ℕ) → StandsFor v marks → IsLeastPassing (is_due_number me now marks) v.desks o → IsLeast (is_due_number me now marks) o
 least_of_all v me now marks None h l = λ k due.
-    let d = due_has_desk v me now k marks h due in
-    let passes : is_due_number me now marks d.0.number ≡ true = ap (is_due_number me now marks) d.2 ∙ due in
-    let bad : true ≡ false = sym passes ∙ l d.0 d.1 in cc
-least_of_all v me now marks (Some n) h l = (
-  l.0,
-  λ k due.
-      let d = due_has_desk v me now k marks h due in
-      let passes : is_due_number me now marks d.0.number ≡ true = ap (is_due_number me now marks) d.2 ∙ due in
-      subst (λ j. n ≤ j) d.2 (l.1 d.0 d.1 passes),
-)
+    let d = due_in_hand v me now k marks h due in
+    let bad : true ≡ false = sym due ∙ l k d.0 d.1 in cc
+least_of_all v me now marks (Some n) h l = (l.0, λ k due. (let d = due_in_hand v me now k marks h due in l.1 k d.0 d.1 due))
 
 pub is_next_due : (v : Core) (me now : ℕ) (marks : List Mark) (o : Option ℕ) → StandsFor v marks → IsLeastPassing (is_due_number me now marks) v.desks o → o ≡ next_due me now marks
 is_next_due v me now marks o h l = one_least (is_due_number me now marks) o (next_due me now marks) (least_of_all v me now marks o h l) (next_is_least me now marks)
 
--- one more desk is seen
-among_more : (ds : List Desk) (d x : Desk) → IsAmong (ds ++ d ∷ []) x → IsAmong ds x ⊎ (x ≡ d)
-among_more [] d x a = elim a as (λ _. IsAmong [] x ⊎ (x ≡ d)) [ inl e ↦ inr e | inr b ↦ absurd b ]
-among_more (y ∷ ys) d x a = elim a as (λ _. ((x ≡ y) ⊎ IsAmong ys x) ⊎ (x ≡ d)) [
-  | inl e ↦ inl (inl e)
-  | inr b ↦ elim (among_more ys d x b) as (λ _. ((x ≡ y) ⊎ IsAmong ys x) ⊎ (x ≡ d)) [ inl f ↦ inl (inr f) | inr f ↦ inr f ]
-]
+-- the rest of what is in hand, in order, with all of it that passes
+pub record Left (passes : ℕ → Bool) (all rest : List (ℕ × Desk)) : Type 0 where
+  pub in_order : IsStrictlySortedBy nat_cmp (keys_of rest)
+  pub within : (k : ℕ) (d : Desk) → desk_in rest k ≡ Some d → desk_in all k ≡ Some d
+  pub due_left : (k : ℕ) (d : Desk) → desk_in all k ≡ Some d → passes k ≡ true → desk_in rest k ≡ Some d
 
--- what passes of one more desk
-module _ (passes : ℕ → Bool) (ds : List Desk) (d : Desk) where
-  -- it does not pass: what was least is
-  pub with_other : (o : Option ℕ) → passes d.number ≡ false → IsLeastPassing passes ds o → IsLeastPassing passes (ds ++ d ∷ []) o
-  with_other None p h = λ x a. elim (among_more ds d x a) as (λ _. passes x.number ≡ false) [ inl b ↦ h x b | inr e ↦ ap (λ (y : Desk). passes y.number) e ∙ p ]
-  with_other (Some n) p h = (
-    h.0,
-    λ x a q. elim (among_more ds d x a) as (λ _. n ≤ x.number) [
-      | inl b ↦ h.1 x b q
-      | inr e ↦ (let bad : true ≡ false = sym q ∙ ap (λ (y : Desk). passes y.number) e ∙ p in absurd cc)
-    ],
-  )
+pub all_left : (passes : ℕ → Bool) (all rest : List (ℕ × Desk)) → rest ≡ all → IsStrictlySortedBy nat_cmp (keys_of all) → Left passes all rest
+all_left passes all rest e h = rw e (record { in_order = h; within = λ k d f. f; due_left = λ k d f p. f })
 
-  -- it passes: the lesser is least
-  pub with_due : (o : Option ℕ) → passes d.number ≡ true → IsLeastPassing passes ds o → IsLeastPassing passes (ds ++ d ∷ []) (Some (greater (λ i j. nat_lt i j) d.number o))
-  with_due None p h = (
-    p,
-    λ x a q. elim (among_more ds d x a) as (λ _. d.number ≤ x.number) [
-      | inl b ↦ (let bad : true ≡ false = sym q ∙ h x b in absurd cc)
-      | inr e ↦ (let same : x.number ≡ d.number = ap (λ (y : Desk). y.number) e in omega arith)
-    ],
-  )
-  with_due (Some n) p h = go (nat_lt d.number n) refl
+-- a key of the rest is above the key before it
+above : (n k : ℕ) (x : Desk) (rest : List (ℕ × Desk)) → AllByRecursion (λ q. nat_cmp n q ≡ Less) (keys_of rest) → desk_in rest k ≡ Some x → n < k
+above n k x [] a e = absurd cc
+above n k x (f ∷ rest) a e = go (is_at (nat_cmp k) f.0) refl (λ g. above n k x rest a.1 g)
+  where
+    go : (t : Bool) → is_at (nat_cmp k) f.0 ≡ t → (desk_in rest k ≡ Some x → n < k) → n < k
+    go true t r = ranked n k Less (sym (subst (λ j. nat_cmp n j ≡ Less) (sym (tells_apart exact_unsigned k f.0 t)) a.0))
+    go false t r = r (rw t at e)
+
+parts : (n : ℕ) (ns : List ℕ) → IsStrictlySortedBy nat_cmp (n ∷ ns) → AllByRecursion (λ q. nat_cmp n q ≡ Less) ns × IsStrictlySortedBy nat_cmp ns
+unfolding IsStrictlySortedBy
+parts n ns h = h
+
+-- where the first of the rest stands
+own_at : (n : ℕ) → is_at (nat_cmp n) n ≡ true
+own_at n = go (nat_cmp n n) refl
+  where
+    go : (o : Ordering) → nat_cmp n n ≡ o → is_at (nat_cmp n) n ≡ true
+    go Less e = let h : n < n = ranked n n Less (sym e) in absurd (omega arith)
+    go Equal e = rw e refl
+    go Greater e = let h : n < n = ranked n n Greater (sym e) in absurd (omega arith)
+
+module _ (passes : ℕ → Bool) (all rest next : List (ℕ × Desk)) (n : ℕ) (d : Desk) (is : rest ≡ (n, d) ∷ next) (h : Left passes all rest) where
+  first_left : Left passes all ((n, d) ∷ next)
+  first_left = subst (λ (es : List (ℕ × Desk)). Left passes all es) is h
+
+  pub there : desk_in all n ≡ Some d
+  there = let t : is_at (nat_cmp n) n ≡ true = own_at n in first_left.within n d (rw t refl)
+
+  -- it does not pass
+  pub less_left : passes n ≡ false → Left passes all next
+  less_left f = record { in_order = (parts n (keys_of next) first_left.in_order).1; within = within; due_left = due }
     where
-      go : (t : Bool) → nat_lt d.number n ≡ t → IsLeastPassing passes (ds ++ d ∷ []) (Some (if nat_lt d.number n then d.number else n))
-      go true e =
-          let below : d.number < n = ltb-true d.number n e in
-          rw e (
-            p,
-            λ x a q. elim (among_more ds d x a) as (λ _. d.number ≤ x.number) [
-              | inl b ↦ (let rest : n ≤ x.number = h.1 x b q in omega arith)
-              | inr f ↦ (let same : x.number ≡ d.number = ap (λ (y : Desk). y.number) f in omega arith)
-            ],
-          )
-      go false e =
-          let above : n ≤ d.number = ltb-false d.number n e in
-          rw e (
-            h.0,
-            λ x a q. elim (among_more ds d x a) as (λ _. n ≤ x.number) [
-              | inl b ↦ h.1 x b q
-              | inr f ↦ (let same : x.number ≡ d.number = ap (λ (y : Desk). y.number) f in omega arith)
-            ],
-          )
+      within : (k : ℕ) (x : Desk) → desk_in next k ≡ Some x → desk_in all k ≡ Some x
+      within k x e = go (is_at (nat_cmp k) n) refl
+        where
+          go : (t : Bool) → is_at (nat_cmp k) n ≡ t → desk_in all k ≡ Some x
+          go true t =
+              let same : k ≡ n = tells_apart exact_unsigned k n t in
+              let below : n < k = above n k x next (parts n (keys_of next) first_left.in_order).0 e in
+              absurd (omega arith)
+          go false t = first_left.within k x (rw t e)
+
+      due : (k : ℕ) (x : Desk) → desk_in all k ≡ Some x → passes k ≡ true → desk_in next k ≡ Some x
+      due k x e p = go (is_at (nat_cmp k) n) refl
+        where
+          go : (t : Bool) → is_at (nat_cmp k) n ≡ t → desk_in next k ≡ Some x
+          go true t = let bad : true ≡ false = sym p ∙ ap passes (tells_apart exact_unsigned k n t) ∙ f in absurd cc
+          go false t = let g : desk_in ((n, d) ∷ next) k ≡ Some x = first_left.due_left k x e p in rw t at g
+
+  -- it passes: it is the least that does
+  pub least_left : passes n ≡ true → IsLeastPassing passes all (Some n)
+  least_left p = (p, λ k x e q. go k x q (is_at (nat_cmp k) n) refl (first_left.due_left k x e q))
+    where
+      go : (k : ℕ) (x : Desk) → passes k ≡ true → (t : Bool) → is_at (nat_cmp k) n ≡ t → desk_in ((n, d) ∷ next) k ≡ Some x → n ≤ k
+      go k x q true t e = let same : k ≡ n = tells_apart exact_unsigned k n t in omega arith
+      go k x q false t e = let below : n < k = above n k x next (parts n (keys_of next) first_left.in_order).0 (rw t at e) in omega arith
+
+-- nothing is left
+pub none_left : (passes : ℕ → Bool) (all rest : List (ℕ × Desk)) → rest ≡ [] → Left passes all rest → IsLeastPassing passes all None
+none_left passes all rest is h = λ k d e. go k d e (passes k) refl
+  where
+    go : (k : ℕ) (d : Desk) → desk_in all k ≡ Some d → (t : Bool) → passes k ≡ t → passes k ≡ false
+    go k d e true p = let f : desk_in [] k ≡ Some d = rw is at (h.due_left k d e p) in absurd cc
+    go k d e false p = p

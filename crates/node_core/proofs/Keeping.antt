@@ -1,125 +1,125 @@
--- A core goes on to stand for the marks once a desk is put back, or its number was released.
-use Rattle.std.proofs.Common.{◌≡◌, ℕ, refl, sym, ap, subst, ◌∙◌, List, [], ◌∷◌, ◌++◌, Option, Some, None, Bool, true, false}
-use Rattle.std.specs.Prelude.{find, is_some, ◌==◌, ◌||◌}
-use Rattle.std.proofs.lemmas.Bool.{eqb-true, eq-eqb, ne_eqb}
-use Rattle.std.specs.List.{list_any}
-use Rattle.protocol.specs.Lists.{has}
+-- A core goes on to stand for the marks once what is in hand of one number was acted on.
+use Rattle.std.proofs.Common.{◌≡◌, ℕ, refl, sym, ap, subst, ◌∙◌, List, [], ◌∷◌, Option, Some, None, Bool, true, false}
+use Rattle.std.specs.Prelude.{is_some, ◌==◌, if◌then◌else◌}
+use Rattle.std.proofs.lemmas.Bool.{eqb-true, eq-eqb}
+use Rattle.std.specs.Ordering.{nat_cmp}
+use Rattle.std.specs.BTreeMap.{BTreeMap, get, is_at, WritesThrough, Updates}
+use Rattle.std.proofs.lemmas.Map.Lookups.{exact_unsigned}
+use Rattle.std.proofs.lemmas.Map.Views.{tells_apart}
 use Rattle.protocol.specs.Rows.{Tape}
 use Rattle.protocol.specs.Marks.{Mark}
-use Rattle.protocol.specs.Proposals.{was_released}
+use Rattle.protocol.specs.Proposals.{was_released, open_proposal, open_ballot}
 use Rattle.learner.specs.Latest.{OtherMarksPass as OtherVotesPass}
 use Rattle.proposer.specs.InHand.{OtherMarksPass as OtherProposalsPass}
 use Rattle.node_core.specs.declared.desk.Desk.{Desk}
-use Rattle.node_core.specs.Standing.{Core, StandsFor, DeskStands, IsLeft, Grows, fresh, is_of, put, replaced, without, desk_of, with_desk}
-use Rattle.node_core.proofs.Finding.{has_without, none_left, distinct_without, distinct_put, has_put_other, find_put_other, find_put_own, find_other, desk_number, put_replaced, without_replaced}
+use Rattle.node_core.specs.Standing.{Core, StandsFor, DeskStands, InHandStands, IsLeft, Grows, Moves, AreDesksOf, IsDeskOf, fresh, desk_in, desk_at, is_noted}
+use Rattle.node_core.specs.Seats.{Seat}
 use Rattle.node_core.proofs.Passing.{other_released, other_desk}
 
-yes_or_no : {A : Type 0} (b c : Bool) → b ≡ true → b ≡ false → A
-yes_or_no b c h k = let f : true ≡ false = sym h ∙ k in absurd cc
+module _ (votes : OtherVotesPass) (proposals : OtherProposalsPass) (n : ℕ) (marks after : List Mark) (g : Grows n marks after) where
+  -- of another number the same stands
+  other_in_hand : (c k : ℕ) → (n == k) ≡ false → (o : Option Desk) → InHandStands c k o marks → InHandStands c k o after
+  other_in_hand c k other None h = λ u. other_desk votes proposals n k other (fresh c k) marks after refl g (h (sym (other_released votes proposals n k other marks after g) ∙ u))
+  other_in_hand c k other (Some d) h = (h.0, other_desk votes proposals n k other d marks after h.0 g h.1)
 
-turned : (n k : ℕ) → (n == k) ≡ false → (k == n) ≡ false
-turned n k e = ne_eqb k n (λ f. let t : (n == k) ≡ true = eq-eqb n k (sym f) in yes_or_no (n == k) true t e)
+  module _ (v w : Core) (h : StandsFor v marks) (u : was_released n marks ≡ false) where
+    other_numbers : (o : Option Desk) (r : Bool) → Moves v n o r w → (k : ℕ) → (n == k) ≡ false → (is_noted w k ≡ was_released k after) × InHandStands w.members k (desk_at w k) after
+    other_numbers o r m k other =
+        let apart : k ≡ n → ⊥ = λ e. (let t : (n == k) ≡ true = eq-eqb n k (sym e) in let bad : true ≡ false = sym t ∙ other in absurd cc) in
+        let same : desk_at w k ≡ desk_at v k = m.others k apart in
+        let c : w.members ≡ v.members = m.members in
+        (
+          m.unnoted k (λ _ e. apart e) ∙ h.released k ∙ sym (other_released votes proposals n k other marks after g),
+          rw (same, c) (other_in_hand v.members k other (desk_at v k) (h.in_hand k)),
+        )
 
-has_end : (k n : ℕ) (xs : List ℕ) → (n == k) ≡ false → list_any (λ j. j == k) (xs ++ n ∷ []) ≡ list_any (λ j. j == k) xs
-has_end k n [] e = rw e refl
-has_end k n (x ∷ xs) e = ap (λ b. (x == k) || b) (has_end k n xs e)
+    pub moved : (o : Option Desk) (r : Bool) → Moves v n o r w → is_noted w n ≡ was_released n after → InHandStands w.members n o after → StandsFor w after
+    moved o r m noted stands = record { unfailed = m.failed ∙ h.unfailed; released = λ k. (both k (n == k) refl).0; in_hand = λ k. (both k (n == k) refl).1 }
+      where
+        both : (k : ℕ) (t : Bool) → (n == k) ≡ t → (is_noted w k ≡ was_released k after) × InHandStands w.members k (desk_at w k) after
+        both k true e =
+            let is : n ≡ k = eqb-true n k e in
+            subst (λ j. (is_noted w j ≡ was_released j after) × InHandStands w.members j (desk_at w j) after) is (noted, subst (λ (x : Option Desk). InHandStands w.members n x after) (sym m.here) stands)
+        both k false e = other_numbers o r m k e
 
-has_own : (n : ℕ) (xs : List ℕ) → list_any (λ j. j == n) (xs ++ n ∷ []) ≡ true
-has_own n [] = let t : (n == n) ≡ true = eq-eqb n n refl in rw t refl
-has_own n (x ∷ xs) = ap (λ b. (x == n) || b) (has_own n xs) ∙ or_true (x == n)
+    -- what is left of a desk that was acted on
+    pub settled : (d : Desk) → d.number ≡ n → (release : Option Tape) (r : Bool) → r ≡ is_some release → IsLeft d release after → Moves v n (if r then None else Some d) r w → StandsFor w after
+    settled d number None true e left m = absurd cc
+    settled d number None false e left m =
+        let unreleased : was_released n after ≡ false = subst (λ k. was_released k after ≡ false) number left.unreleased in
+        moved (Some d) false m (m.unnoted n (λ t. absurd cc) ∙ h.released n ∙ u ∙ sym unreleased) (number, left)
+    settled d number (Some t) true e left m =
+        let released : was_released n after ≡ true = subst (λ k. was_released k after ≡ true) number left in
+        moved None true m (m.noted refl ∙ sym released) (λ f. let bad : true ≡ false = sym released ∙ f in absurd cc)
+    settled d number (Some t) false e left m = absurd cc
+
+-- a number that is another is found elsewhere
+apart_at : (n k : ℕ) → (k ≡ n → ⊥) → is_at (nat_cmp n) k ≡ false
+apart_at n k apart = go (is_at (nat_cmp n) k) refl
   where
-    or_true : (b : Bool) → (b || true) ≡ true
-    or_true true = refl
-    or_true false = refl
+    go : (t : Bool) → is_at (nat_cmp n) k ≡ t → is_at (nat_cmp n) k ≡ false
+    go true e = absurd (apart (sym (tells_apart exact_unsigned n k e)))
+    go false e = e
 
-module _ (votes : OtherVotesPass) (proposals : OtherProposalsPass) (v : Core) (marks after : List Mark) (d : Desk)
-    (h : StandsFor v marks) (u : was_released d.number marks ≡ false) (g : Grows d.number marks after) where
-  module _ (k : ℕ) (other : (d.number == k) ≡ false) where
-    stays_released : was_released k after ≡ was_released k marks
-    stays_released = other_released votes proposals d.number k other marks after g
+-- what is in hand where what is in hand of n was acted on in place
+pub record Written (m after : BTreeMap ℕ Desk) (n : ℕ) (d : Desk) : Type 0 where
+  pub here : get nat_cmp after n ≡ Some d
+  pub others : (k : ℕ) → (k ≡ n → ⊥) → get nat_cmp after k ≡ get nat_cmp m k
 
-    stays_in_hand : was_released k after ≡ false → DeskStands (desk_of v.members k v.desks) after
-    stays_in_hand f = other_desk votes proposals d.number k other (desk_of v.members k v.desks) marks after (desk_number v.members k v.desks) g (h.desks k (sym stays_released ∙ f))
+pub written : (m after : BTreeMap ℕ Desk) (n : ℕ) (old d : Desk) → Some old ≡ get nat_cmp m n → WritesThrough nat_cmp (nat_cmp n) m d after → Written m after n d
+written m after n old d e w =
+    let u = w.3 (subst (λ (o : Option Desk). is_some o ≡ true) e refl) in
+    record { here = u.1; others = λ k apart. u.2 k (apart_at n k apart) }
 
-    stays_gone : was_released k after ≡ true → has (is_of k) (without d.number v.desks) ≡ false
-    stays_gone f = has_without d.number k v.desks (h.gone k (sym stays_released ∙ f))
+-- and where a desk was put in
+pub was_put : (m after : BTreeMap ℕ Desk) (n : ℕ) (d : Desk) → Updates nat_cmp m after n (Some d) → Written m after n d
+was_put m after n d u = record { here = u.1; others = λ k apart. u.2 k (apart_at n k apart) }
 
-  -- the desk is put back
-  module _ (s : DeskStands d after) where
-    put_released : (k : ℕ) → list_any (λ j. j == k) v.released ≡ was_released k after
-    put_released k = go (d.number == k) refl
-      where
-        go : (b : Bool) → (d.number == k) ≡ b → list_any (λ j. j == k) v.released ≡ was_released k after
-        go true e = let is : d.number ≡ k = eqb-true d.number k e in h.released k ∙ subst (λ j. was_released j marks ≡ was_released j after) is (u ∙ sym s.unreleased)
-        go false e = h.released k ∙ sym (stays_released k e)
+-- what is in hand goes on to be the seat's, each under its own number
+pub written_of : (s : Seat) (m after : BTreeMap ℕ Desk) (n : ℕ) (d : Desk) → AreDesksOf s m.entries → Written m after n d → IsDeskOf s d → d.number ≡ n → AreDesksOf s after.entries
+written_of s m after n d h w of number = λ k x e. go k x e (n == k) refl
+  where
+    go : (k : ℕ) (x : Desk) → get nat_cmp after k ≡ Some x → (t : Bool) → (n == k) ≡ t → IsDeskOf s x × (x.number ≡ k)
+    go k x e true t =
+        let is : n ≡ k = eqb-true n k t in
+        let f : Some d ≡ Some x = sym (subst (λ j. get nat_cmp after j ≡ Some d) is w.here) ∙ e in
+        let same : d ≡ x = cc in
+        subst (λ (y : Desk). IsDeskOf s y × (y.number ≡ k)) same (of, number ∙ is)
+    go k x e false t =
+        let apart : k ≡ n → ⊥ = λ f. (let y : (n == k) ≡ true = eq-eqb n k (sym f) in let bad : true ≡ false = sym y ∙ t in absurd cc) in
+        h k x (sym (w.others k apart) ∙ e)
 
-    put_gone : (k : ℕ) → was_released k after ≡ true → has (is_of k) (put d v.desks) ≡ false
-    put_gone k f = go (d.number == k) refl
-      where
-        go : (b : Bool) → (d.number == k) ≡ b → has (is_of k) (put d v.desks) ≡ false
-        go true e = let is : d.number ≡ k = eqb-true d.number k e in yes_or_no (was_released k after) true f (subst (λ j. was_released j after ≡ false) is s.unreleased)
-        go false e = has_put_other d k e v.desks ∙ h.gone k (sym (stays_released k e) ∙ f)
+-- what stands in hand, as the core shows it
+pub stands_there : (c : Core) (m : BTreeMap ℕ Desk) (n : ℕ) (o : Option Desk) (marks : List Mark) → m.entries ≡ c.desks → o ≡ get nat_cmp m n → StandsFor c marks → InHandStands c.members n o marks
+stands_there c m n o marks is e h = subst (λ (x : Option Desk). InHandStands c.members n x marks) (ap (λ (es : List (ℕ × Desk)). desk_in es n) (sym is) ∙ sym e) (h.in_hand n)
 
-    put_in_hand : (k : ℕ) → was_released k after ≡ false → DeskStands (desk_of v.members k (put d v.desks)) after
-    put_in_hand k f = go (d.number == k) refl
-      where
-        go : (b : Bool) → (d.number == k) ≡ b → DeskStands (desk_of v.members k (put d v.desks)) after
-        go true e =
-            let is : d.number ≡ k = eqb-true d.number k e in
-            let own : find (is_of k) (put d v.desks) ≡ Some d = subst (λ j. find (is_of j) (put d v.desks) ≡ Some d) is (find_put_own d v.desks) in
-            rw own s
-        go false e =
-            let same : find (is_of k) (put d v.desks) ≡ find (is_of k) v.desks = find_put_other d k e v.desks in
-            rw same (stays_in_hand k e f)
+-- the core, once what is in hand of n was acted on, and the number then settled
+pub acted_on :
+    {mid : Core} (votes : OtherVotesPass) (proposals : OtherProposalsPass) (before after : Core) (m m' : BTreeMap ℕ Desk) (n k j : ℕ) (d : Desk)
+    (marks next : List Mark) (release : Option Tape) (r : Bool)
+    → k ≡ n → j ≡ n → record mid { desks = m.entries } ≡ before → mid.desks ≡ m'.entries → Written m m' k d
+    → StandsFor before marks → was_released n marks ≡ false → Grows n marks next → d.number ≡ n → r ≡ is_some release → IsLeft d release next
+    → Moves mid j (if r then None else desk_at mid j) r after → StandsFor after next
+acted_on {mid} votes proposals before after m m' n k j d marks next release r key its view shown written h u g number e left moved =
+    let w : Written m m' n d = subst (λ i. Written m m' i d) key written in
+    let moves : Moves mid n (if r then None else desk_at mid n) r after = subst (λ i. Moves mid i (if r then None else desk_at mid i) r after) its moved in
+    settled votes proposals n marks next g (record mid { desks = m.entries }) after (subst (λ (c : Core). StandsFor c marks) (sym view) h) u d number release r e left
+    (record {
+      failed = moves.failed;
+      members = moves.members;
+      here = moves.here ∙ ap (λ (o : Option Desk). if r then None else o) (ap (λ (es : List (ℕ × Desk)). desk_in es n) shown ∙ w.here);
+      others = λ i apart. moves.others i apart ∙ ap (λ (es : List (ℕ × Desk)). desk_in es i) shown ∙ w.others i apart;
+      noted = moves.noted;
+      unnoted = moves.unnoted;
+    })
 
-    pub put_back : StandsFor (record v { desks = put d v.desks }) after
-    put_back = record { unfailed = h.unfailed; released = put_released; distinct = distinct_put d v.desks h.distinct; gone = put_gone; desks = put_in_hand }
+-- with nothing in hand no proposal is open
+pub none_open_in_hand : (c n : ℕ) (marks : List Mark) → InHandStands c n None marks → open_proposal n marks ≡ None
+none_open_in_hand c n marks h = go (was_released n marks) refl
+  where
+    go : (t : Bool) → was_released n marks ≡ t → open_proposal n marks ≡ None
+    go true e = rw e refl
+    go false e = (h e).proposal
 
-  -- the number was released
-  module _ (r : was_released d.number after ≡ true) where
-    noted_released : (k : ℕ) → list_any (λ j. j == k) (v.released ++ d.number ∷ []) ≡ was_released k after
-    noted_released k = go (d.number == k) refl
-      where
-        go : (b : Bool) → (d.number == k) ≡ b → list_any (λ j. j == k) (v.released ++ d.number ∷ []) ≡ was_released k after
-        go true e = let is : d.number ≡ k = eqb-true d.number k e in subst (λ j. list_any (λ i. i == j) (v.released ++ d.number ∷ []) ≡ was_released j after) is (has_own d.number v.released ∙ sym r)
-        go false e = has_end k d.number v.released e ∙ h.released k ∙ sym (stays_released k e)
-
-    noted_gone : (k : ℕ) → was_released k after ≡ true → has (is_of k) (without d.number v.desks) ≡ false
-    noted_gone k f = go (d.number == k) refl
-      where
-        go : (b : Bool) → (d.number == k) ≡ b → has (is_of k) (without d.number v.desks) ≡ false
-        go true e = let is : d.number ≡ k = eqb-true d.number k e in subst (λ j. has (is_of j) (without d.number v.desks) ≡ false) is (none_left d.number v.desks h.distinct)
-        go false e = stays_gone k e f
-
-    noted_in_hand : (k : ℕ) → was_released k after ≡ false → DeskStands (desk_of v.members k (without d.number v.desks)) after
-    noted_in_hand k f = go (d.number == k) refl
-      where
-        go : (b : Bool) → (d.number == k) ≡ b → DeskStands (desk_of v.members k (without d.number v.desks)) after
-        go true e = let is : d.number ≡ k = eqb-true d.number k e in yes_or_no (was_released k after) true (subst (λ j. was_released j after ≡ true) is r) f
-        go false e =
-            let same : find (is_of k) (without d.number v.desks) ≡ find (is_of k) v.desks = find_other d.number k e v.desks in
-            rw same (stays_in_hand k e f)
-
-    pub noted : StandsFor (record v { desks = without d.number v.desks; released = v.released ++ d.number ∷ [] }) after
-    noted = record { unfailed = h.unfailed; released = noted_released; distinct = distinct_without d.number v.desks h.distinct; gone = noted_gone; desks = noted_in_hand }
-
-  pub kept : (release : Option Tape) (is_released : Bool) → is_some release ≡ is_released → IsLeft d release after → StandsFor (with_desk v d is_released) after
-  kept None true e left = absurd cc
-  kept None false e left = put_back left
-  kept (Some t) true e left = noted left
-  kept (Some t) false e left = absurd cc
-
--- what stood in the desk's place leaves no trace
-with_replaced : (v : Core) (d : Desk) (n : ℕ) (is_released : Bool) → d.number ≡ n → with_desk (record v { desks = replaced (fresh v.members n) v.desks }) d is_released ≡ with_desk v d is_released
-with_replaced v d n false number = ap (λ (ds : List Desk). let w : Core = record v { desks = ds } in w) (put_replaced (fresh v.members n) n refl d number v.desks)
-with_replaced v d n true number = ap (λ (ds : List Desk). let w : Core = record v { desks = ds; released = v.released ++ d.number ∷ [] } in w) (without_replaced (fresh v.members n) d.number (sym number) v.desks)
-
--- the same, where the desk's number is given
-pub kept_at :
-    (votes : OtherVotesPass) (proposals : OtherProposalsPass) (v : Core) (marks after : List Mark) (d : Desk) (n : ℕ) → d.number ≡ n
-    → StandsFor v marks → was_released n marks ≡ false → Grows n marks after
-    → (release : Option Tape) (is_released : Bool) → is_some release ≡ is_released → IsLeft d release after
-    → StandsFor (with_desk (record v { desks = replaced (fresh v.members n) v.desks }) d is_released) after
-kept_at votes proposals v marks after d n number h u g release is_released e left =
-    subst (λ (w : Core). StandsFor w after) (sym (with_replaced v d n is_released number))
-    (kept votes proposals v marks after d h (subst (λ k. was_released k marks ≡ false) (sym number) u) (subst (λ k. Grows k marks after) (sym number) g) release is_released e left)
+pub none_in_hand : (c n : ℕ) (marks : List Mark) → InHandStands c n None marks → None ≡ open_ballot n marks
+none_in_hand c n marks h = let e : open_proposal n marks ≡ None = none_open_in_hand c n marks h in rw e refl

@@ -1,12 +1,11 @@
 pub mod Sending
 pub mod Phases
-pub mod Finding
 pub mod Passing
-pub mod Keeping
 pub mod Growing
 pub mod Accepting
 pub mod Telling
 pub mod Calling
 pub mod Orders
-pub mod Dueing
 pub mod Stirring
+pub mod Keeping
+pub mod Dueing

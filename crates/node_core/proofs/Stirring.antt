@@ -17,9 +17,8 @@ use Rattle.protocol.specs.Turn.{others, hear, propose, begin, renew, next_ballot
 use Rattle.packets.specs.Rules.{keeps_rules, may_send, kind_of, may_say}
 use Rattle.proposer.specs.Answers.{IsNew, completes}
 use Rattle.node_core.specs.declared.desk.Desk.{Desk}
-use Rattle.node_core.specs.Standing.{Core, StandsFor, DeskStands, IsLeft, is_of, desk_of}
+use Rattle.node_core.specs.Standing.{IsLeft}
 use Rattle.node_core.specs.Memory.{IsStill}
-use Rattle.node_core.proofs.Finding.{HasNone, has_none}
 use Rattle.node_core.proofs.Phases.{counts_so, completes_so}
 use Rattle.node_core.proofs.Sending.{others_few}
 
@@ -143,24 +142,11 @@ module _ (k c m : ℕ) (marks : List Mark) (p : Packet) (some : 0 < length (othe
       go true e = rw e (omega arith)
       go false e = rw e (take_sends row t row.vote)
 
--- an open number has a desk
-pub open_has_desk : (v : Core) (n : ℕ) (marks : List Mark) → StandsFor v marks → was_released n marks ≡ false → is_some (open_proposal n marks) ≡ true → has (is_of n) v.desks ≡ true
-open_has_desk v n marks h unreleased opens = go (has (is_of n) v.desks) refl
-  where
-    go : (x : Bool) → has (is_of n) v.desks ≡ x → has (is_of n) v.desks ≡ true
-    go true e = e
-    go false e =
-        let r : HasNone n v.desks = has_none n v.desks e in
-        let s : DeskStands (desk_of v.members n v.desks) marks = h.desks n unreleased in
-        let closed : open_proposal n marks ≡ None = (rw r.found at s).proposal in
-        let bad : false ≡ true = rw closed at opens in absurd cc
-
--- a desk that was there can't be put back only where its number is released
+-- where nothing is taken in no number is released
 pub unsettled :
-    (row : Row) (marks : List Mark) (t : said.Turn) (d : Desk) (release : Option Tape) (is_released : Bool) (n : ℕ) (ds : List Desk)
-    → d.number ≡ n → is_some release ≡ is_released → IsLeft d release t.marks → was_released n marks ≡ false
-    → has (is_of n) ds ≡ true → (is_released ≡ false → has (is_of n) ds ≡ false) → IsStill row marks t → ⊥
-unsettled row marks t d None is_released n ds number is_it left unreleased there gone s = let bad : true ≡ false = sym there ∙ gone (sym is_it) in cc
-unsettled row marks t d (Some x) is_released n ds number is_it left unreleased there gone s =
-    let r : was_released n marks ≡ true = ap (λ j. was_released j marks) (sym number) ∙ ap (was_released d.number) (sym s.takes_in) ∙ left in
-    let bad : true ≡ false = sym r ∙ unreleased in cc
+    (row : Row) (marks : List Mark) (t : said.Turn) (d : Desk) (release : Option Tape) (r : Bool) (n : ℕ)
+    → d.number ≡ n → r ≡ is_some release → IsLeft d release t.marks → was_released n marks ≡ false → r ≡ true → IsStill row marks t → ⊥
+unsettled row marks t d None r n number e left unreleased is s = let bad : true ≡ false = sym is ∙ e in cc
+unsettled row marks t d (Some x) r n number e left unreleased is s =
+    let released : was_released n marks ≡ true = ap (λ j. was_released j marks) (sym number) ∙ ap (was_released d.number) (sym s.takes_in) ∙ left in
+    let bad : true ≡ false = sym released ∙ unreleased in cc

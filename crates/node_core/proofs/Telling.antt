@@ -1,6 +1,6 @@
 -- The same lines, told of the core's own seat and number.
 use Rattle.std.proofs.Common.{sym, ◌≡◌, ℕ, refl, ap, subst, ◌∙◌, List, [], ◌++◌, Option, Some, None, Bool, true, false}
-use Rattle.std.specs.Prelude.{is_some, MatchBool}
+use Rattle.std.specs.Prelude.{is_some}
 use Rattle.protocol.specs.Ballots.{Ballot}
 use Rattle.protocol.specs.Rows.{Tape, Vote, Row}
 use Rattle.protocol.specs.Packets.{Packet, Accepted}
@@ -10,7 +10,7 @@ use Rattle.protocol.specs.Turn.{begin, due_turn, promise_turn, hear, to_others}
 use Rattle.node_core.specs.Seats.{Seat}
 use Rattle.node_core.specs.declared.desk.Desk.{Desk}
 use Rattle.node_core.specs.declared.turn.Turn.{Turn}
-use Rattle.node_core.specs.Standing.{Answers, Core, StandsFor, fresh, replaced}
+use Rattle.node_core.specs.Standing.{Answers, Core, StandsFor, IsLeft}
 use Rattle.node_core.proofs.Phases.{none_at, some_at}
 
 pub due_told : (s z : Seat) (j n now : ℕ) (marks : List Mark) (row : Row) (x : Turn) (d : Desk) → s ≡ z → j ≡ n → Answers row (due_turn s.circuit s.members s.me j now marks row (open_proposal j marks)) x d → Answers row (due_turn z.circuit z.members z.me n now marks row (open_proposal n marks)) x d
@@ -26,20 +26,18 @@ begin_told s z j n b own now marks row x d e f a =
     subst (λ i. Answers row (begin z.circuit z.members z.me i b own now marks row) x d) f
     (subst (λ (y : Seat). Answers row (begin y.circuit y.members y.me j b own now marks row) x d) e a)
 
--- what is left where n's desk is taken out
-pub left_without : (v w : Core) (j n : ℕ) → j ≡ n → w ≡ record v { desks = replaced (fresh v.members j) v.desks } → w ≡ record v { desks = replaced (fresh v.members n) v.desks }
-left_without v w j n e f = f ∙ ap (λ i. let u : Core = record v { desks = replaced (fresh v.members i) v.desks } in u) e
-
 is_open : (p : Option Opening) (b : Ballot) → Some b ≡ opening_ballot p → is_some p ≡ true
 is_open None b e = absurd cc
 is_open (Some o) b e = refl
 
 -- whether a number is open, by its ballot
-pub open_so : (n : ℕ) (marks : List Mark) (b : Bool) (o : Option Ballot) → b ≡ is_some o → o ≡ open_ballot n marks → MatchBool b ((was_released n marks ≡ false) × (is_some (open_proposal n marks) ≡ true)) (open_proposal n marks ≡ None)
-open_so n marks true None e f = absurd cc
-open_so n marks true (Some b) e f = (some_at n marks b f, is_open (open_proposal n marks) b f)
-open_so n marks false None e f = none_at n marks f
-open_so n marks false (Some b) e f = absurd cc
+pub open_so : (n : ℕ) (marks : List Mark) (b : Bool) (o : Option Ballot) → b ≡ is_some o → o ≡ open_ballot n marks → b ≡ true → (was_released n marks ≡ false) × (is_some (open_proposal n marks) ≡ true)
+open_so n marks b None e f g = let bad : true ≡ false = sym g ∙ e in absurd cc
+open_so n marks b (Some a) e f g = (some_at n marks a f, is_open (open_proposal n marks) a f)
+
+pub closed_so : (n : ℕ) (marks : List Mark) (b : Bool) (o : Option Ballot) → b ≡ is_some o → o ≡ open_ballot n marks → b ≡ false → open_proposal n marks ≡ None
+closed_so n marks b None e f g = none_at n marks f
+closed_so n marks b (Some a) e f g = let bad : true ≡ false = sym e ∙ g in absurd cc
 
 pub release_told : (c j n k m : ℕ) (b a : Ballot) (t : Tape) (marks : List Mark) (release : Option Tape) → j ≡ n → k ≡ m → b ≡ a → release ≡ (hear c j k b t marks).release → release ≡ (hear c n m a t marks).release
 release_told c j n k m b a t marks release e f g h =
@@ -57,3 +55,9 @@ others_told s z j n b a t u old out e f g h is_new o =
 
 pub is_due_told : (s z : Seat) (j n now : ℕ) (marks : List Mark) → s ≡ z → j ≡ n → is_due_number s.me now marks j ≡ true → is_due_number z.me now marks n ≡ true
 is_due_told s z j n now marks e f d = ap (λ (y : Seat). is_due_number y.me now marks n) (sym e) ∙ ap (is_due_number s.me now marks) (sym f) ∙ d
+
+pub left_told : (c e j n m : ℕ) (b : Ballot) (t : Tape) (marks : List Mark) (d : Desk) (release : Option Tape) → c ≡ e → j ≡ n → IsLeft d release (hear c j m b t marks).marks → IsLeft d release (hear e n m b t marks).marks
+left_told c e j n m b t marks d release f g h = subst (λ i. IsLeft d release (hear e i m b t marks).marks) g (subst (λ k. IsLeft d release (hear k j m b t marks).marks) f h)
+
+pub release_so : (c e j n m : ℕ) (b : Ballot) (t : Tape) (marks : List Mark) (release : Option Tape) → c ≡ e → j ≡ n → release ≡ (hear c j m b t marks).release → release ≡ (hear e n m b t marks).release
+release_so c e j n m b t marks release f g h = h ∙ ap (λ k. (hear k j m b t marks).release) f ∙ ap (λ i. (hear e i m b t marks).release) g

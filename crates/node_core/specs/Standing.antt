@@ -1,7 +1,9 @@
 -- What a core keeps, as one value, and the marks that it stands for.
-use Rattle.std.specs.Prelude.{◌≡◌, ℕ, List, [], ◌∷◌, ◌++◌, Option, Some, None, Bool, true, false, ◌==◌, find, unwrap_or, if◌then◌else◌}
+use Rattle.std.specs.Prelude.{◌≡◌, ℕ, List, [], ◌∷◌, ◌++◌, Option, Some, None, Bool, false, true, is_some}
+use Rattle.std.specs.Ordering.{nat_cmp}
+use Rattle.std.specs.BTreeMap.{is_at}
+use Rattle.std.specs.Map.{lookup}
 use Rattle.std.specs.List.{list_any}
-use Rattle.protocol.specs.Lists.{has}
 use Rattle.protocol.specs.Marks.{Mark, Began, Promised, Proposed, Denied, Heard, Closed, Released}
 use Rattle.protocol.specs.Proposals.{was_released, open_proposal}
 use Rattle.learner.specs.Latest.{latest_votes, StandsFor as VotesStandFor}
@@ -14,13 +16,13 @@ use Rattle.node_core.specs.Seats.{Seat}
 use Rattle.node_core.specs.Turns.{IsTurn}
 
 -- a core: its circuit's number, which member it is, of how many, whether memory was refused to it,
--- what it has in hand of each number, and the numbers that it released
+-- by number what it has in hand, and the numbers that it released, both in order
 pub record Core : Type 0 where
   pub circuit : ℕ
   pub me : ℕ
   pub members : ℕ
   pub failed : Bool
-  pub desks : List Desk
+  pub desks : List (ℕ × Desk)
   pub released : List ℕ
 
 -- the proposal in hand, if any, is the open one that is read from the marks
@@ -38,42 +40,27 @@ pub record DeskStands (d : Desk) (marks : List Mark) : Type 0 where
 abbrev pub fresh : ℕ → ℕ → Desk
 fresh c n = record { number = n; proposal = None; heard = latest_votes c n [] }
 
--- the desk is n's
-abbrev pub is_of : ℕ → Desk → Bool
-is_of n d = d.number == n
+-- what is in hand of n, if anything is, and whether n was noted as released
+abbrev pub desk_in : List (ℕ × Desk) → ℕ → Option Desk
+desk_in desks n = lookup (is_at (nat_cmp n)) desks
 
--- the desks without the first of n
-abbrev pub without : ℕ → List Desk → List Desk
-without n [] = []
-without n (d ∷ ds) = if d.number == n then ds else d ∷ without n ds
+abbrev pub desk_at : Core → ℕ → Option Desk
+desk_at v n = desk_in v.desks n
 
--- the desks, where d stands in the place of the first of its number
-abbrev pub replaced : Desk → List Desk → List Desk
-replaced d [] = []
-replaced d (x ∷ xs) = if x.number == d.number then d ∷ xs else x ∷ replaced d xs
+abbrev pub is_noted : Core → ℕ → Bool
+is_noted v n = list_any (is_at (nat_cmp n)) v.released
 
--- the desks, where d stands in the place of the first of its number, or else behind them all
-abbrev pub put : Desk → List Desk → List Desk
-put d [] = d ∷ []
-put d (x ∷ xs) = if x.number == d.number then d ∷ xs else x ∷ put d xs
-
--- what is in hand of n
-abbrev pub desk_of : ℕ → ℕ → List Desk → Desk
-desk_of c n desks = unwrap_or (find (is_of n) desks) (fresh c n)
-
--- no number has two desks
-abbrev pub AreDistinct : List Desk → Type 0
-AreDistinct [] = Unit {0}
-AreDistinct (d ∷ ds) = (has (is_of d.number) ds ≡ false) × AreDistinct ds
+-- what is in hand of n is read from the marks; where nothing is, either n was released or nothing was taken in of it
+abbrev pub InHandStands : ℕ → ℕ → Option Desk → List Mark → Type 0
+InHandStands c n None marks = was_released n marks ≡ false → DeskStands (fresh c n) marks
+InHandStands c n (Some d) marks = (d.number ≡ n) × DeskStands d marks
 
 -- no memory was refused to the core, its released numbers are those of the marks,
 -- and of each other number it has in hand what is read from the marks
 pub record StandsFor (v : Core) (marks : List Mark) : Type 0 where
   pub unfailed : v.failed ≡ false
-  pub released : (n : ℕ) → list_any (λ k. k == n) v.released ≡ was_released n marks
-  pub distinct : AreDistinct v.desks
-  pub gone : (n : ℕ) → was_released n marks ≡ true → has (is_of n) v.desks ≡ false
-  pub desks : (n : ℕ) → was_released n marks ≡ false → DeskStands (desk_of v.members n v.desks) marks
+  pub released : (n : ℕ) → is_noted v n ≡ was_released n marks
+  pub in_hand : (n : ℕ) → InHandStands v.members n (desk_at v n) marks
 
 -- where the core sits
 abbrev pub seat_of : Core → Seat
@@ -89,10 +76,9 @@ pub record IsDeskOf (s : Seat) (d : Desk) : Type 0 where
   pub proposal : IsProposalOf s d.proposal
   pub heard : d.heard.members ≡ s.members
 
--- all the desks are
-abbrev pub AreDesksOf : Seat → List Desk → Type 0
-AreDesksOf s [] = Unit {0}
-AreDesksOf s (d ∷ ds) = IsDeskOf s d × AreDesksOf s ds
+-- all that is in hand is, each under its own number
+abbrev pub AreDesksOf : Seat → List (ℕ × Desk) → Type 0
+AreDesksOf s desks = (n : ℕ) (d : Desk) → desk_in desks n ≡ Some d → IsDeskOf s d × (d.number ≡ n)
 
 -- what is left in hand where this tape is released, or none is
 abbrev pub IsLeft : Desk → Option Tape → List Mark → Type 0
@@ -125,16 +111,20 @@ pub record Grows (n : ℕ) (before after : List Mark) : Type 0 where
   pub is : after ≡ new ++ before
   pub about : AreAbout n new
 
--- the core where a desk is put back, or its number is noted as released
-abbrev pub with_desk : Core → Desk → Bool → Core
-with_desk v d false = record v { desks = put d v.desks }
-with_desk v d true = record v { desks = without d.number v.desks; released = v.released ++ d.number ∷ [] }
-
 -- the two sit on one seat
 pub record IsSameSeat (old new : Core) : Type 0 where
   pub circuit : new.circuit ≡ old.circuit
   pub me : new.me ≡ old.me
   pub members : new.members ≡ old.members
+
+-- after is before, but that of n it has this in hand, and has noted n as released where this says so
+pub record Moves (before : Core) (n : ℕ) (d : Option Desk) (is_released : Bool) (after : Core) : Type 0 where
+  pub failed : after.failed ≡ before.failed
+  pub members : after.members ≡ before.members
+  pub here : desk_at after n ≡ d
+  pub others : (k : ℕ) → (k ≡ n → ⊥) → desk_at after k ≡ desk_at before k
+  pub noted : is_released ≡ true → is_noted after n ≡ true
+  pub unnoted : (k : ℕ) → (is_released ≡ true → k ≡ n → ⊥) → is_noted after k ≡ is_noted before k
 
 -- the code's turn is the turn t of the definitions, from this row, and the core then stands for the marks after it
 pub record Took (row : Row) (t : said.Turn) (x : Turn) (v : Core) : Type 0 where

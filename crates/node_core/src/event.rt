@@ -1,12 +1,12 @@
 //! What comes to a station.
 
 use ballots::Number;
-use packets::Packet;
+use packets::PacketRef;
 use tape_frames::Tape;
 
 /// An event of one number. `now` is its moment, in milliseconds.
 #[derive(Debug, Drop)]
-pub enum Event {
+pub enum Event<'a> {
     /// The tape is offered for the number.
     Offer {
         number: Number,
@@ -23,9 +23,9 @@ pub enum Event {
         number: Number,
         now: u64,
     },
-    /// A packet came.
+    /// A packet came, its frames lent by the datagram.
     Arrived {
-        packet: Packet,
+        packet: PacketRef<'a>,
         now: u64,
     },
 }

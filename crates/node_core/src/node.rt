@@ -1,14 +1,13 @@
 //! The core of a station: all that it took in since its start, and the turn that it takes at each event.
 
-ghost use Rattle.std.specs.Prelude.{◌≡◌, ◌≤◌, ◌==◌, ℕ, List, [], ◌∷◌, ◌++◌, Option, Some, None, Err, IfOk, IfErr, OnOk, OnErr, MatchBool, IsTrue, IsSome, IfSome, true, false, length, is_some};
-ghost use Rattle.std.specs.List.{list_any};
+ghost use Rattle.std.specs.Prelude.{◌≡◌, ◌≤◌, ℕ, List, [], ◌∷◌, Option, Some, None, Err, IfOk, IfErr, OnOk, OnErr, IsTrue, IsSome, IfSome, true, false, length, if◌then◌else◌};
+ghost use Rattle.std.specs.Ordering.{nat_cmp};
 ghost use Rattle.protocol.specs.Ballots.{Ballot as BallotValue, next};
 ghost use Rattle.protocol.specs.Rows.{Tape as TapeValue, Row as RowValue};
-ghost use Rattle.protocol.specs.Lists.{has};
 ghost use Rattle.protocol.specs.Marks.{Mark, Began};
 ghost use Rattle.protocol.specs.Proposals.{was_released, open_ballot, open_proposal, next_due, gathering_at, proposal_at};
 ghost use Rattle.protocol.specs.Turn.{hear, begin, due_turn, promise_turn, nack_turn, accepted_turn, accept_turn, prepare_turn, packet_turn, vote_turn, turn, Note as NoteValue};
-ghost use Rattle.node_core.specs.Standing.{Core, StandsFor, DeskStands, IsDeskOf, IsLeft, Grows, Took, IsSameSeat, seat_of, desk_of, is_of, fresh, replaced, with_desk};
+ghost use Rattle.node_core.specs.Standing.{Core, StandsFor, Moves, Took, IsSameSeat, seat_of, desk_at};
 ghost use Rattle.protocol.specs.Packets.{Accept as AcceptBody};
 ghost use Rattle.packets.specs.Rules.{keeps_rules};
 ghost use Rattle.protocol.specs.Acceptor.{is_above};
@@ -26,9 +25,10 @@ use crate::turn::{CoreRefusal, Note, Turn};
 use crate::{desks, voting};
 use acceptor::AcceptAnswer;
 use ballots::{Ballot, Member, Number, Row, VoteRef};
-use packets::{BodyRef, Packet, PacketRef};
+use packets::{BodyRef, PacketRef};
 use proposer::Proposal;
 use std::alloc::{AllocError, Global};
+use std::collections::{BTreeMap, BTreeSet};
 use std::marker::Model;
 use tape_frames::{Tape, TapeRef};
 
@@ -40,8 +40,8 @@ pub struct NodeCore {
     alloc: Global,
     seat: Seat,
     failed: bool,
-    desks: Vec<Desk>,
-    released: Vec<Number>,
+    desks: BTreeMap<u32, Desk>,
+    released: BTreeSet<u32>,
 }
 
 impl Model for NodeCore {
@@ -49,16 +49,9 @@ impl Model for NodeCore {
 
     ghost Value = { Core };
 
-    ghost view = { λ c. record { circuit = c.seat.circuit; me = c.seat.me; members = c.seat.members; failed = c.failed; desks = c.desks.items; released = c.released.items } };
+    ghost view = { λ c. record { circuit = c.seat.circuit; me = c.seat.me; members = c.seat.members; failed = c.failed; desks = c.desks.entries; released = c.released.keys } };
 
-    ghost invariant = { λ c. AreDesksOf c.seat c.desks.items };
-}
-
-/// Whether the number is among these.
-fn contains(numbers: &[Number], number: Number) -> bool
-    ensures { result ≡ list_any (λ k. k == number) numbers.now }
-{
-    numbers.iter().any(|other| other.get() == number.get())
+    ghost invariant = { λ c. AreDesksOf c.seat c.desks.entries };
 }
 
 impl NodeCore {
@@ -77,8 +70,8 @@ impl NodeCore {
             alloc,
             seat: Seat::new(circuit, me, members),
             failed: false,
-            desks: Vec::new(alloc),
-            released: Vec::new(alloc),
+            desks: BTreeMap::new(alloc),
+            released: BTreeSet::new(alloc),
         }
     }
 
@@ -124,7 +117,7 @@ impl NodeCore {
         ensures failed { self.now.failed ≡ true → result ≡ false }
         ensures value { (marks : List Mark) → StandsFor self.now marks → result ≡ was_released number marks }
     {
-        !self.failed && contains(&self.released, number)
+        !self.failed && self.released.contains(&number.get())
     }
 
     /// The ballot of the number's open proposal, if there is one; `None` while the core is failed.
@@ -135,7 +128,7 @@ impl NodeCore {
         if self.failed {
             return None;
         }
-        match desks::find(&self.desks, number) {
+        match self.desks.get(&number.get()) {
             None => None,
             Some(desk) => desk.open_ballot(),
         }
@@ -153,13 +146,6 @@ impl NodeCore {
         desks::least_due(&self.desks, now)
     }
 
-    /// Whether a proposal of the number is open.
-    fn is_open(&self, number: Number) -> bool
-        ensures { (marks : List Mark) → StandsFor self.now marks → MatchBool result ((was_released number marks ≡ false) × (is_some (open_proposal number marks) ≡ true)) (open_proposal number marks ≡ None) }
-    {
-        self.open_ballot(number).is_some()
-    }
-
     /// Its seat.
     fn seat(&self) -> Seat
         ensures { result ≡ seat_of self.now }
@@ -167,44 +153,17 @@ impl NodeCore {
         self.seat
     }
 
-    /// Takes the number's desk out, or makes one.
-    fn desk(&mut self, number: Number) -> Desk
-        ensures desk { result ≡ desk_of self.old.members number self.old.desks }
-        ensures left { self.new ≡ record self.old { desks = replaced (fresh self.old.members number) self.old.desks } }
-        ensures of { IsDeskOf (seat_of self.old) result }
-        ensures number { result.number ≡ number }
-        ensures stands { (marks : List Mark) → StandsFor self.old marks → was_released number marks ≡ false → DeskStands result marks }
-    {
-        let fresh = Desk::new(self.alloc, number, self.seat);
-        desks::take(&mut self.desks, fresh)
-    }
-
-    /// Puts the desk back, or notes its number as released.
-    fn keep(&mut self, desk: Desk, is_released: bool) -> Result<(), AllocError>
-        requires { IsDeskOf (seat_of self.old) desk }
-        ensures kept { OnOk result (self.new ≡ with_desk self.old desk is_released) }
-        ensures memory { OnErr result (is_released ≡ false → has (is_of desk.number) self.old.desks ≡ false) }
+    /// Notes the number as released, where it is: nothing is in hand of it then.
+    fn settle(&mut self, number: Number, is_released: bool) -> Result<(), AllocError>
+        ensures moves { OnOk result (Moves self.old number (if is_released then None else desk_at self.old number) is_released self.new) }
+        ensures memory { OnErr result (is_released ≡ true) }
         ensures seat { IsSameSeat self.old self.new }
     {
         if is_released {
-            self.released.push(desk.number)?;
-            desks::remove(&mut self.desks, desk.number);
-            return Ok(());
+            desks::note(&mut self.released, number)?;
+            self.desks.remove(&number.get());
         }
-        desks::put(&mut self.desks, desk)
-    }
-
-    /// Puts the desk back with what its turn left in it.
-    fn settle(&mut self, desk: Desk, is_released: bool) -> Result<(), AllocError>
-        requires { IsDeskOf (seat_of self.old) desk }
-        ensures stands { OnOk result ((before : Core) (n : ℕ) (marks after : List Mark) (release : Option TapeValue) → desk.number ≡ n → self.old ≡ record before { desks = replaced (fresh before.members n) before.desks } → StandsFor before marks → was_released n marks ≡ false → Grows n marks after → is_some release ≡ is_released → IsLeft desk release after → StandsFor self.new after) }
-        ensures memory { OnErr result ((before : Core) (n : ℕ) → desk.number ≡ n → self.old ≡ record before { desks = replaced (fresh before.members n) before.desks } → is_released ≡ false → has (is_of n) before.desks ≡ false) }
-        ensures seat { IsSameSeat self.old self.new }
-    {
-        // Marks of one number change nothing that is read of another.
-        learner::laws::other_marks_pass();
-        proposer::laws::other_marks_pass();
-        self.keep(desk, is_released)
+        Ok(())
     }
 
     /// Hears a member's vote, where the number was not released; answers the tape that is released then, if any.
@@ -224,9 +183,19 @@ impl NodeCore {
         if self.released(number) {
             return Ok(None);
         }
-        let mut desk = self.desk(number);
-        let release = desk.hear(self.alloc, member, ballot, tape)?;
-        self.settle(desk, release.is_some())?;
+        // Marks of one number change nothing that is read of another.
+        learner::laws::other_marks_pass();
+        proposer::laws::other_marks_pass();
+        let release = match self.desks.get_mut(&number.get()) {
+            Some(desk) => desk.hear(self.alloc, member, ballot, tape)?,
+            None => {
+                let mut desk = Desk::new(self.alloc, number, self.seat);
+                let release = desk.hear(self.alloc, member, ballot, tape)?;
+                desks::put(&mut self.desks, desk)?;
+                release
+            }
+        };
+        self.settle(number, release.is_some())?;
         Ok(release)
     }
 
@@ -244,10 +213,19 @@ impl NodeCore {
         ensures orderly { IfOk result (λ x. IsOrderly x) }
         ensures seat { IsSameSeat self.old self.new }
     {
-        let seat = self.seat();
-        let mut desk = self.desk(number);
-        let turn = desk.start(self.alloc, seat, proposal, now, row)?;
-        self.settle(desk, turn.release.is_some())?;
+        // Marks of one number change nothing that is read of another.
+        learner::laws::other_marks_pass();
+        proposer::laws::other_marks_pass();
+        let turn = match self.desks.get_mut(&number.get()) {
+            Some(desk) => desk.start(self.alloc, self.seat, proposal, now, row)?,
+            None => {
+                let mut desk = Desk::new(self.alloc, number, self.seat);
+                let turn = desk.start(self.alloc, self.seat, proposal, now, row)?;
+                desks::put(&mut self.desks, desk)?;
+                turn
+            }
+        };
+        self.settle(number, turn.release.is_some())?;
         Ok(turn)
     }
 
@@ -258,13 +236,14 @@ impl NodeCore {
         ensures memory { OnErr result ((marks : List Mark) → StandsFor self.old marks → ¬ IsStill row.now marks (due_turn self.old.circuit self.old.members self.old.me number now marks row.now (open_proposal number marks))) }
         ensures seat { IsSameSeat self.old self.new }
     {
-        if !self.is_open(number) {
+        // Marks of one number change nothing that is read of another.
+        learner::laws::other_marks_pass();
+        proposer::laws::other_marks_pass();
+        let Some(desk) = self.desks.get_mut(&number.get()) else {
             return Ok(Turn::quiet(self.alloc, Note::Idle));
-        }
-        let seat = self.seat();
-        let mut desk = self.desk(number);
-        let turn = desk.due(self.alloc, seat, now, row)?;
-        self.settle(desk, turn.release.is_some())?;
+        };
+        let turn = desk.due(self.alloc, self.seat, now, row)?;
+        self.settle(number, turn.release.is_some())?;
         Ok(turn)
     }
 
@@ -284,13 +263,14 @@ impl NodeCore {
         ensures seat { IsSameSeat self.old self.new }
     {
         let number = packet.number();
-        if !self.is_open(number) {
+        // Marks of one number change nothing that is read of another.
+        learner::laws::other_marks_pass();
+        proposer::laws::other_marks_pass();
+        let Some(desk) = self.desks.get_mut(&number.get()) else {
             return Ok(Turn::quiet(self.alloc, Note::Stale));
-        }
-        let seat = self.seat();
-        let mut desk = self.desk(number);
-        let turn = desk.promise(self.alloc, seat, packet, report, now, row)?;
-        self.settle(desk, turn.release.is_some())?;
+        };
+        let turn = desk.promise(self.alloc, self.seat, packet, report, now, row)?;
+        self.settle(number, turn.release.is_some())?;
         Ok(turn)
     }
 
@@ -302,12 +282,14 @@ impl NodeCore {
         ensures seat { IsSameSeat self.old self.new }
     {
         let number = packet.number();
-        if !self.is_open(number) {
+        // Marks of one number change nothing that is read of another.
+        learner::laws::other_marks_pass();
+        proposer::laws::other_marks_pass();
+        let Some(desk) = self.desks.get_mut(&number.get()) else {
             return Ok(Turn::quiet(self.alloc, Note::Stale));
-        }
-        let mut desk = self.desk(number);
+        };
         let turn = desk.nack(self.alloc, packet, promised);
-        self.settle(desk, turn.release.is_some())?;
+        self.settle(number, turn.release.is_some())?;
         Ok(turn)
     }
 
@@ -445,7 +427,7 @@ impl NodeCore {
         if self.released(number) {
             return Err(CoreRefusal::AlreadyReleased);
         }
-        if self.is_open(number) {
+        if self.open_ballot(number).is_some() {
             return Err(CoreRefusal::AlreadyOpen);
         }
         if Ballot::next(row.promised(), self.me()).is_none() {
@@ -475,13 +457,13 @@ impl NodeCore {
     }
 
     /// The turn of the event, or why there is none; memory that was refused may leave anything behind.
-    fn take_turn(&mut self, event: Event, row: &Row) -> Result<Turn, CoreRefusal>
+    fn take_turn(&mut self, event: Event<'_>, row: &Row) -> Result<Turn, CoreRefusal>
         requires unfailed { self.old.failed ≡ false }
         requires arrived { MayCome self.old.me self.old.members event }
-        ensures ok { IfOk result (λ x. (marks : List Mark) → StandsFor self.old marks → TookTurn self.old event marks row.now x self.new) }
+        ensures ok { IfOk result (λ x. (marks : List Mark) → StandsFor self.old marks → TookTurn self.old event.entry marks row.now x self.new) }
         ensures orderly { IfOk result (λ x. IsOrderly x) }
-        ensures memory { IfErr result (λ e. e ≡ CoreRefusal.OutOfMemory → (marks : List Mark) → StandsFor self.old marks → MayTakeMemory self.old event marks row.now) }
-        ensures refused { IfErr result (λ e. RefusesEvent event e self.old row.now self.new) }
+        ensures memory { IfErr result (λ e. e ≡ CoreRefusal.OutOfMemory → (marks : List Mark) → StandsFor self.old marks → MayTakeMemory self.old event.entry marks row.now) }
+        ensures refused { IfErr result (λ e. RefusesEvent event.entry e self.old row.now self.new) }
         ensures seat { IsSameSeat self.old self.new }
     {
         match event {
@@ -491,7 +473,7 @@ impl NodeCore {
                 Ok(turn) => Ok(turn),
                 Err(_) => Err(CoreRefusal::OutOfMemory),
             },
-            Event::Arrived { packet, now } => match self.receive(&packet.lend(), now, row) {
+            Event::Arrived { packet, now } => match self.receive(&packet, now, row) {
                 Ok(turn) => Ok(turn),
                 Err(_) => Err(CoreRefusal::OutOfMemory),
             },
@@ -514,13 +496,13 @@ impl NodeCore {
     /// the row's promise. These change nothing. `OutOfMemory` leaves the core failed, and comes only where none of these
     /// does and the turn saves, takes in or sends something.
     /// A packet that comes has to be for this member, from a member of its circuit.
-    pub fn handle(&mut self, event: Event, row: &Row) -> Result<Turn, CoreRefusal>
+    pub fn handle(&mut self, event: Event<'_>, row: &Row) -> Result<Turn, CoreRefusal>
         requires arrived { MayCome self.old.me self.old.members event }
-        ensures ok { IfOk result (λ x. (marks : List Mark) → StandsFor self.old marks → TookTurn self.old event marks row.now x self.new) }
+        ensures ok { IfOk result (λ x. (marks : List Mark) → StandsFor self.old marks → TookTurn self.old event.entry marks row.now x self.new) }
         ensures promised { IfOk result (λ x. IfSome x.row (λ r. IsSome r.promised)) }
         ensures few { IfOk result (λ x. length x.out.items ≤ 28) }
-        ensures refused { IfErr result (λ e. Refuses e event self.old row.now self.new) }
-        ensures memory { IfErr result (λ e. e ≡ CoreRefusal.OutOfMemory → (marks : List Mark) → StandsFor self.old marks → MayTakeMemory self.old event marks row.now) }
+        ensures refused { IfErr result (λ e. Refuses e event.entry self.old row.now self.new) }
+        ensures memory { IfErr result (λ e. e ≡ CoreRefusal.OutOfMemory → (marks : List Mark) → StandsFor self.old marks → MayTakeMemory self.old event.entry marks row.now) }
         ensures failed { self.old.failed ≡ true → result ≡ Err CoreRefusal.Failed }
         ensures seat { IsSameSeat self.old self.new }
     {

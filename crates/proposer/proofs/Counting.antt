@@ -10,6 +10,7 @@ use Rattle.protocol.specs.Ballots.{Ballot, IsMember, is_majority, members}
 use Rattle.protocol.specs.Rows.{Vote}
 use Rattle.protocol.specs.Proposals.{Counted, is_counted, vote_above, reports_above, report_of}
 use Rattle.proposer.specs.Greatest.{is_over, IsGreatest, nothing, reported_by}
+use Rattle.proposer.specs.Slots.{joined}
 use Rattle.proposer.specs.InHand.{report_in, vote_in, are_members, none_twice}
 use Rattle.proposer.proofs.Slots.{along, same_count, same_member}
 
@@ -36,13 +37,8 @@ pub is_some_copied : {A : Type 0} (o : Option (Bor A)) → is_some o ≡ is_some
 is_some_copied None = refl
 is_some_copied (Some x) = refl
 
--- what is reported, where the member is counted
-joined : Option (Option Vote) → Option Vote
-joined None = None
-joined (Some r) = r
 
-vote_joined : (all : List Counted) (m : ℕ) → vote_in all m ≡ joined (report_in all m)
-unfolding joined
+pub vote_joined : (all : List Counted) (m : ℕ) → vote_in all m ≡ joined (report_in all m)
 vote_joined all m = go (find (λ (x : Counted). x.member == m) all)
   where
     go : (o : Option Counted) → option_and_then (λ (x : Counted). x.report) o ≡ joined (option_map (λ (x : Counted). x.report) o)
@@ -53,7 +49,7 @@ agree : (p q : ℕ → Bool) → ((m : ℕ) → p m ≡ q m) → (ms : List ℕ)
 agree p q h [] = refl
 agree p q h (m ∷ ms) = let e : p m ≡ q m = h m in let f : map p ms ≡ map q ms = agree p q h ms in rw (e, f) refl
 
-same_tests : (p q : ℕ → Bool) → ((m : ℕ) → p m ≡ q m) → (ms : List ℕ) → count_by p ms ≡ count_by q ms
+pub same_tests : (p q : ℕ → Bool) → ((m : ℕ) → p m ≡ q m) → (ms : List ℕ) → count_by p ms ≡ count_by q ms
 same_tests p q h ms = same_count p q (λ (b : Bool). b) ms (agree p q h ms)
 
 module _ (c : ℕ) (kept all : List Counted) (same : map (report_in kept) (members c) ≡ map (report_in all) (members c)) where
@@ -81,10 +77,10 @@ push_find p (y ∷ xs) x = go (p y) refl (push_find p xs x)
     go false e rest = rw e rest
 
 -- what is then reported by m, where what was reported is r
-abbrev then_reported : Counted → ℕ → Option (Option Vote) → Option (Option Vote)
+abbrev pub then_reported : Counted → ℕ → Option (Option Vote) → Option (Option Vote)
 then_reported x m r = option_or r (cond (x.member == m) (Some x.report) None)
 
-report_pushed : (xs : List Counted) (x : Counted) (m : ℕ) → report_in (xs ++ x ∷ []) m ≡ then_reported x m (report_in xs m)
+pub report_pushed : (xs : List Counted) (x : Counted) (m : ℕ) → report_in (xs ++ x ∷ []) m ≡ then_reported x m (report_in xs m)
 report_pushed xs x m = ap (option_map (λ (y : Counted). y.report)) (push_find (λ (y : Counted). y.member == m) xs x) ∙ go (find (λ (y : Counted). y.member == m) xs) (x.member == m)
   where
     go : (o : Option Counted) (b : Bool) → option_map (λ (y : Counted). y.report) (option_or o (cond b (Some x) None)) ≡ option_or (option_map (λ (y : Counted). y.report) o) (cond b (Some x.report) None)

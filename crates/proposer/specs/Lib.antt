@@ -1,3 +1,4 @@
 pub mod Greatest
 pub mod InHand
 pub mod Answers
+pub mod Slots

@@ -1,100 +1,80 @@
-//! The promises that are counted: the own one and those that came.
+//! The promises that are counted, in a slot for each member.
 
-ghost use Rattle.std.specs.Prelude.{◌≡◌, ◌≤◌, ◌∷◌, false, ◌==◌, find, option_copied};
-ghost use Rattle.protocol.specs.Ballots.{is_majority};
-ghost use Rattle.protocol.specs.Proposals.{Counted as CountedValue, is_counted, vote_above};
-ghost use Rattle.proposer.specs.InHand.{vote_in};
+ghost use Rattle.std.specs.Prelude.{◌≡◌, ◌≤◌, ◌<◌, ◌+◌, ◌*◌, ◌-◌, Some, false, is_some, count_by, length, nat_lt, slice_set, option_copied};
+ghost use Rattle.protocol.specs.Proposals.{vote_above};
+ghost use Rattle.proposer.specs.Slots.{nothing_counted, report_at, vote_at};
 ghost use Rattle.proposer.specs.Greatest.{IsGreatest};
 
-use ballots::{Ballot, Member, Vote, majority};
-use std::marker::Model;
+use arrayvec::ArrayVec;
+use ballots::{Member, Vote, majority};
 
-/// A member that is counted, and the vote that it reported.
-#[derive(Debug, Drop)]
-pub struct Promise {
-    member: Member,
-    report: Option<Vote>,
-}
+/// Of each member, in rising order: what it reported, where it is counted.
+pub(crate) type Slots = ArrayVec<Option<Option<Vote>>, 15>;
 
-impl Model for Promise {
-    ghost use Rattle.protocol.specs.Proposals.{Counted};
-
-    ghost Value = { Counted };
-
-    ghost view = { λ p. record { member = p.member; report = p.report } };
-}
-
-impl Promise {
-    /// The promise of this member, with what it reported.
-    pub fn new(member: Member, report: Option<Vote>) -> Promise
-        ensures { result ≡ record { member = member; report = report } }
-    {
-        Promise { member, report }
-    }
-
-    /// Whose promise it is.
-    pub fn member(&self) -> Member
-        ensures { result ≡ self.now.member }
-    {
-        self.member
-    }
-
-    /// The vote that was reported, if any.
-    pub fn report(&self) -> Option<&Vote>
-        ensures { option_copied result ≡ self.now.report }
-    {
-        self.report.as_ref()
-    }
-}
-
-/// The member's promise, where it is among those that came.
-fn came_from(promises: &[Promise], member: u8) -> Option<&Promise>
-    ensures { option_copied result ≡ find (λ (x : CountedValue). x.member == member) promises.now }
+/// The slots of so many members, of whom none is counted.
+fn empty_slots(members: u8) -> Slots
+    requires { members ≤ 15 }
+    ensures items { result.items ≡ nothing_counted members }
+    ensures many { length result.items ≡ members }
 {
-    promises
-        .iter()
-        .find(|promise| promise.member().get() == member)
-}
-
-/// The member's promise, where it is the own one or among those that came.
-fn promise_of<'a>(mine: &'a Promise, promises: &'a [Promise], member: u8) -> Option<&'a Promise>
-    ensures { option_copied result ≡ find (λ (x : CountedValue). x.member == member) (mine.now ∷ promises.now) }
-{
-    if mine.member().get() == member {
-        Some(mine)
-    } else {
-        came_from(promises, member)
+    let mut slots = ArrayVec::new();
+    for _ in 0..members {
+        slots.push(None);
     }
+    slots
 }
 
-/// Whether the member is counted: the promise is the own one, or among those that came.
-pub fn is_counted(mine: &Promise, promises: &[Promise], member: u8) -> bool
-    ensures { result ≡ is_counted (mine.now ∷ promises.now) member }
+/// Counts the member, with what it reported.
+pub(crate) fn count(slots: &mut Slots, member: Member, report: Option<Vote>)
+    requires { member ≤ length slots.old.items }
+    ensures { slots.new.items ≡ slice_set slots.old.items (member - 1) (Some report) }
 {
-    promise_of(mine, promises, member).is_some()
+    let place = usize::from(member.get()) - 1;
+    slots[place] = Some(report);
+}
+
+/// The slots of so many members, of whom this one alone is counted.
+pub(crate) fn first_slots(me: Member, members: u8, report: Option<Vote>) -> Slots
+    requires few { members ≤ 15 }
+    requires member { me ≤ members }
+    ensures items { result.items ≡ slice_set (nothing_counted members) (me - 1) (Some report) }
+    ensures many { length result.items ≡ members }
+{
+    let mut slots = empty_slots(members);
+    count(&mut slots, me, report);
+    slots
+}
+
+/// Whether the member is counted.
+pub(crate) fn is_counted(slots: &[Option<Option<Vote>>], member: Member) -> bool
+    requires { member ≤ length slots.now }
+    ensures { result ≡ is_some (report_at slots.now member) }
+{
+    slots[usize::from(member.get()) - 1].is_some()
 }
 
 /// Whether the members that are counted are a majority of all.
-pub fn is_quorum(mine: &Promise, promises: &[Promise], members: u8) -> bool
-    requires { members ≤ 15 }
-    ensures { result ≡ is_majority members (is_counted (mine.now ∷ promises.now)) }
+pub(crate) fn is_quorum(slots: &[Option<Option<Vote>>]) -> bool
+    requires { length slots.now ≤ 15 }
+    ensures { result ≡ nat_lt (length slots.now) (2 * count_by is_some slots.now) }
 {
     let mut count = 0;
-    for member in 0..members {
-        if is_counted(mine, promises, member + 1) {
+    for slot in slots {
+        if slot.is_some() {
             count += 1;
         }
     }
-    majority(count, members)
+    majority(count, slots.len() as u8)
 }
 
-/// The vote that the member reported, if it promised and reported one.
-fn vote_of<'a>(mine: &'a Promise, promises: &'a [Promise], member: u8) -> Option<&'a Vote>
-    ensures { option_copied result ≡ vote_in (mine.now ∷ promises.now) member }
+/// The vote that stands in the slot, if the member is counted and reported one.
+fn vote_of(slots: &[Option<Option<Vote>>], place: usize) -> Option<&Vote>
+    requires { place < length slots.now }
+    ensures { option_copied result ≡ vote_at slots.now (place + 1) }
 {
-    match promise_of(mine, promises, member) {
+    match &slots[place] {
         None => None,
-        Some(promise) => promise.report(),
+        Some(report) => report.as_ref(),
     }
 }
 
@@ -110,17 +90,12 @@ fn is_above(report: Option<&Vote>, greatest: Option<&Vote>) -> bool
 }
 
 /// The greatest of the reported votes, that of the least member where equal.
-pub fn greatest_vote<'a>(
-    mine: &'a Promise,
-    promises: &'a [Promise],
-    members: u8,
-) -> Option<&'a Vote>
-    requires { members ≤ 15 }
-    ensures { IsGreatest (vote_in (mine.now ∷ promises.now)) members (option_copied result) }
+pub(crate) fn greatest_vote(slots: &[Option<Option<Vote>>]) -> Option<&Vote>
+    ensures { IsGreatest (vote_at slots.now) (length slots.now) (option_copied result) }
 {
     let mut greatest = None;
-    for member in 0..members {
-        let report = vote_of(mine, promises, member + 1);
+    for place in 0..slots.len() {
+        let report = vote_of(slots, place);
         if is_above(report, greatest) {
             greatest = report;
         }

@@ -1,4 +1,4 @@
-//! A proposal, over a plain list of the promises that came.
+//! A proposal, with a slot for the promise of each member.
 
 ghost use Rattle.std.specs.Prelude.{◌≡◌, ◌≤◌, ◌<◌, ◌+◌, ◌*◌, ◌-◌, ◌^◌, ℕ, List, ◌∷◌, Option, Some, None, Ok, Err, IfOk, OnErr, IsOk, MatchResult, MatchBool, min, false, nat_le, ◌&&◌, if◌then◌else◌};
 ghost use Rattle.std.specs.Bool.{OnFalse};
@@ -11,7 +11,7 @@ ghost use Rattle.proposer.specs.InHand.{StandsFor, IsOfTheSame};
 ghost use Rattle.proposer.specs.Answers.{IsNew, IsCountedAs, marks_after_promise, StaysWhereUncounted, IsDueAnswer, marks_after_due, StaysWhereNotBegun, IsOwnAndAbove};
 
 use crate::answer::{BeginRefusal, Counted, DueAnswer};
-use crate::promises::{Promise, greatest_vote, is_counted, is_quorum};
+use crate::promises::{Slots, count, first_slots, greatest_vote, is_counted, is_quorum};
 use ballots::{Ballot, Member, Vote, VoteRef};
 use std::alloc::{AllocError, Global};
 use std::marker::Model;
@@ -27,11 +27,10 @@ const MOST_BALLOTS: u8 = 32;
 #[derive(Debug, Drop)]
 pub struct Proposal {
     alloc: Global,
-    members: u8,
+    me: Member,
     ballot: Ballot,
     own: Option<Tape>,
-    mine: Promise,
-    promises: Vec<Promise>,
+    slots: Slots,
     gathers: bool,
     denied: Option<Ballot>,
     begun: u8,
@@ -39,14 +38,14 @@ pub struct Proposal {
 }
 
 impl Model for Proposal {
-    ghost use Rattle.std.specs.Prelude.{◌≤◌, ◌∷◌};
-    ghost use Rattle.proposer.specs.InHand.{InHand, reports_of};
+    ghost use Rattle.std.specs.Prelude.{◌≤◌, length};
+    ghost use Rattle.proposer.specs.InHand.{InHand};
 
     ghost Value = { InHand };
 
-    ghost view = { λ p. record { me = p.mine.member; members = p.members; ballot = p.ballot; own = p.own; reports = reports_of p.members (p.mine ∷ p.promises.items); gathers = p.gathers; denied = p.denied; begun = p.begun; moved = p.moved } };
+    ghost view = { λ p. record { me = p.me; members = length p.slots.items; ballot = p.ballot; own = p.own; reports = p.slots.items; gathers = p.gathers; denied = p.denied; begun = p.begun; moved = p.moved } };
 
-    ghost invariant = { λ p. p.members ≤ 15 };
+    ghost invariant = { λ p. (length p.slots.items ≤ 15) × (p.me ≤ length p.slots.items) };
 }
 
 /// The greater of two ballots that may be none.
@@ -106,11 +105,10 @@ impl Proposal {
             None => Err(BeginRefusal::RoundsSpent),
             Some(ballot) => Ok(Proposal {
                 alloc,
-                members,
+                me,
                 ballot,
                 own,
-                mine: Promise::new(me, report),
-                promises: Vec::new(alloc),
+                slots: first_slots(me, members, report),
                 gathers: true,
                 denied: None,
                 begun: 1,
@@ -155,12 +153,14 @@ impl Proposal {
         if !self.gathers_at(ballot) {
             return Ok(Counted::Stale);
         }
-        if is_counted(&self.mine, &self.promises, from.get()) {
+        // The member's range is known once it is read.
+        let _range = from.get();
+        if is_counted(&self.slots, from) {
             return Ok(Counted::Repeated);
         }
         let report = copy_of(self.alloc, report)?;
-        self.promises.push(Promise::new(from, report))?;
-        if !is_quorum(&self.mine, &self.promises, self.members) {
+        count(&mut self.slots, from, report);
+        if !is_quorum(&self.slots) {
             return Ok(Counted::More);
         }
         Ok(Counted::Quorum)
@@ -186,7 +186,7 @@ impl Proposal {
     pub fn pick(&self) -> Option<TapeRef<'_>>
         ensures { (n : ℕ) (marks : List Mark) (p : Opening) → StandsFor self.now n marks → open_proposal n marks ≡ Some p → result ≡ pick p.own (counted self.now.me n p (since_began n marks)) }
     {
-        match greatest_vote(&self.mine, &self.promises, self.members) {
+        match greatest_vote(&self.slots) {
             Some(vote) => Some(vote.tape()),
             None => lent(&self.own),
         }
@@ -207,7 +207,7 @@ impl Proposal {
         ensures value { result ≡ min (self.now.moved + 250 + 40 * self.now.me) (2 ^ 64 - 1) }
         ensures moment { (n : ℕ) (marks : List Mark) (p : Opening) → StandsFor self.now n marks → open_proposal n marks ≡ Some p → result ≡ due_moment self.now.me n p (since_began n marks) }
     {
-        let member = u64::from(self.mine.member().get());
+        let member = u64::from(self.me.get());
         self.moved.saturating_add(250 + 40 * member)
     }
 
@@ -218,7 +218,7 @@ impl Proposal {
         if self.begun >= MOST_BALLOTS {
             return None;
         }
-        Ballot::next(greater(promised, self.denied), self.mine.member())
+        Ballot::next(greater(promised, self.denied), self.me)
     }
 
     /// What it does at this moment, in milliseconds, where `promised` is the saved promise and `report` the saved vote.
@@ -245,8 +245,7 @@ impl Proposal {
             None => Ok(DueAnswer::GaveUp),
             Some(ballot) => {
                 self.ballot = ballot;
-                self.mine = Promise::new(self.mine.member(), report);
-                self.promises.clear();
+                self.slots = first_slots(self.me, self.slots.len() as u8, report);
                 self.gathers = true;
                 self.begun += 1;
                 self.moved = now;

@@ -7,7 +7,8 @@ use Rattle.protocol.specs.Packets.{Packet, Body, Accept}
 use Rattle.protocol.specs.Marks.{Heard}
 use Rattle.protocol.specs.Lists.{IsAmong}
 use Rattle.protocol.specs.Readings.{Latest}
-use Rattle.protocol.specs.Circuit.{State, Circuit, Datagram, Release, Step, Outcome, StepsTo, is_refused, is_idle, is_spent, is_done, is_torn, restarts, is_armed, History, goes_on}
+use Rattle.protocol.specs.Versions.{Two}
+use Rattle.protocol.specs.Circuit.{State, Circuit, hears, Datagram, Release, Step, Outcome, StepsTo, is_refused, is_idle, is_spent, is_done, is_torn, restarts, upgrades, upgrade_is_torn, is_armed, History, goes_on}
 use Rattle.protocol.specs.Agreement.{WasVoted, IsChosen, IsCarried, by_vote, by_accept, BallotsHaveOneTape, VotesAreOffered, WasPromised, PromisesBind, ReportsAreGreatest, IsBoundAbove, VotesAreBacked, HeardIsVoted, RipeIsChosen, ChosenIsOne, HistoriesAgree}
 use Rattle.protocol.proofs.Below.{compare_ballots, both_at_most}
 use Rattle.protocol.proofs.Majorities.{weaker, shared, some_member}
@@ -17,7 +18,7 @@ use Rattle.protocol.proofs.Places.{among_split, among_left}
 use Rattle.protocol.proofs.Steps.{SoundState, history_sound, same_state, read_among}
 
 -- what was sent of a packet holds
-packet_held : {D G F : Type 0} {z : Circuit D G F} {w : State G F} (h : History z w) (d : Datagram) (p : Packet) → IsAmong w.sent d → z.reads d.bytes ≡ Ok p → PacketHolds (WasVoted h) w.rows p
+packet_held : {D G F : Type 0} {z : Circuit D G F} {w : State G F} (h : History z w) (d : Datagram) (p : Packet) → IsAmong w.sent d → hears z Two d.bytes ≡ Ok p → PacketHolds (WasVoted h) w.rows p
 packet_held {z = z} {w = w} h d p i spelled =
     let s = history_sound h in s.sound.packets p (read_among z s.packets w.sent d p s.spelled i spelled)
 
@@ -103,6 +104,8 @@ sent_stays {G = G} {F = F} w s o after (is_refused m call r task member refused 
 sent_stays {G = G} {F = F} w s o after (is_idle m call task member unrefused event how is) d i = subst (λ (x : State G F). IsAmong x.sent d) (sym (same_state is)) i
 sent_stays {G = G} {F = F} w s o after (is_spent m call e task member unrefused event turn how is) d i = subst (λ (x : State G F). IsAmong x.sent d) (sym (same_state is)) i
 sent_stays {G = G} {F = F} w s o after (restarts m member is_restart how is) d i = subst (λ (x : State G F). IsAmong x.sent d) (sym (same_state is)) i
+sent_stays {G = G} {F = F} w s o after (upgrades m member is_upgrade how unarmed is) d i = subst (λ (x : State G F). IsAmong x.sent d) (sym (same_state is)) i
+sent_stays {G = G} {F = F} w s o after (upgrade_is_torn m v member is_upgrade how turns is) d i = subst (λ (x : State G F). IsAmong x.sent d) (sym (same_state is)) i
 sent_stays {G = G} {F = F} w s o after (is_armed m b member is_balk how is) d i = subst (λ (x : State G F). IsAmong x.sent d) (sym (same_state is)) i
 
 pub promises_bind : {D G F : Type 0} → PromisesBind D G F

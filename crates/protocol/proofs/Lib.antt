@@ -14,6 +14,9 @@ pub mod Due
 pub mod Meeting
 pub mod Proposing
 pub mod Turns
+pub mod Fitting
 pub mod Steps
 pub mod Agreements
+pub mod Holding
 pub mod Rehearsing
+pub mod Upgrading

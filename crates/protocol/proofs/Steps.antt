@@ -5,13 +5,14 @@ use Rattle.std.specs.List.{AllZip}
 use Rattle.protocol.specs.Ballots.{Ballot, Majority, IsMember}
 use Rattle.protocol.specs.Rows.{Tape, Vote, vote_for, Row}
 use Rattle.protocol.specs.Packets.{Packet}
+use Rattle.protocol.specs.Versions.{Version, One, Two}
 use Rattle.protocol.specs.Marks.{Mark, Began}
 use Rattle.protocol.specs.Lists.{IsAmong}
 use Rattle.protocol.specs.Proposals.{next_due}
 use Rattle.protocol.specs.Turn.{Turn, Event, Offered, Sought, Came_due, Arrived, number_of}
 use Rattle.protocol.specs.Table.{VotedAt, IsTurn}
 use Rattle.protocol.specs.Refusals.{Call, Offering, Seeking, Falling_due, Receiving, due_event, arrival, event_of}
-use Rattle.protocol.specs.Circuit.{Circuit, setup_of, Datagram, Offer, Release, State, IsSameState, fresh, Step, Offers, Seeks, Falls_due, Delivers, Restarts, Balks, Outcome, with_at, saved, Carries, datagram_at, Task, delivery, task_of, offers_with, releases_with, MayLeave, Leaves, before_save, at_save, StepsTo, is_refused, is_idle, is_spent, is_done, is_torn, restarts, is_armed, History, starts, goes_on}
+use Rattle.protocol.specs.Circuit.{Circuit, hears, setup_of, Datagram, Offer, Release, State, IsSameState, fresh, Step, Offers, Seeks, Falls_due, Delivers, Restarts, Upgrades, Balks, Outcome, with_at, saved, Carries, datagram_at, Task, delivery, task_of, offers_with, releases_with, MayLeave, Leaves, before_save, at_save, StepsTo, is_refused, is_idle, is_spent, is_done, is_torn, restarts, upgrades, upgrade_is_torn, is_armed, History, starts, goes_on}
 use Rattle.protocol.specs.Agreement.{HoldsVote, WasVoted}
 use Rattle.protocol.proofs.Meeting.{is_turn}
 use Rattle.protocol.proofs.Sound.{Votes, Releases, Rows, PacketHolds, Sound}
@@ -24,6 +25,7 @@ use Rattle.protocol.proofs.Turns.{EventHolds, turn_sound}
 -- states that have the same in each place are one
 pub same_state : {G F : Type 0} {v w : State G F} → IsSameState v w → v ≡ w
 same_state s = λ i. record {
+  version = λ m. s.version m i;
   rows = λ m n. s.rows m n i;
   marks = λ m. s.marks m i;
   is_stopped = λ m. s.is_stopped m i;
@@ -33,6 +35,26 @@ same_state s = λ i. record {
   releases = s.releases i;
 }
 
+-- what is spelled in a version, a station of version 2 takes for that
+pub spelled_heard : {D G F : Type 0} (z : Circuit D G F) (v : Version) (bytes : List ℕ) (p : Packet) → z.reads v bytes ≡ Ok p → hears z Two bytes ≡ Ok p
+spelled_heard z v bytes p e = ap (λ (x : Version). z.reads x bytes) (z.says v bytes p e) ∙ e
+
+-- what a station of any version takes bytes for, one of version 2 does too
+heard_alike : {D G F : Type 0} (z : Circuit D G F) (v : Version) (bytes : List ℕ) (p : Packet) → hears z v bytes ≡ Ok p → hears z Two bytes ≡ Ok p
+heard_alike z One bytes p e = spelled_heard z One bytes p e
+heard_alike z Two bytes p e = e
+
+-- a station of version 2 takes the datagram for the packet, and it goes to its addressee
+abbrev pub Goes : {D G F : Type 0} → Circuit D G F → Packet → Datagram → Type 0
+Goes z p d = (d.to ≡ p.to) × (hears z Two d.bytes ≡ Ok p)
+
+-- what is carried in a version goes
+all_go : {D G F : Type 0} (z : Circuit D G F) (v : Version) (ps : List Packet) (ds : List Datagram) → AllZip (Carries z v) ps ds → AllZip (Goes z) ps ds
+all_go z v [] [] h = h
+all_go z v [] (d ∷ ds) h = absurd h
+all_go z v (p ∷ ps) [] h = absurd h
+all_go z v (p ∷ ps) (d ∷ ds) h = ((h.0.0, spelled_heard z v d.bytes p h.0.1), all_go z v ps ds h.1)
+
 -- t stands among the releases for n
 abbrev pub released_in : {G F : Type 0} → List (Release G F) → Releases
 released_in {G = G} {F = F} releases n t = (x : Release G F) × IsAmong releases x × (x.number ≡ n) × (x.tape ≡ t)
@@ -40,7 +62,7 @@ released_in {G = G} {F = F} releases n t = (x : Release G F) × IsAmong releases
 -- a state whose datagrams spell packets, which with the rest are sound, and whose releases are set as their member sets them
 pub record SoundState {D G F : Type 0} (z : Circuit D G F) (V : Votes) (w : State G F) : Type 0 where
   pub packets : List Packet
-  pub spelled : AllZip (Carries z) packets w.sent
+  pub spelled : AllZip (Goes z) packets w.sent
   pub sound : Sound z.count V w.rows w.marks packets w.offers (released_in w.releases)
   pub set : (x : Release G F) → IsAmong w.releases x → x.set ≡ z.sets x.member x.tape
 
@@ -53,7 +75,7 @@ pub record Follows {G F : Type 0} (V W : Votes) (after : State G F) : Type 0 whe
 -- what is sound of the votes of the state after makes it a sound state
 settle :
     {D G F : Type 0} {z : Circuit D G F} {V X : Votes} (W : Votes) (after : State G F) (packets : List Packet) → Follows V W after
-    → AllZip (Carries z) packets after.sent
+    → AllZip (Goes z) packets after.sent
     → Sound z.count X after.rows after.marks packets after.offers (released_in after.releases)
     → ((m n : ℕ) (b : Ballot) (t : Tape) → V m n b t → X m n b t)
     → ((m n : ℕ) (b : Ballot) (t : Tape) → X m n b t → V m n b t ⊎ VotedAt (after.rows m n) b t)
@@ -95,11 +117,11 @@ more_releases {G = G} {F = F} z releases m n (Some t) x i = elim (among-append r
     set_so e = rw e refl
 
 -- the packet that a datagram among them spells is one of the packets
-pub read_among : {D G F : Type 0} (z : Circuit D G F) (ps : List Packet) (ds : List Datagram) (d : Datagram) (p : Packet) → AllZip (Carries z) ps ds → IsAmong ds d → z.reads d.bytes ≡ Ok p → IsAmong ps p
+pub read_among : {D G F : Type 0} (z : Circuit D G F) (ps : List Packet) (ds : List Datagram) (d : Datagram) (p : Packet) → AllZip (Goes z) ps ds → IsAmong ds d → hears z Two d.bytes ≡ Ok p → IsAmong ps p
 read_among z [] [] d p e i spelled = absurd i
 read_among z [] (y ∷ ds) d p e i spelled = absurd e
 read_among z (q ∷ ps) [] d p e i spelled = absurd e
-read_among {D = D} z (q ∷ ps) (y ∷ ds) d p e (inl same) spelled = inl (one (z.reads d.bytes) spelled (subst (λ (x : Datagram). z.reads x.bytes ≡ Ok q) (sym same) e.0.1))
+read_among {D = D} z (q ∷ ps) (y ∷ ds) d p e (inl same) spelled = inl (one (hears z Two d.bytes) spelled (subst (λ (x : Datagram). hears z Two x.bytes ≡ Ok q) (sym same) e.0.1))
   where
     one : (r : Result Packet D) → r ≡ Ok p → r ≡ Ok q → p ≡ q
     one r f g = cc
@@ -136,35 +158,36 @@ received_sent sent (Seeks k n i) m bytes j e = let other : Seeking n i ≡ Recei
 received_sent sent (Falls_due k i) m bytes j e = let other : Falling_due i ≡ Receiving bytes j = ap (λ (x : Task). x.call) (some_inj e) in cc
 received_sent sent (Delivers k i) m bytes j e = delivered sent (datagram_at sent k) i j m bytes (λ d f. datagram_among sent k d f) e
 received_sent sent (Restarts k) m bytes j e = cc
+received_sent sent (Upgrades k) m bytes j e = cc
 received_sent sent (Balks k b) m bytes j e = cc
 
 -- a packet that arrives is one that the received bytes spell
-arrived_read : {D : Type 0} (r : Result Packet D) (i : ℕ) (p : Packet) (now : ℕ) → arrival r i ≡ Some (Arrived p now) → r ≡ Ok p
+pub arrived_read : {D : Type 0} (r : Result Packet D) (i : ℕ) (p : Packet) (now : ℕ) → arrival r i ≡ Some (Arrived p now) → r ≡ Ok p
 arrived_read (Err fault) i p now e = cc
 arrived_read (Ok q) i p now e = let same : q ≡ p = cc in ap Ok same
 
-due_arrives : (o : Option ℕ) (i : ℕ) (p : Packet) (now : ℕ) → due_event o i ≡ Some (Arrived p now) → ⊥
+pub due_arrives : (o : Option ℕ) (i : ℕ) (p : Packet) (now : ℕ) → due_event o i ≡ Some (Arrived p now) → ⊥
 due_arrives None i p now e = cc
 due_arrives (Some n) i p now e = cc
 
 -- a packet that arrives was sent
 arrived_sent :
-    {D G F : Type 0} (z : Circuit D G F) (w : State G F) (s : Step) (m : ℕ) (call : Call) (p : Packet) (now : ℕ) (packets : List Packet) → AllZip (Carries z) packets w.sent
-    → task_of w.sent s ≡ Some (record { member = m; call = call }) → event_of (setup_of z m) (w.marks m) call ≡ Some (Arrived p now) → IsAmong packets p
+    {D G F : Type 0} (z : Circuit D G F) (w : State G F) (s : Step) (m : ℕ) (call : Call) (p : Packet) (now : ℕ) (packets : List Packet) → AllZip (Goes z) packets w.sent
+    → task_of w.sent s ≡ Some (record { member = m; call = call }) → event_of (setup_of z (w.version m) m) (w.marks m) call ≡ Some (Arrived p now) → IsAmong packets p
 arrived_sent z w s m (Offering n tape i) p now ps e task event = cc
 arrived_sent z w s m (Seeking n i) p now ps e task event = cc
 arrived_sent z w s m (Falling_due i) p now ps e task event = absurd (due_arrives (next_due m i (w.marks m)) i p now event)
 arrived_sent z w s m (Receiving bytes i) p now ps e task event =
     let (d, among, same) = received_sent w.sent s m bytes i task in
-    read_among z ps w.sent d p e among (ap z.reads same ∙ arrived_read (z.reads bytes) i p now event)
+    read_among z ps w.sent d p e among (ap (hears z Two) same ∙ heard_alike z (w.version m) bytes p (arrived_read (hears z (w.version m) bytes) i p now event))
 
 -- the state with the station's row and marks
 setting : {D G F : Type 0} → Circuit D G F → State G F → List Packet → ℕ → Event → Setting
 setting z w packets m e = record { circuit = z.number; count = z.count; rows = w.rows; marks = w.marks; me = m; number = number_of e; sent = packets; offers = offers_with w.offers m e; releases = released_in w.releases }
 
 event_holds :
-    {D G F : Type 0} (z : Circuit D G F) (V : Votes) (w : State G F) (s : Step) (m : ℕ) (call : Call) (e : Event) (rows : Rows) (packets : List Packet) → AllZip (Carries z) packets w.sent
-    → task_of w.sent s ≡ Some (record { member = m; call = call }) → event_of (setup_of z m) (w.marks m) call ≡ Some e
+    {D G F : Type 0} (z : Circuit D G F) (V : Votes) (w : State G F) (s : Step) (m : ℕ) (call : Call) (e : Event) (rows : Rows) (packets : List Packet) → AllZip (Goes z) packets w.sent
+    → task_of w.sent s ≡ Some (record { member = m; call = call }) → event_of (setup_of z (w.version m) m) (w.marks m) call ≡ Some e
     → ((p : Packet) → IsAmong packets p → PacketHolds V rows p)
     → EventHolds V rows (offers_with w.offers m e) e
 event_holds z V w s m call (Offered n tape now) rows ps same task event sent = (m, among_right w.offers (record { member = m; number = n; tape = tape } ∷ []) (record { member = m; number = n; tape = tape }) (inl refl))
@@ -178,7 +201,7 @@ start_at {z = z} {V = V} w m e h = at_start (setting z w h.packets m e) V (offer
 
 turns :
     {D G F : Type 0} {z : Circuit D G F} {V : Votes} (w : State G F) (s : Step) (m : ℕ) (call : Call) (e : Event) (t : Turn) → (h : SoundState z V w) → IsMember z.count m
-    → task_of w.sent s ≡ Some (record { member = m; call = call }) → event_of (setup_of z m) (w.marks m) call ≡ Some e
+    → task_of w.sent s ≡ Some (record { member = m; call = call }) → event_of (setup_of z (w.version m) m) (w.marks m) call ≡ Some e
     → IsTurn z.number z.count m (w.marks m) (w.rows m (number_of e)) e t → TurnSound (setting z w h.packets m e) V t
 unfolding setting
 turns {z = z} {V = V} w s m call e t h member task event turn =
@@ -186,7 +209,7 @@ turns {z = z} {V = V} w s m call e t h member task event turn =
 
 done_sound :
     {D G F : Type 0} {z : Circuit D G F} {V : Votes} (W : Votes) (w : State G F) (m : ℕ) (e : Event) (t : Turn) (out : List Datagram) (after : State G F) (h : SoundState z V w)
-    → TurnSound (setting z w h.packets m e) V t → AllZip (Carries z) t.out out
+    → TurnSound (setting z w h.packets m e) V t → AllZip (Goes z) t.out out
     → after ≡ record w {
       rows = saved w.rows m (number_of e) t.row;
       marks = with_at w.marks m t.marks;
@@ -208,8 +231,8 @@ done_sound {G = G} {F = F} {z = z} {V = V} W w m e t out after h ts carried is f
       releases = releases_with z w.releases m (number_of e) t.release;
     }
 
-    spelled : AllZip (Carries z) (h.packets ++ t.out) end.sent
-    spelled = AllZip-append (Carries z) h.packets t.out w.sent out h.spelled carried
+    spelled : AllZip (Goes z) (h.packets ++ t.out) end.sent
+    spelled = AllZip-append (Goes z) h.packets t.out w.sent out h.spelled carried
 
     went_out : Sound z.count ts.votes end.rows end.marks (h.packets ++ t.out) end.offers (released_in w.releases)
     went_out = send ts.stands.sound (h.packets ++ t.out) (λ p i. elim (among-append h.packets t.out p i) [ inl x ↦ inl x | inr x ↦ inr (ts.out p x) ])
@@ -232,13 +255,13 @@ calm_sound :
     → after.sent ≡ w.sent → after.releases ≡ w.releases
     → Sound z.count V after.rows after.marks h.packets after.offers (released_in after.releases) → SoundState z W after
 calm_sound {G = G} {F = F} {z = z} W w after h f sent releases s =
-    settle W after h.packets f (subst (λ (l : List Datagram). AllZip (Carries z) h.packets l) (sym sent) h.spelled) s (λ m n b t v. v) (λ m n b t v. inl v) (λ x i. h.set x (subst (λ (l : List (Release G F)). IsAmong l x) releases i))
+    settle W after h.packets f (subst (λ (l : List Datagram). AllZip (Goes z) h.packets l) (sym sent) h.spelled) s (λ m n b t v. v) (λ m n b t v. inl v) (λ x i. h.set x (subst (λ (l : List (Release G F)). IsAmong l x) releases i))
 
 -- a station's row and marks after a torn step
 torn_sound :
     {D G F : Type 0} {z : Circuit D G F} {V : Votes} (W : Votes) (w : State G F) (s : Step) (m : ℕ) (call : Call) (e : Event) (o : Outcome D F) (row : Row) (armed : Option Bool) (after : State G F)
     → SoundState z V w → IsMember z.count m
-    → task_of w.sent s ≡ Some (record { member = m; call = call }) → event_of (setup_of z m) (w.marks m) call ≡ Some e → Leaves z w m call e o row armed
+    → task_of w.sent s ≡ Some (record { member = m; call = call }) → event_of (setup_of z (w.version m) m) (w.marks m) call ≡ Some e → Leaves z w m call e o row armed
     → after ≡ record w {
       rows = saved w.rows m (number_of e) row;
       marks = with_at w.marks m [];
@@ -302,18 +325,22 @@ step_sound W w s o after h (is_refused m call r task member refused how is) f = 
 step_sound W w s o after h (is_idle m call task member unrefused event how is) f = stays_sound W w after h is f
 step_sound W w s o after h (is_spent m call e task member unrefused event turn how is) f = stays_sound W w after h is f
 step_sound {z = z} W w s o after h (is_done m call e t out task member unrefused event turn carried armed how is) f =
-    done_sound W w m e t out after h (turns w s m call e t h member task event (is_turn z.number z.count m (w.marks m) (w.rows m (number_of e)) e t member turn)) carried (same_state is) f
+    done_sound W w m e t out after h (turns w s m call e t h member task event (is_turn z.number z.count m (w.marks m) (w.rows m (number_of e)) e t member turn)) (all_go z (w.version m) t.out out carried) (same_state is) f
 step_sound W w s o after h (is_torn m call e row armed task member unrefused event leaves is) f =
     torn_sound W w s m call e o row armed after h member task event leaves (same_state is) f
 step_sound {G = G} {F = F} {z = z} {V = V} W w s o after h (restarts m member is_restart how is) f =
     subst (λ (x : State G F). SoundState z W x) (sym (same_state is)) (calm_sound W w _ h (subst (λ (x : State G F). Follows V W x) (same_state is) f) refl refl (clear m h.sound))
+step_sound {G = G} {F = F} {z = z} {V = V} W w s o after h (upgrades m member is_upgrade how unarmed is) f =
+    subst (λ (x : State G F). SoundState z W x) (sym (same_state is)) (calm_sound W w _ h (subst (λ (x : State G F). Follows V W x) (same_state is) f) refl refl (clear m h.sound))
+step_sound {G = G} {F = F} {z = z} {V = V} W w s o after h (upgrade_is_torn m v member is_upgrade how turns is) f =
+    subst (λ (x : State G F). SoundState z W x) (sym (same_state is)) (calm_sound W w _ h (subst (λ (x : State G F). Follows V W x) (same_state is) f) refl refl (clear m h.sound))
 step_sound {G = G} {F = F} {z = z} {V = V} W w s o after h (is_armed m b member is_balk how is) f =
     subst (λ (x : State G F). SoundState z W x) (sym (same_state is)) (calm_sound W w _ h (subst (λ (x : State G F). Follows V W x) (same_state is) f) refl refl h.sound)
 
-fresh_sound : {D G F : Type 0} {z : Circuit D G F} (w : State G F) → IsSameState w fresh → SoundState z (HoldsVote w) w
-fresh_sound {G = G} {F = F} {z = z} w f = record {
+fresh_sound : {D G F : Type 0} {z : Circuit D G F} (version : ℕ → Version) (w : State G F) → IsSameState w (fresh version) → SoundState z (HoldsVote w) w
+fresh_sound {G = G} {F = F} {z = z} version w f = record {
   packets = [];
-  spelled = subst (λ (l : List Datagram). AllZip (Carries z) [] l) (sym f.sent) tt;
+  spelled = subst (λ (l : List Datagram). AllZip (Goes z) [] l) (sym f.sent) tt;
   sound = record {
     kept = λ m n v e. e;
     valid = λ m n v e. absurd (unvoted m n v e);
@@ -334,7 +361,7 @@ fresh_sound {G = G} {F = F} {z = z} w f = record {
     unvoted m n v e = let none : None ≡ Some v = sym (ap (λ (x : Row). x.vote) (f.rows m n)) ∙ e in cc
 
 pub history_sound : {D G F : Type 0} {z : Circuit D G F} {w : State G F} → (h : History z w) → SoundState z (WasVoted h) w
-history_sound {w = w} (starts f) = fresh_sound w f
+history_sound {w = w} (starts version f) = fresh_sound version w f
 history_sound (goes_on {w = w} {after = after} h s o st) =
     step_sound (WasVoted (goes_on h s o st)) w s o after (history_sound h) st
     (record { stay = λ m n b t v. inr v; taken = λ m n b t v. inl v; only = λ m n b t v. elim v [ inl x ↦ inr x | inr x ↦ inl x ] })

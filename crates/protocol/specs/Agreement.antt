@@ -6,7 +6,8 @@ use Rattle.protocol.specs.Rows.{Tape, Vote, vote_for}
 use Rattle.protocol.specs.Packets.{Packet, Promise, Accept}
 use Rattle.protocol.specs.Marks.{Heard}
 use Rattle.protocol.specs.Readings.{Ripe}
-use Rattle.protocol.specs.Circuit.{Circuit, Datagram, Release, State, Step, Outcome, StepsTo, History, starts, goes_on}
+use Rattle.protocol.specs.Versions.{Two}
+use Rattle.protocol.specs.Circuit.{Circuit, hears, Datagram, Release, State, Step, Outcome, StepsTo, History, starts, goes_on}
 
 -- a row of member m for n holds this vote
 abbrev pub HoldsVote : {G F : Type 0} → State G F → ℕ → ℕ → Ballot → Tape → Type 0
@@ -14,7 +15,7 @@ HoldsVote w m n b t = (w.rows m n).vote ≡ Some (vote_for b t)
 
 -- member m voted for t at b in the ballot of n: a row of its ever took this vote
 abbrev pub WasVoted : {D G F : Type 0} {z : Circuit D G F} {w : State G F} → History z w → ℕ → ℕ → Ballot → Tape → Type 0
-WasVoted {w = w} (starts f) m n b t = HoldsVote w m n b t
+WasVoted {w = w} (starts version f) m n b t = HoldsVote w m n b t
 WasVoted (goes_on {after = after} h s o st) m n b t = HoldsVote after m n b t ⊎ WasVoted h m n b t
 
 -- t is chosen for n: at some ballot a majority voted for it (Lamport's definition)
@@ -39,7 +40,7 @@ HistoriesAgree D G F = (z : Circuit D G F) (w : State G F) → History z w → I
 -- a vote, or an Accept that was sent, of this number and ballot carries t
 pub data IsCarried {D G F : Type 0} {z : Circuit D G F} {w : State G F} (h : History z w) (n : ℕ) (b : Ballot) (t : Tape) : Type 0 where
   by_vote : (m : ℕ) → WasVoted h m n b t → IsCarried h n b t
-  by_accept : (d : Datagram) (p : Packet) → IsAmong w.sent d → z.reads d.bytes ≡ Ok p → p.number ≡ n → p.ballot ≡ b → p.body ≡ Accept t → IsCarried h n b t
+  by_accept : (d : Datagram) (p : Packet) → IsAmong w.sent d → hears z Two d.bytes ≡ Ok p → p.number ≡ n → p.ballot ≡ b → p.body ≡ Accept t → IsCarried h n b t
 
 -- all votes and Accepts of one number and ballot carry one tape
 abbrev pub BallotsHaveOneTape : (D G F : Type 0) → Type 0
@@ -54,7 +55,7 @@ pub record WasPromised {D G F : Type 0} (z : Circuit D G F) (w : State G F) (m n
   pub datagram : Datagram
   pub packet : Packet
   pub sent : IsAmong w.sent datagram
-  pub spelled : z.reads datagram.bytes ≡ Ok packet
+  pub spelled : hears z Two datagram.bytes ≡ Ok packet
   pub from : packet.from ≡ m
   pub number : packet.number ≡ n
   pub ballot : packet.ballot ≡ b

@@ -4,21 +4,30 @@ use Rattle.std.specs.List.{AllZip}
 use Rattle.protocol.specs.Ballots.{IsMember}
 use Rattle.protocol.specs.Rows.{Tape, Row, blank}
 use Rattle.protocol.specs.Packets.{Packet}
+use Rattle.protocol.specs.Versions.{Version, One, Two, fits}
 use Rattle.protocol.specs.Marks.{Mark}
 use Rattle.protocol.specs.Turn.{Event, Offered, Sought, Came_due, Arrived, number_of, Note, Note_idle, Turn, turn}
 use Rattle.protocol.specs.Refusals.{Setup, Call, Offering, Seeking, Falling_due, Receiving, Refusal, Rounds_spent, refusal, early_refusal, event_of}
 
--- what a circuit is given: its number, how many members it has, which packet bytes spell or why they spell none,
--- and what each member's table and widths make of a tape
+-- what a circuit is given: its number, how many members it has, which packet bytes spell in a version or why they spell none in it,
+-- of which version bytes say that they are, and what each member's table and widths make of a tape.
+-- What spells a packet in a version says so.
 pub record Circuit (D G F : Type 0) : Type 0 where
   pub number : ℕ
   pub count : ℕ
-  pub reads : List ℕ → Result Packet D
+  pub reads : Version → List ℕ → Result Packet D
+  pub version_of : List ℕ → Version
   pub sets : ℕ → Tape → Result G F
+  pub says : (v : Version) (bytes : List ℕ) (p : Packet) → reads v bytes ≡ Ok p → version_of bytes ≡ v
 
--- how member m's station is set up
-abbrev pub setup_of : {D G F : Type 0} → Circuit D G F → ℕ → Setup D G F
-setup_of z m = record { circuit = z.number; count = z.count; me = m; reads = z.reads; sets = z.sets m }
+-- what a station of this version takes bytes for: at version 1 it reads version 1 alone, at version 2 both
+abbrev pub hears : {D G F : Type 0} → Circuit D G F → Version → List ℕ → Result Packet D
+hears z One bytes = z.reads One bytes
+hears z Two bytes = z.reads (z.version_of bytes) bytes
+
+-- how member m's station is set up at this version
+abbrev pub setup_of : {D G F : Type 0} → Circuit D G F → Version → ℕ → Setup D G F
+setup_of z v m = record { circuit = z.number; count = z.count; me = m; reads = hears z v; fits = fits v; sets = z.sets m }
 
 -- bytes on their way to a member
 pub record Datagram : Type 0 where
@@ -38,10 +47,11 @@ pub record Release (G F : Type 0) : Type 0 where
   pub tape : Tape
   pub set : Result G F
 
--- where a circuit stands: of each member the rows by number, the marks, whether it is stopped,
+-- where a circuit stands: of each member the version, the rows by number, the marks, whether it is stopped,
 -- and whether its store is armed to refuse the next save (as saved, or as unsaved);
 -- and every datagram that was ever sent, every offer and every release
 pub record State (G F : Type 0) : Type 0 where
+  pub version : ℕ → Version
   pub rows : ℕ → ℕ → Row
   pub marks : ℕ → List Mark
   pub is_stopped : ℕ → Bool
@@ -52,6 +62,7 @@ pub record State (G F : Type 0) : Type 0 where
 
 -- two states have the same in each place
 pub record IsSameState {G F : Type 0} (v w : State G F) : Type 0 where
+  pub version : (m : ℕ) → v.version m ≡ w.version m
   pub rows : (m n : ℕ) → v.rows m n ≡ w.rows m n
   pub marks : (m : ℕ) → v.marks m ≡ w.marks m
   pub is_stopped : (m : ℕ) → v.is_stopped m ≡ w.is_stopped m
@@ -60,26 +71,28 @@ pub record IsSameState {G F : Type 0} (v w : State G F) : Type 0 where
   pub offers : v.offers ≡ w.offers
   pub releases : v.releases ≡ w.releases
 
--- a circuit starts with no row, no mark and nothing sent
-abbrev pub fresh : {G F : Type 0} → State G F
-fresh = record { rows = λ m n. blank; marks = λ m. []; is_stopped = λ m. false; armed = λ m. None; sent = []; offers = []; releases = [] }
+-- a circuit starts with each member at some version, no row, no mark and nothing sent
+abbrev pub fresh : {G F : Type 0} → (ℕ → Version) → State G F
+fresh version = record { version = version; rows = λ m n. blank; marks = λ m. []; is_stopped = λ m. false; armed = λ m. None; sent = []; offers = []; releases = [] }
 
 -- a step: a member is asked something, the k-th datagram ever sent (from 1) is delivered to its addressee,
--- a member starts again, or its store is armed to refuse the next save
+-- a member starts again, goes over to version 2, or its store is armed to refuse the next save
 pub data Step : Type 0 where
   Offers : (member : ℕ) → (number : ℕ) → (tape : Tape) → (now : ℕ) → Step
   Seeks : (member : ℕ) → (number : ℕ) → (now : ℕ) → Step
   Falls_due : (member : ℕ) → (now : ℕ) → Step
   Delivers : (which : ℕ) → (now : ℕ) → Step
   Restarts : (member : ℕ) → Step
+  Upgrades : (member : ℕ) → Step
   Balks : (member : ℕ) → (saved : Bool) → Step
 
--- how a step ended: done with a note, refused, torn by the store or by want of memory, restarted, armed
+-- how a step ended: done with a note, refused, torn by the store or by want of memory, restarted, upgraded, armed
 pub data Outcome (D F : Type 0) : Type 0 where
   Done : (note : Note) → Outcome D F
   Refused : (refusal : Refusal D F) → Outcome D F
   Torn_by_store Torn_by_memory : Outcome D F
   Restarted : Outcome D F
+  Upgraded : Outcome D F
   Armed : (saved : Bool) → Outcome D F
 
 -- x in the place of m
@@ -90,9 +103,9 @@ with_at f m x k = if k == m then x else f k
 abbrev pub saved : (ℕ → ℕ → Row) → ℕ → ℕ → Row → ℕ → ℕ → Row
 saved rows m n row = with_at rows m (with_at (rows m) n row)
 
--- the datagram spells the packet, and goes to its addressee
-abbrev pub Carries : {D G F : Type 0} → Circuit D G F → Packet → Datagram → Type 0
-Carries z p d = (d.to ≡ p.to) × (z.reads d.bytes ≡ Ok p)
+-- the datagram spells the packet in this version, and goes to its addressee
+abbrev pub Carries : {D G F : Type 0} → Circuit D G F → Version → Packet → Datagram → Type 0
+Carries z v p d = (d.to ≡ p.to) × (z.reads v d.bytes ≡ Ok p)
 
 -- the k-th datagram ever sent, from 1
 abbrev pub datagram_at : List Datagram → ℕ → Option Datagram
@@ -115,6 +128,7 @@ task_of sent (Seeks m n now) = Some (record { member = m; call = Seeking n now }
 task_of sent (Falls_due m now) = Some (record { member = m; call = Falling_due now })
 task_of sent (Delivers k now) = delivery (datagram_at sent k) now
 task_of sent (Restarts m) = None
+task_of sent (Upgrades m) = None
 task_of sent (Balks m saved) = None
 
 -- the offers with that of an event, if it is one
@@ -135,6 +149,12 @@ MayLeave (Some false) before after row = row ≡ before
 MayLeave (Some true) before after row = (row ≡ before) ⊎ (row ≡ after)
 MayLeave None before after row = (row ≡ before) ⊎ (row ≡ after)
 
+-- which version an upgrade that is refused may leave: a store armed as unsaved leaves the old one, any other the old one or version 2
+abbrev pub MayTurn : Option Bool → Version → Version → Type 0
+MayTurn (Some false) before v = v ≡ before
+MayTurn (Some true) before v = (v ≡ before) ⊎ (v ≡ Two)
+MayTurn None before v = (v ≡ before) ⊎ (v ≡ Two)
+
 -- what a step that is torn leaves of the row of the event's number and of the armed flag:
 -- before any save both as they were; at the save, which only the store tears, a row that it may leave, unarmed
 pub data Leaves {D G F : Type 0} (z : Circuit D G F) (w : State G F) (m : ℕ) (call : Call) (e : Event) (o : Outcome D F) (row : Row) (armed : Option Bool) : Type 0 where
@@ -142,7 +162,7 @@ pub data Leaves {D G F : Type 0} (z : Circuit D G F) (w : State G F) (m : ℕ) (
       (o ≡ Torn_by_store) ⊎ (o ≡ Torn_by_memory)
       → row ≡ w.rows m (number_of e) → armed ≡ w.armed m → Leaves z w m call e o row armed
   at_save :
-      (t : Turn) → o ≡ Torn_by_store → refusal (setup_of z m) (w.is_stopped m) (w.marks m) call ≡ None
+      (t : Turn) → o ≡ Torn_by_store → refusal (setup_of z (w.version m) m) (w.is_stopped m) (w.marks m) call ≡ None
       → turn z.number z.count m (w.marks m) (w.rows m (number_of e)) e ≡ Some t → ¬ (t.row ≡ w.rows m (number_of e))
       → MayLeave (w.armed m) (w.rows m (number_of e)) t.row row → armed ≡ None → Leaves z w m call e o row armed
 
@@ -151,28 +171,28 @@ pub data StepsTo {D G F : Type 0} (z : Circuit D G F) (w : State G F) (s : Step)
   -- the station refuses before it asks its store
   is_refused :
       (m : ℕ) (call : Call) (r : Refusal D F) → task_of w.sent s ≡ Some (record { member = m; call = call }) → IsMember z.count m
-      → refusal (setup_of z m) (w.is_stopped m) (w.marks m) call ≡ Some r
+      → refusal (setup_of z (w.version m) m) (w.is_stopped m) (w.marks m) call ≡ Some r
       → o ≡ Refused r → IsSameState after w → StepsTo z w s o after
   -- nothing is due
   is_idle :
       (m : ℕ) (call : Call) → task_of w.sent s ≡ Some (record { member = m; call = call }) → IsMember z.count m
-      → refusal (setup_of z m) (w.is_stopped m) (w.marks m) call ≡ None
-      → event_of (setup_of z m) (w.marks m) call ≡ None
+      → refusal (setup_of z (w.version m) m) (w.is_stopped m) (w.marks m) call ≡ None
+      → event_of (setup_of z (w.version m) m) (w.marks m) call ≡ None
       → o ≡ Done Note_idle → IsSameState after w → StepsTo z w s o after
   -- no ballot is left
   is_spent :
       (m : ℕ) (call : Call) (e : Event) → task_of w.sent s ≡ Some (record { member = m; call = call }) → IsMember z.count m
-      → refusal (setup_of z m) (w.is_stopped m) (w.marks m) call ≡ None
-      → event_of (setup_of z m) (w.marks m) call ≡ Some e
+      → refusal (setup_of z (w.version m) m) (w.is_stopped m) (w.marks m) call ≡ None
+      → event_of (setup_of z (w.version m) m) (w.marks m) call ≡ Some e
       → turn z.number z.count m (w.marks m) (w.rows m (number_of e)) e ≡ None
       → o ≡ Refused Rounds_spent → IsSameState after w → StepsTo z w s o after
   -- the turn is taken: the row is saved, the marks grow, and what goes out, an offer and a release are added
   is_done :
       (m : ℕ) (call : Call) (e : Event) (t : Turn) (out : List Datagram) → task_of w.sent s ≡ Some (record { member = m; call = call }) → IsMember z.count m
-      → refusal (setup_of z m) (w.is_stopped m) (w.marks m) call ≡ None
-      → event_of (setup_of z m) (w.marks m) call ≡ Some e
+      → refusal (setup_of z (w.version m) m) (w.is_stopped m) (w.marks m) call ≡ None
+      → event_of (setup_of z (w.version m) m) (w.marks m) call ≡ Some e
       → turn z.number z.count m (w.marks m) (w.rows m (number_of e)) e ≡ Some t
-      → AllZip (Carries z) t.out out
+      → AllZip (Carries z (w.version m)) t.out out
       → (w.armed m ≡ None) ⊎ (t.row ≡ w.rows m (number_of e))
       → o ≡ Done t.note
       → IsSameState after (record w {
@@ -186,8 +206,8 @@ pub data StepsTo {D G F : Type 0} (z : Circuit D G F) (w : State G F) (s : Step)
   -- the store or want of memory ends it: the station stops and forgets its marks, and nothing is sent or released
   is_torn :
       (m : ℕ) (call : Call) (e : Event) (row : Row) (armed : Option Bool) → task_of w.sent s ≡ Some (record { member = m; call = call }) → IsMember z.count m
-      → early_refusal (setup_of z m) (w.is_stopped m) (w.marks m) call ≡ None
-      → event_of (setup_of z m) (w.marks m) call ≡ Some e
+      → early_refusal (setup_of z (w.version m) m) (w.is_stopped m) (w.marks m) call ≡ None
+      → event_of (setup_of z (w.version m) m) (w.marks m) call ≡ Some e
       → Leaves z w m call e o row armed
       → IsSameState after (record w {
         rows = saved w.rows m (number_of e) row;
@@ -202,6 +222,16 @@ pub data StepsTo {D G F : Type 0} (z : Circuit D G F) (w : State G F) (s : Step)
       (m : ℕ) → IsMember z.count m → s ≡ Restarts m → o ≡ Restarted
       → IsSameState after (record w { marks = with_at w.marks m []; is_stopped = with_at w.is_stopped m false })
       → StepsTo z w s o after
+  -- a member goes over: it forgets its marks, keeps its rows, and is at version 2
+  upgrades :
+      (m : ℕ) → IsMember z.count m → s ≡ Upgrades m → o ≡ Upgraded → w.armed m ≡ None
+      → IsSameState after (record w { version = with_at w.version m Two; marks = with_at w.marks m []; is_stopped = with_at w.is_stopped m false })
+      → StepsTo z w s o after
+  -- the store refuses to go over: all rows are of the one version or all of the other, and the station stops
+  upgrade_is_torn :
+      (m : ℕ) (v : Version) → IsMember z.count m → s ≡ Upgrades m → o ≡ Torn_by_store → MayTurn (w.armed m) (w.version m) v
+      → IsSameState after (record w { version = with_at w.version m v; marks = with_at w.marks m []; is_stopped = with_at w.is_stopped m true; armed = with_at w.armed m None })
+      → StepsTo z w s o after
   -- a member's store is armed
   is_armed :
       (m : ℕ) (b : Bool) → IsMember z.count m → s ≡ Balks m b → o ≡ Armed b
@@ -210,7 +240,7 @@ pub data StepsTo {D G F : Type 0} (z : Circuit D G F) (w : State G F) (s : Step)
 
 -- a history of a circuit: a fresh state, or a history and one step more
 pub data History {D G F : Type 0} (z : Circuit D G F) : State G F → Type 0 where
-  starts : {w : State G F} → IsSameState w fresh → History z w
+  starts : {w : State G F} (version : ℕ → Version) → IsSameState w (fresh version) → History z w
   goes_on : {w after : State G F} → History z w → (s : Step) → (o : Outcome D F) → StepsTo z w s o after → History z after
 
 -- why there is no such step
@@ -233,4 +263,5 @@ missing c sent (Seeks m n now) = member_missing c m
 missing c sent (Falls_due m now) = member_missing c m
 missing c sent (Delivers k now) = datagram_missing c (datagram_at sent k)
 missing c sent (Restarts m) = member_missing c m
+missing c sent (Upgrades m) = member_missing c m
 missing c sent (Balks m saved) = member_missing c m

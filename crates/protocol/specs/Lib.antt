@@ -1,6 +1,7 @@
 pub mod Lists
 pub mod Ballots
 pub mod Rows
+pub mod Versions
 pub mod Packets
 pub mod Acceptor
 pub mod Marks
@@ -13,4 +14,5 @@ pub mod Table
 pub mod Refusals
 pub mod Circuit
 pub mod Agreement
+pub mod Fitting
 pub mod Rehearsals

@@ -8,12 +8,13 @@ use Rattle.protocol.specs.Proposals.{was_released, open_proposal, next_due}
 use Rattle.protocol.specs.Turn.{Event, Offered, Sought, Came_due, Arrived}
 
 -- how a station is set up: its circuit's number, the member count, which member it is,
--- which packet it reads in bytes or why it reads none, and what its table and widths make of a tape
+-- which packet it reads in bytes or why it reads none, which entries it can write, and what its table and widths make of a tape
 pub record Setup (D G F : Type 0) : Type 0 where
   pub circuit : ℕ
   pub count : ℕ
   pub me : ℕ
   pub reads : List ℕ → Result Packet D
+  pub fits : Tape → Bool
   pub sets : Tape → Result G F
 
 -- what a station is asked: to offer a tape for a number, to seek a number's tape, to see to what is due, to receive bytes
@@ -29,6 +30,7 @@ pub data Refusal (D F : Type 0) : Type 0 where
   Bad_datagram : (fault : D) → Refusal D F
   Wrong_circuit Not_for_me Stranger : Refusal D F
   Bad_number Already_released Already_open : Refusal D F
+  Wire_too_old : Refusal D F
   Tape_faulty : (fault : F) → Refusal D F
   Rounds_spent : Refusal D F
 
@@ -70,9 +72,13 @@ number_refusal n marks =
     else if is_some (open_proposal n marks) then Some Already_open
     else None
 
+-- why it refuses to offer an entry that it can write, or can't
+abbrev pub wire_refusal : {D F : Type 0} → Bool → Option (Refusal D F)
+wire_refusal fits = if fits then None else Some Wire_too_old
+
 -- why it refuses a call, but for a tape's own fault
 abbrev pub call_refusal : {D G F : Type 0} → Setup D G F → List Mark → Call → Option (Refusal D F)
-call_refusal s marks (Offering n tape now) = number_refusal n marks
+call_refusal s marks (Offering n tape now) = or_else (number_refusal n marks) (wire_refusal (s.fits tape))
 call_refusal s marks (Seeking n now) = number_refusal n marks
 call_refusal s marks (Falling_due now) = None
 call_refusal s marks (Receiving bytes now) = reading_refusal s.circuit s.count s.me (s.reads bytes)

@@ -1,12 +1,13 @@
 -- Worked examples of refusals and of histories, of number 12: the definitions are not empty.
-use Rattle.std.specs.Prelude.{◌≡◌, ℕ, List, [], ◌∷◌, ◌++◌, Some, None, Ok, true, map}
+use Rattle.std.specs.Prelude.{◌≡◌, ℕ, List, [], ◌∷◌, ◌++◌, Some, None, Ok, Err, true, false, map}
 use Rattle.std.specs.List.{AllZip}
 use Rattle.protocol.specs.Rows.{Tape, vote_for}
 use Rattle.protocol.specs.Packets.{Packet, Prepare, Promise, Accept, Accepted, Nack}
 use Rattle.protocol.specs.Turn.{Offered, Note_began, Note_promised, Note_proposed, Note_heard, Note_voted, packet_to}
 use Rattle.protocol.specs.Runs.{ballot, run_of}
-use Rattle.protocol.specs.Refusals.{Stopped, Wrong_circuit, Not_for_me, Stranger, Bad_number, Already_released, Already_open, packet_refusal, number_refusal}
-use Rattle.protocol.specs.Circuit.{Circuit, Carries, Datagram, Release, State, Step, Offers, Seeks, Delivers, Restarts, Balks, Outcome, Done, Refused, Torn_by_store, Restarted, Armed, History, starts, goes_on}
+use Rattle.protocol.specs.Refusals.{Stopped, Wrong_circuit, Not_for_me, Stranger, Bad_number, Already_released, Already_open, Wire_too_old, Bad_datagram, packet_refusal, number_refusal}
+use Rattle.protocol.specs.Versions.{Version, One, Two, void, fits}
+use Rattle.protocol.specs.Circuit.{Circuit, Carries, Datagram, Release, State, Step, Offers, Seeks, Delivers, Restarts, Upgrades, Balks, Outcome, Done, Refused, Torn_by_store, Restarted, Upgraded, Armed, History, starts, goes_on}
 
 -- a member of 3 refuses packets of another circuit, for another, and of strangers: the sender, the owner of the ballot, of a reported vote, of a Nack's promise
 pub record PacketsAreRefused (D F : Type 0) : Type 0 where
@@ -36,7 +37,7 @@ pub record Taken (D F : Type 0) : Type 0 where
 
 -- the steps of a history, the first first
 abbrev pub steps_of : {D G F : Type 0} {z : Circuit D G F} {w : State G F} → History z w → List (Taken D F)
-steps_of (starts f) = []
+steps_of (starts version f) = []
 steps_of (goes_on h s o st) = steps_of h ++ record { step = s; outcome = o } ∷ []
 
 -- a member's release of a tape, set as it sets it
@@ -81,7 +82,7 @@ datagram_of spell p = record { to = p.to; bytes = spell p }
 abbrev pub ThreeMembersRelease : (D G F : Type 0) → Type 0
 ThreeMembersRelease D G F =
     (z : Circuit D G F) (spell : Packet → List ℕ) (tape : Tape) (slugs : G) → z.count ≡ 3 → z.sets 1 tape ≡ Ok slugs
-    → AllZip (Carries z) (packets_of_three z.number tape) (map (datagram_of spell) (packets_of_three z.number tape))
+    → AllZip (Carries z Two) (packets_of_three z.number tape) (map (datagram_of spell) (packets_of_three z.number tape))
     → (w : State G F) × (h : History z w) × (w.releases ≡ release_by z 2 tape ∷ release_by z 1 tape ∷ release_by z 3 tape ∷ [])
     × (w.sent ≡ map (datagram_of spell) (packets_of_three z.number tape))
     × (steps_of h
@@ -93,3 +94,62 @@ ThreeMembersRelease D G F =
     ∷ record { step = Delivers 8 0; outcome = Done (Note_heard (ballot 1 1)) }
     ∷ record { step = Delivers 9 0; outcome = Done (Note_heard (ballot 1 1)) }
     ∷ record { step = Delivers 7 0; outcome = Done (Note_heard (ballot 1 1)) } ∷ [])
+
+-- the versions at which a history started
+abbrev pub started_at : {D G F : Type 0} {z : Circuit D G F} {w : State G F} → History z w → ℕ → Version
+started_at (starts version f) = version
+started_at (goes_on h s o st) = started_at h
+
+-- 1 of 1 whose store refuses to go over stays at version 1, and can withdraw nothing;
+-- where the store went over and refused all the same, it can once it has started again
+abbrev pub TornUpgrades : (D G F : Type 0) → Type 0
+TornUpgrades D G F =
+    (z : Circuit D G F) (slugs : G) → z.count ≡ 1 → z.sets 1 void ≡ Ok slugs
+    → ((w : State G F) × (h : History z w) × (started_at h 1 ≡ One) × (w.version 1 ≡ One)
+    × (steps_of h
+    ≡ record { step = Balks 1 false; outcome = Armed false }
+    ∷ record { step = Upgrades 1; outcome = Torn_by_store }
+    ∷ record { step = Restarts 1; outcome = Restarted }
+    ∷ record { step = Offers 1 12 void 0; outcome = Refused Wire_too_old } ∷ []))
+    × ((w : State G F) × (h : History z w) × (started_at h 1 ≡ One) × (w.releases ≡ release_by z 1 void ∷ [])
+    × (steps_of h
+    ≡ record { step = Balks 1 true; outcome = Armed true }
+    ∷ record { step = Upgrades 1; outcome = Torn_by_store }
+    ∷ record { step = Restarts 1; outcome = Restarted }
+    ∷ record { step = Offers 1 12 void 0; outcome = Done (Note_proposed (ballot 1 1)) } ∷ []))
+
+-- what goes out at version 1, before 2 and 3 go over: 1 is offered a tape, 2 promises and votes
+abbrev pub packets_before : ℕ → Tape → List Packet
+packets_before k tape = packets_of_three k tape
+
+-- and what goes out at version 2: 3 withdraws the number, 2 reports the tape, and 3 proposes it in place of Void
+abbrev pub packets_after : ℕ → Tape → List Packet
+packets_after k tape =
+    packet_to k 3 12 (ballot 1 3) Prepare 1 ∷ packet_to k 3 12 (ballot 1 3) Prepare 2
+    ∷ packet_to k 2 12 (ballot 1 3) (Promise (Some (vote_for (ballot 1 1) tape))) 3
+    ∷ packet_to k 3 12 (ballot 1 3) (Accept tape) 1 ∷ packet_to k 3 12 (ballot 1 3) (Accept tape) 2
+    ∷ packet_to k 3 12 (ballot 1 3) (Accepted tape) 1 ∷ packet_to k 3 12 (ballot 1 3) (Accepted tape) 2
+    ∷ packet_to k 2 12 (ballot 1 3) (Accepted tape) 1 ∷ packet_to k 2 12 (ballot 1 3) (Accepted tape) 3 ∷ []
+
+-- 2 and 3 of three go over after 1 and 2 voted for a tape at version 1: the withdrawal by 3 finds the tape, and 3 releases it;
+-- 1, which has not gone over, can't read what 3 asks
+abbrev pub VoteOutlivesUpgrades : (D G F : Type 0) → Type 0
+VoteOutlivesUpgrades D G F =
+    (z : Circuit D G F) (spell : Version → Packet → List ℕ) (tape : Tape) (slugs : G) (fault : D) → z.count ≡ 3 → z.sets 1 tape ≡ Ok slugs → z.sets 3 void ≡ Ok slugs → fits One tape ≡ true
+    → AllZip (Carries z One) (packets_before z.number tape) (map (datagram_of (spell One)) (packets_before z.number tape))
+    → AllZip (Carries z Two) (packets_after z.number tape) (map (datagram_of (spell Two)) (packets_after z.number tape))
+    → z.reads One (spell Two (packet_to z.number 3 12 (ballot 1 3) Prepare 1)) ≡ Err fault
+    → (w : State G F) × (h : History z w) × (w.releases ≡ release_by z 3 tape ∷ [])
+    × (steps_of h
+    ≡ record { step = Offers 1 12 tape 0; outcome = Done (Note_began (ballot 1 1)) }
+    ∷ record { step = Delivers 1 0; outcome = Done (Note_promised (ballot 1 1)) }
+    ∷ record { step = Delivers 3 0; outcome = Done (Note_proposed (ballot 1 1)) }
+    ∷ record { step = Delivers 4 0; outcome = Done (Note_voted (ballot 1 1)) }
+    ∷ record { step = Upgrades 2; outcome = Upgraded }
+    ∷ record { step = Upgrades 3; outcome = Upgraded }
+    ∷ record { step = Offers 3 12 void 0; outcome = Done (Note_began (ballot 1 3)) }
+    ∷ record { step = Delivers 10 0; outcome = Refused (Bad_datagram fault) }
+    ∷ record { step = Delivers 11 0; outcome = Done (Note_promised (ballot 1 3)) }
+    ∷ record { step = Delivers 12 0; outcome = Done (Note_proposed (ballot 1 3)) }
+    ∷ record { step = Delivers 14 0; outcome = Done (Note_voted (ballot 1 3)) }
+    ∷ record { step = Delivers 18 0; outcome = Done (Note_heard (ballot 1 3)) } ∷ [])

@@ -3,8 +3,9 @@
 
 ghost use Rattle.protocol.specs.Acceptor.{StepsAreOfTheWhole};
 ghost use Rattle.protocol.specs.Agreement.{BallotsHaveOneTape, ChosenIsOne, HeardIsVoted, HistoriesAgree, PromisesBind, ReportsAreGreatest, RipeIsChosen, VotesAreBacked, VotesAreOffered};
+ghost use Rattle.protocol.specs.Fitting.{HistoriesFit, TurnsFit};
 ghost use Rattle.protocol.specs.Readings.{NextDueIsLeast};
-ghost use Rattle.protocol.specs.Rehearsals.{NumbersAreRefused, OneMemberReleases, PacketsAreRefused, SavedVoteIsReleased, ThreeMembersRelease};
+ghost use Rattle.protocol.specs.Rehearsals.{NumbersAreRefused, OneMemberReleases, PacketsAreRefused, SavedVoteIsReleased, ThreeMembersRelease, TornUpgrades, VoteOutlivesUpgrades};
 ghost use Rattle.protocol.specs.Runs.{BallotsStandApart, BeginsAbovePromise, FallsDueAbove, FirstAcceptStands, FirstOfTwoReleases, GivesUp, GreaterReportIsTaken, LastRoundIsSpent, LeastMemberDecides, LowerIsNacked, OneFindsNothing, OneReleases, PassedIsOvertaken, ReleasedIsSettled, RepeatedVoteCountsOnce, SecondOfTwoReleases, ThirdTakesOver, VoteIsReported};
 ghost use Rattle.protocol.specs.Table.{TurnsAreAnAcceptors, TurnsAreOfTheTable};
 
@@ -26,6 +27,16 @@ pub fn next_due_is_least()
 /// The turn that is computed is one of the table.
 pub fn turns_are_of_the_table()
     ensures { TurnsAreOfTheTable }
+{}
+
+/// A turn makes no entry up: where what it was given fits a version, what it leaves, sends and releases does.
+pub fn turns_fit()
+    ensures { TurnsFit }
+{}
+
+/// In every history each member holds only what it can save and send at the version that it is at.
+pub fn histories_fit<D, G, F>()
+    ensures { HistoriesFit D G F }
 {}
 
 /// All votes and Accepts of one number and ballot carry one tape.
@@ -111,4 +122,14 @@ pub fn saved_vote_is_released<D, G, F>()
 /// Three members release what one of them is offered.
 pub fn three_members_release<D, G, F>()
     ensures { ThreeMembersRelease D G F }
+{}
+
+/// An upgrade that the store refuses leaves a station at version 1, or at version 2.
+pub fn torn_upgrades<D, G, F>()
+    ensures { TornUpgrades D G F }
+{}
+
+/// A vote that was saved at version 1 is found after its member went over.
+pub fn vote_outlives_upgrades<D, G, F>()
+    ensures { VoteOutlivesUpgrades D G F }
 {}

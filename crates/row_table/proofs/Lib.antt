@@ -8,4 +8,7 @@ pub mod GetLemmas
 pub mod AllLemmas
 pub mod RisingLemmas
 pub mod MakeLemmas
+pub mod EntryLemmas
+pub mod LoopLemmas
+pub mod TurnLemmas
 pub mod StationLemmas

@@ -2,3 +2,4 @@ pub mod Tables
 pub mod Rows
 pub mod Rising
 pub mod Station
+pub mod Entries

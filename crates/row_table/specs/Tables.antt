@@ -64,5 +64,31 @@ station_schema = record { tables = station ∷ []; indexes = []; views = [] }
 abbrev pub row_schema : Schema
 row_schema = record { tables = station ∷ acceptor_row ∷ []; indexes = []; views = [] }
 
+abbrev pub entries_tree : ℕ
+entries_tree = 2
+
+-- the table of entries, in layout 2
+abbrev pub acceptor_entry : Table
+acceptor_entry = record {
+  name = codes "acceptor_entry";
+  tree = entries_tree;
+  columns = optional_column (codes "number") ∷ number_column (codes "promised_round") ∷ number_column (codes "promised_owner")
+      ∷ optional_column (codes "vote_round") ∷ optional_column (codes "vote_owner") ∷ optional_column (codes "length")
+      ∷ (record { name = codes "packed"; kind = Blob; is_strict = true; not_null = false; default = Null; collation = Binary }) ∷ [];
+  key = Some 0;
+  primary = 0 ∷ [];
+  uniques = [];
+  orders = [];
+  checks = [];
+  references = [];
+  computed = [];
+  stamps = record { places = []; terms = []; formats = [] };
+  is_counted = false;
+}
+
+-- the schema of a database that went over: the old table of rows stays
+abbrev pub both_schema : Schema
+both_schema = record { tables = station ∷ acceptor_row ∷ acceptor_entry ∷ []; indexes = []; views = [] }
+
 abbrev pub no_schema : Schema
 no_schema = record { tables = []; indexes = []; views = [] }

@@ -5,8 +5,10 @@ mod rising;
 mod rows;
 mod station;
 mod tables;
+mod upgrading;
 
 pub use rising::are_rising;
 pub use rows::{all_rows, get_row, put_row};
 pub use station::get_station;
 pub use tables::create_tables;
+pub use upgrading::{EntryColumns, add_entries, add_entry, make_entries, set_layout, upgrade_tables};

@@ -131,13 +131,17 @@ pub free_at :
     → (was_released m marks ≡ false) × (open_proposal m marks ≡ None)
 free_at n m marks same h = subst (λ (k : ℕ). (was_released k marks ≡ false) × (open_proposal k marks ≡ None)) (sym same) (free n marks h)
 
+-- where its number is not refused, an entry that fits is not
+still_none : (o : Option Refusal) → o ≡ None → or_else o None ≡ None
+still_none o h = ap (λ (p : Option Refusal). or_else p None) h
+
 -- an offer that nothing refuses
 pub offered :
     {R : Type 0} (s : Station R) (marks : List Mark) (n m : ℕ) (tape t : List ℕ) (now : ℕ)
     → s.stopped ≡ false → refusals.number_refusal {D = PacketFault} {F = SetFault} n marks ≡ None → first_fault (mean s.table) s.widths tape ≡ None → m ≡ n → t ≡ tape
     → Asks s marks (refusals.Offering n tape now) (Offered m t now)
 offered s marks n m tape t now goes h sets same equal = record {
-  unrefused = last_refusal (setup_of s) s.stopped marks (refusals.Offering n tape now) goes h ∙ ap (λ (o : Option SetFault). refusals.setting_refusal (unless_faulty o)) sets;
+  unrefused = last_refusal (setup_of s) s.stopped marks (refusals.Offering n tape now) goes (still_none _ h) ∙ ap (λ (o : Option SetFault). refusals.setting_refusal (unless_faulty o)) sets;
   event = λ i. Some (Offered (sym same i) (sym equal i) now);
 }
 
@@ -146,7 +150,7 @@ pub offered_early :
     {R : Type 0} (s : Station R) (marks : List Mark) (n : ℕ) (tape : List ℕ) (now : ℕ)
     → s.stopped ≡ false → refusals.number_refusal {D = PacketFault} {F = SetFault} n marks ≡ None → AsksEarly s marks (refusals.Offering n tape now) (Offered n tape now)
 offered_early s marks n tape now goes h = record {
-  unrefused = early_none (setup_of s) s.stopped marks (refusals.Offering n tape now) goes h;
+  unrefused = early_none (setup_of s) s.stopped marks (refusals.Offering n tape now) goes (still_none _ h);
   event = refl;
 }
 
@@ -236,6 +240,12 @@ refused_early x call s marks r goes h =
     ∙ known_refusal (refusals.call_refusal (setup_of s) marks call) (refusals.tape_refusal (setup_of s) call) r h in
     refused x call s marks r (subst (λ (o : Option Refusal). IsRefusal o r) (sym whole) h)
 
+-- an offer that is refused for its number
+pub refused_number :
+    {R : Type 0} (s : Station R) (marks : List Mark) (n : ℕ) (tape : List ℕ) (now : ℕ) (r : StepRefusal)
+    → IsRefusal (refusals.number_refusal n marks) r → IsRefusal (refusals.call_refusal (setup_of s) marks (refusals.Offering n tape now)) r
+refused_number s marks n tape now r h = subst (λ (o : Option Refusal). IsRefusal o r) (sym (known_refusal (refusals.number_refusal n marks) None r h)) h
+
 -- an offer whose tape has a fault here
 pub refused_faulty :
     {R : Type 0} (x : Sight R) (s : Station R) (marks : List Mark) (n : ℕ) (tape : List ℕ) (now : ℕ) (fault : SetFault)
@@ -243,7 +253,7 @@ pub refused_faulty :
     → Steps x (refusals.Offering n tape now) s s marks (Err (TapeFaulty fault))
 refused_faulty x s marks n tape now fault goes h faulty =
     refused x (refusals.Offering n tape now) s marks (TapeFaulty fault)
-    (last_refusal (setup_of s) s.stopped marks (refusals.Offering n tape now) goes h ∙ ap (λ (o : Option SetFault). refusals.setting_refusal (unless_faulty o)) faulty)
+    (last_refusal (setup_of s) s.stopped marks (refusals.Offering n tape now) goes (still_none _ h) ∙ ap (λ (o : Option SetFault). refusals.setting_refusal (unless_faulty o)) faulty)
 
 -- the same, handed on by a `?`
 pub handed_on :

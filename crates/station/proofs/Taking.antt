@@ -8,6 +8,7 @@ use Rattle.protocol.specs.Packets.{Packet}
 use Rattle.protocol.specs.Marks.{Mark}
 use Rattle.protocol.specs.Turn as said
 use Rattle.acceptor_store.specs.Saved.{Saved, SameRows, WithRow, with_row}
+use Rattle.acceptor_store.specs.declared.fault.RowsFault.{RowsFault}
 use Rattle.node_core.specs.Standing.{Core, StandsFor}
 use Rattle.node_core.specs.Turns.{note_value, IsTurn, IsRowAfter}
 use Rattle.node_core.specs.declared.turn.Turn.{Turn}
@@ -92,9 +93,9 @@ module _ {R : Type 0} (x : Sight R) (e : said.Event) (old : Station R) (marks : 
         note = ap note_value s.3 ∙ k.gives.note;
       }
 
-  balked : (o : Option Row) → IsRowAfter row k.taken.row o → RowBalked x (said.number_of e) o mid new → AtSave x e old marks new
-  balked None l s = absurd s
-  balked (Some r) l s = record {
+  balked : (o : Option Row) (fault : RowsFault) → IsRowAfter row k.taken.row o → RowBalked x (said.number_of e) o fault mid new → AtSave x e old marks new fault
+  balked None fault l s = absurd s
+  balked (Some r) fault l s = record {
     taken = k.taken;
     is_turn = is_saved_turn;
     changes = λ same. l.1 (sym l.0 ∙ (same ∙ sym is_its_row));
@@ -106,6 +107,7 @@ module _ {R : Type 0} (x : Sight R) (e : said.Event) (old : Station R) (marks : 
       was_open = s.1;
       tells = rw l.0 s.0;
       either = rw l.0 s.2;
+      blames = s.3;
     };
   }
 
@@ -114,7 +116,7 @@ module _ {R : Type 0} (x : Sight R) (e : said.Event) (old : Station R) (marks : 
       (after : Station R) (r : StepRefusal) → IsFixed old after → after.stopped ≡ true → StandsFor after.core [] → after.rows ≡ new
       → Saves x old.table old.widths (said.number_of e) move mid new (Err r) → Ends x e old after marks (Err r)
   torn after (Store fault) fixed stops none rows s =
-      record { fixed = fixed; stops = stops; stands_for = none; at = inr (subst (λ (q : R). AtSave x e old marks q) (sym rows) (balked move.row k.gives.row_after s)) }
+      record { fixed = fixed; stops = stops; stands_for = none; at = inr (subst (λ (q : R). AtSave x e old marks q fault) (sym rows) (balked move.row fault k.gives.row_after s)) }
   torn after OutOfMemory fixed stops none rows s =
       record { fixed = fixed; stops = stops; stands_for = none; rows = inr (subst (λ (q : R). WasRead x old.rows q) (sym (rows ∙ s)) k.read) }
   torn after Stopped fixed stops none rows s = absurd s

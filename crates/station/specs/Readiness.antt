@@ -7,6 +7,7 @@ use Rattle.protocol.specs.Rows.{Tape, Row}
 use Rattle.protocol.specs.Packets.{Packet}
 use Rattle.protocol.specs.Circuit.{Datagram}
 use Rattle.acceptor_store.specs.Saved.{WithRow, IsEither}
+use Rattle.acceptor_store.specs.declared.fault.RowsFault.{RowsFault}
 use Rattle.packets.specs.Reading.{packet_at}
 use Rattle.code_table.specs.Tables.{Places, mean}
 use Rattle.widths.specs.Widths.{WidthFile}
@@ -43,15 +44,15 @@ RowSaved x n (Some row) old new =
     x.passes old new × x.is_open new × (x.is_open new → x.is_open old) × WithRow (x.saved old) n row (x.saved new)
 
 -- the rows after a save that was refused
-abbrev pub RowBalked : {R : Type 0} → Sight R → ℕ → Option Row → R → R → Type 0
-RowBalked x n None old new = ⊥
-RowBalked x n (Some row) old new =
-    x.tells old new n row × (x.is_open new → x.is_open old) × ((¬ x.is_open new) ⊎ IsEither (x.saved old) n row (x.saved new))
+abbrev pub RowBalked : {R : Type 0} → Sight R → ℕ → Option Row → RowsFault → R → R → Type 0
+RowBalked x n None fault old new = ⊥
+RowBalked x n (Some row) fault old new =
+    x.tells old new n row × (x.is_open new → x.is_open old) × ((¬ x.is_open new) ⊎ IsEither (x.saved old) n row (x.saved new)) × x.blames old new fault
 
 -- what is handed out was ready before the row was saved
 abbrev pub Saves : {R : Type 0} → Sight R → Places → WidthFile → ℕ → Turn → R → R → Result Answer StepRefusal → Type 0
 Saves x table widths n turn old new (Ok a) =
     RowSaved x n turn.row old new × AllZip Carries turn.out.items a.out.items × IsReleased table widths n turn.release a.release × (a.note ≡ turn.note)
-Saves x table widths n turn old new (Err (Store fault)) = RowBalked x n turn.row old new
+Saves x table widths n turn old new (Err (Store fault)) = RowBalked x n turn.row fault old new
 Saves x table widths n turn old new (Err OutOfMemory) = new ≡ old
 Saves x table widths n turn old new (Err _) = ⊥

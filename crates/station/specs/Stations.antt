@@ -1,8 +1,11 @@
 -- A station: how it is set up, and the words of its rows.
 use Rattle.std.specs.Prelude.{◌≡◌, ℕ, Option, Some, None, Result, Ok, Err}
 use Rattle.protocol.specs.Rows.{Row}
+use Rattle.protocol.specs.Versions.{Two, fits}
 use Rattle.protocol.specs.Refusals.{Setup}
 use Rattle.acceptor_store.specs.Saved.{Saved}
+use Rattle.acceptor_store.specs.declared.fault.RowsFault.{RowsFault}
+use Rattle.acceptor_store.specs.declared.rows.Rows.{Ghosts}
 use Rattle.code_table.specs.Tables.{mean}
 use Rattle.packets.specs.Reading.{packet_at}
 use Rattle.packets.specs.declared.fault.PacketFault.{PacketFault}
@@ -18,11 +21,10 @@ pub record Sight (R : Type 0) : Type 1 where
   pub alike : R → R → Type 0
   pub passes : R → R → Type 0
   pub tells : R → R → ℕ → Row → Type 0
+  pub blames : R → R → RowsFault → Type 0
 
-abbrev pub sight :
-    {R : Type 0} → (R → Type 0) → (R → Type 0) → (R → Saved) → (R → R → Type 0) → (R → R → Type 0) → (R → R → ℕ → Row → Type 0) → Sight R
-sight kept is_open saved alike passes tells =
-    record { kept = kept; is_open = is_open; saved = saved; alike = alike; passes = passes; tells = tells }
+abbrev pub sight : {R : Type 0} → Ghosts R → Sight R
+sight g = record { kept = g.kept; is_open = g.is_open; saved = g.saved; alike = g.alike; passes = g.passes; tells = g.tells; blames = g.blames }
 
 -- a tape sets where it has no first fault
 abbrev pub unless_faulty : Option SetFault → Result (Unit {0}) SetFault
@@ -33,7 +35,7 @@ unless_faulty (Some fault) = Err fault
 -- and whether a tape sets by its own code table and widths
 abbrev pub setup_of : {R : Type 0} → Station R → Setup PacketFault (Unit {0}) SetFault
 setup_of s =
-    record { circuit = s.core.circuit; count = s.core.members; me = s.core.me; reads = packet_at; sets = λ tape. unless_faulty (first_fault (mean s.table) s.widths tape) }
+    record { circuit = s.core.circuit; count = s.core.members; me = s.core.me; reads = packet_at; fits = fits Two; sets = λ tape. unless_faulty (first_fault (mean s.table) s.widths tape) }
 
 -- the circuit, the count, which member it is, the code table and the widths stay
 pub record IsFixed {R : Type 0} (old new : Station R) : Type 0 where

@@ -7,6 +7,7 @@ use Rattle.protocol.specs.Proposals.{was_released, open_proposal}
 use Rattle.protocol.specs.Turn.{Event, Offered, Sought, Came_due, Arrived, number_of, Note_idle, Turn, turn}
 use Rattle.protocol.specs.Refusals.{Call, refusal, early_refusal, event_of}
 use Rattle.acceptor_store.specs.Saved.{SameRows, WithRow, IsEither}
+use Rattle.acceptor_store.specs.declared.fault.RowsFault.{RowsFault}
 use Rattle.node_core.specs.Standing.{StandsFor}
 use Rattle.node_core.specs.Turns.{note_value}
 use Rattle.station.specs.declared.answer.Answer.{Answer}
@@ -29,14 +30,15 @@ pub record WasSaved {R : Type 0} (x : Sight R) (old new : R) : Type 0 where
   pub read : WasRead x old mid
   pub passes : x.passes mid new
 
--- rows that were read, of which a save was refused
-pub record WasBalked {R : Type 0} (x : Sight R) (old new : R) (n : ℕ) (row : Row) : Type 0 where
+-- rows that were read, of which a save was refused with this fault
+pub record WasBalked {R : Type 0} (x : Sight R) (old new : R) (n : ℕ) (row : Row) (fault : RowsFault) : Type 0 where
   pub mid : R
   pub mid_open : x.is_open mid
   pub read : WasRead x old mid
   pub was_open : x.is_open new → x.is_open mid
   pub tells : x.tells mid new n row
   pub either : (¬ x.is_open new) ⊎ IsEither (x.saved mid) n row (x.saved new)
+  pub blames : x.blames mid new fault
 
 -- the turn of this event at the saved row of its number, if there is one
 abbrev pub turn_of : {R : Type 0} → Sight R → Station R → List Mark → Event → Option Turn
@@ -57,20 +59,20 @@ pub record Done {R : Type 0} (x : Sight R) (e : Event) (old new : Station R) (ma
   pub release : IsReleased old.table old.widths (number_of e) taken.release a.release
   pub note : note_value a.note ≡ taken.note
 
--- the save of the turn's row was refused
-pub record AtSave {R : Type 0} (x : Sight R) (e : Event) (old : Station R) (marks : List Mark) (rows : R) : Type 0 where
+-- the save of the turn's row was refused with this fault
+pub record AtSave {R : Type 0} (x : Sight R) (e : Event) (old : Station R) (marks : List Mark) (rows : R) (fault : RowsFault) : Type 0 where
   pub taken : Turn
   pub is_turn : turn_of x old marks e ≡ Some taken
   pub changes : ¬ (taken.row ≡ x.saved old.rows (number_of e))
   pub was_open : x.is_open old.rows
-  pub balked : WasBalked x old.rows rows (number_of e) taken.row
+  pub balked : WasBalked x old.rows rows (number_of e) taken.row fault
 
--- the store refused: the station stops and forgets what it took in
-pub record TornByStore {R : Type 0} (x : Sight R) (e : Event) (old new : Station R) (marks : List Mark) : Type 0 where
+-- the store refused with this fault: the station stops and forgets what it took in
+pub record TornByStore {R : Type 0} (x : Sight R) (e : Event) (old new : Station R) (marks : List Mark) (fault : RowsFault) : Type 0 where
   pub fixed : IsFixed old new
   pub stops : new.stopped ≡ true
   pub stands_for : StandsFor new.core []
-  pub at : WasRead x old.rows new.rows ⊎ AtSave x e old marks new.rows
+  pub at : (WasRead x old.rows new.rows × x.blames old.rows new.rows fault) ⊎ AtSave x e old marks new.rows fault
 
 -- memory was refused before any save: the station stops and forgets what it took in
 pub record TornByMemory {R : Type 0} (x : Sight R) (old new : Station R) : Type 0 where
@@ -96,7 +98,7 @@ IsFree marks (Arrived p now) = Unit {0}
 -- how an event ends that nothing refused
 abbrev pub Ends : {R : Type 0} → Sight R → Event → Station R → Station R → List Mark → Result Answer StepRefusal → Type 0
 Ends x e old new marks (Ok a) = Done x e old new marks a
-Ends x e old new marks (Err (Store fault)) = TornByStore x e old new marks
+Ends x e old new marks (Err (Store fault)) = TornByStore x e old new marks fault
 Ends x e old new marks (Err OutOfMemory) = TornByMemory x old new
 Ends x e old new marks (Err RoundsSpent) = Spent x e old new marks
 Ends x e old new marks (Err _) = ⊥
@@ -127,7 +129,7 @@ Refuses old new marks call r = IsRefusal (refusal (setup_of old) old.stopped mar
 -- one step of a station whose core stands for these marks
 abbrev pub Steps : {R : Type 0} → Sight R → Call → Station R → Station R → List Mark → Result Answer StepRefusal → Type 0
 Steps x call old new marks (Ok a) = Idles old new marks call a ⊎ ((e : Event) × Asks old marks call e × Done x e old new marks a)
-Steps x call old new marks (Err (Store fault)) = (e : Event) × Asks old marks call e × TornByStore x e old new marks
+Steps x call old new marks (Err (Store fault)) = (e : Event) × Asks old marks call e × TornByStore x e old new marks fault
 Steps x call old new marks (Err OutOfMemory) = (e : Event) × AsksEarly old marks call e × TornByMemory x old new
 Steps x call old new marks (Err RoundsSpent) = (e : Event) × Asks old marks call e × Spent x e old new marks
 Steps x call old new marks (Err Stopped) = Refuses old new marks call Stopped

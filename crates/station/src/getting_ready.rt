@@ -74,8 +74,9 @@ pub(crate) fn save<R: Rows>(
     turn: Turn,
 ) -> Result<Answer, StepRefusal>
     requires { IfSome turn.row HasPromise }
-    ensures saves { R.kept rows.new → Saves (sight R.kept R.is_open R.saved R.alike R.passes R.tells) table.now widths.now number turn rows.old rows.new result }
+    ensures saves { R.kept rows.new → Saves (sight R.Rows) table.now widths.now number turn rows.old rows.new result }
     ensures was_kept { R.kept rows.new → R.kept rows.old }
+    ensures made { R.made rows.old → R.made rows.new }
     ensures many { IfOk result (λ a. length a.out.items ≡ length turn.out.items) }
     ensures cause { OnStore result (Rises (R.refusals rows.old) (R.refusals rows.new)) }
     ensures counts { R.refusals rows.old ≤ R.refusals rows.new }

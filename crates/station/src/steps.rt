@@ -30,8 +30,9 @@ impl<R: Rows> Station<R> {
     /// `TapeFaulty`, `RoundsSpent`; `Store` and `OutOfMemory` stop the station.
     pub fn offer(&mut self, number: u32, tape: &Tape, now: u64) -> Result<Answer, StepRefusal>
         ensures steps { R.kept self.new.rows → (marks : List Mark) → StandsFor self.old.core marks
-            → Steps (sight R.kept R.is_open R.saved R.alike R.passes R.tells) (Offering number tape.now now) self.old self.new marks result }
+            → Steps (sight R.Rows) (Offering number tape.now now) self.old self.new marks result }
         ensures was_kept { R.kept self.new.rows → R.kept self.old.rows }
+        ensures made { R.made self.old.rows → R.made self.new.rows }
         ensures few { IfOk result (λ a. length a.out.items ≤ 28) }
         ensures cause { OnStore result (Rises (R.refusals self.old.rows) (R.refusals self.new.rows)) }
         ensures stops { self.new.stopped ≡ stopped_after self.old.stopped result }
@@ -58,8 +59,9 @@ impl<R: Rows> Station<R> {
     /// `RoundsSpent`; `Store` and `OutOfMemory` stop the station.
     pub fn seek(&mut self, number: u32, now: u64) -> Result<Answer, StepRefusal>
         ensures steps { R.kept self.new.rows → (marks : List Mark) → StandsFor self.old.core marks
-            → Steps (sight R.kept R.is_open R.saved R.alike R.passes R.tells) (Seeking number now) self.old self.new marks result }
+            → Steps (sight R.Rows) (Seeking number now) self.old self.new marks result }
         ensures was_kept { R.kept self.new.rows → R.kept self.old.rows }
+        ensures made { R.made self.old.rows → R.made self.new.rows }
         ensures few { IfOk result (λ a. length a.out.items ≤ 28) }
         ensures cause { OnStore result (Rises (R.refusals self.old.rows) (R.refusals self.new.rows)) }
         ensures stops { self.new.stopped ≡ stopped_after self.old.stopped result }
@@ -78,8 +80,9 @@ impl<R: Rows> Station<R> {
     /// Refused as `Stopped`; `Store` and `OutOfMemory` stop the station.
     pub fn due(&mut self, now: u64) -> Result<Answer, StepRefusal>
         ensures steps { R.kept self.new.rows → (marks : List Mark) → StandsFor self.old.core marks
-            → Steps (sight R.kept R.is_open R.saved R.alike R.passes R.tells) (Falling_due now) self.old self.new marks result }
+            → Steps (sight R.Rows) (Falling_due now) self.old self.new marks result }
         ensures was_kept { R.kept self.new.rows → R.kept self.old.rows }
+        ensures made { R.made self.old.rows → R.made self.new.rows }
         ensures few { IfOk result (λ a. length a.out.items ≤ 28) }
         ensures cause { OnStore result (Rises (R.refusals self.old.rows) (R.refusals self.new.rows)) }
         ensures stops { self.new.stopped ≡ stopped_after self.old.stopped result }
@@ -100,8 +103,9 @@ impl<R: Rows> Station<R> {
     /// `Store` and `OutOfMemory` stop the station.
     pub fn receive(&mut self, bytes: &[u8], now: u64) -> Result<Answer, StepRefusal>
         ensures steps { R.kept self.new.rows → (marks : List Mark) → StandsFor self.old.core marks
-            → Steps (sight R.kept R.is_open R.saved R.alike R.passes R.tells) (Receiving bytes.now now) self.old self.new marks result }
+            → Steps (sight R.Rows) (Receiving bytes.now now) self.old self.new marks result }
         ensures was_kept { R.kept self.new.rows → R.kept self.old.rows }
+        ensures made { R.made self.old.rows → R.made self.new.rows }
         ensures few { IfOk result (λ a. length a.out.items ≤ 28) }
         ensures cause { OnStore result (Rises (R.refusals self.old.rows) (R.refusals self.new.rows)) }
         ensures stops { self.new.stopped ≡ stopped_after self.old.stopped result }
@@ -117,10 +121,7 @@ impl<R: Rows> Station<R> {
         let (circuit, members, me) = (self.core.circuit(), self.core.members(), self.core.me());
         check_packet(circuit, members, me, &packet)?;
         let number = packet.number();
-        match packet.copy(self.alloc) {
-            Ok(packet) => self.take(number, Event::Arrived { packet, now }),
-            Err(_) => Err(self.stop(StepRefusal::OutOfMemory)),
-        }
+        self.take(number, Event::Arrived { packet, now })
     }
 
     /// The number, where it is one that can be asked for.
@@ -144,13 +145,14 @@ impl<R: Rows> Station<R> {
 
     /// Takes the turn of an event at its number's saved row, and saves the row before anything is handed out.
     #[tactic(auto, using(crate::proofs::Refused::spent_stays, crate::proofs::Refused::spent_none, crate::proofs::Refused::not_released, crate::proofs::Refused::not_open))]
-    fn take(&mut self, number: Number, event: Event) -> Result<Answer, StepRefusal>
+    fn take(&mut self, number: Number, event: Event<'_>) -> Result<Answer, StepRefusal>
         requires goes { self.old.stopped ≡ false }
         requires number { number_of (event_value event) ≡ number }
         requires arrived { MayCome self.old.core.me self.old.core.members event }
-        ensures takes { R.kept self.new.rows → (marks : List Mark) → StandsFor self.old.core marks → IsFree marks (event_value event)
-            → Ends (sight R.kept R.is_open R.saved R.alike R.passes R.tells) (event_value event) self.old self.new marks result }
+        ensures takes { R.kept self.new.rows → (marks : List Mark) → StandsFor self.old.core marks → IsFree marks (event_value event.entry)
+            → Ends (sight R.Rows) (event_value event.entry) self.old self.new marks result }
         ensures was_kept { R.kept self.new.rows → R.kept self.old.rows }
+        ensures made { R.made self.old.rows → R.made self.new.rows }
         ensures few { IfOk result (λ a. length a.out.items ≤ 28) }
         ensures cause { OnStore result (Rises (R.refusals self.old.rows) (R.refusals self.new.rows)) }
         ensures stops { self.new.stopped ≡ stopped_after self.old.stopped result }

@@ -5,7 +5,7 @@ use Rattle.protocol.specs.Lists.{or_else}
 use Rattle.protocol.specs.Rows.{Tape}
 use Rattle.protocol.specs.Marks.{Mark}
 use Rattle.protocol.specs.Proposals.{next_due}
-use Rattle.protocol.specs.Refusals.{Setup, Call, Offering, Seeking, Falling_due, Receiving, Refusal, Stopped, reading_refusal, call_refusal, early_refusal, setting_refusal, tape_refusal, refusal, due_event, arrival, event_of}
+use Rattle.protocol.specs.Refusals.{Setup, Call, Offering, Seeking, Falling_due, Receiving, Refusal, Stopped, reading_refusal, number_refusal, wire_refusal, call_refusal, early_refusal, setting_refusal, tape_refusal, refusal, due_event, arrival, event_of}
 use Rattle.packets.specs.declared.fault.PacketFault.{PacketFault}
 use Rattle.widths.specs.Widths.{WidthFile}
 use Rattle.slug_reader.specs.Meanings.{Meanings}
@@ -22,9 +22,9 @@ faulty_alike means widths tape (Ok slugs) h = sym (ap (λ (o : Option SetFault).
 faulty_alike means widths tape (Err fault) h = sym (ap (λ (o : Option SetFault). setting_refusal {D = PacketFault} (unless_faulty o)) h)
 
 module _ {D F G H : Type 0} (a : Setup D G F) (b : Setup D H F) (circuit : a.circuit ≡ b.circuit) (count : a.count ≡ b.count) (me : a.me ≡ b.me)
-    (reads : (bytes : List ℕ) → a.reads bytes ≡ b.reads bytes) (sets : (tape : Tape) → setting_refusal {D = D} (a.sets tape) ≡ setting_refusal {D = D} (b.sets tape)) where
+    (reads : (bytes : List ℕ) → a.reads bytes ≡ b.reads bytes) (fits : (tape : Tape) → a.fits tape ≡ b.fits tape) (sets : (tape : Tape) → setting_refusal {D = D} (a.sets tape) ≡ setting_refusal {D = D} (b.sets tape)) where
   call_alike : (marks : List Mark) (call : Call) → call_refusal a marks call ≡ call_refusal b marks call
-  call_alike marks (Offering n tape now) = refl
+  call_alike marks (Offering n tape now) = ap (λ (f : Bool). or_else (number_refusal n marks) (wire_refusal f)) (fits tape)
   call_alike marks (Seeking n now) = refl
   call_alike marks (Falling_due now) = refl
   call_alike marks (Receiving bytes now) = λ i. reading_refusal (circuit i) (count i) (me i) (reads bytes i)

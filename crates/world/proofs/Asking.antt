@@ -28,9 +28,9 @@ use Rattle.world.specs.declared.step.WorldRefusal.{WorldRefusal}
 use Rattle.world.specs.Setups.{StationCircuit, StationState}
 use Rattle.world.specs.Worlds.{count_of, IsSame, station_at}
 use Rattle.world.specs.Taking.{step_value, outcome_value, was_taken, offers_after, actor, missing_in, IsReason, Tells}
-use Rattle.world.specs.Reach.{AllKept, StandsFor, Moves}
+use Rattle.world.specs.Reach.{AllKept, AllMade, StandsFor, Moves}
 use Rattle.world.specs.Logging.{logged, offered_of, out_of, outcome_of, released_of, seen_of, was_released}
-use Rattle.world.proofs.Members.{Changes, kept_here, kept_before, some_is}
+use Rattle.world.proofs.Members.{Changes, kept_here, kept_before, made_after, some_is}
 use Rattle.world.proofs.Turning.{balky_sight, stood}
 use Rattle.world.proofs.Stepping.{offers_of, answered}
 
@@ -52,6 +52,7 @@ still {R = R} is_open saved v v' same z w h = record {
   set_up = h.set_up;
   count = h.count ∙ ap (λ (l : List (Station (Balky R))). length l) (sym stations);
   each = λ m s at_m. h.each m s (station_is m s at_m);
+  two = h.two;
   sent = h.sent ∙ sym same.sent;
   offers = h.offers ∙ sym same.offers;
   releases = h.releases ∙ sym same.releases;
@@ -70,6 +71,13 @@ same_kept {R = R} kept v v' same all m s at_m = all m s (there m at_m)
     there : (k : ℕ) → station_at v k ≡ Some s → station_at v' k ≡ Some s
     there zero at_k = at_k
     there (suc i) at_k = ap (λ q. slice_get q.items i) same.stations ∙ at_k
+
+pub same_made : {R : Type 0} (made : R → Type 0) (v v' : World R) → IsSame v v' → AllMade made v → AllMade made v'
+same_made {R = R} made v v' same all m s at_m = all m s (there m at_m)
+  where
+    there : (k : ℕ) → station_at v' k ≡ Some s → station_at v k ≡ Some s
+    there zero at_k = at_k
+    there (suc i) at_k = ap (λ q. slice_get q.items i) (sym same.stations) ∙ at_k
 
 -- the step asks member m this call: of a world with this count and these datagrams
 pub record Brings {R : Type 0} (v : World R) (step : Step) (m : ℕ) (call : Call) : Type 0 where
@@ -170,6 +178,12 @@ module _ {R : Type 0} (v v1 v' : World R) (step : Step) (m : ℕ) (call : Call) 
 
     pub asked_kept : (x.kept s'.rows.rows → x.kept s.rows.rows) → AllKept x.kept v' → AllKept x.kept v
     asked_kept was all = same_kept x.kept v v1 same (kept_before v1 v' i m s s' ch x.kept was all)
+
+-- what was made stays so, where one station was asked of a world that grew only in room
+pub asked_made :
+    {R : Type 0} (made : R → Type 0) (v v1 v' : World R) (i m : ℕ) (s s' : Station (Balky R)) → IsSame v v1 → Changes v1 v' i m s s' → (made s.rows.rows → made s'.rows.rows)
+    → AllMade made v → AllMade made v'
+asked_made made v v1 v' i m s s' same ch stays all = made_after v1 v' i m s s' ch made stays (same_made made v v1 same all)
 
 -- one station was changed of a world that grew only in room
 pub changed_in :

@@ -1,15 +1,22 @@
 -- A world in which nothing has happened yet stands for a fresh state.
-use Rattle.std.proofs.Common.{◌≡◌, ℕ, zero, suc, ◌⊎◌, inl, inr, refl, sym, ap, subst, ◌∙◌, List, [], ◌∷◌, ◌++◌, Some, None, length}
-use Rattle.std.specs.Prelude.{slice_get}
+use Rattle.protocol.specs.Versions.{Two}
+use Rattle.std.proofs.Common.{◌≡◌, ℕ, zero, suc, ◌<◌, ◌≤◌, ◌⊎◌, inl, inr, refl, sym, ap, subst, ◌∙◌, arith, List, [], ◌∷◌, ◌++◌, Some, None, length, get_or}
+use Rattle.std.specs.Prelude.{◌↔◌, slice_get}
+use Rattle.std.proofs.lemmas.Option.{slice_get_within}
 use Rattle.protocol.specs.Circuit.{fresh, starts}
 use Rattle.acceptor_store.specs.Saved.{Saved}
+use Rattle.code_table.specs.Tables.{Places}
+use Rattle.widths.specs.Widths.{WidthFile}
 use Rattle.acceptor_store.specs.declared.balky.Balky.{Balky}
+use Rattle.acceptor_store.specs.declared.rows.Rows.{Ghosts}
 use Rattle.station.specs.declared.station.Station.{Station}
 use Rattle.world.specs.declared.world.World.{World}
 use Rattle.world.specs.Setups.{StationCircuit}
 use Rattle.world.specs.Worlds.{station_at}
-use Rattle.world.specs.Reach.{Shows, StandsFor, Reached}
-use Rattle.world.specs.Founding.{Part, IsNew, AreNew, IsFounded, AreBlank, IsCircuitOf}
+use Rattle.world.specs.Reach.{AllHonest, AllMade, Shows, StandsFor, Reached, IsReached}
+use Rattle.world.specs.Laws.{CircuitsExist}
+use Rattle.world.specs.Founding.{Part, IsNew, AreNew, IsFounded, AreBlank, IsNewlyMade, AreNewlyMade, IsCircuitOf}
+use Rattle.world.proofs.Reaching.{found}
 use Rattle.world.proofs.Members.{some_is}
 use Rattle.world.proofs.Turning.{same_state}
 
@@ -46,7 +53,7 @@ more {R = R} k c parts stations part s same all new i t at_i = elim (grown stati
 
 module _ {R : Type 0} (is_open : R → Type 0) (saved : R → Saved) (k : ℕ) (parts : List (Part R)) (v : World R) (f : IsFounded k parts v) (blank_rows : AreBlank is_open saved parts)
     (z : StationCircuit) (of : IsCircuitOf k parts z) where
-  shows : (i : ℕ) (s : Station (Balky R)) → slice_get v.stations.items i ≡ Some s → Shows is_open saved of.tables of.files z fresh (suc i) s
+  shows : (i : ℕ) (s : Station (Balky R)) → slice_get v.stations.items i ≡ Some s → Shows is_open saved of.tables of.files z (fresh (λ k. Two)) (suc i) s
   shows i s at_i =
       let p = f.stations i s at_i in
       let new : IsNew k (length parts) (suc i) p.0 s = p.2 in
@@ -62,24 +69,91 @@ module _ {R : Type 0} (is_open : R → Type 0) (saved : R → Saved) (k : ℕ) (
         armed = new.unarmed;
       }
 
-  each : (m : ℕ) (s : Station (Balky R)) → station_at v m ≡ Some s → Shows is_open saved of.tables of.files z fresh m s
+  each : (m : ℕ) (s : Station (Balky R)) → station_at v m ≡ Some s → Shows is_open saved of.tables of.files z (fresh (λ k. Two)) m s
   each zero s at_m = absurd (no_item at_m)
   each (suc i) s at_m = shows i s at_m
 
-  pub founded : StandsFor is_open saved z v fresh
+  pub founded : StandsFor is_open saved z v (fresh (λ k. Two))
   founded = record {
     tables = of.tables;
     files = of.files;
     set_up = of.set_up;
     count = of.count ∙ sym f.count;
     each = each;
+    two = λ k. refl;
     sent = sym f.sent;
     offers = sym f.offers;
     releases = sym f.releases;
   }
 
-  pub founded_reached : Reached is_open saved z v
-  founded_reached = (fresh, founded, starts (same_state fresh))
+  founded_reached : Reached is_open saved z v
+  founded_reached = (fresh (λ k. Two), founded, starts (λ k. Two) (same_state (fresh (λ k. Two))))
+
+-- one member more whose rows were just made
+pub newly_more : {R : Type 0} (g : Ghosts R) (parts : List (Part R)) (part : Part R) → AreNewlyMade g parts → IsNewlyMade g part.2 → AreNewlyMade g (parts ++ part ∷ [])
+newly_more {R = R} g parts part all new i q at_i = elim (grown parts part i q at_i) [
+  | inl before ↦ all i q before
+  | inr now ↦ subst (λ (p : Part R). IsNewlyMade g p.2) now.1 new
+]
+
+pub newly_none : {R : Type 0} (g : Ghosts R) → AreNewlyMade g []
+newly_none g i q at_i = absurd (no_item at_i)
+
+get_is : {X : Type 0} (xs : List X) (i : ℕ) (d x : X) → slice_get xs i ≡ Some x → get_or xs i d ≡ x
+get_is [] i d x e = absurd (no_item e)
+get_is (y ∷ ys) zero d x e = some_is e
+get_is (y ∷ ys) (suc i) d x e = get_is ys i d x e
+
+abbrev place : ℕ → ℕ
+place zero = zero
+place (suc i) = i
+
+-- there is a circuit of these parts
+circuit_of : {R : Type 0} → CircuitsExist → (k : ℕ) (parts : List (Part R)) → 1 ≤ length parts → (z : StationCircuit) × IsCircuitOf k parts z
+circuit_of exist k [] low = absurd (omega (arith, low))
+circuit_of {R = R} exist k (d ∷ ds) low =
+    let parts : List (Part R) = d ∷ ds in
+    let tables : ℕ → Places = λ m. (get_or parts (place m) d).0 in
+    let files : ℕ → WidthFile = λ m. (get_or parts (place m) d).1 in
+    let p = exist k (length parts) tables files in (
+      p.0,
+      record {
+        tables = tables;
+        files = files;
+        set_up = p.3;
+        number = p.1;
+        count = p.2;
+        table = λ i part e. ap (λ (q : Part R). q.0) (get_is parts i d part e);
+        widths = λ i part e. ap (λ (q : Part R). q.1) (get_is parts i d part e);
+      },
+    )
+
+module _ {R : Type 0} (g : Ghosts R) (halves : (s : R) → g.kept s ↔ (g.honest s × g.made s)) (exist : CircuitsExist) (k : ℕ) (parts : List (Part R)) (v : World R) (some : 1 ≤ length parts)
+    (f : IsFounded k parts v) (new : AreNewlyMade g parts) where
+  newly_made : AllMade g.made v
+  newly_made zero s at_m = absurd (no_item at_m)
+  newly_made (suc i) s at_m = let p = f.stations i s at_m in subst (λ (r : R). g.made r) (sym p.2.rows) (new i p.0 p.1).0
+
+  newly_blank : AllHonest g.honest v → AreBlank g.is_open g.saved parts
+  newly_blank honest i part at_i =
+      let within : i < length parts = slice_get_within parts i part at_i in
+      let many : length v.stations.items ≡ length parts = f.count in
+      let s = found v.stations.items i (omega (arith, within, many)) in
+      let p = f.stations i s.0 s.1 in
+      let is : p.0 ≡ part = some_is (sym p.1 ∙ at_i) in
+      let rows : s.0.rows.rows ≡ part.2 = p.2.rows ∙ ap (λ (q : Part R). q.2) is in
+      let here : g.honest part.2 = subst (λ (r : R). g.honest r) rows (honest (suc i) s.0 s.1) in
+      let its = new i part at_i in
+      its.1 ((halves part.2).1 (here, its.0))
+
+  -- a world over rows that were just made for its members
+  pub newly_reached : IsReached g v
+  newly_reached = record {
+    made = newly_made;
+    reached = λ honest.
+        let z = circuit_of exist k parts some in
+        (z.0, founded_reached g.is_open g.saved k parts v f (newly_blank honest) z.0 z.1);
+  }
 
 -- stations of all parts, and empty logs
 pub are_founded :

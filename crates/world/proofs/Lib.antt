@@ -8,3 +8,4 @@ pub mod Reaching
 pub mod Founding
 pub mod Asking
 pub mod Existing
+pub mod Databases

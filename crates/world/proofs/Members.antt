@@ -13,7 +13,7 @@ use Rattle.station.specs.declared.station.Station.{Station}
 use Rattle.world.specs.declared.world.World.{World}
 use Rattle.world.specs.Setups.{StationCircuit, StationState}
 use Rattle.world.specs.Worlds.{station_at}
-use Rattle.world.specs.Reach.{AllKept, Shows, StandsFor}
+use Rattle.world.specs.Reach.{AllKept, AllMade, Shows, StandsFor}
 
 got_same : {X : Type 0} (xs : List X) (i : ℕ) (y : X) → i < length xs → slice_get (slice_set xs i y) i ≡ Some y
 got_same xs i y l =
@@ -59,6 +59,7 @@ pub record Changes {R : Type 0} (v v' : World R) (i m : ℕ) (s s' : Station (Ba
 
 -- other members are as they were
 pub record Elsewhere (w after : StationState) (m : ℕ) : Type 0 where
+  pub version : (k : ℕ) → after.version k ≡ w.version k
   pub rows : (k : ℕ) → k ≢ m → (n : ℕ) → after.rows k n ≡ w.rows k n
   pub marks : (k : ℕ) → k ≢ m → after.marks k ≡ w.marks k
   pub stopped : (k : ℕ) → k ≢ m → after.is_stopped k ≡ w.is_stopped k
@@ -90,6 +91,21 @@ module _ {R : Type 0} (v v' : World R) (i m : ℕ) (s s' : Station (Balky R)) (c
   pub kept_before : (kept : R → Type 0) → (kept s'.rows.rows → kept s.rows.rows) → AllKept kept v' → AllKept kept v
   kept_before kept was all zero t at_k = absurd (no_station at_k)
   kept_before kept was all (suc j) t at_k = kept_at kept was all j t at_k
+
+  -- what was made for each member's rows stays so
+  made_at : (made : R → Type 0) → (made s.rows.rows → made s'.rows.rows) → AllMade made v → (j : ℕ) (t : Station (Balky R)) → slice_get v'.stations.items j ≡ Some t → made t.rows.rows
+  made_at made stays all j t at_j = go (j == i) refl
+    where
+      go : (b : Bool) → (j == i) ≡ b → made t.rows.rows
+      go true e =
+          let same : j ≡ i = eqb-true j i e in
+          let is : Some s' ≡ Some t = sym here ∙ (ap (slice_get v'.stations.items) (sym same) ∙ at_j) in
+          subst (λ (u : Station (Balky R)). made u.rows.rows) (some_is is) (stays (all (suc i) s ch.at_i))
+      go false e = all (suc j) t (sym (there j (eqb-false j i e)) ∙ at_j)
+
+  pub made_after : (made : R → Type 0) → (made s.rows.rows → made s'.rows.rows) → AllMade made v → AllMade made v'
+  made_after made stays all zero t at_k = absurd (no_station at_k)
+  made_after made stays all (suc j) t at_k = made_at made stays all j t at_k
 
   module _ (is_open : R → Type 0) (saved : R → Saved) (z : StationCircuit) (w : StationState) (h : StandsFor is_open saved z v w) where
     pub shown : Shows is_open saved h.tables h.files z w m s
@@ -134,6 +150,7 @@ module _ {R : Type 0} (v v' : World R) (i m : ℕ) (s s' : Station (Balky R)) (c
         set_up = h.set_up;
         count = h.count ∙ (sym (length-set v.stations.items i s') ∙ ap length (sym ch.stations));
         each = each_after;
+        two = λ k. others.version k ∙ h.two k;
         sent = sent;
         offers = offers;
         releases = releases;

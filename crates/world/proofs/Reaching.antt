@@ -1,12 +1,12 @@
 -- What steps lead to, and what is agreed there.
 use Rattle.std.proofs.Common.{◌≡◌, ℕ, zero, suc, ◌<◌, ◌≤◌, ◌⊎◌, inl, inr, refl, sym, ap, subst, arith, List, [], ◌∷◌, ◌++◌, Some, None, Option, length}
-use Rattle.std.specs.Prelude.{Result, Ok, Err, slice_get}
+use Rattle.std.specs.Prelude.{◌↔◌, Result, Ok, Err, slice_get}
 use Rattle.protocol.specs.Ballots.{IsMember}
 use Rattle.protocol.specs.Rows.{Tape}
 use Rattle.protocol.specs.Lists.{IsAmong}
 use Rattle.protocol.specs.Turn.{number_of}
 use Rattle.protocol.specs.Circuit as circuit
-use Rattle.protocol.specs.Circuit.{Release, Outcome, releases_with, StepsTo, is_refused, is_idle, is_spent, is_done, is_torn, restarts, is_armed, History, starts, goes_on}
+use Rattle.protocol.specs.Circuit.{Release, Outcome, releases_with, StepsTo, is_refused, is_idle, is_spent, is_done, is_torn, restarts, upgrades, upgrade_is_torn, is_armed, History, starts, goes_on}
 use Rattle.packets.specs.declared.fault.PacketFault.{PacketFault}
 use Rattle.code_table.specs.Tables.{Places, mean}
 use Rattle.widths.specs.Widths.{WidthFile}
@@ -15,6 +15,7 @@ use Rattle.line_check.specs.declared.slug.Slug.{Slug}
 use Rattle.line_check.specs.declared.fault.SetFault.{SetFault}
 use Rattle.acceptor_store.specs.Saved.{Saved}
 use Rattle.acceptor_store.specs.declared.balky.Balky.{Balky}
+use Rattle.acceptor_store.specs.declared.rows.Rows.{Ghosts}
 use Rattle.station.specs.declared.station.Station.{Station}
 use Rattle.world.specs.declared.world.World.{World}
 use Rattle.world.specs.declared.step.Step.{Step}
@@ -24,7 +25,7 @@ use Rattle.world.specs.Setups.{StationCircuit, StationState}
 use Rattle.world.specs.Laws.{AreAgreed, StationsAgree}
 use Rattle.world.specs.Taking.{step_value}
 use Rattle.world.specs.Worlds.{station_at}
-use Rattle.world.specs.Reach.{StandsFor, Moves, Leads, Reached, Agreed, SetsAs}
+use Rattle.world.specs.Reach.{AllHonest, AllKept, AllMade, StandsFor, Moves, Leads, Reached, IsReached, Agreed, SetsAs}
 
 among-append : {A : Type 0} (xs ys : List A) (x : A) → IsAmong (xs ++ ys) x → IsAmong xs x ⊎ IsAmong ys x
 among-append [] ys x h = inr h
@@ -54,13 +55,15 @@ module _ (z : StationCircuit) where
       along (releases_with z w.releases m (number_of e) t.release) after.releases same.releases (with_release w.releases m (number_of e) t.release member all)
   after_step w after s o (is_torn m call e row armed task member refused event leaves same) all = along w.releases after.releases same.releases all
   after_step w after s o (restarts m member is ends same) all = along w.releases after.releases same.releases all
+  after_step w after s o (upgrades m member is ends unarmed same) all = along w.releases after.releases same.releases all
+  after_step w after s o (upgrade_is_torn m k member is ends may same) all = along w.releases after.releases same.releases all
   after_step w after s o (is_armed m b member is ends same) all = along w.releases after.releases same.releases all
 
   of_members : {w : StationState} → History z w → OfMembers w.releases
-  of_members {w = w} (starts f) = along [] w.releases f.releases (λ x i. absurd i)
+  of_members {w = w} (starts version f) = along [] w.releases f.releases (λ x i. absurd i)
   of_members (goes_on {w = w} {after = after} h s o st) = after_step w after s o st (of_members h)
 
-found : {X : Type 0} (xs : List X) (j : ℕ) → j < length xs → (x : X) × (slice_get xs j ≡ Some x)
+pub found : {X : Type 0} (xs : List X) (j : ℕ) → j < length xs → (x : X) × (slice_get xs j ≡ Some x)
 found [] j l = absurd (omega arith)
 found (x ∷ xs) zero l = (x, refl)
 found (x ∷ xs) (suc j) l = found xs j (omega arith)
@@ -94,6 +97,23 @@ agreed {R = R} is_open saved law z v r = record {
         let shows = h.each x.member s.0 s.1 in
         let with_table = subst (λ (t : Places). Sets (mean t) (h.files x.member) x.tape x.set) (sym shows.table) (a.set x i) in
         (s.0, s.1, subst (λ (f : WidthFile). Sets (mean s.0.table) f x.tape x.set) (sym shows.widths) with_table)
+
+-- what is released in a world that is reached, and whose hosts were honest, is agreed
+pub reached_agreed : {R : Type 0} (g : Ghosts R) → StationsAgree → (v : World R) → IsReached g v → AllHonest g.honest v → Agreed v
+reached_agreed g law v r honest = let at = r.reached honest in agreed g.is_open g.saved law at.0 v at.1
+
+-- a world that is reached stays so, where what was made stays and what is kept was kept
+pub stays_reached :
+    {R : Type 0} (g : Ghosts R) → ((s : R) → g.kept s ↔ (g.honest s × g.made s)) → (v v' : World R) → (AllMade g.made v → AllMade g.made v') → (AllKept g.kept v' → AllKept g.kept v)
+    → (AllKept g.kept v' → (z : StationCircuit) → Reached g.is_open g.saved z v → Reached g.is_open g.saved z v') → IsReached g v → IsReached g v'
+stays_reached g halves v v' stays was moves r =
+    let made = stays r.made in record {
+      made = made;
+      reached = λ honest.
+          let kept : AllKept g.kept v' = λ m s at_m. (halves s.rows.rows).1 (honest m s at_m, made m s at_m) in
+          let at = r.reached (λ m s at_m. ((halves s.rows.rows).0 (was kept m s at_m)).0) in
+          (at.0, moves kept at.0 at.1);
+    }
 
 -- a world that moved is reached
 pub goes : {R : Type 0} (is_open : R → Type 0) (saved : R → Saved) (z : StationCircuit) (v v' : World R) (r : Reached is_open saved z v) (step : Step) (q : Result Seen WorldRefusal) → Moves is_open saved z r.0 step v' q → Reached is_open saved z v'

@@ -1,10 +1,11 @@
 -- What a station did is a step of the state that its world stands for: done, idle, spent, refused or torn.
 use Rattle.std.proofs.Common.{◌≡◌, ◌≢◌, ℕ, suc, ◌<◌, ◌⊎◌, inl, inr, refl, sym, ap, subst, ◌∙◌, arith, List, [], ◌∷◌, ◌++◌, Some, None, Option, Bool, true, false, length, append-nil}
-use Rattle.std.specs.Prelude.{Result, Ok}
+use Rattle.std.specs.Prelude.{Result, Ok, IsSome}
 use Rattle.std.specs.List.{AllZip}
 use Rattle.protocol.specs.Ballots.{IsMember}
 use Rattle.protocol.specs.Rows.{Tape, Row}
 use Rattle.protocol.specs.Packets.{Packet}
+use Rattle.protocol.specs.Versions.{Version, Two}
 use Rattle.protocol.specs.Marks.{Mark}
 use Rattle.protocol.specs.Turn.{Event, number_of, Note_idle, Turn, turn}
 use Rattle.protocol.specs.Refusals.{Call, Refusal, Rounds_spent, refusal, early_refusal, event_of}
@@ -19,6 +20,8 @@ use Rattle.line_check.specs.declared.slug.Slug.{Slug}
 use Rattle.line_check.specs.declared.fault.SetFault.{SetFault}
 use Rattle.acceptor_store.specs.Saved.{WithRow, Rises}
 use Rattle.acceptor_store.specs.declared.balky.Balky.{Balky}
+use Rattle.acceptor_store.specs.declared.fault.RowsFault.{RowsFault}
+use Rattle.acceptor_store.specs.declared.fault.RowsFault.TheVariants.{Store}
 use Rattle.node_core.specs.Standing.{StandsFor as CoreStandsFor}
 use Rattle.node_core.specs.Turns.{note_value}
 use Rattle.station.specs.declared.station.Station.{Station}
@@ -49,10 +52,11 @@ balky_sight x refusals = record {
       × (old.armed ≡ Some true →
       (x.kept new.rows → WithRow (x.saved old.rows) number row (x.saved new.rows))
       ⊎ (Rises (refusals old.rows) (refusals new.rows) × x.tells old.rows new.rows number row));
+  blames = λ old new fault. (IsSome old.armed × (fault ≡ Store)) ⊎ x.blames old.rows new.rows fault;
 }
 
 pub same_state : (w : StationState) → IsSameState w w
-same_state w = record { rows = λ m n. refl; marks = λ m. refl; is_stopped = λ m. refl; armed = λ m. refl; sent = refl; offers = refl; releases = refl }
+same_state w = record { version = λ m. refl; rows = λ m n. refl; marks = λ m. refl; is_stopped = λ m. refl; armed = λ m. refl; sent = refl; offers = refl; releases = refl }
 
 -- other members' rows stay where one row is saved
 saved_other : (rows : ℕ → ℕ → Row) (m n : ℕ) (row : Row) (k : ℕ) → k ≢ m → (j : ℕ) → saved rows m n row k j ≡ rows k j
@@ -100,21 +104,24 @@ module _ {R : Type 0} (x : Sight R) (refusals : R → ℕ) (z : StationCircuit) 
       let a = subst (λ (t : Places). Sets (mean t) (h.files m) tape (z.sets m tape)) (sym old.table) (h.set_up.sets m tape) in
       subst (λ (f : WidthFile). Sets (mean s.table) f tape (z.sets m tape)) (sym old.widths) a
 
-  refusal_is : (call : Call) → refusal (circuit.setup_of z m) (w.is_stopped m) (w.marks m) call ≡ refusal (stations.setup_of s) s.stopped (w.marks m) call
+  refusal_is : (call : Call) → refusal (circuit.setup_of z (w.version m) m) (w.is_stopped m) (w.marks m) call ≡ refusal (stations.setup_of s) s.stopped (w.marks m) call
   refusal_is call =
-      ap (λ (b : Bool). refusal (circuit.setup_of z m) b (w.marks m) call) (sym old.stopped)
-      ∙ refusal_alike (circuit.setup_of z m) (stations.setup_of s) (sym old.circuit) (sym old.members) (sym old.me) h.set_up.reads
+      ap (λ (b : Bool). refusal (circuit.setup_of z (w.version m) m) b (w.marks m) call) (sym old.stopped)
+      ∙ ap (λ (v : Version). refusal (circuit.setup_of z v m) s.stopped (w.marks m) call) (h.two m)
+      ∙ refusal_alike (circuit.setup_of z Two m) (stations.setup_of s) (sym old.circuit) (sym old.members) (sym old.me) h.set_up.reads (λ tape. refl)
       (λ tape. faulty_alike (mean s.table) s.widths tape (z.sets m tape) (sets tape)) s.stopped (w.marks m) call
 
-  early_is : (call : Call) → early_refusal (circuit.setup_of z m) (w.is_stopped m) (w.marks m) call ≡ early_refusal (stations.setup_of s) s.stopped (w.marks m) call
+  early_is : (call : Call) → early_refusal (circuit.setup_of z (w.version m) m) (w.is_stopped m) (w.marks m) call ≡ early_refusal (stations.setup_of s) s.stopped (w.marks m) call
   early_is call =
-      ap (λ (b : Bool). early_refusal (circuit.setup_of z m) b (w.marks m) call) (sym old.stopped)
-      ∙ early_alike (circuit.setup_of z m) (stations.setup_of s) (sym old.circuit) (sym old.members) (sym old.me) h.set_up.reads
+      ap (λ (b : Bool). early_refusal (circuit.setup_of z (w.version m) m) b (w.marks m) call) (sym old.stopped)
+      ∙ ap (λ (v : Version). early_refusal (circuit.setup_of z v m) s.stopped (w.marks m) call) (h.two m)
+      ∙ early_alike (circuit.setup_of z Two m) (stations.setup_of s) (sym old.circuit) (sym old.members) (sym old.me) h.set_up.reads (λ tape. refl)
       (λ tape. faulty_alike (mean s.table) s.widths tape (z.sets m tape) (sets tape)) s.stopped (w.marks m) call
 
-  event_is : (call : Call) → event_of (circuit.setup_of z m) (w.marks m) call ≡ event_of (stations.setup_of s) (w.marks m) call
+  event_is : (call : Call) → event_of (circuit.setup_of z (w.version m) m) (w.marks m) call ≡ event_of (stations.setup_of s) (w.marks m) call
   event_is call =
-      event_alike (circuit.setup_of z m) (stations.setup_of s) (sym old.circuit) (sym old.members) (sym old.me) h.set_up.reads
+      ap (λ (v : Version). event_of (circuit.setup_of z v m) (w.marks m) call) (h.two m)
+      ∙ event_alike (circuit.setup_of z Two m) (stations.setup_of s) (sym old.circuit) (sym old.members) (sym old.me) h.set_up.reads (λ tape. refl)
       (λ tape. faulty_alike (mean s.table) s.widths tape (z.sets m tape) (sets tape)) (w.marks m) call
 
   -- a turn of the station's is one of the state's
@@ -130,7 +137,7 @@ module _ {R : Type 0} (x : Sight R) (refusals : R → ℕ) (z : StationCircuit) 
       stands_after v v' i m s s' ch x.is_open x.saved z w h w new others (h.sent ∙ sym sent) (h.offers ∙ sym offers) (h.releases ∙ sym releases)
     where
       others : Elsewhere w w m
-      others = record { rows = λ k ne j. refl; marks = λ k ne. refl; stopped = λ k ne. refl; armed = λ k ne. refl }
+      others = record { version = λ k. refl; rows = λ k ne j. refl; marks = λ k ne. refl; stopped = λ k ne. refl; armed = λ k ne. refl }
 
       rows : (x.is_open s'.rows.rows → (j : ℕ) → x.saved s'.rows.rows j ≡ w.rows m j) × (s'.rows.armed ≡ w.armed m)
       rows = elim read [
@@ -222,14 +229,15 @@ module _ {R : Type 0} (x : Sight R) (refusals : R → ℕ) (z : StationCircuit) 
 
       others : Elsewhere w after m
       others = record {
+        version = λ k. refl;
         rows = λ k ne j. saved_other w.rows m (number_of e) d.taken.row k ne j;
         marks = λ k ne. with_at-other w.marks m d.taken.marks k ne;
         stopped = λ k ne. refl;
         armed = λ k ne. refl;
       }
 
-      carried : AllZip (circuit.Carries z) d.taken.out a.out.items
-      carried = subst (λ (rd : List ℕ → Result Packet PacketFault). AllZip (λ (p : Packet) (g : Datagram). (g.to ≡ p.to) × (rd g.bytes ≡ Ok p)) d.taken.out a.out.items) (λ j bytes. sym (h.set_up.reads bytes) j) d.out
+      carried : AllZip (circuit.Carries z (w.version m)) d.taken.out a.out.items
+      carried = subst (λ (rd : List ℕ → Result Packet PacketFault). AllZip (λ (p : Packet) (g : Datagram). (g.to ≡ p.to) × (rd g.bytes ≡ Ok p)) d.taken.out a.out.items) (λ j bytes. sym (ap (λ (v : Version). z.reads v bytes) (h.two m) ∙ h.set_up.writes bytes) j) d.out
 
       told : (w.armed m ≡ None) ⊎ (d.taken.row ≡ w.rows m (number_of e))
       told = elim d.told [
@@ -286,6 +294,7 @@ module _ {R : Type 0} (x : Sight R) (refusals : R → ℕ) (z : StationCircuit) 
 
       others : Elsewhere w after m
       others = record {
+        version = λ k. refl;
         rows = λ k ne j. saved_other w.rows m (number_of e) row k ne j;
         marks = λ k ne. with_at-other w.marks m [] k ne;
         stopped = λ k ne. with_at-other w.is_stopped m true k ne;
@@ -324,7 +333,7 @@ module _ {R : Type 0} (x : Sight R) (refusals : R → ℕ) (z : StationCircuit) 
         (before_save (inr refl) refl (r.alike.0 ∙ old.armed)) d.fixed d.stops d.stands_for (stays (number_of e) r) sent offers releases
   ]
 
-  module _ (step : circuit.Step) (call : Call) (e : Event) (task : Sends step call) (asks : Asks s (w.marks m) call e) (d : TornByStore (balky_sight x refusals) e s s' (w.marks m))
+  module _ (step : circuit.Step) (call : Call) (e : Event) {fault : RowsFault} (task : Sends step call) (asks : Asks s (w.marks m) call e) (d : TornByStore (balky_sight x refusals) e s s' (w.marks m) fault)
       (sent : v'.sent.items ≡ v.sent.items) (offers : v'.offers.items ≡ offers_with v.offers.items m e) (releases : v'.releases.items ≡ v.releases.items) where
     n : ℕ
     n = number_of e
@@ -335,7 +344,7 @@ module _ {R : Type 0} (x : Sight R) (refusals : R → ℕ) (z : StationCircuit) 
     to : (row : Row) → Leaves z w m call e circuit.Torn_by_store row s'.rows.armed → (x.is_open s'.rows.rows → (j : ℕ) → x.saved s'.rows.rows j ≡ with_at (w.rows m) (number_of e) row j) → Comes step circuit.Torn_by_store
     to row leaves rows = torn_to step call e circuit.Torn_by_store row task unrefused asks.event leaves d.fixed d.stops d.stands_for rows sent offers releases
 
-    module _ (r : AtSave (balky_sight x refusals) e s (w.marks m) s'.rows) where
+    module _ (r : AtSave (balky_sight x refusals) e s (w.marks m) s'.rows fault) where
       changes : ¬ (r.taken.row ≡ w.rows m (number_of e))
       changes same = r.changes (same ∙ sym (old.rows r.was_open (number_of e)))
 
@@ -373,6 +382,6 @@ module _ {R : Type 0} (x : Sight R) (refusals : R → ℕ) (z : StationCircuit) 
 
     pub store_comes : Comes step circuit.Torn_by_store
     store_comes = elim d.at [
-      | inl r ↦ to (w.rows m (number_of e)) (before_save (inl refl) refl (r.alike.0 ∙ old.armed)) (stays (number_of e) r)
+      | inl r ↦ to (w.rows m (number_of e)) (before_save (inl refl) refl (r.0.alike.0 ∙ old.armed)) (stays (number_of e) r.0)
       | inr r ↦ balked r (w.armed m) refl
     ]

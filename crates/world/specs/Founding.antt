@@ -5,6 +5,7 @@ use Rattle.code_table.specs.Tables.{Places}
 use Rattle.widths.specs.Widths.{WidthFile}
 use Rattle.acceptor_store.specs.Saved.{Saved}
 use Rattle.acceptor_store.specs.declared.balky.Balky.{Balky}
+use Rattle.acceptor_store.specs.declared.rows.Rows.{Ghosts}
 use Rattle.node_core.specs.Standing.{StandsFor as CoreStandsFor}
 use Rattle.station.specs.declared.station.Station.{Station}
 use Rattle.world.specs.declared.world.World.{World}
@@ -59,6 +60,13 @@ Founds k parts (Err fault) = IsUnfounded parts fault
 -- no row is saved
 abbrev pub AreBlank : {R : Type 0} → (R → Type 0) → (R → Saved) → List (Part R) → Type 0
 AreBlank {R = R} is_open saved parts = (i : ℕ) (part : Part R) → slice_get parts i ≡ Some part → is_open part.2 → (n : ℕ) → saved part.2 n ≡ blank
+
+-- the rows are those that were made for this member, and while they are kept and open none is saved
+abbrev pub IsNewlyMade : {R : Type 0} → Ghosts R → R → Type 0
+IsNewlyMade g rows = g.made rows × (g.kept rows → g.is_open rows → (n : ℕ) → g.saved rows n ≡ blank)
+
+abbrev pub AreNewlyMade : {R : Type 0} → Ghosts R → List (Part R) → Type 0
+AreNewlyMade {R = R} g parts = (i : ℕ) (part : Part R) → slice_get parts i ≡ Some part → IsNewlyMade g part.2
 
 -- circuit k, set up by these members' tables and widths
 pub record IsCircuitOf {R : Type 0} (k : ℕ) (parts : List (Part R)) (z : StationCircuit) : Type 0 where

@@ -1,6 +1,7 @@
 -- The states of a circuit that a world stands for, where its steps lead, and what is agreed in it.
 use Rattle.std.specs.Prelude.{◌≡◌, ℕ, List, [], ◌∷◌, Some, Result, Ok, Err, take}
 use Rattle.protocol.specs.Lists.{IsAmong}
+use Rattle.protocol.specs.Versions.{Two}
 use Rattle.protocol.specs.Circuit.{Release, Outcome, StepsTo, History}
 use Rattle.packets.specs.declared.fault.PacketFault.{PacketFault}
 use Rattle.code_table.specs.Tables.{Places, mean}
@@ -10,6 +11,7 @@ use Rattle.line_check.specs.declared.slug.Slug.{Slug}
 use Rattle.line_check.specs.declared.fault.SetFault.{SetFault}
 use Rattle.acceptor_store.specs.Saved.{Saved}
 use Rattle.acceptor_store.specs.declared.balky.Balky.{Balky}
+use Rattle.acceptor_store.specs.declared.rows.Rows.{Ghosts}
 use Rattle.node_core.specs.Standing.{StandsFor as CoreStandsFor}
 use Rattle.station.specs.declared.station.Station.{Station}
 use Rattle.world.specs.declared.world.World.{World}
@@ -21,9 +23,17 @@ use Rattle.world.specs.Setups.{StationCircuit, StationState, IsSetUp}
 use Rattle.world.specs.Worlds.{station_at, count_of}
 use Rattle.world.specs.Taking.{step_value, outcome_value}
 
--- nobody else wrote to any member's rows, and they read back what was written
+-- both halves: each member's rows were made for it, nobody else wrote to them, and they read back what was written
 abbrev pub AllKept : {R : Type 0} → (R → Type 0) → World R → Type 0
 AllKept {R = R} kept v = (m : ℕ) (s : Station (Balky R)) → station_at v m ≡ Some s → kept s.rows.rows
+
+-- the store's half: what each member's rows stand on was made for them
+abbrev pub AllMade : {R : Type 0} → (R → Type 0) → World R → Type 0
+AllMade {R = R} made v = (m : ℕ) (s : Station (Balky R)) → station_at v m ≡ Some s → made s.rows.rows
+
+-- the host's half: nobody else wrote to any member's rows, and they read back what was written
+abbrev pub AllHonest : {R : Type 0} → (R → Type 0) → World R → Type 0
+AllHonest {R = R} honest v = (m : ℕ) (s : Station (Balky R)) → station_at v m ≡ Some s → honest s.rows.rows
 
 -- a station is what the state has of member m, with its table and its width file
 pub record Shows {R : Type 0} (is_open : R → Type 0) (saved : R → Saved) (tables : ℕ → Places) (files : ℕ → WidthFile) (z : StationCircuit) (w : StationState) (m : ℕ) (s : Station (Balky R)) : Type 0 where
@@ -44,6 +54,7 @@ pub record StandsFor {R : Type 0} (is_open : R → Type 0) (saved : R → Saved)
   pub set_up : IsSetUp tables files z
   pub count : z.count ≡ count_of v
   pub each : (m : ℕ) (s : Station (Balky R)) → station_at v m ≡ Some s → Shows is_open saved tables files z w m s
+  pub two : (m : ℕ) → w.version m ≡ Two
   pub sent : w.sent ≡ v.sent.items
   pub offers : w.offers ≡ v.offers.items
   pub releases : w.releases ≡ v.releases.items
@@ -68,6 +79,12 @@ Runs is_open saved z w steps new (Err stop) = (after : StationState) × StandsFo
 -- some history of the circuit leads to a state that the world stands for
 abbrev pub Reached : {R : Type 0} → (R → Type 0) → (R → Saved) → StationCircuit → World R → Type 0
 Reached is_open saved z v = (w : StationState) × StandsFor is_open saved z v w × History z w
+
+-- what each member's rows stand on was made for them; and where their hosts were honest, some history of some circuit
+-- leads to a state that the world stands for
+pub record IsReached {R : Type 0} (g : Ghosts R) (v : World R) : Type 0 where
+  pub made : AllMade g.made v
+  pub reached : AllHonest g.honest v → (z : StationCircuit) × Reached g.is_open g.saved z v
 
 -- a tape was offered to some member for this number
 abbrev pub IsOffered : {R : Type 0} → World R → ℕ → List ℕ → Type 0

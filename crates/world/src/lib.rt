@@ -4,12 +4,14 @@
 pub mod laws;
 mod logging;
 mod logs;
+mod playing;
 mod slugs;
 mod step;
 mod taking;
 mod world;
 
 pub use logs::{OfferLog, ReleaseLog};
+pub use playing::{play, play_in_databases, play_in_memory};
 pub use slugs::Slugs;
 pub use step::{Outcome, RunStop, Seen, Step, WorldRefusal};
 pub use world::{NewWorldFault, World};

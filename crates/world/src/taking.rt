@@ -2,7 +2,7 @@
 
 ghost use Rattle.std.specs.Prelude.{◌≡◌, ◌<◌, ◌≤◌, ◌+◌, suc, false, Some, None, IfOk, IfErr, OnOk, OnErr, length, option_map};
 ghost use Rattle.protocol.specs.Circuit.{datagram_at, member_missing};
-ghost use Rattle.world.specs.Reach.{Agreed, AllKept, Moves, Reached, Runs, StandsFor};
+ghost use Rattle.world.specs.Reach.{Agreed, AllHonest, AllKept, AllMade, IsReached, Moves, Runs, StandsFor};
 ghost use Rattle.world.specs.Setups.{StationCircuit, StationState};
 ghost use Rattle.world.specs.Taking.{Found, StopsAt, Tells};
 ghost use Rattle.world.specs.Worlds.{count_of};
@@ -26,9 +26,10 @@ impl<R: Rows> World<R> {
         // Whatever the rows do, what is seen is what was logged, and a refusal changes nothing and has its reason.
         ensures tells { Tells step.now self.old self.new result }
         ensures was_kept { AllKept R.kept self.new → AllKept R.kept self.old }
-        // The headline: what some history leads to stays so, and what is released in it is agreed.
-        ensures reached { AllKept R.kept self.new → (z : StationCircuit) → Reached R.is_open R.saved z self.old → Reached R.is_open R.saved z self.new }
-        ensures agreed { (z : StationCircuit) → Reached R.is_open R.saved z self.new → Agreed self.new }
+        ensures made { AllMade R.made self.old → AllMade R.made self.new }
+        // The headline: a world that is reached stays so; and where the hosts of its rows were honest, what is released in it is agreed.
+        ensures reached { IsReached R.Rows self.old → IsReached R.Rows self.new }
+        ensures agreed { IsReached R.Rows self.new → AllHonest R.honest self.new → Agreed self.new }
     {
         laws::agreement();
         match step {
@@ -55,8 +56,9 @@ impl<R: Rows> World<R> {
         ensures runs { AllKept R.kept self.new → (z : StationCircuit) (w : StationState) → StandsFor R.is_open R.saved z self.old w → Runs R.is_open R.saved z w steps.now self.new result }
         ensures stops { IfErr result (StopsAt steps.now self.new) }
         ensures was_kept { AllKept R.kept self.new → AllKept R.kept self.old }
-        ensures reached { AllKept R.kept self.new → (z : StationCircuit) → Reached R.is_open R.saved z self.old → Reached R.is_open R.saved z self.new }
-        ensures agreed { (z : StationCircuit) → Reached R.is_open R.saved z self.new → Agreed self.new }
+        ensures made { AllMade R.made self.old → AllMade R.made self.new }
+        ensures reached { IsReached R.Rows self.old → IsReached R.Rows self.new }
+        ensures agreed { IsReached R.Rows self.new → AllHonest R.honest self.new → Agreed self.new }
     {
         laws::agreement();
         for (at, step) in steps.iter().enumerate() {
@@ -105,6 +107,7 @@ impl<R: Rows> World<R> {
         ensures steps { AllKept R.kept self.new → (z : StationCircuit) (w : StationState) → StandsFor R.is_open R.saved z self.old w → Moves R.is_open R.saved z w (Step.Offer member number tape.now now) self.new result }
         ensures tells { Tells (Step.Offer member number tape.now now) self.old self.new result }
         ensures was_kept { AllKept R.kept self.new → AllKept R.kept self.old }
+        ensures made { AllMade R.made self.old → AllMade R.made self.new }
     {
         one_setting();
         let place = self.place(member)?;
@@ -122,6 +125,7 @@ impl<R: Rows> World<R> {
         ensures steps { AllKept R.kept self.new → (z : StationCircuit) (w : StationState) → StandsFor R.is_open R.saved z self.old w → Moves R.is_open R.saved z w (Step.Seek member number now) self.new result }
         ensures tells { Tells (Step.Seek member number now) self.old self.new result }
         ensures was_kept { AllKept R.kept self.new → AllKept R.kept self.old }
+        ensures made { AllMade R.made self.old → AllMade R.made self.new }
     {
         one_setting();
         let place = self.place(member)?;
@@ -135,6 +139,7 @@ impl<R: Rows> World<R> {
         ensures steps { AllKept R.kept self.new → (z : StationCircuit) (w : StationState) → StandsFor R.is_open R.saved z self.old w → Moves R.is_open R.saved z w (Step.Due member now) self.new result }
         ensures tells { Tells (Step.Due member now) self.old self.new result }
         ensures was_kept { AllKept R.kept self.new → AllKept R.kept self.old }
+        ensures made { AllMade R.made self.old → AllMade R.made self.new }
     {
         one_setting();
         let place = self.place(member)?;
@@ -148,6 +153,7 @@ impl<R: Rows> World<R> {
         ensures steps { AllKept R.kept self.new → (z : StationCircuit) (w : StationState) → StandsFor R.is_open R.saved z self.old w → Moves R.is_open R.saved z w (Step.Deliver k now) self.new result }
         ensures tells { Tells (Step.Deliver k now) self.old self.new result }
         ensures was_kept { AllKept R.kept self.new → AllKept R.kept self.old }
+        ensures made { AllMade R.made self.old → AllMade R.made self.new }
     {
         one_setting();
         let member = self.addressee(k)?;
@@ -163,6 +169,7 @@ impl<R: Rows> World<R> {
         ensures steps { AllKept R.kept self.new → (z : StationCircuit) (w : StationState) → StandsFor R.is_open R.saved z self.old w → Moves R.is_open R.saved z w (Step.Restart member) self.new result }
         ensures tells { Tells (Step.Restart member) self.old self.new result }
         ensures was_kept { AllKept R.kept self.new → AllKept R.kept self.old }
+        ensures made { AllMade R.made self.old → AllMade R.made self.new }
     {
         let place = self.place(member)?;
         self.stations[place].restart();
@@ -174,6 +181,7 @@ impl<R: Rows> World<R> {
         ensures steps { AllKept R.kept self.new → (z : StationCircuit) (w : StationState) → StandsFor R.is_open R.saved z self.old w → Moves R.is_open R.saved z w (Step.Balk member saved) self.new result }
         ensures tells { Tells (Step.Balk member saved) self.old self.new result }
         ensures was_kept { AllKept R.kept self.new → AllKept R.kept self.old }
+        ensures made { AllMade R.made self.old → AllMade R.made self.new }
     {
         let place = self.place(member)?;
         self.stations[place].rows_mut().arm(saved);

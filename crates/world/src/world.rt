@@ -2,11 +2,13 @@
 
 ghost use Rattle.std.specs.Prelude.{◌≡◌, ◌≤◌, IfOk, length, option_copied};
 ghost use Rattle.protocol.specs.Circuit.{fresh};
-ghost use Rattle.world.specs.Founding.{AreBlank, AreNew, Founds, IsCircuitOf};
-ghost use Rattle.world.specs.Reach.{Reached, StandsFor};
+ghost use Rattle.protocol.specs.Versions.{Two};
+ghost use Rattle.world.specs.Founding.{AreBlank, AreNew, AreNewlyMade, Founds, IsCircuitOf};
+ghost use Rattle.world.specs.Reach.{IsReached, StandsFor};
 ghost use Rattle.world.specs.Setups.{StationCircuit};
 ghost use Rattle.world.specs.Worlds.{station_at};
 
+use crate::laws;
 use crate::logs::{OfferLog, ReleaseLog};
 use acceptor_store::{Balky, Rows};
 use code_table::CodeTable;
@@ -69,10 +71,12 @@ impl<R: Rows> World<R> {
         members: Vec<(CodeTable, Widths, R)>,
     ) -> Result<World<R>, NewWorldFault<R>>
         ensures founds { Founds circuit members.items result }
-        // Over rows of which none is saved it stands for a fresh state, and so it is reached.
-        ensures fresh { IfOk result (λ v. AreBlank R.is_open R.saved members.items → (z : StationCircuit) → IsCircuitOf circuit members.items z → StandsFor R.is_open R.saved z v fresh) }
-        ensures reached { IfOk result (λ v. AreBlank R.is_open R.saved members.items → (z : StationCircuit) → IsCircuitOf circuit members.items z → Reached R.is_open R.saved z v) }
+        // Over rows of which none is saved it stands for a fresh state.
+        ensures fresh { IfOk result (λ v. AreBlank R.is_open R.saved members.items → (z : StationCircuit) → IsCircuitOf circuit members.items z → StandsFor R.is_open R.saved z v (fresh (λ _. Two))) }
+        // Over rows that were just made for its members it is reached: there is a circuit of them.
+        ensures reached { IfOk result (λ v. AreNewlyMade R.Rows members.items → IsReached R.Rows v) }
     {
+        laws::circuits_exist();
         let count = match u8::try_from(members.len()) {
             Ok(count) if 1 <= count && count <= 15 => count,
             _ => return Err(NewWorldFault::BadCount(members)),

@@ -8,6 +8,6 @@ abbrev pub invariant-loop : goal.invariant-loop
 invariant-loop g l = record {
   was_kept : g.R.Rows.kept l.station.rows → g.R.Rows.kept l.initial.station.rows;
   turns : g.R.Rows.kept l.station.rows
-      → TakesTurns (sight g.R.Rows.kept g.R.Rows.is_open g.R.Rows.saved g.R.Rows.alike g.R.Rows.passes g.R.Rows.tells) l.counter l.initial.station l.station;
+      → TakesTurns (sight g.R.Rows) l.counter l.initial.station l.station;
   goes_on : 1 ≤ l.counter → l.station.stopped ≡ false;
 }

@@ -1,13 +1,15 @@
--- The member in hand is the first, or is passed.
-use Rattle.std.proofs.Common.{sym, ◌∙◌}
-use Rattle.learner.specs.Kept.{latest_in}
-use Rattle.learner.proofs.Looking.{first_at, not_at}
+-- The slot in hand is the first, or is passed.
+use Rattle.std.proofs.Common.{sym, ◌∙◌, refl}
+use Rattle.learner.proofs.Looking.{read, first_least, no_least}
 use Rattle.learner.proofs.heard.least_at.Goals as goal
 
 pub returns-then-is_at : goal.returns-then-is_at
 returns-then-is_at c =
-    first_at c.args.members c.args.ballot (latest_in c.args.votes.now) c.loop-member.member _ c.loop-member-test.true c.loop-member.invariant (sym c.latest_of-vote.ensures) (sym c.is_at.ensures ∙ c.if-is_at.true)
+    c.as_ref.ensures.value
+    ∙ first_least c.args.ballot c.args.slots.now c.loop-slot.slot-index c.slot-item.result c.loop-slot-test.true c.loop-slot.invariant
+      (read c.args.slots.now c.loop-slot.slot-index c.slot-item.result c.slot-item.result c.loop-slot-test.true c.slot-item.is refl) (sym c.is_at.ensures ∙ c.if-is_at.true)
 
-pub loop-member-preserved : goal.loop-member-preserved
-loop-member-preserved c =
-    not_at c.args.ballot (latest_in c.args.votes.now) c.loop-member.member _ c.loop-member.invariant (sym c.latest_of-vote.ensures) (sym c.is_at.ensures ∙ c.if-is_at.false)
+pub loop-slot-preserved : goal.loop-slot-preserved
+loop-slot-preserved c =
+    no_least c.args.ballot c.args.slots.now c.loop-slot.slot-index c.slot-item.result c.loop-slot-test.true c.loop-slot.invariant
+    (read c.args.slots.now c.loop-slot.slot-index c.slot-item.result c.slot-item.result c.loop-slot-test.true c.slot-item.is refl) (sym c.is_at.ensures ∙ c.if-is_at.false)

@@ -1,7 +1,6 @@
-use Rattle.std.proofs.Common.{◌≡◌, None}
-use Rattle.learner.specs.Latest.{least_at}
-use Rattle.learner.specs.Kept.{latest_in}
+use Rattle.std.proofs.Common.{◌≡◌, None, take}
+use Rattle.learner.specs.Slots.{least_in}
 use Rattle.learner.proofs.heard.least_at.Given as goal
 
-abbrev pub invariant-loop-member : goal.invariant-loop-member
-invariant-loop-member l = least_at l.member l.ballot (latest_in l.votes) ≡ None
+abbrev pub invariant-loop-slot : goal.invariant-loop-slot
+invariant-loop-slot l = least_in l.ballot (take l.slot-index l.slots) ≡ None

@@ -1,26 +1,24 @@
--- A majority stands at the vote of the member in hand, or it is passed.
-use Rattle.std.proofs.Common.{◌≡◌, ap, sym, ◌∙◌, Some, option_map, true}
-use Rattle.protocol.specs.Ballots.{Ballot, is_majority}
+-- A majority stands at the vote in hand, or it is passed.
+use Rattle.std.proofs.Common.{ap, sym, ◌∙◌, Some, None, option_map}
 use Rattle.protocol.specs.Rows.{Vote}
-use Rattle.protocol.specs.Learner.{votes_at}
-use Rattle.learner.specs.Kept.{latest_in}
-use Rattle.learner.proofs.Looking.{first_ripe, not_ripe, none_ripe}
+use Rattle.learner.proofs.Looking.{read, tested_ripe, first_ripe, no_ripe, empty_slot}
 use Rattle.learner.proofs.heard.majority_at.Goals.{in-Some+else-majority, in_default}
 use Rattle.learner.proofs.heard.majority_at.Goals as goal
 
 pub returns-then-majority : goal.returns-then-majority
 returns-then-majority c =
-    let f = latest_in c.args.votes.now in
-    let v = c.in-Some.vote.now in
-    let many : is_majority c.args.members (λ m. votes_at v.ballot (f m)) ≡ true =
-    ap (λ (b : Ballot). is_majority c.args.members (λ m. votes_at b (f m))) (sym c.ballot-ballot.ensures) ∙ sym (c.majority.ensures.set (λ m. votes_at c.ballot-ballot.result (f m)) (sym c.count_at.ensures)) ∙ c.if-majority.true in
     ap Some c.ballot-ballot.ensures
-    ∙ sym (ap (option_map (λ (v : Vote). v.ballot)) (first_ripe c.args.members f c.loop-member.member v c.loop-member-test.true c.loop-member.invariant (sym c.in-Some.ensures) many))
+    ∙ sym (ap (option_map (λ (v : Vote). v.ballot)) (first_ripe c.args.slots.now c.loop-slot.slot-index c.in-Some.vote c.loop-slot-test.true c.loop-slot.invariant
+        (read c.args.slots.now c.loop-slot.slot-index c.slot-item.result (Some c.in-Some.vote) c.loop-slot-test.true c.slot-item.is c.in-Some.is)
+        (tested_ripe c.args.slots.now c.in-Some.vote c.ballot-ballot.result c.count_at.result c.majority.result c.majority.ensures.more_than_half c.count_at.ensures c.ballot-ballot.ensures ∙ c.if-majority.true)))
 
-pub loop-member-preserved : goal.loop-member-preserved
-loop-member-preserved c = elim c.match-latest_of.branch [
+pub loop-slot-preserved : goal.loop-slot-preserved
+loop-slot-preserved c = elim c.match-slot.branch [
   | in-Some+else-majority w ↦
-      not_ripe c.args.members (latest_in c.args.votes.now) c.loop-member.member w.in-Some.vote.now c.loop-member.invariant (sym w.in-Some.ensures)
-      (ap (λ (b : Ballot). is_majority c.args.members (λ m. votes_at b (latest_in c.args.votes.now m))) (sym w.ballot-ballot.ensures) ∙ sym (w.majority.ensures.set (λ m. votes_at w.ballot-ballot.result (latest_in c.args.votes.now m)) (sym w.count_at.ensures)) ∙ w.if-majority.false)
-  | in_default w ↦ none_ripe c.args.members (latest_in c.args.votes.now) c.loop-member.member c.loop-member.invariant (sym w.in_default.ensures)
+      no_ripe c.args.slots.now c.loop-slot.slot-index w.in-Some.vote c.loop-slot-test.true c.loop-slot.invariant
+      (read c.args.slots.now c.loop-slot.slot-index c.slot-item.result (Some w.in-Some.vote) c.loop-slot-test.true c.slot-item.is w.in-Some.is)
+      (tested_ripe c.args.slots.now w.in-Some.vote w.ballot-ballot.result w.count_at.result w.majority.result w.majority.ensures.more_than_half w.count_at.ensures w.ballot-ballot.ensures ∙ w.if-majority.false)
+  | in_default w ↦
+      empty_slot c.args.slots.now c.loop-slot.slot-index c.loop-slot-test.true c.loop-slot.invariant
+      (read c.args.slots.now c.loop-slot.slot-index c.slot-item.result None c.loop-slot-test.true c.slot-item.is w.in_default.is)
 ]

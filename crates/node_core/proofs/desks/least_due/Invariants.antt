@@ -1,11 +1,12 @@
-use Rattle.std.proofs.Common.{List, take}
+use Rattle.std.proofs.Common.{List}
 use Rattle.protocol.specs.Marks.{Mark}
 use Rattle.protocol.specs.Proposals.{is_due_number}
-use Rattle.node_core.specs.Dues.{AllStand, IsLeastPassing}
+use Rattle.node_core.specs.Dues.{AllStand}
 use Rattle.node_core.specs.Seats.{Seat}
 use Rattle.node_core.specs.Standing.{AreDesksOf}
+use Rattle.node_core.proofs.Dueing.{Left}
 use Rattle.node_core.proofs.desks.least_due.Given as goal
 
--- of the desks so far, it is the least that is due
+-- all that is due is left
 abbrev pub invariant-loop-desk : goal.invariant-loop-desk
-invariant-loop-desk l = (s : Seat) (marks : List Mark) → AreDesksOf s l.desks → AllStand l.desks marks → IsLeastPassing (is_due_number s.me l.now marks) (take l.desk-index l.desks) l.least
+invariant-loop-desk l = (s : Seat) (marks : List Mark) → AreDesksOf s l.desks.entries → AllStand l.desks.entries marks → Left (is_due_number s.me l.now marks) l.desks.entries l.desk-iterator

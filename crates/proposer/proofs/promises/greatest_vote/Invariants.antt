@@ -1,7 +1,7 @@
-use Rattle.std.proofs.Common.{◌∷◌, option_copied}
-use Rattle.proposer.specs.InHand.{vote_in}
+use Rattle.std.proofs.Common.{option_copied}
+use Rattle.proposer.specs.Slots.{vote_at}
 use Rattle.proposer.specs.Greatest.{IsGreatest}
 use Rattle.proposer.proofs.promises.greatest_vote.Given as goal
 
-abbrev pub invariant-loop-member : goal.invariant-loop-member
-invariant-loop-member l = IsGreatest (vote_in (l.mine ∷ l.promises)) l.member (option_copied l.greatest)
+abbrev pub invariant-loop-place : goal.invariant-loop-place
+invariant-loop-place l = IsGreatest (vote_at l.slots) l.place (option_copied l.greatest)

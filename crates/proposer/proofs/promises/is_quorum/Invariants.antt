@@ -1,7 +1,5 @@
-use Rattle.std.proofs.Common.{◌≡◌, ◌≤◌, ◌∷◌, count_by}
-use Rattle.protocol.specs.Ballots.{members}
-use Rattle.protocol.specs.Proposals.{is_counted}
+use Rattle.std.proofs.Common.{◌≡◌, ◌≤◌, take, count_by, is_some}
 use Rattle.proposer.proofs.promises.is_quorum.Given as goal
 
-abbrev pub invariant-loop-member : goal.invariant-loop-member
-invariant-loop-member l = record { counted : l.count ≡ count_by (is_counted (l.mine ∷ l.promises)) (members l.member); few : l.count ≤ l.member }
+abbrev pub invariant-loop-slot : goal.invariant-loop-slot
+invariant-loop-slot l = record { counted : l.count ≡ count_by is_some (take l.slot-index l.slots); few : l.count ≤ l.slot-index }

@@ -1,13 +1,18 @@
--- The desk that is found stands for the marks.
-use Rattle.std.proofs.Common.{◌≡◌, sym, ap, ◌∙◌, Some}
-use Rattle.std.specs.Prelude.{find}
+-- What is in hand stands for the marks.
+use Rattle.std.proofs.Common.{◌≡◌, ℕ, List, sym, ap, ◌∙◌, Option, Some, None, Bool, true, false, refl}
+use Rattle.std.specs.Ordering.{nat_cmp}
+use Rattle.std.specs.BTreeMap.{get}
 use Rattle.protocol.specs.Proposals.{open_ballot}
-use Rattle.node_core.specs.Standing.{Core, is_of}
-use Rattle.node_core.proofs.Finding.{in_hand}
+use Rattle.node_core.specs.Standing.{Core}
+use Rattle.node_core.proofs.Keeping.{stands_there, none_in_hand}
 use Rattle.node_core.proofs.node.NodeCore.open_ballot.Goals as goal
+
+pub returns-in-None-clause-value : goal.returns-in-None-clause-value
+returns-in-None-clause-value c = λ marks h.
+    none_in_hand c.args.self.now.members c.args.number marks
+    (stands_there c.args.self.now c.self.inside.desks c.args.number None marks (ap (λ (v : Core). v.desks) c.self.view_is) (c.in-None.ensures.value ∙ ap (get nat_cmp c.self.inside.desks) c.get.ensures.value) h)
 
 pub returns-in-Some-clause-value : goal.returns-in-Some-clause-value
 returns-in-Some-clause-value c = λ marks h.
-    let found : find (is_of c.args.number) c.args.self.now.desks ≡ Some c.in-Some.desk.now = sym (c.in-Some.ensures ∙ ap (find (is_of c.args.number)) (c.deref.ensures.value ∙ ap (λ (v : Core). v.desks) c.self.view_is)) in
-    let r = in_hand c.args.self.now marks c.args.number c.in-Some.desk.now h found in
-    c.open_ballot.ensures marks r.0 ∙ ap (λ n. open_ballot n marks) r.1
+    let s = stands_there c.args.self.now c.self.inside.desks c.args.number (Some c.in-Some.desk.now) marks (ap (λ (v : Core). v.desks) c.self.view_is) (c.in-Some.ensures.value ∙ ap (get nat_cmp c.self.inside.desks) c.get.ensures.value) h in
+    c.open_ballot.ensures marks s.1 ∙ ap (λ n. open_ballot n marks) s.0

@@ -1,8 +1,10 @@
-use Rattle.std.proofs.Common.{ap, ◌∙◌}
-use Rattle.std.specs.Prelude.{◌==◌}
+use Rattle.std.proofs.Common.{◌≡◌, ℕ, List, sym, ap, ◌∙◌}
+use Rattle.std.specs.Ordering.{nat_cmp}
 use Rattle.std.specs.List.{list_any}
+use Rattle.std.specs.BTreeMap.{is_at}
 use Rattle.node_core.specs.Standing.{Core}
 use Rattle.node_core.proofs.node.NodeCore.released.Goals as goal
 
 pub returns-then-not-self-clause-value : goal.returns-then-not-self-clause-value
-returns-then-not-self-clause-value c = λ marks h. c.contains.ensures ∙ ap (list_any (λ k. k == c.args.number)) (c.deref.ensures.value ∙ ap (λ (v : Core). v.released) c.self.view_is) ∙ h.released c.args.number
+returns-then-not-self-clause-value c = λ marks h.
+    c.contains.ensures ∙ ap (λ n. list_any (is_at (nat_cmp n)) c.self.inside.released.keys) c.get.ensures.value ∙ ap (λ (v : Core). list_any (is_at (nat_cmp c.args.number)) v.released) c.self.view_is ∙ h.released c.args.number

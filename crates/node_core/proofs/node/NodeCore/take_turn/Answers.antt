@@ -33,7 +33,7 @@ returns-in-Ok-receive-clause-ok c = λ marks h.
       free = tt;
       turn = packet_turn c.args.self.now.circuit c.args.self.now.members c.args.self.now.me c.in-Arrived.now marks c.args.row.now c.in-Arrived.packet c.in-Arrived.packet.body;
       is_the_turn = refl;
-      took = subst (λ (p : Packet). Took c.args.row.now (packet_turn c.args.self.now.circuit c.args.self.now.members c.args.self.now.me c.in-Arrived.now marks c.args.row.now p p.body) c.in-Ok-receive.turn c.receive.new.self) c.lend.ensures (c.in-Ok-receive.ensures.turn marks h);
+      took = c.in-Ok-receive.ensures.turn marks h;
     })
 
 pub returns-in-Offer-clause-memory : goal.returns-in-Offer-clause-memory
@@ -46,17 +46,17 @@ returns-in-Seek-clause-memory c =
     if_err c.start-in-Seek.result _ _ c.start-in-Seek.ensures.memory
     (λ e may is marks h. subst (λ (y : Event). MayTakeMemory c.args.self.now y marks c.args.row.now) (sym c.in-Seek.is) (seek_takes c.args.self.now c.in-Seek.number c.in-Seek.now marks c.args.row.now (may is marks h)))
 
-pub returns-in-Due-clause-memory : goal.returns-in-Due-clause-memory
-returns-in-Due-clause-memory c = λ is marks h.
+pub returns-in-Err-clause-memory : goal.returns-in-Err-clause-memory
+returns-in-Err-clause-memory c = λ is marks h.
     subst (λ (y : Event). MayTakeMemory c.args.self.now y marks c.args.row.now) (sym c.in-Due.is)
     (record { free = tt; turn = due_turn c.args.self.now.circuit c.args.self.now.members c.args.self.now.me c.in-Due.number c.in-Due.now marks c.args.row.now (open_proposal c.in-Due.number marks); is_the_turn = refl; stirs = c.in-Err.ensures.memory marks h })
 
-pub returns-clause-memory : goal.returns-clause-memory
-returns-clause-memory c = λ is marks h.
+pub returns-in-Err-receive-clause-memory : goal.returns-in-Err-receive-clause-memory
+returns-in-Err-receive-clause-memory c = λ is marks h.
     subst (λ (y : Event). MayTakeMemory c.args.self.now y marks c.args.row.now) (sym c.in-Arrived.is)
     (record {
       free = tt;
       turn = packet_turn c.args.self.now.circuit c.args.self.now.members c.args.self.now.me c.in-Arrived.now marks c.args.row.now c.in-Arrived.packet c.in-Arrived.packet.body;
       is_the_turn = refl;
-      stirs = subst (λ (p : Packet). IsStill c.args.row.now marks (packet_turn c.args.self.now.circuit c.args.self.now.members c.args.self.now.me c.in-Arrived.now marks c.args.row.now p p.body) → ⊥) c.lend.ensures (c.in-Err-receive.ensures.memory marks h);
+      stirs = c.in-Err-receive.ensures.memory marks h;
     })

@@ -7,7 +7,7 @@ use Rattle.station.proofs.station.Station.take.Goals as goal
 
 pub returns-in-Ok-save-clause-takes : goal.returns-in-Ok-save-clause-takes
 returns-in-Ok-save-clause-takes g c = λ kept marks stands free.
-    let x = sight g.R.Rows.kept g.R.Rows.is_open g.R.Rows.saved g.R.Rows.alike g.R.Rows.passes g.R.Rows.tells in
+    let x = sight g.R.Rows in
     let l = c.in-Ok-handle.ensures.ok marks stands in
     let k : Taking x (event_value c.args.event) c.args.self.now marks c.get.new.self c.handle.new.self c.in-Ok-handle.turn c.in-Ok.row c.args.number = record {
       number = c.requires.number;
@@ -27,7 +27,7 @@ returns-in-Ok-save-clause-takes g c = λ kept marks stands free.
 
 pub returns-in-Ok-handle-clause-takes : goal.returns-in-Ok-handle-clause-takes
 returns-in-Ok-handle-clause-takes g c = λ kept marks stands free.
-    let x = sight g.R.Rows.kept g.R.Rows.is_open g.R.Rows.saved g.R.Rows.alike g.R.Rows.passes g.R.Rows.tells in
+    let x = sight g.R.Rows in
     let here : g.R.Rows.kept c.save.new.rows = rw c.stop-in-Err-save.ensures.stopped at kept in
     let l = c.in-Ok-handle.ensures.ok marks stands in
     let k : Taking x (event_value c.args.event) c.args.self.now marks c.get.new.self c.handle.new.self c.in-Ok-handle.turn c.in-Ok.row c.args.number = record {

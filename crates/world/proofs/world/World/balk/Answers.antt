@@ -1,16 +1,16 @@
 -- One station's store is armed, and the others stay.
-use Rattle.std.proofs.Common.{◌≡◌, ◌∙◌, refl, ap, subst, Some}
+use Rattle.std.proofs.Common.{◌≡◌, ◌∙◌, refl, sym, ap, subst, Some}
 use Rattle.std.specs.Vec.{with_item}
 use Rattle.acceptor_store.specs.declared.balky.Balky.{Balky}
 use Rattle.station.specs.Stations.{sight}
-use Rattle.world.proofs.Members.{kept_before}
+use Rattle.world.proofs.Members.{kept_before, made_after}
 use Rattle.world.proofs.Asking.{changed}
 use Rattle.world.proofs.Starting.{balk_comes}
 use Rattle.world.proofs.world.World.balk.Goals as goal
 
 pub returns-clause-steps : goal.returns-clause-steps
 returns-clause-steps g c = λ kept z w h.
-    let x = sight g.R.Rows.kept g.R.Rows.is_open g.R.Rows.saved g.R.Rows.alike g.R.Rows.passes g.R.Rows.tells in
+    let x = sight g.R.Rows in
     let v = c.args.self.now in
     let s = c.index_mut.result.now in
     let s' = record s { rows = c.arm.new.self } in
@@ -32,3 +32,15 @@ returns-clause-was_kept g c =
     let same : c.arm.new.self.rows ≡ s.rows.rows =
     ap (λ (r : Balky g.row.R.Denot). r.rows) c.arm.ensures ∙ ap (λ (r : Balky g.row.R.Denot). r.rows) c.rows_mut.ensures.value in
     kept_before v v' c.in_ok-place.place c.args.member s s' ch g.R.Rows.kept (λ kept. subst (λ (r : g.row.R.Denot). g.R.Rows.kept r) same kept)
+
+pub returns-clause-made : goal.returns-clause-made
+returns-clause-made g c =
+    let v = c.args.self.now in
+    let s = c.index_mut.result.now in
+    let s' = record s { rows = c.arm.new.self } in
+    let v' = record v { stations = with_item v.stations c.in_ok-place.place s' } in
+    let o = c.in_ok-place.ensures in
+    let ch = changed v v' c.in_ok-place.place c.args.member s s' o.place o.within c.index_mut.ensures.value refl in
+    let same : c.arm.new.self.rows ≡ s.rows.rows =
+    ap (λ (r : Balky g.row.R.Denot). r.rows) c.arm.ensures ∙ ap (λ (r : Balky g.row.R.Denot). r.rows) c.rows_mut.ensures.value in
+    made_after v v' c.in_ok-place.place c.args.member s s' ch g.R.Rows.made (λ made. subst (λ (r : g.row.R.Denot). g.R.Rows.made r) (sym same) made)

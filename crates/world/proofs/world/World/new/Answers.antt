@@ -1,6 +1,6 @@
 -- Each member has its station, and nothing is in the logs.
 use Rattle.std.proofs.Common.{◌≡◌, arith, length, vec_len}
-use Rattle.world.proofs.Founding.{are_founded, founded, founded_reached}
+use Rattle.world.proofs.Founding.{are_founded, founded, newly_reached}
 use Rattle.world.proofs.world.World.new.Goals as goal
 
 pub returns-clause-founds : goal.returns-clause-founds
@@ -24,4 +24,4 @@ returns-clause-reached g c =
     let many : length c.args.members.items ≡ c.in-Ok.count = omega (arith, len, c.len.ensures, c.in-Ok.ensures.1) in
     let a = c.in-Ok-stations_of.ensures in
     let f = are_founded c.args.circuit c.in-Ok.count c.args.members.items _ many a.new a.count c.new.ensures.items c.new-2.ensures.items c.new-3.ensures.items in
-    founded_reached g.R.Rows.is_open g.R.Rows.saved c.args.circuit c.args.members.items _ f
+    newly_reached g.R.Rows g.met.R.Rows.halves c.circuits_exist.ensures c.args.circuit c.args.members.items _ (omega (arith, many)) f

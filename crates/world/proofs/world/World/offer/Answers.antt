@@ -5,7 +5,7 @@ use Rattle.protocol.specs.Refusals.{Offering}
 use Rattle.station.specs.Stations.{sight}
 use Rattle.world.specs.declared.step.Step.TheVariants as steps
 use Rattle.world.specs.Logging.{offered_of, outcome_of}
-use Rattle.world.proofs.Asking.{asked, asked_kept, changed_in, offer_brings, same_kept, still}
+use Rattle.world.proofs.Asking.{asked, asked_kept, asked_made, changed_in, offer_brings, same_kept, same_made, still}
 use Rattle.world.proofs.world.World.offer.Goals as goal
 
 pub returns-in_err-make_room-clause-steps : goal.returns-in_err-make_room-clause-steps
@@ -16,9 +16,12 @@ returns-in_err-make_room-clause-steps g c = λ kept z w h.
 pub returns-in_err-make_room-clause-was_kept : goal.returns-in_err-make_room-clause-was_kept
 returns-in_err-make_room-clause-was_kept g c = same_kept g.R.Rows.kept c.args.self.now c.make_room.new.self c.make_room.ensures.same
 
+pub returns-in_err-make_room-clause-made : goal.returns-in_err-make_room-clause-made
+returns-in_err-make_room-clause-made g c = same_made g.R.Rows.made c.args.self.now c.make_room.new.self c.make_room.ensures.same
+
 pub returns-clause-steps : goal.returns-clause-steps
 returns-clause-steps g c =
-    let x = sight g.R.Rows.kept g.R.Rows.is_open g.R.Rows.saved g.R.Rows.alike g.R.Rows.passes g.R.Rows.tells in
+    let x = sight g.R.Rows in
     let v = c.args.self.now in
     let v1 = c.make_room.new.self in
     let v' = c.take_in.new.self in
@@ -35,7 +38,7 @@ returns-clause-steps g c =
 
 pub returns-clause-was_kept : goal.returns-clause-was_kept
 returns-clause-was_kept g c =
-    let x = sight g.R.Rows.kept g.R.Rows.is_open g.R.Rows.saved g.R.Rows.alike g.R.Rows.passes g.R.Rows.tells in
+    let x = sight g.R.Rows in
     let v = c.args.self.now in
     let v1 = c.make_room.new.self in
     let v' = c.take_in.new.self in
@@ -49,3 +52,15 @@ returns-clause-was_kept g c =
     let brings = offer_brings v c.args.member c.args.number c.args.now c.args.tape.now o.found in
     asked_kept v v1 v' (steps.Offer c.args.member c.args.number c.args.tape.now c.args.now) c.args.member (Offering c.args.number c.args.tape.now c.args.now) brings same c.offer-step.result c.take_in.result t.sent offers t.releases t.seen x g.R.Rows.refusals c.in_ok-place.place s s' ch
     c.offer-step.ensures.was_kept
+
+pub returns-clause-made : goal.returns-clause-made
+returns-clause-made g c =
+    let v = c.args.self.now in
+    let v1 = c.make_room.new.self in
+    let v' = c.take_in.new.self in
+    let s = c.index_mut.result.now in
+    let s' = c.offer-step.new.self in
+    let o = c.in_ok-place.ensures in
+    let same = c.make_room.ensures.same in
+    let ch = changed_in v v1 v' c.in_ok-place.place c.args.member s s' same o.place o.within c.index_mut.ensures.value (ap (λ q. q.items) c.take_in.ensures.stations) in
+    asked_made g.R.Rows.made v v1 v' c.in_ok-place.place c.args.member s s' same ch c.offer-step.ensures.made

@@ -2,14 +2,14 @@
 use Rattle.std.proofs.Common.{refl}
 use Rattle.std.specs.Vec.{with_item}
 use Rattle.station.specs.Stations.{sight}
-use Rattle.world.proofs.Members.{kept_before}
+use Rattle.world.proofs.Members.{kept_before, made_after}
 use Rattle.world.proofs.Asking.{changed}
 use Rattle.world.proofs.Starting.{restart_comes}
 use Rattle.world.proofs.world.World.restart.Goals as goal
 
 pub returns-clause-steps : goal.returns-clause-steps
 returns-clause-steps g c = λ kept z w h.
-    let x = sight g.R.Rows.kept g.R.Rows.is_open g.R.Rows.saved g.R.Rows.alike g.R.Rows.passes g.R.Rows.tells in
+    let x = sight g.R.Rows in
     let v = c.args.self.now in
     let v' = record v { stations = with_item v.stations c.in_ok-place.place c.restart.new.self } in
     let o = c.in_ok-place.ensures in
@@ -24,3 +24,11 @@ returns-clause-was_kept g c =
     let o = c.in_ok-place.ensures in
     let ch = changed v v' c.in_ok-place.place c.args.member c.index_mut.result.now c.restart.new.self o.place o.within c.index_mut.ensures.value refl in
     kept_before v v' c.in_ok-place.place c.args.member c.index_mut.result.now c.restart.new.self ch g.R.Rows.kept (λ kept. rw c.restart.ensures.starts at kept)
+
+pub returns-clause-made : goal.returns-clause-made
+returns-clause-made g c =
+    let v = c.args.self.now in
+    let v' = record v { stations = with_item v.stations c.in_ok-place.place c.restart.new.self } in
+    let o = c.in_ok-place.ensures in
+    let ch = changed v v' c.in_ok-place.place c.args.member c.index_mut.result.now c.restart.new.self o.place o.within c.index_mut.ensures.value refl in
+    made_after v v' c.in_ok-place.place c.args.member c.index_mut.result.now c.restart.new.self ch g.R.Rows.made (λ made. rw c.restart.ensures.starts made)

@@ -7,7 +7,7 @@ use Rattle.world.specs.declared.step.Step.{Step}
 use Rattle.world.specs.Taking.{outcome_value}
 use Rattle.world.specs.Reach.{Leads}
 use Rattle.world.proofs.Asking.{reason_stays}
-use Rattle.world.proofs.Reaching.{agreed, led, leads_more}
+use Rattle.world.proofs.Reaching.{led, leads_more, reached_agreed, stays_reached}
 use Rattle.world.proofs.world.World.run.Goals as goal
 
 pub returns-in-Err-clause-runs : goal.returns-in-Err-clause-runs
@@ -24,13 +24,16 @@ returns-in-Err-clause-stops g c =
     (step, there, reason_stays c.loop-at.self c.step.new.self step c.in-Err.refusal t.1 t.0)
 
 pub returns-in-Err-clause-reached : goal.returns-in-Err-clause-reached
-returns-in-Err-clause-reached g c = λ kept z r.
+returns-in-Err-clause-reached g c =
+    stays_reached g.R.Rows g.met.R.Rows.halves c.args.self.now c.step.new.self (λ made. c.step.ensures.made (c.loop-at.invariant.made made)) (λ kept. c.loop-at.invariant.was_kept (c.step.ensures.was_kept kept))
+    (λ kept z r.
     let l = c.loop-at.invariant.runs (c.step.ensures.was_kept kept) z r.0 r.1 in
-    (l.0, c.in-Err.ensures.steps kept z l.0 l.1, led z r.0 l.0 (take c.loop-at.at c.args.steps.now) r.2 l.2)
+    (l.0, c.in-Err.ensures.steps kept z l.0 l.1, led z r.0 l.0 (take c.loop-at.at c.args.steps.now) r.2 l.2))
 
 pub loop-at-preserved : goal.loop-at-preserved
 loop-at-preserved g c = record {
   was_kept = λ kept. c.loop-at.invariant.was_kept (c.step.ensures.was_kept kept);
+  made = λ made. c.step.ensures.made (c.loop-at.invariant.made made);
   runs = λ kept z w h.
       let steps = c.args.steps.now in
       let step = c.index-steps-at.result in
@@ -49,9 +52,11 @@ returns-clause-runs g c = λ kept z w h.
     (l.0, l.1, subst (λ (ss : List Step). Leads z w ss l.0) all l.2)
 
 pub returns-clause-reached : goal.returns-clause-reached
-returns-clause-reached g c = λ kept z r.
+returns-clause-reached g c =
+    stays_reached g.R.Rows g.met.R.Rows.halves c.args.self.now c.loop-at.self c.loop-at.invariant.made c.loop-at.invariant.was_kept
+    (λ kept z r.
     let l = c.loop-at.invariant.runs kept z r.0 r.1 in
-    (l.0, l.1, led z r.0 l.0 (take c.loop-at.at c.args.steps.now) r.2 l.2)
+    (l.0, l.1, led z r.0 l.0 (take c.loop-at.at c.args.steps.now) r.2 l.2))
 
 pub returns-clause-agreed : goal.returns-clause-agreed
-returns-clause-agreed g c = λ z r. agreed g.R.Rows.is_open g.R.Rows.saved c.agreement.ensures z _ r
+returns-clause-agreed g c = reached_agreed g.R.Rows c.agreement.ensures _

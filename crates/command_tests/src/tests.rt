@@ -1,0 +1,4 @@
+//! What `check` and `rehearse` print.
+
+mod checking;
+mod rehearsing;

@@ -1,0 +1,226 @@
+//! The texts of galleys and faults, of the whole command.
+
+use crate::failing::{Broken, Slow};
+use crate::fixture::{TABLE, WIDTHS};
+use commands::{End, TapePaths, check};
+use std::alloc::Global;
+use std::io::Read;
+
+const PATHS: TapePaths<'static> = TapePaths {
+    table: "codes.toml",
+    widths: "widths.toml",
+    tape: "story.tape",
+};
+
+/// Whether `check` of these files ends so, and prints this text and this fault.
+fn ends<R: Read>(
+    alloc: Global,
+    files: (&str, &str),
+    tape: &mut R,
+    listing: bool,
+    end: End,
+    out: &str,
+    err: &str,
+) -> bool {
+    let (mut table, mut widths) = (files.0.as_bytes(), files.1.as_bytes());
+    let mut printed = Vec::new(alloc);
+    let mut told = Vec::new(alloc);
+    let ended = check(
+        alloc,
+        &PATHS,
+        &mut table,
+        &mut widths,
+        tape,
+        listing,
+        &mut printed,
+        &mut told,
+    );
+    ended == end && printed.as_slice() == out.as_bytes() && told.as_slice() == err.as_bytes()
+}
+
+/// Whether this tape sets as this text.
+fn sets(alloc: Global, mut tape: &[u8], out: &str) -> bool {
+    ends(alloc, (TABLE, WIDTHS), &mut tape, false, End::Done, out, "")
+}
+
+/// Whether these files have this fault, and nothing is printed.
+fn fails(alloc: Global, files: (&str, &str), mut tape: &[u8], err: &str) -> bool {
+    ends(alloc, files, &mut tape, false, End::Input, "", err)
+}
+
+/// Whether it is so where these widths have this in place of that.
+fn fails_with(alloc: Global, old: &str, new: &str, tape: &[u8], err: &str) -> bool {
+    match WIDTHS.replace(alloc, old, new) {
+        Ok(widths) => fails(alloc, (TABLE, &widths), tape, err),
+        Err(_) => false,
+    }
+}
+
+const GALLEYS: &[(&[u8], &str)] = &[
+    (&[1, 2, 3, 1, 3, 2, 4], "0001 J 0 0 a b _4 a _4 b\n"),
+    (&[1, 2, 3, 1, 3, 11, 4], "0001 J 0 0 a b _4 a _3 fi\n"),
+    (&[2, 2, 3, 2, 2, 4], "0001 J 0 0 b b _6 b b\n"),
+    (&[11, 11, 3, 11, 11, 4], "0001 J 0 0 fi fi _2 fi fi\n"),
+    (&[5, 2, 7, 4, 1, 11, 4], "0001 C 10 11 B\n0002 R 22 0 A\n"),
+    (&[4, 4, 63], ""),
+    (&[8, 1, 10, 9, 2, 7, 4], "0001 L 0 17 ^a ~2 b\n"),
+    (&[8, 1, 7, 4, 1, 7, 4], "0001 L 0 25 ^a\n0002 L 0 25 ^a\n"),
+    (&[1, 7, 5, 7, 4], "0001 C 12 13 a\n"),
+    (&[1, 3, 1, 7, 4], "0001 L 0 18 a _2 a\n"),
+    (&[1, 1, 1, 1, 1, 1, 4], "0001 J 0 0 a a a a a a\n"),
+];
+
+#[test]
+fn galleys(rt: HostRuntime) {
+    for (tape, text) in GALLEYS {
+        assert!(rt; sets(rt.alloc(), tape, text), "{text}");
+    }
+}
+
+const UNSET: &[(&[u8], &str)] = &[
+    (&[1, 2, 3, 1, 2, 4], "fault: loose 2 at 5 line 1\n"),
+    (&[1, 2, 3, 1, 2, 3, 1, 4], "fault: overset 1 at 7 line 1\n"),
+    (
+        &[1, 2, 3, 1, 2, 3, 1, 4, 12],
+        "fault: overset 1 at 7 line 1\n",
+    ),
+    (&[1], "fault: unfinished at 1 line 1\n"),
+    (&[12], "fault: unknown-code at 0 line 1\n"),
+    (&[1, 1, 1, 1, 1, 4], "fault: loose 5 at 5 line 1\n"),
+    (&[4, 64], "tape: bad frame at 1\n"),
+    (&[], "tape: empty\n"),
+];
+
+#[test]
+fn tapes_that_do_not_set(rt: HostRuntime) {
+    for (tape, fault) in UNSET {
+        assert!(rt; fails(rt.alloc(), (TABLE, WIDTHS), tape, fault));
+    }
+}
+
+/// A tape that is none: whoever tells another fault has not come to it.
+const BAD_TAPE: &[u8] = &[4, 64];
+
+const FAULTY_FILES: &[(&str, &str, &str)] = &[
+    ("code = [", "measure", "table: not toml\n"),
+    ("code = 3", "measure", "table: no codes\n"),
+    (
+        "[[code]]\nframe = \"a\"",
+        "measure",
+        "table entry 1: wrong type\n",
+    ),
+    (TABLE, "measure", "widths: not toml\n"),
+    (TABLE, "measure = 0", "widths: out of range measure\n"),
+    (TABLE, "measure = 1", "widths: missing band_min\n"),
+    (
+        TABLE,
+        "measure = 1\nband_min = \"a\"",
+        "widths: wrong type band_min\n",
+    ),
+];
+
+/// The place of the first of these that has not its fault.
+fn first_without(alloc: Global, cases: &[(&str, &str, &str)]) -> Option<usize> {
+    for (place, (table, widths, fault)) in cases.iter().enumerate() {
+        if !fails(alloc, (table, widths), BAD_TAPE, fault) {
+            return Some(place);
+        }
+    }
+    None
+}
+
+#[test]
+fn faults_of_files(rt: HostRuntime) {
+    assert_eq!(rt; first_without(rt.alloc(), FAULTY_FILES), None);
+}
+
+/// What the widths have, what stands there instead, and the fault.
+const CHANGED_WIDTHS: &[(&str, &str, &[u8], &str)] = &[
+    (
+        "fi = 7\n",
+        "",
+        &[1, 2, 3, 1, 3, 11, 4],
+        "fault: no-width at 5 line 1\n",
+    ),
+    (
+        "band_min = 2",
+        "band_min = 7",
+        BAD_TAPE,
+        "widths: bands crossed\n",
+    ),
+    ("a = 5", "\"@x\" = 5", BAD_TAPE, "widths: bad name 1\n"),
+    (
+        "A = 8",
+        "A = 0",
+        BAD_TAPE,
+        "widths: out of range matrix 1\n",
+    ),
+];
+
+#[test]
+fn faults_of_changed_widths(rt: HostRuntime) {
+    let alloc = rt.alloc();
+    let faulty = CHANGED_WIDTHS.iter().all(|(old, new, tape, fault)| fails_with(
+        alloc, old, new, tape, fault,
+    ));
+    assert!(rt; faulty);
+}
+
+/// Whether `check` of this tape with a listing ends so, and prints this text and this fault.
+fn lists(alloc: Global, mut tape: &[u8], end: End, out: &str, err: &str) -> bool {
+    ends(alloc, (TABLE, WIDTHS), &mut tape, true, end, out, err)
+}
+
+#[test]
+fn a_listing_of_holes(rt: HostRuntime) {
+    let text = "o.o... 5\n.o.... 2\nooo... 7\n..o... 4\no..... 1\noo.o.. 11\n..o... 4\n\
+0001 C 10 11 B\n0002 R 22 0 A\n";
+    assert!(rt; lists(rt.alloc(), &[5, 2, 7, 4, 1, 11, 4], End::Done, text, ""));
+    let fault = "fault: unfinished at 1 line 1\n";
+    assert!(rt; lists(rt.alloc(), &[1], End::Input, "o..... 1\n", fault));
+}
+
+#[test]
+fn files_that_do_not_open(rt: HostRuntime) {
+    let mut broken = Broken { given: true };
+    let fault = "cannot read story.tape\n";
+    assert!(rt;
+        ends(
+            rt.alloc(),
+            (TABLE, WIDTHS),
+            &mut broken,
+            false,
+            End::Input,
+            "",
+            fault
+        )
+    );
+}
+
+/// Whether a writer with room for so many bytes gets that front of the galley, and `check` ends well only with room
+/// for all.
+fn is_front(alloc: Global, room: usize) -> bool {
+    let text = b"0001 J 0 0 a b _4 a _4 b\n";
+    let (mut table, mut widths) = (TABLE.as_bytes(), WIDTHS.as_bytes());
+    let mut tape: &[u8] = &[1, 2, 3, 1, 3, 2, 4];
+    let mut out = Slow::new(alloc, room);
+    let mut err = Vec::new(alloc);
+    let end = check(
+        alloc,
+        &PATHS,
+        &mut table,
+        &mut widths,
+        &mut tape,
+        false,
+        &mut out,
+        &mut err,
+    );
+    text.starts_with(&out.taken) && out.taken.len() == room && (end == End::Done) == (room == 25)
+}
+
+#[test]
+fn a_front_of_the_galley(rt: HostRuntime) {
+    for room in [0, 1, 4, 12, 24, 25] {
+        assert!(rt; is_front(rt.alloc(), room), "{room}");
+    }
+}

@@ -1,0 +1,222 @@
+//! Rehearsals: whole printed texts, and every fault of a script with its line.
+
+use crate::failing::Broken;
+use crate::fixture::{TABLE, WIDTHS};
+use commands::{End, ScriptPaths, rehearse};
+use std::alloc::Global;
+use std::io::Read;
+use std::test::Fail;
+
+const PATHS: ScriptPaths<'static> = ScriptPaths {
+    table: "codes.toml",
+    widths: "widths.toml",
+    script: "story.script",
+};
+
+/// Whether a rehearsal of what this reads ends so, and prints this text and this fault.
+fn ends_over<R: Read>(
+    alloc: Global,
+    widths: &str,
+    script: &mut R,
+    end: End,
+    out: &str,
+    err: &str,
+) -> bool {
+    let (mut table, mut widths) = (TABLE.as_bytes(), widths.as_bytes());
+    let mut printed = Vec::new(alloc);
+    let mut told = Vec::new(alloc);
+    let ended = rehearse(
+        alloc,
+        &PATHS,
+        &mut table,
+        &mut widths,
+        script,
+        &mut printed,
+        &mut told,
+    );
+    ended == end && printed.as_slice() == out.as_bytes() && told.as_slice() == err.as_bytes()
+}
+
+/// Whether this script prints this text and no fault.
+fn prints(alloc: Global, script: &str, out: &str) -> bool {
+    ends_over(alloc, WIDTHS, &mut script.as_bytes(), End::Done, out, "")
+}
+
+/// Whether this script prints this text, and then this fault of an input.
+fn fails(alloc: Global, script: &str, out: &str, err: &str) -> bool {
+    ends_over(alloc, WIDTHS, &mut script.as_bytes(), End::Input, out, err)
+}
+
+/// Three members release.
+const THREE_MEMBERS: (&str, &str) = (
+    "members 3\noffer 1 12 01020301030204\ndeliver 1\ndeliver 3\ndeliver 6\n\
+deliver 4\ndeliver 8\ndeliver 9\ndeliver 7\n",
+    "1 began 1.1\n #1 prepare 1>2 12 1.1\n #2 prepare 1>3 12 1.1\n\
+2 promised 1.1\n #3 promise 2>1 12 1.1\n\
+1 proposed 1.1\n #4 accept 1>2 12 1.1\n #5 accept 1>3 12 1.1\n #6 accepted 1>2 12 1.1\n #7 accepted 1>3 12 1.1\n\
+2 heard 1.1\n\
+2 voted 1.1\n #8 accepted 2>1 12 1.1\n #9 accepted 2>3 12 1.1\n release 12 01020301030204\n0001 J 0 0 a b _4 a _4 b\n\
+1 heard 1.1\n release 12 01020301030204\n0001 J 0 0 a b _4 a _4 b\n\
+3 heard 1.1\n\
+3 heard 1.1\n release 12 01020301030204\n0001 J 0 0 a b _4 a _4 b\n",
+);
+
+/// A second ballot after a restart.
+const SECOND_BALLOT: (&str, &str) = (
+    "members 3\noffer 1 12 01020301030204\nrestart 1\noffer 1 12 01020301030b04\n",
+    "1 began 1.1\n #1 prepare 1>2 12 1.1\n #2 prepare 1>3 12 1.1\n\
+1 restarted\n\
+1 began 2.1\n #3 prepare 1>2 12 2.1\n #4 prepare 1>3 12 2.1\n",
+);
+
+/// A lower ballot is denied.
+const LOWER_BALLOT: (&str, &str) = (
+    "members 3\noffer 3 12 01020301030204\ndeliver 2\noffer 1 12 01020301030b04\n\
+deliver 4\ndeliver 6\ndeliver 2\nat 289\ndue 1\nat 290\ndue 1\n",
+    "3 began 1.3\n #1 prepare 3>1 12 1.3\n #2 prepare 3>2 12 1.3\n\
+2 promised 1.3\n #3 promise 2>3 12 1.3\n\
+1 began 1.1\n #4 prepare 1>2 12 1.1\n #5 prepare 1>3 12 1.1\n\
+2 nacked 1.3\n #6 nack 2>1 12 1.1\n\
+1 denied 1.3\n\
+2 silent\n\
+1 idle\n\
+1 began 2.1\n #7 prepare 1>2 12 2.1\n #8 prepare 1>3 12 2.1\n",
+);
+
+/// A store that balks, with the row saved and without; and steps that are refused.
+const BALKS_SAVED: (&str, &str) = (
+    "members 1\nbalk 1 saved\noffer 1 12 01020301030204\nseek 1 12\nrestart 1\nseek 1 12\n",
+    "1 armed saved\n1 stopped store\n1 refused stopped\n1 restarted\n\
+1 proposed 2.1\n release 12 01020301030204\n0001 J 0 0 a b _4 a _4 b\n",
+);
+
+const BALKS_UNSAVED: (&str, &str) = (
+    "members 1\nbalk 1 unsaved\noffer 1 12 01020301030204\nrestart 1\nseek 1 12\n",
+    "1 armed unsaved\n1 stopped store\n1 restarted\n1 nothing 1.1\n",
+);
+
+const REFUSED_ALONE: (&str, &str) = (
+    "members 1\noffer 1 0 01\nseek 1 1000000\noffer 1 12 010203010204\n\
+offer 1 12 01020301030204\noffer 1 12 01020301030204\nseek 1 12\ndue 1\n",
+    "1 refused bad-number\n1 refused bad-number\n\
+1 refused tape-faulty loose 2 at 5 line 1\n\
+1 proposed 1.1\n release 12 01020301030204\n0001 J 0 0 a b _4 a _4 b\n\
+1 refused already-released\n1 refused already-released\n1 idle\n",
+);
+
+const REFUSED_OF_THREE: (&str, &str) = (
+    "members 3\noffer 1 12 01020301030204\noffer 1 12 01020301030204\n",
+    "1 began 1.1\n #1 prepare 1>2 12 1.1\n #2 prepare 1>3 12 1.1\n1 refused already-open\n",
+);
+
+/// Lines that are ignored.
+const IGNORED: &[(&str, &str)] = &[
+    ("", ""),
+    ("\n  \n# members 99\n", ""),
+    (
+        "# a circuit of one\n\n  members   1  \n at 5\ndue 1",
+        "1 idle\n",
+    ),
+];
+
+#[test]
+fn printed_texts(rt: HostRuntime) {
+    let alloc = rt.alloc();
+    for (script, text) in &[
+        THREE_MEMBERS,
+        SECOND_BALLOT,
+        LOWER_BALLOT,
+        BALKS_SAVED,
+        BALKS_UNSAVED,
+        REFUSED_ALONE,
+        REFUSED_OF_THREE,
+    ] {
+        assert!(rt; prints(alloc, script, text), "{script}");
+    }
+}
+
+#[test]
+fn lines_that_are_ignored(rt: HostRuntime) {
+    for (script, text) in IGNORED {
+        assert!(rt; prints(rt.alloc(), script, text), "{script}");
+    }
+}
+
+/// Faulty lines, none after a printed text.
+const FAULTY: [(&str, &str); 12] = [
+    ("members 3\nmembers 3\n", "script line 2: bad line\n"),
+    ("members 16\n", "script line 1: bad line\n"),
+    ("\n# first\ndue 1\n", "script line 3: bad line\n"),
+    ("offer 1 12 40\n", "script line 1: bad line\n"),
+    ("members 3\ndue 300\n", "script line 2: bad line\n"),
+    ("members 3\noffer 9 12 40\n", "script line 2: bad tape\n"),
+    ("members 3\noffer 300 12 40\n", "script line 2: bad line\n"),
+    (
+        "members 3\noffer 4 12 01\n",
+        "script line 2: no such member\n",
+    ),
+    ("members 3\nseek 4 12\n", "script line 2: no such member\n"),
+    ("members 3\nrestart 0\n", "script line 2: no such member\n"),
+    (
+        "members 3\ndeliver 0\n",
+        "script line 2: no such datagram\n",
+    ),
+    (
+        "members 3\ndeliver 1\n",
+        "script line 2: no such datagram\n",
+    ),
+];
+
+#[test]
+fn faulty_lines(rt: HostRuntime) {
+    for (script, fault) in &FAULTY {
+        assert!(rt; fails(rt.alloc(), script, "", fault), "{script}");
+    }
+}
+
+#[test]
+fn what_was_printed_stays(rt: HostRuntime) {
+    let script = "members 1\ndue 1\ndeliver 1\ndue 1\n";
+    assert!(rt;
+        fails(
+            rt.alloc(),
+            script,
+            "1 idle\n",
+            "script line 3: no such datagram\n"
+        )
+    );
+}
+
+#[test]
+fn scripts_of_the_greatest_length(rt: HostRuntime) -> Result<(), Fail> {
+    let alloc = rt.alloc();
+    let mut text = vec![in alloc; b' '; 1_048_576]?;
+    assert!(rt; ends_over(alloc, WIDTHS, &mut text.as_slice(), End::Done, "", ""));
+    text.push(b' ')?;
+    let long = "input too long\n";
+    assert!(rt; ends_over(alloc, WIDTHS, &mut text.as_slice(), End::Input, "", long));
+    Ok(())
+}
+
+#[test]
+fn a_script_that_cannot_be_read(rt: HostRuntime) {
+    let mut broken = Broken { given: false };
+    let fault = "cannot read story.script\n";
+    assert!(rt; ends_over(rt.alloc(), WIDTHS, &mut broken, End::Input, "", fault));
+}
+
+#[test]
+fn the_table_is_taken_before_the_script(rt: HostRuntime) {
+    let mut broken = Broken { given: true };
+    let fault = "widths: out of range measure\n";
+    assert!(rt;
+        ends_over(
+            rt.alloc(),
+            "measure = 0",
+            &mut broken,
+            End::Input,
+            "",
+            fault
+        )
+    );
+}

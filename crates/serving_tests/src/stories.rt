@@ -1,0 +1,69 @@
+//! Stories of one station over rows in memory: what happens to it, and what has to come of it.
+
+use crate::fixture::ballot;
+use crate::plant::{Plant, Run};
+use crate::wires::{Manner, Scripted};
+use acceptor_store::{Balky, MemoryRows};
+use ballots::{Number, Row};
+use std::alloc::Global;
+
+/// A station of circuit 7, the ballot that it promised for number 12 before, its wire, and what happens to it.
+#[derive(Clone, Copy)]
+pub struct Story {
+    pub me: u8,
+    pub members: u8,
+    pub promised: Option<(u32, u8)>,
+    pub manner: Manner,
+    pub steps: &'static [Run],
+}
+
+/// A station over rows in memory.
+pub type Bench = Plant<Balky<MemoryRows>, Scripted>;
+
+/// Whether a step comes to what it has to.
+fn takes(bench: &mut Bench, step: &Run) -> bool {
+    if step.armed {
+        bench.station.rows_mut().arm(true);
+    }
+    if step.restarted {
+        bench.station.restart();
+    }
+    bench.wire.bring_all(step.coming) && bench.takes(step) && bench.wire.sent == step.sent
+}
+
+/// Blank rows, or with this promise for number 12.
+fn rows_with(alloc: Global, promised: Option<(u32, u8)>) -> Option<MemoryRows> {
+    let Some((round, owner)) = promised else {
+        return Some(MemoryRows::new(alloc));
+    };
+    let number = Number::new(12)?;
+    let row = Row::new(Some(ballot(round, owner)?), None)?;
+    let mut rows = MemoryRows::new(alloc);
+    rows.save(number, row).ok()?;
+    Some(rows)
+}
+
+/// The station of a story, before its steps.
+pub fn bench_of(alloc: Global, story: &Story) -> Option<Bench> {
+    let rows = Balky::new(rows_with(alloc, story.promised)?);
+    let wire = Scripted::new(alloc, story.manner);
+    Plant::new(alloc, story.me, story.members, rows, wire)
+}
+
+/// How many of these steps come to what they have to, up to the first that does not.
+pub fn taken(bench: &mut Bench, steps: &[Run]) -> usize {
+    for (place, step) in steps.iter().enumerate() {
+        if !takes(bench, step) {
+            return place;
+        }
+    }
+    steps.len()
+}
+
+/// Whether each step of a story comes to what it has to.
+pub fn is_true(alloc: Global, story: &Story) -> bool {
+    match bench_of(alloc, story) {
+        Some(mut bench) => taken(&mut bench, story.steps) == story.steps.len(),
+        None => false,
+    }
+}

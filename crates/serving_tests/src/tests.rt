@@ -1,0 +1,7 @@
+//! What a station prints and how a run ends, over wires of the tests and over sockets.
+
+mod agreeing;
+mod failing;
+mod printing;
+mod refusing;
+mod restarting;

@@ -1,0 +1,83 @@
+//! Wires of the tests.
+
+use ballots::Member;
+use std::alloc::Global;
+use wire::{Arrival, Wire};
+
+/// What a wire of the tests does.
+#[derive(Clone, Copy, PartialEq, Eq)]
+pub enum Manner {
+    /// It gives what comes, and takes what is sent.
+    Whole,
+    /// It takes nothing of what is sent.
+    Deaf,
+    /// It fails to receive.
+    Torn,
+}
+
+/// A wire to which these datagrams come, and then nothing.
+#[derive(Drop)]
+pub struct Scripted {
+    pub alloc: Global,
+    pub manner: Manner,
+    pub coming: Vec<Vec<u8>>,
+    pub next: usize,
+    pub sent: usize,
+}
+
+impl Scripted {
+    pub fn new(alloc: Global, manner: Manner) -> Scripted {
+        Scripted {
+            alloc,
+            manner,
+            coming: Vec::new(alloc),
+            next: 0,
+            sent: 0,
+        }
+    }
+
+    /// Lets the datagram of these hexadecimal digits come after the others; whether there was memory for it.
+    fn bring(&mut self, digits: &[u8]) -> bool {
+        match hex::decode(self.alloc, digits) {
+            Ok(datagram) => self.coming.push(datagram).is_ok(),
+            Err(_) => false,
+        }
+    }
+
+    /// Lets each of these come after the others.
+    pub fn bring_all(&mut self, coming: &[&[u8]]) -> bool {
+        for digits in coming {
+            if !self.bring(digits) {
+                return false;
+            }
+        }
+        true
+    }
+}
+
+impl Wire for Scripted {
+    fn receive(&mut self, buffer: &mut [u8]) -> Arrival {
+        if self.manner == Manner::Torn {
+            return Arrival::Failed;
+        }
+        let Some(bytes) = self.coming.get(self.next) else {
+            return Arrival::Nothing;
+        };
+        self.next = self.next.saturating_add(1);
+        let length = bytes.len();
+        if length > buffer.len() {
+            return Arrival::Failed;
+        }
+        buffer[..length].copy_from_slice(bytes);
+        Arrival::Datagram { length }
+    }
+
+    fn send(&mut self, _to: Member, _bytes: &[u8]) -> bool {
+        self.sent = self.sent.saturating_add(1);
+        self.manner != Manner::Deaf
+    }
+
+    fn now(&mut self) -> u64 {
+        0
+    }
+}
