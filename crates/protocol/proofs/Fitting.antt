@@ -1,14 +1,14 @@
--- A turn makes no entry up.
-use Rattle.std.proofs.Common.{◌≡◌, ℕ, ◌⊎◌, inl, inr, refl, sym, ap, subst, ◌∙◌, List, [], ◌∷◌, ◌++◌, Option, Some, None}
+-- A turn makes no tape up.
+use Rattle.std.proofs.Common.{◌≡◌, ℕ, inl, inr, sym, subst, List, [], ◌∷◌, Option, Some, None}
 use Rattle.std.specs.Prelude.{IfSome}
 use Rattle.protocol.specs.Lists.{IsAmong}
-use Rattle.protocol.specs.Ballots.{Ballot, IsMember}
-use Rattle.protocol.specs.Rows.{Tape, Vote, vote_for, Row, raised, voted}
+use Rattle.protocol.specs.Ballots.{Ballot}
+use Rattle.protocol.specs.Rows.{Tape, Vote, Row}
 use Rattle.protocol.specs.Versions.{Version}
 use Rattle.protocol.specs.Packets.{Packet, Body, Prepare, Promise, Accept, Accepted, Nack}
 use Rattle.protocol.specs.Marks.{Mark, Began, Promised, Proposed, Denied, Heard, Closed, Released}
-use Rattle.protocol.specs.Readings.{IsOpen, Gathers, IsCounted, Picks, the_reported, the_own}
-use Rattle.protocol.specs.Turn.{Turn, stays, packet_to, to_others, others, Note, Event, Offered, Sought, Came_due, Arrived, turn}
+use Rattle.protocol.specs.Readings.{IsOpen, IsCounted, Picks, the_reported, the_own}
+use Rattle.protocol.specs.Turn.{Turn, stays, packet_to, to_others, others, Note, Event, Offered, Sought, Came_due, Arrived}
 use Rattle.protocol.specs.Table.{Hears, was_settled, waits, releases, Proposes, nothing, proposes, Begins, asks, alone, StartTurn, starts, DueTurn, is_idle, gives_up, begins_anew, PrepareTurn, promises, is_silent, AcceptTurn, votes_again, votes, PromiseTurn, is_overtaken, is_repeated, counts, completes, NackTurn, is_denied, AcceptedTurn, settles, hears, AnswerTurn, IsTurn}
 use Rattle.protocol.specs.Table as table
 use Rattle.protocol.specs.Fitting.{Fits, VoteFits, MarkFits, MarksFit, BodyFits, EventFits, TurnFits, TurnsFit}
@@ -88,9 +88,10 @@ module _ (v : Version) where
   open_fits :
       {marks : List Mark} {n : ℕ} {b : Ballot} {own : Option Tape} {report : Option Vote} {since : List Mark}
       → (o : IsOpen marks n b own report since) → MarksFit v marks → (IfSome own (Fits v) × VoteFits v report) × MarksFit v since
-  open_fits {marks = marks} {n = n} {b = b} {own = own} {report = report} {since = since} o h =
-      (h.each (Began n b own report o.now) (among_split marks since o.before (Began n b own report o.now) o.began),
-      record { each = λ x i. h.each x (subst (λ (l : List Mark). IsAmong l x) (sym o.began) (among_left since (Began n b own report o.now ∷ o.before) x i)) })
+  open_fits {marks = marks} {n = n} {b = b} {own = own} {report = report} {since = since} o h = (
+    h.each (Began n b own report o.now) (among_split marks since o.before (Began n b own report o.now) o.began),
+    record { each = λ x i. h.each x (subst (λ (l : List Mark). IsAmong l x) (sym o.began) (among_left since (Began n b own report o.now ∷ o.before) x i)) },
+  )
 
   due_fits : {k c m n now : ℕ} {marks : List Mark} {row : Row} {t : Turn} → DueTurn k c m n now marks row t → VoteFits v row.vote → MarksFit v marks → TurnFits v t
   due_fits (is_idle i e) r h = stays_fit e r h
@@ -134,7 +135,7 @@ module _ (v : Version) where
   turn_fits :
       (k c m : ℕ) (marks : List Mark) (row : Row) (e : Event) (t : Turn)
       → IsTurn k c m marks row e t → VoteFits v row.vote → MarksFit v marks → EventFits v e → TurnFits v t
-  turn_fits k c m marks row (Offered n entry now) t (starts b i begins) r h f = begins_fit begins f r h
+  turn_fits k c m marks row (Offered n tape now) t (starts b i begins) r h f = begins_fit begins f r h
   turn_fits k c m marks row (Sought n now) t (starts b i begins) r h f = begins_fit begins tt r h
   turn_fits k c m marks row (Came_due n now) t taken r h f = due_fits taken r h
   turn_fits k c m marks row (Arrived p now) t taken r h f = answer_fits k c m now marks row p p.body t taken r h f

@@ -1,20 +1,20 @@
--- Each step leaves each member with entries that fit its version.
-use Rattle.std.proofs.Common.{◌≡◌, ℕ, ◌⊎◌, inl, inr, refl, sym, ap, subst, ◌∙◌, List, [], ◌∷◌, Option, Some, None, Bool, true, false}
+-- Each step leaves each member with tapes that fit its version.
+use Rattle.std.proofs.Common.{◌≡◌, ℕ, ◌⊎◌, inl, inr, refl, sym, ap, subst, ◌∙◌, List, [], Option, Some, None, Bool, true, false}
 use Rattle.std.specs.Prelude.{Result, Ok, Err, if◌then◌else◌}
 use Rattle.protocol.specs.Lists.{or_else}
 use Rattle.protocol.specs.Ballots.{IsMember}
-use Rattle.protocol.specs.Rows.{Tape, Vote, Row, blank}
+use Rattle.protocol.specs.Rows.{Vote, Row}
 use Rattle.protocol.specs.Versions.{Version, One, Two}
 use Rattle.protocol.specs.Packets.{Packet, Body, Prepare, Promise, Accept, Accepted, Nack}
 use Rattle.protocol.specs.Marks.{Mark}
 use Rattle.protocol.specs.Proposals.{next_due}
 use Rattle.protocol.specs.Turn.{Turn, turn, Event, Offered, Sought, Came_due, Arrived, number_of}
-use Rattle.protocol.specs.Refusals.{Setup, Call, Offering, Seeking, Falling_due, Receiving, Refusal, Stopped, wire_refusal, number_refusal, call_refusal, tape_refusal, early_refusal, refusal, due_event, arrival, event_of}
-use Rattle.protocol.specs.Circuit.{Circuit, hears, setup_of, State, IsSameState, fresh, Outcome, with_at, saved, MayLeave, MayTurn, Leaves, before_save, at_save, StepsTo, is_refused, is_idle, is_spent, is_done, is_torn, restarts, upgrades, upgrade_is_torn, is_armed, History, starts, goes_on}
+use Rattle.protocol.specs.Refusals.{Call, Offering, Seeking, Falling_due, Receiving, Refusal, Stopped, wire_refusal, number_refusal, call_refusal, early_refusal, due_event, arrival, event_of}
+use Rattle.protocol.specs.Circuit.{Circuit, hears, setup_of, State, IsSameState, fresh, Outcome, with_at, saved, MayLeave, MayGoOver, Leaves, before_save, at_save, StepsTo, is_refused, is_idle, is_spent, is_done, is_torn, restarts, upgrades, upgrade_is_torn, is_armed, History, starts, goes_on}
 use Rattle.protocol.specs.Circuit as circuit
 use Rattle.protocol.specs.Fitting.{Fits, VoteFits, MarksFit, BodyFits, EventFits, TurnFits, SpellsWhatFits, MembersFit, HistoriesFit}
 use Rattle.protocol.proofs.Places.{with_at_cases, with_at-self, with_at-same, saved_cases, saved-self}
-use Rattle.protocol.proofs.Steps.{same_state, arrived_read, due_arrives}
+use Rattle.protocol.proofs.Steps.{same_state, due_arrives}
 use Rattle.protocol.proofs.Fitting.{turns_fit}
 
 first_none : {A : Type 0} (x y : Option A) → or_else x y ≡ None → x ≡ None
@@ -44,8 +44,8 @@ vote_fits_two v (Some u) f = refl
 body_fits_two : (v : Version) (body : Body) → BodyFits v body → BodyFits Two body
 body_fits_two v Prepare f = tt
 body_fits_two v (Promise report) f = vote_fits_two v report f
-body_fits_two v (Accept entry) f = refl
-body_fits_two v (Accepted entry) f = refl
+body_fits_two v (Accept tape) f = refl
+body_fits_two v (Accepted tape) f = refl
 body_fits_two v (Nack p) f = tt
 
 module _ {D G F : Type 0} (z : Circuit D G F) (spells : SpellsWhatFits z) where
@@ -57,9 +57,9 @@ module _ {D G F : Type 0} (z : Circuit D G F) (spells : SpellsWhatFits z) where
   event_fits :
       (v : Version) (m : ℕ) (stopped : Bool) (marks : List Mark) (call : Call) (e : Event)
       → early_refusal (setup_of z v m) stopped marks call ≡ None → event_of (setup_of z v m) marks call ≡ Some e → EventFits v e
-  event_fits v m stopped marks (Offering n entry now) e un is =
-      let free = unstopped stopped (call_refusal (setup_of z v m) marks (Offering n entry now)) un in
-      let f : Fits v entry = not_too_old _ (second_none (number_refusal n marks) _ free) in
+  event_fits v m stopped marks (Offering n tape now) e un is =
+      let free = unstopped stopped (call_refusal (setup_of z v m) marks (Offering n tape now)) un in
+      let f : Fits v tape = not_too_old _ (second_none (number_refusal n marks) _ free) in
       subst (λ (x : Event). EventFits v x) (inj is) f
     where
       inj : {x y : Event} → Some x ≡ Some y → x ≡ y
@@ -121,10 +121,10 @@ module _ {D G F : Type 0} (z : Circuit D G F) (spells : SpellsWhatFits z) where
       emptied : k ≡ m → MarksFit v (with_at w.marks m [] k)
       emptied same = subst (λ (l : List Mark). MarksFit v l) (sym (ap (λ (x : ℕ). with_at w.marks m [] x) same ∙ with_at-same w.marks m [])) (no_marks v)
 
-  may_turn : (armed : Option Bool) (before v : Version) → MayTurn armed before v → (v ≡ before) ⊎ (v ≡ Two)
-  may_turn (Some false) before v h = inl h
-  may_turn (Some true) before v h = h
-  may_turn None before v h = h
+  may_go_over : (armed : Option Bool) (before v : Version) → MayGoOver armed before v → (v ≡ before) ⊎ (v ≡ Two)
+  may_go_over (Some false) before v h = inl h
+  may_go_over (Some true) before v h = h
+  may_go_over None before v h = h
 
   may_leave : (armed : Option Bool) (before after row : Row) → MayLeave armed before after row → (row ≡ before) ⊎ (row ≡ after)
   may_leave (Some false) before after row h = inl h
@@ -161,7 +161,7 @@ module _ {D G F : Type 0} (z : Circuit D G F) (spells : SpellsWhatFits z) where
   step_fits w s o after h (upgrades m member is_upgrade how unarmed is) =
       subst (λ (x : State G F). MembersFit x) (sym (same_state is)) (record { rows = λ k. (turned_fit w h m Two (inr refl) k).0; marks = λ k. (turned_fit w h m Two (inr refl) k).1 })
   step_fits w s o after h (upgrade_is_torn m v member is_upgrade how turns is) =
-      let t = may_turn (w.armed m) (w.version m) v turns in
+      let t = may_go_over (w.armed m) (w.version m) v turns in
       subst (λ (x : State G F). MembersFit x) (sym (same_state is)) (record { rows = λ k. (turned_fit w h m v t k).0; marks = λ k. (turned_fit w h m v t k).1 })
   step_fits w s o after h (is_armed m b member is_balk how is) = subst (λ (x : State G F). MembersFit x) (sym (same_state is)) (record { rows = h.rows; marks = h.marks })
 

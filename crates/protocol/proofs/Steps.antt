@@ -35,9 +35,14 @@ same_state s = λ i. record {
   releases = s.releases i;
 }
 
--- what is spelled in a version, a station of version 2 takes for that
+-- what spells a packet in a version, a station of version 2 takes for that packet
 pub spelled_heard : {D G F : Type 0} (z : Circuit D G F) (v : Version) (bytes : List ℕ) (p : Packet) → z.reads v bytes ≡ Ok p → hears z Two bytes ≡ Ok p
 spelled_heard z v bytes p e = ap (λ (x : Version). z.reads x bytes) (z.says v bytes p e) ∙ e
+
+-- and so does a station of that version
+pub heard_here : {D G F : Type 0} (z : Circuit D G F) (v : Version) (bytes : List ℕ) (p : Packet) → z.reads v bytes ≡ Ok p → hears z v bytes ≡ Ok p
+heard_here z One bytes p e = e
+heard_here z Two bytes p e = spelled_heard z Two bytes p e
 
 -- what a station of any version takes bytes for, one of version 2 does too
 heard_alike : {D G F : Type 0} (z : Circuit D G F) (v : Version) (bytes : List ℕ) (p : Packet) → hears z v bytes ≡ Ok p → hears z Two bytes ≡ Ok p

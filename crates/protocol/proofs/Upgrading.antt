@@ -1,63 +1,60 @@
 -- Histories in which members go over.
-use Rattle.std.proofs.Common.{◌≡◌, ℕ, inl, inr, refl, ap, sym, subst, arith, List, [], ◌∷◌, Some, None, true, false}
-use Rattle.std.specs.Prelude.{◌==◌, map, Result, Ok, Err}
+use Rattle.std.proofs.Common.{◌≡◌, ℕ, inl, inr, refl, arith, List, [], ◌∷◌, Some, None, true, false}
+use Rattle.std.specs.Prelude.{◌==◌, map, Ok, Err}
 use Rattle.std.specs.List.{AllZip}
 use Rattle.std.proofs.lemmas.Bool.{eq-eqb}
 use Rattle.protocol.specs.Ballots.{IsMember}
-use Rattle.protocol.specs.Rows.{Tape, Row, blank, voted, vote_for}
-use Rattle.protocol.specs.Versions.{Version, One, Two, void, fits}
+use Rattle.protocol.specs.Rows.{Tape, vote_for}
+use Rattle.protocol.specs.Versions.{Version, One, Two, fits}
 use Rattle.protocol.specs.Packets.{Packet, Prepare, Promise, Accept, Accepted}
-use Rattle.protocol.specs.Turn.{Note_began, Note_promised, Note_proposed, Note_heard, Note_voted, Offered, Sought, Arrived, packet_to}
-use Rattle.protocol.specs.Refusals.{Offering, Seeking, Receiving, Stopped, Wire_too_old, Bad_datagram}
-use Rattle.protocol.specs.Circuit.{Circuit, State, IsSameState, fresh, Offers, Seeks, Delivers, Restarts, Upgrades, Balks, Done, Refused, Torn_by_store, Restarted, Upgraded, Armed, Carries, at_save, is_refused, is_done, is_torn, restarts, upgrades, upgrade_is_torn, is_armed, History, starts, goes_on}
+use Rattle.protocol.specs.Turn.{Note_began, Note_promised, Note_proposed, Note_heard, Note_voted, Offered, Arrived, packet_to}
+use Rattle.protocol.specs.Refusals.{Offering, Receiving, Wire_too_old, Bad_datagram}
+use Rattle.protocol.specs.Circuit.{Circuit, State, Offers, Delivers, Restarts, Upgrades, Balks, Done, Refused, Torn_by_store, Restarted, Upgraded, Armed, Carries, is_refused, is_done, restarts, upgrades, upgrade_is_torn, is_armed, History, goes_on}
 use Rattle.protocol.specs.Runs.{ballot}
-use Rattle.protocol.specs.Rehearsals.{steps_of, started_at, TornUpgrades, VoteOutlivesUpgrades, packets_before, packets_after, datagram_of, release_by}
+use Rattle.protocol.specs.Rehearsals.{steps_of, started_at, TornUpgrades, VoteOutlivesUpgrades, packets_of_three, packets_after, datagram_of, release_by}
 use Rattle.protocol.proofs.Steps.{spelled_heard}
-use Rattle.protocol.proofs.Rehearsing.{same, of_count, at_count}
-
-abbrev all_at_one : {D G F : Type 0} (z : Circuit D G F) → History z (fresh (λ m. One))
-all_at_one z = starts (λ m. One) (same (fresh (λ m. One)))
+use Rattle.protocol.proofs.Rehearsing.{same, begins, of_count, at_count}
 
 abbrev AreTorn : {D G F : Type 0} → Circuit D G F → Type 0
 AreTorn {D = D} {G = G} {F = F} z =
-    (slugs : G) → z.sets 1 void ≡ Ok slugs
+    (tape : Tape) (slugs : G) → fits One tape ≡ false → z.sets 1 tape ≡ Ok slugs
     → ((w : State G F) × (h : History z w) × (started_at h 1 ≡ One) × (w.version 1 ≡ One)
     × (steps_of h
     ≡ record { step = Balks 1 false; outcome = Armed false }
     ∷ record { step = Upgrades 1; outcome = Torn_by_store }
     ∷ record { step = Restarts 1; outcome = Restarted }
-    ∷ record { step = Offers 1 12 void 0; outcome = Refused Wire_too_old } ∷ []))
-    × ((w : State G F) × (h : History z w) × (started_at h 1 ≡ One) × (w.releases ≡ release_by z 1 void ∷ [])
+    ∷ record { step = Offers 1 12 tape 0; outcome = Refused Wire_too_old } ∷ []))
+    × ((w : State G F) × (h : History z w) × (started_at h 1 ≡ One) × (w.releases ≡ release_by z 1 tape ∷ [])
     × (steps_of h
     ≡ record { step = Balks 1 true; outcome = Armed true }
     ∷ record { step = Upgrades 1; outcome = Torn_by_store }
     ∷ record { step = Restarts 1; outcome = Restarted }
-    ∷ record { step = Offers 1 12 void 0; outcome = Done (Note_proposed (ballot 1 1)) } ∷ []))
+    ∷ record { step = Offers 1 12 tape 0; outcome = Done (Note_proposed (ballot 1 1)) } ∷ []))
 
 are_torn : {D G F : Type 0} → of_count {D = D} {G = G} {F = F} 1 AreTorn
-are_torn {D = D} {G = G} {F = F} k reads version_of sets says slugs s =
+are_torn {D = D} {G = G} {F = F} k reads version_of sets says tape slugs unfit s =
     let z : Circuit D G F = record { number = k; count = 1; reads = reads; version_of = version_of; sets = sets; says = says } in
     let me : IsMember 1 1 = (omega arith, omega arith) in
-    let a1 : History z _ = goes_on (all_at_one z) (Balks 1 false) (Armed false) (is_armed 1 false me refl refl (same _)) in
+    let a1 : History z _ = goes_on (begins z One) (Balks 1 false) (Armed false) (is_armed 1 false me refl refl (same _)) in
     let a2 : History z _ = goes_on a1 (Upgrades 1) Torn_by_store (upgrade_is_torn 1 One me refl refl refl (same _)) in
     let a3 : History z _ = goes_on a2 (Restarts 1) Restarted (restarts 1 me refl refl (same _)) in
-    let a4 : History z _ = goes_on a3 (Offers 1 12 void 0) (Refused Wire_too_old) (is_refused 1 (Offering 12 void 0) Wire_too_old refl me refl refl (same _)) in
-    let b1 : History z _ = goes_on (all_at_one z) (Balks 1 true) (Armed true) (is_armed 1 true me refl refl (same _)) in
+    let a4 : History z _ = goes_on a3 (Offers 1 12 tape 0) (Refused Wire_too_old) (is_refused 1 (Offering 12 tape 0) Wire_too_old refl me (rw unfit refl) refl (same _)) in
+    let b1 : History z _ = goes_on (begins z One) (Balks 1 true) (Armed true) (is_armed 1 true me refl refl (same _)) in
     let b2 : History z _ = goes_on b1 (Upgrades 1) Torn_by_store (upgrade_is_torn 1 Two me refl refl (inr refl) (same _)) in
     let b3 : History z _ = goes_on b2 (Restarts 1) Restarted (restarts 1 me refl refl (same _)) in
-    let b4 : History z _ = goes_on b3 (Offers 1 12 void 0) (Done (Note_proposed (ballot 1 1))) (is_done 1 (Offering 12 void 0) (Offered 12 void 0) _ [] refl me (rw s refl) refl refl tt (inl refl) refl (same _)) in
+    let b4 : History z _ = goes_on b3 (Offers 1 12 tape 0) (Done (Note_proposed (ballot 1 1))) (is_done 1 (Offering 12 tape 0) (Offered 12 tape 0) _ [] refl me (rw s refl) refl refl tt (inl refl) refl (same _)) in
     ((_, a4, refl, refl, refl), (_, b4, refl, refl, refl))
 
 pub torn_upgrades : {D G F : Type 0} → TornUpgrades D G F
-torn_upgrades z slugs one sets = at_count 1 AreTorn are_torn z one slugs sets
+torn_upgrades z tape slugs one unfit sets = at_count 1 AreTorn are_torn z one tape slugs unfit sets
 
 abbrev IsFound : {D G F : Type 0} → Circuit D G F → Type 0
 IsFound {D = D} {G = G} {F = F} z =
-    (spell : Version → Packet → List ℕ) (tape : Tape) (slugs : G) (fault : D) → z.sets 1 tape ≡ Ok slugs → z.sets 3 void ≡ Ok slugs → fits One tape ≡ true
-    → AllZip (Carries z One) (packets_before z.number tape) (map (datagram_of (spell One)) (packets_before z.number tape))
+    (spell : Version → Packet → List ℕ) (tape own : Tape) (slugs : G) (fault : D) → fits One tape ≡ true → z.sets 1 tape ≡ Ok slugs → z.sets 3 own ≡ Ok slugs
+    → AllZip (Carries z One) (packets_of_three z.number tape) (map (datagram_of (spell One)) (packets_of_three z.number tape))
     → AllZip (Carries z Two) (packets_after z.number tape) (map (datagram_of (spell Two)) (packets_after z.number tape))
     → z.reads One (spell Two (packet_to z.number 3 12 (ballot 1 3) Prepare 1)) ≡ Err fault
-    → (w : State G F) × (h : History z w) × (w.releases ≡ release_by z 3 tape ∷ [])
+    → (w : State G F) × (h : History z w) × ((m : ℕ) → started_at h m ≡ One) × (w.releases ≡ release_by z 3 tape ∷ [])
     × (steps_of h
     ≡ record { step = Offers 1 12 tape 0; outcome = Done (Note_began (ballot 1 1)) }
     ∷ record { step = Delivers 1 0; outcome = Done (Note_promised (ballot 1 1)) }
@@ -65,7 +62,8 @@ IsFound {D = D} {G = G} {F = F} z =
     ∷ record { step = Delivers 4 0; outcome = Done (Note_voted (ballot 1 1)) }
     ∷ record { step = Upgrades 2; outcome = Upgraded }
     ∷ record { step = Upgrades 3; outcome = Upgraded }
-    ∷ record { step = Offers 3 12 void 0; outcome = Done (Note_began (ballot 1 3)) }
+    ∷ record { step = Delivers 9 0; outcome = Done (Note_heard (ballot 1 1)) }
+    ∷ record { step = Offers 3 12 own 0; outcome = Done (Note_began (ballot 1 3)) }
     ∷ record { step = Delivers 10 0; outcome = Refused (Bad_datagram fault) }
     ∷ record { step = Delivers 11 0; outcome = Done (Note_promised (ballot 1 3)) }
     ∷ record { step = Delivers 12 0; outcome = Done (Note_proposed (ballot 1 3)) }
@@ -73,11 +71,12 @@ IsFound {D = D} {G = G} {F = F} z =
     ∷ record { step = Delivers 18 0; outcome = Done (Note_heard (ballot 1 3)) } ∷ [])
 
 is_found : {D G F : Type 0} → of_count {D = D} {G = G} {F = F} 3 IsFound
-is_found {D = D} {G = G} {F = F} k reads version_of sets says spell tape slugs fault s sv fit before after bad =
+is_found {D = D} {G = G} {F = F} k reads version_of sets says spell tape own slugs fault fit s so before after bad =
     let z : Circuit D G F = record { number = k; count = 3; reads = reads; version_of = version_of; sets = sets; says = says } in
     let e : (k == k) ≡ true = eq-eqb k k refl in
     let ((_, r1), ((_, r2), ((_, r3), ((_, r4), ((_, r5), ((_, r6), ((_, r7), ((_, r8), ((_, r9), _))))))))) = before in
     let ((_, r10), ((_, r11), ((_, r12), ((_, r13), ((_, r14), ((_, r15), ((_, r16), ((_, r17), ((_, r18), _))))))))) = after in
+    let g9 = spelled_heard z One _ _ r9 in
     let g11 = spelled_heard z Two _ _ r11 in
     let g12 = spelled_heard z Two _ _ r12 in
     let g14 = spelled_heard z Two _ _ r14 in
@@ -86,7 +85,7 @@ is_found {D = D} {G = G} {F = F} k reads version_of sets says spell tape slugs f
     let one : IsMember 3 1 = (omega arith, omega arith) in
     let two : IsMember 3 2 = (omega arith, omega arith) in
     let three : IsMember 3 3 = (omega arith, omega arith) in
-    let h0 : History z _ = goes_on (all_at_one z) (Offers 1 12 tape 0) (Done (Note_began (ballot 1 1)))
+    let h0 : History z _ = goes_on (begins z One) (Offers 1 12 tape 0) (Done (Note_began (ballot 1 1)))
     (is_done 1 (Offering 12 tape 0) (Offered 12 tape 0) _ (d One (packet_to k 1 12 (ballot 1 1) Prepare 2) ∷ d One (packet_to k 1 12 (ballot 1 1) Prepare 3) ∷ []) refl one (rw (fit, s) refl) refl refl ((refl, r1), ((refl, r2), tt)) (inl refl) refl (same _)) in
     let h1 : History z _ = goes_on h0 (Delivers 1 0) (Done (Note_promised (ballot 1 1)))
     (is_done 2 (Receiving _ 0) (Arrived (packet_to k 1 12 (ballot 1 1) Prepare 2) 0) _ (d One (packet_to k 2 12 (ballot 1 1) (Promise None) 1) ∷ []) refl two (rw (r1, e) refl) (rw r1 refl) refl ((refl, r3), tt) (inl refl) refl (same _)) in
@@ -96,8 +95,10 @@ is_found {D = D} {G = G} {F = F} k reads version_of sets says spell tape slugs f
     (is_done 2 (Receiving _ 0) (Arrived (packet_to k 1 12 (ballot 1 1) (Accept tape) 2) 0) _ (d One (packet_to k 2 12 (ballot 1 1) (Accepted tape) 1) ∷ d One (packet_to k 2 12 (ballot 1 1) (Accepted tape) 3) ∷ []) refl two (rw (r4, e) refl) (rw r4 refl) refl ((refl, r8), ((refl, r9), tt)) (inl refl) refl (same _)) in
     let h4 : History z _ = goes_on h3 (Upgrades 2) Upgraded (upgrades 2 two refl refl refl (same _)) in
     let h5 : History z _ = goes_on h4 (Upgrades 3) Upgraded (upgrades 3 three refl refl refl (same _)) in
-    let h6 : History z _ = goes_on h5 (Offers 3 12 void 0) (Done (Note_began (ballot 1 3)))
-    (is_done 3 (Offering 12 void 0) (Offered 12 void 0) _ (d Two (packet_to k 3 12 (ballot 1 3) Prepare 1) ∷ d Two (packet_to k 3 12 (ballot 1 3) Prepare 2) ∷ []) refl three (rw sv refl) refl refl ((refl, r10), ((refl, r11), tt)) (inl refl) refl (same _)) in
+    let heard : History z _ = goes_on h5 (Delivers 9 0) (Done (Note_heard (ballot 1 1)))
+    (is_done 3 (Receiving _ 0) (Arrived (packet_to k 2 12 (ballot 1 1) (Accepted tape) 3) 0) _ [] refl three (rw (g9, e) refl) (rw g9 refl) refl tt (inl refl) refl (same _)) in
+    let h6 : History z _ = goes_on heard (Offers 3 12 own 0) (Done (Note_began (ballot 1 3)))
+    (is_done 3 (Offering 12 own 0) (Offered 12 own 0) _ (d Two (packet_to k 3 12 (ballot 1 3) Prepare 1) ∷ d Two (packet_to k 3 12 (ballot 1 3) Prepare 2) ∷ []) refl three (rw so refl) refl refl ((refl, r10), ((refl, r11), tt)) (inl refl) refl (same _)) in
     let h7 : History z _ = goes_on h6 (Delivers 10 0) (Refused (Bad_datagram fault)) (is_refused 1 (Receiving _ 0) (Bad_datagram fault) refl one (rw bad refl) refl (same _)) in
     let h8 : History z _ = goes_on h7 (Delivers 11 0) (Done (Note_promised (ballot 1 3)))
     (is_done 2 (Receiving _ 0) (Arrived (packet_to k 3 12 (ballot 1 3) Prepare 2) 0) _ (d Two (packet_to k 2 12 (ballot 1 3) (Promise (Some (vote_for (ballot 1 1) tape))) 3) ∷ []) refl two (rw (g11, e) refl) (rw g11 refl) refl ((refl, r12), tt) (inl refl) refl (same _)) in
@@ -107,7 +108,7 @@ is_found {D = D} {G = G} {F = F} k reads version_of sets says spell tape slugs f
     (is_done 2 (Receiving _ 0) (Arrived (packet_to k 3 12 (ballot 1 3) (Accept tape) 2) 0) _ (d Two (packet_to k 2 12 (ballot 1 3) (Accepted tape) 1) ∷ d Two (packet_to k 2 12 (ballot 1 3) (Accepted tape) 3) ∷ []) refl two (rw (g14, e) refl) (rw g14 refl) refl ((refl, r17), ((refl, r18), tt)) (inl refl) refl (same _)) in
     let h11 : History z _ = goes_on h10 (Delivers 18 0) (Done (Note_heard (ballot 1 3)))
     (is_done 3 (Receiving _ 0) (Arrived (packet_to k 2 12 (ballot 1 3) (Accepted tape) 3) 0) _ [] refl three (rw (g18, e) refl) (rw g18 refl) refl tt (inl refl) refl (same _)) in
-    (_, h11, refl, refl)
+    (_, h11, λ m. refl, refl, refl)
 
 pub vote_outlives_upgrades : {D G F : Type 0} → VoteOutlivesUpgrades D G F
-vote_outlives_upgrades z spell tape slugs fault three sets setsv fit before after bad = at_count 3 IsFound is_found z three spell tape slugs fault sets setsv fit before after bad
+vote_outlives_upgrades z spell tape own slugs fault three fit sets so before after bad = at_count 3 IsFound is_found z three spell tape own slugs fault fit sets so before after bad

@@ -37,7 +37,7 @@ pub record IsAgreed {D G F : Type 0} (z : Circuit D G F) (w : State G F) : Type 
 abbrev pub HistoriesAgree : (D G F : Type 0) → Type 0
 HistoriesAgree D G F = (z : Circuit D G F) (w : State G F) → History z w → IsAgreed z w
 
--- a vote, or an Accept that was sent, of this number and ballot carries t
+-- a vote of this number and ballot carries t, or an Accept that was sent does, as a station of version 2 reads it
 pub data IsCarried {D G F : Type 0} {z : Circuit D G F} {w : State G F} (h : History z w) (n : ℕ) (b : Ballot) (t : Tape) : Type 0 where
   by_vote : (m : ℕ) → WasVoted h m n b t → IsCarried h n b t
   by_accept : (d : Datagram) (p : Packet) → IsAmong w.sent d → hears z Two d.bytes ≡ Ok p → p.number ≡ n → p.ballot ≡ b → p.body ≡ Accept t → IsCarried h n b t
@@ -50,7 +50,7 @@ BallotsHaveOneTape D G F = (z : Circuit D G F) (w : State G F) (h : History z w)
 abbrev pub VotesAreOffered : (D G F : Type 0) → Type 0
 VotesAreOffered D G F = (z : Circuit D G F) (w : State G F) (h : History z w) (m n : ℕ) (b : Ballot) (t : Tape) → WasVoted h m n b t → WasOffered w n t
 
--- a Promise of m for n at b, with this report, was sent
+-- a Promise of m for n at b, with this report, was sent, as a station of version 2 reads it
 pub record WasPromised {D G F : Type 0} (z : Circuit D G F) (w : State G F) (m n : ℕ) (b : Ballot) (report : Option Vote) : Type 0 where
   pub datagram : Datagram
   pub packet : Packet

@@ -11,7 +11,7 @@ use Rattle.protocol.specs.Refusals.{Setup, Call, Offering, Seeking, Falling_due,
 
 -- what a circuit is given: its number, how many members it has, which packet bytes spell in a version or why they spell none in it,
 -- of which version bytes say that they are, and what each member's table and widths make of a tape.
--- What spells a packet in a version says so.
+-- Bytes that spell a packet in a version say that they are of that version.
 pub record Circuit (D G F : Type 0) : Type 0 where
   pub number : ℕ
   pub count : ℕ
@@ -20,7 +20,8 @@ pub record Circuit (D G F : Type 0) : Type 0 where
   pub sets : ℕ → Tape → Result G F
   pub says : (v : Version) (bytes : List ℕ) (p : Packet) → reads v bytes ≡ Ok p → version_of bytes ≡ v
 
--- what a station of this version takes bytes for: at version 1 it reads version 1 alone, at version 2 both
+-- what a station of this version takes bytes for: at version 1 what they spell in version 1,
+-- at version 2 what they spell in the version that they say they are of
 abbrev pub hears : {D G F : Type 0} → Circuit D G F → Version → List ℕ → Result Packet D
 hears z One bytes = z.reads One bytes
 hears z Two bytes = z.reads (z.version_of bytes) bytes
@@ -71,7 +72,7 @@ pub record IsSameState {G F : Type 0} (v w : State G F) : Type 0 where
   pub offers : v.offers ≡ w.offers
   pub releases : v.releases ≡ w.releases
 
--- a circuit starts with each member at some version, no row, no mark and nothing sent
+-- a circuit starts with each member at its version, no row, no mark and nothing sent
 abbrev pub fresh : {G F : Type 0} → (ℕ → Version) → State G F
 fresh version = record { version = version; rows = λ m n. blank; marks = λ m. []; is_stopped = λ m. false; armed = λ m. None; sent = []; offers = []; releases = [] }
 
@@ -86,7 +87,7 @@ pub data Step : Type 0 where
   Upgrades : (member : ℕ) → Step
   Balks : (member : ℕ) → (saved : Bool) → Step
 
--- how a step ended: done with a note, refused, torn by the store or by want of memory, restarted, upgraded, armed
+-- how a step ended: done with a note, refused, torn by the store or by want of memory, restarted, gone over to version 2, armed
 pub data Outcome (D F : Type 0) : Type 0 where
   Done : (note : Note) → Outcome D F
   Refused : (refusal : Refusal D F) → Outcome D F
@@ -103,7 +104,7 @@ with_at f m x k = if k == m then x else f k
 abbrev pub saved : (ℕ → ℕ → Row) → ℕ → ℕ → Row → ℕ → ℕ → Row
 saved rows m n row = with_at rows m (with_at (rows m) n row)
 
--- the datagram spells the packet in this version, and goes to its addressee
+-- the datagram spells the packet in this version, that of its sender, and goes to its addressee
 abbrev pub Carries : {D G F : Type 0} → Circuit D G F → Version → Packet → Datagram → Type 0
 Carries z v p d = (d.to ≡ p.to) × (z.reads v d.bytes ≡ Ok p)
 
@@ -149,11 +150,11 @@ MayLeave (Some false) before after row = row ≡ before
 MayLeave (Some true) before after row = (row ≡ before) ⊎ (row ≡ after)
 MayLeave None before after row = (row ≡ before) ⊎ (row ≡ after)
 
--- which version an upgrade that is refused may leave: a store armed as unsaved leaves the old one, any other the old one or version 2
-abbrev pub MayTurn : Option Bool → Version → Version → Type 0
-MayTurn (Some false) before v = v ≡ before
-MayTurn (Some true) before v = (v ≡ before) ⊎ (v ≡ Two)
-MayTurn None before v = (v ≡ before) ⊎ (v ≡ Two)
+-- at which version a torn upgrade may leave a member: a store armed as unsaved leaves it where it was, any other there or at version 2
+abbrev pub MayGoOver : Option Bool → Version → Version → Type 0
+MayGoOver (Some false) before v = v ≡ before
+MayGoOver (Some true) before v = (v ≡ before) ⊎ (v ≡ Two)
+MayGoOver None before v = (v ≡ before) ⊎ (v ≡ Two)
 
 -- what a step that is torn leaves of the row of the event's number and of the armed flag:
 -- before any save both as they were; at the save, which only the store tears, a row that it may leave, unarmed
@@ -217,19 +218,20 @@ pub data StepsTo {D G F : Type 0} (z : Circuit D G F) (w : State G F) (s : Step)
         offers = offers_with w.offers m e;
       })
       → StepsTo z w s o after
-  -- a member starts again: it forgets its marks and keeps its rows
+  -- a member starts again: it forgets its marks and keeps its rows (to Lamport a process that fails and restarts)
   restarts :
       (m : ℕ) → IsMember z.count m → s ≡ Restarts m → o ≡ Restarted
       → IsSameState after (record w { marks = with_at w.marks m []; is_stopped = with_at w.is_stopped m false })
       → StepsTo z w s o after
-  -- a member goes over: it forgets its marks, keeps its rows, and is at version 2
+  -- an upgrade: a member starts again at version 2 with all its rows
   upgrades :
       (m : ℕ) → IsMember z.count m → s ≡ Upgrades m → o ≡ Upgraded → w.armed m ≡ None
       → IsSameState after (record w { version = with_at w.version m Two; marks = with_at w.marks m []; is_stopped = with_at w.is_stopped m false })
       → StepsTo z w s o after
-  -- the store refuses to go over: all rows are of the one version or all of the other, and the station stops
+  -- a torn upgrade: the store refuses to go over; all rows stand, and all are of the old version or all of version 2;
+  -- the station stops and forgets its marks
   upgrade_is_torn :
-      (m : ℕ) (v : Version) → IsMember z.count m → s ≡ Upgrades m → o ≡ Torn_by_store → MayTurn (w.armed m) (w.version m) v
+      (m : ℕ) (v : Version) → IsMember z.count m → s ≡ Upgrades m → o ≡ Torn_by_store → MayGoOver (w.armed m) (w.version m) v
       → IsSameState after (record w { version = with_at w.version m v; marks = with_at w.marks m []; is_stopped = with_at w.is_stopped m true; armed = with_at w.armed m None })
       → StepsTo z w s o after
   -- a member's store is armed

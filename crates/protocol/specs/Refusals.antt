@@ -8,7 +8,8 @@ use Rattle.protocol.specs.Proposals.{was_released, open_proposal, next_due}
 use Rattle.protocol.specs.Turn.{Event, Offered, Sought, Came_due, Arrived}
 
 -- how a station is set up: its circuit's number, the member count, which member it is,
--- which packet it reads in bytes or why it reads none, which entries it can write, and what its table and widths make of a tape
+-- which packet it reads in bytes or why it reads none, whether its version has a spelling for a tape,
+-- and what its table and widths make of a tape
 pub record Setup (D G F : Type 0) : Type 0 where
   pub circuit : ℕ
   pub count : ℕ
@@ -72,7 +73,7 @@ number_refusal n marks =
     else if is_some (open_proposal n marks) then Some Already_open
     else None
 
--- why it refuses to offer an entry that it can write, or can't
+-- why it refuses to offer a tape, by whether its version has a spelling for it
 abbrev pub wire_refusal : {D F : Type 0} → Bool → Option (Refusal D F)
 wire_refusal fits = if fits then None else Some Wire_too_old
 

@@ -6,7 +6,7 @@ use Rattle.protocol.specs.Packets.{Packet, Prepare, Promise, Accept, Accepted, N
 use Rattle.protocol.specs.Turn.{Offered, Note_began, Note_promised, Note_proposed, Note_heard, Note_voted, packet_to}
 use Rattle.protocol.specs.Runs.{ballot, run_of}
 use Rattle.protocol.specs.Refusals.{Stopped, Wrong_circuit, Not_for_me, Stranger, Bad_number, Already_released, Already_open, Wire_too_old, Bad_datagram, packet_refusal, number_refusal}
-use Rattle.protocol.specs.Versions.{Version, One, Two, void, fits}
+use Rattle.protocol.specs.Versions.{Version, One, Two, fits}
 use Rattle.protocol.specs.Circuit.{Circuit, Carries, Datagram, Release, State, Step, Offers, Seeks, Delivers, Restarts, Upgrades, Balks, Outcome, Done, Refused, Torn_by_store, Restarted, Upgraded, Armed, History, starts, goes_on}
 
 -- a member of 3 refuses packets of another circuit, for another, and of strangers: the sender, the owner of the ballot, of a reported vote, of a Nack's promise
@@ -44,19 +44,24 @@ steps_of (goes_on h s o st) = steps_of h ++ record { step = s; outcome = o } ∷
 abbrev pub release_by : {D G F : Type 0} → Circuit D G F → ℕ → Tape → Release G F
 release_by z m tape = record { member = m; number = 12; tape = tape; set = z.sets m tape }
 
--- 1 of 1 that is offered a tape that sets releases it
+-- the versions at which a history started
+abbrev pub started_at : {D G F : Type 0} {z : Circuit D G F} {w : State G F} → History z w → ℕ → Version
+started_at (starts version f) = version
+started_at (goes_on h s o st) = started_at h
+
+-- 1 of 1 that is offered a tape that fits its version and sets releases it
 abbrev pub OneMemberReleases : (D G F : Type 0) → Type 0
 OneMemberReleases D G F =
-    (z : Circuit D G F) (tape : Tape) (slugs : G) → z.count ≡ 1 → z.sets 1 tape ≡ Ok slugs
-    → (w : State G F) × (h : History z w) × (w.releases ≡ release_by z 1 tape ∷ [])
+    (z : Circuit D G F) (v : Version) (tape : Tape) (slugs : G) → z.count ≡ 1 → fits v tape ≡ true → z.sets 1 tape ≡ Ok slugs
+    → (w : State G F) × (h : History z w) × (started_at h 1 ≡ v) × (w.releases ≡ release_by z 1 tape ∷ [])
     × (steps_of h ≡ record { step = Offers 1 12 tape 0; outcome = Done (Note_proposed (ballot 1 1)) } ∷ [])
 
 -- a vote that was saved as the store failed is released after the restart:
 -- the station is stopped in between, and finds it as its own report by a search
 abbrev pub SavedVoteIsReleased : (D G F : Type 0) → Type 0
 SavedVoteIsReleased D G F =
-    (z : Circuit D G F) (tape : Tape) (slugs : G) → z.count ≡ 1 → z.sets 1 tape ≡ Ok slugs
-    → (w : State G F) × (h : History z w) × (w.releases ≡ release_by z 1 tape ∷ [])
+    (z : Circuit D G F) (v : Version) (tape : Tape) (slugs : G) → z.count ≡ 1 → fits v tape ≡ true → z.sets 1 tape ≡ Ok slugs
+    → (w : State G F) × (h : History z w) × (started_at h 1 ≡ v) × (w.releases ≡ release_by z 1 tape ∷ [])
     × (steps_of h
     ≡ record { step = Balks 1 true; outcome = Armed true }
     ∷ record { step = Offers 1 12 tape 0; outcome = Torn_by_store }
@@ -77,13 +82,13 @@ packets_of_three k tape =
 abbrev pub datagram_of : (Packet → List ℕ) → Packet → Datagram
 datagram_of spell p = record { to = p.to; bytes = spell p }
 
--- of three members, of which the first is offered a tape, all release it, though the third never voted:
+-- of three members at one version, of which the first is offered a tape, all release it, though the third never voted:
 -- 2 as it votes, 1 as it hears the vote of 2, and 3 as it has heard both
 abbrev pub ThreeMembersRelease : (D G F : Type 0) → Type 0
 ThreeMembersRelease D G F =
-    (z : Circuit D G F) (spell : Packet → List ℕ) (tape : Tape) (slugs : G) → z.count ≡ 3 → z.sets 1 tape ≡ Ok slugs
-    → AllZip (Carries z Two) (packets_of_three z.number tape) (map (datagram_of spell) (packets_of_three z.number tape))
-    → (w : State G F) × (h : History z w) × (w.releases ≡ release_by z 2 tape ∷ release_by z 1 tape ∷ release_by z 3 tape ∷ [])
+    (z : Circuit D G F) (v : Version) (spell : Packet → List ℕ) (tape : Tape) (slugs : G) → z.count ≡ 3 → fits v tape ≡ true → z.sets 1 tape ≡ Ok slugs
+    → AllZip (Carries z v) (packets_of_three z.number tape) (map (datagram_of spell) (packets_of_three z.number tape))
+    → (w : State G F) × (h : History z w) × ((m : ℕ) → started_at h m ≡ v) × (w.releases ≡ release_by z 2 tape ∷ release_by z 1 tape ∷ release_by z 3 tape ∷ [])
     × (w.sent ≡ map (datagram_of spell) (packets_of_three z.number tape))
     × (steps_of h
     ≡ record { step = Offers 1 12 tape 0; outcome = Done (Note_began (ballot 1 1)) }
@@ -95,34 +100,26 @@ ThreeMembersRelease D G F =
     ∷ record { step = Delivers 9 0; outcome = Done (Note_heard (ballot 1 1)) }
     ∷ record { step = Delivers 7 0; outcome = Done (Note_heard (ballot 1 1)) } ∷ [])
 
--- the versions at which a history started
-abbrev pub started_at : {D G F : Type 0} {z : Circuit D G F} {w : State G F} → History z w → ℕ → Version
-started_at (starts version f) = version
-started_at (goes_on h s o st) = started_at h
-
--- 1 of 1 whose store refuses to go over stays at version 1, and can withdraw nothing;
--- where the store went over and refused all the same, it can once it has started again
+-- 1 of 1, at version 1, is offered a tape that version 1 has no spelling for, after an upgrade that its store refused.
+-- Where the store stayed at version 1 the tape is refused; where it went over all the same, the tape is released
 abbrev pub TornUpgrades : (D G F : Type 0) → Type 0
 TornUpgrades D G F =
-    (z : Circuit D G F) (slugs : G) → z.count ≡ 1 → z.sets 1 void ≡ Ok slugs
+    (z : Circuit D G F) (tape : Tape) (slugs : G) → z.count ≡ 1 → fits One tape ≡ false → z.sets 1 tape ≡ Ok slugs
     → ((w : State G F) × (h : History z w) × (started_at h 1 ≡ One) × (w.version 1 ≡ One)
     × (steps_of h
     ≡ record { step = Balks 1 false; outcome = Armed false }
     ∷ record { step = Upgrades 1; outcome = Torn_by_store }
     ∷ record { step = Restarts 1; outcome = Restarted }
-    ∷ record { step = Offers 1 12 void 0; outcome = Refused Wire_too_old } ∷ []))
-    × ((w : State G F) × (h : History z w) × (started_at h 1 ≡ One) × (w.releases ≡ release_by z 1 void ∷ [])
+    ∷ record { step = Offers 1 12 tape 0; outcome = Refused Wire_too_old } ∷ []))
+    × ((w : State G F) × (h : History z w) × (started_at h 1 ≡ One) × (w.releases ≡ release_by z 1 tape ∷ [])
     × (steps_of h
     ≡ record { step = Balks 1 true; outcome = Armed true }
     ∷ record { step = Upgrades 1; outcome = Torn_by_store }
     ∷ record { step = Restarts 1; outcome = Restarted }
-    ∷ record { step = Offers 1 12 void 0; outcome = Done (Note_proposed (ballot 1 1)) } ∷ []))
+    ∷ record { step = Offers 1 12 tape 0; outcome = Done (Note_proposed (ballot 1 1)) } ∷ []))
 
--- what goes out at version 1, before 2 and 3 go over: 1 is offered a tape, 2 promises and votes
-abbrev pub packets_before : ℕ → Tape → List Packet
-packets_before k tape = packets_of_three k tape
-
--- and what goes out at version 2: 3 withdraws the number, 2 reports the tape, and 3 proposes it in place of Void
+-- what goes out at version 2 after 2 and 3 of three went over: 3 asks for a ballot, 2 reports its vote of before,
+-- and 3 proposes the tape of that vote
 abbrev pub packets_after : ℕ → Tape → List Packet
 packets_after k tape =
     packet_to k 3 12 (ballot 1 3) Prepare 1 ∷ packet_to k 3 12 (ballot 1 3) Prepare 2
@@ -131,15 +128,17 @@ packets_after k tape =
     ∷ packet_to k 3 12 (ballot 1 3) (Accepted tape) 1 ∷ packet_to k 3 12 (ballot 1 3) (Accepted tape) 2
     ∷ packet_to k 2 12 (ballot 1 3) (Accepted tape) 1 ∷ packet_to k 2 12 (ballot 1 3) (Accepted tape) 3 ∷ []
 
--- 2 and 3 of three go over after 1 and 2 voted for a tape at version 1: the withdrawal by 3 finds the tape, and 3 releases it;
+-- 2 and 3 of three go over after 1 and 2 voted for a tape at version 1. 3 hears a vote that was sent at version 1,
+-- is offered a tape of its own, finds the vote of 2, and releases the tape of that vote;
 -- 1, which has not gone over, can't read what 3 asks
 abbrev pub VoteOutlivesUpgrades : (D G F : Type 0) → Type 0
 VoteOutlivesUpgrades D G F =
-    (z : Circuit D G F) (spell : Version → Packet → List ℕ) (tape : Tape) (slugs : G) (fault : D) → z.count ≡ 3 → z.sets 1 tape ≡ Ok slugs → z.sets 3 void ≡ Ok slugs → fits One tape ≡ true
-    → AllZip (Carries z One) (packets_before z.number tape) (map (datagram_of (spell One)) (packets_before z.number tape))
+    (z : Circuit D G F) (spell : Version → Packet → List ℕ) (tape own : Tape) (slugs : G) (fault : D)
+    → z.count ≡ 3 → fits One tape ≡ true → z.sets 1 tape ≡ Ok slugs → z.sets 3 own ≡ Ok slugs
+    → AllZip (Carries z One) (packets_of_three z.number tape) (map (datagram_of (spell One)) (packets_of_three z.number tape))
     → AllZip (Carries z Two) (packets_after z.number tape) (map (datagram_of (spell Two)) (packets_after z.number tape))
     → z.reads One (spell Two (packet_to z.number 3 12 (ballot 1 3) Prepare 1)) ≡ Err fault
-    → (w : State G F) × (h : History z w) × (w.releases ≡ release_by z 3 tape ∷ [])
+    → (w : State G F) × (h : History z w) × ((m : ℕ) → started_at h m ≡ One) × (w.releases ≡ release_by z 3 tape ∷ [])
     × (steps_of h
     ≡ record { step = Offers 1 12 tape 0; outcome = Done (Note_began (ballot 1 1)) }
     ∷ record { step = Delivers 1 0; outcome = Done (Note_promised (ballot 1 1)) }
@@ -147,7 +146,8 @@ VoteOutlivesUpgrades D G F =
     ∷ record { step = Delivers 4 0; outcome = Done (Note_voted (ballot 1 1)) }
     ∷ record { step = Upgrades 2; outcome = Upgraded }
     ∷ record { step = Upgrades 3; outcome = Upgraded }
-    ∷ record { step = Offers 3 12 void 0; outcome = Done (Note_began (ballot 1 3)) }
+    ∷ record { step = Delivers 9 0; outcome = Done (Note_heard (ballot 1 1)) }
+    ∷ record { step = Offers 3 12 own 0; outcome = Done (Note_began (ballot 1 3)) }
     ∷ record { step = Delivers 10 0; outcome = Refused (Bad_datagram fault) }
     ∷ record { step = Delivers 11 0; outcome = Done (Note_promised (ballot 1 3)) }
     ∷ record { step = Delivers 12 0; outcome = Done (Note_proposed (ballot 1 3)) }

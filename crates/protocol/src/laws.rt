@@ -3,7 +3,7 @@
 
 ghost use Rattle.protocol.specs.Acceptor.{StepsAreOfTheWhole};
 ghost use Rattle.protocol.specs.Agreement.{BallotsHaveOneTape, ChosenIsOne, HeardIsVoted, HistoriesAgree, PromisesBind, ReportsAreGreatest, RipeIsChosen, VotesAreBacked, VotesAreOffered};
-ghost use Rattle.protocol.specs.Fitting.{HistoriesFit, TurnsFit};
+ghost use Rattle.protocol.specs.Fitting.{HistoriesFit, TurnsFit, VersionTwoReadsBoth};
 ghost use Rattle.protocol.specs.Readings.{NextDueIsLeast};
 ghost use Rattle.protocol.specs.Rehearsals.{NumbersAreRefused, OneMemberReleases, PacketsAreRefused, SavedVoteIsReleased, ThreeMembersRelease, TornUpgrades, VoteOutlivesUpgrades};
 ghost use Rattle.protocol.specs.Runs.{BallotsStandApart, BeginsAbovePromise, FallsDueAbove, FirstAcceptStands, FirstOfTwoReleases, GivesUp, GreaterReportIsTaken, LastRoundIsSpent, LeastMemberDecides, LowerIsNacked, OneFindsNothing, OneReleases, PassedIsOvertaken, ReleasedIsSettled, RepeatedVoteCountsOnce, SecondOfTwoReleases, ThirdTakesOver, VoteIsReported};
@@ -29,12 +29,17 @@ pub fn turns_are_of_the_table()
     ensures { TurnsAreOfTheTable }
 {}
 
-/// A turn makes no entry up: where what it was given fits a version, what it leaves, sends and releases does.
+/// A station of version 2 reads both versions.
+pub fn version_two_reads_both<D, G, F>()
+    ensures { VersionTwoReadsBoth D G F }
+{}
+
+/// A turn makes no tape up: where what it was given fits a version, what it saves, keeps in mind, sends and releases does.
 pub fn turns_fit()
     ensures { TurnsFit }
 {}
 
-/// In every history each member holds only what it can save and send at the version that it is at.
+/// In every history, with upgrades and torn ones among its steps, each member holds only tapes that its version can save and send.
 pub fn histories_fit<D, G, F>()
     ensures { HistoriesFit D G F }
 {}
@@ -109,7 +114,7 @@ pub fn refusals<D, F>()
     ensures numbers { NumbersAreRefused D F }
 {}
 
-/// A circuit of one member releases what it is offered.
+/// A circuit of one member releases what it is offered, at either version.
 pub fn one_member_releases<D, G, F>()
     ensures { OneMemberReleases D G F }
 {}
@@ -119,17 +124,17 @@ pub fn saved_vote_is_released<D, G, F>()
     ensures { SavedVoteIsReleased D G F }
 {}
 
-/// Three members release what one of them is offered.
+/// Three members at one version release what one of them is offered.
 pub fn three_members_release<D, G, F>()
     ensures { ThreeMembersRelease D G F }
 {}
 
-/// An upgrade that the store refuses leaves a station at version 1, or at version 2.
+/// A torn upgrade leaves a station at version 1, or at version 2.
 pub fn torn_upgrades<D, G, F>()
     ensures { TornUpgrades D G F }
 {}
 
-/// A vote that was saved at version 1 is found after its member went over.
+/// A vote that was saved at version 1 is found after its member went over to version 2, and its tape is released.
 pub fn vote_outlives_upgrades<D, G, F>()
     ensures { VoteOutlivesUpgrades D G F }
 {}
