@@ -1,14 +1,16 @@
 -- From the checks of a call to its step.
-use Rattle.std.proofs.Common.{◌≡◌, ◌≤◌, ℕ, inl, inr, refl, sym, ap, subst, ◌∙◌, List, [], Option, Some, None, Bool, true, false}
+use Rattle.std.proofs.Common.{◌≡◌, ◌≤◌, ℕ, inl, inr, refl, sym, ap, subst, ◌∙◌, List, [], Option, Some, None, Bool, true, false, length}
 use Rattle.std.specs.Prelude.{Result, Ok, Err, IsErr, IsErrAnd, not, is_some, if◌then◌else◌}
 use Rattle.std.proofs.lemmas.Bool.{le-leb}
 use Rattle.protocol.specs.Lists.{or_else}
 use Rattle.protocol.specs.Packets.{Packet}
+use Rattle.protocol.specs.Versions.{One, fits}
 use Rattle.protocol.specs.Marks.{Mark}
 use Rattle.protocol.specs.Ballots.{Ballot}
 use Rattle.protocol.specs.Proposals.{Opening, was_released, open_proposal, opening_ballot, open_ballot, next_due}
 use Rattle.protocol.specs.Turn.{Event, Offered, Sought, Came_due, Arrived}
 use Rattle.protocol.specs.Refusals as refusals
+use Rattle.tape_frames.specs.Frames.{IsTape}
 use Rattle.code_table.specs.Tables.{mean}
 use Rattle.packets.specs.Reading.{packet_at}
 use Rattle.packets.specs.declared.fault.PacketFault.{PacketFault}
@@ -131,26 +133,30 @@ pub free_at :
     → (was_released m marks ≡ false) × (open_proposal m marks ≡ None)
 free_at n m marks same h = subst (λ (k : ℕ). (was_released k marks ≡ false) × (open_proposal k marks ≡ None)) (sym same) (free n marks h)
 
--- where its number is not refused, an entry that fits is not
-still_none : (o : Option Refusal) → o ≡ None → or_else o None ≡ None
-still_none o h = ap (λ (p : Option Refusal). or_else p None) h
+-- a tape, of 1 to 4,096 frames, fits version 1
+pub fits_one : (tape : List ℕ) → IsTape tape → fits One tape ≡ true
+fits_one tape t = rw (le-leb 1 (length tape) t.some) (le-leb (length tape) 4096 t.few)
+
+-- where an offer is not refused for its number, that of a tape that fits is not refused
+still_none : (o : Option Refusal) (fit : Bool) → fit ≡ true → o ≡ None → or_else o (refusals.wire_refusal {D = PacketFault} {F = SetFault} fit) ≡ None
+still_none o fit so h = ap (λ (p : Option Refusal). or_else p (refusals.wire_refusal {D = PacketFault} {F = SetFault} fit)) h ∙ ap (λ (b : Bool). refusals.wire_refusal {D = PacketFault} {F = SetFault} b) so
 
 -- an offer that nothing refuses
 pub offered :
     {R : Type 0} (s : Station R) (marks : List Mark) (n m : ℕ) (tape t : List ℕ) (now : ℕ)
-    → s.stopped ≡ false → refusals.number_refusal {D = PacketFault} {F = SetFault} n marks ≡ None → first_fault (mean s.table) s.widths tape ≡ None → m ≡ n → t ≡ tape
+    → s.stopped ≡ false → fits One tape ≡ true → refusals.number_refusal {D = PacketFault} {F = SetFault} n marks ≡ None → first_fault (mean s.table) s.widths tape ≡ None → m ≡ n → t ≡ tape
     → Asks s marks (refusals.Offering n tape now) (Offered m t now)
-offered s marks n m tape t now goes h sets same equal = record {
-  unrefused = last_refusal (setup_of s) s.stopped marks (refusals.Offering n tape now) goes (still_none _ h) ∙ ap (λ (o : Option SetFault). refusals.setting_refusal (unless_faulty o)) sets;
+offered s marks n m tape t now goes fit h sets same equal = record {
+  unrefused = last_refusal (setup_of s) s.stopped marks (refusals.Offering n tape now) goes (still_none _ _ fit h) ∙ ap (λ (o : Option SetFault). refusals.setting_refusal (unless_faulty o)) sets;
   event = λ i. Some (Offered (sym same i) (sym equal i) now);
 }
 
 -- the same before its tape is set
 pub offered_early :
     {R : Type 0} (s : Station R) (marks : List Mark) (n : ℕ) (tape : List ℕ) (now : ℕ)
-    → s.stopped ≡ false → refusals.number_refusal {D = PacketFault} {F = SetFault} n marks ≡ None → AsksEarly s marks (refusals.Offering n tape now) (Offered n tape now)
-offered_early s marks n tape now goes h = record {
-  unrefused = early_none (setup_of s) s.stopped marks (refusals.Offering n tape now) goes (still_none _ h);
+    → s.stopped ≡ false → fits One tape ≡ true → refusals.number_refusal {D = PacketFault} {F = SetFault} n marks ≡ None → AsksEarly s marks (refusals.Offering n tape now) (Offered n tape now)
+offered_early s marks n tape now goes fit h = record {
+  unrefused = early_none (setup_of s) s.stopped marks (refusals.Offering n tape now) goes (still_none _ _ fit h);
   event = refl;
 }
 
@@ -244,16 +250,16 @@ refused_early x call s marks r goes h =
 pub refused_number :
     {R : Type 0} (s : Station R) (marks : List Mark) (n : ℕ) (tape : List ℕ) (now : ℕ) (r : StepRefusal)
     → IsRefusal (refusals.number_refusal n marks) r → IsRefusal (refusals.call_refusal (setup_of s) marks (refusals.Offering n tape now)) r
-refused_number s marks n tape now r h = subst (λ (o : Option Refusal). IsRefusal o r) (sym (known_refusal (refusals.number_refusal n marks) None r h)) h
+refused_number s marks n tape now r h = subst (λ (o : Option Refusal). IsRefusal o r) (sym (known_refusal (refusals.number_refusal n marks) (refusals.wire_refusal (fits One tape)) r h)) h
 
 -- an offer whose tape has a fault here
 pub refused_faulty :
     {R : Type 0} (x : Sight R) (s : Station R) (marks : List Mark) (n : ℕ) (tape : List ℕ) (now : ℕ) (fault : SetFault)
-    → s.stopped ≡ false → refusals.number_refusal {D = PacketFault} {F = SetFault} n marks ≡ None → first_fault (mean s.table) s.widths tape ≡ Some fault
+    → s.stopped ≡ false → fits One tape ≡ true → refusals.number_refusal {D = PacketFault} {F = SetFault} n marks ≡ None → first_fault (mean s.table) s.widths tape ≡ Some fault
     → Steps x (refusals.Offering n tape now) s s marks (Err (TapeFaulty fault))
-refused_faulty x s marks n tape now fault goes h faulty =
+refused_faulty x s marks n tape now fault goes fit h faulty =
     refused x (refusals.Offering n tape now) s marks (TapeFaulty fault)
-    (last_refusal (setup_of s) s.stopped marks (refusals.Offering n tape now) goes (still_none _ h) ∙ ap (λ (o : Option SetFault). refusals.setting_refusal (unless_faulty o)) faulty)
+    (last_refusal (setup_of s) s.stopped marks (refusals.Offering n tape now) goes (still_none _ _ fit h) ∙ ap (λ (o : Option SetFault). refusals.setting_refusal (unless_faulty o)) faulty)
 
 -- the same, handed on by a `?`
 pub handed_on :

@@ -1,7 +1,7 @@
 -- A station: how it is set up, and the words of its rows.
 use Rattle.std.specs.Prelude.{◌≡◌, ℕ, Option, Some, None, Result, Ok, Err}
 use Rattle.protocol.specs.Rows.{Row}
-use Rattle.protocol.specs.Versions.{Two, fits}
+use Rattle.protocol.specs.Versions.{One, fits}
 use Rattle.protocol.specs.Refusals.{Setup}
 use Rattle.acceptor_store.specs.Saved.{Saved}
 use Rattle.acceptor_store.specs.declared.fault.RowsFault.{RowsFault}
@@ -13,7 +13,8 @@ use Rattle.line_check.specs.Sets.{first_fault}
 use Rattle.line_check.specs.declared.fault.SetFault.{SetFault}
 use Rattle.station.specs.declared.station.Station.{Station}
 
--- the words of the trait of rows, together
+-- what is said of saved rows: whether they are kept and open, what is saved, which rows differ only by what was read or by a save
+-- that was done, and what a save that was refused tells and blames
 pub record Sight (R : Type 0) : Type 1 where
   pub kept : R → Type 0
   pub is_open : R → Type 0
@@ -23,6 +24,7 @@ pub record Sight (R : Type 0) : Type 1 where
   pub tells : R → R → ℕ → Row → Type 0
   pub blames : R → R → RowsFault → Type 0
 
+-- of the words of rows those that a step speaks of
 abbrev pub sight : {R : Type 0} → Ghosts R → Sight R
 sight g = record { kept = g.kept; is_open = g.is_open; saved = g.saved; alike = g.alike; passes = g.passes; tells = g.tells; blames = g.blames }
 
@@ -31,11 +33,11 @@ abbrev pub unless_faulty : Option SetFault → Result (Unit {0}) SetFault
 unless_faulty None = Ok tt
 unless_faulty (Some fault) = Err fault
 
--- the station's circuit, the count of its members and which it is, the grammar of packets,
+-- the station's circuit, the count of its members and which it is, the grammar of packets of version 1, which tapes fit that version,
 -- and whether a tape sets by its own code table and widths
 abbrev pub setup_of : {R : Type 0} → Station R → Setup PacketFault (Unit {0}) SetFault
 setup_of s =
-    record { circuit = s.core.circuit; count = s.core.members; me = s.core.me; reads = packet_at; fits = fits Two; sets = λ tape. unless_faulty (first_fault (mean s.table) s.widths tape) }
+    record { circuit = s.core.circuit; count = s.core.members; me = s.core.me; reads = packet_at; fits = fits One; sets = λ tape. unless_faulty (first_fault (mean s.table) s.widths tape) }
 
 -- the circuit, the count, which member it is, the code table and the widths stay
 pub record IsFixed {R : Type 0} (old new : Station R) : Type 0 where

@@ -1,8 +1,9 @@
-//! Whether a packet is one for this station, and whether a tape sets here.
+//! Whether a packet is one for this station, and whether a tape can be spelled and sets here.
 
-ghost use Rattle.std.specs.Prelude.{◌≡◌, ◌≤◌, OnOk, IfOk, IfErr, false};
+ghost use Rattle.std.specs.Prelude.{◌≡◌, ◌≤◌, OnOk, IfOk, IfErr, true, false};
 ghost use Rattle.node_core.specs.Calls.{IsForMember};
 ghost use Rattle.protocol.specs.Refusals.{names_stranger, is_of_stranger};
+ghost use Rattle.protocol.specs.Versions.{One, fits};
 ghost use Rattle.packets.specs.Bodies.{said};
 ghost use Rattle.code_table.specs.Tables.{mean};
 ghost use Rattle.line_check.specs.Sets.{first_fault};
@@ -59,6 +60,14 @@ pub(crate) fn check_packet(
         return Err(StepRefusal::Stranger);
     }
     Ok(())
+}
+
+/// Version 1 of packets and rows has a spelling for each tape: it has 1 to 4,096 frames. Nothing is done.
+#[tactic(auto, using(crate::proofs::Asking::fits_one))]
+pub(crate) fn fits_version_one(tape: &Tape)
+    ensures { fits One tape.now ≡ true }
+{
+    let _ = tape.frames();
 }
 
 /// The fault of a tape by this code table and these widths; `None` where it sets.

@@ -13,7 +13,7 @@ ghost use Rattle.station.specs.Stations.{sight, IsFixed};
 ghost use Rattle.station.specs.Steps.{Ends, IsFree, Steps, OnStore, tears, stopped_after};
 
 use crate::answer::Answer;
-use crate::checks::{check_packet, fault_of};
+use crate::checks::{check_packet, fault_of, fits_version_one};
 use crate::getting_ready::save;
 use crate::refusal::StepRefusal;
 use crate::station::Station;
@@ -42,6 +42,7 @@ impl<R: Rows> Station<R> {
             return Err(StepRefusal::Stopped);
         }
         let number = self.check_number(number)?;
+        fits_version_one(tape);
         match fault_of(self.alloc, &self.table, &self.widths, tape) {
             Ok(None) => {}
             Ok(Some(fault)) => return Err(StepRefusal::TapeFaulty(fault)),

@@ -52,7 +52,7 @@ still {R = R} is_open saved v v' same z w h = record {
   set_up = h.set_up;
   count = h.count ∙ ap (λ (l : List (Station (Balky R))). length l) (sym stations);
   each = λ m s at_m. h.each m s (station_is m s at_m);
-  two = h.two;
+  one = h.one;
   sent = h.sent ∙ sym same.sent;
   offers = h.offers ∙ sym same.offers;
   releases = h.releases ∙ sym same.releases;

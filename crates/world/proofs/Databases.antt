@@ -1,11 +1,12 @@
 -- The words of rows in a database that lies in memory.
-use Rattle.std.proofs.Common.{◌≡◌, Result, Ok, Err, IfOk, true, refl}
+use Rattle.std.proofs.Common.{◌≡◌, true, refl}
 use Rattle.sqlite_trees.specs.declared.memory.MemStore.{MemStore}
 use Rattle.sqlite_trees.specs.View.{doubt}
 use Rattle.sqlite.specs.Steps.{over_memory}
 use Rattle.acceptor_store.specs.Sqlite.{SqliteOf, IsKept, IsOpen, IsHonest, IsOurs, saved_of, Blames}
 use Rattle.acceptor_store.specs.declared.rows.Rows.{Ghosts}
 
+-- what is said of rows, of those in a database in memory
 abbrev pub in_memory : Ghosts (SqliteOf MemStore)
 in_memory = record {
   made = λ s. IsOurs s.alone s.found;
@@ -20,11 +21,11 @@ in_memory = record {
   blames = Blames over_memory;
 }
 
--- what holds of each value on a premise holds of it where the premise always does
-pub when_all : {A E : Type 0} (P Q : A → Type 0) (r : Result A E) → ((v : A) → P v) → IfOk r (λ v. P v → Q v) → IfOk r Q
-when_all P Q (Ok v) all h = h (all v)
-when_all P Q (Err e) all h = tt
-
+-- a disk in memory is never in doubt
 pub no_doubt : doubt true ≡ 0
 unfolding doubt
 no_doubt = refl
+
+-- rows that were made there are kept
+pub keeps : (s : SqliteOf MemStore) → in_memory.made s → in_memory.kept s
+keeps s made = (no_doubt, made)

@@ -12,19 +12,20 @@ use Rattle.line_check.specs.Laws.{HasSetting}
 use Rattle.world.specs.Setups.{StationCircuit}
 use Rattle.world.specs.Laws.{CircuitsExist}
 
+-- packets are read in version 1 alone
 abbrev reads : Version → List ℕ → Result Packet PacketFault
-reads One bytes = Err BadVersion
-reads Two bytes = packet_at bytes
+reads One bytes = packet_at bytes
+reads Two bytes = Err BadVersion
 
 not_ok : (p : Packet) → ◌≡◌ {A = Result Packet PacketFault} (Err BadVersion) (Ok p) → ⊥
 not_ok p e = cc
 
-says : (v : Version) (bytes : List ℕ) (p : Packet) → reads v bytes ≡ Ok p → Two ≡ v
-says One bytes p e = absurd (not_ok p e)
-says Two bytes p e = refl
+says : (v : Version) (bytes : List ℕ) (p : Packet) → reads v bytes ≡ Ok p → One ≡ v
+says One bytes p e = refl
+says Two bytes p e = absurd (not_ok p e)
 
 pub circuits_exist : HasSetting → CircuitsExist
 circuits_exist settings number count tables files =
     let set = λ (m : ℕ) (tape : Tape). settings (mean (tables m)) (files m) tape in
-    let z : StationCircuit = record { number = number; count = count; reads = reads; version_of = λ bytes. Two; sets = λ m tape. (set m tape).0; says = says } in
-    (z, refl, refl, record { reads = λ bytes. refl; writes = λ bytes. refl; sets = λ m tape. (set m tape).1 })
+    let z : StationCircuit = record { number = number; count = count; reads = reads; version_of = λ bytes. One; sets = λ m tape. (set m tape).0; says = says } in
+    (z, refl, refl, record { reads = λ bytes. refl; sets = λ m tape. (set m tape).1 })

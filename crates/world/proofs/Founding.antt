@@ -1,8 +1,9 @@
 -- A world in which nothing has happened yet stands for a fresh state.
-use Rattle.protocol.specs.Versions.{Two}
 use Rattle.std.proofs.Common.{◌≡◌, ℕ, zero, suc, ◌<◌, ◌≤◌, ◌⊎◌, inl, inr, refl, sym, ap, subst, ◌∙◌, arith, List, [], ◌∷◌, ◌++◌, Some, None, length, get_or}
-use Rattle.std.specs.Prelude.{◌↔◌, slice_get}
+use Rattle.std.specs.Prelude.{◌↔◌, map, slice_get}
+use Rattle.std.proofs.lemmas.List.{length-map, map-append}
 use Rattle.std.proofs.lemmas.Option.{slice_get_within}
+use Rattle.protocol.specs.Versions.{One}
 use Rattle.protocol.specs.Circuit.{fresh, starts}
 use Rattle.acceptor_store.specs.Saved.{Saved}
 use Rattle.code_table.specs.Tables.{Places}
@@ -15,7 +16,7 @@ use Rattle.world.specs.Setups.{StationCircuit}
 use Rattle.world.specs.Worlds.{station_at}
 use Rattle.world.specs.Reach.{AllHonest, AllMade, Shows, StandsFor, Reached, IsReached}
 use Rattle.world.specs.Laws.{CircuitsExist}
-use Rattle.world.specs.Founding.{Part, IsNew, AreNew, IsFounded, AreBlank, IsNewlyMade, AreNewlyMade, IsCircuitOf}
+use Rattle.world.specs.Founding.{Part, Given, given_of, IsNew, AreNew, IsFounded, AreBlank, IsNewlyMade, AreNewlyMade, IsCircuitOf}
 use Rattle.world.proofs.Reaching.{found}
 use Rattle.world.proofs.Members.{some_is}
 use Rattle.world.proofs.Turning.{same_state}
@@ -51,43 +52,52 @@ more {R = R} k c parts stations part s same all new i t at_i = elim (grown stati
       (part, at_last, subst (λ (u : Station (Balky R)). IsNew k c (suc i) part u) now.1 numbered))
 ]
 
+-- what a member was given, without its rows
+given_at : {R : Type 0} (parts : List (Part R)) (i : ℕ) (part : Part R) → slice_get parts i ≡ Some part → slice_get (map given_of parts) i ≡ Some (given_of part)
+given_at [] i part e = absurd (no_item e)
+given_at {R = R} (p ∷ ps) zero part e = ap (λ (q : Part R). Some (given_of q)) (some_is e)
+given_at (p ∷ ps) (suc i) part e = given_at ps i part e
+
 module _ {R : Type 0} (is_open : R → Type 0) (saved : R → Saved) (k : ℕ) (parts : List (Part R)) (v : World R) (f : IsFounded k parts v) (blank_rows : AreBlank is_open saved parts)
-    (z : StationCircuit) (of : IsCircuitOf k parts z) where
-  shows : (i : ℕ) (s : Station (Balky R)) → slice_get v.stations.items i ≡ Some s → Shows is_open saved of.tables of.files z (fresh (λ k. Two)) (suc i) s
+    (z : StationCircuit) (of : IsCircuitOf k (map given_of parts) z) where
+  so_many : z.count ≡ length parts
+  so_many = of.count ∙ length-map parts given_of
+
+  shows : (i : ℕ) (s : Station (Balky R)) → slice_get v.stations.items i ≡ Some s → Shows is_open saved of.tables of.files z (fresh (λ k. One)) (suc i) s
   shows i s at_i =
       let p = f.stations i s at_i in
       let new : IsNew k (length parts) (suc i) p.0 s = p.2 in
       record {
         circuit = new.circuit ∙ sym of.number;
-        members = new.members ∙ sym of.count;
+        members = new.members ∙ sym so_many;
         me = new.me;
-        table = new.table ∙ sym (of.table i p.0 p.1);
-        widths = new.widths ∙ sym (of.widths i p.0 p.1);
+        table = new.table ∙ sym (of.table i (given_of p.0) (given_at parts i p.0 p.1));
+        widths = new.widths ∙ sym (of.widths i (given_of p.0) (given_at parts i p.0 p.1));
         rows = λ here n. ap (λ (r : R). saved r n) new.rows ∙ blank_rows i p.0 p.1 (subst (λ (r : R). is_open r) new.rows here) n;
         marks = new.stands;
         stopped = new.goes;
         armed = new.unarmed;
       }
 
-  each : (m : ℕ) (s : Station (Balky R)) → station_at v m ≡ Some s → Shows is_open saved of.tables of.files z (fresh (λ k. Two)) m s
+  each : (m : ℕ) (s : Station (Balky R)) → station_at v m ≡ Some s → Shows is_open saved of.tables of.files z (fresh (λ k. One)) m s
   each zero s at_m = absurd (no_item at_m)
   each (suc i) s at_m = shows i s at_m
 
-  pub founded : StandsFor is_open saved z v (fresh (λ k. Two))
+  pub founded : StandsFor is_open saved z v (fresh (λ k. One))
   founded = record {
     tables = of.tables;
     files = of.files;
     set_up = of.set_up;
-    count = of.count ∙ sym f.count;
+    count = so_many ∙ sym f.count;
     each = each;
-    two = λ k. refl;
+    one = λ k. refl;
     sent = sym f.sent;
     offers = sym f.offers;
     releases = sym f.releases;
   }
 
   founded_reached : Reached is_open saved z v
-  founded_reached = (fresh (λ k. Two), founded, starts (λ k. Two) (same_state (fresh (λ k. Two))))
+  founded_reached = (fresh (λ k. One), founded, starts (λ k. One) (same_state (fresh (λ k. One))))
 
 -- one member more whose rows were just made
 pub newly_more : {R : Type 0} (g : Ghosts R) (parts : List (Part R)) (part : Part R) → AreNewlyMade g parts → IsNewlyMade g part.2 → AreNewlyMade g (parts ++ part ∷ [])
@@ -99,23 +109,32 @@ newly_more {R = R} g parts part all new i q at_i = elim (grown parts part i q at
 pub newly_none : {R : Type 0} (g : Ghosts R) → AreNewlyMade g []
 newly_none g i q at_i = absurd (no_item at_i)
 
+-- one member more of those that were given
+pub given_more : {R : Type 0} (parts : List (Part R)) (part : Part R) (members : List Given) → map given_of parts ≡ members → map given_of (parts ++ part ∷ []) ≡ members ++ given_of part ∷ []
+given_more parts part members e = map-append given_of parts (part ∷ []) ∙ ap (λ (ms : List Given). ms ++ given_of part ∷ []) e
+
+-- rows that were just made, and that nobody can spoil, are blank
+pub newly_is_blank : {R : Type 0} (g : Ghosts R) → ((s : R) → g.made s → g.kept s) → (parts : List (Part R)) → AreNewlyMade g parts → AreBlank g.is_open g.saved parts
+newly_is_blank g keeps parts new i part at_i = let its = new i part at_i in its.1 (keeps part.2 its.0)
+
 get_is : {X : Type 0} (xs : List X) (i : ℕ) (d x : X) → slice_get xs i ≡ Some x → get_or xs i d ≡ x
 get_is [] i d x e = absurd (no_item e)
 get_is (y ∷ ys) zero d x e = some_is e
 get_is (y ∷ ys) (suc i) d x e = get_is ys i d x e
 
+-- the place of a member, which counts from 1, in a list
 abbrev place : ℕ → ℕ
 place zero = zero
 place (suc i) = i
 
--- there is a circuit of these parts
-circuit_of : {R : Type 0} → CircuitsExist → (k : ℕ) (parts : List (Part R)) → 1 ≤ length parts → (z : StationCircuit) × IsCircuitOf k parts z
+-- there is a circuit of these members
+circuit_of : CircuitsExist → (k : ℕ) (members : List Given) → 1 ≤ length members → (z : StationCircuit) × IsCircuitOf k members z
 circuit_of exist k [] low = absurd (omega (arith, low))
-circuit_of {R = R} exist k (d ∷ ds) low =
-    let parts : List (Part R) = d ∷ ds in
-    let tables : ℕ → Places = λ m. (get_or parts (place m) d).0 in
-    let files : ℕ → WidthFile = λ m. (get_or parts (place m) d).1 in
-    let p = exist k (length parts) tables files in (
+circuit_of exist k (d ∷ ds) low =
+    let members : List Given = d ∷ ds in
+    let tables : ℕ → Places = λ m. (get_or members (place m) d).0 in
+    let files : ℕ → WidthFile = λ m. (get_or members (place m) d).1 in
+    let p = exist k (length members) tables files in (
       p.0,
       record {
         tables = tables;
@@ -123,8 +142,8 @@ circuit_of {R = R} exist k (d ∷ ds) low =
         set_up = p.3;
         number = p.1;
         count = p.2;
-        table = λ i part e. ap (λ (q : Part R). q.0) (get_is parts i d part e);
-        widths = λ i part e. ap (λ (q : Part R). q.1) (get_is parts i d part e);
+        table = λ i member e. ap (λ (q : Given). q.0) (get_is members i d member e);
+        widths = λ i member e. ap (λ (q : Given). q.1) (get_is members i d member e);
       },
     )
 
@@ -151,7 +170,8 @@ module _ {R : Type 0} (g : Ghosts R) (halves : (s : R) → g.kept s ↔ (g.hones
   newly_reached = record {
     made = newly_made;
     reached = λ honest.
-        let z = circuit_of exist k parts some in
+        let many = length-map parts given_of in
+        let z = circuit_of exist k (map given_of parts) (omega (arith, many, some)) in
         (z.0, founded_reached g.is_open g.saved k parts v f (newly_blank honest) z.0 z.1);
   }
 

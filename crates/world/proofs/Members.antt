@@ -150,7 +150,7 @@ module _ {R : Type 0} (v v' : World R) (i m : ℕ) (s s' : Station (Balky R)) (c
         set_up = h.set_up;
         count = h.count ∙ (sym (length-set v.stations.items i s') ∙ ap length (sym ch.stations));
         each = each_after;
-        two = λ k. others.version k ∙ h.two k;
+        one = λ k. others.version k ∙ h.one k;
         sent = sent;
         offers = offers;
         releases = releases;

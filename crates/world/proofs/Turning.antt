@@ -5,7 +5,7 @@ use Rattle.std.specs.List.{AllZip}
 use Rattle.protocol.specs.Ballots.{IsMember}
 use Rattle.protocol.specs.Rows.{Tape, Row}
 use Rattle.protocol.specs.Packets.{Packet}
-use Rattle.protocol.specs.Versions.{Version, Two}
+use Rattle.protocol.specs.Versions.{Version, One}
 use Rattle.protocol.specs.Marks.{Mark}
 use Rattle.protocol.specs.Turn.{Event, number_of, Note_idle, Turn, turn}
 use Rattle.protocol.specs.Refusals.{Call, Refusal, Rounds_spent, refusal, early_refusal, event_of}
@@ -107,21 +107,21 @@ module _ {R : Type 0} (x : Sight R) (refusals : R → ℕ) (z : StationCircuit) 
   refusal_is : (call : Call) → refusal (circuit.setup_of z (w.version m) m) (w.is_stopped m) (w.marks m) call ≡ refusal (stations.setup_of s) s.stopped (w.marks m) call
   refusal_is call =
       ap (λ (b : Bool). refusal (circuit.setup_of z (w.version m) m) b (w.marks m) call) (sym old.stopped)
-      ∙ ap (λ (v : Version). refusal (circuit.setup_of z v m) s.stopped (w.marks m) call) (h.two m)
-      ∙ refusal_alike (circuit.setup_of z Two m) (stations.setup_of s) (sym old.circuit) (sym old.members) (sym old.me) h.set_up.reads (λ tape. refl)
+      ∙ ap (λ (v : Version). refusal (circuit.setup_of z v m) s.stopped (w.marks m) call) (h.one m)
+      ∙ refusal_alike (circuit.setup_of z One m) (stations.setup_of s) (sym old.circuit) (sym old.members) (sym old.me) h.set_up.reads (λ tape. refl)
       (λ tape. faulty_alike (mean s.table) s.widths tape (z.sets m tape) (sets tape)) s.stopped (w.marks m) call
 
   early_is : (call : Call) → early_refusal (circuit.setup_of z (w.version m) m) (w.is_stopped m) (w.marks m) call ≡ early_refusal (stations.setup_of s) s.stopped (w.marks m) call
   early_is call =
       ap (λ (b : Bool). early_refusal (circuit.setup_of z (w.version m) m) b (w.marks m) call) (sym old.stopped)
-      ∙ ap (λ (v : Version). early_refusal (circuit.setup_of z v m) s.stopped (w.marks m) call) (h.two m)
-      ∙ early_alike (circuit.setup_of z Two m) (stations.setup_of s) (sym old.circuit) (sym old.members) (sym old.me) h.set_up.reads (λ tape. refl)
+      ∙ ap (λ (v : Version). early_refusal (circuit.setup_of z v m) s.stopped (w.marks m) call) (h.one m)
+      ∙ early_alike (circuit.setup_of z One m) (stations.setup_of s) (sym old.circuit) (sym old.members) (sym old.me) h.set_up.reads (λ tape. refl)
       (λ tape. faulty_alike (mean s.table) s.widths tape (z.sets m tape) (sets tape)) s.stopped (w.marks m) call
 
   event_is : (call : Call) → event_of (circuit.setup_of z (w.version m) m) (w.marks m) call ≡ event_of (stations.setup_of s) (w.marks m) call
   event_is call =
-      ap (λ (v : Version). event_of (circuit.setup_of z v m) (w.marks m) call) (h.two m)
-      ∙ event_alike (circuit.setup_of z Two m) (stations.setup_of s) (sym old.circuit) (sym old.members) (sym old.me) h.set_up.reads (λ tape. refl)
+      ap (λ (v : Version). event_of (circuit.setup_of z v m) (w.marks m) call) (h.one m)
+      ∙ event_alike (circuit.setup_of z One m) (stations.setup_of s) (sym old.circuit) (sym old.members) (sym old.me) h.set_up.reads (λ tape. refl)
       (λ tape. faulty_alike (mean s.table) s.widths tape (z.sets m tape) (sets tape)) (w.marks m) call
 
   -- a turn of the station's is one of the state's
@@ -237,7 +237,7 @@ module _ {R : Type 0} (x : Sight R) (refusals : R → ℕ) (z : StationCircuit) 
       }
 
       carried : AllZip (circuit.Carries z (w.version m)) d.taken.out a.out.items
-      carried = subst (λ (rd : List ℕ → Result Packet PacketFault). AllZip (λ (p : Packet) (g : Datagram). (g.to ≡ p.to) × (rd g.bytes ≡ Ok p)) d.taken.out a.out.items) (λ j bytes. sym (ap (λ (v : Version). z.reads v bytes) (h.two m) ∙ h.set_up.writes bytes) j) d.out
+      carried = subst (λ (rd : List ℕ → Result Packet PacketFault). AllZip (λ (p : Packet) (g : Datagram). (g.to ≡ p.to) × (rd g.bytes ≡ Ok p)) d.taken.out a.out.items) (λ j bytes. sym (ap (λ (v : Version). z.reads v bytes) (h.one m) ∙ h.set_up.reads bytes) j) d.out
 
       told : (w.armed m ≡ None) ⊎ (d.taken.row ≡ w.rows m (number_of e))
       told = elim d.told [

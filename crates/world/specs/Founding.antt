@@ -18,6 +18,14 @@ use Rattle.world.specs.Worlds.{count_of}
 abbrev pub Part : Type 0 → Type 0
 Part R = Places × WidthFile × R
 
+-- a member's code table and its widths
+abbrev pub Given : Type 0
+Given = Places × WidthFile
+
+-- what a member is given but for its rows
+abbrev pub given_of : {R : Type 0} → Part R → Given
+given_of part = (part.0, part.1)
+
 -- a circuit has 1 to 15 members
 abbrev pub IsCount : ℕ → Type 0
 IsCount n = (1 ≤ n) × (n ≤ 15)
@@ -61,19 +69,20 @@ Founds k parts (Err fault) = IsUnfounded parts fault
 abbrev pub AreBlank : {R : Type 0} → (R → Type 0) → (R → Saved) → List (Part R) → Type 0
 AreBlank {R = R} is_open saved parts = (i : ℕ) (part : Part R) → slice_get parts i ≡ Some part → is_open part.2 → (n : ℕ) → saved part.2 n ≡ blank
 
--- the rows are those that were made for this member, and while they are kept and open none is saved
+-- what the rows stand on was made for their member, and while they are kept and open none is saved
 abbrev pub IsNewlyMade : {R : Type 0} → Ghosts R → R → Type 0
 IsNewlyMade g rows = g.made rows × (g.kept rows → g.is_open rows → (n : ℕ) → g.saved rows n ≡ blank)
 
+-- the rows of each member were just made for it
 abbrev pub AreNewlyMade : {R : Type 0} → Ghosts R → List (Part R) → Type 0
 AreNewlyMade {R = R} g parts = (i : ℕ) (part : Part R) → slice_get parts i ≡ Some part → IsNewlyMade g part.2
 
 -- circuit k, set up by these members' tables and widths
-pub record IsCircuitOf {R : Type 0} (k : ℕ) (parts : List (Part R)) (z : StationCircuit) : Type 0 where
+pub record IsCircuitOf (k : ℕ) (members : List Given) (z : StationCircuit) : Type 0 where
   pub tables : ℕ → Places
   pub files : ℕ → WidthFile
   pub set_up : IsSetUp tables files z
   pub number : z.number ≡ k
-  pub count : z.count ≡ length parts
-  pub table : (i : ℕ) (part : Part R) → slice_get parts i ≡ Some part → tables (suc i) ≡ part.0
-  pub widths : (i : ℕ) (part : Part R) → slice_get parts i ≡ Some part → files (suc i) ≡ part.1
+  pub count : z.count ≡ length members
+  pub table : (i : ℕ) (member : Given) → slice_get members i ≡ Some member → tables (suc i) ≡ member.0
+  pub widths : (i : ℕ) (member : Given) → slice_get members i ≡ Some member → files (suc i) ≡ member.1

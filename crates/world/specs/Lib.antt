@@ -4,4 +4,5 @@ pub mod Worlds
 pub mod Taking
 pub mod Reach
 pub mod Founding
+pub mod Playing
 pub mod Logging

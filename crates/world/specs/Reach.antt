@@ -1,7 +1,7 @@
 -- The states of a circuit that a world stands for, where its steps lead, and what is agreed in it.
 use Rattle.std.specs.Prelude.{◌≡◌, ℕ, List, [], ◌∷◌, Some, Result, Ok, Err, take}
 use Rattle.protocol.specs.Lists.{IsAmong}
-use Rattle.protocol.specs.Versions.{Two}
+use Rattle.protocol.specs.Versions.{One}
 use Rattle.protocol.specs.Circuit.{Release, Outcome, StepsTo, History}
 use Rattle.packets.specs.declared.fault.PacketFault.{PacketFault}
 use Rattle.code_table.specs.Tables.{Places, mean}
@@ -23,7 +23,7 @@ use Rattle.world.specs.Setups.{StationCircuit, StationState, IsSetUp}
 use Rattle.world.specs.Worlds.{station_at, count_of}
 use Rattle.world.specs.Taking.{step_value, outcome_value}
 
--- both halves: each member's rows were made for it, nobody else wrote to them, and they read back what was written
+-- both halves: what each member's rows stand on was made for it, nobody else wrote to them, and they read back what was written
 abbrev pub AllKept : {R : Type 0} → (R → Type 0) → World R → Type 0
 AllKept {R = R} kept v = (m : ℕ) (s : Station (Balky R)) → station_at v m ≡ Some s → kept s.rows.rows
 
@@ -47,14 +47,15 @@ pub record Shows {R : Type 0} (is_open : R → Type 0) (saved : R → Saved) (ta
   pub stopped : s.stopped ≡ w.is_stopped m
   pub armed : s.rows.armed ≡ w.armed m
 
--- the world stands for this state of this circuit: each station is what the state has of its member, and the logs are the state's
+-- the world stands for this state of this circuit: each station is what the state has of its member, all are at version 1,
+-- and the logs are the state's
 pub record StandsFor {R : Type 0} (is_open : R → Type 0) (saved : R → Saved) (z : StationCircuit) (v : World R) (w : StationState) : Type 0 where
   pub tables : ℕ → Places
   pub files : ℕ → WidthFile
   pub set_up : IsSetUp tables files z
   pub count : z.count ≡ count_of v
   pub each : (m : ℕ) (s : Station (Balky R)) → station_at v m ≡ Some s → Shows is_open saved tables files z w m s
-  pub two : (m : ℕ) → w.version m ≡ Two
+  pub one : (m : ℕ) → w.version m ≡ One
   pub sent : w.sent ≡ v.sent.items
   pub offers : w.offers ≡ v.offers.items
   pub releases : w.releases ≡ v.releases.items
@@ -80,7 +81,7 @@ Runs is_open saved z w steps new (Err stop) = (after : StationState) × StandsFo
 abbrev pub Reached : {R : Type 0} → (R → Type 0) → (R → Saved) → StationCircuit → World R → Type 0
 Reached is_open saved z v = (w : StationState) × StandsFor is_open saved z v w × History z w
 
--- what each member's rows stand on was made for them; and where their hosts were honest, some history of some circuit
+-- what each member's rows stand on was made for it; and where their hosts were honest, some history of some circuit
 -- leads to a state that the world stands for
 pub record IsReached {R : Type 0} (g : Ghosts R) (v : World R) : Type 0 where
   pub made : AllMade g.made v

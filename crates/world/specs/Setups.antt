@@ -1,8 +1,8 @@
 -- A circuit as its stations are built: they read packets by the grammar, and each sets tapes by its own table and widths.
 use Rattle.std.specs.Prelude.{◌≡◌, ℕ, List}
 use Rattle.protocol.specs.Rows.{Tape}
-use Rattle.protocol.specs.Versions.{Two}
-use Rattle.protocol.specs.Circuit.{Circuit, State, hears}
+use Rattle.protocol.specs.Versions.{One}
+use Rattle.protocol.specs.Circuit.{Circuit, State}
 use Rattle.packets.specs.Reading.{packet_at}
 use Rattle.packets.specs.declared.fault.PacketFault.{PacketFault}
 use Rattle.code_table.specs.Tables.{Places, mean}
@@ -19,8 +19,7 @@ StationCircuit = Circuit PacketFault (List Slug) SetFault
 abbrev pub StationState : Type 0
 StationState = State (List Slug) SetFault
 
--- its stations read what decoding gives, and member m sets tapes by its table and its width file
+-- packets of version 1 are read by the grammar, and member m sets tapes by its table and its width file
 pub record IsSetUp (tables : ℕ → Places) (files : ℕ → WidthFile) (z : StationCircuit) : Type 0 where
-  pub reads : (bytes : List ℕ) → hears z Two bytes ≡ packet_at bytes
-  pub writes : (bytes : List ℕ) → z.reads Two bytes ≡ packet_at bytes
+  pub reads : (bytes : List ℕ) → z.reads One bytes ≡ packet_at bytes
   pub sets : (m : ℕ) (tape : Tape) → Sets (mean (tables m)) (files m) tape (z.sets m tape)

@@ -1,10 +1,12 @@
 //! A circuit that is played from its beginning.
 
-ghost use Rattle.std.specs.Prelude.{◌≤◌, IfOk, length};
-ghost use Rattle.world.specs.Founding.{AreNewlyMade};
-ghost use Rattle.world.specs.Reach.{Agreed, AllHonest, IsReached};
+ghost use Rattle.std.specs.Prelude.{◌≡◌, ◌≤◌, None, IfOk, IfErr, IfSome, length, map};
+ghost use Rattle.world.specs.Founding.{AreBlank, AreNewlyMade, IsCount, IsUnfounded, given_of};
+ghost use Rattle.world.specs.Playing.{IsUnplayed, Plays};
+ghost use Rattle.world.specs.Reach.{Agreed, AllHonest, AllKept, IsReached};
+ghost use Rattle.world.specs.Taking.{StopsAt};
 
-use crate::step::Step;
+use crate::step::{RunStop, Step};
 use crate::world::{NewWorldFault, World};
 use acceptor_store::{Identity, MemoryRows, Rows, SqliteRows};
 use code_table::CodeTable;
@@ -12,26 +14,65 @@ use sqlite::{Connection, MemStore};
 use std::alloc::{AllocError, Global};
 use widths::Widths;
 
-/// A circuit over rows that were just made for its members, after these steps, up to the first that is refused.
+/// A circuit that was played.
+#[derive(Drop)]
+pub struct Played<R: Rows> {
+    /// The circuit after the steps that were taken.
+    pub world: World<R>,
+    /// Whether all steps were taken, or which one was refused.
+    pub run: Result<(), RunStop>,
+}
+
+/// Why a circuit was not played.
+#[derive(Clone, Copy, Debug, PartialEq, Eq)]
+pub enum PlayFault {
+    /// There are no members, or more than 15.
+    BadCount,
+    /// The stations, or their rows, could not be kept in memory.
+    OutOfMemory,
+}
+
+/// Plays a circuit from its beginning, its members over these rows: takes the steps in order, up to the first that is
+/// refused.
 ///
-/// What is released in it is agreed where the hosts of its rows are honest.
+/// Where the rows were just made for the members, nobody else writes to them, and they read back what was saved, then,
+/// whatever the steps are, the releases agree: no two of one number differ, each released tape was offered for its
+/// number, and its slugs are what its member's code table and widths make of it.
+///
+/// It is not played where [`World::new`] answers a fault, and in no other case.
 pub fn play<R: Rows>(
     alloc: Global,
     circuit: u16,
     members: Vec<(CodeTable, Widths, R)>,
     steps: &[Step],
-) -> Result<World<R>, NewWorldFault<R>>
-    requires { AreNewlyMade R.Rows members.items }
-    ensures reached { IfOk result (IsReached R.Rows) }
-    ensures agreed { IfOk result (λ v. AllHonest R.honest v → Agreed v) }
+) -> Result<Played<R>, NewWorldFault<R>>
+    ensures unfounded { IfErr result (IsUnfounded members.items) }
+    ensures count { IfOk result (λ _. IsCount (length members.items)) }
+    // The world is what these steps make of these members.
+    ensures plays { IfOk result (λ p. AreBlank R.is_open R.saved members.items → AllKept R.kept p.world → Plays R.Rows circuit (map given_of members.items) steps.now p.world p.run) }
+    ensures stops { IfOk result (λ p. IfErr p.run (StopsAt steps.now p.world)) }
+    // The headline.
+    ensures reached { IfOk result (λ p. AreNewlyMade R.Rows members.items → IsReached R.Rows p.world) }
+    ensures agreed { IfOk result (λ p. AreNewlyMade R.Rows members.items → AllHonest R.honest p.world → Agreed p.world) }
 {
     match World::new(alloc, circuit, members) {
         Ok(world) => {
             let mut world = world;
-            let _ = world.run(steps);
-            Ok(world)
+            let run = world.run(steps);
+            Ok(Played { world, run })
         }
         Err(fault) => Err(fault),
+    }
+}
+
+/// The number of members as one that a circuit has; `None` where there are none or more than 15.
+fn member_count(members: usize) -> Option<u8>
+    ensures some { IfSome result (λ count. (count ≡ members) × IsCount members) }
+    ensures none { result ≡ None → ¬ IsCount members }
+{
+    match u8::try_from(members) {
+        Ok(count) if 1 <= count && count <= 15 => Some(count),
+        _ => None,
     }
 }
 
@@ -40,7 +81,8 @@ fn with_memory(
     alloc: Global,
     members: Vec<(CodeTable, Widths)>,
 ) -> Result<Vec<(CodeTable, Widths, MemoryRows)>, AllocError>
-    ensures { IfOk result (λ v. AreNewlyMade ⟦<MemoryRows as Rows>⟧ v.items) }
+    ensures new { IfOk result (λ v. AreNewlyMade ⟦<MemoryRows as Rows>⟧ v.items) }
+    ensures given { IfOk result (λ v. map given_of v.items ≡ members.items) }
 {
     let mut parts = Vec::with_capacity(alloc, members.len())?;
     for (table, widths) in members {
@@ -49,19 +91,34 @@ fn with_memory(
     Ok(parts)
 }
 
-/// A circuit over rows in memory, after these steps, up to the first that is refused. What is released in it is agreed.
+/// Plays a circuit from its beginning, its members over empty rows in memory: takes the steps in order, up to the first
+/// that is refused.
+///
+/// Whatever the steps are, the releases agree: no two of one number differ, each released tape was offered for its
+/// number, and its slugs are what its member's code table and widths make of it.
+///
+/// It is not played as `BadCount` where there are no members or more than 15; `OutOfMemory`.
 pub fn play_in_memory(
     alloc: Global,
     circuit: u16,
     members: Vec<(CodeTable, Widths)>,
     steps: &[Step],
-) -> Result<World<MemoryRows>, NewWorldFault<MemoryRows>>
-    ensures { IfOk result Agreed }
+) -> Result<Played<MemoryRows>, PlayFault>
+    ensures unplayed { IfErr result (IsUnplayed (length members.items)) }
+    ensures plays { IfOk result (λ p. Plays ⟦<MemoryRows as Rows>⟧ circuit members.items steps.now p.world p.run) }
+    ensures stops { IfOk result (λ p. IfErr p.run (StopsAt steps.now p.world)) }
+    ensures agreed { IfOk result (λ p. Agreed p.world) }
 {
+    if member_count(members.len()).is_none() {
+        return Err(PlayFault::BadCount);
+    }
     let Ok(members) = with_memory(alloc, members) else {
-        return Err(NewWorldFault::OutOfMemory);
+        return Err(PlayFault::OutOfMemory);
     };
-    play(alloc, circuit, members, steps)
+    match play(alloc, circuit, members, steps) {
+        Ok(played) => Ok(played),
+        Err(_) => Err(PlayFault::OutOfMemory),
+    }
 }
 
 /// These members, each with rows in a database of its own, which lies in memory.
@@ -73,7 +130,8 @@ fn with_databases(
 ) -> Result<Vec<(CodeTable, Widths, SqliteRows<MemStore>)>, AllocError>
     requires many { length members.items ≤ count }
     requires few { count ≤ 15 }
-    ensures { IfOk result (λ v. AreNewlyMade ⟦<SqliteRows<MemStore> as Rows>⟧ v.items) }
+    ensures new { IfOk result (λ v. AreNewlyMade ⟦<SqliteRows<MemStore> as Rows>⟧ v.items) }
+    ensures given { IfOk result (λ v. map given_of v.items ≡ members.items) }
 {
     let mut parts = Vec::with_capacity(alloc, members.len())?;
     let mut me = 0;
@@ -93,22 +151,32 @@ fn with_databases(
     Ok(parts)
 }
 
-/// A circuit over databases, which lie in memory, after these steps, up to the first that is refused.
-/// What is released in it is agreed.
+/// Plays a circuit from its beginning, its members over databases that are made for them in memory: takes the steps in
+/// order, up to the first that is refused.
+///
+/// Whatever the steps are, the releases agree, as [`play_in_memory`] says.
+///
+/// It is not played as `BadCount` where there are no members or more than 15; `OutOfMemory`, also where a member's
+/// database could not be made.
 pub fn play_in_databases(
     alloc: Global,
     circuit: u16,
     members: Vec<(CodeTable, Widths)>,
     steps: &[Step],
-) -> Result<World<SqliteRows<MemStore>>, NewWorldFault<SqliteRows<MemStore>>>
-    ensures { IfOk result Agreed }
+) -> Result<Played<SqliteRows<MemStore>>, PlayFault>
+    ensures unplayed { IfErr result (IsUnplayed (length members.items)) }
+    ensures plays { IfOk result (λ p. Plays ⟦<SqliteRows<MemStore> as Rows>⟧ circuit members.items steps.now p.world p.run) }
+    ensures stops { IfOk result (λ p. IfErr p.run (StopsAt steps.now p.world)) }
+    ensures agreed { IfOk result (λ p. Agreed p.world) }
 {
-    let count = match u8::try_from(members.len()) {
-        Ok(count) if count <= 15 => count,
-        _ => return Err(NewWorldFault::OutOfMemory),
+    let Some(count) = member_count(members.len()) else {
+        return Err(PlayFault::BadCount);
     };
     let Ok(members) = with_databases(alloc, circuit, count, members) else {
-        return Err(NewWorldFault::OutOfMemory);
+        return Err(PlayFault::OutOfMemory);
     };
-    play(alloc, circuit, members, steps)
+    match play(alloc, circuit, members, steps) {
+        Ok(played) => Ok(played),
+        Err(_) => Err(PlayFault::OutOfMemory),
+    }
 }

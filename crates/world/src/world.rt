@@ -1,9 +1,9 @@
 //! A world: its members, and what went between them.
 
-ghost use Rattle.std.specs.Prelude.{◌≡◌, ◌≤◌, IfOk, length, option_copied};
+ghost use Rattle.std.specs.Prelude.{◌≡◌, ◌≤◌, IfOk, length, map, option_copied};
 ghost use Rattle.protocol.specs.Circuit.{fresh};
-ghost use Rattle.protocol.specs.Versions.{Two};
-ghost use Rattle.world.specs.Founding.{AreBlank, AreNew, AreNewlyMade, Founds, IsCircuitOf};
+ghost use Rattle.protocol.specs.Versions.{One};
+ghost use Rattle.world.specs.Founding.{AreBlank, AreNew, AreNewlyMade, Founds, IsCircuitOf, given_of};
 ghost use Rattle.world.specs.Reach.{IsReached, StandsFor};
 ghost use Rattle.world.specs.Setups.{StationCircuit};
 ghost use Rattle.world.specs.Worlds.{station_at};
@@ -71,9 +71,9 @@ impl<R: Rows> World<R> {
         members: Vec<(CodeTable, Widths, R)>,
     ) -> Result<World<R>, NewWorldFault<R>>
         ensures founds { Founds circuit members.items result }
-        // Over rows of which none is saved it stands for a fresh state.
-        ensures fresh { IfOk result (λ v. AreBlank R.is_open R.saved members.items → (z : StationCircuit) → IsCircuitOf circuit members.items z → StandsFor R.is_open R.saved z v (fresh (λ _. Two))) }
-        // Over rows that were just made for its members it is reached: there is a circuit of them.
+        // Over rows of which none is saved it stands for a fresh state of the circuit of these members, all at version 1.
+        ensures fresh { IfOk result (λ v. AreBlank R.is_open R.saved members.items → (z : StationCircuit) → IsCircuitOf circuit (map given_of members.items) z → StandsFor R.is_open R.saved z v (fresh (λ _. One))) }
+        // Over rows that were just made for its members it is reached by no step at all: there is a circuit of them.
         ensures reached { IfOk result (λ v. AreNewlyMade R.Rows members.items → IsReached R.Rows v) }
     {
         laws::circuits_exist();

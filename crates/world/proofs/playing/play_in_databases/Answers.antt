@@ -1,13 +1,17 @@
--- A store in memory reads back what was written.
-use Rattle.sqlite_trees.specs.declared.memory.MemStore.{MemStore}
-use Rattle.acceptor_store.specs.Sqlite.{SqliteOf}
-use Rattle.world.specs.declared.world.World.{World}
-use Rattle.world.specs.Reach.{Agreed, AllHonest}
-use Rattle.world.proofs.Databases.{in_memory, no_doubt, when_all}
+-- A database in memory reads back what was written.
+use Rattle.std.proofs.Common.{List, sym, subst}
+use Rattle.world.specs.Founding.{Given, IsCircuitOf}
+use Rattle.world.specs.Reach.{AllKept}
+use Rattle.world.proofs.Databases.{in_memory, no_doubt, keeps}
+use Rattle.world.proofs.Founding.{newly_is_blank}
 use Rattle.world.proofs.playing.play_in_databases.Goals as goal
 
-pub returns : goal.returns
-returns c =
-    let P : World (SqliteOf MemStore) → Type 0 = AllHonest in_memory.honest in
-    let Q : World (SqliteOf MemStore) → Type 0 = λ v. Agreed v in
-    when_all P Q c.play.result (λ v m s at_m. no_doubt) c.play.ensures.agreed
+pub returns-in-Ok-play-clause-plays : goal.returns-in-Ok-play-clause-plays
+returns-in-Ok-play-clause-plays c =
+    let new = c.in-Ok.ensures.new in
+    let kept : AllKept in_memory.kept c.in-Ok-play.played.world = λ m s at_m. keeps s.rows.rows ((c.in-Ok-play.ensures.reached new).made m s at_m) in
+    λ z of. c.in-Ok-play.ensures.plays (newly_is_blank in_memory keeps c.in-Ok.members.items new) kept z
+    (subst (λ (members : List Given). IsCircuitOf c.args.circuit members z) (sym c.in-Ok.ensures.given) of)
+
+pub returns-in-Ok-play-clause-agreed : goal.returns-in-Ok-play-clause-agreed
+returns-in-Ok-play-clause-agreed c = c.in-Ok-play.ensures.agreed c.in-Ok.ensures.new (λ m s at_m. no_doubt)

@@ -1,16 +1,18 @@
 -- One member more.
-use Rattle.std.proofs.Common.{List, [], ◌∷◌, sym, subst, arith, refl, length-append}
+use Rattle.std.proofs.Common.{◌≡◌, List, [], ◌∷◌, ◌++◌, sym, subst, ap, arith, refl, length-append}
+use Rattle.std.specs.Prelude.{map}
 use Rattle.sqlite_trees.specs.declared.memory.MemStore.{MemStore}
 use Rattle.acceptor_store.specs.Sqlite.{SqliteOf}
-use Rattle.world.specs.Founding.{Part, AreNewlyMade}
+use Rattle.world.specs.Founding.{Part, AreNewlyMade, given_of}
 use Rattle.world.proofs.Databases.{in_memory}
-use Rattle.world.proofs.Founding.{newly_more, newly_none}
+use Rattle.world.proofs.Founding.{newly_more, newly_none, given_more}
 use Rattle.world.proofs.playing.with_databases.Goals as goal
 
 pub loop-table-init : goal.loop-table-init
 loop-table-init c = record {
   me = refl;
   new = let P : List (Part (SqliteOf MemStore)) → Type 0 = AreNewlyMade in_memory in subst P (sym c.in_ok-parts.ensures.items) (newly_none in_memory);
+  given = ap (λ (l : List (Part (SqliteOf MemStore))). map given_of l) c.in_ok-parts.ensures.items;
 }
 
 pub loop-table-preserved : goal.loop-table-preserved
@@ -23,7 +25,5 @@ loop-table-preserved c =
       me = (let l = length-append c.loop-table.yielded ((c.in-Some.table, c.in-Some.widths) ∷ []) in omega (arith, l, i));
       new = subst P (sym c.in_ok-push-in-Ok.ensures.items)
           (newly_more in_memory parts part c.loop-table.invariant.new (c.in-Ok.ensures.made c.in_ok-conn.ensures.empty.2, λ kept here. c.in-Ok.ensures.blank kept));
+      given = (let Q : List (Part (SqliteOf MemStore)) → Type 0 = λ l. map given_of l ≡ c.loop-table.yielded ++ given_of part ∷ [] in subst Q (sym c.in_ok-push-in-Ok.ensures.items) (given_more parts part c.loop-table.yielded c.loop-table.invariant.given));
     }
-
-pub returns : goal.returns
-returns c = c.loop-table.invariant.new

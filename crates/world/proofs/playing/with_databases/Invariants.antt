@@ -1,6 +1,7 @@
--- The rows so far were just made.
+-- The rows so far were just made, each for the member whose turn it was.
 use Rattle.std.proofs.Common.{◌≡◌, length}
-use Rattle.world.specs.Founding.{AreNewlyMade}
+use Rattle.std.specs.Prelude.{map}
+use Rattle.world.specs.Founding.{AreNewlyMade, given_of}
 use Rattle.world.proofs.Databases.{in_memory}
 use Rattle.world.proofs.playing.with_databases.Given as goal
 
@@ -9,4 +10,5 @@ invariant-loop-table l =
     record {
       me : l.me ≡ length l.yielded;
       new : AreNewlyMade in_memory l.parts.items;
+      given : map given_of l.parts.items ≡ l.yielded;
     }

@@ -15,7 +15,7 @@ returns-in_err-number-clause-steps g c = λ kept marks stands.
 pub returns-in-Ok-Some-clause-steps : goal.returns-in-Ok-Some-clause-steps
 returns-in-Ok-Some-clause-steps g c = λ kept marks stands.
     let x = sight g.R.Rows in
-    refused_faulty x c.args.self.now marks c.args.number c.args.tape.now c.args.now c.in-Ok-Some.fault c.if-self.false
+    refused_faulty x c.args.self.now marks c.args.number c.args.tape.now c.args.now c.in-Ok-Some.fault c.if-self.false c.fits_version_one.ensures
     (c.in_ok-number.ensures.checks marks stands) (c.in-Ok-Some.ensures ∙ c.in-Ok-Some.field-0-is)
 
 pub returns-in-Err-clause-steps : goal.returns-in-Err-clause-steps
@@ -23,14 +23,14 @@ returns-in-Err-clause-steps g c = λ kept marks stands.
     let x = sight g.R.Rows in
     let h = c.in_ok-number.ensures.checks marks stands in
     torn_early x (Offering c.args.number c.args.tape.now c.args.now) (Offered c.args.number c.args.tape.now c.args.now) c.args.self.now c.stop.new.self marks c.stop.result c.stop.ensures.same
-    (offered_early c.args.self.now marks c.args.number c.args.tape.now c.args.now c.if-self.false h) c.stop.ensures.fixed c.stop.ensures.stopped c.stop.ensures.stands
+    (offered_early c.args.self.now marks c.args.number c.args.tape.now c.args.now c.if-self.false c.fits_version_one.ensures h) c.stop.ensures.fixed c.stop.ensures.stopped c.stop.ensures.stands
 
 pub returns-in-Ok-clause-steps : goal.returns-in-Ok-clause-steps
 returns-in-Ok-clause-steps g c = λ kept marks stands.
     let x = sight g.R.Rows in
     let h = c.in_ok-number.ensures.checks marks stands in
     stepped x (Offering c.args.number c.args.tape.now c.args.now) (Offered c.in_ok-number.number c.in-Ok.tape c.args.now) c.args.self.now c.take.new.self marks c.take.result
-    (offered c.args.self.now marks c.args.number c.in_ok-number.number c.args.tape.now c.in-Ok.tape c.args.now c.if-self.false h
+    (offered c.args.self.now marks c.args.number c.in_ok-number.number c.args.tape.now c.in-Ok.tape c.args.now c.if-self.false c.fits_version_one.ensures h
     (c.in-Ok-None.ensures ∙ c.in-Ok-None.field-0-is) c.in_ok-number.ensures.value c.in-Ok.ensures)
     (c.take.ensures.takes kept marks stands (free_at c.args.number c.in_ok-number.number marks c.in_ok-number.ensures.value h))
 
@@ -39,4 +39,4 @@ returns-in-Err-copy-clause-steps g c = λ kept marks stands.
     let x = sight g.R.Rows in
     let h = c.in_ok-number.ensures.checks marks stands in
     torn_early x (Offering c.args.number c.args.tape.now c.args.now) (Offered c.args.number c.args.tape.now c.args.now) c.args.self.now c.stop-in-Err-copy.new.self marks c.stop-in-Err-copy.result c.stop-in-Err-copy.ensures.same
-    (offered_early c.args.self.now marks c.args.number c.args.tape.now c.args.now c.if-self.false h) c.stop-in-Err-copy.ensures.fixed c.stop-in-Err-copy.ensures.stopped c.stop-in-Err-copy.ensures.stands
+    (offered_early c.args.self.now marks c.args.number c.args.tape.now c.args.now c.if-self.false c.fits_version_one.ensures h) c.stop-in-Err-copy.ensures.fixed c.stop-in-Err-copy.ensures.stopped c.stop-in-Err-copy.ensures.stands

@@ -1,0 +1,23 @@
+-- A circuit that is played from its beginning: where its steps lead, and why it is not played.
+use Rattle.std.specs.Prelude.{ℕ, List, Result}
+use Rattle.protocol.specs.Versions.{One}
+use Rattle.protocol.specs.Circuit.{fresh}
+use Rattle.acceptor_store.specs.declared.rows.Rows.{Ghosts}
+use Rattle.world.specs.declared.world.World.{World}
+use Rattle.world.specs.declared.step.Step.{Step}
+use Rattle.world.specs.declared.step.RunStop.{RunStop}
+use Rattle.world.specs.declared.playing.PlayFault.{PlayFault}
+use Rattle.world.specs.declared.playing.PlayFault.TheVariants.{BadCount, OutOfMemory}
+use Rattle.world.specs.Setups.{StationCircuit}
+use Rattle.world.specs.Founding.{Given, IsCount, IsCircuitOf}
+use Rattle.world.specs.Reach.{Runs}
+
+-- from the fresh state of the circuit of these members, all at version 1, the steps lead to a state that the world stands for,
+-- or those before the one that was refused do
+abbrev pub Plays : {R A : Type 0} → Ghosts R → ℕ → List Given → List Step → World R → Result A RunStop → Type 0
+Plays g k members steps v run = (z : StationCircuit) → IsCircuitOf k members z → Runs g.is_open g.saved z (fresh (λ _. One)) steps v run
+
+-- it is not played since no circuit has so many members; or one has, and memory was refused
+abbrev pub IsUnplayed : ℕ → PlayFault → Type 0
+IsUnplayed count BadCount = ¬ IsCount count
+IsUnplayed count OutOfMemory = IsCount count
