@@ -1,2 +1,3 @@
 pub mod Frames
 pub mod Holes
+pub mod Packing

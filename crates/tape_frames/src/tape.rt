@@ -12,7 +12,7 @@ use std::marker::Model;
 /// The most frames that a tape has.
 pub const MAX_FRAMES: usize = 4096;
 
-/// A tape that owns its frames: 1 to 4,096 of them, each below 64. Clauses see the list of its frames.
+/// A tape that owns its frames: 1 to [`MAX_FRAMES`] of them, each below 64. Clauses see the list of its frames.
 #[derive(Debug, Drop)]
 pub struct Tape {
     frames: Vec<u8>,
@@ -92,7 +92,7 @@ impl<'a> TapeRef<'a> {
         self.frames
     }
 
-    /// How many frames it has, 1 to 4,096.
+    /// How many frames it has, 1 to [`MAX_FRAMES`].
     pub fn len(&self) -> usize
         ensures { result ≡ length self.now }
     {
@@ -153,7 +153,7 @@ impl Tape {
         self.frames.as_slice()
     }
 
-    /// How many frames it has, 1 to 4,096.
+    /// How many frames it has, 1 to [`MAX_FRAMES`].
     pub fn len(&self) -> usize
         ensures { result ≡ length self.now }
     {

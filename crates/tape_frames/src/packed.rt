@@ -1,0 +1,102 @@
+//! Packed tapes: six bits a frame.
+
+ghost use Rattle.std.specs.Prelude.{◌≡◌, ◌≤◌, ◌↔◌, length, slice_get, IsSome, IfSome};
+ghost use Rattle.tape_frames.specs.Frames.{IsTape, most_frames};
+ghost use Rattle.tape_frames.specs.Packing.{Packs, IsPacked, packed_len, pad_of, unpacked};
+
+use crate::tape::MAX_FRAMES;
+use std::marker::Model;
+
+/// A packed tape whose bytes are lent: six bits a frame, the highest first, and zero bits behind the last as far
+/// as the end of the last byte. Clauses see the list of its frames.
+#[derive(Debug, Drop)]
+pub struct PackedRef<'a> {
+    length: u16,
+    bytes: &'a [u8],
+}
+
+impl<'a> Model for PackedRef<'a> {
+    ghost use Rattle.std.specs.Prelude.{List, ℕ};
+    ghost use Rattle.tape_frames.specs.Packing.{IsPacked, unpacked};
+
+    ghost Value = { List ℕ };
+
+    ghost view = { λ p. unpacked p.length p.bytes.now };
+
+    ghost invariant = { λ p. IsPacked p.length p.bytes.now };
+}
+
+/// How many bytes so many frames are packed in.
+pub(crate) fn packed_len(frames: usize) -> usize
+    requires { frames ≤ most_frames }
+    ensures { result ≡ packed_len frames }
+{
+    (3 * frames + 3) / 4
+}
+
+/// The bits of the last byte behind the last frame.
+fn pad_of(frames: usize, bytes: &[u8]) -> u8
+    requires { 1 ≤ length bytes.now }
+    ensures { result ≡ pad_of frames bytes.now }
+{
+    let last = bytes[bytes.len() - 1];
+    match frames % 4 {
+        0 => 0,
+        1 => last % 4,
+        2 => last % 16,
+        _ => last % 64,
+    }
+}
+
+/// The frame at this place, of so many that are packed in the bytes; `None` from their number on.
+fn frame_at(bytes: &[u8], frames: usize, i: usize) -> Option<u8>
+    requires { IsPacked frames bytes.now }
+    ensures { result ≡ slice_get (unpacked frames bytes.now) i }
+{
+    if i >= frames {
+        return None;
+    }
+    let at = i / 4 * 3;
+    let frame = match i % 4 {
+        0 => bytes[at] / 4,
+        1 => bytes[at] % 4 * 16 + bytes[at + 1] / 16,
+        2 => bytes[at + 1] % 16 * 4 + bytes[at + 2] / 64,
+        _ => bytes[at + 2] % 64,
+    };
+    Some(frame)
+}
+
+impl<'a> PackedRef<'a> {
+    /// The packed tape of so many frames; `None` where it is none: where a tape has never so many, where they take another
+    /// number of bytes, or where a bit behind the last is set.
+    pub fn new(length: u16, bytes: &'a [u8]) -> Option<PackedRef<'a>>
+        ensures some { IsSome result ↔ IsPacked length bytes.now }
+        ensures value { IfSome result (λ p. p ≡ unpacked length bytes.now) }
+        ensures packs { IfSome result (λ p. Packs p bytes.now) }
+        ensures is_tape { IfSome result (λ p. IsTape p) }
+    {
+        let frames = usize::from(length);
+        if frames < 1 || frames > MAX_FRAMES {
+            return None;
+        }
+        if bytes.len() != packed_len(frames) || pad_of(frames, bytes) != 0 {
+            return None;
+        }
+        Some(PackedRef { length, bytes })
+    }
+
+    /// The frame at this place; `None` from its length on.
+    pub fn frame(&self, i: usize) -> Option<u8>
+        ensures { result ≡ slice_get self.now i }
+    {
+        frame_at(self.bytes, usize::from(self.length), i)
+    }
+
+    /// How many frames it has.
+    pub fn len(&self) -> usize
+        ensures len { result ≡ length self.now }
+        ensures is_tape { IsTape self.now }
+    {
+        usize::from(self.length)
+    }
+}
