@@ -4,7 +4,6 @@ use Rattle.std.specs.Int.{w16, w32, to_be_bytes}
 use Rattle.std.proofs.lemmas.Bool.{le-ltb, le-leb, and_parts, not-true}
 use Rattle.std.proofs.lemmas.List.{take_at, drop_at, length-append}
 use Rattle.std.proofs.lemmas.Nat.{from_be_bytes-to_be_bytes_2, from_be_bytes-to_be_bytes_4}
-use Rattle.tape_frames.specs.Frames.{IsTape}
 use Rattle.protocol.specs.Ballots.{Ballot, IsBallot, IsMember, is_below}
 use Rattle.protocol.specs.Rows.{Vote}
 use Rattle.protocol.specs.Packets.{Packet, Body, Prepare, Promise, Accept, Accepted, Nack}
@@ -12,11 +11,11 @@ use Rattle.packets.specs.declared.body.Kind.{Kind}
 use Rattle.packets.specs.declared.body.Kind.TheVariants as kinds
 use Rattle.packets.specs.Rules.{kind_of, may_send, may_say, keeps_rules}
 use Rattle.packets.specs.Spelling.{kind_byte, ballot_bytes, header_bytes, tape_bytes, body_bytes, spelling}
-use Rattle.packets.specs.Grammar.{IsBody, IsPacket}
+use Rattle.packets.specs.Grammar.{most_frames_one, IsTapeOne, IsBody, IsPacket}
 use Rattle.packets.proofs.Tapes.{no_fault}
 use Rattle.packets.specs.Reading.{◌>>=◌, ends, frames_at, whole_tape_at, ballot_at, vote_at, promise_at, nack_at, body_at, kind_at, members_at, member_at, number_at, header_at, packet_at, kind_of_byte}
 
-frames_again : (tape rest : List ℕ) → IsTape tape → frames_at (tape_bytes tape ++ rest) ≡ Ok (tape, rest)
+frames_again : (tape rest : List ℕ) → IsTapeOne tape → frames_at (tape_bytes tape ++ rest) ≡ Ok (tape, rest)
 unfolding frames_at
 frames_again tape rest is =
     let some = is.some in
@@ -24,11 +23,11 @@ frames_again tape rest is =
     let back = from_be_bytes-to_be_bytes_2 (length tape) (omega (arith, few)) in
     let long : ltb (length (tape_bytes tape ++ rest)) 2 ≡ false = le-ltb _ _ (omega arith) in
     let low : leb 1 (length tape) ≡ true = le-leb _ _ some in
-    let high : leb (length tape) 4096 ≡ true = le-leb _ _ few in
+    let high : leb (length tape) most_frames_one ≡ true = le-leb _ _ few in
     let enough : ltb (length (tape ++ rest)) (length tape) ≡ false = le-ltb _ _ (omega (arith, length-append tape rest)) in
     rw (long, back, low, high, enough, take_at tape rest (length tape) refl, drop_at tape rest (length tape) refl, no_fault tape is) refl
 
-whole_tape_again : (tape rest : List ℕ) → IsTape tape → whole_tape_at (tape_bytes tape ++ rest) ≡ ends tape rest
+whole_tape_again : (tape rest : List ℕ) → IsTapeOne tape → whole_tape_at (tape_bytes tape ++ rest) ≡ ends tape rest
 unfolding whole_tape_at
 whole_tape_again tape rest is = rw (frames_again tape rest is) refl
 
@@ -42,7 +41,7 @@ ballot_again b rest is =
     let t2 = le-leb _ _ is.owner_high in
     rw (back, t0, t1, t2) refl
 
-vote_again : (ballot : Ballot) (v : Vote) (rest : List ℕ) → IsBallot v.ballot → IsTape v.tape → is_below v.ballot ballot ≡ true → vote_at ballot ((ballot_bytes v.ballot ++ tape_bytes v.tape) ++ rest) ≡ Ok (v, rest)
+vote_again : (ballot : Ballot) (v : Vote) (rest : List ℕ) → IsBallot v.ballot → IsTapeOne v.tape → is_below v.ballot ballot ≡ true → vote_at ballot ((ballot_bytes v.ballot ++ tape_bytes v.tape) ++ rest) ≡ Ok (v, rest)
 unfolding vote_at
 vote_again ballot v rest is tape below =
     let first : ballot_at ((ballot_bytes v.ballot ++ tape_bytes v.tape) ++ rest) 0 ≡ Some v.ballot = ballot_again v.ballot (tape_bytes v.tape ++ rest) is in

@@ -14,7 +14,7 @@ use Rattle.packets.specs.declared.body.Kind.TheVariants as kinds
 use Rattle.packets.specs.declared.header.Header.{Header}
 use Rattle.packets.specs.Rules.{kind_of, may_send, may_say, keeps_rules}
 use Rattle.packets.specs.Spelling.{kind_byte}
-use Rattle.packets.specs.Grammar.{IsBytes, SpellsTwo, SpellsFour, SpellsBallot, SpellsTape, SpellsBody, Spells, number_of_kind}
+use Rattle.packets.specs.Grammar.{most_frames_one, IsBytes, SpellsTwo, SpellsFour, SpellsBallot, SpellsTape, SpellsBody, Spells, number_of_kind}
 use Rattle.packets.specs.Reading.{◌>>=◌, ends, wanted, u16_at, u32_at, kind_of_byte, frames_at, whole_tape_at, ballot_at, vote_at, promise_at, nack_at, body_at, kind_at, members_at, member_at, number_at, header_at, packet_at}
 use Rattle.packets.proofs.Numbers.{two_read, four_read}
 use Rattle.packets.proofs.Tapes.{is_tape}
@@ -190,7 +190,8 @@ frames_take (b1 ∷ b0 ∷ rest) x fits e =
     let bytes = b1 ∷ b0 ∷ rest in
     let n = u16_at bytes 0 in
     let a = guard (ltb (length bytes) 2) _ _ x e in
-    let b = guard (not (leb 1 n && leb n 4096)) _ _ x a.1 in
+    let b = guard (not (leb 1 n && leb n most_frames_one)) _ _ x a.1 in
+    let many = between n 1 most_frames_one (not-false _ b.0) in
     let c = guard (ltb (length rest) n) _ _ x b.1 in
     let d = guard (is_some (tape_fault (take n rest))) _ _ x c.1 in
     let tape = take n rest in
@@ -198,7 +199,7 @@ frames_take (b1 ∷ b0 ∷ rest) x fits e =
     subst (λ (y : Tape × List ℕ). TakesTape bytes y) (ok_is (tape, drop n rest) x d.1) (record {
       text = b1 ∷ b0 ∷ tape;
       parts = ap (λ (r : List ℕ). b1 ∷ b0 ∷ r) (sym (take-append-drop n rest));
-      spells = record { count = b1 ∷ b0 ∷ []; are = refl; spells_count = subst (λ k. SpellsTwo (b1 ∷ b0 ∷ []) k) (sym len) (two_read b1 b0 (fits 0) (fits 1)); is_tape = is_tape tape d.0 };
+      spells = record { count = b1 ∷ b0 ∷ []; are = refl; spells_count = subst (λ k. SpellsTwo (b1 ∷ b0 ∷ []) k) (sym len) (two_read b1 b0 (fits 0) (fits 1)); is_tape = is_tape tape (omega (arith, len, many)) d.0 };
     })
 frames_take bytes x fits e = absurd cc
 

@@ -1,25 +1,32 @@
--- Frames are a tape exactly where nothing is wrong with them.
-use Rattle.std.proofs.Common.{◌≡◌, ℕ, ◌+◌, ◌<◌, Bool, true, false, cond, ltb, eqb, List, [], ◌∷◌, length, Option, Some, None, refl, arith}
+-- Version 1 spells a tape exactly where nothing is wrong with its frames, and they are not too many for it.
+use Rattle.std.proofs.Common.{◌≡◌, ℕ, ◌+◌, ◌≤◌, Bool, true, false, cond, ltb, eqb, List, [], ◌∷◌, length, Option, Some, None, refl, arith}
 use Rattle.std.specs.Prelude.{is_some, option_map}
-use Rattle.std.specs.List.{AllByRecursion, position_from}
+use Rattle.std.specs.List.{position_from}
 use Rattle.std.proofs.lemmas.Bool.{le-ltb, ltb-false, ne_eqb, eqb-false}
-use Rattle.tape_frames.specs.Frames.{IsTape, tape_fault}
+use Rattle.tape_frames.specs.Frames.{most_frames, AreFrames, IsTape, tape_fault}
 use Rattle.tape_frames.specs.declared.fault.TapeFault.TheVariants.{BadFrame}
 use Rattle.protocol.specs.Rows.{Tape}
+use Rattle.packets.specs.Grammar.{most_frames_one, IsTapeOne}
 
-none_bad : (i : ℕ) (xs : List ℕ) → AllByRecursion (λ f. f < 64) xs → position_from (λ f. ltb 63 f) i xs ≡ None
+-- version 1 spells every tape, since a tape has no more frames than it
+pub every_tape : (tape : Tape) → IsTape tape → IsTapeOne tape
+every_tape tape is =
+    let few = is.few in
+    record { some = is.some; few = omega (arith, few); small = is.small }
+
+none_bad : (i : ℕ) (xs : List ℕ) → AreFrames xs → position_from (λ f. ltb 63 f) i xs ≡ None
 none_bad i [] h = refl
 none_bad i (x ∷ xs) h =
     let small = h.0 in
     let test : ltb 63 x ≡ false = le-ltb 63 x (omega (arith, small)) in
     rw test (none_bad (i + 1) xs h.1)
 
-pub no_fault : (tape : Tape) → IsTape tape → tape_fault tape ≡ None
+pub no_fault : (tape : Tape) → IsTapeOne tape → tape_fault tape ≡ None
 no_fault tape is =
     let some = is.some in
     let few = is.few in
     let a : eqb (length tape) 0 ≡ false = ne_eqb (length tape) 0 (λ e. omega (arith, some, e)) in
-    let b : ltb 4096 (length tape) ≡ false = le-ltb 4096 (length tape) few in
+    let b : ltb most_frames (length tape) ≡ false = le-ltb most_frames (length tape) (omega (arith, few)) in
     rw (a, b, none_bad 0 tape is.small) refl
 
 -- a test that found nothing
@@ -31,19 +38,19 @@ none_mapped : {A B : Type 0} (f : A → B) (o : Option A) → is_some (option_ma
 none_mapped f None e = refl
 none_mapped f (Some x) e = absurd cc
 
-all_small : (i : ℕ) (xs : List ℕ) → is_some (position_from (λ f. ltb 63 f) i xs) ≡ false → AllByRecursion (λ f. f < 64) xs
+all_small : (i : ℕ) (xs : List ℕ) → is_some (position_from (λ f. ltb 63 f) i xs) ≡ false → AreFrames xs
 all_small i [] e = tt
 all_small i (x ∷ xs) e =
     let h = none_after (ltb 63 x) i (position_from (λ f. ltb 63 f) (i + 1) xs) e in
     let le = ltb-false 63 x h.0 in
     (omega (arith, le), all_small (i + 1) xs h.1)
 
-pub is_tape : (tape : Tape) → is_some (tape_fault tape) ≡ false → IsTape tape
-is_tape tape e =
+pub is_tape : (tape : Tape) → length tape ≤ most_frames_one → is_some (tape_fault tape) ≡ false → IsTapeOne tape
+is_tape tape few e =
     let a = none_after (eqb (length tape) 0) _ _ e in
-    let b = none_after (ltb 4096 (length tape)) _ _ a.1 in
+    let b = none_after (ltb most_frames (length tape)) _ _ a.1 in
     record {
       some = omega (arith, eqb-false _ _ a.0);
-      few = omega (arith, ltb-false _ _ b.0);
+      few = few;
       small = all_small 0 tape (none_mapped (λ i. BadFrame i) _ b.1);
     }

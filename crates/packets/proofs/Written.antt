@@ -4,13 +4,12 @@ use Rattle.std.specs.Prelude.{Result, Ok, Err, IfOk, OnOk}
 use Rattle.std.specs.declared.alloc.AllocError.{AllocError}
 use Rattle.std.specs.Global.{Vec}
 use Rattle.std.specs.Int.{w16, w32, to_be_bytes}
-use Rattle.tape_frames.specs.Frames.{IsTape}
 use Rattle.protocol.specs.Ballots.{Ballot, IsBallot}
 use Rattle.protocol.specs.Rows.{Tape, Vote}
 use Rattle.protocol.specs.Packets.{Packet, Body, Prepare, Promise, Accept, Accepted, Nack}
 use Rattle.packets.specs.Rules.{kind_of}
 use Rattle.packets.specs.Spelling.{kind_byte, ballot_bytes, tape_bytes, report_bytes, body_bytes, spelling}
-use Rattle.packets.specs.Grammar.{SpellsBallot, SpellsTape, SpellsVote, SpellsBody, Spells, number_of_kind, IsBody, IsPacket, HasOneSpelling}
+use Rattle.packets.specs.Grammar.{IsTapeOne, SpellsBallot, SpellsTape, SpellsVote, SpellsBody, Spells, number_of_kind, IsBody, IsPacket, HasOneSpelling}
 use Rattle.packets.proofs.Numbers.{two_are, two_below, four_are, two_written, four_written}
 
 kind_is : (b : Body) → number_of_kind b ≡ kind_byte (kind_of b)
@@ -84,7 +83,7 @@ ballot_written b is =
     let high = is.round_high in
     record { round = to_be_bytes w32 b.round; are = refl; spells_round = four_written b.round (omega (arith, high)); is_ballot = is }
 
-tape_written : (tape : Tape) → IsTape tape → SpellsTape (tape_bytes tape) tape
+tape_written : (tape : Tape) → IsTapeOne tape → SpellsTape (tape_bytes tape) tape
 tape_written tape is =
     let few = is.few in
     record { count = to_be_bytes w16 (length tape); are = refl; spells_count = two_written (length tape) (omega (arith, few)); is_tape = is }

@@ -1,11 +1,21 @@
 -- The grammar of packets, version 1: which bytes spell which packet. Every number is big-endian.
 -- It says what each field is, and neither how a packet is read nor how it is written.
 use Rattle.std.specs.Prelude.{◌≡◌, ℕ, ◌+◌, ◌*◌, ◌<◌, ◌≤◌, List, [], ◌∷◌, ◌++◌, length, slice_index, Some, None, IsTrue}
-use Rattle.tape_frames.specs.Frames.{IsTape}
+use Rattle.tape_frames.specs.Frames.{AreFrames}
 use Rattle.protocol.specs.Ballots.{Ballot, IsBallot, IsMember}
 use Rattle.protocol.specs.Rows.{Tape, Vote}
 use Rattle.protocol.specs.Packets.{Packet, Body, Prepare, Promise, Accept, Accepted, Nack}
 use Rattle.packets.specs.Rules.{keeps_rules}
+
+-- the most frames of a tape that version 1 spells
+abbrev pub most_frames_one : ℕ
+most_frames_one = 4096
+
+-- a tape that version 1 spells: one frame or more, up to its most
+pub record IsTapeOne (tape : Tape) : Type 0 where
+  pub some : 1 ≤ length tape
+  pub few : length tape ≤ most_frames_one
+  pub small : AreFrames tape
 
 -- each of the list is a byte
 abbrev pub IsBytes : List ℕ → Type 0
@@ -34,7 +44,7 @@ pub record SpellsTape (bytes : List ℕ) (tape : Tape) : Type 0 where
   pub count : List ℕ
   pub are : bytes ≡ count ++ tape
   pub spells_count : SpellsTwo count (length tape)
-  pub is_tape : IsTape tape
+  pub is_tape : IsTapeOne tape
 
 -- a 1, the ballot and the tape
 pub record SpellsVote (bytes : List ℕ) (vote : Vote) : Type 0 where
@@ -83,9 +93,9 @@ pub record Spells (bytes : List ℕ) (p : Packet) : Type 0 where
 abbrev pub IsBody : Body → Type 0
 IsBody Prepare = Unit {0}
 IsBody (Promise None) = Unit {0}
-IsBody (Promise (Some vote)) = IsBallot vote.ballot × IsTape vote.tape
-IsBody (Accept tape) = IsTape tape
-IsBody (Accepted tape) = IsTape tape
+IsBody (Promise (Some vote)) = IsBallot vote.ballot × IsTapeOne vote.tape
+IsBody (Accept tape) = IsTapeOne tape
+IsBody (Accepted tape) = IsTapeOne tape
 IsBody (Nack promised) = IsBallot promised
 
 -- what has a spelling: each field is in its range, and the rules are kept

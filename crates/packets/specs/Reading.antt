@@ -6,6 +6,7 @@ use Rattle.protocol.specs.Ballots.{Ballot, is_below}
 use Rattle.protocol.specs.Rows.{Tape, Vote, vote_for}
 use Rattle.protocol.specs.Packets.{Packet, Body, Prepare, Promise, Accept, Accepted, Nack}
 use Rattle.packets.specs.Rules.{may_send}
+use Rattle.packets.specs.Grammar.{most_frames_one}
 use Rattle.packets.specs.declared.fault.PacketFault.{PacketFault}
 use Rattle.packets.specs.declared.fault.PacketFault.TheVariants.{Short, BadMark, BadVersion, BadKind, BadMember, BadNumber, BadBallot, BadSender, BadReport, BadFrames, Long}
 use Rattle.packets.specs.declared.body.Kind.{Kind}
@@ -86,11 +87,11 @@ header_at bytes = do
       then Ok (record { kind = kind; circuit = u16_at bytes 4; from = ends.0; to = ends.1; number = number; ballot = ballot })
       else Err BadSender
 
--- a length and that many frames, and what follows them
+-- a length that version 1 spells and that many frames, and what follows them
 unfoldable pub frames_at : List ℕ → Result (Tape × List ℕ) PacketFault
 frames_at bytes =
     if nat_lt (length bytes) 2 then Err Short else
-    if not (nat_le 1 (u16_at bytes 0) && nat_le (u16_at bytes 0) 4096) then Err BadFrames else
+    if not (nat_le 1 (u16_at bytes 0) && nat_le (u16_at bytes 0) most_frames_one) then Err BadFrames else
     if nat_lt (length (drop 2 bytes)) (u16_at bytes 0) then Err Short else
     if is_some (tape_fault (take (u16_at bytes 0) (drop 2 bytes))) then Err BadFrames else
     Ok (take (u16_at bytes 0) (drop 2 bytes), drop (u16_at bytes 0) (drop 2 bytes))

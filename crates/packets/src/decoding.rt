@@ -14,7 +14,10 @@ use crate::fault::PacketFault;
 use crate::header::{HEADER_LEN, ballot_of, header_of, u16_of};
 use crate::packet::PacketRef;
 use ballots::{Ballot, VoteRef};
-use tape_frames::{MAX_FRAMES, TapeRef};
+use tape_frames::TapeRef;
+
+/// The most frames of a tape that version 1 spells.
+const MAX_FRAMES: usize = 4096;
 
 #[tactic(auto, unfolding(crate::specs::Reading::frames_at))]
 fn frames_of(bytes: &[u8]) -> Result<(TapeRef<'_>, &[u8]), PacketFault>

@@ -1,11 +1,10 @@
 //! Writing a packet as bytes.
 
-ghost use Rattle.std.specs.Prelude.{◌≡◌, ◌++◌, ◌≤◌, List, ℕ, length, IfOk, OnOk, Ok};
-ghost use Rattle.tape_frames.specs.Frames.{IsTape};
+ghost use Rattle.std.specs.Prelude.{◌≡◌, ◌++◌, ◌≤◌, ◌+◌, List, ℕ, length, IfOk, OnOk, Ok};
 ghost use Rattle.protocol.specs.Ballots.{IsBallot};
 ghost use Rattle.protocol.specs.Packets.{Promise};
 ghost use Rattle.packets.specs.Bodies.{said};
-ghost use Rattle.packets.specs.Grammar.{Spells, IsBody, IsPacket};
+ghost use Rattle.packets.specs.Grammar.{most_frames_one, IsTapeOne, Spells, IsBody, IsPacket};
 ghost use Rattle.packets.specs.Reading.{packet_at};
 ghost use Rattle.packets.specs.Spelling.{kind_byte, ballot_bytes, header_bytes, tape_bytes, report_bytes, body_bytes, spelling};
 
@@ -37,9 +36,10 @@ fn put_ballot(out: &mut Vec<u8>, ballot: Ballot) -> Result<(), AllocError>
     Ok(())
 }
 
+#[tactic(auto, using(crate::proofs::Tapes::every_tape))]
 fn put_tape(out: &mut Vec<u8>, tape: &TapeRef<'_>) -> Result<(), AllocError>
     ensures ok { OnOk result (out.new.items ≡ out.old.items ++ tape_bytes tape.now) }
-    ensures range { IsTape tape.now }
+    ensures range { IsTapeOne tape.now }
 {
     let frames = tape.frames();
     let count = frames.len() as u16;
@@ -96,7 +96,7 @@ fn put_header(
 /// How many bytes a tape takes: its length, and its frames.
 fn tape_len(tape: &TapeRef<'_>) -> usize
     ensures value { result ≡ length (tape_bytes tape.now) }
-    ensures range { result ≤ 4098 }
+    ensures range { result ≤ 2 + most_frames_one }
 {
     2 + tape.frames().len()
 }
@@ -104,7 +104,7 @@ fn tape_len(tape: &TapeRef<'_>) -> usize
 /// How many bytes the body takes.
 fn body_len(body: &BodyRef<'_>) -> usize
     ensures value { result ≡ length (body_bytes (said body.now)) }
-    ensures range { result ≤ 4104 }
+    ensures range { result ≤ 8 + most_frames_one }
 {
     match body {
         BodyRef::Prepare => 0,

@@ -23,7 +23,7 @@ pub enum PacketFault {
     /// The flag of a report is above 1. Or what stands for a reported ballot, or for the promise of a Nack,
     /// is no ballot, or the one is not below the packet's ballot, or the other not above it.
     BadReport,
-    /// The length of a tape is not 1 to 4,096, or a frame is above 63.
+    /// The length of a tape is 0 or above what version 1 spells, or a frame is above 63.
     BadFrames,
     /// Bytes stand after the packet.
     Long,
