@@ -1,6 +1,6 @@
 use Rattle.std.proofs.Common.{◌≡◌, ℕ, List, [], ◌++◌, sym, ap, subst, ◌∙◌, rules, append_assoc, append-nil}
 use Rattle.std.proofs.lemmas.List.{nil_from_length}
-use Rattle.std.specs.Slice.Iter.{chunks_rest}
+use Rattle.std.specs.Slice.Iter.{chunks_rest, chunks_size}
 use Rattle.tape_frames.specs.Frames.{AreFrames, IsTape}
 use Rattle.tape_frames.specs.Packing.{AreBytes, Packs, none}
 use Rattle.tape_frames.proofs.Groups.{group_first, frames_parts, bytes_joined}
@@ -13,7 +13,7 @@ loop-group-init c =
     let is : IsTape c.args.self.now = c.frames-frames.ensures.is_tape in (
       search rules,
       tt,
-      search rules,
+      ap chunks_size c.into_iter-group-iterator.ensures.into_iter_gives ∙ c.chunks-group-items.ensures.size,
       subst (λ (xs : List ℕ). AreFrames xs) (sym all) is.small,
       rw c.in_ok-out.ensures.items tt,
       λ bytes p. rw c.in_ok-out.ensures.items (subst (λ (xs : List ℕ). Packs xs bytes) all p),
