@@ -1,5 +1,5 @@
 -- One turn of the loop over the requests.
-use Rattle.std.proofs.Common.{◌≡◌, ℕ, List, [], ◌∷◌, ◌++◌, ◌+◌, ◌<◌, length, get_or, take, drop, map, refl, ap, sym, ◌∙◌, append_assoc}
+use Rattle.std.proofs.Common.{◌≡◌, ℕ, List, [], ◌∷◌, ◌++◌, ◌+◌, ◌<◌, length, get_or, take, drop, map, ap, sym, ◌∙◌, append_assoc}
 use Rattle.std.proofs.lemmas.List.{take_more, drop_more, map-append}
 use Rattle.protocol.specs.Rows.{Row}
 use Rattle.protocol.specs.Acceptor.{Request as Asked, Reply as Answer, row_after, reply_of, next_row, reply_after, replies_after, StepsAreOfTheWhole}

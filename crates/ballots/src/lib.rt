@@ -2,6 +2,7 @@
 #![tactic(auto)]
 
 mod ballot;
+pub mod laws;
 mod majorities;
 mod member;
 mod number;

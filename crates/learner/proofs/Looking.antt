@@ -1,6 +1,6 @@
 -- Looking through the slots for a vote, in rising order of members.
-use Rattle.std.proofs.Common.{◌≡◌, ℕ, zero, suc, ◌+◌, ◌*◌, ◌<◌, refl, sym, ap, ◌∙◌, List, [], ◌∷◌, ◌++◌, Option, Some, None, Bool, true, false, length, take, drop, get_or, arith}
-use Rattle.std.specs.Prelude.{filter_map, find, count_by, nat_lt, IsTrue, ◌↔◌}
+use Rattle.std.proofs.Common.{◌≡◌, ℕ, zero, suc, ◌+◌, ◌*◌, ◌<◌, refl, sym, ap, ◌∙◌, List, [], ◌∷◌, ◌++◌, Option, Some, None, Bool, true, false, length, take, get_or, arith}
+use Rattle.std.specs.Prelude.{find, count_by, nat_lt, IsTrue, ◌↔◌}
 use Rattle.std.proofs.lemmas.Bool.Decides.{nat_tests}
 use Rattle.std.specs.Option.{option_or}
 use Rattle.std.proofs.lemmas.List.{take_more}
@@ -9,10 +9,7 @@ use Rattle.std.proofs.lemmas.List.Folds.{find-append}
 use Rattle.protocol.specs.Ballots.{Ballot, is_same}
 use Rattle.protocol.specs.Rows.{Vote}
 use Rattle.protocol.specs.Learner.{votes_at}
-use Rattle.learner.specs.Slots.{votes_in, ripe_in, least_in}
-
-abbrev pub is_ripe_in : List (Option Vote) → Vote → Bool
-is_ripe_in slots v = nat_lt (length slots) (2 * count_by (votes_at v.ballot) slots)
+use Rattle.learner.specs.Slots.{votes_in, is_ripe_in, ripe_in, least_in}
 
 -- as `ripe_in`, looked for in the first i slots
 abbrev pub ripe_before : List (Option Vote) → ℕ → Option Vote
@@ -22,6 +19,7 @@ module _ (p : Vote → Bool) where
   abbrev first_in : List (Option Vote) → Option Vote
   first_in slots = find p (votes_in slots)
 
+  -- looking through one list and then another
   joined : (front rest : List (Option Vote)) → first_in (front ++ rest) ≡ option_or (first_in front) (first_in rest)
   joined front rest = ap (find p) (filter_map-append (λ (o : Option Vote). o) front rest) ∙ find-append p (votes_in front) (votes_in rest)
 
@@ -40,9 +38,11 @@ module _ (p : Vote → Bool) where
   pub passed : (slots : List (Option Vote)) (i : ℕ) (o : Option Vote) → i < length slots → first_in (take i slots) ≡ None → get_or slots i None ≡ o → first_in (o ∷ []) ≡ None → first_in (take (i + 1) slots) ≡ None
   passed slots i o l none e f = ap first_in (take_more slots i None l) ∙ joined (take i slots) (get_or slots i None ∷ []) ∙ rw (none, e) f
 
+-- the first slot whose vote is ripe decides, and the others are passed over
 pub first_ripe : (slots : List (Option Vote)) (i : ℕ) (v : Vote) → i < length slots → ripe_before slots i ≡ None → get_or slots i None ≡ Some v → is_ripe_in slots v ≡ true → ripe_in slots ≡ Some v
 first_ripe slots = found (is_ripe_in slots) slots
 
+-- the first slot with a vote at b decides, and the others are passed over
 pub first_least : (b : Ballot) (slots : List (Option Vote)) (i : ℕ) (o : Option Vote) → i < length slots → least_in b (take i slots) ≡ None → get_or slots i None ≡ o → votes_at b o ≡ true → o ≡ least_in b slots
 first_least b slots i None l none e t = absurd cc
 first_least b slots i (Some v) l none e t = sym (found (λ (v : Vote). is_same v.ballot b) slots i v l none e t)

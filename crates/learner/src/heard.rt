@@ -9,6 +9,7 @@ ghost use Rattle.learner.specs.Latest.{StandsFor, least_at};
 ghost use Rattle.learner.specs.Slots.{is_newer, kept, slot_of, nothing_heard, ripe_in, least_in};
 
 use arrayvec::ArrayVec;
+use ballots::laws::slots_of_members;
 use ballots::{Ballot, Member, Vote, majority};
 use std::alloc::{AllocError, Global};
 use std::marker::Model;
@@ -37,7 +38,8 @@ impl Model for Heard {
 /// A slot for each of so many members, with nothing heard.
 fn empty_slots(members: u8) -> ArrayVec<Option<Vote>, 15>
     requires { members ≤ 15 }
-    ensures { result.items ≡ nothing_heard members }
+    ensures items { result.items ≡ nothing_heard members }
+    ensures many { length result.items ≡ members }
 {
     let mut slots = ArrayVec::new();
     for _ in 0..members {
@@ -108,8 +110,8 @@ fn least_at(slots: &[Option<Vote>], ballot: Ballot) -> Option<&Vote>
     None
 }
 
-/// Keeps the member's vote where it is above the one in the member's slot; else it takes no memory.
-fn keep(
+/// Keeps the vote in the member's slot, where it is above the one that stands there. Only then does it take memory.
+fn keep_newer(
     alloc: Global,
     slots: &mut ArrayVec<Option<Vote>, 15>,
     member: Member,
@@ -160,9 +162,10 @@ impl Heard {
         ensures err { OnErr result (self.new ≡ self.old) }
         ensures no_memory { (n : ℕ) (marks : List Mark) (v : VoteValue) → StandsFor self.old n marks → latest n marks member ≡ Some v → is_below v.ballot ballot ≡ false → IsOk result }
     {
+        slots_of_members::<Option<Vote>>();
         // The member's range is known once it is read.
         let _range = member.get();
-        keep(self.alloc, &mut self.slots, member, ballot, tape)?;
+        keep_newer(self.alloc, &mut self.slots, member, ballot, tape)?;
         Ok(majority_at(&self.slots))
     }
 

@@ -1,18 +1,17 @@
 -- Who is counted in a list, and what was reported.
-use Rattle.std.proofs.Common.{◌≡◌, ℕ, ◌*◌, ◌<◌, ◌⊎◌, inl, inr, refl, sym, ap, subst, ◌∙◌, List, [], ◌∷◌, ◌++◌, Option, Some, None, Bool, true, false, cond, arith}
-use Rattle.std.specs.Prelude.{IsTrue, map, find, count_by, is_some, option_map, option_copied, nat_le, nat_lt, not, ◌&&◌, ◌||◌, ◌==◌}
+use Rattle.std.proofs.Common.{◌≡◌, ℕ, ◌+◌, ◌<◌, ◌⊎◌, inl, inr, refl, sym, ap, subst, ◌∙◌, List, [], ◌∷◌, Option, Some, None, Bool, true, false, cond, arith}
+use Rattle.std.specs.Prelude.{IsTrue, find, count_by, is_some, option_map, nat_le, nat_lt, not, ◌&&◌, ◌||◌, ◌==◌}
 use Rattle.std.specs.Option.{option_or, option_and_then}
-use Rattle.std.specs.Borrow.{Bor}
 use Rattle.std.proofs.lemmas.Bool.{eq-eqb, eqb-true, leb-true}
 use Rattle.std.proofs.lemmas.Bool.Decides.{nat_tests}
+use Rattle.std.proofs.lemmas.List.Sums.{sum_by-cons}
 use Rattle.protocol.specs.Lists.{IsAmong, has, greatest}
-use Rattle.protocol.specs.Ballots.{Ballot, IsMember, is_majority, members}
+use Rattle.protocol.specs.Ballots.{Ballot, IsMember}
 use Rattle.protocol.specs.Rows.{Vote}
 use Rattle.protocol.specs.Proposals.{Counted, is_counted, vote_above, reports_above, report_of}
 use Rattle.proposer.specs.Greatest.{is_over, IsGreatest, nothing, reported_by}
-use Rattle.proposer.specs.Slots.{joined}
+use Rattle.proposer.specs.Slots.{reported}
 use Rattle.proposer.specs.InHand.{report_in, vote_in, are_members, none_twice}
-use Rattle.proposer.proofs.Slots.{along, same_count, same_member}
 
 has_find : {A : Type 0} (p : A → Bool) (xs : List A) → has p xs ≡ is_some (find p xs)
 has_find p [] = refl
@@ -30,65 +29,29 @@ counted_where all m = has_find (λ (x : Counted). x.member == m) all ∙ go (fin
     go None = refl
     go (Some x) = refl
 
-pub found_is_counted : (all : List Counted) (m : ℕ) → is_some (find (λ (x : Counted). x.member == m) all) ≡ is_counted all m
-found_is_counted all m = sym (has_find (λ (x : Counted). x.member == m) all)
-
-pub is_some_copied : {A : Type 0} (o : Option (Bor A)) → is_some o ≡ is_some (option_copied o)
-is_some_copied None = refl
-is_some_copied (Some x) = refl
-
-
-pub vote_joined : (all : List Counted) (m : ℕ) → vote_in all m ≡ joined (report_in all m)
-vote_joined all m = go (find (λ (x : Counted). x.member == m) all)
+pub vote_reported : (all : List Counted) (m : ℕ) → vote_in all m ≡ reported (report_in all m)
+vote_reported all m = go (find (λ (x : Counted). x.member == m) all)
   where
-    go : (o : Option Counted) → option_and_then (λ (x : Counted). x.report) o ≡ joined (option_map (λ (x : Counted). x.report) o)
+    go : (o : Option Counted) → option_and_then (λ (x : Counted). x.report) o ≡ reported (option_map (λ (x : Counted). x.report) o)
     go None = refl
     go (Some x) = refl
 
-agree : (p q : ℕ → Bool) → ((m : ℕ) → p m ≡ q m) → (ms : List ℕ) → map p ms ≡ map q ms
-agree p q h [] = refl
-agree p q h (m ∷ ms) = let e : p m ≡ q m = h m in let f : map p ms ≡ map q ms = agree p q h ms in rw (e, f) refl
-
+-- tests that agree count as many
 pub same_tests : (p q : ℕ → Bool) → ((m : ℕ) → p m ≡ q m) → (ms : List ℕ) → count_by p ms ≡ count_by q ms
-same_tests p q h ms = same_count p q (λ (b : Bool). b) ms (agree p q h ms)
-
-module _ (c : ℕ) (kept all : List Counted) (same : map (report_in kept) (members c) ≡ map (report_in all) (members c)) where
-  pub same_vote : (m : ℕ) → IsMember c m → vote_in kept m ≡ vote_in all m
-  same_vote m h = vote_joined kept m ∙ ap joined (same_member (report_in kept) (report_in all) c m h same) ∙ sym (vote_joined all m)
-
-  pub same_counted : (m : ℕ) → IsMember c m → is_counted kept m ≡ is_counted all m
-  same_counted m h = counted_where kept m ∙ ap is_some (same_member (report_in kept) (report_in all) c m h same) ∙ sym (counted_where all m)
-
-  pub same_majority : is_majority c (is_counted kept) ≡ is_majority c (is_counted all)
-  same_majority =
-      ap (λ i. nat_lt c (2 * i)) (each kept ∙ same_count (report_in kept) (report_in all) is_some (members c) same ∙ sym (each all))
-    where
-      each : (xs : List Counted) → count_by (is_counted xs) (members c) ≡ count_by (λ m. is_some (report_in xs m)) (members c)
-      each xs = same_tests (is_counted xs) (λ m. is_some (report_in xs m)) (λ m. counted_where xs m) (members c)
+same_tests p q same [] = refl
+same_tests p q same (m ∷ ms) =
+    sum_by-cons (λ k. cond (p k) 1 0) m ms
+    ∙ ap (λ (b : Bool). cond b 1 0 + count_by p ms) (same m)
+    ∙ ap (λ i. cond (q m) 1 0 + i) (same_tests p q same ms)
+    ∙ sym (sum_by-cons (λ k. cond (q k) 1 0) m ms)
 
 -- one promise more, of a member that is not counted
-
-push_find : {A : Type 0} (p : A → Bool) (xs : List A) (x : A) → find p (xs ++ x ∷ []) ≡ option_or (find p xs) (cond (p x) (Some x) None)
-push_find p [] x = refl
-push_find p (y ∷ xs) x = go (p y) refl (push_find p xs x)
-  where
-    go : (b : Bool) → p y ≡ b → find p (xs ++ x ∷ []) ≡ option_or (find p xs) (cond (p x) (Some x) None) → find p (y ∷ xs ++ x ∷ []) ≡ option_or (find p (y ∷ xs)) (cond (p x) (Some x) None)
-    go true e rest = rw e refl
-    go false e rest = rw e rest
 
 -- what is then reported by m, where what was reported is r
 abbrev pub then_reported : Counted → ℕ → Option (Option Vote) → Option (Option Vote)
 then_reported x m r = option_or r (cond (x.member == m) (Some x.report) None)
 
-pub report_pushed : (xs : List Counted) (x : Counted) (m : ℕ) → report_in (xs ++ x ∷ []) m ≡ then_reported x m (report_in xs m)
-report_pushed xs x m = ap (option_map (λ (y : Counted). y.report)) (push_find (λ (y : Counted). y.member == m) xs x) ∙ go (find (λ (y : Counted). y.member == m) xs) (x.member == m)
-  where
-    go : (o : Option Counted) (b : Bool) → option_map (λ (y : Counted). y.report) (option_or o (cond b (Some x) None)) ≡ option_or (option_map (λ (y : Counted). y.report) o) (cond b (Some x.report) None)
-    go (Some y) b = refl
-    go None true = refl
-    go None false = refl
-
-report_second : (y x : Counted) (xs : List Counted) (m : ℕ) → is_counted (y ∷ xs) x.member ≡ false → report_in (y ∷ x ∷ xs) m ≡ then_reported x m (report_in (y ∷ xs) m)
+pub report_second : (y x : Counted) (xs : List Counted) (m : ℕ) → is_counted (y ∷ xs) x.member ≡ false → report_in (y ∷ x ∷ xs) m ≡ then_reported x m (report_in (y ∷ xs) m)
 report_second y x xs m new = go (y.member == m) refl (x.member == m) refl
   where
     uncounted : (o : Option (Option Vote)) → is_some o ≡ false → o ≡ None
@@ -110,13 +73,6 @@ report_second y x xs m new = go (y.member == m) refl (x.member == m) refl
     go true e b f = rw e refl
     go false e true f = let none : report_in xs m ≡ None = not_among (eqb-true x.member m f) in rw (e, f, none) refl
     go false e false f = rw (e, f) (stays (report_in xs m))
-
-pub reports_pushed :
-    (c : ℕ) (kept : List Counted) (y x : Counted) (rest : List Counted)
-    → map (report_in kept) (members c) ≡ map (report_in (y ∷ rest)) (members c) → is_counted (y ∷ rest) x.member ≡ false
-    → map (report_in (kept ++ x ∷ [])) (members c) ≡ map (report_in (y ∷ x ∷ rest)) (members c)
-reports_pushed c kept y x rest same new =
-    along (report_in kept) (report_in (y ∷ rest)) (report_in (kept ++ x ∷ [])) (report_in (y ∷ x ∷ rest)) (λ m e. report_pushed kept x m ∙ ap (then_reported x m) e ∙ sym (report_second y x rest m new)) (members c) same
 
 -- the greatest report of the definitions, where none is counted twice
 

@@ -1,55 +1,83 @@
--- What is kept of each member, in order of members.
-use Rattle.std.proofs.Common.{◌≡◌, ℕ, zero, suc, ◌+◌, ◌≤◌, inl, inr, refl, sym, ap, ◌∙◌, List, [], ◌∷◌, ◌++◌, Bool, true, false, cond, arith}
-use Rattle.std.specs.Prelude.{map, count_by, ◌==◌}
-use Rattle.std.proofs.lemmas.Bool.{eqb-true, eqb-false}
-use Rattle.std.proofs.lemmas.List.Sums.{sum_by-cons}
-use Rattle.protocol.specs.Lists.{IsAmong}
-use Rattle.protocol.specs.Ballots.{IsMember, members}
+-- What the slots say of the members that are counted.
+use Rattle.std.proofs.Common.{◌≡◌, ℕ, ◌*◌, ◌-◌, refl, sym, ap, ◌∙◌, List, [], ◌∷◌, Option, Some, None, Bool, true, false, length, set}
+use Rattle.std.specs.Prelude.{map, count_by, nat_lt, is_some, ◌==◌}
+use Rattle.std.specs.Option.{option_or}
+use Rattle.std.proofs.lemmas.Bool.{eq-eqb, eqb-true}
+use Rattle.protocol.specs.Ballots.{members, IsMember, is_majority}
+use Rattle.protocol.specs.Rows.{Vote}
+use Rattle.protocol.specs.Proposals.{Counted, is_counted}
+use Rattle.ballots.specs.Slots.{SlotForEachMember, SlotHoldsItsValue, OneSlotChanges, SlotsCountAsMembers}
+use Rattle.proposer.specs.InHand.{report_in, vote_in, reports_of}
+use Rattle.proposer.specs.Greatest.{IsGreatest}
+use Rattle.proposer.specs.Slots.{nothing_counted, report_at, reported, vote_at}
+use Rattle.proposer.proofs.Counting.{counted_where, vote_reported, same_greatest, same_tests, then_reported, report_second}
 
-heads : {A : Type 0} (x y : A) (xs ys : List A) → x ∷ xs ≡ y ∷ ys → x ≡ y
-heads x y xs ys e = cc
+itself : (m : ℕ) → (m == m) ≡ true
+itself m = eq-eqb m m refl
 
-tails : {A : Type 0} (x y : A) (xs ys : List A) → x ∷ xs ≡ y ∷ ys → xs ≡ ys
-tails x y xs ys e = cc
+-- slots with the reports of all that are counted
+module _ (c : ℕ) (slots : List (Option (Option Vote))) (all : List Counted) (e : slots ≡ reports_of c all) where
+  module _ (read : SlotHoldsItsValue (Option (Option Vote))) where
+    report_is : (m : ℕ) → IsMember c m → report_at slots m ≡ report_in all m
+    report_is m i = ap (λ (s : List (Option (Option Vote))). report_at s m) e ∙ read c m (report_in all) None i
 
-in_front : {A : Type 0} (xs ys : List A) (x : A) → IsAmong xs x → IsAmong (xs ++ ys) x
-in_front [] ys x i = absurd i
-in_front (y ∷ xs) ys x (inl e) = inl e
-in_front (y ∷ xs) ys x (inr i) = inr (in_front xs ys x i)
+    pub counted_is : (m : ℕ) → IsMember c m → is_some (report_at slots m) ≡ is_counted all m
+    counted_is m i = ap is_some (report_is m i) ∙ sym (counted_where all m)
 
-at_end : {A : Type 0} (xs : List A) (x : A) → IsAmong (xs ++ x ∷ []) x
-at_end [] x = inl refl
-at_end (y ∷ xs) x = inr (at_end xs x)
+    pub greatest_is : (o : Option Vote) → IsGreatest (vote_at slots) c o → IsGreatest (vote_in all) c o
+    greatest_is o = same_greatest c (vote_at slots) (vote_in all) o (λ m i. ap reported (report_is m i) ∙ sym (vote_reported all m))
 
-member_among : (c m : ℕ) → IsMember c m → IsAmong (members c) m
-member_among zero m h = absurd (omega arith)
-member_among (suc c) m h = go (m == suc c) refl (λ l. member_among c m l)
+  pub quorum_is : SlotForEachMember (Option (Option Vote)) → SlotsCountAsMembers (Option (Option Vote)) → nat_lt (length slots) (2 * count_by is_some slots) ≡ is_majority c (is_counted all)
+  quorum_is many count =
+      ap (λ (s : List (Option (Option Vote))). nat_lt (length s) (2 * count_by is_some s)) e
+      ∙ ap (λ k. nat_lt k (2 * count_by is_some (map (report_in all) (members c)))) (many c (report_in all))
+      ∙ ap (λ k. nat_lt c (2 * k)) (count c (report_in all) is_some ∙ sym (same_tests (is_counted all) (λ m. is_some (report_in all m)) (counted_where all) (members c)))
+
+-- one member more is counted
+pub more_counted :
+    OneSlotChanges (Option (Option Vote)) → (c : ℕ) (slots : List (Option (Option Vote))) (first came : Counted) (rest : List Counted)
+    → slots ≡ reports_of c (first ∷ rest) → IsMember c came.member → is_counted (first ∷ rest) came.member ≡ false
+    → set slots (came.member - 1) (Some came.report) ≡ reports_of c (first ∷ came ∷ rest)
+more_counted changes c slots first came rest e i new =
+    ap (λ (s : List (Option (Option Vote))). set s (came.member - 1) (Some came.report)) e
+    ∙ ap (λ (r : Option (Option Vote)). set (map (report_in (first ∷ rest)) (members c)) (came.member - 1) r) (sym here)
+    ∙ changes c came.member (report_in (first ∷ rest)) (report_in (first ∷ came ∷ rest)) i elsewhere
   where
-    go : (b : Bool) → (m == suc c) ≡ b → (IsMember c m → IsAmong (members c) m) → IsAmong (members c ++ suc c ∷ []) m
-    go true e rest = let same : m ≡ suc c = eqb-true m (suc c) e in rw same (at_end (members c) (suc c))
-    go false e rest = let other : m ≡ suc c → ⊥ = eqb-false m (suc c) e in let high : m ≤ suc c = h.1 in in_front (members c) (suc c ∷ []) m (rest (h.0, omega arith))
+    uncounted : (o : Option (Option Vote)) → is_some o ≡ false → o ≡ None
+    uncounted None f = refl
+    uncounted (Some r) f = absurd cc
 
-module _ {A : Type 0} (f g : ℕ → A) where
-  -- two functions that agree on the list go on to agree, where a step keeps them agreeing
-  pub along : {B : Type 0} (f' g' : ℕ → B) → ((m : ℕ) → f m ≡ g m → f' m ≡ g' m) → (xs : List ℕ) → map f xs ≡ map g xs → map f' xs ≡ map g' xs
-  along f' g' step [] e = refl
-  along f' g' step (x ∷ xs) e =
-      let first : f' x ≡ g' x = step x (heads (f x) (g x) (map f xs) (map g xs) e) in
-      let others : map f' xs ≡ map g' xs = along f' g' step xs (tails (f x) (g x) (map f xs) (map g xs) e) in
-      rw (first, others) refl
+    here : report_in (first ∷ came ∷ rest) came.member ≡ Some came.report
+    here =
+        let none : report_in (first ∷ rest) came.member ≡ None = uncounted (report_in (first ∷ rest) came.member) (sym (counted_where (first ∷ rest) came.member) ∙ new) in
+        let same : (came.member == came.member) ≡ true = itself came.member in
+        report_second first came rest came.member new ∙ ap (then_reported came came.member) none ∙ rw same refl
 
-  pub same_count : (p : A → Bool) (xs : List ℕ) → map f xs ≡ map g xs → count_by (λ m. p (f m)) xs ≡ count_by (λ m. p (g m)) xs
-  same_count p [] e = refl
-  same_count p (x ∷ xs) e =
-      sum_by-cons (λ m. cond (p (f m)) 1 0) x xs
-      ∙ ap (λ (y : A). cond (p y) 1 0 + count_by (λ m. p (f m)) xs) (heads (f x) (g x) (map f xs) (map g xs) e)
-      ∙ ap (λ i. cond (p (g x)) 1 0 + i) (same_count p xs (tails (f x) (g x) (map f xs) (map g xs) e))
-      ∙ sym (sum_by-cons (λ m. cond (p (g m)) 1 0) x xs)
+    stays : (r : Option (Option Vote)) → option_or r None ≡ r
+    stays None = refl
+    stays (Some v) = refl
 
-  same_among : (xs : List ℕ) (m : ℕ) → IsAmong xs m → map f xs ≡ map g xs → f m ≡ g m
-  same_among [] m i e = absurd i
-  same_among (x ∷ xs) m (inl h) e = ap f h ∙ heads (f x) (g x) (map f xs) (map g xs) e ∙ ap g (sym h)
-  same_among (x ∷ xs) m (inr i) e = same_among xs m i (tails (f x) (g x) (map f xs) (map g xs) e)
+    elsewhere : (k : ℕ) → (k ≡ came.member → ⊥) → report_in (first ∷ came ∷ rest) k ≡ report_in (first ∷ rest) k
+    elsewhere k other = report_second first came rest k new ∙ go (came.member == k) refl
+      where
+        go : (b : Bool) → (came.member == k) ≡ b → then_reported came k (report_in (first ∷ rest) k) ≡ report_in (first ∷ rest) k
+        go true f = absurd (other (sym (eqb-true came.member k f)))
+        go false f = rw f (stays (report_in (first ∷ rest) k))
 
-  pub same_member : (c m : ℕ) → IsMember c m → map f (members c) ≡ map g (members c) → f m ≡ g m
-  same_member c m h e = same_among (members c) m (member_among c m h) e
+-- one member alone is counted
+pub alone_counted :
+    OneSlotChanges (Option (Option Vote)) → (c : ℕ) (x : Counted) → IsMember c x.member
+    → set (nothing_counted c) (x.member - 1) (Some x.report) ≡ reports_of c (x ∷ [])
+alone_counted changes c x i =
+    ap (λ (r : Option (Option Vote)). set (nothing_counted c) (x.member - 1) r) (sym here)
+    ∙ changes c x.member (λ m. None) (report_in (x ∷ [])) i elsewhere
+  where
+    here : report_in (x ∷ []) x.member ≡ Some x.report
+    here = let same : (x.member == x.member) ≡ true = itself x.member in rw same refl
+
+    elsewhere : (k : ℕ) → (k ≡ x.member → ⊥) → report_in (x ∷ []) k ≡ None
+    elsewhere k other = go (x.member == k) refl
+      where
+        go : (b : Bool) → (x.member == k) ≡ b → report_in (x ∷ []) k ≡ None
+        go true f = absurd (other (sym (eqb-true x.member k f)))
+        go false f = rw f refl

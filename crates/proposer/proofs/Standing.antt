@@ -1,20 +1,19 @@
 -- What a proposal stands for, once a mark stands in front.
-use Rattle.std.proofs.Common.{◌≡◌, ℕ, ◌+◌, refl, sym, ap, subst, ◌∙◌, List, [], ◌∷◌, ◌++◌, Option, Some, None, Result, Ok, Err, Bool, true, false, arith, add_comm}
+use Rattle.std.proofs.Common.{◌≡◌, ℕ, ◌+◌, refl, sym, ap, subst, ◌∙◌, List, [], ◌∷◌, Option, Some, None, Result, Ok, Err, Bool, true, false, arith, add_comm}
 use Rattle.std.specs.Prelude.{IsTrue, OnErr, filter_map, nat_le, not, ◌&&◌, ◌||◌, ◌==◌}
 use Rattle.std.proofs.lemmas.Bool.{le-leb}
 use Rattle.std.proofs.lemmas.Bool.Decides.{nat_tests}
 use Rattle.protocol.specs.Lists.{has, greatest}
-use Rattle.protocol.specs.Ballots.{Ballot, is_same, is_majority, IsMember}
+use Rattle.protocol.specs.Ballots.{Ballot, is_same, IsMember}
 use Rattle.protocol.specs.Rows.{Tape, Vote}
 use Rattle.protocol.specs.Marks.{Mark, Began, Promised, Proposed, Denied, Heard, Closed, Released, begins, ends, proposes}
 use Rattle.protocol.specs.Proposals.{Opening, Counted, promise_of, is_counted, counted, was_released, open_proposal, since_began, since_end, begun, denied, denial_of, moved, gathering_at, reports_above, report_of, tape_or, pick}
 use Rattle.protocol.specs.Turn.{greater_ballot}
 use Rattle.proposer.specs.InHand.{InHand, StandsFor, vote_in, reports_of, are_members, none_twice, OtherMarksPass}
 use Rattle.proposer.specs.Greatest.{IsGreatest}
-use Rattle.proposer.specs.Answers.{IsNew, IsRepeated, completes}
 use Rattle.proposer.proofs.Greatest.{one_greatest}
 use Rattle.proposer.proofs.Reading.{itself, found, open_is_begun, closed_is_not_begun, one_more_denial, one_more_ballot, first_ballot, denials_stay, no_denials, nothing_since, is_open_now}
-use Rattle.proposer.proofs.Counting.{reports_pushed, same_majority, same_counted, same_vote, same_greatest, marked_greatest, first_is_member}
+use Rattle.proposer.proofs.Counting.{marked_greatest}
 
 is_same-self : (a : Ballot) → is_same a a ≡ true
 is_same-self a = grind (arith, nat_tests)
@@ -105,14 +104,14 @@ module _ (q : InHand) (n : ℕ) (marks : List Mark) (h : StandsFor q n marks) (m
       rw (here, same) refl
 
   pub stands_promised :
-      (kept : List Counted) → q.reports ≡ reports_of q.members kept → IsMember q.members m → is_counted (counted q.me n h.opening (since_began n marks)) m ≡ false
-      → StandsFor (record q { reports = reports_of q.members (kept ++ came ∷ []) }) n (Promised n m b report ∷ marks)
-  stands_promised kept e i new = record {
+      (reports : List (Option (Option Vote))) → reports ≡ reports_of q.members (mine ∷ came ∷ rest) → IsMember q.members m → is_counted (counted q.me n h.opening (since_began n marks)) m ≡ false
+      → StandsFor (record q { reports = reports }) n (Promised n m b report ∷ marks)
+  stands_promised reports e i new = record {
     opening = h.opening;
     is_open = h.is_open;
     its_ballot = h.its_ballot;
     its_own = h.its_own;
-    its_reports = reports_pushed q.members kept mine came rest (sym e ∙ h.its_reports) new ∙ ap (reports_of q.members) (sym is_promised);
+    its_reports = e ∙ ap (reports_of q.members) (sym is_promised);
     its_phase = h.its_phase;
     its_denials = h.its_denials ∙ sym (denied_as_before n m b report marks (open_is_begun n marks h.opening h.is_open));
     its_ballots = h.its_ballots;
@@ -123,18 +122,6 @@ module _ (q : InHand) (n : ℕ) (marks : List Mark) (h : StandsFor q n marks) (m
     where
       denied_as_before : (n m : ℕ) (b : Ballot) (report : Option Vote) (marks : List Mark) → has (begins n) (since_end n marks) ≡ true → denied n (Promised n m b report ∷ marks) ≡ denied n marks
       denied_as_before n m b report marks e = rw e refl
-
-  -- the members that are then counted are as many in hand as by the marks
-  pub completes_so :
-      (kept : List Counted) → q.reports ≡ reports_of q.members kept → is_counted (counted q.me n h.opening (since_began n marks)) m ≡ false
-      → is_majority q.members (is_counted (kept ++ came ∷ [])) ≡ completes q.members q.me n b m report marks h.opening
-  completes_so kept e new =
-      same_majority q.members (kept ++ came ∷ []) (mine ∷ came ∷ rest) (reports_pushed q.members kept mine came rest (sym e ∙ h.its_reports) new)
-      ∙ ap (λ (all : List Counted). is_majority q.members (is_counted all)) (sym is_promised)
-
--- whoever is counted in hand is counted by the marks
-pub counted_so : (q : InHand) (n : ℕ) (marks : List Mark) (h : StandsFor q n marks) (kept : List Counted) → q.reports ≡ reports_of q.members kept → (m : ℕ) → IsMember q.members m → is_counted kept m ≡ is_counted (counted q.me n h.opening (since_began n marks)) m
-counted_so q n marks h kept e m i = same_counted q.members kept (counted q.me n h.opening (since_began n marks)) (sym e ∙ h.its_reports) m i
 
 -- what gathers
 pub gathers_here : (q : InHand) (n : ℕ) (marks : List Mark) (h : StandsFor q n marks) (b : Ballot) → q.gathers ≡ true → is_same q.ballot b ≡ true → gathering_at n b marks ≡ Some h.opening
@@ -150,62 +137,23 @@ gathers_here q n marks h b g s =
     not_true true e = absurd cc
     not_true false e = refl
 
-pub counted_read : (y : Counted) (read items : List Counted) (k m : ℕ) (r : Bool) → r ≡ is_counted (y ∷ read) k → read ≡ items → k ≡ m → is_counted (y ∷ items) m ≡ r
-counted_read y read items k m r e f g = sym (e ∙ ap (λ (xs : List Counted). is_counted (y ∷ xs) k) f ∙ ap (is_counted (y ∷ items)) g)
-
-pub pushed : (y : Counted) (items after : List Counted) (m : ℕ) (x : Counted) (r report : Option Vote) → after ≡ items ++ x ∷ [] → x ≡ record { member = m; report = r } → r ≡ report → y ∷ after ≡ (y ∷ items) ++ record { member = m; report = report } ∷ []
-pushed y items after m x r report e f g =
-    let its : x ≡ record { member = m; report = report } = f ∙ ap (λ (o : Option Vote). let z : Counted = record { member = m; report = o } in z) g in
-    ap (λ (xs : List Counted). y ∷ xs) (e ∙ ap (λ (z : Counted). items ++ z ∷ []) its)
-
 pub on_err : {T E : Type 0} {P : Type 0} (r : Result T E) → P → OnErr r P
 on_err (Ok x) h = tt
 on_err (Err e) h = h
 
--- what a promise is, of a proposal with these in hand that gathers at its ballot
-module _ (q : InHand) (n : ℕ) (marks : List Mark) (h : StandsFor q n marks) (kept : List Counted) (in_hand : q.reports ≡ reports_of q.members kept) (b : Ballot) (gathers : q.gathers && is_same q.ballot b ≡ true) (m : ℕ) (i : IsMember q.members m) where
-  both : (x y : Bool) → x && y ≡ true → (x ≡ true) × (y ≡ true)
-  both true y e = (refl, e)
-  both false y e = absurd cc
-
-  found_at : gathering_at n b marks ≡ Some h.opening
-  found_at = let parts = both q.gathers (is_same q.ballot b) gathers in gathers_here q n marks h b parts.0 parts.1
-
-  at_ballot : q.ballot ≡ b
-  at_ballot = is_same-true q.ballot b (both q.gathers (is_same q.ballot b) gathers).1
-
-  pub repeated : is_counted kept m ≡ true → IsRepeated q.me n b m marks
-  repeated e = record { opening = h.opening; gathers = found_at; is_repeated = sym (counted_so q n marks h kept in_hand m i) ∙ e }
-
-  not_counted : is_counted kept m ≡ false → is_counted (counted q.me n h.opening (since_began n marks)) m ≡ false
-  not_counted e = sym (counted_so q n marks h kept in_hand m i) ∙ e
-
-  pub is_new : is_counted kept m ≡ false → IsNew q.me n b m marks
-  is_new e = record { opening = h.opening; gathers = found_at; is_new = not_counted e }
-
-  pub counts : (report : Option Vote) (after : List Counted) (t : Bool) → is_counted kept m ≡ false → after ≡ kept ++ record { member = m; report = report } ∷ [] → is_majority q.members (is_counted after) ≡ t → (p : IsNew q.me n b m marks) × (completes q.members q.me n b m report marks p.opening ≡ t)
-  unfolding is_new
-  counts report after t e f many =
-      (is_new e, sym (completes_so q n marks h m b report at_ballot kept in_hand (not_counted e)) ∙ ap (λ (xs : List Counted). is_majority q.members (is_counted xs)) (sym f) ∙ many)
-
-  pub stands_counted : (report : Option Vote) (after : List Counted) → is_counted kept m ≡ false → after ≡ kept ++ record { member = m; report = report } ∷ [] → StandsFor (record q { reports = reports_of q.members after }) n (Promised n m b report ∷ marks)
-  stands_counted report after e f =
-      subst (λ (xs : List Counted). StandsFor (record q { reports = reports_of q.members xs }) n (Promised n m b report ∷ marks)) (sym f)
-      (stands_promised q n marks h m b report at_ballot kept in_hand i (not_counted e))
-
 -- after a ballot was begun
 stands_began :
-    (me c n : ℕ) (b : Ballot) (own : Option Tape) (report : Option Vote) (now : ℕ) (marks : List Mark) (d : Option Ballot) (k : ℕ)
-    → IsMember c me → was_released n marks ≡ false → d ≡ denied n (Began n b own report now ∷ marks) → k ≡ begun n (Began n b own report now ∷ marks)
-    → StandsFor (record { me = me; members = c; ballot = b; own = own; reports = reports_of c (record { member = me; report = report } ∷ []); gathers = true; denied = d; begun = k; moved = now }) n (Began n b own report now ∷ marks)
-stands_began me c n b own report now marks d k i r e f =
+    (me c n : ℕ) (b : Ballot) (own : Option Tape) (report : Option Vote) (now : ℕ) (marks : List Mark) (reports : List (Option (Option Vote))) (d : Option Ballot) (k : ℕ)
+    → IsMember c me → reports ≡ reports_of c (record { member = me; report = report } ∷ []) → was_released n marks ≡ false → d ≡ denied n (Began n b own report now ∷ marks) → k ≡ begun n (Began n b own report now ∷ marks)
+    → StandsFor (record { me = me; members = c; ballot = b; own = own; reports = reports; gathers = true; denied = d; begun = k; moved = now }) n (Began n b own report now ∷ marks)
+stands_began me c n b own report now marks reports d k i g r e f =
     let since = nothing_since n b own report now marks in
     record {
       opening = record { ballot = b; own = own; report = report; now = now };
       is_open = is_open_now n b own report now marks r;
       its_ballot = refl;
       its_own = refl;
-      its_reports = rw since refl;
+      its_reports = rw since g;
       its_phase = rw since refl;
       its_denials = e;
       its_ballots = f;
@@ -217,41 +165,33 @@ stands_began me c n b own report now marks d k i r e f =
     alone : (c me : ℕ) (report : Option Vote) → IsMember c me → IsTrue (are_members c (record { member = me; report = report } ∷ []))
     alone c me report i = let low = le-leb 1 me i.0 in let high = le-leb me c i.1 in rw (low, high) refl
 
--- a proposal with these promises in hand, and its first ballot begun
+-- a proposal that begins its first ballot
 pub stands_first :
-    (me c n : ℕ) (b : Ballot) (own : Option Tape) (report : Option Vote) (now : ℕ) (marks : List Mark) (first : Counted) (came : List Counted)
-    → IsMember c me → was_released n marks ≡ false → open_proposal n marks ≡ None → first ≡ record { member = me; report = report } → came ≡ []
-    → StandsFor (record { me = first.member; members = c; ballot = b; own = own; reports = reports_of c (first ∷ came); gathers = true; denied = None; begun = 1; moved = now }) n (Began n b own report now ∷ marks)
-stands_first me c n b own report now marks first came i r o e f =
+    (me c n : ℕ) (b : Ballot) (own : Option Tape) (report : Option Vote) (now : ℕ) (marks : List Mark) (reports : List (Option (Option Vote)))
+    → IsMember c me → reports ≡ reports_of c (record { member = me; report = report } ∷ []) → was_released n marks ≡ false → open_proposal n marks ≡ None
+    → StandsFor (record { me = me; members = c; ballot = b; own = own; reports = reports; gathers = true; denied = None; begun = 1; moved = now }) n (Began n b own report now ∷ marks)
+stands_first me c n b own report now marks reports i g r o =
     let none = closed_is_not_begun n marks r o in
-    subst (λ (x : Counted). StandsFor (record { me = x.member; members = c; ballot = b; own = own; reports = reports_of c (x ∷ came); gathers = true; denied = None; begun = 1; moved = now }) n (Began n b own report now ∷ marks)) (sym e)
-    (subst (λ (xs : List Counted). StandsFor (record { me = me; members = c; ballot = b; own = own; reports = reports_of c (record { member = me; report = report } ∷ xs); gathers = true; denied = None; begun = 1; moved = now }) n (Began n b own report now ∷ marks)) (sym f)
-    (stands_began me c n b own report now marks None 1 i r (sym (no_denials n b own report now marks none)) (sym (first_ballot n b own report now marks none))))
+    stands_began me c n b own report now marks reports None 1 i g r (sym (no_denials n b own report now marks none)) (sym (first_ballot n b own report now marks none))
 
 -- a proposal that begins anew
 pub stands_renewed :
-    (q : InHand) (n : ℕ) (marks : List Mark) (b : Ballot) (own : Option Tape) (report : Option Vote) (now : ℕ) (first : Counted) (came : List Counted)
-    → StandsFor q n marks → q.own ≡ own → first ≡ record { member = q.me; report = report } → came ≡ []
-    → StandsFor (record { me = first.member; members = q.members; ballot = b; own = q.own; reports = reports_of q.members (first ∷ came); gathers = true; denied = q.denied; begun = q.begun + 1; moved = now }) n (Began n b own report now ∷ marks)
-stands_renewed q n marks b own report now first came h o e f =
+    (q : InHand) (n : ℕ) (marks : List Mark) (h : StandsFor q n marks) (c : ℕ) (b : Ballot) (report : Option Vote) (now : ℕ) (reports : List (Option (Option Vote)))
+    → IsMember c q.me → reports ≡ reports_of c (record { member = q.me; report = report } ∷ [])
+    → StandsFor (record { me = q.me; members = c; ballot = b; own = q.own; reports = reports; gathers = true; denied = q.denied; begun = q.begun + 1; moved = now }) n (Began n b q.own report now ∷ marks)
+stands_renewed q n marks h c b report now reports i g =
     let some = open_is_begun n marks h.opening h.is_open in
-    let i : IsMember q.members q.me = first_is_member q.members (record { member = q.me; report = h.opening.report }) (filter_map (promise_of n h.opening.ballot) (since_began n marks)) h.in_range in
-    let k : q.begun + 1 ≡ begun n (Began n b own report now ∷ marks) = ap (λ j. j + 1) h.its_ballots ∙ add_comm (begun n marks) 1 ∙ sym (one_more_ballot n b own report now marks) in
-    let began = stands_began q.me q.members n b own report now marks q.denied (q.begun + 1) i (found n marks h.opening h.is_open).unreleased (h.its_denials ∙ sym (denials_stay n b own report now marks some)) k in
-    subst (λ (x : Counted). StandsFor (record { me = x.member; members = q.members; ballot = b; own = q.own; reports = reports_of q.members (x ∷ came); gathers = true; denied = q.denied; begun = q.begun + 1; moved = now }) n (Began n b own report now ∷ marks)) (sym e)
-    (subst (λ (xs : List Counted). StandsFor (record { me = q.me; members = q.members; ballot = b; own = q.own; reports = reports_of q.members (record { member = q.me; report = report } ∷ xs); gathers = true; denied = q.denied; begun = q.begun + 1; moved = now }) n (Began n b own report now ∷ marks)) (sym f)
-    (subst (λ (t : Option Tape). StandsFor (record { me = q.me; members = q.members; ballot = b; own = t; reports = reports_of q.members (record { member = q.me; report = report } ∷ []); gathers = true; denied = q.denied; begun = q.begun + 1; moved = now }) n (Began n b own report now ∷ marks)) (sym o) began))
+    let k : q.begun + 1 ≡ begun n (Began n b q.own report now ∷ marks) = ap (λ j. j + 1) h.its_ballots ∙ add_comm (begun n marks) 1 ∙ sym (one_more_ballot n b q.own report now marks) in
+    stands_began q.me c n b q.own report now marks reports q.denied (q.begun + 1) i g (found n marks h.opening h.is_open).unreleased (h.its_denials ∙ sym (denials_stay n b q.own report now marks some)) k
 
--- the greatest report in hand is that of the marks
-pub picked : (q : InHand) (n : ℕ) (marks : List Mark) (p : Opening) (kept : List Counted) (o : Option Vote) → StandsFor q n marks → open_proposal n marks ≡ Some p → q.reports ≡ reports_of q.members kept → IsGreatest (vote_in kept) q.members o → tape_or q.own o ≡ pick p.own (counted q.me n p (since_began n marks))
-picked q n marks p kept o h e f g =
+-- the greatest of the counted reports decides
+pub picked : (q : InHand) (n : ℕ) (marks : List Mark) (h : StandsFor q n marks) (p : Opening) (o : Option Vote) → open_proposal n marks ≡ Some p → IsGreatest (vote_in (counted q.me n h.opening (since_began n marks))) q.members o → tape_or q.own o ≡ pick p.own (counted q.me n p (since_began n marks))
+picked q n marks h p o e g =
     let both : Some h.opening ≡ Some p = sym h.is_open ∙ e in
     let same : h.opening ≡ p = cc in
     let all : List Counted = counted q.me n h.opening (since_began n marks) in
-    let marked : IsGreatest (vote_in all) q.members (report_of (greatest reports_above all)) = marked_greatest q.members all h.in_range h.once in
-    let kept_one : IsGreatest (vote_in all) q.members o = same_greatest q.members (vote_in kept) (vote_in all) o (same_vote q.members kept all (sym f ∙ h.its_reports)) g in
     ap (λ (t : Option Tape). tape_or t o) h.its_own
-    ∙ ap (tape_or h.opening.own) (one_greatest (vote_in all) q.members o (report_of (greatest reports_above all)) kept_one marked)
+    ∙ ap (tape_or h.opening.own) (one_greatest (vote_in all) q.members o (report_of (greatest reports_above all)) g (marked_greatest q.members all h.in_range h.once))
     ∙ ap (λ (x : Opening). pick x.own (counted q.me n x (since_began n marks))) same
 
 -- a mark of which the proposal says nothing

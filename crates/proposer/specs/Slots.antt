@@ -1,4 +1,4 @@
--- What the slots say, one for each member in rising order: what the member reported, where it is counted.
+-- Slots: of each member of a circuit, in rising order of members, what it reported, where it is counted.
 use Rattle.std.specs.Prelude.{ℕ, List, Option, Some, None, map, slice_index_or, ◌-◌}
 use Rattle.protocol.specs.Ballots.{members}
 use Rattle.protocol.specs.Rows.{Vote}
@@ -7,15 +7,15 @@ use Rattle.protocol.specs.Rows.{Vote}
 abbrev pub nothing_counted : ℕ → List (Option (Option Vote))
 nothing_counted c = map (λ m. None) (members c)
 
--- what stands in the slot of m
+-- what stands in the slot of member m
 abbrev pub report_at : List (Option (Option Vote)) → ℕ → Option (Option Vote)
 report_at slots m = slice_index_or slots (m - 1) None
 
--- the vote that is reported, where there is a report
-abbrev pub joined : Option (Option Vote) → Option Vote
-joined None = None
-joined (Some report) = report
+-- the vote in a slot: none where its member is not counted, or reported none
+abbrev pub reported : Option (Option Vote) → Option Vote
+reported None = None
+reported (Some report) = report
 
--- the vote that m reported, where it is counted and reported one
+-- the vote that member m reported, where it is counted and reported one
 abbrev pub vote_at : List (Option (Option Vote)) → ℕ → Option Vote
-vote_at slots m = joined (report_at slots m)
+vote_at slots m = reported (report_at slots m)

@@ -1,12 +1,13 @@
 //! The promises that are counted, in a slot for each member.
 
-ghost use Rattle.std.specs.Prelude.{◌≡◌, ◌≤◌, ◌<◌, ◌+◌, ◌*◌, ◌-◌, Some, false, is_some, count_by, length, nat_lt, slice_set, option_copied};
+ghost use Rattle.std.specs.Prelude.{◌≡◌, ◌≤◌, ◌<◌, ◌+◌, ◌*◌, ◌-◌, Some, IfOk, IsOk, OnErr, true, false, not, is_some, count_by, length, nat_lt, slice_set, option_copied, if◌then◌else◌};
 ghost use Rattle.protocol.specs.Proposals.{vote_above};
 ghost use Rattle.proposer.specs.Slots.{nothing_counted, report_at, vote_at};
 ghost use Rattle.proposer.specs.Greatest.{IsGreatest};
 
 use arrayvec::ArrayVec;
-use ballots::{Member, Vote, majority};
+use ballots::{Member, Vote, VoteRef, majority};
+use std::alloc::{AllocError, Global};
 
 /// Of each member, in rising order: what it reported, where it is counted.
 pub(crate) type Slots = ArrayVec<Option<Option<Vote>>, 15>;
@@ -24,8 +25,8 @@ fn empty_slots(members: u8) -> Slots
     slots
 }
 
-/// Counts the member, with what it reported.
-pub(crate) fn count(slots: &mut Slots, member: Member, report: Option<Vote>)
+/// Sets the member's slot: it is counted, with what it reported.
+fn count(slots: &mut Slots, member: Member, report: Option<Vote>)
     requires { member ≤ length slots.old.items }
     ensures { slots.new.items ≡ slice_set slots.old.items (member - 1) (Some report) }
 {
@@ -34,7 +35,7 @@ pub(crate) fn count(slots: &mut Slots, member: Member, report: Option<Vote>)
 }
 
 /// The slots of so many members, of whom this one alone is counted.
-pub(crate) fn first_slots(me: Member, members: u8, report: Option<Vote>) -> Slots
+pub(crate) fn counted_alone(me: Member, members: u8, report: Option<Vote>) -> Slots
     requires few { members ≤ 15 }
     requires member { me ≤ members }
     ensures items { result.items ≡ slice_set (nothing_counted members) (me - 1) (Some report) }
@@ -46,11 +47,43 @@ pub(crate) fn first_slots(me: Member, members: u8, report: Option<Vote>) -> Slot
 }
 
 /// Whether the member is counted.
-pub(crate) fn is_counted(slots: &[Option<Option<Vote>>], member: Member) -> bool
+fn is_counted(slots: &[Option<Option<Vote>>], member: Member) -> bool
     requires { member ≤ length slots.now }
     ensures { result ≡ is_some (report_at slots.now member) }
 {
     slots[usize::from(member.get()) - 1].is_some()
+}
+
+/// The vote with frames of its own, where there is one.
+fn copy_of(alloc: Global, vote: Option<VoteRef<'_>>) -> Result<Option<Vote>, AllocError>
+    ensures { IfOk result (λ copy. copy ≡ vote.entry) }
+{
+    match vote {
+        None => Ok(None),
+        Some(vote) => Ok(Some(vote.copy(alloc)?)),
+    }
+}
+
+/// Counts the member with what it reported, and answers whether it is new: one that is counted already stays as it is.
+/// Only a new one takes memory.
+pub(crate) fn count_once(
+    alloc: Global,
+    slots: &mut Slots,
+    member: Member,
+    report: Option<VoteRef<'_>>,
+) -> Result<bool, AllocError>
+    requires { member ≤ length slots.old.items }
+    ensures new { IfOk result (λ new. new ≡ not (is_some (report_at slots.old.items member))) }
+    ensures slots { IfOk result (λ new. slots.new.items ≡ (if new then slice_set slots.old.items (member - 1) (Some report.entry) else slots.old.items)) }
+    ensures err { OnErr result (slots.new.items ≡ slots.old.items) }
+    ensures no_memory { is_some (report_at slots.old.items member) ≡ true → IsOk result }
+{
+    if is_counted(slots, member) {
+        return Ok(false);
+    }
+    let report = copy_of(alloc, report)?;
+    count(slots, member, report);
+    Ok(true)
 }
 
 /// Whether the members that are counted are a majority of all.

@@ -1,17 +1,18 @@
 //! A proposal, with a slot for the promise of each member.
 
-ghost use Rattle.std.specs.Prelude.{◌≡◌, ◌≤◌, ◌<◌, ◌+◌, ◌*◌, ◌-◌, ◌^◌, ℕ, List, ◌∷◌, Option, Some, None, Ok, Err, IfOk, OnErr, IsOk, MatchResult, MatchBool, min, false, nat_le, ◌&&◌, if◌then◌else◌};
+ghost use Rattle.std.specs.Prelude.{◌≡◌, ◌≤◌, ◌<◌, ◌+◌, ◌*◌, ◌-◌, ◌^◌, ℕ, List, ◌∷◌, Option, Some, None, Ok, Err, IfOk, OnErr, IsOk, MatchResult, MatchBool, min, false, nat_le, option_copied, ◌&&◌, if◌then◌else◌};
 ghost use Rattle.std.specs.Bool.{OnFalse};
 ghost use Rattle.protocol.specs.Ballots.{next, is_same};
 ghost use Rattle.protocol.specs.Rows.{Row};
 ghost use Rattle.protocol.specs.Marks.{Mark, Began, Proposed, Denied};
-ghost use Rattle.protocol.specs.Proposals.{Opening, was_released, open_proposal, open_ballot, proposal_at, gathering_at, since_began, counted, pick, due_moment};
+ghost use Rattle.protocol.specs.Proposals.{Opening, was_released, open_proposal, open_ballot, proposal_at, gathering_at, since_began, counted, tape_or, pick, due_moment};
 ghost use Rattle.protocol.specs.Turn.{greater_ballot, most_ballots};
 ghost use Rattle.proposer.specs.InHand.{StandsFor, IsOfTheSame};
 ghost use Rattle.proposer.specs.Answers.{IsNew, IsCountedAs, marks_after_promise, StaysWhereUncounted, IsDueAnswer, marks_after_due, StaysWhereNotBegun, IsOwnAndAbove};
 
 use crate::answer::{BeginRefusal, Counted, DueAnswer};
-use crate::promises::{Slots, count, first_slots, greatest_vote, is_counted, is_quorum};
+use crate::promises::{Slots, count_once, counted_alone, greatest_vote, is_quorum};
+use ballots::laws::slots_of_members;
 use ballots::{Ballot, Member, Vote, VoteRef};
 use std::alloc::{AllocError, Global};
 use std::marker::Model;
@@ -59,16 +60,6 @@ fn greater(a: Option<Ballot>, b: Option<Ballot>) -> Option<Ballot>
     }
 }
 
-/// The vote with frames of its own, where there is one.
-fn copy_of(alloc: Global, vote: Option<VoteRef<'_>>) -> Result<Option<Vote>, AllocError>
-    ensures { IfOk result (λ copy. copy ≡ vote.entry) }
-{
-    match vote {
-        None => Ok(None),
-        Some(vote) => Ok(Some(vote.copy(alloc)?)),
-    }
-}
-
 /// The tape, lent, where there is one.
 fn lent(tape: &Option<Tape>) -> Option<TapeRef<'_>>
     ensures { result ≡ tape.now }
@@ -76,6 +67,16 @@ fn lent(tape: &Option<Tape>) -> Option<TapeRef<'_>>
     match tape {
         None => None,
         Some(tape) => Some(tape.lend()),
+    }
+}
+
+/// The vote's tape, or the own one where there is no vote.
+fn tape_or<'a>(own: &'a Option<Tape>, vote: Option<&'a Vote>) -> Option<TapeRef<'a>>
+    ensures { result ≡ tape_or own.now (option_copied vote.entry) }
+{
+    match vote {
+        Some(vote) => Some(vote.tape()),
+        None => lent(own),
     }
 }
 
@@ -99,6 +100,7 @@ impl Proposal {
         ensures stands { IfOk result (λ p. (n : ℕ) (marks : List Mark) → was_released n marks ≡ false → open_proposal n marks ≡ None → StandsFor p n (Began n p.ballot own report now ∷ marks)) }
         ensures circuit { IfOk result (λ p. (p.me ≡ me) × (p.members ≡ members)) }
     {
+        slots_of_members::<Option<Option<Vote>>>();
         // The member's range is known once it is read.
         let _range = me.get();
         match Ballot::next(seen, me) {
@@ -108,7 +110,7 @@ impl Proposal {
                 me,
                 ballot,
                 own,
-                slots: first_slots(me, members, report),
+                slots: counted_alone(me, members, report),
                 gathers: true,
                 denied: None,
                 begun: 1,
@@ -153,13 +155,13 @@ impl Proposal {
         if !self.gathers_at(ballot) {
             return Ok(Counted::Stale);
         }
+        slots_of_members::<Option<Option<Vote>>>();
         // The member's range is known once it is read.
         let _range = from.get();
-        if is_counted(&self.slots, from) {
+        let is_new = count_once(self.alloc, &mut self.slots, from, report)?;
+        if !is_new {
             return Ok(Counted::Repeated);
         }
-        let report = copy_of(self.alloc, report)?;
-        count(&mut self.slots, from, report);
         if !is_quorum(&self.slots) {
             return Ok(Counted::More);
         }
@@ -186,10 +188,8 @@ impl Proposal {
     pub fn pick(&self) -> Option<TapeRef<'_>>
         ensures { (n : ℕ) (marks : List Mark) (p : Opening) → StandsFor self.now n marks → open_proposal n marks ≡ Some p → result ≡ pick p.own (counted self.now.me n p (since_began n marks)) }
     {
-        match greatest_vote(&self.slots) {
-            Some(vote) => Some(vote.tape()),
-            None => lent(&self.own),
-        }
+        slots_of_members::<Option<Option<Vote>>>();
+        tape_or(&self.own, greatest_vote(&self.slots))
     }
 
     /// It was proposed at this moment, in milliseconds: it gathers no more promises, and its due moment is set anew.
@@ -238,6 +238,7 @@ impl Proposal {
         ensures stays { IfOk result (λ answer. StaysWhereNotBegun answer self.old self.new) }
         ensures no_memory { IsOk result }
     {
+        slots_of_members::<Option<Option<Vote>>>();
         if now < self.due_moment() {
             return Ok(DueAnswer::Wait);
         }
@@ -245,7 +246,7 @@ impl Proposal {
             None => Ok(DueAnswer::GaveUp),
             Some(ballot) => {
                 self.ballot = ballot;
-                self.slots = first_slots(self.me, self.slots.len() as u8, report);
+                self.slots = counted_alone(self.me, self.slots.len() as u8, report);
                 self.gathers = true;
                 self.begun += 1;
                 self.moved = now;

@@ -9,8 +9,8 @@ pub returns-then-majority : goal.returns-then-majority
 returns-then-majority c =
     ap Some c.ballot-ballot.ensures
     ∙ sym (ap (option_map (λ (v : Vote). v.ballot)) (first_ripe c.args.slots.now c.loop-slot.slot-index c.in-Some.vote c.loop-slot-test.true c.loop-slot.invariant
-        (read c.args.slots.now c.loop-slot.slot-index c.slot-item.result (Some c.in-Some.vote) c.loop-slot-test.true c.slot-item.is c.in-Some.is)
-        (tested_ripe c.args.slots.now c.in-Some.vote c.ballot-ballot.result c.count_at.result c.majority.result c.majority.ensures.more_than_half c.count_at.ensures c.ballot-ballot.ensures ∙ c.if-majority.true)))
+    (read c.args.slots.now c.loop-slot.slot-index c.slot-item.result (Some c.in-Some.vote) c.loop-slot-test.true c.slot-item.is c.in-Some.is)
+    (tested_ripe c.args.slots.now c.in-Some.vote c.ballot-ballot.result c.count_at.result c.majority.result c.majority.ensures.more_than_half c.count_at.ensures c.ballot-ballot.ensures ∙ c.if-majority.true)))
 
 pub loop-slot-preserved : goal.loop-slot-preserved
 loop-slot-preserved c = elim c.match-slot.branch [

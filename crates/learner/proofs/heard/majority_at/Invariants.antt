@@ -1,4 +1,4 @@
-use Rattle.std.proofs.Common.{◌≡◌, None, take}
+use Rattle.std.proofs.Common.{◌≡◌, None}
 use Rattle.learner.proofs.Looking.{ripe_before}
 use Rattle.learner.proofs.heard.majority_at.Given as goal
 
