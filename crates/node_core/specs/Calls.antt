@@ -15,12 +15,12 @@ use Rattle.node_core.specs.declared.turn.CoreRefusal.TheVariants as refusals
 use Rattle.node_core.specs.Turns.{event_value}
 use Rattle.node_core.specs.Standing.{Core, StandsFor, Took}
 
--- the packet is for this member, from one of the c
+-- the packet is for member me, from a member of the circuit of c members
 pub record IsForMember (me c : ℕ) (p : Packet) : Type 0 where
   pub to : p.to ≡ me
   pub from : p.from ≤ c
 
--- a packet that comes is for this member
+-- an event may come to this member of the circuit: a packet has to be for it, from a member
 abbrev pub MayCome : ℕ → ℕ → Event → Type 0
 MayCome me c (events.Offer number tape now) = Unit {0}
 MayCome me c (events.Seek number now) = Unit {0}

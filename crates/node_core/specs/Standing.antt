@@ -40,13 +40,15 @@ pub record DeskStands (d : Desk) (marks : List Mark) : Type 0 where
 abbrev pub fresh : ℕ → ℕ → Desk
 fresh c n = record { number = n; proposal = None; heard = latest_votes c n [] }
 
--- what is in hand of n, if anything is, and whether n was noted as released
+-- what is in hand of n among these, if anything is
 abbrev pub desk_in : List (ℕ × Desk) → ℕ → Option Desk
 desk_in desks n = lookup (is_at (nat_cmp n)) desks
 
+-- what the core has in hand of n, if anything
 abbrev pub desk_at : Core → ℕ → Option Desk
 desk_at v n = desk_in v.desks n
 
+-- whether the core has noted n as released
 abbrev pub is_noted : Core → ℕ → Bool
 is_noted v n = list_any (is_at (nat_cmp n)) v.released
 
@@ -76,7 +78,7 @@ pub record IsDeskOf (s : Seat) (d : Desk) : Type 0 where
   pub proposal : IsProposalOf s d.proposal
   pub heard : d.heard.members ≡ s.members
 
--- all that is in hand is, each under its own number
+-- all that is in hand is this seat's, each desk under its own number
 abbrev pub AreDesksOf : Seat → List (ℕ × Desk) → Type 0
 AreDesksOf s desks = (n : ℕ) (d : Desk) → desk_in desks n ≡ Some d → IsDeskOf s d × (d.number ≡ n)
 
@@ -117,7 +119,7 @@ pub record IsSameSeat (old new : Core) : Type 0 where
   pub me : new.me ≡ old.me
   pub members : new.members ≡ old.members
 
--- after is before, but that of n it has this in hand, and has noted n as released where this says so
+-- the core after is the one before, but that it has d in hand of n, and has noted n as released where is_released says so
 pub record Moves (before : Core) (n : ℕ) (d : Option Desk) (is_released : Bool) (after : Core) : Type 0 where
   pub failed : after.failed ≡ before.failed
   pub members : after.members ≡ before.members
