@@ -27,8 +27,7 @@ module _ (votes : OtherVotesPass) (proposals : OtherProposalsPass) (n : ℕ) (ma
     other_numbers o r m k other =
         let apart : k ≡ n → ⊥ = λ e. (let t : (n == k) ≡ true = eq-eqb n k (sym e) in let bad : true ≡ false = sym t ∙ other in absurd cc) in
         let same : desk_at w k ≡ desk_at v k = m.others k apart in
-        let c : w.members ≡ v.members = m.members in
-        (
+        let c : w.members ≡ v.members = m.members in (
           m.unnoted k (λ _ e. apart e) ∙ h.released k ∙ sym (other_released votes proposals n k other marks after g),
           rw (same, c) (other_in_hand v.members k other (desk_at v k) (h.in_hand k)),
         )

@@ -15,6 +15,3 @@ mod voting;
 pub use event::Event;
 pub use node::NodeCore;
 pub use turn::{CoreRefusal, Note, Turn};
-
-#[cfg(test)]
-mod tests;

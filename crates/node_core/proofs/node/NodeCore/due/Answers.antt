@@ -15,8 +15,8 @@ use Rattle.node_core.proofs.node.NodeCore.due.Goals as goal
 pub returns-in_default-clause-turn : goal.returns-in_default-clause-turn
 returns-in_default-clause-turn c = λ marks h.
     let none : open_proposal c.args.number marks ≡ None =
-        none_open_in_hand c.args.self.now.members c.args.number marks
-        (stands_there c.args.self.now c.self.inside.desks c.args.number None marks (ap (λ (v : Core). v.desks) c.self.view_is) (c.in_default.ensures.value ∙ ap (get nat_cmp c.self.inside.desks) c.get.ensures.value) h) in
+    none_open_in_hand c.args.self.now.members c.args.number marks
+    (stands_there c.args.self.now c.self.inside.desks c.args.number None marks (ap (λ (v : Core). v.desks) c.self.view_is) (c.in_default.ensures.value ∙ ap (get nat_cmp c.self.inside.desks) c.get.ensures.value) h) in
     rw (c.get_mut.follows.holds-at-none, c.self.view_is, none_open c.args.self.now.circuit c.args.self.now.members c.args.self.now.me c.args.number c.args.now marks c.args.row.now none)
     (took_nothing c.args.row.now marks said.Note_idle c.quiet.result c.args.self.now c.quiet.ensures.row c.quiet.ensures.out c.quiet.ensures.release (rw c.quiet.ensures.note refl) h)
 

@@ -31,7 +31,7 @@ returns-clause-turn c = λ marks own h unreleased above stands.
           let s = stands_there c.args.self.now c.self.inside.desks c.args.number (Some w.in-Some.desk.now) marks (ap (λ (v : Core). v.desks) c.self.view_is) (w.in-Some.ensures.value ∙ ap (get nat_cmp c.self.inside.desks) c.get.ensures.value) h in
           let m = c.get_mut.follows.lender w.start.new.self in
           let answer = begin_told c.self.inside.seat (seat_of c.args.self.now) w.in-Some.desk.now.number c.args.number c.args.proposal.ballot own c.args.now marks c.args.row.now w.in_ok-turn-in-Some.turn w.start.new.self (ap seat_of c.self.view_is) s.0
-              (w.in_ok-turn-in-Some.ensures.turn marks own above s.1 (there w.in-Some.desk.now.number s.0)) in
+          (w.in_ok-turn-in-Some.ensures.turn marks own above s.1 (there w.in-Some.desk.now.number s.0)) in
           record {
             is_turn = subst (λ (x : Turn). IsTurn c.args.row.now (begin c.args.self.now.circuit c.args.self.now.members c.args.self.now.me c.args.number c.args.proposal.ballot own c.args.now marks c.args.row.now) x) (sym w.turn-is) answer.is_turn;
             stands = acted_on {mid = c.match-get_mut.self} c.other_marks_pass.ensures c.other_marks_pass-2.ensures c.args.self.now c.settle.new.self c.self.inside.desks m c.args.number c.get.result c.args.number w.start.new.self
@@ -46,7 +46,7 @@ returns-clause-turn c = λ marks own h unreleased above stands.
           let fresh_number = ap (λ (d : Desk). d.number) w.new-desk.ensures.desk in
           let number = w.start-in-None.ensures.number ∙ fresh_number in
           let answer = begin_told c.self.inside.seat (seat_of c.args.self.now) w.new-desk.result.number c.args.number c.args.proposal.ballot own c.args.now marks c.args.row.now w.in_ok-turn-in-None.turn w.start-in-None.new.self (ap seat_of c.self.view_is) fresh_number
-              (w.in_ok-turn-in-None.ensures.turn marks own above (rw (w.new-desk.ensures.desk, ap (λ (v : Core). v.members) c.self.view_is) (s unreleased)) (there w.new-desk.result.number fresh_number)) in
+          (w.in_ok-turn-in-None.ensures.turn marks own above (rw (w.new-desk.ensures.desk, ap (λ (v : Core). v.members) c.self.view_is) (s unreleased)) (there w.new-desk.result.number fresh_number)) in
           record {
             is_turn = subst (λ (x : Turn). IsTurn c.args.row.now (begin c.args.self.now.circuit c.args.self.now.members c.args.self.now.me c.args.number c.args.proposal.ballot own c.args.now marks c.args.row.now) x) (sym w.turn-is) answer.is_turn;
             stands = acted_on {mid = c.match-get_mut.self} c.other_marks_pass.ensures c.other_marks_pass-2.ensures c.args.self.now c.settle.new.self c.self.inside.desks w.put.new.desks c.args.number w.start-in-None.new.self.number c.args.number w.start-in-None.new.self

@@ -22,8 +22,8 @@ pub returns-in_default-clause-turn : goal.returns-in_default-clause-turn
 returns-in_default-clause-turn c = λ marks h.
     let key = c.get.ensures.value ∙ c.number-number.ensures in
     let none : open_proposal c.args.packet.now.number marks ≡ None =
-        none_open_in_hand c.args.self.now.members c.args.packet.now.number marks
-        (stands_there c.args.self.now c.self.inside.desks c.args.packet.now.number None marks (ap (λ (v : Core). v.desks) c.self.view_is) (c.in_default.ensures.value ∙ ap (get nat_cmp c.self.inside.desks) key) h) in
+    none_open_in_hand c.args.self.now.members c.args.packet.now.number marks
+    (stands_there c.args.self.now c.self.inside.desks c.args.packet.now.number None marks (ap (λ (v : Core). v.desks) c.self.view_is) (c.in_default.ensures.value ∙ ap (get nat_cmp c.self.inside.desks) key) h) in
     rw (c.get_mut.follows.holds-at-none, c.self.view_is, not_gathering c.args.self.now.circuit c.args.self.now.members c.args.self.now.me c.args.now marks c.args.row.now c.args.packet.now c.args.report (none_gathers c.args.packet.now.number c.args.packet.now.ballot marks none))
     (took_nothing c.args.row.now marks said.Note_stale c.quiet.result c.args.self.now c.quiet.ensures.row c.quiet.ensures.out c.quiet.ensures.release (rw c.quiet.ensures.note refl) h)
 

@@ -1,0 +1,172 @@
+//! A core, the row that its turns have saved, and the story that both go through.
+
+use crate::events::{ballot_of, event_of};
+use crate::steps::{Did, Saved, Step, early, renewal};
+use crate::turns::is_turn_of;
+use ballots::{Ballot, Member, Number, Row};
+use node_core::{CoreRefusal, NodeCore};
+use std::alloc::Global;
+
+/// A member of circuit 7, of so many, and what happens to its core.
+#[derive(Clone, Copy)]
+pub struct Story {
+    pub name: &'static str,
+    pub me: u8,
+    pub members: u8,
+    pub steps: &'static [Step],
+}
+
+/// A core, and the saved row of the number that its last turn was about.
+#[derive(Drop)]
+pub struct Bench {
+    pub core: NodeCore,
+    pub row: Row,
+}
+
+/// A core of circuit 7 that just started, over a blank row.
+pub fn bench_of(alloc: Global, me: u8, members: u8) -> Option<Bench> {
+    let me = Member::new(me)?;
+    if me.get() > members || members > 15 {
+        return None;
+    }
+    let core = NodeCore::new(alloc, 7, me, members);
+    Some(Bench {
+        core,
+        row: Row::blank(),
+    })
+}
+
+/// The row that is handed in, where it is not the one that was left.
+fn row_of(saved: Saved) -> Option<Row> {
+    match saved {
+        Saved::Left => None,
+        Saved::Blank => Some(Row::blank()),
+        Saved::Promised(round, owner) => Row::new(Some(ballot_of((round, owner))?), None),
+    }
+}
+
+/// The row after a turn, where it changes, stands for the one before.
+fn save(row: &mut Row, after: Option<Row>) {
+    if let Some(after) = after {
+        *row = after;
+    }
+}
+
+/// Whether the turn of a step is as it has to be, or why there is none. Its row is then the saved one.
+pub fn answer(alloc: Global, bench: &mut Bench, step: &Step) -> Option<Result<bool, CoreRefusal>> {
+    save(&mut bench.row, row_of(step.saved));
+    let event = event_of(alloc, step, bench.core.me(), bench.core.members())?;
+    match bench.core.handle(event, &bench.row) {
+        Err(refusal) => Some(Err(refusal)),
+        Ok(turn) => {
+            let is_so = is_turn_of(&turn, step);
+            save(&mut bench.row, turn.row);
+            Some(Ok(is_so))
+        }
+    }
+}
+
+/// Whether the answer is that of the step.
+pub fn is_answer(answer: Option<Result<bool, CoreRefusal>>, step: &Step) -> bool {
+    match answer {
+        None => false,
+        Some(Ok(is_so)) => is_so,
+        Some(Err(refusal)) => step.did == Did::Refuse(refusal),
+    }
+}
+
+/// The least number that is due at this moment.
+fn next_due(core: &NodeCore, now: u64) -> Option<u32> {
+    match core.next_due(now) {
+        None => None,
+        Some(number) => Some(number.get()),
+    }
+}
+
+/// Whether the least number that is due at each of these moments is this one.
+fn is_due(core: &NodeCore, due: &[(u64, Option<u32>)]) -> bool {
+    for (now, number) in due {
+        if next_due(core, *now) != *number {
+            return false;
+        }
+    }
+    true
+}
+
+/// Whether the ballot is of this round and owner, or there is none.
+fn is_open(ballot: Option<Ballot>, named: Option<(u32, u8)>) -> bool {
+    match named {
+        None => ballot.is_none(),
+        Some(named) => ballot.is_some() && ballot == ballot_of(named),
+    }
+}
+
+/// Whether the core is left as the step says.
+fn is_left(core: &NodeCore, step: &Step) -> bool {
+    let Some(number) = Number::new(step.number) else {
+        return false;
+    };
+    is_open(core.open_ballot(number), step.open)
+        && core.released(number) == step.released
+        && is_due(core, step.due)
+}
+
+/// Whether a step comes to what it has to.
+fn takes(alloc: Global, bench: &mut Bench, step: &Step) -> bool {
+    if step.cleared {
+        bench.core.clear();
+    }
+    is_answer(answer(alloc, bench, step), step) && is_left(&bench.core, step)
+}
+
+/// Whether the proposal of number 12 waits for 290 ms after it began this round, and then begins the next.
+fn begins_anew(alloc: Global, bench: &mut Bench, round: u32) -> bool {
+    let early = early(round);
+    let due = renewal(round);
+    next_due(&bench.core, early.now).is_none()
+        && takes(alloc, bench, &early)
+        && next_due(&bench.core, due.now) == Some(12)
+        && takes(alloc, bench, &due)
+}
+
+/// Whether the proposal of number 12 begins anew, from its first round to this one.
+fn comes_to(alloc: Global, bench: &mut Bench, last: u32) -> bool {
+    for round in 1..last {
+        if !begins_anew(alloc, bench, round) {
+            return false;
+        }
+    }
+    true
+}
+
+/// How many of these steps come to what they have to, up to the first that does not.
+pub fn taken(alloc: Global, bench: &mut Bench, steps: &[Step]) -> usize {
+    for (place, step) in steps.iter().enumerate() {
+        if !comes_to(alloc, bench, step.rounds) || !takes(alloc, bench, step) {
+            return place;
+        }
+    }
+    steps.len()
+}
+
+/// Whether the core is of this seat in circuit 7.
+fn is_seated(core: &NodeCore, story: &Story) -> bool {
+    core.circuit() == 7 && core.me().get() == story.me && core.members() == story.members
+}
+
+/// How many steps of the story come to what they have to; `None` where its core is not seated as it says.
+fn told_by(alloc: Global, bench: &mut Bench, story: &Story) -> Option<usize> {
+    if is_seated(&bench.core, story) {
+        Some(taken(alloc, bench, story.steps))
+    } else {
+        None
+    }
+}
+
+/// The same, of a core that just started.
+pub fn told(alloc: Global, story: &Story) -> Option<usize> {
+    match bench_of(alloc, story.me, story.members) {
+        None => None,
+        Some(mut bench) => told_by(alloc, &mut bench, story),
+    }
+}

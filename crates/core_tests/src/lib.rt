@@ -1,0 +1,13 @@
+//! The tests of a station's core: stories of what comes to it, and what each turn has to be.
+#![tactic(auto)]
+
+#[cfg(test)]
+mod bench;
+#[cfg(test)]
+mod events;
+#[cfg(test)]
+mod steps;
+#[cfg(test)]
+mod tests;
+#[cfg(test)]
+mod turns;
