@@ -1,5 +1,5 @@
 -- A core goes on to stand for the marks once what is in hand of one number was acted on.
-use Rattle.std.proofs.Common.{◌≡◌, ℕ, refl, sym, ap, subst, ◌∙◌, List, [], ◌∷◌, Option, Some, None, Bool, true, false}
+use Rattle.std.proofs.Common.{◌≡◌, ℕ, refl, sym, ap, subst, ◌∙◌, List, Option, Some, None, Bool, true, false}
 use Rattle.std.specs.Prelude.{is_some, ◌==◌, if◌then◌else◌}
 use Rattle.std.proofs.lemmas.Bool.{eqb-true, eq-eqb}
 use Rattle.std.specs.Ordering.{nat_cmp}
@@ -12,7 +12,7 @@ use Rattle.protocol.specs.Proposals.{was_released, open_proposal, open_ballot}
 use Rattle.learner.specs.Latest.{OtherMarksPass as OtherVotesPass}
 use Rattle.proposer.specs.InHand.{OtherMarksPass as OtherProposalsPass}
 use Rattle.node_core.specs.declared.desk.Desk.{Desk}
-use Rattle.node_core.specs.Standing.{Core, StandsFor, DeskStands, InHandStands, IsLeft, Grows, Moves, AreDesksOf, IsDeskOf, fresh, desk_in, desk_at, is_noted}
+use Rattle.node_core.specs.Standing.{Core, StandsFor, InHandStands, IsLeft, Grows, Moves, AreDesksOf, IsDeskOf, fresh, desk_in, desk_at, is_noted}
 use Rattle.node_core.specs.Seats.{Seat}
 use Rattle.node_core.proofs.Passing.{other_released, other_desk}
 

@@ -4,7 +4,6 @@ use Rattle.std.specs.Prelude.{◌==◌, ◌&&◌, not, is_some}
 use Rattle.std.proofs.lemmas.Bool.{eq-eqb, and_parts, not-true}
 use Rattle.std.proofs.lemmas.Bool.Decides.{nat_tests}
 use Rattle.std.proofs.lemmas.List.{length-map}
-use Rattle.protocol.specs.Lists.{has}
 use Rattle.protocol.specs.Ballots.{Ballot, is_same, is_below}
 use Rattle.protocol.specs.Rows.{Tape, Vote, Row, raised, voted}
 use Rattle.protocol.specs.Packets.{Packet, Accepted}

@@ -1,5 +1,5 @@
 -- The first that is due is the least: what is in hand is in order.
-use Rattle.std.proofs.Common.{◌≡◌, List, sym, ap, subst, ◌∙◌, Some, true, false, Option}
+use Rattle.std.proofs.Common.{◌≡◌, sym, ap, subst, ◌∙◌, Some, true, false}
 use Rattle.protocol.specs.Proposals.{is_due_number}
 use Rattle.node_core.specs.Dues.{IsLeastPassing}
 use Rattle.node_core.proofs.Dueing.{all_left, there, less_left, least_left, none_left}

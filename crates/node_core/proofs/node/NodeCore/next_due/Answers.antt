@@ -1,10 +1,9 @@
 -- The least in hand that is due is the least number that is.
-use Rattle.std.proofs.Common.{◌≡◌, ℕ, List, sym, ap, subst}
+use Rattle.std.proofs.Common.{ℕ, List, sym, ap, subst}
 use Rattle.protocol.specs.Proposals.{is_due_number}
 use Rattle.node_core.specs.declared.desk.Desk.{Desk}
 use Rattle.node_core.specs.Dues.{AllStand, IsLeastPassing}
-use Rattle.node_core.specs.Standing.{Core, seat_of}
-use Rattle.node_core.specs.Seats.{Seat}
+use Rattle.node_core.specs.Standing.{Core}
 use Rattle.node_core.proofs.Dueing.{all_stand, is_next_due}
 use Rattle.node_core.proofs.node.NodeCore.next_due.Goals as goal
 

@@ -1,9 +1,8 @@
 -- What is in hand is acted on where it is, or put in.
-use Rattle.std.proofs.Common.{◌≡◌, ℕ, List, ◌∷◌, refl, sym, ap, subst, ◌∙◌, Option, Some, None, true, false}
+use Rattle.std.proofs.Common.{◌≡◌, ℕ, ◌∷◌, refl, sym, ap, subst, ◌∙◌, Some, None}
 use Rattle.std.specs.Prelude.{is_some}
 use Rattle.std.specs.Ordering.{nat_cmp}
 use Rattle.std.specs.BTreeMap.{BTreeMap, get}
-use Rattle.protocol.specs.Rows.{Tape}
 use Rattle.protocol.specs.Marks.{Began}
 use Rattle.protocol.specs.Turn.{begin}
 use Rattle.proposer.specs.InHand.{StandsFor as ProposalStandsFor}

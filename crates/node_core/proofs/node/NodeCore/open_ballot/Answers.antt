@@ -1,5 +1,5 @@
 -- What is in hand stands for the marks.
-use Rattle.std.proofs.Common.{◌≡◌, ℕ, List, sym, ap, ◌∙◌, Option, Some, None, Bool, true, false, refl}
+use Rattle.std.proofs.Common.{ap, ◌∙◌, Some, None}
 use Rattle.std.specs.Ordering.{nat_cmp}
 use Rattle.std.specs.BTreeMap.{get}
 use Rattle.protocol.specs.Proposals.{open_ballot}

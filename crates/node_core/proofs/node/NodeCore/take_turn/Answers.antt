@@ -1,13 +1,11 @@
 -- Each event's turn is that of the definitions.
 use Rattle.std.proofs.Common.{refl, sym, subst}
-use Rattle.protocol.specs.Packets.{Packet}
 use Rattle.protocol.specs.Proposals.{open_proposal}
 use Rattle.protocol.specs.Turn.{due_turn, packet_turn}
 use Rattle.node_core.specs.declared.event.Event.{Event}
-use Rattle.node_core.specs.Standing.{Took}
 use Rattle.node_core.specs.Calls.{TookTurn}
 use Rattle.node_core.proofs.Phases.{on_ok, if_err}
-use Rattle.node_core.specs.Memory.{IsStill, MayTakeMemory}
+use Rattle.node_core.specs.Memory.{MayTakeMemory}
 use Rattle.node_core.proofs.Calling.{offered, sought, offer_takes, seek_takes}
 use Rattle.node_core.proofs.node.NodeCore.take_turn.Goals as goal
 
