@@ -16,6 +16,3 @@ pub use fault::TableFault;
 pub use meaning::Meaning;
 pub use name::Name;
 pub use table::CodeTable;
-
-#[cfg(test)]
-mod tests;

@@ -17,6 +17,3 @@ pub use piece::{Piece, Pieces};
 pub use setting::set;
 pub use slug::{Kind, Slug};
 pub use streams::CannotWrite as WriteFault;
-
-#[cfg(test)]
-mod tests;

@@ -16,6 +16,3 @@ pub use items::Items;
 pub use line::{Line, Quad};
 pub use numbering::line_at;
 pub use reading::{Reading, read, read_lines};
-
-#[cfg(test)]
-mod tests;

@@ -6,6 +6,3 @@ mod output;
 
 pub use input::{InputFault, MAX_INPUT, read_input};
 pub use output::{CannotWrite, put_all};
-
-#[cfg(test)]
-mod tests;

@@ -10,6 +10,3 @@ mod widths;
 pub use entry::MatrixWidth;
 pub use fault::{WidthFault, WidthKey};
 pub use widths::Widths;
-
-#[cfg(test)]
-mod tests;

@@ -1,0 +1,21 @@
+//! The tests of typesetting: code tables, width files, lines, slugs and galleys, and readers and writers that fail.
+#![tactic(auto)]
+
+#[cfg(test)]
+mod code_tables;
+#[cfg(test)]
+mod failing;
+#[cfg(test)]
+mod files;
+#[cfg(test)]
+mod fronts;
+#[cfg(test)]
+mod galleys;
+#[cfg(test)]
+mod inputs;
+#[cfg(test)]
+mod lines;
+#[cfg(test)]
+mod slugs;
+#[cfg(test)]
+mod width_files;

@@ -1,0 +1,110 @@
+//! Slugs: one line checked, and the first faults of tapes that do not set.
+
+use crate::files::Job;
+use crate::galleys::is_galley;
+use crate::lines::lines_of;
+use fixtures::{FLOOD, LIGATURE, OVERSET};
+use line_check::{Cause, Piece, SetError, SetFault, Slug, check, set};
+use slug_reader::Line;
+use std::alloc::Global;
+use widths::Widths;
+
+/// What setting these frames answers, where the ligature has a width or not.
+fn setting_of(alloc: Global, ligature: bool, frames: &[u8]) -> Option<Result<Vec<Slug>, SetError>> {
+    let job = Job::new(alloc, ligature, frames)?;
+    Some(set(alloc, &job.table, &job.widths, &job.tape))
+}
+
+/// The slugs of these frames.
+pub fn slugs_of(alloc: Global, frames: &[u8]) -> Option<Vec<Slug>> {
+    setting_of(alloc, true, frames)?.ok()
+}
+
+/// Whether this is the fault of these frames.
+fn has_fault(alloc: Global, ligature: bool, frames: &[u8], fault: SetFault) -> bool {
+    match setting_of(alloc, ligature, frames) {
+        Some(Err(found)) => found == SetError::Fault(fault),
+        _ => false,
+    }
+}
+
+/// Whether the ligature has a width, frames, the position and the line of their fault, and what it is.
+const FAULTS: &[(bool, &[u8], u32, u32, Cause)] = &[
+    (true, &[1, 2, 3, 1, 2, 4], 5, 1, Cause::Loose { under: 2 }),
+    (true, &[1, 1, 1, 1, 1, 4], 5, 1, Cause::Loose { under: 5 }),
+    (true, OVERSET, 7, 1, Cause::Overset { over: 1 }),
+    // the first fault, though another follows
+    (
+        true,
+        &[1, 2, 3, 1, 2, 3, 1, 4, 12],
+        7,
+        1,
+        Cause::Overset { over: 1 },
+    ),
+    (true, &[1], 1, 1, Cause::Unfinished),
+    (true, &[12], 0, 1, Cause::UnknownCode),
+    (true, &[4, 1, 7, 4, 12], 4, 3, Cause::UnknownCode),
+    (false, LIGATURE, 5, 1, Cause::NoWidth),
+];
+
+#[test]
+fn first_faults(rt: HostRuntime) {
+    for (ligature, frames, at, line, cause) in FAULTS {
+        let (at, line, cause) = (*at, *line, *cause);
+        assert!(rt; has_fault(rt.alloc(), *ligature, frames, SetFault { at, line, cause }));
+    }
+}
+
+/// The slug of the line, where there is one line.
+fn cast(alloc: Global, lines: &[Line], widths: &Widths) -> Option<Slug> {
+    match lines {
+        [line] => check(alloc, line, widths).ok(),
+        _ => None,
+    }
+}
+
+/// The slug of the one line of these frames.
+fn slug_of(alloc: Global, frames: &[u8]) -> Option<Slug> {
+    let job = Job::new(alloc, true, frames)?;
+    match lines_of(alloc, &job) {
+        Ok(lines) => cast(alloc, &lines, &job.widths),
+        Err(_) => None,
+    }
+}
+
+fn units_of(piece: &Piece) -> u16 {
+    match piece {
+        Piece::Matrix { width, .. } | Piece::Band { width } | Piece::Space { width } => *width,
+    }
+}
+
+/// Whether these are the widths of the pieces.
+fn have_widths(pieces: &[Piece], widths: &[u16]) -> bool {
+    for (piece, width) in pieces.iter().zip(widths) {
+        if units_of(piece) != *width {
+            return false;
+        }
+    }
+    pieces.len() == widths.len()
+}
+
+/// Whether the slug of the one line of these frames prints so, and its pieces have these widths.
+fn casts(alloc: Global, frames: &[u8], text: &str, widths: &[u16]) -> bool {
+    match slug_of(alloc, frames) {
+        Some(slug) => have_widths(slug.items.as_slice(), widths) && is_galley(alloc, &[slug], text),
+        None => false,
+    }
+}
+
+/// The matrices have 22 units, and 8 are left for two bands.
+#[test]
+fn one_line_checked(rt: HostRuntime) {
+    assert!(rt;
+        casts(
+            rt.alloc(),
+            FLOOD,
+            "0001 J 0 0 a b _4 a _4 b\n",
+            &[5, 6, 4, 5, 4, 6]
+        )
+    );
+}
