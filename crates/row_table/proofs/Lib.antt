@@ -2,6 +2,7 @@ pub mod KeyLemmas
 pub mod TextLemmas
 pub mod QueryLemmas
 pub mod PutLemmas
+pub mod ParamLemmas
 pub mod StateLemmas
 pub mod PutClauses
 pub mod GetLemmas
@@ -9,6 +10,7 @@ pub mod AllLemmas
 pub mod RisingLemmas
 pub mod MakeLemmas
 pub mod EntryLemmas
-pub mod LoopLemmas
-pub mod TurnLemmas
+pub mod AddingLemmas
+pub mod LayoutLemmas
+pub mod UpgradeLemmas
 pub mod StationLemmas

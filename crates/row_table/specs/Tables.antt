@@ -1,4 +1,4 @@
--- The two tables of the row store.
+-- The tables of the row store, in each of its layouts.
 use Rattle.sqlite.specs.Collation.TheVariants.{Binary}
 use Rattle.std.specs.Prelude.{true, false, [], ◌∷◌, Some, codes, List, ℕ, pos}
 use Rattle.sqlite.specs.declared.types.Value.TheVariants.{Null, Int}
@@ -57,21 +57,19 @@ acceptor_row = record {
   is_counted = false;
 }
 
--- the schema as each statement that makes a table finds it, and after the last
+-- the schema with the table of the station alone
 abbrev pub station_schema : Schema
 station_schema = record { tables = station ∷ []; indexes = []; views = [] }
 
+-- the schema of layout 1: the station and the table of rows
 abbrev pub row_schema : Schema
 row_schema = record { tables = station ∷ acceptor_row ∷ []; indexes = []; views = [] }
 
-abbrev pub entries_tree : ℕ
-entries_tree = 2
-
--- the table of entries, in layout 2
-abbrev pub acceptor_entry : Table
-acceptor_entry = record {
+-- the table of entries, in layout 2, kept in this tree
+abbrev pub acceptor_entry : ℕ → Table
+acceptor_entry tree = record {
   name = codes "acceptor_entry";
-  tree = entries_tree;
+  tree = tree;
   columns = optional_column (codes "number") ∷ number_column (codes "promised_round") ∷ number_column (codes "promised_owner")
       ∷ optional_column (codes "vote_round") ∷ optional_column (codes "vote_owner") ∷ optional_column (codes "length")
       ∷ (record { name = codes "packed"; kind = Blob; is_strict = true; not_null = false; default = Null; collation = Binary }) ∷ [];
@@ -86,9 +84,26 @@ acceptor_entry = record {
   is_counted = false;
 }
 
--- the schema of a database that went over: the old table of rows stays
-abbrev pub both_schema : Schema
-both_schema = record { tables = station ∷ acceptor_row ∷ acceptor_entry ∷ []; indexes = []; views = [] }
+-- how a database came to its table of entries: it was created in layout 2, or upgraded from layout 1 and keeps its table of rows
+pub data Origin : Type 0 where
+  Created : Origin
+  Upgraded : Origin
 
+-- the tree of the table of entries, which is the last table that was made
+abbrev pub entries_tree : Origin → ℕ
+entries_tree Created = 1
+entries_tree Upgraded = 2
+
+-- the schema that the table of entries is made in
+abbrev pub schema_before : Origin → Schema
+schema_before Created = station_schema
+schema_before Upgraded = row_schema
+
+-- the schema with the table of entries
+abbrev pub entry_schema : Origin → Schema
+entry_schema Created = record { tables = station ∷ acceptor_entry 1 ∷ []; indexes = []; views = [] }
+entry_schema Upgraded = record { tables = station ∷ acceptor_row ∷ acceptor_entry 2 ∷ []; indexes = []; views = [] }
+
+-- the schema of an empty database
 abbrev pub no_schema : Schema
 no_schema = record { tables = []; indexes = []; views = [] }

@@ -1,14 +1,16 @@
-//! The two tables of a row store, as SQL: the statements, and what each makes of the tables.
+//! The tables of a row store, as SQL: the statements, and what each makes of the tables.
 #![tactic(auto)]
 
+mod entries;
 mod rising;
 mod rows;
 mod station;
 mod tables;
 mod upgrading;
 
+pub use entries::{EntryColumns, add_entries, add_entry, make_entry_table};
 pub use rising::are_rising;
 pub use rows::{all_rows, get_row, put_row};
 pub use station::get_station;
 pub use tables::create_tables;
-pub use upgrading::{EntryColumns, add_entries, add_entry, make_entries, set_layout, upgrade_tables};
+pub use upgrading::upgrade_tables;

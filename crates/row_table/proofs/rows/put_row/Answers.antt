@@ -1,21 +1,12 @@
-use Rattle.std.proofs.Common.{◌≡◌, option_map, ℕ, Some, None, pos, refl, Option, List, Bor}
+use Rattle.std.proofs.Common.{◌≡◌, option_map, ℕ, Some, None, refl, Option, List, Bor}
 use Rattle.sqlite_value.specs.declared.value.Value.TheVariants.{Blob}
-use Rattle.sqlite.specs.Kind.TheVariants.{Integer}
-use Rattle.sqlite_rules.specs.Cast.{cast}
 use Rattle.sqlite.specs.Values.{or_null, bound_value}
 use Rattle.sqlite.specs.Held.{state}
 use Rattle.row_table.specs.Rows.{whole}
-use Rattle.row_table.proofs.PutLemmas.{AreTaken, cast_int, cast_null}
+use Rattle.row_table.proofs.ParamLemmas.{optional, bound_number}
+use Rattle.row_table.proofs.PutLemmas.{AreTaken, cast_int}
 use Rattle.row_table.proofs.PutClauses.{IsSettled, serves_on, saved_on, kept_on, crash_on}
 use Rattle.row_table.proofs.rows.put_row.Goals as goal
-
-optional : (o : Option ℕ) → cast Integer (or_null whole o) ≡ or_null whole o
-optional None = cast_null
-optional (Some n) = cast_int (pos n)
-
-bound_number : (o : Option ℕ) → bound_value (or_null whole o) ≡ or_null whole o
-bound_number None = refl
-bound_number (Some n) = refl
 
 bound_tape : (o : Option (Bor (List ℕ))) → bound_value (or_null (λ (b : Bor (List ℕ)). Blob b.now) o) ≡ or_null Blob (option_map (λ b. b.now) o)
 bound_tape None = refl

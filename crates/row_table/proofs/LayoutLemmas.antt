@@ -1,6 +1,5 @@
--- What the statement does that sets the layout.
-use Rattle.std.proofs.Common.{None, ◌≡◌, inl, inr, ℕ, pos, negsuc, List, [], ◌∷◌, codes, false, map, Ok, Err, Result, refl, sym, ap, subst, ◌∙◌, arith}
-use Rattle.sqlite_value.specs.declared.value.Value.{Value}
+-- What the statement that sets the layout does.
+use Rattle.std.proofs.Common.{None, ◌≡◌, ℕ, pos, negsuc, List, [], ◌∷◌, codes, false, map, Ok, refl, ap, subst, ◌∙◌, arith}
 use Rattle.sqlite.specs.declared.types.Value.TheVariants.{Null, Int}
 use Rattle.sqlite.specs.Term.{Term, lit, col}
 use Rattle.sqlite.specs.Query.{Query, Output, output, inner, end, IsAnswer}
@@ -18,10 +17,11 @@ use Rattle.sqlite.specs.Rows.{Written}
 use Rattle.sqlite_value.specs.Order.{Row, value_cmp}
 use Rattle.sqlite_trees.specs.Tree.{Trees}
 use Rattle.sqlite.proofs.Callers.{IsPlain, command_of, statement_of, runs_as, one_step, one_permutation}
-use Rattle.row_table.specs.Tables.{station, both_schema, rows_tree, station_tree, entries_tree}
+use Rattle.row_table.specs.Tables.{station, entry_schema, rows_tree, station_tree, entries_tree}
+use Rattle.row_table.specs.Tables.Origin.{Upgraded}
 use Rattle.row_table.specs.Rows.{whole}
 use Rattle.row_table.specs.Station.{station_row}
-use Rattle.row_table.specs.Entries.{HasEntries, HasTurned, second_row}
+use Rattle.row_table.specs.Entries.{HasEntries, HasLayoutOne, HasUpgraded, upgraded_row}
 use Rattle.row_table.proofs.AllLemmas.{as_map}
 use Rattle.row_table.proofs.PutLemmas.{went, same_value, cast_int, cast_null}
 
@@ -44,23 +44,23 @@ relaid = record {
   offset = lit (Int (pos 0));
 }
 
-layout_is : command_of (understood both_schema layout_text) ≡ Update 0 (record { lets = []; body = relaid })
+layout_is : command_of (understood (entry_schema Upgraded) layout_text) ≡ Update 0 (record { lets = []; body = relaid })
 unfolding understood everything
 layout_is = refl
 
-layout_plain : IsPlain (understood both_schema layout_text)
+layout_plain : IsPlain (understood (entry_schema Upgraded) layout_text)
 unfolding understood everything
 layout_plain = (refl, refl)
 
 rows_apart : ¬ (rows_tree ≡ station_tree)
 rows_apart e = omega (arith, e)
 
-entries_apart : ¬ (entries_tree ≡ station_tree)
+entries_apart : ¬ ((entries_tree Upgraded) ≡ station_tree)
 entries_apart e = omega (arith, e)
 
 -- the one row, with its own number before it
 shown : (db : Trees) (rows : List Row) (circuit member members : ℕ) → db station_tree ≡ station_row circuit member members ∷ [] → IsAnswer relaid (overlay db []) [] rows
-    → rows ≡ (whole 1 ∷ second_row circuit member members) ∷ []
+    → rows ≡ (whole 1 ∷ upgraded_row circuit member members) ∷ []
 shown db rows circuit member members has a =
     let table = db station_tree in
     let kept : a.kept ≡ map (output relaid) (map (λ r. [] ∷ r ∷ []) table) = a.distinct ∙ ap (map (output relaid)) (a.grouped ∙ as_map table) in
@@ -68,27 +68,32 @@ shown db rows circuit member members has a =
     let ordered = one_permutation (output relaid ([] ∷ station_row circuit member members ∷ [])) a.ordered (rw one at a.same) in
     a.shown ∙ ap (map (λ (p : Output). p.1)) ordered
 
-pub turns : (before : Trees) (rows : List Row) (old new : State) (circuit member members count : ℕ) → HasEntries before rows old → before station_tree ≡ station_row circuit member members ∷ []
-    → ExecutesInside 0 layout_text [] old new (Ok count) → HasTurned before rows circuit member members new
+-- the station is in layout 2, and nothing else is changed
+pub lays : (before : Trees) (rows : List Row) (old new : State) (count : ℕ) → HasEntries Upgraded before rows old → HasLayoutOne before
+    → ExecutesInside 0 layout_text [] old new (Ok count) → HasUpgraded before rows new
 unfolding value_cmp lib.Ieee.is_nan lib.Ieee.lt
-turns before rows old new circuit member members count has is inside =
+lays before rows old new count has was inside =
     let db = old.now.trees in
+    let station_is = has.others station_tree (omega arith) ∙ was.station in
     let command = Update 0 (record { lets = []; body = relaid }) in
-    let w = runs_as layout_text [] old new both_schema has.schema command layout_is layout_plain count inside.0 in
-    let text = statement_of layout_text (understood both_schema layout_text) in
+    let w = runs_as layout_text [] old new (entry_schema Upgraded) has.schema command layout_is layout_plain count inside.0 in
+    let text = statement_of layout_text (understood (entry_schema Upgraded) layout_text) in
     let done = went (subst (λ s. Does old.step_limit (mode_of old) [] (record old.now { schema = s }) text None command (Ok (w.tally, new.now))) has.schema w.changed) in
     let now = ap (λ (p : Tally × Database). p.1) (same_value (went (went done.2).2).2) in
     let asked = went done.1 in
-    let all = shown db asked.0 circuit member members (has.station ∙ is) (asked.1.answer Null) in
+    let all = shown db asked.0 was.circuit was.member was.members station_is (asked.1.answer Null) in
     let ended = went asked.2 in
     let trees : done.0.trees ≡ ended.0 = ap (λ (it : Written). it.trees) (same_value ended.2) in
-    let step = one_step both_schema _ db ended.0 (edit_of db station (ids_of asked.0) Given 1 asked.0) refl ended.1 in
-    let edit : edited db (edit_of db station (ids_of asked.0) Given 1 asked.0) ≡ second_row circuit member members ∷ [] =
-    ap (λ l. edited db (edit_of db station (ids_of l) Given 1 l)) all ∙ rw (has.station, is, cast_null, cast_int (pos 1), cast_int (pos 2), cast_int (pos circuit), cast_int (pos member), cast_int (pos members)) refl in
+    let step = one_step (entry_schema Upgraded) _ db ended.0 (edit_of db station (ids_of asked.0) Given 1 asked.0) refl ended.1 in
+    let edit : edited db (edit_of db station (ids_of asked.0) Given 1 asked.0) ≡ upgraded_row was.circuit was.member was.members ∷ [] =
+    ap (λ l. edited db (edit_of db station (ids_of l) Given 1 l)) all ∙ rw (station_is, cast_null, cast_int (pos 1), cast_int (pos 2), cast_int (pos was.circuit), cast_int (pos was.member), cast_int (pos was.members)) refl in
     record {
       schema = ap (λ (d : Database). d.schema) now;
-      entries = ap (λ (d : Database). d.trees entries_tree) now ∙ ap (λ (t : Trees). t entries_tree) trees ∙ step.others entries_tree entries_apart tt ∙ has.entries;
-      old_rows = ap (λ (d : Database). d.trees rows_tree) now ∙ ap (λ (t : Trees). t rows_tree) trees ∙ step.others rows_tree rows_apart tt ∙ has.old_rows;
-      station = ap (λ (d : Database). d.trees station_tree) now ∙ ap (λ (t : Trees). t station_tree) trees ∙ step.rows ∙ edit;
+      holds = record {
+        entries = ap (λ (d : Database). d.trees (entries_tree Upgraded)) now ∙ ap (λ (t : Trees). t (entries_tree Upgraded)) trees ∙ step.others (entries_tree Upgraded) entries_apart tt ∙ has.entries;
+        old_rows = ap (λ (d : Database). d.trees rows_tree) now ∙ ap (λ (t : Trees). t rows_tree) trees ∙ step.others rows_tree rows_apart tt ∙ has.others rows_tree (omega arith);
+        was = was;
+        station = ap (λ (d : Database). d.trees station_tree) now ∙ ap (λ (t : Trees). t station_tree) trees ∙ step.rows ∙ edit;
+      };
       inside = inside.1.mode;
     }

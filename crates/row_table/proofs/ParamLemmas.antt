@@ -1,0 +1,17 @@
+-- What a column takes of a value that a statement is given.
+use Rattle.std.proofs.Common.{◌≡◌, ℕ, pos, Some, None, Option, refl}
+use Rattle.sqlite.specs.Kind.TheVariants.{Integer}
+use Rattle.sqlite_rules.specs.Cast.{cast}
+use Rattle.sqlite.specs.Values.{or_null, bound_value}
+use Rattle.row_table.specs.Rows.{whole}
+use Rattle.row_table.proofs.PutLemmas.{cast_int, cast_null}
+
+-- a column of whole numbers takes a number or NULL as it is
+pub optional : (o : Option ℕ) → cast Integer (or_null whole o) ≡ or_null whole o
+optional None = cast_null
+optional (Some n) = cast_int (pos n)
+
+-- and so does a parameter
+pub bound_number : (o : Option ℕ) → bound_value (or_null whole o) ≡ or_null whole o
+bound_number None = refl
+bound_number (Some n) = refl

@@ -1,0 +1,35 @@
+use Rattle.std.proofs.Common.{◌≡◌, option_map, ℕ, Some, None, refl, Option, Bor, option_copied}
+use Rattle.std.specs.Global.{Vec}
+use Rattle.sqlite_value.specs.declared.value.Value.TheVariants.{Blob}
+use Rattle.sqlite.specs.Values.{or_null, bound_value}
+use Rattle.sqlite.specs.Held.{state}
+use Rattle.row_table.specs.Rows.{whole}
+use Rattle.row_table.proofs.ParamLemmas.{optional, bound_number}
+use Rattle.row_table.proofs.PutLemmas.{cast_int}
+use Rattle.row_table.proofs.EntryLemmas.{AreTaken, adds_entry}
+use Rattle.row_table.proofs.entries.add_entry.Goals as goal
+
+bound_packed : (o : Option (Bor (Vec ℕ))) → bound_value (or_null (λ (b : Bor (Vec ℕ)). Blob b.now.items) o) ≡ or_null Blob (option_map (λ (v : Vec ℕ). v.items) (option_copied o))
+bound_packed None = refl
+bound_packed (Some b) = refl
+
+pub returns-clause-added : goal.returns-clause-added
+returns-clause-added g c clean origin before rows had =
+    let e = c.args.entry.now in
+    let ran = rw (
+      c.params-to_sql.ensures,
+      c.params-to_sql-2.ensures,
+      c.params-to_sql-3.ensures,
+      c.params-to_sql-4.ensures,
+      c.params-to_sql-5.ensures,
+      c.params-to_sql-6.ensures,
+      c.params-to_sql-7.ensures,
+      bound_number e.vote_round,
+      bound_number e.vote_owner,
+      bound_number e.length,
+      bound_packed c.as_ref.result,
+      c.as_ref.ensures.value,
+    ) at (c.in_ok-execute.ensures.runs clean had.inside) in
+    let taken : AreTaken (whole e.promised_round) (whole e.promised_owner) (or_null whole e.vote_round) (or_null whole e.vote_owner) (or_null whole e.length) =
+    record { first = cast_int _; second = cast_int _; third = optional e.vote_round; fourth = optional e.vote_owner; fifth = optional e.length } in
+    adds_entry origin before rows (state g.S.Store c.args.tx.now.conn.now) (state g.S.Store c.execute.new.self.conn.now) e.number _ _ _ _ _ _ c.in_ok-execute.field-0 taken had ran

@@ -1,0 +1,97 @@
+//! The statements on the table of entries, in a transaction.
+
+ghost use Rattle.std.specs.Prelude.{◌≡◌, [], List, OnOk, IsTrue};
+ghost use Rattle.sqlite_value.specs.Order.{Row};
+ghost use Rattle.sqlite_trees.specs.Tree.{put_row};
+ghost use Rattle.sqlite.specs.State.{HasCleanDisk, KeepsCommit, Survives};
+ghost use Rattle.sqlite.specs.Held.{state};
+ghost use Rattle.row_table.specs.Tables.{Origin, schema_before};
+ghost use Rattle.row_table.specs.Entries.{HasEntries, entry_row, with_entries};
+
+use sqlite::{Alter, Error, Transaction, params};
+
+/// A row of the table of entries, column by column.
+///
+/// The last four are all there, a vote, or none of them is.
+#[derive(Drop)]
+pub struct EntryColumns {
+    /// The number that the row is about, which is its key.
+    pub number: u32,
+    /// The round of the ballot that is promised.
+    pub promised_round: u32,
+    /// The member that owns that ballot.
+    pub promised_owner: u32,
+    /// The round of the ballot that the vote was cast in.
+    pub vote_round: Option<u32>,
+    /// The member that owns that ballot.
+    pub vote_owner: Option<u32>,
+    /// How many frames the entry has that was voted for.
+    pub length: Option<u32>,
+    /// Its frames, six bits each, four frames in three bytes.
+    pub packed: Option<Vec<u8>>,
+}
+
+/// Makes the table of entries, empty, beside the tables that are there.
+///
+/// An error comes where the database refuses the statement: where it has such a table, or its disk fails or is full, or memory is refused.
+pub fn make_entry_table<S: Alter>(tx: &mut Transaction<'_, S>) -> Result<(), Error>
+    ensures same_reference { tx.new.conn.ghost_name ≡ tx.old.conn.ghost_name }
+    ensures made { HasCleanDisk (state S.Store tx.new.conn.now) → IsTrue (state S.Store tx.old.conn.now).in_transaction
+        → (origin : Origin) → (state S.Store tx.old.conn.now).now.schema ≡ schema_before origin
+        → OnOk result (HasEntries origin (state S.Store tx.old.conn.now).now.trees [] (state S.Store tx.new.conn.now)) }
+    ensures inside { HasCleanDisk (state S.Store tx.new.conn.now) → IsTrue (state S.Store tx.old.conn.now).in_transaction → OnOk result (IsTrue (state S.Store tx.new.conn.now).in_transaction) }
+    ensures kept { HasCleanDisk (state S.Store tx.new.conn.now) → IsTrue (state S.Store tx.old.conn.now).in_transaction → KeepsCommit (state S.Store tx.old.conn.now) (state S.Store tx.new.conn.now) }
+    ensures survives { Survives (state S.Store tx.old.conn.now) (state S.Store tx.new.conn.now) (λ _. ⊥) }
+{
+    tx.execute(
+        "CREATE TABLE acceptor_entry (number INTEGER PRIMARY KEY,\n  promised_round INTEGER NOT NULL, promised_owner INTEGER NOT NULL,\n  vote_round INTEGER, vote_owner INTEGER,\n  length INTEGER, packed BLOB) STRICT",
+        &[],
+    )?;
+    Ok(())
+}
+
+/// Adds one entry to the table, which has none of its number.
+///
+/// An error comes where the database refuses the statement: where the table is missing or has the number, or the disk fails or is full, or memory is refused.
+pub fn add_entry<S: Alter>(tx: &mut Transaction<'_, S>, entry: &EntryColumns) -> Result<(), Error>
+    ensures same_reference { tx.new.conn.ghost_name ≡ tx.old.conn.ghost_name }
+    ensures added { HasCleanDisk (state S.Store tx.new.conn.now) → (origin : Origin) (before : _) (rows : List Row) → HasEntries origin before rows (state S.Store tx.old.conn.now)
+        → OnOk result (HasEntries origin before (put_row (entry_row entry.now) rows) (state S.Store tx.new.conn.now)) }
+    ensures inside { HasCleanDisk (state S.Store tx.new.conn.now) → IsTrue (state S.Store tx.old.conn.now).in_transaction → OnOk result (IsTrue (state S.Store tx.new.conn.now).in_transaction) }
+    ensures kept { HasCleanDisk (state S.Store tx.new.conn.now) → IsTrue (state S.Store tx.old.conn.now).in_transaction → KeepsCommit (state S.Store tx.old.conn.now) (state S.Store tx.new.conn.now) }
+    ensures survives { Survives (state S.Store tx.old.conn.now) (state S.Store tx.new.conn.now) (λ _. ⊥) }
+{
+    tx.execute(
+        "INSERT INTO acceptor_entry VALUES (?1, ?2, ?3, ?4, ?5, ?6, ?7)",
+        params![
+            entry.number,
+            entry.promised_round,
+            entry.promised_owner,
+            entry.vote_round,
+            entry.vote_owner,
+            entry.length,
+            entry.packed.as_ref()
+        ],
+    )?;
+    Ok(())
+}
+
+/// Adds these entries to the table, one statement each; their numbers differ.
+///
+/// An error comes where one of them is refused, as `add_entry` says; those before it are then in the transaction.
+pub fn add_entries<S: Alter>(
+    tx: &mut Transaction<'_, S>,
+    entries: &[EntryColumns],
+) -> Result<(), Error>
+    ensures same_reference { tx.new.conn.ghost_name ≡ tx.old.conn.ghost_name }
+    ensures added { HasCleanDisk (state S.Store tx.new.conn.now) → (origin : Origin) (before : _) (rows : List Row) → HasEntries origin before rows (state S.Store tx.old.conn.now)
+        → OnOk result (HasEntries origin before (with_entries entries.now rows) (state S.Store tx.new.conn.now)) }
+    ensures inside { HasCleanDisk (state S.Store tx.new.conn.now) → IsTrue (state S.Store tx.old.conn.now).in_transaction → OnOk result (IsTrue (state S.Store tx.new.conn.now).in_transaction) }
+    ensures kept { HasCleanDisk (state S.Store tx.new.conn.now) → IsTrue (state S.Store tx.old.conn.now).in_transaction → KeepsCommit (state S.Store tx.old.conn.now) (state S.Store tx.new.conn.now) }
+    ensures survives { Survives (state S.Store tx.old.conn.now) (state S.Store tx.new.conn.now) (λ _. ⊥) }
+{
+    for entry in entries {
+        add_entry(tx, entry)?;
+    }
+    Ok(())
+}
