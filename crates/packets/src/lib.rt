@@ -14,6 +14,3 @@ pub use decoding::decode;
 pub use encoding::encode;
 pub use fault::PacketFault;
 pub use packet::{Packet, PacketRef};
-
-#[cfg(test)]
-mod tests;

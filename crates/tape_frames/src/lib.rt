@@ -12,6 +12,3 @@ pub use fault::TapeFault;
 pub use levels::holes;
 pub use packed::PackedRef;
 pub use tape::{MAX_FRAMES, Tape, TapeRef};
-
-#[cfg(test)]
-mod tests;

@@ -1,0 +1,80 @@
+//! Packed tapes.
+
+use fixtures::FLOOD;
+use std::alloc::Global;
+use tape_frames::{PackedRef, TapeRef};
+
+// Frames and their packing, each worked out by hand.
+const PACKINGS: &[(&[u8], &[u8])] = &[
+    (FLOOD, &[0x04, 0x20, 0xc1, 0x0c, 0x21, 0x00]),
+    (&[1, 2, 3, 1], &[0x04, 0x20, 0xc1]),
+    (&[1, 2, 3], &[0x04, 0x20, 0xc0]),
+    (&[1, 2], &[0x04, 0x20]),
+    (&[1], &[0x04]),
+    (&[63, 0, 63, 0, 63], &[0xfc, 0x0f, 0xc0, 0xfc]),
+];
+
+// Lengths and bytes that are no packed tape: a pad bit is set, or there is a byte too many or too few, or no frame.
+const NOT_PACKED: &[(u16, &[u8])] = &[
+    (7, &[0x04, 0x20, 0xc1, 0x0c, 0x21, 0x01]),
+    (7, &[0x04, 0x20, 0xc1, 0x0c, 0x21, 0x20]),
+    (2, &[0x04, 0x21]),
+    (2, &[0x04, 0x28]),
+    (1, &[0x05]),
+    (1, &[0x06]),
+    (7, &[0x04, 0x20, 0xc1, 0x0c, 0x21]),
+    (7, &[0x04, 0x20, 0xc1, 0x0c, 0x21, 0x00, 0x00]),
+    (0, &[]),
+    (0, &[0x00]),
+];
+
+fn packs(alloc: Global, frames: &[u8], bytes: &[u8]) -> Option<bool> {
+    let packed = TapeRef::from_bytes(frames).ok()?.pack(alloc).ok()?;
+    Some(packed.as_slice() == bytes)
+}
+
+// How many of the frames come out of the bytes in their places, where nothing comes behind them.
+fn unpacks(frames: &[u8], bytes: &[u8]) -> Option<usize> {
+    let length = u16::try_from(frames.len()).ok()?;
+    let packed = PackedRef::new(length, bytes)?;
+    for (i, frame) in frames.iter().enumerate() {
+        if packed.frame(i) != Some(*frame) {
+            return Some(i);
+        }
+    }
+    if packed.frame(frames.len()).is_some() {
+        None
+    } else {
+        Some(packed.len())
+    }
+}
+
+fn is_packed(length: u16, bytes: &[u8]) -> bool {
+    PackedRef::new(length, bytes).is_some()
+}
+
+fn zeros_are_packed(alloc: Global, length: u16, bytes: usize) -> Option<bool> {
+    let zeros = vec![in alloc; 0u8; bytes].ok()?;
+    Some(is_packed(length, &zeros))
+}
+
+#[test]
+fn both_ways(rt: HostRuntime) {
+    for (frames, bytes) in PACKINGS {
+        assert!(rt; packs(rt.alloc(), frames, bytes) == Some(true));
+        assert!(rt; unpacks(frames, bytes) == Some(frames.len()));
+    }
+}
+
+#[test]
+fn no_packed_tapes(rt: HostRuntime) {
+    for (length, bytes) in NOT_PACKED {
+        assert!(rt; !is_packed(*length, bytes));
+    }
+}
+
+#[test]
+fn most_frames(rt: HostRuntime) {
+    assert!(rt; zeros_are_packed(rt.alloc(), 4096, 3072) == Some(true));
+    assert!(rt; zeros_are_packed(rt.alloc(), 4097, 3073) == Some(false));
+}

@@ -1,0 +1,75 @@
+//! Which packets there are: the rules that each keeps.
+
+use ballots::{Ballot, Member, Number, VoteRef};
+use packets::{BodyRef, PacketRef};
+use tape_frames::TapeRef;
+
+#[derive(Clone, Copy)]
+enum Says {
+    Prepare,
+    Promise,
+    Report,
+    Accept,
+    Accepted,
+    NackAbove,
+    NackOwn,
+}
+
+// From 2 to 1 at 1.1: 2 asks at no ballot of 1's, a vote at 1.1 is not below it, and a promise of 1.1 not above.
+const SAID: &[(Says, bool)] = &[
+    (Says::Prepare, false),
+    (Says::Promise, true),
+    (Says::Report, false),
+    (Says::Accept, false),
+    (Says::Accepted, true),
+    (Says::NackAbove, true),
+    (Says::NackOwn, false),
+];
+
+const TAPE: &[u8] = &[1, 2, 4];
+
+fn ballot(round: u32, owner: u8) -> Option<Ballot> {
+    Ballot::new(round, Member::new(owner)?)
+}
+
+fn body(says: Says) -> Option<BodyRef<'static>> {
+    let own = ballot(1, 1)?;
+    let tape = TapeRef::from_bytes(TAPE).ok()?;
+    Some(match says {
+        Says::Prepare => BodyRef::Prepare,
+        Says::Promise => BodyRef::Promise { report: None },
+        Says::Report => BodyRef::Promise {
+            report: Some(VoteRef::new(own, tape)),
+        },
+        Says::Accept => BodyRef::Accept { tape },
+        Says::Accepted => BodyRef::Accepted { tape },
+        Says::NackAbove => BodyRef::Nack {
+            promised: ballot(1, 2)?,
+        },
+        Says::NackOwn => BodyRef::Nack { promised: own },
+    })
+}
+
+// Whether there is a packet between these members at 1.1 that says this.
+fn may_say(from: u8, to: u8, body: BodyRef<'_>) -> Option<bool> {
+    let (from, to) = (Member::new(from)?, Member::new(to)?);
+    let (number, ballot) = (Number::new(12)?, ballot(1, 1)?);
+    Some(PacketRef::new(7, from, to, number, ballot, body).is_some())
+}
+
+fn said(says: Says) -> Option<bool> {
+    may_say(2, 1, body(says)?)
+}
+
+#[test]
+fn bodies(rt: HostRuntime) {
+    for (says, may) in SAID {
+        assert!(rt; said(*says) == Some(*may));
+    }
+}
+
+#[test]
+fn members_that_differ(rt: HostRuntime) {
+    assert!(rt; may_say(1, 1, BodyRef::Prepare) == Some(false));
+    assert!(rt; may_say(1, 2, BodyRef::Prepare) == Some(true));
+}
