@@ -28,24 +28,41 @@ const NOT_PACKED: &[(u16, &[u8])] = &[
     (0, &[0x00]),
 ];
 
-fn packs(alloc: Global, frames: &[u8], bytes: &[u8]) -> Option<bool> {
-    let packed = TapeRef::from_bytes(frames).ok()?.pack(alloc).ok()?;
-    Some(packed.as_slice() == bytes)
+fn is_packing(alloc: Global, tape: &TapeRef<'_>, bytes: &[u8]) -> bool {
+    match tape.pack(alloc) {
+        Ok(packed) => packed.as_slice() == bytes,
+        Err(_) => false,
+    }
 }
 
-// How many of the frames come out of the bytes in their places, where nothing comes behind them.
-fn unpacks(frames: &[u8], bytes: &[u8]) -> Option<usize> {
-    let length = u16::try_from(frames.len()).ok()?;
-    let packed = PackedRef::new(length, bytes)?;
+fn packs(alloc: Global, frames: &[u8], bytes: &[u8]) -> bool {
+    match TapeRef::from_bytes(frames) {
+        Ok(tape) => is_packing(alloc, &tape, bytes),
+        Err(_) => false,
+    }
+}
+
+// Whether these are the frames of the packed tape, each in its place, and none is behind them.
+fn are_frames(packed: &PackedRef<'_>, frames: &[u8]) -> bool {
     for (i, frame) in frames.iter().enumerate() {
         if packed.frame(i) != Some(*frame) {
-            return Some(i);
+            return false;
         }
     }
-    if packed.frame(frames.len()).is_some() {
-        None
-    } else {
-        Some(packed.len())
+    packed.len() == frames.len() && packed.frame(frames.len()).is_none()
+}
+
+fn unpacks(length: u16, frames: &[u8], bytes: &[u8]) -> bool {
+    match PackedRef::new(length, bytes) {
+        Some(packed) => are_frames(&packed, frames),
+        None => false,
+    }
+}
+
+fn goes_both_ways(alloc: Global, frames: &[u8], bytes: &[u8]) -> bool {
+    match u16::try_from(frames.len()) {
+        Ok(length) => packs(alloc, frames, bytes) && unpacks(length, frames, bytes),
+        Err(_) => false,
     }
 }
 
@@ -54,15 +71,16 @@ fn is_packed(length: u16, bytes: &[u8]) -> bool {
 }
 
 fn zeros_are_packed(alloc: Global, length: u16, bytes: usize) -> Option<bool> {
-    let zeros = vec![in alloc; 0u8; bytes].ok()?;
-    Some(is_packed(length, &zeros))
+    match vec![in alloc; 0u8; bytes] {
+        Ok(zeros) => Some(is_packed(length, &zeros)),
+        Err(_) => None,
+    }
 }
 
 #[test]
 fn both_ways(rt: HostRuntime) {
     for (frames, bytes) in PACKINGS {
-        assert!(rt; packs(rt.alloc(), frames, bytes) == Some(true));
-        assert!(rt; unpacks(frames, bytes) == Some(frames.len()));
+        assert!(rt; goes_both_ways(rt.alloc(), frames, bytes));
     }
 }
 
@@ -73,6 +91,7 @@ fn no_packed_tapes(rt: HostRuntime) {
     }
 }
 
+// 4,096 frames and one more, each in their number of bytes.
 #[test]
 fn most_frames(rt: HostRuntime) {
     assert!(rt; zeros_are_packed(rt.alloc(), 4096, 3072) == Some(true));

@@ -27,9 +27,14 @@ pub const REPORT: &[u8] = &[
     0x54, 0x4e, 1, 2, 0, 7, 2, 3, 0, 0, 0, 12, 0, 0, 0, 1, 3, 1, 0, 0, 0, 1, 1, 0, 3, 1, 2, 4,
 ];
 
-/// The front of it as far as its tape.
-pub const REPORT_FRONT: &[u8] = &[
-    0x54, 0x4e, 1, 2, 0, 7, 2, 3, 0, 0, 0, 12, 0, 0, 0, 1, 3, 1, 0, 0, 0, 1, 1,
+/// The front of it as far as its tape, and the first byte of the length.
+pub const SHORT_REPORT: &[u8] = &[
+    0x54, 0x4e, 1, 2, 0, 7, 2, 3, 0, 0, 0, 12, 0, 0, 0, 1, 3, 1, 0, 0, 0, 1, 1, 0,
+];
+
+/// The front of such a report of 4,096 frames, as far as the length.
+const LONG_FRONT: &[u8] = &[
+    0x54, 0x4e, 1, 2, 0, 7, 2, 3, 0, 0, 0, 12, 0, 0, 0, 1, 3, 1, 0, 0, 0, 1, 1, 0x10, 0,
 ];
 
 /// 2 tells 1 that it has promised 1.3.
@@ -53,6 +58,14 @@ pub fn fault_of(bytes: &[u8]) -> Option<PacketFault> {
     decode(bytes).err()
 }
 
+fn change(bytes: &mut Vec<u8>, changes: &[(usize, u8)]) {
+    for (at, value) in changes {
+        if let Some(byte) = bytes.get_mut(*at) {
+            *byte = *value;
+        }
+    }
+}
+
 /// The bytes with these values at these places, and these bytes behind them.
 pub fn changed(
     alloc: Global,
@@ -61,12 +74,11 @@ pub fn changed(
     more: &[u8],
 ) -> Option<Vec<u8>> {
     let mut copy = Vec::from_slice(alloc, bytes).ok()?;
-    for (at, value) in changes {
-        let byte = copy.get_mut(*at)?;
-        *byte = *value;
+    change(&mut copy, changes);
+    match copy.extend_from_slice(more) {
+        Ok(()) => Some(copy),
+        Err(_) => None,
     }
-    copy.extend_from_slice(more).ok()?;
-    Some(copy)
 }
 
 /// Whether the bytes, changed so and with these behind them, have this fault first.
@@ -83,10 +95,10 @@ pub fn fails(
     }
 }
 
-/// The report with a tape of so many frames, its length written as 4,096.
+/// The report of a tape of so many frames, its length written as 4,096.
 pub fn long_report(alloc: Global, frames: usize) -> Option<Vec<u8>> {
-    let tape = vec![in alloc; 63u8; frames].ok()?;
-    let mut bytes = changed(alloc, REPORT_FRONT, &[], &[0x10, 0])?;
-    bytes.extend_from_slice(&tape).ok()?;
-    Some(bytes)
+    match vec![in alloc; 63u8; frames] {
+        Ok(tape) => changed(alloc, LONG_FRONT, &[], &tape),
+        Err(_) => None,
+    }
 }

@@ -1,48 +1,70 @@
 //! What packets say, and that each has one spelling.
 
 use crate::samples::{
-    ACCEPT, ACCEPTED, ALL, NACK, PREPARE, PROMISE, REPORT, changed, fault_of, long_report,
+    ACCEPT, ACCEPTED, ALL, NACK, PREPARE, PREPARE_OF_3, PROMISE, REPORT, changed, fault_of,
+    long_report,
 };
 use packets::{BodyRef, PacketFault, PacketRef, decode, encode};
 use std::alloc::Global;
 
 // The circuit, the sender, the addressee, the number, the round and its owner.
-fn header_of(bytes: &[u8]) -> Option<[u32; 6]> {
-    let packet = decode(bytes).ok()?;
+fn header_of(packet: &PacketRef<'_>) -> [u32; 6] {
     let ballot = packet.ballot();
-    Some([
+    [
         u32::from(packet.circuit()),
         u32::from(packet.from().get()),
         u32::from(packet.to().get()),
         packet.number().get(),
         ballot.round(),
         u32::from(ballot.owner().get()),
-    ])
+    ]
 }
 
-fn kind_of(bytes: &[u8]) -> Option<&'static str> {
-    let packet = decode(bytes).ok()?;
-    Some(match packet.body() {
+fn kind_of(body: &BodyRef<'_>) -> &'static str {
+    match body {
         BodyRef::Prepare => "prepare",
         BodyRef::Promise { report: None } => "promise",
         BodyRef::Promise { report: Some(_) } => "report",
         BodyRef::Accept { .. } => "accept",
         BodyRef::Accepted { .. } => "accepted",
         BodyRef::Nack { .. } => "nack",
-    })
+    }
 }
 
-// The round and the owner of the vote that is reported, where it is for this tape.
-fn reported(bytes: &[u8], tape: &[u8]) -> Option<(u32, u8)> {
-    let packet = decode(bytes).ok()?;
-    let BodyRef::Promise { report: Some(vote) } = packet.body() else {
-        return None;
-    };
-    let ballot = vote.ballot();
-    if vote.tape().frames() == tape {
-        Some((ballot.round(), ballot.owner().get()))
-    } else {
-        None
+fn says(bytes: &[u8], header: &[u32; 6], kind: &str) -> bool {
+    match decode(bytes) {
+        Ok(packet) => header_of(&packet) == *header && kind_of(packet.body()) == kind,
+        Err(_) => false,
+    }
+}
+
+// What each of the packets says.
+const SAID: &[(&[u8], [u32; 6], &str)] = &[
+    (PREPARE, [7, 1, 2, 12, 1, 1], "prepare"),
+    (PROMISE, [7, 2, 1, 12, 1, 1], "promise"),
+    (ACCEPT, [7, 1, 2, 12, 1, 1], "accept"),
+    (ACCEPTED, [7, 2, 1, 12, 1, 1], "accepted"),
+    (PREPARE_OF_3, [7, 3, 2, 12, 1, 3], "prepare"),
+    (REPORT, [7, 2, 3, 12, 1, 3], "report"),
+    (NACK, [7, 2, 1, 12, 1, 1], "nack"),
+];
+
+// Whether a vote at this ballot for this tape is reported.
+fn is_reported(body: &BodyRef<'_>, round: u32, owner: u8, tape: &[u8]) -> bool {
+    match body {
+        BodyRef::Promise { report: Some(vote) } => {
+            vote.ballot().round() == round
+                && vote.ballot().owner().get() == owner
+                && vote.tape().frames() == tape
+        }
+        _ => false,
+    }
+}
+
+fn reports(bytes: &[u8], round: u32, owner: u8, tape: &[u8]) -> bool {
+    match decode(bytes) {
+        Ok(packet) => is_reported(packet.body(), round, owner, tape),
+        Err(_) => false,
     }
 }
 
@@ -72,79 +94,90 @@ fn comes_again(alloc: Global, bytes: &[u8]) -> bool {
     }
 }
 
-// The length of the first front that does not end too soon.
-fn whole_front(bytes: &[u8]) -> Option<usize> {
+// Whether each front ends too soon.
+fn fronts_are_short(bytes: &[u8]) -> bool {
     for len in 0..bytes.len() {
         if fault_of(&bytes[..len]) != Some(PacketFault::Short) {
-            return Some(len);
+            return false;
         }
     }
-    None
+    true
 }
 
-fn fault_of_more(alloc: Global, bytes: &[u8]) -> Option<PacketFault> {
-    fault_of(&changed(alloc, bytes, &[], &[0])?)
-}
-
-// Whether the bytes with this value there, if they are a packet, are its spelling.
-fn is_one(alloc: Global, bytes: &[u8], at: usize, value: u8) -> Option<bool> {
-    let other = changed(alloc, bytes, &[(at, value)], &[])?;
-    match decode(&other) {
-        Ok(packet) => Some(is_spelled(alloc, &packet, &other)),
-        Err(_) => Some(true),
+fn more_is_long(alloc: Global, bytes: &[u8]) -> bool {
+    match changed(alloc, bytes, &[], &[0]) {
+        Some(more) => fault_of(&more) == Some(PacketFault::Long),
+        None => false,
     }
 }
 
-const KINDS: &[(&[u8], &str)] = &[
-    (PREPARE, "prepare"),
-    (PROMISE, "promise"),
-    (ACCEPT, "accept"),
-    (ACCEPTED, "accepted"),
-    (REPORT, "report"),
-    (NACK, "nack"),
-];
+// Whether the bytes, if they are a packet, are its spelling.
+fn is_one(alloc: Global, bytes: &[u8]) -> bool {
+    match decode(bytes) {
+        Ok(packet) => is_spelled(alloc, &packet, bytes),
+        Err(_) => true,
+    }
+}
+
+fn is_one_with(alloc: Global, bytes: &[u8], at: usize, value: u8) -> bool {
+    match changed(alloc, bytes, &[(at, value)], &[]) {
+        Some(other) => is_one(alloc, &other),
+        None => false,
+    }
+}
+
+// Whether it is so with any byte set to 0 or to 255.
+fn are_ones(alloc: Global, bytes: &[u8]) -> bool {
+    for at in 0..bytes.len() {
+        if !is_one_with(alloc, bytes, at, 0) || !is_one_with(alloc, bytes, at, 0xff) {
+            return false;
+        }
+    }
+    true
+}
+
+// The first of these that does not hold: the packet comes again, its fronts are too short, a byte more is one too many,
+// and what its bytes become where one is changed is no other packet's spelling.
+fn wrong(alloc: Global, bytes: &[u8]) -> u32 {
+    if !comes_again(alloc, bytes) {
+        return 1;
+    }
+    if !fronts_are_short(bytes) {
+        return 2;
+    }
+    if !more_is_long(alloc, bytes) {
+        return 3;
+    }
+    if !are_ones(alloc, bytes) {
+        return 4;
+    }
+    0
+}
 
 #[test]
 fn fields(rt: HostRuntime) {
-    assert!(rt; header_of(REPORT) == Some([7, 2, 3, 12, 1, 3]));
-    assert!(rt; reported(REPORT, &[1, 2, 4]) == Some((1, 1)));
-    for (bytes, kind) in KINDS {
-        assert!(rt; kind_of(bytes) == Some(*kind));
+    for (bytes, header, kind) in SAID {
+        assert!(rt; says(bytes, header, kind));
     }
+    assert!(rt; reports(REPORT, 1, 1, &[1, 2, 4]));
 }
 
 #[test]
-fn same_bytes(rt: HostRuntime) {
+fn one_spelling(rt: HostRuntime) {
     for bytes in ALL {
-        assert!(rt; comes_again(rt.alloc(), bytes));
-    }
-}
-
-#[test]
-fn fronts_and_more(rt: HostRuntime) {
-    for bytes in ALL {
-        assert!(rt; whole_front(bytes).is_none());
-        assert!(rt; fault_of_more(rt.alloc(), bytes) == Some(PacketFault::Long));
-    }
-}
-
-#[test]
-fn each_byte_changed(rt: HostRuntime) {
-    for bytes in ALL {
-        for at in 0..bytes.len() {
-            assert!(rt; is_one(rt.alloc(), bytes, at, 0) == Some(true));
-            assert!(rt; is_one(rt.alloc(), bytes, at, 0xff) == Some(true));
-        }
+        assert!(rt; wrong(rt.alloc(), bytes) == 0);
     }
 }
 
 // The longest packet's length, where it comes again.
 fn longest(alloc: Global) -> Option<usize> {
-    let bytes = long_report(alloc, 4096)?;
-    if comes_again(alloc, &bytes) {
-        Some(bytes.len())
-    } else {
-        None
+    match long_report(alloc, 4096) {
+        Some(bytes) => if comes_again(alloc, &bytes) {
+            Some(bytes.len())
+        } else {
+            None
+        },
+        None => None,
     }
 }
 

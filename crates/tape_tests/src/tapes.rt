@@ -8,44 +8,83 @@ fn fault_of(alloc: Global, bytes: &[u8]) -> Option<TapeFault> {
 }
 
 fn fault_of_zeros(alloc: Global, len: usize) -> Option<TapeFault> {
-    let zeros = vec![in alloc; 0u8; len].ok()?;
-    fault_of(alloc, &zeros)
+    match vec![in alloc; 0u8; len] {
+        Ok(zeros) => fault_of(alloc, &zeros),
+        Err(_) => None,
+    }
 }
 
 // Whether a copy is the same tape.
-fn copies(alloc: Global, bytes: &[u8]) -> Option<bool> {
-    let tape = Tape::from_bytes(alloc, bytes).ok()?;
-    let copy = tape.copy(alloc).ok()?;
-    Some(copy.same(tape.lend()))
+fn copies(alloc: Global, tape: &Tape) -> bool {
+    match tape.copy(alloc) {
+        Ok(copy) => copy.same(tape.lend()),
+        Err(_) => false,
+    }
 }
 
-// How many frames a tape of so many has, where a copy of it has these frames.
-fn length_of_copy(alloc: Global, len: usize) -> Option<usize> {
-    let frames = vec![in alloc; 63u8; len].ok()?;
-    let copy = TapeRef::from_bytes(&frames).ok()?.copy(alloc).ok()?;
-    if copy.frames() == frames.as_slice() {
-        Some(copy.len())
-    } else {
-        None
+fn is_copied(alloc: Global, bytes: &[u8]) -> bool {
+    match Tape::from_bytes(alloc, bytes) {
+        Ok(tape) => copies(alloc, &tape),
+        Err(_) => false,
+    }
+}
+
+// Whether a lent tape's copy has these frames.
+fn has_frames(alloc: Global, tape: &TapeRef<'_>, frames: &[u8]) -> bool {
+    match tape.copy(alloc) {
+        Ok(copy) => copy.len() == frames.len() && copy.frames() == frames,
+        Err(_) => false,
+    }
+}
+
+fn is_lent(alloc: Global, frames: &[u8]) -> bool {
+    match TapeRef::from_bytes(frames) {
+        Ok(tape) => tape.len() == frames.len() && has_frames(alloc, &tape, frames),
+        Err(_) => false,
+    }
+}
+
+fn is_lent_long(alloc: Global, len: usize) -> bool {
+    match vec![in alloc; 63u8; len] {
+        Ok(frames) => is_lent(alloc, &frames),
+        Err(_) => false,
+    }
+}
+
+// The first of the faults that is another.
+fn wrong_fault(alloc: Global) -> u32 {
+    if fault_of(alloc, &[]) != Some(TapeFault::Empty) {
+        return 1;
+    }
+    if fault_of(alloc, &[1, 0x40]) != Some(TapeFault::BadFrame { at: 1 }) {
+        return 2;
+    }
+    if fault_of_zeros(alloc, 4097) != Some(TapeFault::TooLong { len: 4097 }) {
+        return 3;
+    }
+    0
+}
+
+#[test]
+fn faults(rt: HostRuntime) {
+    assert!(rt; wrong_fault(rt.alloc()) == 0);
+}
+
+// One frame, and the most that a tape has.
+#[test]
+fn copied(rt: HostRuntime) {
+    assert!(rt; is_copied(rt.alloc(), &[1]));
+    assert!(rt; is_lent_long(rt.alloc(), 4096));
+}
+
+fn has_holes(frame: u8, row: &[u8]) -> bool {
+    match holes(frame) {
+        Some(holes) => holes.as_slice() == row,
+        None => false,
     }
 }
 
 #[test]
-fn from_bytes(rt: HostRuntime) {
-    assert!(rt; fault_of(rt.alloc(), &[]) == Some(TapeFault::Empty));
-    assert!(rt; fault_of(rt.alloc(), &[1, 0x40]) == Some(TapeFault::BadFrame { at: 1 }));
-    assert!(rt; copies(rt.alloc(), &[1]) == Some(true));
-}
-
-#[test]
-fn most_frames(rt: HostRuntime) {
-    assert!(rt; length_of_copy(rt.alloc(), 4096) == Some(4096));
-    assert!(rt; fault_of_zeros(rt.alloc(), 4097) == Some(TapeFault::TooLong { len: 4097 }));
-}
-
-#[test]
 fn levels(rt: HostRuntime) {
-    assert!(rt; holes(5) == Some(*b"o.o..."));
-    assert!(rt; holes(63) == Some(*b"oooooo"));
-    assert!(rt; holes(64).is_none());
+    assert!(rt; has_holes(5, b"o.o...") && has_holes(63, b"oooooo") && holes(64).is_none());
 }
