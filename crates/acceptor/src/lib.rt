@@ -8,6 +8,3 @@ mod runs;
 pub use answer::{AcceptAnswer, PrepareAnswer, accept, prepare};
 pub use request::{Reply, Request};
 pub use runs::run;
-
-#[cfg(test)]
-mod tests;

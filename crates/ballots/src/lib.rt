@@ -15,6 +15,3 @@ pub use member::Member;
 pub use number::Number;
 pub use row::Row;
 pub use vote::{Vote, VoteRef};
-
-#[cfg(test)]
-mod tests;

@@ -5,6 +5,3 @@ mod heard;
 pub mod laws;
 
 pub use heard::Heard;
-
-#[cfg(test)]
-mod tests;

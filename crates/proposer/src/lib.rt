@@ -8,6 +8,3 @@ mod proposal;
 
 pub use answer::{BeginRefusal, Counted, DueAnswer};
 pub use proposal::Proposal;
-
-#[cfg(test)]
-mod tests;

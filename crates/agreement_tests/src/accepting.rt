@@ -1,0 +1,135 @@
+//! Worked runs of an acceptor.
+
+use crate::rows::{At, Frames, ballot, parts};
+use acceptor::{Reply, Request, run};
+use fixtures::{FLOOD, LIGATURE};
+use std::alloc::Global;
+use tape_frames::Tape;
+
+/// What an acceptor is asked.
+#[derive(Clone, Copy)]
+enum Asked {
+    Prepare(At),
+    Accept(At, Frames),
+}
+
+/// What it has to say.
+#[derive(Clone, Copy)]
+enum Said {
+    Promise,
+    Report(At, Frames),
+    Nack(At),
+    Voted,
+    Again,
+}
+
+/// Requests and their replies, and the promise that stands after them.
+struct Story {
+    name: &'static str,
+    steps: &'static [(Asked, Said)],
+    promised: At,
+}
+
+fn request(alloc: Global, asked: Asked) -> Option<Request> {
+    match asked {
+        Asked::Prepare(at) => Some(Request::Prepare {
+            ballot: ballot(at)?,
+        }),
+        Asked::Accept(at, frames) => Some(Request::Accept {
+            ballot: ballot(at)?,
+            tape: Tape::from_bytes(alloc, frames).ok()?,
+        }),
+    }
+}
+
+fn requests(alloc: Global, steps: &[(Asked, Said)]) -> Option<Vec<Request>> {
+    let mut requests = Vec::new(alloc);
+    for (asked, _) in steps {
+        requests.push(request(alloc, *asked)?).ok()?;
+    }
+    Some(requests)
+}
+
+/// Whether the reply says so.
+fn says(reply: &Reply, said: Said) -> bool {
+    match (reply, said) {
+        (Reply::Promise { report: None }, Said::Promise) => true,
+        (Reply::Promise { report: Some(vote) }, Said::Report(voted, frames)) => {
+            parts(vote.ballot()) == voted && vote.tape().frames() == frames
+        }
+        (Reply::Nack { promised }, Said::Nack(above)) => parts(*promised) == above,
+        (Reply::Voted, Said::Voted) => true,
+        (Reply::Again, Said::Again) => true,
+        _ => false,
+    }
+}
+
+/// How many of the replies say so, up to the first that doesn't.
+fn as_told(replies: &[Reply], steps: &[(Asked, Said)]) -> usize {
+    for (place, (reply, step)) in replies.iter().zip(steps).enumerate() {
+        if !says(reply, step.1) {
+            return place;
+        }
+    }
+    replies.len()
+}
+
+/// Whether a run of the requests is as the story tells.
+fn is_true(alloc: Global, story: &Story) -> bool {
+    let Some(requests) = requests(alloc, story.steps) else {
+        return false;
+    };
+    match run(alloc, &requests) {
+        Err(_) => false,
+        Ok((row, replies)) => {
+            replies.len() == story.steps.len()
+                && as_told(&replies, story.steps) == story.steps.len()
+                && row.promised().map(parts) == Some(story.promised)
+        }
+    }
+}
+
+const STORIES: &[Story] = &[
+    Story {
+        name: "a later prepare learns the vote",
+        steps: &[
+            (Asked::Accept((1, 1), FLOOD), Said::Voted),
+            (Asked::Prepare((1, 3)), Said::Report((1, 1), FLOOD)),
+        ],
+        promised: (1, 3),
+    },
+    Story {
+        name: "the first vote at a ballot stands",
+        steps: &[
+            (Asked::Accept((1, 1), FLOOD), Said::Voted),
+            (Asked::Accept((1, 1), LIGATURE), Said::Again),
+            (Asked::Prepare((1, 3)), Said::Report((1, 1), FLOOD)),
+        ],
+        promised: (1, 3),
+    },
+    Story {
+        name: "a promise refuses what is below",
+        steps: &[
+            (Asked::Prepare((1, 3)), Said::Promise),
+            (Asked::Accept((1, 1), FLOOD), Said::Nack((1, 3))),
+            (Asked::Prepare((2, 1)), Said::Promise),
+        ],
+        promised: (2, 1),
+    },
+    Story {
+        name: "the greatest vote is reported",
+        steps: &[
+            (Asked::Accept((1, 1), FLOOD), Said::Voted),
+            (Asked::Accept((1, 3), LIGATURE), Said::Voted),
+            (Asked::Prepare((2, 2)), Said::Report((1, 3), LIGATURE)),
+        ],
+        promised: (2, 2),
+    },
+];
+
+#[test]
+fn runs(rt: HostRuntime) {
+    for story in STORIES {
+        assert!(rt; is_true(rt.alloc(), story), "{}", story.name);
+    }
+}

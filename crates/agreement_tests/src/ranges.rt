@@ -1,0 +1,147 @@
+//! Members, numbers, ballots, majorities and saved rows.
+
+use crate::rows::{At, ballot, parts};
+use ballots::{Ballot, Member, Number, Row, Vote, majority};
+use fixtures::FLOOD;
+use std::alloc::Global;
+use tape_frames::Tape;
+
+const MEMBERS: &[(u8, bool)] = &[(0, false), (15, true), (16, false)];
+
+const NUMBERS: &[(u32, bool)] = &[(0, false), (999_999, true), (1_000_000, false)];
+
+const BALLOTS: &[(At, bool)] = &[((0, 1), false), ((4_294_967_295, 15), true)];
+
+/// Whether each value of the three tables is one, or isn't, as told.
+fn are_as_told() -> bool {
+    for (value, is_one) in MEMBERS {
+        if Member::new(*value).is_some() != *is_one {
+            return false;
+        }
+    }
+    for (value, is_one) in NUMBERS {
+        if Number::new(*value).is_some() != *is_one {
+            return false;
+        }
+    }
+    for (value, is_one) in BALLOTS {
+        if ballot(*value).is_some() != *is_one {
+            return false;
+        }
+    }
+    true
+}
+
+#[test]
+fn ranges(rt: HostRuntime) {
+    assert!(rt; are_as_told());
+}
+
+/// Whether member 2's ballot after the one that was seen is this.
+fn follows(seen: Option<At>, next: Option<At>) -> bool {
+    let Some(me) = Member::new(2) else {
+        return false;
+    };
+    let after = match seen {
+        None => Ballot::next(None, me),
+        Some(seen) => match ballot(seen) {
+            None => return false,
+            Some(seen) => Ballot::next(Some(seen), me),
+        },
+    };
+    match (after, next) {
+        (None, None) => true,
+        (Some(after), Some(next)) => parts(after) == next,
+        _ => false,
+    }
+}
+
+const ROUNDS: &[(Option<At>, Option<At>)] = &[
+    (None, Some((1, 2))),
+    (Some((1, 3)), Some((2, 2))),
+    (Some((4_294_967_295, 2)), None),
+    (Some((4_294_967_294, 15)), Some((4_294_967_295, 2))),
+];
+
+#[test]
+fn rounds(rt: HostRuntime) {
+    for (seen, next) in ROUNDS {
+        assert!(rt; follows(*seen, *next));
+    }
+}
+
+/// Whether the ballot is written so.
+fn is_written(alloc: Global, value: At, text: &str) -> bool {
+    let Some(ballot) = ballot(value) else {
+        return false;
+    };
+    match format!(in alloc; "{ballot}") {
+        Ok(written) => written.as_str() == text,
+        Err(_) => false,
+    }
+}
+
+const TEXTS: &[(At, &str)] = &[((2, 1), "2.1"), ((4_294_967_295, 15), "4294967295.15")];
+
+#[test]
+fn texts(rt: HostRuntime) {
+    for (value, text) in TEXTS {
+        assert!(rt; is_written(rt.alloc(), *value, text), "{text}");
+    }
+}
+
+const MAJORITIES: &[(u8, u8, bool)] = &[
+    (1, 2, false),
+    (2, 3, true),
+    (1, 1, true),
+    (7, 15, false),
+    (8, 15, true),
+];
+
+#[test]
+fn majorities(rt: HostRuntime) {
+    for (count, members, is_majority) in MAJORITIES {
+        assert!(rt;
+            majority(*count, *members) == *is_majority,
+            "{count} of {members}"
+        );
+    }
+}
+
+/// A copy of a vote for the flood story at 1.1.
+fn vote(alloc: Global) -> Option<Vote> {
+    let tape = Tape::from_bytes(alloc, FLOOD).ok()?;
+    Vote::new(ballot((1, 1))?, tape).copy(alloc).ok()
+}
+
+/// Whether the vote makes no row without a promise.
+fn is_refused(alloc: Global) -> bool {
+    match vote(alloc) {
+        None => false,
+        Some(vote) => Row::new(None, Some(vote)).is_none(),
+    }
+}
+
+/// A copy of the row with the vote and a promise of 1.3.
+fn row(alloc: Global) -> Option<Row> {
+    let row = Row::new(Some(ballot((1, 3))?), Some(vote(alloc)?))?;
+    row.copy(alloc).ok()
+}
+
+/// Whether that row has this promise, and the vote at this ballot.
+fn holds(alloc: Global, promised: At, voted: At) -> bool {
+    let Some(row) = row(alloc) else {
+        return false;
+    };
+    let vote_stands = match row.vote() {
+        None => false,
+        Some(vote) => parts(vote.ballot()) == voted && vote.tape().frames() == FLOOD,
+    };
+    vote_stands && row.promised().map(parts) == Some(promised)
+}
+
+#[test]
+fn saved_rows(rt: HostRuntime) {
+    assert!(rt; is_refused(rt.alloc()));
+    assert!(rt; holds(rt.alloc(), (1, 3), (1, 1)));
+}
