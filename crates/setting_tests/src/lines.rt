@@ -10,34 +10,24 @@ pub fn lines_of(alloc: Global, job: &Job) -> Result<Vec<Line>, ReadFault> {
     read_lines(alloc, &job.table, &job.widths, &job.tape)
 }
 
-/// What stands in a line.
-#[derive(Clone, Copy)]
-enum Stands {
-    /// A matrix by its name, on the rail, of this width.
-    Matrix(&'static str, Rail, u16),
-    Band,
-    Space(u16),
-}
+/// What stands in a line: the name of a matrix, or the word of another item; its rail; and its width, where it has one.
+type Stands = (&'static str, Rail, u16);
 
 /// A line: what stands in it, its quad, and the position of the elevate code that cuts it.
 type Row = (&'static [Stands], Option<Quad>, u32);
 
-fn is_item(item: &Item, row: &Stands) -> bool {
-    match row {
-        Stands::Matrix(text, on, units) => match item {
-            Item::Matrix { name, rail, width } => name.as_str() == *text
-                && rail == on
-                && width == units,
-            _ => false,
-        },
-        Stands::Band => matches!(item, Item::Band),
-        Stands::Space(units) => matches!(item, Item::Space { width } if width == units),
+/// What stands there, as the rows have it. No name of a matrix begins as the words do.
+fn parts_of(item: &Item) -> (&str, Rail, u16) {
+    match item {
+        Item::Matrix { name, rail, width } => (name.as_str(), *rail, *width),
+        Item::Band => ("@spaceband", Rail::Lower, 0),
+        Item::Space { width } => ("@space", Rail::Lower, *width),
     }
 }
 
 fn are_items(items: &[Item], rows: &[Stands]) -> bool {
     for (item, row) in items.iter().zip(rows) {
-        if !is_item(item, row) {
+        if parts_of(item) != *row {
             return false;
         }
     }
@@ -68,27 +58,22 @@ fn reads(alloc: Global, frames: &[u8], rows: &[Row]) -> bool {
     }
 }
 
-const A: Stands = Stands::Matrix("a", Rail::Lower, 5);
+const A: Stands = ("a", Rail::Lower, 5);
 
-const B: Stands = Stands::Matrix("b", Rail::Lower, 6);
+const B: Stands = ("b", Rail::Lower, 6);
+
+const BAND: Stands = ("@spaceband", Rail::Lower, 0);
 
 /// Frames and their lines.
 const LINES: &[(&[u8], &[Row])] = &[
-    (
-        FLOOD,
-        &[(&[A, B, Stands::Band, A, Stands::Band, B], None, 6)],
-    ),
+    (FLOOD, &[(&[A, B, BAND, A, BAND, B], None, 6)]),
     // the case and the rail go on over an elevate code
     (
         &[5, 8, 2, 7, 4, 1, 11, 10, 4],
         &[
+            (&[("B", Rail::Upper, 9)], Some(Quad::Center), 4),
             (
-                &[Stands::Matrix("B", Rail::Upper, 9)],
-                Some(Quad::Center),
-                4,
-            ),
-            (
-                &[Stands::Matrix("A", Rail::Upper, 8), Stands::Space(10)],
+                &[("A", Rail::Upper, 8), ("@space", Rail::Lower, 10)],
                 Some(Quad::Right),
                 8,
             ),

@@ -9,22 +9,24 @@ use slug_reader::Line;
 use std::alloc::Global;
 use widths::Widths;
 
-/// What setting these frames answers, where the ligature has a width or not.
-fn setting_of(alloc: Global, ligature: bool, frames: &[u8]) -> Option<Result<Vec<Slug>, SetError>> {
-    let job = Job::new(alloc, ligature, frames)?;
-    Some(set(alloc, &job.table, &job.widths, &job.tape))
+/// The slugs of a tape.
+fn set_job(alloc: Global, job: &Job) -> Result<Vec<Slug>, SetError> {
+    set(alloc, &job.table, &job.widths, &job.tape)
 }
 
 /// The slugs of these frames.
 pub fn slugs_of(alloc: Global, frames: &[u8]) -> Option<Vec<Slug>> {
-    setting_of(alloc, true, frames)?.ok()
+    match Job::new(alloc, true, frames) {
+        Some(job) => set_job(alloc, &job).ok(),
+        None => None,
+    }
 }
 
-/// Whether this is the fault of these frames.
+/// Whether this is the fault of these frames, where the ligature has a width or not.
 fn has_fault(alloc: Global, ligature: bool, frames: &[u8], fault: SetFault) -> bool {
-    match setting_of(alloc, ligature, frames) {
-        Some(Err(found)) => found == SetError::Fault(fault),
-        _ => false,
+    match Job::new(alloc, ligature, frames) {
+        Some(job) => set_job(alloc, &job).err() == Some(SetError::Fault(fault)),
+        None => false,
     }
 }
 
@@ -72,6 +74,7 @@ fn slug_of(alloc: Global, frames: &[u8]) -> Option<Slug> {
     }
 }
 
+/// The width of a piece.
 fn units_of(piece: &Piece) -> u16 {
     match piece {
         Piece::Matrix { width, .. } | Piece::Band { width } | Piece::Space { width } => *width,
