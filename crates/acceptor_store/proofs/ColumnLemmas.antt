@@ -1,5 +1,5 @@
 -- A row comes back out of its columns.
-use Rattle.std.proofs.Common.{◌≡◌, ◌<◌, ◌≤◌, ◌^◌, ◌==◌, ◌+◌, ℕ, pos, Bool, true, false, cond, List, [], ◌∷◌, length, Option, Some, None, option_map, unwrap_or, true≢false, IfSome, IsSome, nat_lt, refl, sym, ap, subst, ◌∙◌, arith, inl, inr}
+use Rattle.std.proofs.Common.{◌≡◌, ◌<◌, ◌≤◌, ◌^◌, ◌==◌, ◌+◌, ℕ, pos, Bool, true, false, cond, List, [], ◌∷◌, length, Option, Some, None, option_map, unwrap_or, true≢false, IfSome, IsSome, nat_lt, nat_le, refl, sym, ap, subst, ◌∙◌, arith, inl, inr}
 use Rattle.std.specs.List.{AllByRecursion, position_from}
 use Rattle.std.proofs.lemmas.Bool.Decides.{Decides-ltb, Decides-eqb, same_from_decides}
 use Rattle.std.proofs.lemmas.Bool.{le-leb, cases_Bool}
@@ -43,7 +43,7 @@ no_fault frames h = rw (is_some_length (length frames) h.some, not_below 4096 (l
 pub back_with : (p : Ballot) (vote : Option Vote) → IsBallot p → IfSome vote (λ v. IsBallot v.ballot × IsTape v.tape) → may_stand (Some p) vote ≡ true
     → row_in 0 (columns_with (Some p) vote) ≡ Some (row_of p vote)
 back_with p None promise none stands = rw (a_ballot p promise) refl
-back_with p (Some v) promise voted stands = rw (a_ballot p promise, a_ballot v.ballot voted.0, no_fault v.tape voted.1, stands) refl
+back_with p (Some v) promise voted stands = rw (a_ballot p promise, a_ballot v.ballot voted.0, le-leb (length v.tape) 4096 voted.1.few, no_fault v.tape voted.1, stands) refl
 
 -- ---- after a save
 

@@ -24,6 +24,7 @@ identity_from (Some layout) (Some circuit) (Some member) (Some members) =
     then Some (record { circuit = circuit; member = member; members = members })
     else None
 
+-- the identity that the four columns of a station are
 abbrev pub identity_of : Columns → Option Identity
 identity_of r = identity_from (whole_in (column r 0)) (whole_in (column r 1)) (whole_in (column r 2)) (whole_in (column r 3))
 

@@ -23,6 +23,7 @@ WithRow old number row new = (n : ℕ) → new n ≡ with_row old number row n
 abbrev pub IsEither : Saved → ℕ → Row → Saved → Type 0
 IsEither old number row new = SameRows old new ⊎ WithRow old number row new
 
+-- the row that is there, or the blank one
 abbrev pub or_blank : Option Row → Row
 or_blank None = blank
 or_blank (Some row) = row
@@ -31,10 +32,11 @@ or_blank (Some row) = row
 abbrev pub Rises : ℕ → ℕ → Type 0
 Rises old new = (old < new) ⊎ (2 ^ 64 - 1 ≤ old)
 
+-- the acceptor has promised a ballot
 abbrev pub HasPromise : Row → Type 0
 HasPromise row = IsSome row.promised
 
--- the row under a number in a list of numbers and rows
+-- the map that a list of numbers and rows is: the first row under a number
 abbrev pub saved_by : List (ℕ × Row) → Saved
 saved_by [] n = blank
 saved_by (p ∷ ps) n = if n == p.0 then p.1 else saved_by ps n

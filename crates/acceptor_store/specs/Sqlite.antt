@@ -32,6 +32,7 @@ pub record SqliteOf (S : Type 0) : Type 0 where
   pub stopped : Bool
   pub refusals : ℕ
 
+-- its fields, one after another
 abbrev pub sqlite_code : {S : Type 0} → Coded S → Coded (SqliteOf S)
 sqlite_code {S} store =
     code_by (Held S × (Identity × (Bool × (Option Schema × (Bool × ℕ)))))
@@ -40,7 +41,7 @@ sqlite_code {S} store =
     (λ p. record { conn = p.0; identity = p.1.0; alone = p.1.1.0; found = p.1.1.1.0; stopped = p.1.1.1.1.0; refusals = p.1.1.1.1.1 })
     (λ _. refl)
 
--- the tables are those that `create` makes, and no others
+-- what the store owes: the tables are those that `create` makes, and no others
 abbrev pub IsOurs : Bool → Option Schema → Type 0
 IsOurs alone found = IsTrue alone × IfSome found (λ schema. schema ≡ row_schema)
 
@@ -78,21 +79,23 @@ RefusesToOpen given trees WrongStation = (i : Identity) × (wanted : Identity) �
 RefusesToOpen given trees (Damaged number) = (i : Identity) × (stored_identity trees ≡ Some i) × Agrees given i × Lists trees (λ rows. damage_in rows ≡ Some number)
 
 module _ {S : Type 0} (g : Ghosts S) where
-  -- the disk has returned what was written
+  -- what the host owes: so far the disk has returned what was written, so nobody else wrote there
   abbrev pub IsHonest : SqliteOf S → Type 0
   IsHonest s = HasCleanDisk (state g s.conn)
 
-  -- the tables are those that were made, and the disk has returned what was written
+  -- both: the tables are those that were made, and the disk has returned what was written
   abbrev pub IsKept : SqliteOf S → Type 0
   IsKept s = IsHonest s × IsOurs s.alone s.found
 
-  -- of a stopped one the fault is the store's; and a kept one blames no row
+  -- which fault a refused call answers: stopped rows their own, and kept rows none that speaks of a row
   abbrev pub Blames : SqliteOf S → SqliteOf S → RowsFault → Type 0
   Blames old new fault = (IsTrue old.stopped → fault ≡ Store) × (IsKept new → IsRefusal fault)
 
+  -- no failure has shut the connection
   abbrev pub IsOpen : SqliteOf S → Type 0
   IsOpen s = IsTrue (state g s.conn).is_open
 
+  -- the map that the database holds now
   abbrev pub saved_of : SqliteOf S → Saved
   saved_of s = saved_in (state g s.conn).now.trees
 
@@ -105,5 +108,6 @@ module _ {S : Type 0} (g : Ghosts S) where
     pub serves : Serves (state g conn)
     pub holds : HasCleanDisk (state g conn) → IsTrue (state g conn).is_open → HoldsRows i (state g conn).now.trees
 
+  -- where the tables are those that were made, the connection stands on them
   abbrev pub IsServing : Held S → Identity → Bool → Option Schema → Type 0
   IsServing conn i alone found = IsOurs alone found → Stands conn i

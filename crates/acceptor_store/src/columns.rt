@@ -4,7 +4,7 @@ ghost use Rattle.std.specs.Prelude.{◌≡◌, ◌≤◌, IfOk, option_map, Some
 ghost use Rattle.std.specs.List.{filter_map};
 ghost use Rattle.sqlite_value.specs.Value.{owned};
 ghost use Rattle.sqlite_value.specs.Order.{column};
-ghost use Rattle.acceptor_store.specs.Columns.{whole_in, ballot_from, tape_in, is_null, vote_in, row_of, row_in, damage_of, damage_in, item_in, columns_for};
+ghost use Rattle.acceptor_store.specs.Columns.{whole_in, ballot_from, stored_tape, tape_in, is_null, vote_in, row_of, row_in, damage_of, damage_in, item_in, columns_for};
 ghost use Rattle.row_table.specs.Rows.{columns_of};
 ghost use Rattle.acceptor_store.specs.Saved.{HasPromise};
 
@@ -13,6 +13,10 @@ use sqlite::types::ValueRef;
 use std::alloc::{AllocError, Global};
 use tape_frames::TapeRef;
 
+/// The most frames of a tape that a row of layout 1 holds.
+const MOST_FRAMES: usize = 4096;
+
+/// What stands in a column; null where there is no such column.
 pub(crate) fn value_at(columns: &sqlite::Row, at: usize) -> ValueRef<'_>
     ensures { owned result ≡ column columns.now at }
 {
@@ -38,6 +42,7 @@ pub(crate) fn whole_in(value: ValueRef<'_>) -> Option<u32>
     }
 }
 
+/// The ballot of a round and an owner; `None` where they are no ballot.
 fn ballot_from(round: Option<u32>, owner: Option<u32>) -> Option<Ballot>
     ensures { result ≡ ballot_from round owner }
 {
@@ -50,19 +55,30 @@ fn ballot_from(round: Option<u32>, owner: Option<u32>) -> Option<Ballot>
     }
 }
 
+/// The tape of these frames, lent; `None` where they are none, or more than layout 1 holds.
+fn stored_tape(frames: &[u8]) -> Option<TapeRef<'_>>
+    ensures { result ≡ stored_tape frames.now }
+{
+    if frames.len() > MOST_FRAMES {
+        return None;
+    }
+    match TapeRef::from_bytes(frames) {
+        Ok(tape) => Some(tape),
+        Err(_) => None,
+    }
+}
+
 /// The tape in a column, lent.
 fn tape_in(value: ValueRef<'_>) -> Option<TapeRef<'_>>
     ensures { result ≡ tape_in (owned value.entry) }
 {
     match value {
-        ValueRef::Blob(frames) => match TapeRef::from_bytes(frames) {
-            Ok(tape) => Some(tape),
-            Err(_) => None,
-        },
+        ValueRef::Blob(frames) => stored_tape(frames),
         _ => None,
     }
 }
 
+/// Whether a column holds nothing.
 fn is_null(value: &ValueRef<'_>) -> bool
     ensures { result ≡ is_null (owned value.now) }
 {
@@ -126,6 +142,7 @@ pub(crate) fn row_in(
     Ok(Row::new(Some(promise), vote))
 }
 
+/// The key of a row of the listing, where it is no circuit number or its columns are no row.
 fn damage_of(row: &sqlite::Row) -> Option<i64>
     ensures { result ≡ damage_of (column row.now 0) (row_in 1 row.now) }
 {
@@ -151,6 +168,7 @@ pub(crate) fn damage_in(rows: &[sqlite::Row]) -> Option<i64>
     None
 }
 
+/// The number and the row that a row of the listing is.
 fn item_in(alloc: Global, row: &sqlite::Row) -> Result<Option<(Number, Row)>, AllocError>
     ensures { IfOk result (λ item. item ≡ item_in row.now) }
 {

@@ -13,6 +13,7 @@ pub struct Identity {
     pub members: u8,
 }
 
+/// The identity that the columns of a station are; `None` where the layout is not 1 or a number is out of range.
 fn identity_of(row: &sqlite::Row) -> Option<Identity>
     ensures { result ≡ identity_of row.now }
 {

@@ -10,14 +10,19 @@ use ballots::{Number, Row};
 
 /// A finite map from numbers to rows, blank where none is saved, with a count of the calls that it refused.
 /// It is the stable storage of an acceptor (Lamport 2001): what `put` saved, a later `get` finds.
+///
+/// The clauses on the map speak of rows that are kept, which has two halves. The store owes the one: what the
+/// rows lie in, as the tables of a database, was made for them; rows that begin so stay so through each call.
+/// The host owes the other: nobody else writes there, and what was written is read back. No call can give
+/// that, so it is asked of the rows as a call leaves them, and then it held before.
 pub trait Rows: Drop {
-    // The store's half: what it stands on was made for it. A call leaves it so.
+    // What the store owes: what the rows lie in was made for them.
     ghost made: { Self → Type 0 };
 
-    // The host's half: nobody else wrote to it, and it reads back what was written.
+    // What the host owes: so far nobody else wrote there, and what was written was read back.
     ghost honest: { Self → Type 0 };
 
-    // Both halves.
+    // Both, as `halves` says below.
     ghost kept: { Self → Type 0 };
 
     // No failure has shut it.
@@ -37,7 +42,7 @@ pub trait Rows: Drop {
 
     ghost tells: { Self → Self → ℕ → RowValue → Type 0 } = { λ _ _ _ _. Unit {0} };
 
-    // What it says of the fault that a refused call answered.
+    // Which fault a refused call answers, for such a caller.
     ghost blames: { Self → Self → FaultValue → Type 0 } = { λ _ _ _. Unit {0} };
 
     /// The row of a number, blank where none is saved. No row is changed.
@@ -54,7 +59,7 @@ pub trait Rows: Drop {
         ensures counts { refusals self.old ≤ refusals self.new }
         ensures blames { IfErr result (blames self.old self.new) }
 
-        // What was made for it stays so.
+        // The store's half, told forwards: rows that lie in what was made for them stay there.
         ensures made { made self.old → made self.new }
 
         // What held as the call ended held before.
@@ -79,13 +84,13 @@ pub trait Rows: Drop {
         ensures counts { refusals self.old ≤ refusals self.new }
         ensures blames { IfErr result (blames self.old self.new) }
 
-        // What was made for it stays so.
+        // The store's half, told forwards: rows that lie in what was made for them stay there.
         ensures made { made self.old → made self.new }
 
         // What held as the call ended held before.
         ensures was_kept { kept self.new → kept self.old }
         ensures was_open { kept self.new → is_open self.new → is_open self.old };
 
-    // It is kept where both halves hold, and only there.
+    // Rows are kept where the host and the store both gave what they owe, and only there.
     ghost halves: { (s : Self) → kept s ↔ (honest s × made s) };
 }

@@ -23,6 +23,11 @@ use std::marker::Model;
 
 /// Rows in a database, in its table `acceptor_row` beside the table `station` that says whose they are.
 ///
+/// They are kept where their tables are those that [`SqliteRows::create`] makes, and no others, and the disk has
+/// returned what was written. The first is the store's to give: `create` in an empty database makes them so,
+/// [`SqliteRows::open`] finds them so, and no call takes it back. The second is the host's: it holds as long as
+/// the disk doesn't fail and nobody else writes to the database.
+///
 /// After a refused `put` every call answers `Store`, until the rows are opened anew: so nothing is answered
 /// from a row that a crash could still take back. A connection over a file is then to be closed, and the file
 /// opened again.
@@ -78,7 +83,7 @@ impl<S: Alter + Drop> SqliteRows<S> {
         ensures identity { IfOk result (λ s. s.identity ≡ identity) }
         ensures unstopped { IfOk result (λ s. s.stopped ≡ false) }
 
-        // In an empty database the tables are then those that are wanted.
+        // What the store owes: in an empty database the tables are its own. With what the host owes they are kept.
         ensures made { IfOk result (λ s. (state S.Store conn).now.schema ≡ no_schema → IsOurs s.alone s.found) }
         ensures kept { IfOk result (λ s. HasCleanDisk (state S.Store s.conn) → (state S.Store conn).now.schema ≡ no_schema → IsKept S.Store s) }
         ensures crash { IfOk result (λ s. IsKept S.Store s → (db : _) → (state S.Store s.conn).may_leave db → HoldsNone identity.circuit identity.member identity.members db) }
@@ -129,6 +134,8 @@ impl<S: Alter + Drop> SqliteRows<S> {
         ensures stored { IfOk result (λ s. IsKept S.Store s → stored_identity (state S.Store conn).now.trees ≡ Some s.identity) }
         ensures unstopped { IfOk result (λ s. s.stopped ≡ false) }
         ensures clean { IfOk result (λ s. doubt (state S.Store conn).is_clean ≤ doubt (state S.Store s.conn).is_clean) }
+
+        // What the store owes: tables as `create` makes them are its own. With what the host owes they are kept.
         ensures made { IfOk result (λ s. (state S.Store conn).now.schema ≡ row_schema → IsOurs s.alone s.found) }
         ensures kept { IfOk result (λ s. HasCleanDisk (state S.Store s.conn) → (state S.Store conn).now.schema ≡ row_schema → IsKept S.Store s) }
 
@@ -172,6 +179,8 @@ impl<S: Alter + Drop> SqliteRows<S> {
         ensures stopped { IsTrue self.old.stopped → result ≡ Err RowsFault.Store }
         ensures undamaged { IsKept S.Store self.new → IfErr result IsRefusal }
         ensures stays { (self.new.stopped ≡ self.old.stopped) × (self.new.identity ≡ self.old.identity) }
+
+        // What the store owes stays as it was.
         ensures ours { (self.new.alone ≡ self.old.alone) × (self.new.found ≡ self.old.found) }
         ensures crash { IsKept S.Store self.new → IsOpen S.Store self.old → (left : _) → MayLeave S.Store self.new left → MayLeave S.Store self.old left }
     {
@@ -243,6 +252,8 @@ impl<S: Alter + Drop> Rows for SqliteRows<S> {
         ensures undamaged { IsKept S.Store self.new → IfErr result IsRefusal }
         ensures blames { IfErr result (Blames S.Store self.old self.new) }
         ensures stays { (self.new.stopped ≡ self.old.stopped) × (self.new.identity ≡ self.old.identity) }
+
+        // What the store owes stays as it was.
         ensures ours { (self.new.alone ≡ self.old.alone) × (self.new.found ≡ self.old.found) }
         ensures crash { IsKept S.Store self.new → IsOpen S.Store self.old → (left : _) → MayLeave S.Store self.new left → MayLeave S.Store self.old left }
     {
@@ -276,6 +287,8 @@ impl<S: Alter + Drop> Rows for SqliteRows<S> {
         ensures undamaged { IfErr result IsRefusal }
         ensures blames { IfErr result (Blames S.Store self.old self.new) }
         ensures station { self.new.identity ≡ self.old.identity }
+
+        // What the store owes stays as it was.
         ensures ours { (self.new.alone ≡ self.old.alone) × (self.new.found ≡ self.old.found) }
 
         // After the Ok a crash leaves this row too; after an Err the rows as they were, or with this one.
