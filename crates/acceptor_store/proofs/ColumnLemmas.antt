@@ -1,5 +1,5 @@
 -- A row comes back out of its columns.
-use Rattle.std.proofs.Common.{◌≡◌, ◌<◌, ◌≤◌, ◌^◌, ◌==◌, ◌+◌, ℕ, pos, Bool, true, false, cond, List, [], ◌∷◌, length, Option, Some, None, option_map, unwrap_or, true≢false, IfSome, IsSome, nat_lt, nat_le, refl, sym, ap, subst, ◌∙◌, arith, inl, inr}
+use Rattle.std.proofs.Common.{◌≡◌, ◌<◌, ◌≤◌, ◌^◌, ◌==◌, ◌+◌, ℕ, pos, Bool, true, false, cond, List, [], ◌∷◌, length, Option, Some, None, option_map, unwrap_or, true≢false, IfSome, IsSome, nat_lt, refl, sym, ap, subst, ◌∙◌, arith, inl, inr}
 use Rattle.std.specs.List.{AllByRecursion, position_from}
 use Rattle.std.proofs.lemmas.Bool.Decides.{Decides-ltb, Decides-eqb, same_from_decides}
 use Rattle.std.proofs.lemmas.Bool.{le-leb, cases_Bool}
@@ -9,7 +9,7 @@ use Rattle.row_table.specs.Tables.{rows_tree, station_tree}
 use Rattle.row_table.specs.Rows.{stored, found_at, columns_at, shown_of, SavesIn}
 use Rattle.protocol.specs.Ballots.{Ballot, IsBallot}
 use Rattle.protocol.specs.Rows.{Vote, Row, blank, may_stand}
-use Rattle.acceptor_store.specs.Saved.{WithRow}
+use Rattle.saved_rows.specs.Saved.{WithRow}
 use Rattle.acceptor_store.specs.Columns.{small, ballot_from, row_of, row_in, columns_with, columns_for, row_or_blank, saved_in, IsSound, AreSound}
 
 pub ranged : (n : ℕ) → n < 2 ^ 32 → small (pos n) ≡ Some n

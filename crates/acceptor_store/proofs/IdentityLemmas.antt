@@ -7,8 +7,9 @@ use Rattle.sqlite_value.specs.Order.{Row as Columns}
 use Rattle.sqlite_trees.specs.Tree.{Trees}
 use Rattle.sqlite.proofs.Callers.{one_permutation}
 use Rattle.row_table.specs.Station.{station_columns, HoldsNone}
-use Rattle.acceptor_store.specs.declared.identity.Identity.{Identity}
-use Rattle.acceptor_store.specs.Identity.{IsIdentity, identity_in, stored_identity}
+use Rattle.saved_rows.specs.declared.identity.Identity.{Identity}
+use Rattle.saved_rows.specs.Identity.{IsIdentity}
+use Rattle.acceptor_store.specs.StationRow.{identity_in, stored_identity}
 use Rattle.acceptor_store.proofs.ColumnLemmas.{ranged}
 
 -- the order of the rows tells nothing

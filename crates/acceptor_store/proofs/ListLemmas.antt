@@ -11,7 +11,7 @@ use Rattle.row_table.specs.Rows.{whole, columns_at}
 use Rattle.row_table.specs.Rising.{key_of, is_above, is_at, goes_on, rise_from, listed_columns, listed_at, IsInTable, AreListed}
 use Rattle.protocol.specs.Ballots.{Ballot}
 use Rattle.protocol.specs.Rows.{Vote, Row, blank, may_stand}
-use Rattle.acceptor_store.specs.Saved.{HasPromise, saved_by, RiseFrom, IsListOf}
+use Rattle.saved_rows.specs.Saved.{HasPromise, saved_by, RiseFrom, IsListOf}
 use Rattle.acceptor_store.specs.Columns.{row_in, row_from, row_of, is_number, damage_of, first_of, damage_in, item_in, row_or_blank, ballot_from, vote_in, whole_in, IsSound, AreSound}
 use Rattle.acceptor_store.proofs.ColumnLemmas.{ranged}
 

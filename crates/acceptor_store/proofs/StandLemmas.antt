@@ -9,9 +9,10 @@ use Rattle.sqlite.specs.Held.{Held, state}
 use Rattle.row_table.specs.Rows.{Serves, WasSaved, WasKept, columns_at}
 use Rattle.row_table.specs.Station.{HoldsNone, station_columns}
 use Rattle.protocol.specs.Rows.{Row, blank}
-use Rattle.acceptor_store.specs.Saved.{SameRows, HasPromise}
-use Rattle.acceptor_store.specs.declared.identity.Identity.{Identity}
-use Rattle.acceptor_store.specs.Identity.{IsIdentity, identity_in}
+use Rattle.saved_rows.specs.Saved.{SameRows, HasPromise}
+use Rattle.saved_rows.specs.declared.identity.Identity.{Identity}
+use Rattle.saved_rows.specs.Identity.{IsIdentity}
+use Rattle.acceptor_store.specs.StationRow.{identity_in}
 use Rattle.acceptor_store.specs.Columns.{row_in, row_or_blank, columns_for, saved_in}
 use Rattle.acceptor_store.specs.Sqlite.{HoldsRows, Stands}
 use Rattle.acceptor_store.proofs.ColumnLemmas.{stays_sound, stays_station}

@@ -9,7 +9,7 @@ use Rattle.row_table.specs.Rows.{columns_of, columns_at}
 use Rattle.tape_frames.specs.Frames.{tape_fault}
 use Rattle.protocol.specs.Ballots.{Ballot}
 use Rattle.protocol.specs.Rows.{Tape, Vote, Row, blank, may_stand}
-use Rattle.acceptor_store.specs.Saved.{Saved}
+use Rattle.saved_rows.specs.Saved.{Saved}
 
 -- ---- out of the columns
 

@@ -1,6 +1,7 @@
-pub mod Saved
-pub mod Memory
+pub use Rattle.saved_rows.specs.Saved
+pub use Rattle.saved_rows.specs.Memory
+pub use Rattle.saved_rows.specs.Identity
 pub mod Columns
-pub mod Identity
+pub mod StationRow
 pub mod Sqlite
 pub mod Files

@@ -11,12 +11,12 @@ use Rattle.sqlite.specs.Held.{Held, held_code, state}
 use Rattle.row_table.specs.Tables.{row_schema, rows_tree}
 use Rattle.row_table.specs.Rows.{Serves, IsListing}
 use Rattle.row_table.specs.Rising.{rise_from}
-use Rattle.acceptor_store.specs.contracts.identity.Identity as identity
-use Rattle.acceptor_store.specs.declared.identity.Identity.{Identity}
-use Rattle.acceptor_store.specs.declared.fault.RowsFault.{RowsFault}
-use Rattle.acceptor_store.specs.declared.fault.RowsFault.TheVariants.{Store, WrongStation, WrongSchema, Damaged, OutOfMemory}
-use Rattle.acceptor_store.specs.Identity.{stored_identity}
-use Rattle.acceptor_store.specs.Saved.{Saved}
+use Rattle.saved_rows.specs.contracts.identity.Identity as identity
+use Rattle.saved_rows.specs.declared.identity.Identity.{Identity}
+use Rattle.saved_rows.specs.declared.fault.RowsFault.{RowsFault}
+use Rattle.saved_rows.specs.declared.fault.RowsFault.TheVariants.{Store, WrongStation, WrongSchema, Damaged, OutOfMemory}
+use Rattle.acceptor_store.specs.StationRow.{stored_identity}
+use Rattle.saved_rows.specs.Saved.{Saved}
 use Rattle.acceptor_store.specs.Columns.{saved_in, AreSound, damage_in}
 
 -- rows in a database, as clauses see them

@@ -6,7 +6,7 @@ ghost use Rattle.sqlite_value.specs.Value.{owned};
 ghost use Rattle.sqlite_value.specs.Order.{column};
 ghost use Rattle.acceptor_store.specs.Columns.{whole_in, ballot_from, stored_tape, tape_in, is_null, vote_in, row_of, row_in, damage_of, damage_in, item_in, columns_for};
 ghost use Rattle.row_table.specs.Rows.{columns_of};
-ghost use Rattle.acceptor_store.specs.Saved.{HasPromise};
+ghost use Rattle.saved_rows.specs.Saved.{HasPromise};
 
 use ballots::{Ballot, Member, Number, Row, VoteRef};
 use sqlite::types::ValueRef;

@@ -6,14 +6,13 @@ ghost use Rattle.sqlite.specs.Files.{file_state};
 ghost use Rattle.sqlite.specs.WalFiles.{image_at};
 ghost use Rattle.acceptor_store.specs.Sqlite.{IsOurs, IsRefusal, Agrees};
 
-use crate::fault::RowsFault;
-use crate::identity::Identity;
 use crate::sqlite_rows::SqliteRows;
 use crate::statements::fault_of;
+use saved_rows::{Identity, RowsFault};
 use sqlite::{Connection, FileFrom, FileStore, Leftover, Start};
 
 impl<T: Start> SqliteRows<FileStore<FileFrom<T>>> {
-    ghost use Rattle.acceptor_store.specs.Files.{IsTakenUp};
+    ghost use Rattle.acceptor_store.specs.Files.{IsTakenUp, TakesItsOwn};
 
     /// Opens a file and takes up the rows that it holds, as [`SqliteRows::open`] does. `path`, `new_has_sums`
     /// and `start` are as for `Connection::open_from`.
@@ -35,6 +34,9 @@ impl<T: Start> SqliteRows<FileStore<FileFrom<T>>> {
         ),
     >
         ensures open { IfOk result (λ s. HasCleanDisk (file_state s.conn) → IsOurs s.alone s.found → IsTrue (file_state s.conn).is_open) }
+
+        // What the store owes, told of the file; with what the host owes the rows are those that the file held.
+        ensures made { IfOk result (TakesItsOwn (image_at T.Start)) }
         ensures rows { IfOk result (λ s. HasCleanDisk (file_state s.conn) → IsOurs s.alone s.found → IsTakenUp (image_at T.Start) s) }
         ensures given { IfOk result (λ s. Agrees given s.identity) }
         ensures refusal { IfErr result (λ e. e.1 ≡ None → IsRefusal e.0) }

@@ -1,21 +1,20 @@
 //! Rows in a database.
 
-ghost use Rattle.std.specs.Prelude.{◌≡◌, ◌≤◌, ◌⊎◌, ℕ, true, false, Some, None, Err, IsTrue, IsOk, IfOk, IfErr, OnOk, OnErr};
+ghost use Rattle.std.specs.Prelude.{◌≡◌, ◌≤◌, ◌⊎◌, ℕ, true, false, Some, None, Err, IsTrue, IfOk, IfErr, OnOk, OnErr};
 ghost use Rattle.protocol.specs.Rows.{blank};
 ghost use Rattle.sqlite_trees.specs.View.{doubt};
 ghost use Rattle.sqlite.specs.State.{HasCleanDisk};
 ghost use Rattle.row_table.specs.Tables.{no_schema, row_schema};
 ghost use Rattle.row_table.specs.Station.{HoldsNone};
-ghost use Rattle.acceptor_store.specs.Identity.{IsIdentity, stored_identity};
-ghost use Rattle.acceptor_store.specs.Saved.{SameRows, WithRow, IsEither, IsListOf, HasPromise, Rises};
+ghost use Rattle.saved_rows.specs.Identity.{IsIdentity};
+ghost use Rattle.acceptor_store.specs.StationRow.{stored_identity};
+ghost use Rattle.saved_rows.specs.Saved.{SameRows, WithRow, IsEither, IsListOf, HasPromise, Rises};
 
-use crate::fault::RowsFault;
-use crate::identity::Identity;
-use crate::rows::Rows;
 use crate::statements::{fault_of, list, read, save};
 use crate::taking_up::take_up;
 use ballots::{Number, Row};
 use row_table::create_tables;
+use saved_rows::{Identity, Rows, RowsFault};
 use sqlite::{Alter, Connection};
 use sqlite_schema::schema::Schema;
 use std::alloc::Global;

@@ -1,19 +1,19 @@
 //! Rows read and saved by the statements of the tables.
 
-ghost use Rattle.std.specs.Prelude.{◌≡◌, ◌⊎◌, ◌≤◌, Some, IsTrue, IfOk, IfErr, OnOk, OnErr, IsOk};
+ghost use Rattle.std.specs.Prelude.{◌≡◌, ◌⊎◌, ◌≤◌, Some, IsTrue, IfOk, IfErr, OnOk, OnErr};
 ghost use Rattle.sqlite_trees.specs.View.{doubt};
 ghost use Rattle.sqlite.specs.State.{HasCleanDisk};
 ghost use Rattle.sqlite.specs.Held.{state};
 ghost use Rattle.row_table.specs.Tables.{rows_tree};
 ghost use Rattle.row_table.specs.Rows.{Serves, SavesIn, WasSaved, WasKept};
-ghost use Rattle.acceptor_store.specs.Saved.{HasPromise, IsListOf};
+ghost use Rattle.saved_rows.specs.Saved.{HasPromise, IsListOf};
 ghost use Rattle.acceptor_store.specs.Columns.{columns_for, row_in, saved_in, AreSound};
 ghost use Rattle.acceptor_store.specs.Sqlite.{IsRefusal};
 
 use crate::columns::{columns_for, damage_in, items_in, row_in};
-use crate::fault::RowsFault;
 use ballots::{Number, Row};
 use row_table::{all_rows, are_rising, get_row, put_row};
+use saved_rows::RowsFault;
 use sqlite::{Alter, Connection, Error, ErrorCode};
 use std::alloc::Global;
 

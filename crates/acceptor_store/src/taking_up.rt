@@ -6,15 +6,15 @@ ghost use Rattle.sqlite.specs.State.{HasCleanDisk, IsUnchanged};
 ghost use Rattle.sqlite.specs.Held.{state};
 ghost use Rattle.row_table.specs.Tables.{row_schema, rows_tree};
 ghost use Rattle.row_table.specs.Rows.{Serves, WasKept};
-ghost use Rattle.acceptor_store.specs.Identity.{stored_identity};
+ghost use Rattle.acceptor_store.specs.StationRow.{stored_identity};
 ghost use Rattle.acceptor_store.specs.Columns.{AreSound};
 ghost use Rattle.acceptor_store.specs.Sqlite.{Agrees, HoldsRows, RefusesRows, RefusesToOpen};
 
 use crate::columns::damage_in;
-use crate::fault::RowsFault;
-use crate::identity::{Identity, identity_in};
 use crate::statements::fault_of;
+use crate::station_row::identity_in;
 use row_table::{all_rows, are_rising, get_station};
+use saved_rows::{Identity, RowsFault};
 use sqlite::{Alter, Connection};
 
 /// The identity that the database holds, where it is the one given, if any.

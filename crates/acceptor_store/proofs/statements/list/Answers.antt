@@ -3,7 +3,7 @@ use Rattle.std.specs.List.{filter_map}
 use Rattle.row_table.specs.Tables.{rows_tree}
 use Rattle.row_table.specs.Rising.{rise_from, AreListed}
 use Rattle.acceptor_store.specs.Columns.{damage_in, item_in, saved_in}
-use Rattle.acceptor_store.specs.Saved.{IsListOf}
+use Rattle.saved_rows.specs.Saved.{IsListOf}
 use Rattle.acceptor_store.proofs.ListLemmas.{lists, no_damage}
 use Rattle.acceptor_store.proofs.statements.list.Goals as goal
 

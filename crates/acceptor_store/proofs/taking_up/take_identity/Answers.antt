@@ -1,5 +1,5 @@
 use Rattle.std.proofs.Common.{rules, ◌≡◌, ◌≢◌, inl, Some, None, ◌∙◌}
-use Rattle.acceptor_store.specs.Identity.{identity_in}
+use Rattle.acceptor_store.specs.StationRow.{identity_in}
 use Rattle.acceptor_store.proofs.IdentityLemmas.{same_identity}
 use Rattle.acceptor_store.proofs.taking_up.take_identity.Goals as goal
 

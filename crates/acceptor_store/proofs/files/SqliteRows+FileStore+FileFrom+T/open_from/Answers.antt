@@ -1,7 +1,15 @@
-use Rattle.std.proofs.Common.{◌≡◌, arith}
+use Rattle.std.proofs.Common.{arith}
 use Rattle.sqlite.specs.State.{HasCleanDisk}
 use Rattle.sqlite.specs.Files.{file_state}
 use Rattle.acceptor_store.proofs.files.SqliteRows+FileStore+FileFrom+T.open_from.Goals as goal
+
+pub returns-in-Ok-open-clause-made : goal.returns-in-Ok-open-clause-made
+returns-in-Ok-open-clause-made g c = record {
+  was = c.in-Ok.conn;
+  opened = λ clean. c.in-Ok.ensures.opened (omega (arith, clean, c.in-Ok-open.ensures.clean));
+  found = λ clean. c.in-Ok.ensures.found (omega (arith, clean, c.in-Ok-open.ensures.clean));
+  ours = c.in-Ok-open.ensures.made;
+}
 
 pub returns-in-Ok-open-clause-rows : goal.returns-in-Ok-open-clause-rows
 returns-in-Ok-open-clause-rows g c clean ours =

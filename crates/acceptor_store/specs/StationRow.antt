@@ -1,17 +1,11 @@
--- Which station saved rows belong to.
-use Rattle.std.specs.Prelude.{◌≤◌, ◌==◌, ℕ, nat_le, ◌&&◌, if◌then◌else◌, map, List, [], ◌∷◌, Option, Some, None}
+-- The station in its table: whose rows a database holds.
+use Rattle.std.specs.Prelude.{◌==◌, ℕ, nat_le, ◌&&◌, if◌then◌else◌, map, List, [], ◌∷◌, Option, Some, None}
 use Rattle.sqlite_value.specs.Order.{Row as Columns, column}
 use Rattle.sqlite_trees.specs.Tree.{Trees}
 use Rattle.row_table.specs.Tables.{station_tree}
 use Rattle.row_table.specs.Station.{station_columns}
-use Rattle.acceptor_store.specs.declared.identity.Identity.{Identity}
+use Rattle.saved_rows.specs.declared.identity.Identity.{Identity}
 use Rattle.acceptor_store.specs.Columns.{whole_in}
-
--- the member is one of them, and there are at most 15
-pub record IsIdentity (i : Identity) : Type 0 where
-  pub low : 1 ≤ i.member
-  pub within : i.member ≤ i.members
-  pub high : i.members ≤ 15
 
 -- what the columns say: the layout is 1, and the numbers are in range
 abbrev pub identity_from : Option ℕ → Option ℕ → Option ℕ → Option ℕ → Option Identity

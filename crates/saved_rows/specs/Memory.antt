@@ -1,8 +1,8 @@
 -- Rows in memory.
 use Rattle.std.specs.Ordering.{nat_cmp}
 use Rattle.std.specs.BTreeMap as map
-use Rattle.acceptor_store.specs.Saved.{Saved, or_blank}
-use Rattle.acceptor_store.specs.declared.memory.MemoryRows.{MemoryRows}
+use Rattle.saved_rows.specs.Saved.{Saved, or_blank}
+use Rattle.saved_rows.specs.declared.memory.MemoryRows.{MemoryRows}
 
 -- the map that rows in memory are
 abbrev pub saved : MemoryRows → Saved

@@ -2,8 +2,8 @@
 
 ghost use Rattle.std.specs.Prelude.{◌≡◌, ◌≤◌, ◌⊎◌, ◌↔◌, ℕ, IfOk, IfErr, OnOk, OnErr};
 ghost use Rattle.protocol.specs.Rows.{Row as RowValue};
-ghost use Rattle.acceptor_store.specs.Saved.{Saved, SameRows, WithRow, IsEither, HasPromise, Rises};
-ghost use Rattle.acceptor_store.specs.declared.fault.RowsFault.{RowsFault as FaultValue};
+ghost use Rattle.saved_rows.specs.Saved.{Saved, SameRows, WithRow, IsEither, HasPromise, Rises};
+ghost use Rattle.saved_rows.specs.declared.fault.RowsFault.{RowsFault as FaultValue};
 
 use crate::fault::RowsFault;
 use ballots::{Number, Row};

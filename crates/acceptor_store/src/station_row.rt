@@ -1,17 +1,10 @@
-//! Which station saved rows belong to.
+//! The station in its table: whose rows a database holds.
 
-ghost use Rattle.std.specs.Prelude.{◌≡◌, IfSome};
-ghost use Rattle.acceptor_store.specs.Identity.{IsIdentity, identity_of, identity_in};
+ghost use Rattle.std.specs.Prelude.{◌≡◌};
+ghost use Rattle.acceptor_store.specs.StationRow.{identity_of, identity_in};
 
 use crate::columns::{value_at, whole_in};
-
-/// A station: its circuit, its member, and how many members the circuit has, `1 <= member <= members <= 15`.
-#[derive(Clone, Copy, Debug, PartialEq, Eq)]
-pub struct Identity {
-    pub circuit: u16,
-    pub member: u8,
-    pub members: u8,
-}
+use saved_rows::Identity;
 
 /// The identity that the columns of a station are; `None` where the layout is not 1 or a number is out of range.
 fn identity_of(row: &sqlite::Row) -> Option<Identity>

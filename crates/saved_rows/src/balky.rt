@@ -1,7 +1,7 @@
 //! Rows of which one save can be refused.
 
-ghost use Rattle.std.specs.Prelude.{◌≡◌, ◌≤◌, ◌⊎◌, ◌+◌, ℕ, None, Some, true, false, IsSome, IfErr, Err, OnOk, OnErr};
-ghost use Rattle.acceptor_store.specs.Saved.{WithRow, IsEither, HasPromise, Rises};
+ghost use Rattle.std.specs.Prelude.{◌≡◌, ◌≤◌, ◌⊎◌, ◌+◌, None, Some, true, false, IsSome, IfErr, Err, OnOk, OnErr};
+ghost use Rattle.saved_rows.specs.Saved.{WithRow, IsEither, HasPromise, Rises};
 
 use crate::fault::RowsFault;
 use crate::rows::Rows;
@@ -57,7 +57,7 @@ impl<R: Rows> Balky<R> {
 }
 
 impl<R: Rows> Rows for Balky<R> {
-    ghost use Rattle.acceptor_store.specs.declared.fault.RowsFault.TheVariants.{Store};
+    ghost use Rattle.saved_rows.specs.declared.fault.RowsFault.TheVariants.{Store};
 
     ghost made = { λ s. R.made s.rows };
 

@@ -2,7 +2,7 @@
 
 ghost use Rattle.std.specs.Prelude.{◌≡◌, ◌≤◌, ℕ, None, IfOk, IsOk, OnOk, OnErr, IfErr, option_copied};
 ghost use Rattle.protocol.specs.Rows.{blank};
-ghost use Rattle.acceptor_store.specs.Saved.{SameRows, WithRow, Rises, or_blank};
+ghost use Rattle.saved_rows.specs.Saved.{SameRows, WithRow, Rises, or_blank};
 
 use crate::fault::RowsFault;
 use crate::rows::Rows;
@@ -20,7 +20,7 @@ pub struct MemoryRows {
 }
 
 impl MemoryRows {
-    ghost use Rattle.acceptor_store.specs.Memory.{saved};
+    ghost use Rattle.saved_rows.specs.Memory.{saved};
 
     /// The empty map.
     pub fn new(alloc: Global) -> MemoryRows
@@ -77,8 +77,8 @@ impl MemoryRows {
 }
 
 impl Rows for MemoryRows {
-    ghost use Rattle.acceptor_store.specs.Memory.{saved};
-    ghost use Rattle.acceptor_store.specs.declared.fault.RowsFault.TheVariants.{OutOfMemory};
+    ghost use Rattle.saved_rows.specs.Memory.{saved};
+    ghost use Rattle.saved_rows.specs.declared.fault.RowsFault.TheVariants.{OutOfMemory};
 
     ghost made = { λ _. Unit {0} };
 

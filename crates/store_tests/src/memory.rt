@@ -1,0 +1,114 @@
+//! Rows in memory, and rows whose next save is refused.
+
+use crate::deeds::{Deed, done};
+use crate::samples::{PROMISED, Sample, VOTED, is_row};
+use ballots::Number;
+use saved_rows::{Balky, MemoryRows, RowsFault};
+use std::alloc::Global;
+
+/// Two rows are saved and read back, and none is there under 4.
+pub const TWO: &[Deed] = &[
+    Deed::Put(12, VOTED, None),
+    Deed::Put(3, PROMISED, None),
+    Deed::Get(12, Some(VOTED)),
+    Deed::Get(3, Some(PROMISED)),
+    Deed::Get(4, None),
+];
+
+/// Whether rows in memory lend the row of 12 as that of a vote, and none of 4.
+fn are_lent(rows: &MemoryRows) -> Option<bool> {
+    let row = rows.row(Number::new(12)?)?;
+    Some(is_row(row, Some(&VOTED)) && rows.row(Number::new(4)?).is_none())
+}
+
+/// Whether the row of 12 is taken out, leaves a blank one, and is saved again.
+fn gives_and_takes(alloc: Global, rows: &mut MemoryRows) -> Option<bool> {
+    let twelve = Number::new(12)?;
+    let row = rows.take(twelve);
+    let taken = is_row(&row, Some(&VOTED)) && done(alloc, rows, &[Deed::Get(12, None)]) == 1;
+    rows.save(twelve, row).ok()?;
+    Some(taken)
+}
+
+/// Whether two rows are saved in memory, lent, taken out and saved again.
+fn keeps_in_memory(alloc: Global) -> Option<bool> {
+    let mut rows = MemoryRows::new(alloc);
+    let saved = done(alloc, &mut rows, TWO) == TWO.len() && are_lent(&rows)?;
+    Some(saved && gives_and_takes(alloc, &mut rows)? && are_lent(&rows)?)
+}
+
+#[test]
+fn in_memory(rt: HostRuntime) {
+    assert!(rt; keeps_in_memory(rt.alloc()) == Some(true));
+}
+
+const HIGHER: Sample = Sample {
+    promised: (1, 3),
+    ..PROMISED
+};
+
+const LATER: Sample = Sample {
+    promised: (2, 1),
+    ..PROMISED
+};
+
+/// How the rows are armed, one call after another, and what is then done.
+const ARMED: &[(&[bool], &[Deed])] = &[
+    // The save is refused before it, and the next one is not.
+    (
+        &[false],
+        &[
+            Deed::Put(12, PROMISED, Some(RowsFault::Store)),
+            Deed::Get(12, None),
+            Deed::Put(12, PROMISED, None),
+            Deed::Get(12, Some(PROMISED)),
+        ],
+    ),
+    // It is refused after it.
+    (
+        &[true],
+        &[
+            Deed::Put(12, HIGHER, Some(RowsFault::Store)),
+            Deed::Get(12, Some(HIGHER)),
+        ],
+    ),
+    // Of two calls the last counts.
+    (
+        &[true, false],
+        &[
+            Deed::Put(12, LATER, Some(RowsFault::Store)),
+            Deed::Get(12, Some(HIGHER)),
+        ],
+    ),
+];
+
+/// The place of the first row of `ARMED` that goes otherwise; how many there are where none does.
+fn balked(alloc: Global, rows: &mut Balky<MemoryRows>) -> usize {
+    for (place, (arms, deeds)) in ARMED.iter().enumerate() {
+        for saved in *arms {
+            rows.arm(*saved);
+        }
+        if done(alloc, rows, deeds) != deeds.len() {
+            return place;
+        }
+    }
+    ARMED.len()
+}
+
+/// Whether the rows inside are lent, and then given up, as they were left.
+fn gives_up(alloc: Global, rows: Balky<MemoryRows>) -> Option<bool> {
+    let lent = rows.rows().row(Number::new(12)?).is_some();
+    let mut inner = rows.into_rows();
+    Some(lent && done(alloc, &mut inner, &[Deed::Get(12, Some(HIGHER))]) == 1)
+}
+
+/// Whether armed rows refuse as they are armed, and give up what is in them.
+fn balks(alloc: Global) -> Option<bool> {
+    let mut rows = Balky::new(MemoryRows::new(alloc));
+    Some(balked(alloc, &mut rows) == ARMED.len() && gives_up(alloc, rows)?)
+}
+
+#[test]
+fn armed_each_way(rt: HostRuntime) {
+    assert!(rt; balks(rt.alloc()) == Some(true));
+}

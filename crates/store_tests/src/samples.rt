@@ -1,0 +1,97 @@
+//! Rows by the numbers in them.
+
+ghost use Rattle.std.specs.Prelude.{IfSome};
+ghost use Rattle.saved_rows.specs.Saved.{HasPromise};
+
+use ballots::{Ballot, Member, Row, Vote};
+use std::alloc::Global;
+use tape_frames::Tape;
+
+/// A row that is no blank one: its promise, and its vote, if any, with the frames of its tape.
+#[derive(Clone, Copy)]
+pub struct Sample {
+    pub promised: (u32, u8),
+    pub vote: Option<(u32, u8)>,
+    pub frames: &'static [u8],
+}
+
+/// A promise of 1.1 alone.
+pub const PROMISED: Sample = Sample {
+    promised: (1, 1),
+    vote: None,
+    frames: &[],
+};
+
+/// A promise of 1.3 beside a vote at 1.1 for the frames 1 2 4.
+pub const VOTED: Sample = Sample {
+    promised: (1, 3),
+    vote: Some((1, 1)),
+    frames: &[1, 2, 4],
+};
+
+fn ballot_of(numbers: (u32, u8)) -> Option<Ballot> {
+    Ballot::new(numbers.0, Member::new(numbers.1)?)
+}
+
+/// The row of a sample; `None` where it is none, or memory was refused.
+pub fn row_of(alloc: Global, sample: &Sample) -> Option<Row>
+    ensures { IfSome result HasPromise }
+{
+    let promise = ballot_of(sample.promised)?;
+    let vote = match sample.vote {
+        None => None,
+        Some(numbers) => {
+            let tape = Tape::from_bytes(alloc, sample.frames).ok()?;
+            Some(Vote::new(ballot_of(numbers)?, tape))
+        }
+    };
+    Row::new(Some(promise), vote)
+}
+
+/// Whether a vote is at this ballot, for these frames.
+fn is_vote(vote: &Vote, numbers: (u32, u8), frames: &[u8]) -> bool {
+    ballot_of(numbers) == Some(vote.ballot()) && vote.tape().frames() == frames
+}
+
+/// Whether a row is this one; the blank one with `None`.
+pub fn is_row(row: &Row, sample: Option<&Sample>) -> bool {
+    let Some(sample) = sample else {
+        return row.promised().is_none() && row.vote().is_none();
+    };
+    let votes = match (row.vote(), sample.vote) {
+        (None, None) => true,
+        (Some(vote), Some(numbers)) => is_vote(vote, numbers, sample.frames),
+        _ => false,
+    };
+    votes && row.promised().is_some() && row.promised() == ballot_of(sample.promised)
+}
+
+/// Whether a copy of a vote is that vote.
+fn is_vote_copied(alloc: Global, vote: &Vote) -> bool {
+    match vote.copy(alloc) {
+        Ok(other) => other.ballot() == vote.ballot() && other.tape().same(vote.tape()),
+        Err(_) => false,
+    }
+}
+
+/// Whether a copy of a row is this one, and a copy of its vote is its vote.
+pub fn is_copied(alloc: Global, row: &Row, sample: &Sample) -> bool {
+    let voted = match row.vote() {
+        None => false,
+        Some(vote) => is_vote_copied(alloc, vote),
+    };
+    match row.copy(alloc) {
+        Ok(copy) => voted && is_row(&copy, Some(sample)),
+        Err(_) => false,
+    }
+}
+
+/// The row of a promise of 1.1 and a vote at it for this many frames 63.
+pub fn long_row(alloc: Global, frames: usize) -> Option<Row>
+    ensures { IfSome result HasPromise }
+{
+    let frames = vec![in alloc; 63u8; frames].ok()?;
+    let tape = Tape::from_bytes(alloc, &frames).ok()?;
+    let ballot = ballot_of((1, 1))?;
+    Row::new(Some(ballot), Some(Vote::new(ballot, tape)))
+}
