@@ -1,0 +1,132 @@
+//! The command `answer`: a line out for each line in.
+
+ghost use Rattle.std.specs.Prelude.{◌≡◌, ◌==◌, List, ℕ, [], ◌∷◌, ◌++◌, map, IfOk, IfSome, OnOk, OnErr};
+ghost use Rattle.std.specs.List.{list_all, slice_split};
+ghost use Rattle.std.specs.Io.KnownBytes.{Appends};
+ghost use Rattle.streams.specs.Fronts.{AppendsFront};
+ghost use Rattle.acceptor_store.specs.Memory.{saved};
+ghost use Rattle.answer_command.specs.Asked.{asked_of};
+ghost use Rattle.answer_command.specs.Replies.{answered, rows_after};
+ghost use Rattle.answer_command.specs.AnswerText.{is_blank, lines_of, lines_text, answer_text};
+ghost use Rattle.command_ends.specs.declared.end.End.TheVariants.{Done};
+
+use crate::line::{Seat, answer_line};
+use acceptor_store::MemoryRows;
+use ballots::Member;
+use command_ends::{End, Fault};
+use std::alloc::{AllocError, Global};
+use std::io::{Read, Write};
+use streams::{put_all, read_input};
+
+fn is_blank(line: &[u8]) -> bool
+    ensures { result ≡ is_blank line.now }
+{
+    line.iter().all(|b| *b == b' ')
+}
+
+fn lines_of<'a>(alloc: Global, input: &'a [u8]) -> Result<Vec<&'a [u8]>, AllocError>
+    ensures { IfOk result (λ v. map (λ l. l.now) v.items ≡ lines_of input.now) }
+{
+    input.split(|b| *b == b'\n').collect(alloc)
+}
+
+/// Why the lines are not answered to their end.
+#[derive(Clone, Copy)]
+enum Stop {
+    Memory,
+    CannotWrite,
+}
+
+/// Answers one line that is not blank.
+fn put_line<W: Write>(
+    alloc: Global,
+    seat: &Seat,
+    rows: &mut MemoryRows,
+    line: &[u8],
+    out: &mut W,
+) -> Result<(), Stop>
+    ensures text { OnOk result (Appends (W.contents out.old) (W.contents out.new) (answered seat.now.circuit seat.now.me (saved rows.old) (asked_of seat.now.circuit seat.now.me line.now) ++ 10 ∷ [])) }
+    ensures front { OnErr result (AppendsFront (W.contents out.old) (W.contents out.new) (answered seat.now.circuit seat.now.me (saved rows.old) (asked_of seat.now.circuit seat.now.me line.now) ++ 10 ∷ [])) }
+    ensures rows { OnOk result ((n : ℕ) → saved rows.new n ≡ rows_after (saved rows.old) (asked_of seat.now.circuit seat.now.me line.now) n) }
+{
+    let Ok(mut text) = answer_line(alloc, *seat, rows, line) else {
+        return Err(Stop::Memory);
+    };
+    if text.push(b'\n').is_err() {
+        return Err(Stop::Memory);
+    }
+    match put_all(out, &text) {
+        Ok(()) => Ok(()),
+        Err(_) => Err(Stop::CannotWrite),
+    }
+}
+
+/// Answers the lines, one after the other.
+fn put_lines<W: Write>(alloc: Global, seat: &Seat, lines: &[&[u8]], out: &mut W) -> Result<(), Stop>
+    ensures text { OnOk result (Appends (W.contents out.old) (W.contents out.new) (lines_text seat.now.circuit seat.now.me [] (map (λ l. l.now) lines.now))) }
+    ensures front { OnErr result (AppendsFront (W.contents out.old) (W.contents out.new) (lines_text seat.now.circuit seat.now.me [] (map (λ l. l.now) lines.now))) }
+{
+    // The rows of the loop are those of all the requests heard.
+    protocol::laws::acceptor_steps();
+    let mut rows = MemoryRows::new(alloc);
+    for line in lines {
+        if !is_blank(line) {
+            put_line(alloc, seat, &mut rows, line, out)?;
+        }
+    }
+    Ok(())
+}
+
+fn put_answer<W: Write>(alloc: Global, seat: &Seat, input: &[u8], out: &mut W) -> Result<(), Stop>
+    ensures text { OnOk result (Appends (W.contents out.old) (W.contents out.new) (answer_text seat.now.circuit seat.now.me input.now)) }
+    ensures front { OnErr result (AppendsFront (W.contents out.old) (W.contents out.new) (answer_text seat.now.circuit seat.now.me input.now)) }
+{
+    match lines_of(alloc, input) {
+        Ok(lines) => put_lines(alloc, seat, &lines, out),
+        Err(_) => Err(Stop::Memory),
+    }
+}
+
+/// The same, with all of it handed on.
+fn put_and_flush<W: Write>(
+    alloc: Global,
+    seat: &Seat,
+    input: &[u8],
+    out: &mut W,
+) -> Result<(), Stop>
+    ensures text { OnOk result (Appends (W.contents out.old) (W.contents out.new) (answer_text seat.now.circuit seat.now.me input.now)) }
+    ensures front { OnErr result (AppendsFront (W.contents out.old) (W.contents out.new) (answer_text seat.now.circuit seat.now.me input.now)) }
+{
+    put_answer(alloc, seat, input, out)?;
+    match out.flush() {
+        Ok(()) => Ok(()),
+        Err(_) => Err(Stop::CannotWrite),
+    }
+}
+
+/// Answers each line of the input as one acceptor of this circuit and member, over rows that last for the run.
+///
+/// The whole input is read before anything is written. Where memory, the reader or the writer fails,
+/// a front of the text was written, and `err` has the fault.
+pub fn answer<R: Read, W: Write, E: Write>(
+    alloc: Global,
+    circuit: u16,
+    me: Member,
+    input: &mut R,
+    out: &mut W,
+    err: &mut E,
+) -> End
+    ensures done { result ≡ Done → IfSome (R.remaining input.old) (λ xs. Appends (W.contents out.old) (W.contents out.new) (answer_text circuit me xs)) }
+    ensures front { IfSome (R.remaining input.old) (λ xs. AppendsFront (W.contents out.old) (W.contents out.new) (answer_text circuit me xs)) }
+{
+    let seat = Seat { circuit, me };
+    let bytes = match read_input(alloc, input) {
+        Ok(bytes) => bytes,
+        Err(fault) => return Fault::of_input(fault, "-").tell(err),
+    };
+    match put_and_flush(alloc, &seat, &bytes, out) {
+        Ok(()) => End::Done,
+        Err(Stop::Memory) => Fault::OutOfMemory.tell(err),
+        Err(Stop::CannotWrite) => Fault::CannotWrite.tell(err),
+    }
+}

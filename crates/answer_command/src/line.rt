@@ -1,0 +1,215 @@
+//! One line in, one line out.
+
+ghost use Rattle.std.specs.Prelude.{◌≡◌, ◌==◌, ℕ, IsSome, IfOk, OnOk, IsTrue, true, false, Ok, Err, not, ◌&&◌};
+ghost use Rattle.hex.specs.Hex.{encode_lower};
+ghost use Rattle.protocol.specs.Packets.{Prepare, Accept, Accepted};
+ghost use Rattle.protocol.specs.Rows.{raised};
+ghost use Rattle.protocol.specs.Acceptor.{Prepares, Accepts, is_above, next_row};
+ghost use Rattle.packets.specs.Bodies.{said};
+ghost use Rattle.packets.specs.Rules.{keeps_rules};
+ghost use Rattle.packets.specs.Spelling.{spelling};
+ghost use Rattle.acceptor_store.specs.Saved.{WithRow};
+ghost use Rattle.acceptor_store.specs.Memory.{saved};
+ghost use Rattle.answer_command.specs.Asked.{asked_of, asked_of_packet, asked_in};
+ghost use Rattle.answer_command.specs.Replies.{refused_text, answered, rows_after, back, voted_tape};
+
+use acceptor::{AcceptAnswer, PrepareAnswer, accept, prepare};
+use acceptor_store::MemoryRows;
+use ballots::{Ballot, Member, Number, Row};
+use command_ends::Refusal;
+use hex::FromHexError;
+use packets::{BodyRef, PacketRef, decode, encode};
+use std::alloc::{AllocError, Global};
+use tape_frames::TapeRef;
+
+/// Where the acceptor that answers sits.
+#[derive(Clone, Copy)]
+pub struct Seat {
+    pub circuit: u16,
+    pub me: Member,
+}
+
+fn refused(alloc: Global, refusal: Refusal) -> Result<Vec<u8>, AllocError>
+    ensures { IfOk result (λ t. t.items ≡ refused_text refusal) }
+{
+    let mut text = Vec::new(alloc);
+    text.extend_from_slice(b"refused ")?;
+    text.extend_from_slice(refusal.word().as_bytes())?;
+    Ok(text)
+}
+
+fn hex_of(alloc: Global, packet: &PacketRef<'_>) -> Result<Vec<u8>, AllocError>
+    ensures { IfOk result (λ t. t.items ≡ encode_lower (spelling packet.now)) }
+{
+    let bytes = encode(alloc, packet)?;
+    let text = hex::encode(alloc, bytes.as_slice())?;
+    Ok(text.into_bytes())
+}
+
+/// The packet that goes back to the sender.
+fn send_back(
+    alloc: Global,
+    seat: Seat,
+    packet: &PacketRef<'_>,
+    body: BodyRef<'_>,
+) -> Result<Vec<u8>, AllocError>
+    requires { IsTrue (keeps_rules (back seat.circuit seat.me packet.now.from packet.now.number packet.now.ballot (said body))) }
+    ensures { IfOk result (λ t. t.items ≡ encode_lower (spelling (back seat.circuit seat.me packet.now.from packet.now.number packet.now.ballot (said body.entry)))) }
+{
+    match PacketRef::new(
+        seat.circuit,
+        seat.me,
+        packet.from(),
+        packet.number(),
+        packet.ballot(),
+        body,
+    ) {
+        Some(reply) => hex_of(alloc, &reply),
+        None => unreachable!(),
+    }
+}
+
+/// Raises the promise of a number's row, whose vote stays where it is.
+fn raise(rows: &mut MemoryRows, number: Number, ballot: Ballot) -> Result<(), AllocError>
+    requires { is_above (saved rows.old number).promised ballot ≡ false }
+    ensures { OnOk result (WithRow (saved rows.old) number (raised (saved rows.old number) ballot) (saved rows.new)) }
+{
+    let row = rows.take(number);
+    let (_, vote) = row.into_parts();
+    match Row::new(Some(ballot), vote) {
+        Some(row) => rows.save(number, row),
+        None => unreachable!(),
+    }
+}
+
+/// Answers a prepare request.
+#[tactic(auto, using(crate::proofs::History::stays_on_ok))]
+fn answer_prepare(
+    alloc: Global,
+    seat: Seat,
+    rows: &mut MemoryRows,
+    packet: &PacketRef<'_>,
+) -> Result<Vec<u8>, AllocError>
+    requires kind { packet.now.body ≡ Prepare }
+    requires to { packet.now.to ≡ seat.me }
+    ensures text { IfOk result (λ t. t.items ≡ answered seat.circuit seat.me (saved rows.old) (Ok (asked_in packet.now (Prepares packet.now.ballot)))) }
+    ensures rows { OnOk result (WithRow (saved rows.old) packet.now.number (next_row (saved rows.old packet.now.number) (Prepares packet.now.ballot)) (saved rows.new)) }
+{
+    // The packet's rules are known once its body is read.
+    let _rules = packet.body();
+    let number = packet.number();
+    let ballot = packet.ballot();
+    let blank = Row::blank();
+    let row = rows.row(number).unwrap_or(&blank);
+    match prepare(row, ballot) {
+        PrepareAnswer::Nack { promised } => {
+            send_back(alloc, seat, packet, BodyRef::Nack { promised })
+        }
+        PrepareAnswer::Silent => Vec::from_slice(alloc, b"silent"),
+        PrepareAnswer::Promise { report } => {
+            let report = match report {
+                None => None,
+                Some(vote) => Some(vote.lend()),
+            };
+            let text = send_back(alloc, seat, packet, BodyRef::Promise { report })?;
+            raise(rows, number, ballot)?;
+            Ok(text)
+        }
+    }
+}
+
+/// Answers an accept request.
+#[tactic(auto, using(crate::proofs::History::stays_on_ok))]
+fn answer_accept(
+    alloc: Global,
+    seat: Seat,
+    rows: &mut MemoryRows,
+    packet: &PacketRef<'_>,
+    tape: &TapeRef<'_>,
+) -> Result<Vec<u8>, AllocError>
+    requires kind { packet.now.body ≡ Accept tape.now }
+    requires to { packet.now.to ≡ seat.me }
+    ensures text { IfOk result (λ t. t.items ≡ answered seat.circuit seat.me (saved rows.old) (Ok (asked_in packet.now (Accepts packet.now.ballot tape.now)))) }
+    ensures rows { OnOk result (WithRow (saved rows.old) packet.now.number (next_row (saved rows.old packet.now.number) (Accepts packet.now.ballot tape.now)) (saved rows.new)) }
+{
+    // The packet's rules are known once its body is read.
+    let _rules = packet.body();
+    let number = packet.number();
+    let ballot = packet.ballot();
+    let blank = Row::blank();
+    let row = rows.row(number).unwrap_or(&blank);
+    match accept(alloc, row, ballot, tape.lend())? {
+        AcceptAnswer::Nack { promised } => {
+            send_back(alloc, seat, packet, BodyRef::Nack { promised })
+        }
+        AcceptAnswer::Again => send_vote(alloc, seat, packet, row),
+        AcceptAnswer::Voted { row } => {
+            let text = send_vote(alloc, seat, packet, &row)?;
+            rows.save(number, row)?;
+            Ok(text)
+        }
+    }
+}
+
+/// Tells the sender of the row's vote.
+fn send_vote(
+    alloc: Global,
+    seat: Seat,
+    packet: &PacketRef<'_>,
+    row: &Row,
+) -> Result<Vec<u8>, AllocError>
+    requires differ { (seat.me == packet.now.from) ≡ false }
+    requires some { IsSome row.now.vote }
+    ensures { IfOk result (λ t. t.items ≡ encode_lower (spelling (back seat.circuit seat.me packet.now.from packet.now.number packet.now.ballot (Accepted (voted_tape row.now.vote))))) }
+{
+    match row.vote() {
+        Some(vote) => {
+            let tape = vote.tape();
+            send_back(alloc, seat, packet, BodyRef::Accepted { tape })
+        }
+        None => unreachable!(),
+    }
+}
+
+fn answer_packet(
+    alloc: Global,
+    seat: Seat,
+    rows: &mut MemoryRows,
+    packet: &PacketRef<'_>,
+) -> Result<Vec<u8>, AllocError>
+    ensures text { IfOk result (λ t. t.items ≡ answered seat.circuit seat.me (saved rows.old) (asked_of_packet seat.circuit seat.me (Ok packet.now))) }
+    ensures rows { OnOk result ((n : ℕ) → saved rows.new n ≡ rows_after (saved rows.old) (asked_of_packet seat.circuit seat.me (Ok packet.now)) n) }
+{
+    if packet.circuit() != seat.circuit {
+        return refused(alloc, Refusal::WrongCircuit);
+    }
+    if packet.to().get() != seat.me.get() {
+        return refused(alloc, Refusal::NotForMe);
+    }
+    match packet.body() {
+        BodyRef::Prepare => answer_prepare(alloc, seat, rows, packet),
+        BodyRef::Accept { tape } => answer_accept(alloc, seat, rows, packet, tape),
+        _ => refused(alloc, Refusal::NotARequest),
+    }
+}
+
+/// The text of a line that is not blank, and the rows after it.
+pub fn answer_line(
+    alloc: Global,
+    seat: Seat,
+    rows: &mut MemoryRows,
+    line: &[u8],
+) -> Result<Vec<u8>, AllocError>
+    ensures text { IfOk result (λ t. t.items ≡ answered seat.circuit seat.me (saved rows.old) (asked_of seat.circuit seat.me line.now)) }
+    ensures rows { OnOk result ((n : ℕ) → saved rows.new n ≡ rows_after (saved rows.old) (asked_of seat.circuit seat.me line.now) n) }
+{
+    let bytes = match hex::decode(alloc, line) {
+        Ok(bytes) => bytes,
+        Err(FromHexError::OutOfMemory) => return Err(AllocError),
+        Err(_) => return refused(alloc, Refusal::NotHex),
+    };
+    match decode(&bytes) {
+        Ok(packet) => answer_packet(alloc, seat, rows, &packet),
+        Err(fault) => refused(alloc, Refusal::Packet(fault)),
+    }
+}

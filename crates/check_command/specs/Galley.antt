@@ -1,0 +1,26 @@
+-- What `check` writes: the galley of its three inputs.
+use Rattle.std.specs.Prelude.{◌≡◌, ℕ, List, Option, Ok}
+use Rattle.std.specs.Io.KnownBytes.{Appends}
+use Rattle.toml.specs.Parse.{parse_document}
+use Rattle.code_table.specs.Tables.{Places, mean}
+use Rattle.code_table.specs.Reading.{read_table}
+use Rattle.widths.specs.Widths.{WidthFile}
+use Rattle.widths.specs.Reading.{read_widths}
+use Rattle.slug_reader.specs.Meanings.{Meanings}
+use Rattle.line_check.specs.declared.slug.Slug.{Slug}
+use Rattle.line_check.specs.Sets.{Sets}
+use Rattle.line_check.specs.Galley.{galley_of}
+
+-- the tape sets as slugs, and their galley was written
+pub record IsSetAs (means : Meanings) (file : WidthFile) (tape : List ℕ) (old new : Option (List ℕ)) : Type 0 where
+  pub slugs : List Slug
+  pub sets : Sets means file tape (Ok slugs)
+  pub wrote : Appends old new (galley_of slugs)
+
+-- the texts are a code table and a width file, and the tape's galley by them was written
+pub record IsGalleyOf (table widths tape : List ℕ) (old new : Option (List ℕ)) : Type 0 where
+  pub places : Places
+  pub file : WidthFile
+  pub is_table : read_table (parse_document table) ≡ Ok places
+  pub is_widths : read_widths (parse_document widths) ≡ Ok file
+  pub is_set : IsSetAs (mean places) file tape old new

@@ -1,0 +1,6 @@
+//! The command `serve`: the turns of a station over a wire.
+#![tactic(auto)]
+
+mod serving;
+
+pub use serving::{serve_run, serve_turn};
