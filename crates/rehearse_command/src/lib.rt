@@ -1,0 +1,9 @@
+//! The command `rehearse`: a whole circuit in one process, driven by a script.
+#![tactic(auto)]
+
+mod notes;
+mod rehearsing;
+mod script;
+mod showing;
+
+pub use rehearsing::{ScriptPaths, rehearse};

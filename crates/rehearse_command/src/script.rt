@@ -1,0 +1,150 @@
+//! The lines of a rehearsal script.
+
+use hex::FromHexError;
+use std::alloc::{AllocError, Global};
+use std::str;
+use tape_frames::{Tape, TapeFault};
+
+/// What one line of a script asks for.
+#[derive(Drop)]
+pub enum Order {
+    /// The circuit has so many members, 1 to 15. It is the first line that is not ignored, and stands once.
+    Members(u8),
+    /// The moment from here on, in milliseconds.
+    At(u64),
+    Offer { member: u8, number: u32, tape: Tape },
+    Seek { member: u8, number: u32 },
+    Due { member: u8 },
+    /// The k-th datagram ever sent, from 1, goes to its addressee.
+    Deliver { k: u32 },
+    Restart { member: u8 },
+    Balk { member: u8, saved: bool },
+}
+
+/// Why a line asks for nothing.
+#[derive(Clone, Copy, PartialEq, Eq)]
+pub enum LineFault {
+    /// An unknown word, a wrong number of words, or a number that doesn't fit.
+    BadLine,
+    /// The hex of an offer is not that of a tape.
+    BadTape,
+    OutOfMemory,
+}
+
+impl From<AllocError> for LineFault {
+    fn from(_: AllocError) -> LineFault {
+        LineFault::OutOfMemory
+    }
+}
+
+/// Whether a line is passed over: it is blank, or begins with `#`.
+pub fn is_ignored(line: &[u8]) -> bool {
+    line.first() == Some(&b'#') || line.iter().all(|b| *b == b' ')
+}
+
+/// Whether the word is one decimal digit or more.
+fn is_decimal(word: &str) -> bool {
+    !word.is_empty() && word.bytes().all(|b| b.is_ascii_digit())
+}
+
+/// A number in decimal digits, leading zeros included, that fits.
+fn number(word: &str) -> Result<u64, LineFault> {
+    if !is_decimal(word) {
+        return Err(LineFault::BadLine);
+    }
+    word.parse::<u64>().map_err(|_| LineFault::BadLine)
+}
+
+fn member(word: &str) -> Result<u8, LineFault> {
+    u8::try_from(number(word)?).map_err(|_| LineFault::BadLine)
+}
+
+fn small(word: &str) -> Result<u32, LineFault> {
+    u32::try_from(number(word)?).map_err(|_| LineFault::BadLine)
+}
+
+/// The tape that the hex of its frames gives.
+fn tape(alloc: Global, word: &str) -> Result<Tape, LineFault> {
+    let frames = match hex::decode(alloc, word.as_bytes()) {
+        Ok(frames) => frames,
+        Err(FromHexError::OutOfMemory) => return Err(LineFault::OutOfMemory),
+        Err(_) => return Err(LineFault::BadTape),
+    };
+    match Tape::from_bytes(alloc, &frames) {
+        Ok(tape) => Ok(tape),
+        Err(TapeFault::OutOfMemory) => Err(LineFault::OutOfMemory),
+        Err(_) => Err(LineFault::BadTape),
+    }
+}
+
+fn saved(word: &str) -> Result<bool, LineFault> {
+    match word {
+        "saved" => Ok(true),
+        "unsaved" => Ok(false),
+        _ => Err(LineFault::BadLine),
+    }
+}
+
+fn members(word: &str) -> Result<u8, LineFault> {
+    let count = member(word)?;
+    if 1 <= count && count <= 15 {
+        Ok(count)
+    } else {
+        Err(LineFault::BadLine)
+    }
+}
+
+/// What a name with one word behind it asks for.
+fn order_of_one(name: &str, word: &str) -> Result<Order, LineFault> {
+    match name {
+        "members" => Ok(Order::Members(members(word)?)),
+        "at" => Ok(Order::At(number(word)?)),
+        "due" => Ok(Order::Due {
+            member: member(word)?,
+        }),
+        "deliver" => Ok(Order::Deliver { k: small(word)? }),
+        "restart" => Ok(Order::Restart {
+            member: member(word)?,
+        }),
+        _ => Err(LineFault::BadLine),
+    }
+}
+
+/// What a name with a member and one word behind it asks for.
+fn order_of_two(name: &str, who: &str, word: &str) -> Result<Order, LineFault> {
+    match name {
+        "seek" => Ok(Order::Seek {
+            member: member(who)?,
+            number: small(word)?,
+        }),
+        "balk" => Ok(Order::Balk {
+            member: member(who)?,
+            saved: saved(word)?,
+        }),
+        _ => Err(LineFault::BadLine),
+    }
+}
+
+/// The offer of a member's tape for a number.
+fn offer(alloc: Global, who: &str, what: &str, frames: &str) -> Result<Order, LineFault> {
+    let (member, number) = (member(who)?, small(what)?);
+    Ok(Order::Offer {
+        member,
+        number,
+        tape: tape(alloc, frames)?,
+    })
+}
+
+/// What a line that is not ignored asks for. Its words stand between spaces.
+pub fn order_of(alloc: Global, line: &[u8]) -> Result<Order, LineFault> {
+    let Ok(text) = str::from_utf8(line) else {
+        return Err(LineFault::BadLine);
+    };
+    let words: Vec<&str> = text.split(' ').filter(|w| !w.is_empty()).collect(alloc)?;
+    match words.as_slice() {
+        ["offer", who, what, frames] => offer(alloc, who, what, frames),
+        [name, who, word] => order_of_two(name, who, word),
+        [name, word] => order_of_one(name, word),
+        _ => Err(LineFault::BadLine),
+    }
+}

@@ -1,0 +1,47 @@
+-- What `rows` writes: whose rows they are, and a line for each.
+use Rattle.std.specs.Prelude.{ℕ, List, ◌++◌, Option, Some, None, codes, decimal, flat_map}
+use Rattle.std.specs.Io.KnownBytes.{Appends}
+use Rattle.hex.specs.Hex.{encode_lower}
+use Rattle.protocol.specs.Ballots.{Ballot}
+use Rattle.protocol.specs.Rows.{Vote, Row}
+use Rattle.streams.specs.Fronts.{AppendsFront}
+use Rattle.acceptor_store.specs.Saved.{Saved, IsListOf}
+use Rattle.acceptor_store.specs.declared.identity.Identity.{Identity}
+
+-- a ballot is its round, a dot and its owner
+abbrev pub ballot_text : Ballot → List ℕ
+ballot_text b = decimal b.round ++ (codes "." ++ decimal b.owner)
+
+-- a promise is its ballot, or a mark where there is none
+abbrev pub promise_text : Option Ballot → List ℕ
+promise_text None = codes "-"
+promise_text (Some b) = ballot_text b
+
+-- a vote is its ballot, and its frames in hex
+abbrev pub vote_text : Option Vote → List ℕ
+vote_text None = codes "- -"
+vote_text (Some v) = ballot_text v.ballot ++ (codes " " ++ encode_lower v.tape)
+
+-- the line of a number and its row
+abbrev pub row_line : ℕ × Row → List ℕ
+row_line p = decimal p.0 ++ (codes " " ++ (promise_text p.1.promised ++ (codes " " ++ (vote_text p.1.vote ++ codes "\n"))))
+
+-- the line that says whose rows they are
+abbrev pub station_line : Identity → List ℕ
+station_line i = codes "station " ++ (decimal i.member ++ (codes " of " ++ (decimal i.members ++ (codes " circuit " ++ (decimal i.circuit ++ codes "\n")))))
+
+-- the station, and then each row
+abbrev pub rows_text : Identity → List (ℕ × Row) → List ℕ
+rows_text i rows = station_line i ++ flat_map row_line rows
+
+-- all rows of the map were written, in order of their numbers, behind their station
+pub record IsPrinted (saved : Saved) (station : Identity) (old new : Option (List ℕ)) : Type 0 where
+  pub rows : List (ℕ × Row)
+  pub are_all : IsListOf saved rows
+  pub wrote : Appends old new (rows_text station rows)
+
+-- a front of that was written
+pub record IsFrontPrinted (saved : Saved) (station : Identity) (old new : Option (List ℕ)) : Type 0 where
+  pub rows : List (ℕ × Row)
+  pub are_all : IsListOf saved rows
+  pub wrote : AppendsFront old new (rows_text station rows)
