@@ -2,10 +2,12 @@
 
 use crate::starting::Plan;
 use ballots::Member;
+use check_command::TapePaths;
 use clap::builder::ValueParser;
 use clap::error::ErrorKind;
 use clap::{Arg, ArgAction, ArgMatches, Command, Error};
-use commands::{End, Fault, ScriptPaths, TapePaths};
+use command_ends::{End, Fault};
+use rehearse_command::ScriptPaths;
 use std::alloc::Global;
 
 /// What the command line asks for.

@@ -6,10 +6,14 @@ mod opened;
 mod row_files;
 mod starting;
 
+use answer_command::answer;
 use arguments::{Asked, parse};
 use ballots::Member;
-use commands::{End, Fault, ScriptPaths, TapePaths, answer, check, print_rows, rehearse};
+use check_command::{TapePaths, check};
+use command_ends::{End, Fault};
 use opened::Opened;
+use rehearse_command::{ScriptPaths, rehearse};
+use rows_command::print_rows;
 use sqlite::Wary;
 use std::env;
 use std::io::{BufWriter, ErrorKind};

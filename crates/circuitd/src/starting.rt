@@ -2,20 +2,22 @@
 
 ghost use Rattle.std.specs.Prelude.{◌≤◌, length};
 ghost use Rattle.acceptor_store.specs.Identity.{IsIdentity};
-ghost use Rattle.wire.specs.Stations.{IsCircuit};
+ghost use Rattle.configuration.specs.Stations.{IsCircuit};
 
 use crate::opened::Opened;
 use crate::row_files::{FileRows, create_rows, open_rows};
 use acceptor_store::{Identity, Rows};
 use ballots::Member;
 use code_table::CodeTable;
-use commands::{End, Fault, read_config, read_table, read_tape, read_widths, serve_run};
+use command_ends::{End, Fault, read_table, read_tape, read_widths};
+use configuration::{Config, read_config};
+use serve_command::serve_run;
 use sqlite::Start;
 use station::Station;
 use std::io::Write;
 use tape_frames::Tape;
 use widths::Widths;
-use wire::{Address, Config, UdpWire};
+use wire::{Address, UdpWire};
 
 /// What the command line of `serve` asks for.
 #[derive(Clone, Copy, Debug)]

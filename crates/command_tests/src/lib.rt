@@ -1,9 +1,7 @@
-//! The tests of `check` and `rehearse`: whole printed texts, and the faults of each file.
+//! The tests of `answer`, `check`, `rehearse`, of configurations and of faults: whole printed texts.
 #![tactic(auto)]
 
 #[cfg(test)]
 mod failing;
-#[cfg(test)]
-mod fixture;
 #[cfg(test)]
 mod tests;

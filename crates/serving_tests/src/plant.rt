@@ -1,8 +1,10 @@
 //! A station at work, and the steps that it is driven by.
 
-use crate::fixture::{STORY, station_over};
+use crate::fixture::station_over;
 use acceptor_store::Rows;
-use commands::{End, serve_run, serve_turn};
+use command_ends::End;
+use fixtures::FLOOD;
+use serve_command::{serve_run, serve_turn};
 use station::Station;
 use std::alloc::Global;
 use tape_frames::{Tape, TapeFault};
@@ -42,7 +44,7 @@ pub const TURN: Run = Run {
 
 /// The offer of the story for number 12, and a turn.
 pub const OFFER: Run = Run {
-    offer: Some((12, &STORY)),
+    offer: Some((12, FLOOD)),
     ..TURN
 };
 
@@ -122,17 +124,5 @@ impl<R: Rows, N: Wire + Drop> Plant<R, N> {
             &mut self.out,
             &mut self.err,
         )
-    }
-
-    /// The rows, given up.
-    pub fn into_rows(self) -> R {
-        let Plant {
-            alloc: _,
-            station,
-            wire: _,
-            out: _,
-            err: _,
-        } = self;
-        station.into_rows()
     }
 }

@@ -4,4 +4,4 @@ mod agreeing;
 mod failing;
 mod printing;
 mod refusing;
-mod restarting;
+mod sockets;

@@ -6,7 +6,7 @@ ghost use Rattle.wire.specs.Arrival.{Fits};
 use ballots::Member;
 
 /// What came within the time limit of a receive.
-#[derive(Clone, Copy, Debug, PartialEq, Eq)]
+#[derive(Clone, Copy, PartialEq, Eq)]
 pub enum Arrival {
     /// Nothing came.
     Nothing,

@@ -1,7 +1,7 @@
 //! Command lines that are taken, and those that end as usage.
 
 use super::{Asked, parse};
-use commands::End;
+use command_ends::End;
 use std::alloc::Global;
 use std::test::Fail;
 

@@ -2,7 +2,7 @@
 
 use super::{Plan, serve};
 use ballots::Member;
-use commands::End;
+use command_ends::End;
 use sqlite::Wary;
 use std::alloc::Global;
 use std::test::Fail;

@@ -1,8 +1,9 @@
 //! The texts of galleys and faults, of the whole command.
 
 use crate::failing::{Broken, Slow};
-use crate::fixture::{TABLE, WIDTHS};
-use commands::{End, TapePaths, check};
+use check_command::{TapePaths, check};
+use command_ends::End;
+use fixtures::{CODES, FLOOD, HARVEST, LIGATURE, OVERSET, WIDTHS};
 use std::alloc::Global;
 use std::io::Read;
 
@@ -40,7 +41,7 @@ fn ends<R: Read>(
 
 /// Whether this tape sets as this text.
 fn sets(alloc: Global, mut tape: &[u8], out: &str) -> bool {
-    ends(alloc, (TABLE, WIDTHS), &mut tape, false, End::Done, out, "")
+    ends(alloc, (CODES, WIDTHS), &mut tape, false, End::Done, out, "")
 }
 
 /// Whether these files have this fault, and nothing is printed.
@@ -51,17 +52,17 @@ fn fails(alloc: Global, files: (&str, &str), mut tape: &[u8], err: &str) -> bool
 /// Whether it is so where these widths have this in place of that.
 fn fails_with(alloc: Global, old: &str, new: &str, tape: &[u8], err: &str) -> bool {
     match WIDTHS.replace(alloc, old, new) {
-        Ok(widths) => fails(alloc, (TABLE, &widths), tape, err),
+        Ok(widths) => fails(alloc, (CODES, &widths), tape, err),
         Err(_) => false,
     }
 }
 
 const GALLEYS: &[(&[u8], &str)] = &[
-    (&[1, 2, 3, 1, 3, 2, 4], "0001 J 0 0 a b _4 a _4 b\n"),
-    (&[1, 2, 3, 1, 3, 11, 4], "0001 J 0 0 a b _4 a _3 fi\n"),
+    (FLOOD, "0001 J 0 0 a b _4 a _4 b\n"),
+    (LIGATURE, "0001 J 0 0 a b _4 a _3 fi\n"),
     (&[2, 2, 3, 2, 2, 4], "0001 J 0 0 b b _6 b b\n"),
     (&[11, 11, 3, 11, 11, 4], "0001 J 0 0 fi fi _2 fi fi\n"),
-    (&[5, 2, 7, 4, 1, 11, 4], "0001 C 10 11 B\n0002 R 22 0 A\n"),
+    (HARVEST, "0001 C 10 11 B\n0002 R 22 0 A\n"),
     (&[4, 4, 63], ""),
     (&[8, 1, 10, 9, 2, 7, 4], "0001 L 0 17 ^a ~2 b\n"),
     (&[8, 1, 7, 4, 1, 7, 4], "0001 L 0 25 ^a\n0002 L 0 25 ^a\n"),
@@ -79,7 +80,7 @@ fn galleys(rt: HostRuntime) {
 
 const UNSET: &[(&[u8], &str)] = &[
     (&[1, 2, 3, 1, 2, 4], "fault: loose 2 at 5 line 1\n"),
-    (&[1, 2, 3, 1, 2, 3, 1, 4], "fault: overset 1 at 7 line 1\n"),
+    (OVERSET, "fault: overset 1 at 7 line 1\n"),
     (
         &[1, 2, 3, 1, 2, 3, 1, 4, 12],
         "fault: overset 1 at 7 line 1\n",
@@ -94,7 +95,7 @@ const UNSET: &[(&[u8], &str)] = &[
 #[test]
 fn tapes_that_do_not_set(rt: HostRuntime) {
     for (tape, fault) in UNSET {
-        assert!(rt; fails(rt.alloc(), (TABLE, WIDTHS), tape, fault));
+        assert!(rt; fails(rt.alloc(), (CODES, WIDTHS), tape, fault));
     }
 }
 
@@ -109,11 +110,11 @@ const FAULTY_FILES: &[(&str, &str, &str)] = &[
         "measure",
         "table entry 1: wrong type\n",
     ),
-    (TABLE, "measure", "widths: not toml\n"),
-    (TABLE, "measure = 0", "widths: out of range measure\n"),
-    (TABLE, "measure = 1", "widths: missing band_min\n"),
+    (CODES, "measure", "widths: not toml\n"),
+    (CODES, "measure = 0", "widths: out of range measure\n"),
+    (CODES, "measure = 1", "widths: missing band_min\n"),
     (
-        TABLE,
+        CODES,
         "measure = 1\nband_min = \"a\"",
         "widths: wrong type band_min\n",
     ),
@@ -136,12 +137,7 @@ fn faults_of_files(rt: HostRuntime) {
 
 /// What the widths have, what stands there instead, and the fault.
 const CHANGED_WIDTHS: &[(&str, &str, &[u8], &str)] = &[
-    (
-        "fi = 7\n",
-        "",
-        &[1, 2, 3, 1, 3, 11, 4],
-        "fault: no-width at 5 line 1\n",
-    ),
+    ("fi = 7\n", "", LIGATURE, "fault: no-width at 5 line 1\n"),
     (
         "band_min = 2",
         "band_min = 7",
@@ -168,14 +164,14 @@ fn faults_of_changed_widths(rt: HostRuntime) {
 
 /// Whether `check` of this tape with a listing ends so, and prints this text and this fault.
 fn lists(alloc: Global, mut tape: &[u8], end: End, out: &str, err: &str) -> bool {
-    ends(alloc, (TABLE, WIDTHS), &mut tape, true, end, out, err)
+    ends(alloc, (CODES, WIDTHS), &mut tape, true, end, out, err)
 }
 
 #[test]
 fn a_listing_of_holes(rt: HostRuntime) {
     let text = "o.o... 5\n.o.... 2\nooo... 7\n..o... 4\no..... 1\noo.o.. 11\n..o... 4\n\
 0001 C 10 11 B\n0002 R 22 0 A\n";
-    assert!(rt; lists(rt.alloc(), &[5, 2, 7, 4, 1, 11, 4], End::Done, text, ""));
+    assert!(rt; lists(rt.alloc(), HARVEST, End::Done, text, ""));
     let fault = "fault: unfinished at 1 line 1\n";
     assert!(rt; lists(rt.alloc(), &[1], End::Input, "o..... 1\n", fault));
 }
@@ -187,7 +183,7 @@ fn files_that_do_not_open(rt: HostRuntime) {
     assert!(rt;
         ends(
             rt.alloc(),
-            (TABLE, WIDTHS),
+            (CODES, WIDTHS),
             &mut broken,
             false,
             End::Input,
@@ -201,8 +197,8 @@ fn files_that_do_not_open(rt: HostRuntime) {
 /// for all.
 fn is_front(alloc: Global, room: usize) -> bool {
     let text = b"0001 J 0 0 a b _4 a _4 b\n";
-    let (mut table, mut widths) = (TABLE.as_bytes(), WIDTHS.as_bytes());
-    let mut tape: &[u8] = &[1, 2, 3, 1, 3, 2, 4];
+    let (mut table, mut widths) = (CODES.as_bytes(), WIDTHS.as_bytes());
+    let mut tape = FLOOD;
     let mut out = Slow::new(alloc, room);
     let mut err = Vec::new(alloc);
     let end = check(

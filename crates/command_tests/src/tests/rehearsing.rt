@@ -1,11 +1,12 @@
 //! Rehearsals: whole printed texts, and every fault of a script with its line.
 
 use crate::failing::Broken;
-use crate::fixture::{TABLE, WIDTHS};
-use commands::{End, ScriptPaths, rehearse};
+use command_ends::End;
+use fixtures::{CODES, WIDTHS};
+use rehearse_command::{ScriptPaths, rehearse};
 use std::alloc::Global;
+use std::io;
 use std::io::Read;
-use std::test::Fail;
 
 const PATHS: ScriptPaths<'static> = ScriptPaths {
     table: "codes.toml",
@@ -22,7 +23,7 @@ fn ends_over<R: Read>(
     out: &str,
     err: &str,
 ) -> bool {
-    let (mut table, mut widths) = (TABLE.as_bytes(), widths.as_bytes());
+    let (mut table, mut widths) = (CODES.as_bytes(), widths.as_bytes());
     let mut printed = Vec::new(alloc);
     let mut told = Vec::new(alloc);
     let ended = rehearse(
@@ -119,19 +120,20 @@ const IGNORED: &[(&str, &str)] = &[
     ),
 ];
 
+const STORIES: &[(&str, &str)] = &[
+    THREE_MEMBERS,
+    SECOND_BALLOT,
+    LOWER_BALLOT,
+    BALKS_SAVED,
+    BALKS_UNSAVED,
+    REFUSED_ALONE,
+    REFUSED_OF_THREE,
+];
+
 #[test]
 fn printed_texts(rt: HostRuntime) {
-    let alloc = rt.alloc();
-    for (script, text) in &[
-        THREE_MEMBERS,
-        SECOND_BALLOT,
-        LOWER_BALLOT,
-        BALKS_SAVED,
-        BALKS_UNSAVED,
-        REFUSED_ALONE,
-        REFUSED_OF_THREE,
-    ] {
-        assert!(rt; prints(alloc, script, text), "{script}");
+    for (script, text) in STORIES {
+        assert!(rt; prints(rt.alloc(), script, text), "{script}");
     }
 }
 
@@ -142,10 +144,81 @@ fn lines_that_are_ignored(rt: HostRuntime) {
     }
 }
 
+/// Lines whose words are written with more spaces, zeros or capital letters than they need, and what they ask for.
+const ORDERS: &[(&str, &str)] = &[
+    ("members 15\ndue 15\n", "15 idle\n"),
+    ("members 3\nbalk 2 unsaved\n", "2 armed unsaved\n"),
+    (
+        "members 15\noffer 1 12 01020301030204\ndeliver 12\n",
+        "1 began 1.1\n #1 prepare 1>2 12 1.1\n #2 prepare 1>3 12 1.1\n #3 prepare 1>4 12 1.1\n \
+#4 prepare 1>5 12 1.1\n #5 prepare 1>6 12 1.1\n #6 prepare 1>7 12 1.1\n \
+#7 prepare 1>8 12 1.1\n #8 prepare 1>9 12 1.1\n #9 prepare 1>10 12 1.1\n \
+#10 prepare 1>11 12 1.1\n #11 prepare 1>12 12 1.1\n #12 prepare 1>13 12 1.1\n \
+#13 prepare 1>14 12 1.1\n #14 prepare 1>15 12 1.1\n13 promised 1.1\n #15 promise 13>1 12 1.1\n",
+    ),
+    (
+        "members 3\noffer 3 12 01020301030204\ndeliver 2\noffer 1 12 01020301030b04\n\
+deliver 4\ndeliver 6\n  at   00289 \ndue 1\nat 0290\ndue 01\n",
+        "3 began 1.3\n #1 prepare 3>1 12 1.3\n #2 prepare 3>2 12 1.3\n\
+2 promised 1.3\n #3 promise 2>3 12 1.3\n\
+1 began 1.1\n #4 prepare 1>2 12 1.1\n #5 prepare 1>3 12 1.1\n\
+2 nacked 1.3\n #6 nack 2>1 12 1.1\n\
+1 denied 1.3\n1 idle\n\
+1 began 2.1\n #7 prepare 1>2 12 2.1\n #8 prepare 1>3 12 2.1\n",
+    ),
+    // The frame 3F is ignored where the tape sets, and the release shows it.
+    (
+        "members 1\noffer 1 12 01020301033F0204\n",
+        "1 proposed 1.1\n release 12 01020301033f0204\n0001 J 0 0 a b _4 a _4 b\n",
+    ),
+];
+
+#[test]
+fn what_lines_ask_for(rt: HostRuntime) {
+    for (script, text) in ORDERS {
+        assert!(rt; prints(rt.alloc(), script, text), "{script}");
+    }
+}
+
+/// Second lines that ask for nothing, and their fault.
+const NO_ORDERS: &[(&str, &str)] = &[
+    ("members", "script line 2: bad line\n"),
+    ("due", "script line 2: bad line\n"),
+    ("due 1 2", "script line 2: bad line\n"),
+    ("offer 1 12", "script line 2: bad line\n"),
+    ("offer 1 4294967296 01", "script line 2: bad line\n"),
+    ("deliver +1", "script line 2: bad line\n"),
+    ("balk 1 later", "script line 2: bad line\n"),
+    ("Due 1", "script line 2: bad line\n"),
+    ("\tdue 1", "script line 2: bad line\n"),
+    ("due 1\r", "script line 2: bad line\n"),
+    (" # due 1", "script line 2: bad line\n"),
+    ("at 18446744073709551616", "script line 2: bad line\n"),
+    ("offer 9 12 0x", "script line 2: bad tape\n"),
+    ("offer 9 12 0g", "script line 2: bad tape\n"),
+    ("offer 9 12 010", "script line 2: bad tape\n"),
+];
+
+/// Whether this line behind the circuit's has this fault, and nothing is printed.
+fn is_no_order(alloc: Global, line: &str, fault: &str) -> bool {
+    match format!(in alloc; "members 3\n{line}\n") {
+        Ok(script) => fails(alloc, &script, "", fault),
+        Err(_) => false,
+    }
+}
+
+#[test]
+fn lines_that_ask_for_nothing(rt: HostRuntime) {
+    for (line, fault) in NO_ORDERS {
+        assert!(rt; is_no_order(rt.alloc(), line, fault), "{line}");
+    }
+}
+
 /// Faulty lines, none after a printed text.
-const FAULTY: [(&str, &str); 12] = [
+const FAULTY: &[(&str, &str)] = &[
     ("members 3\nmembers 3\n", "script line 2: bad line\n"),
     ("members 16\n", "script line 1: bad line\n"),
+    ("members 0\n", "script line 1: bad line\n"),
     ("\n# first\ndue 1\n", "script line 3: bad line\n"),
     ("offer 1 12 40\n", "script line 1: bad line\n"),
     ("members 3\ndue 300\n", "script line 2: bad line\n"),
@@ -169,7 +242,7 @@ const FAULTY: [(&str, &str); 12] = [
 
 #[test]
 fn faulty_lines(rt: HostRuntime) {
-    for (script, fault) in &FAULTY {
+    for (script, fault) in FAULTY {
         assert!(rt; fails(rt.alloc(), script, "", fault), "{script}");
     }
 }
@@ -187,15 +260,22 @@ fn what_was_printed_stays(rt: HostRuntime) {
     );
 }
 
+/// Whether a script of so many blanks ends so, with nothing printed and this fault.
+fn blanks_end(alloc: Global, count: u64, end: End, fault: &str) -> bool {
+    ends_over(
+        alloc,
+        WIDTHS,
+        &mut io::repeat(b' ').take(count),
+        end,
+        "",
+        fault,
+    )
+}
+
 #[test]
-fn scripts_of_the_greatest_length(rt: HostRuntime) -> Result<(), Fail> {
-    let alloc = rt.alloc();
-    let mut text = vec![in alloc; b' '; 1_048_576]?;
-    assert!(rt; ends_over(alloc, WIDTHS, &mut text.as_slice(), End::Done, "", ""));
-    text.push(b' ')?;
-    let long = "input too long\n";
-    assert!(rt; ends_over(alloc, WIDTHS, &mut text.as_slice(), End::Input, "", long));
-    Ok(())
+fn scripts_of_the_greatest_length(rt: HostRuntime) {
+    assert!(rt; blanks_end(rt.alloc(), 1_048_576, End::Done, ""));
+    assert!(rt; blanks_end(rt.alloc(), 1_048_577, End::Input, "input too long\n"));
 }
 
 #[test]

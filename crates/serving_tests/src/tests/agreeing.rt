@@ -4,7 +4,7 @@ use crate::fixture::RELEASE;
 use crate::plant::{OFFER, Plant, Run};
 use acceptor_store::MemoryRows;
 use ballots::Member;
-use commands::End;
+use command_ends::End;
 use std::alloc::Global;
 use wire::{Address, UdpWire};
 

@@ -6,7 +6,7 @@ use crate::stories::{Story, bench_of, is_true, taken};
 use crate::wires::Manner;
 use acceptor_store::MemoryRows;
 use ballots::Number;
-use commands::End;
+use command_ends::End;
 use std::alloc::Global;
 
 const DEAF: Story = Story {

@@ -6,7 +6,8 @@ use crate::stories::{Story, is_true};
 use crate::wires::{Manner, Scripted};
 use crate::writers::{Held, Slow};
 use acceptor_store::MemoryRows;
-use commands::{End, serve_run};
+use command_ends::End;
+use serve_command::serve_run;
 use std::alloc::Global;
 use std::io::Write;
 

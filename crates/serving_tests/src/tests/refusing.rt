@@ -1,10 +1,11 @@
 //! Offers and searches that are refused.
 
-use crate::fixture::{RELEASE, STORY};
+use crate::fixture::RELEASE;
 use crate::plant::{OFFER, Run};
 use crate::stories::{Story, is_true};
 use crate::wires::Manner;
-use commands::End;
+use command_ends::End;
+use fixtures::FLOOD;
 
 /// The offer of the story, refused.
 const REFUSED: Run = Run {
@@ -20,7 +21,7 @@ const OFFERS_AND_SEARCHES: Story = Story {
     manner: Manner::Whole,
     steps: &[
         Run {
-            offer: Some((0, &STORY)),
+            offer: Some((0, FLOOD)),
             err: "refused bad-number\n",
             ..REFUSED
         },

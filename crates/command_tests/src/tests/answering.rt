@@ -1,0 +1,163 @@
+//! What `answer` tells to whole inputs, and readers and writers that fail.
+
+use crate::failing::{Broken, Slow};
+use answer_command::answer;
+use ballots::Member;
+use command_ends::End;
+use std::alloc::Global;
+use std::io;
+use std::io::Read;
+
+/// A Prepare of 1.1 for number 12, and the Promise that reports no vote.
+const PREPARE: &str = "544e0101000701020000000c0000000101";
+
+const PROMISE: &str = "544e0102000702010000000c000000010100\n";
+
+/// The same acceptor, asked five times; a line of spaces is no line.
+const FIVE: &str = "544e0101000701020000000c0000000101\n\
+544e0103000701020000000c00000001010003010204\n  \n\
+544e0101000701020000000c0000000101\n\
+544e0101000703020000000c0000000103\n\
+544e0101000701020000000c0000000101";
+
+const TOLD: &str = "544e0102000702010000000c000000010100\n\
+544e0104000702010000000c00000001010003010204\n\
+silent\n\
+544e0102000702030000000c00000001030100000001010003010204\n\
+544e0105000702010000000c00000001010000000103\n";
+
+/// A line for each word of a refusal, in order of precedence.
+const REFUSED: &str = "zz\n\
+00\n\
+554e0101000701020000000c0000000101\n\
+544e0201000701020000000c0000000101\n\
+544e0106000701020000000c0000000101\n\
+544e0101000701010000000c0000000101\n\
+544e010100070102000000000000000101\n\
+544e0101000701020000000c0000000001\n\
+544e0101000701020000000c0000000102\n\
+544e0102000701020000000c000000010202\n\
+544e0103000701020000000c00000001010000\n\
+544e0101000801020000000c0000000101\n\
+544e0101000701030000000c0000000101\n\
+544e0102000701020000000c000000010200\n";
+
+const WORDS: &str = "refused not-hex\n\
+refused short\n\
+refused bad-mark\n\
+refused bad-version\n\
+refused bad-kind\n\
+refused bad-member\n\
+refused bad-number\n\
+refused bad-ballot\n\
+refused bad-sender\n\
+refused bad-report\n\
+refused bad-frames\n\
+refused wrong-circuit\n\
+refused not-for-me\n\
+refused not-a-request\n";
+
+/// Whether member 2 of circuit 7 ends so over what this reads, and tells this text and this fault.
+fn ends<R: Read>(alloc: Global, input: &mut R, end: End, out: &str, err: &str) -> bool {
+    let Some(me) = Member::new(2) else {
+        return false;
+    };
+    let mut told = Vec::new(alloc);
+    let mut faults = Vec::new(alloc);
+    let ended = answer(alloc, 7, me, input, &mut told, &mut faults);
+    ended == end && told.as_slice() == out.as_bytes() && faults.as_slice() == err.as_bytes()
+}
+
+/// Whether it answers this input by this text.
+fn tells(alloc: Global, input: &str, text: &str) -> bool {
+    ends(alloc, &mut input.as_bytes(), End::Done, text, "")
+}
+
+/// Inputs, and what is told of them.
+const INPUTS: &[(&str, &str)] = &[
+    (PREPARE, PROMISE),
+    ("544e0101000701020000000c00000001\n", "refused short\n"),
+    ("544e0101000701020000000c000000010100\n", "refused long\n"),
+    (FIVE, TOLD),
+    // Upper case, blank lines, none, and bytes that are no digits.
+    ("544E0101000701020000000C0000000101\n", PROMISE),
+    ("\n   \n\n", ""),
+    ("", ""),
+    (" 544e0101000701020000000c0000000101\n", "refused not-hex\n"),
+    (
+        "544e0101000701020000000c0000000101\r\n",
+        "refused not-hex\n",
+    ),
+    (REFUSED, WORDS),
+];
+
+#[test]
+fn answers(rt: HostRuntime) {
+    for (input, text) in INPUTS {
+        assert!(rt; tells(rt.alloc(), input, text), "{input}");
+    }
+}
+
+/// Whether the front of so many digits of the Prepare is refused: half a byte is no hex, and a whole one is too short.
+fn refuses_front(alloc: Global, length: usize) -> bool {
+    let Some((front, _)) = PREPARE.as_bytes().split_at_checked(length) else {
+        return false;
+    };
+    let word = if length % 2 == 1 {
+        "refused not-hex\n"
+    } else {
+        "refused short\n"
+    };
+    let mut input = front;
+    ends(alloc, &mut input, End::Done, word, "")
+}
+
+#[test]
+fn each_front_of_a_line(rt: HostRuntime) {
+    for length in 1..PREPARE.len() {
+        assert!(rt; refuses_front(rt.alloc(), length), "{length}");
+    }
+}
+
+/// Whether a writer with room for so many bytes gets that front of the text, and the command ends by this with this
+/// fault.
+fn is_front(alloc: Global, room: usize, end: End, err: &str) -> bool {
+    let Some(me) = Member::new(2) else {
+        return false;
+    };
+    let mut out = Slow::new(alloc, room);
+    let mut faults = Vec::new(alloc);
+    let ended = answer(alloc, 7, me, &mut FIVE.as_bytes(), &mut out, &mut faults);
+    ended == end
+        && faults.as_slice() == err.as_bytes()
+        && TOLD.as_bytes().starts_with(&out.taken)
+        && out.taken.len() == room.min(TOLD.len())
+}
+
+#[test]
+fn a_writer_that_stops(rt: HostRuntime) {
+    for room in &[0, 1, 37, 40] {
+        assert!(rt;
+            is_front(rt.alloc(), *room, End::Input, "cannot write\n"),
+            "{room}"
+        );
+    }
+    assert!(rt; is_front(rt.alloc(), 1000, End::Done, ""));
+}
+
+#[test]
+fn a_reader_that_fails(rt: HostRuntime) {
+    let mut broken = Broken { given: false };
+    assert!(rt; ends(rt.alloc(), &mut broken, End::Input, "", "cannot read -\n"));
+}
+
+/// Whether an input of so many spaces ends so, with nothing told but this fault.
+fn blanks_end(alloc: Global, count: u64, end: End, err: &str) -> bool {
+    ends(alloc, &mut io::repeat(b' ').take(count), end, "", err)
+}
+
+#[test]
+fn inputs_of_the_greatest_length(rt: HostRuntime) {
+    assert!(rt; blanks_end(rt.alloc(), 1_048_576, End::Done, ""));
+    assert!(rt; blanks_end(rt.alloc(), 1_048_577, End::Input, "input too long\n"));
+}

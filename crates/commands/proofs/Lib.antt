@@ -1,4 +1,0 @@
-pub mod History
-pub mod Loop
-mod Listings
-pub mod Served

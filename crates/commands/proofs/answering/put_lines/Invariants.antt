@@ -1,9 +1,0 @@
-use Rattle.std.proofs.Common.{map, drop}
-use Rattle.acceptor_store.specs.Memory.{saved}
-use Rattle.commands.proofs.Loop.{Standing}
-use Rattle.commands.proofs.answering.put_lines.Given as goal
-
-abbrev pub invariant-loop-line : goal.invariant-loop-line
-invariant-loop-line g l =
-    let lines = map (λ x. x.now) l.lines in
-    Standing l.seat.circuit l.seat.me (saved l.rows) lines (drop l.line-index lines) (g.W.Write.contents l.initial.out) (g.W.Write.contents l.out)

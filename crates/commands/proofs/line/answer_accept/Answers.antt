@@ -1,8 +1,0 @@
-use Rattle.std.proofs.Common.{rules}
-use Rattle.acceptor_store.specs.Memory.{saved}
-use Rattle.commands.proofs.History.{saved_as}
-use Rattle.commands.proofs.line.answer_accept.Goals as goal
-
-pub returns-clause-rows : goal.returns-clause-rows
-returns-clause-rows c =
-    saved_as (saved c.args.rows.now) (saved c.save.new.self) c.args.packet.now.number _ _ (rw c.number-number.ensures at c.in_ok-save-in-Voted.ensures.ok) (search rules)
