@@ -4,7 +4,7 @@ use Rattle.std.specs.Prelude.{OnOk}
 use Rattle.std.proofs.lemmas.Bool.{eqb-true}
 use Rattle.protocol.specs.Rows.{Row}
 use Rattle.protocol.specs.Acceptor.{Request, Reply, row_after, reply_after, reply_of, next_row, StepsAreOfTheWhole}
-use Rattle.acceptor_store.specs.Saved.{WithRow}
+use Rattle.saved_rows.specs.Saved.{WithRow}
 use Rattle.answer_command.specs.Asked.{Asked}
 use Rattle.answer_command.specs.Replies.{answered, reply_text, rows_after}
 use Rattle.answer_command.specs.AnswerText.{requests_for, heard_after, line_text, Stands}

@@ -4,14 +4,14 @@ ghost use Rattle.std.specs.Prelude.{◌≡◌, ◌==◌, List, ℕ, [], ◌∷�
 ghost use Rattle.std.specs.List.{list_all, slice_split};
 ghost use Rattle.std.specs.Io.KnownBytes.{Appends};
 ghost use Rattle.streams.specs.Fronts.{AppendsFront};
-ghost use Rattle.acceptor_store.specs.Memory.{saved};
+ghost use Rattle.saved_rows.specs.Memory.{saved};
 ghost use Rattle.answer_command.specs.Asked.{asked_of};
 ghost use Rattle.answer_command.specs.Replies.{answered, rows_after};
 ghost use Rattle.answer_command.specs.AnswerText.{is_blank, lines_of, lines_text, answer_text};
 ghost use Rattle.command_ends.specs.declared.end.End.TheVariants.{Done};
 
 use crate::line::{Seat, answer_line};
-use acceptor_store::MemoryRows;
+use saved_rows::MemoryRows;
 use ballots::Member;
 use command_ends::{End, Fault};
 use std::alloc::{AllocError, Global};

@@ -8,13 +8,13 @@ ghost use Rattle.protocol.specs.Acceptor.{Prepares, Accepts, is_above, next_row}
 ghost use Rattle.packets.specs.Bodies.{said};
 ghost use Rattle.packets.specs.Rules.{keeps_rules};
 ghost use Rattle.packets.specs.Spelling.{spelling};
-ghost use Rattle.acceptor_store.specs.Saved.{WithRow};
-ghost use Rattle.acceptor_store.specs.Memory.{saved};
+ghost use Rattle.saved_rows.specs.Saved.{WithRow};
+ghost use Rattle.saved_rows.specs.Memory.{saved};
 ghost use Rattle.answer_command.specs.Asked.{asked_of, asked_of_packet, asked_in};
 ghost use Rattle.answer_command.specs.Replies.{refused_text, answered, rows_after, back, voted_tape};
 
 use acceptor::{AcceptAnswer, PrepareAnswer, accept, prepare};
-use acceptor_store::MemoryRows;
+use saved_rows::MemoryRows;
 use ballots::{Ballot, Member, Number, Row};
 use command_ends::Refusal;
 use hex::FromHexError;

@@ -1,8 +1,9 @@
 //! Saved rows in files of the host.
 
-ghost use Rattle.acceptor_store.specs.Identity.{IsIdentity};
+ghost use Rattle.saved_rows.specs.Identity.{IsIdentity};
 
-use acceptor_store::{Identity, RowsFault, SqliteRows};
+use acceptor_store::SqliteRows;
+use saved_rows::{Identity, RowsFault};
 use sqlite::{Connection, Error, ErrorCode, FileFrom, FileStore, Start};
 use std::fs;
 

@@ -1,12 +1,12 @@
 //! What `serve` starts from: its configuration, the files that this names, the saved rows and the socket.
 
 ghost use Rattle.std.specs.Prelude.{◌≤◌, length};
-ghost use Rattle.acceptor_store.specs.Identity.{IsIdentity};
+ghost use Rattle.saved_rows.specs.Identity.{IsIdentity};
 ghost use Rattle.configuration.specs.Stations.{IsCircuit};
 
 use crate::opened::Opened;
 use crate::row_files::{FileRows, create_rows, open_rows};
-use acceptor_store::{Identity, Rows};
+use saved_rows::{Identity, Rows};
 use ballots::Member;
 use code_table::CodeTable;
 use command_ends::{End, Fault, read_table, read_tape, read_widths};

@@ -6,7 +6,7 @@ ghost use Rattle.command_ends.specs.declared.end.End.TheVariants.{Done};
 use crate::end::End;
 use crate::texts::{RowsText, TableText, TapeText, WidthsText};
 use crate::words::{CauseText, RefusalText};
-use acceptor_store::RowsFault;
+use saved_rows::RowsFault;
 use code_table::TableFault;
 use line_check::SetFault;
 use station::StepRefusal;

@@ -1,6 +1,6 @@
 //! The texts of the faults of files and of saved rows, each a line without its end.
 
-use acceptor_store::RowsFault;
+use saved_rows::RowsFault;
 use code_table::TableFault;
 use std::fmt;
 use tape_frames::TapeFault;

@@ -2,7 +2,7 @@
 
 use crate::script::{LineFault, Order, is_ignored, order_of};
 use crate::showing::put_seen;
-use acceptor_store::MemoryRows;
+use saved_rows::MemoryRows;
 use code_table::CodeTable;
 use command_ends::{End, Fault, read_text, table_of, widths_of};
 use std::alloc::Global;

@@ -1,7 +1,7 @@
 //! What a rehearsal shows of a step: a line for what it did, one for each datagram, and the release.
 
 use crate::notes::NoteText;
-use acceptor_store::{MemoryRows, RowsFault};
+use saved_rows::{MemoryRows, RowsFault};
 use command_ends::{Fault, RefusalText, put_release};
 use packets::{BodyRef, PacketRef, decode};
 use station::{Datagram, StepRefusal};

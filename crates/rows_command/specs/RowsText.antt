@@ -5,8 +5,8 @@ use Rattle.hex.specs.Hex.{encode_lower}
 use Rattle.protocol.specs.Ballots.{Ballot}
 use Rattle.protocol.specs.Rows.{Vote, Row}
 use Rattle.streams.specs.Fronts.{AppendsFront}
-use Rattle.acceptor_store.specs.Saved.{Saved, IsListOf}
-use Rattle.acceptor_store.specs.declared.identity.Identity.{Identity}
+use Rattle.saved_rows.specs.Saved.{Saved, IsListOf}
+use Rattle.saved_rows.specs.declared.identity.Identity.{Identity}
 
 -- a ballot is its round, a dot and its owner
 abbrev pub ballot_text : Ballot → List ℕ

@@ -3,12 +3,13 @@
 ghost use Rattle.std.specs.Prelude.{◌≡◌, ◌⊎◌, IsTrue, IfOk, OnOk, OnErr, flat_map, option_copied, string_bytes};
 ghost use Rattle.std.specs.Io.KnownBytes.{Appends};
 ghost use Rattle.streams.specs.Fronts.{AppendsFront};
-ghost use Rattle.acceptor_store.specs.Saved.{SameRows};
+ghost use Rattle.saved_rows.specs.Saved.{SameRows};
 ghost use Rattle.acceptor_store.specs.Sqlite.{IsKept, IsOpen, saved_of, MayLeave};
 ghost use Rattle.rows_command.specs.RowsText.{ballot_text, promise_text, vote_text, row_line, station_line, rows_text, IsPrinted, IsFrontPrinted};
 ghost use Rattle.command_ends.specs.declared.end.End.TheVariants.{Done};
 
-use acceptor_store::{Identity, SqliteRows};
+use acceptor_store::SqliteRows;
+use saved_rows::Identity;
 use ballots::{Ballot, Number, Row, Vote};
 use command_ends::{End, Fault};
 use sqlite::Alter;

@@ -6,7 +6,7 @@ ghost use Rattle.station.specs.Steps.{tears};
 ghost use Rattle.serve_command.specs.Serving.{Serves, TakesIn, SeesToDue, Turns, TakesTurns, Offers, Searches, Runs};
 ghost use Rattle.command_ends.specs.declared.end.End.TheVariants.{Done};
 
-use acceptor_store::Rows;
+use saved_rows::Rows;
 use command_ends::{End, Fault, put_release};
 use station::{Answer, Release, Station, StepRefusal};
 use std::alloc::Global;

@@ -1,6 +1,6 @@
 //! Stations over the files of the examples, and the release of their story.
 
-use acceptor_store::Rows;
+use saved_rows::Rows;
 use ballots::{Ballot, Member};
 use code_table::CodeTable;
 use fixtures::{CODES, WIDTHS};

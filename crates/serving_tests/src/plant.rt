@@ -1,7 +1,7 @@
 //! A station at work, and the steps that it is driven by.
 
 use crate::fixture::station_over;
-use acceptor_store::Rows;
+use saved_rows::Rows;
 use command_ends::End;
 use fixtures::FLOOD;
 use serve_command::{serve_run, serve_turn};

@@ -3,7 +3,7 @@
 use crate::fixture::ballot;
 use crate::plant::{Plant, Run};
 use crate::wires::{Manner, Scripted};
-use acceptor_store::{Balky, MemoryRows};
+use saved_rows::{Balky, MemoryRows};
 use ballots::{Number, Row};
 use std::alloc::Global;
 

@@ -1,7 +1,7 @@
 -- A save that was refused.
 use Rattle.std.proofs.Common.{◌≡◌, ℕ, Option, Some, sym, subst}
 use Rattle.protocol.specs.Rows.{Row}
-use Rattle.acceptor_store.specs.declared.fault.RowsFault.{RowsFault}
+use Rattle.saved_rows.specs.declared.fault.RowsFault.{RowsFault}
 use Rattle.station.specs.Stations.{Sight}
 use Rattle.station.specs.Readiness.{RowBalked}
 

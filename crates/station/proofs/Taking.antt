@@ -7,8 +7,8 @@ use Rattle.protocol.specs.Rows.{Tape, Row}
 use Rattle.protocol.specs.Packets.{Packet}
 use Rattle.protocol.specs.Marks.{Mark}
 use Rattle.protocol.specs.Turn as said
-use Rattle.acceptor_store.specs.Saved.{Saved, SameRows, WithRow, with_row}
-use Rattle.acceptor_store.specs.declared.fault.RowsFault.{RowsFault}
+use Rattle.saved_rows.specs.Saved.{Saved, SameRows, WithRow, with_row}
+use Rattle.saved_rows.specs.declared.fault.RowsFault.{RowsFault}
 use Rattle.node_core.specs.Standing.{Core, StandsFor}
 use Rattle.node_core.specs.Turns.{note_value, IsTurn, IsRowAfter}
 use Rattle.node_core.specs.declared.turn.Turn.{Turn}

@@ -6,8 +6,8 @@ use Rattle.std.specs.Global.{Global}
 use Rattle.protocol.specs.Rows.{Tape, Row}
 use Rattle.protocol.specs.Packets.{Packet}
 use Rattle.protocol.specs.Circuit.{Datagram}
-use Rattle.acceptor_store.specs.Saved.{WithRow, IsEither}
-use Rattle.acceptor_store.specs.declared.fault.RowsFault.{RowsFault}
+use Rattle.saved_rows.specs.Saved.{WithRow, IsEither}
+use Rattle.saved_rows.specs.declared.fault.RowsFault.{RowsFault}
 use Rattle.packets.specs.Reading.{packet_at}
 use Rattle.code_table.specs.Tables.{Places, mean}
 use Rattle.widths.specs.Widths.{WidthFile}

@@ -3,9 +3,9 @@ use Rattle.std.specs.Prelude.{◌≡◌, ℕ, Option, Some, None, Result, Ok, Er
 use Rattle.protocol.specs.Rows.{Row}
 use Rattle.protocol.specs.Versions.{One, fits}
 use Rattle.protocol.specs.Refusals.{Setup}
-use Rattle.acceptor_store.specs.Saved.{Saved}
-use Rattle.acceptor_store.specs.declared.fault.RowsFault.{RowsFault}
-use Rattle.acceptor_store.specs.declared.rows.Rows.{Ghosts}
+use Rattle.saved_rows.specs.Saved.{Saved}
+use Rattle.saved_rows.specs.declared.fault.RowsFault.{RowsFault}
+use Rattle.saved_rows.specs.declared.rows.Rows.{Ghosts}
 use Rattle.code_table.specs.Tables.{mean}
 use Rattle.packets.specs.Reading.{packet_at}
 use Rattle.packets.specs.declared.fault.PacketFault.{PacketFault}

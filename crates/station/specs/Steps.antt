@@ -6,8 +6,8 @@ use Rattle.protocol.specs.Marks.{Mark}
 use Rattle.protocol.specs.Proposals.{was_released, open_proposal}
 use Rattle.protocol.specs.Turn.{Event, Offered, Sought, Came_due, Arrived, number_of, Note_idle, Turn, turn}
 use Rattle.protocol.specs.Refusals.{Call, refusal, early_refusal, event_of}
-use Rattle.acceptor_store.specs.Saved.{SameRows, WithRow, IsEither}
-use Rattle.acceptor_store.specs.declared.fault.RowsFault.{RowsFault}
+use Rattle.saved_rows.specs.Saved.{SameRows, WithRow, IsEither}
+use Rattle.saved_rows.specs.declared.fault.RowsFault.{RowsFault}
 use Rattle.node_core.specs.Standing.{StandsFor}
 use Rattle.node_core.specs.Turns.{note_value}
 use Rattle.station.specs.declared.answer.Answer.{Answer}

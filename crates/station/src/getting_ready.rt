@@ -2,7 +2,7 @@
 
 ghost use Rattle.std.specs.Prelude.{◌≡◌, ◌≤◌, IfOk, IfErr, IfSome, true, length};
 ghost use Rattle.std.specs.List.{AllZip};
-ghost use Rattle.acceptor_store.specs.Saved.{HasPromise, Rises};
+ghost use Rattle.saved_rows.specs.Saved.{HasPromise, Rises};
 ghost use Rattle.station.specs.Stations.{sight};
 ghost use Rattle.station.specs.Readiness.{Carries, IsReleased, Saves};
 ghost use Rattle.station.specs.Steps.{OnStore, tears};
@@ -10,7 +10,7 @@ ghost use Rattle.station.specs.Steps.{OnStore, tears};
 use crate::answer::{Answer, Release};
 use crate::datagram::Datagram;
 use crate::refusal::StepRefusal;
-use acceptor_store::Rows;
+use saved_rows::Rows;
 use ballots::Number;
 use code_table::CodeTable;
 use line_check::{SetError, set};

@@ -1,6 +1,6 @@
 //! Why a station refuses a step.
 
-use acceptor_store::RowsFault;
+use saved_rows::RowsFault;
 use line_check::SetFault;
 use packets::PacketFault;
 

@@ -8,7 +8,7 @@ ghost use Rattle.node_core.specs.Standing.{StandsFor};
 ghost use Rattle.station.specs.Stations.{IsFixed, with_rows};
 ghost use Rattle.station.specs.contracts.station.Station.{the_row};
 
-use acceptor_store::Rows;
+use saved_rows::Rows;
 use ballots::{Ballot, Member, Number};
 use code_table::CodeTable;
 use node_core::NodeCore;

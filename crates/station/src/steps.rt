@@ -4,7 +4,7 @@ ghost use Rattle.std.specs.Prelude.{◌≡◌, ◌≤◌, List, [], true, false,
 ghost use Rattle.protocol.specs.Marks.{Mark};
 ghost use Rattle.protocol.specs.Turn.{number_of};
 ghost use Rattle.protocol.specs.Refusals.{Offering, Seeking, Falling_due, Receiving};
-ghost use Rattle.acceptor_store.specs.Saved.{Rises};
+ghost use Rattle.saved_rows.specs.Saved.{Rises};
 ghost use Rattle.node_core.specs.Standing.{StandsFor};
 ghost use Rattle.node_core.specs.Calls.{MayCome};
 ghost use Rattle.node_core.specs.Turns.{event_value};
@@ -17,7 +17,7 @@ use crate::checks::{check_packet, fault_of, fits_version_one};
 use crate::getting_ready::save;
 use crate::refusal::StepRefusal;
 use crate::station::Station;
-use acceptor_store::Rows;
+use saved_rows::Rows;
 use ballots::Number;
 use node_core::{CoreRefusal, Event};
 use packets::decode;

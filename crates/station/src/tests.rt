@@ -1,5 +1,5 @@
 use super::*;
-use acceptor_store::{Balky, MemoryRows, Rows, RowsFault};
+use saved_rows::{Balky, MemoryRows, Rows, RowsFault};
 use ballots::{Ballot, Member, Number, Row};
 use code_table::CodeTable;
 use node_core::Note;

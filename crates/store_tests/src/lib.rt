@@ -1,4 +1,5 @@
-//! The tests of saved rows: in memory, and in databases, which are made, taken up again and damaged.
+//! The tests of all that needs a database: saved rows, which are made, taken up again and damaged, beside those in memory;
+//! what `rows` prints; stations that start again.
 #![tactic(auto)]
 
 #[cfg(test)]
@@ -8,7 +9,11 @@ mod databases;
 #[cfg(test)]
 mod deeds;
 #[cfg(test)]
+mod listings;
+#[cfg(test)]
 mod memory;
+#[cfg(test)]
+mod restarts;
 #[cfg(test)]
 mod samples;
 #[cfg(test)]

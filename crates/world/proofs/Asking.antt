@@ -10,8 +10,8 @@ use Rattle.protocol.specs.Circuit.{Datagram, Task, Missing, task_of, delivery, d
 use Rattle.packets.specs.declared.fault.PacketFault.{PacketFault}
 use Rattle.line_check.specs.Laws.{OneSetting}
 use Rattle.line_check.specs.declared.fault.SetFault.{SetFault}
-use Rattle.acceptor_store.specs.Saved.{Saved}
-use Rattle.acceptor_store.specs.declared.balky.Balky.{Balky}
+use Rattle.saved_rows.specs.Saved.{Saved}
+use Rattle.saved_rows.specs.declared.balky.Balky.{Balky}
 use Rattle.node_core.specs.Standing.{StandsFor as CoreStandsFor}
 use Rattle.station.specs.declared.station.Station.{Station}
 use Rattle.station.specs.declared.answer.Answer.{Answer}

@@ -4,7 +4,7 @@ use Rattle.sqlite_trees.specs.declared.memory.MemStore.{MemStore}
 use Rattle.sqlite_trees.specs.View.{doubt}
 use Rattle.sqlite.specs.Steps.{over_memory}
 use Rattle.acceptor_store.specs.Sqlite.{SqliteOf, IsKept, IsOpen, IsHonest, IsOurs, saved_of, Blames}
-use Rattle.acceptor_store.specs.declared.rows.Rows.{Ghosts}
+use Rattle.saved_rows.specs.declared.rows.Rows.{Ghosts}
 
 -- what is said of rows, of those in a database in memory
 abbrev pub in_memory : Ghosts (SqliteOf MemStore)

@@ -5,11 +5,11 @@ use Rattle.std.proofs.lemmas.List.{length-map, map-append}
 use Rattle.std.proofs.lemmas.Option.{slice_get_within}
 use Rattle.protocol.specs.Versions.{One}
 use Rattle.protocol.specs.Circuit.{fresh, starts}
-use Rattle.acceptor_store.specs.Saved.{Saved}
+use Rattle.saved_rows.specs.Saved.{Saved}
 use Rattle.code_table.specs.Tables.{Places}
 use Rattle.widths.specs.Widths.{WidthFile}
-use Rattle.acceptor_store.specs.declared.balky.Balky.{Balky}
-use Rattle.acceptor_store.specs.declared.rows.Rows.{Ghosts}
+use Rattle.saved_rows.specs.declared.balky.Balky.{Balky}
+use Rattle.saved_rows.specs.declared.rows.Rows.{Ghosts}
 use Rattle.station.specs.declared.station.Station.{Station}
 use Rattle.world.specs.declared.world.World.{World}
 use Rattle.world.specs.Setups.{StationCircuit}

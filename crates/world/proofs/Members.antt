@@ -6,8 +6,8 @@ use Rattle.std.proofs.lemmas.Option.{slice_get_within, slice_get_read, slice_get
 use Rattle.std.proofs.lemmas.List.{get_or-set_same, get_or-set_other}
 use Rattle.std.proofs.Math.ListN.{length-set}
 use Rattle.protocol.specs.Circuit.{with_at}
-use Rattle.acceptor_store.specs.Saved.{Saved}
-use Rattle.acceptor_store.specs.declared.balky.Balky.{Balky}
+use Rattle.saved_rows.specs.Saved.{Saved}
+use Rattle.saved_rows.specs.declared.balky.Balky.{Balky}
 use Rattle.node_core.specs.Standing.{StandsFor as CoreStandsFor}
 use Rattle.station.specs.declared.station.Station.{Station}
 use Rattle.world.specs.declared.world.World.{World}

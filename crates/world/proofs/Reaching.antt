@@ -13,9 +13,9 @@ use Rattle.widths.specs.Widths.{WidthFile}
 use Rattle.line_check.specs.Sets.{Sets}
 use Rattle.line_check.specs.declared.slug.Slug.{Slug}
 use Rattle.line_check.specs.declared.fault.SetFault.{SetFault}
-use Rattle.acceptor_store.specs.Saved.{Saved}
-use Rattle.acceptor_store.specs.declared.balky.Balky.{Balky}
-use Rattle.acceptor_store.specs.declared.rows.Rows.{Ghosts}
+use Rattle.saved_rows.specs.Saved.{Saved}
+use Rattle.saved_rows.specs.declared.balky.Balky.{Balky}
+use Rattle.saved_rows.specs.declared.rows.Rows.{Ghosts}
 use Rattle.station.specs.declared.station.Station.{Station}
 use Rattle.world.specs.declared.world.World.{World}
 use Rattle.world.specs.declared.step.Step.{Step}

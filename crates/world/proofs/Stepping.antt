@@ -12,9 +12,9 @@ use Rattle.protocol.specs.Circuit.{offers_with}
 use Rattle.packets.specs.Reading.{packet_at}
 use Rattle.packets.specs.declared.fault.PacketFault.{PacketFault}
 use Rattle.line_check.specs.Laws.{OneSetting}
-use Rattle.acceptor_store.specs.declared.balky.Balky.{Balky}
+use Rattle.saved_rows.specs.declared.balky.Balky.{Balky}
 use Rattle.station.specs.declared.station.Station.{Station}
-use Rattle.acceptor_store.specs.declared.fault.RowsFault.{RowsFault}
+use Rattle.saved_rows.specs.declared.fault.RowsFault.{RowsFault}
 use Rattle.line_check.specs.declared.fault.SetFault.{SetFault}
 use Rattle.station.specs.declared.answer.Answer.{Answer}
 use Rattle.station.specs.declared.answer.Release.{Release}

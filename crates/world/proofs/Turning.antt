@@ -18,10 +18,10 @@ use Rattle.line_check.specs.Sets.{Sets}
 use Rattle.line_check.specs.Laws.{OneSetting}
 use Rattle.line_check.specs.declared.slug.Slug.{Slug}
 use Rattle.line_check.specs.declared.fault.SetFault.{SetFault}
-use Rattle.acceptor_store.specs.Saved.{WithRow, Rises}
-use Rattle.acceptor_store.specs.declared.balky.Balky.{Balky}
-use Rattle.acceptor_store.specs.declared.fault.RowsFault.{RowsFault}
-use Rattle.acceptor_store.specs.declared.fault.RowsFault.TheVariants.{Store}
+use Rattle.saved_rows.specs.Saved.{WithRow, Rises}
+use Rattle.saved_rows.specs.declared.balky.Balky.{Balky}
+use Rattle.saved_rows.specs.declared.fault.RowsFault.{RowsFault}
+use Rattle.saved_rows.specs.declared.fault.RowsFault.TheVariants.{Store}
 use Rattle.node_core.specs.Standing.{StandsFor as CoreStandsFor}
 use Rattle.node_core.specs.Turns.{note_value}
 use Rattle.station.specs.declared.station.Station.{Station}

@@ -3,9 +3,9 @@ use Rattle.std.specs.Prelude.{◌≡◌, ◌≤◌, ℕ, suc, List, [], Some, No
 use Rattle.protocol.specs.Rows.{blank}
 use Rattle.code_table.specs.Tables.{Places}
 use Rattle.widths.specs.Widths.{WidthFile}
-use Rattle.acceptor_store.specs.Saved.{Saved}
-use Rattle.acceptor_store.specs.declared.balky.Balky.{Balky}
-use Rattle.acceptor_store.specs.declared.rows.Rows.{Ghosts}
+use Rattle.saved_rows.specs.Saved.{Saved}
+use Rattle.saved_rows.specs.declared.balky.Balky.{Balky}
+use Rattle.saved_rows.specs.declared.rows.Rows.{Ghosts}
 use Rattle.node_core.specs.Standing.{StandsFor as CoreStandsFor}
 use Rattle.station.specs.declared.station.Station.{Station}
 use Rattle.world.specs.declared.world.World.{World}

@@ -2,7 +2,7 @@
 use Rattle.std.specs.Prelude.{ℕ, List, Result}
 use Rattle.protocol.specs.Versions.{One}
 use Rattle.protocol.specs.Circuit.{fresh}
-use Rattle.acceptor_store.specs.declared.rows.Rows.{Ghosts}
+use Rattle.saved_rows.specs.declared.rows.Rows.{Ghosts}
 use Rattle.world.specs.declared.world.World.{World}
 use Rattle.world.specs.declared.step.Step.{Step}
 use Rattle.world.specs.declared.step.RunStop.{RunStop}

@@ -8,7 +8,7 @@ ghost use Rattle.world.specs.Worlds.{IsSame};
 use crate::logs::{OfferLog, ReleaseLog};
 use crate::step::{Outcome, Seen, WorldRefusal};
 use crate::world::World;
-use acceptor_store::Rows;
+use saved_rows::Rows;
 use station::{Answer, Datagram, Release, StepRefusal};
 use tape_frames::Tape;
 

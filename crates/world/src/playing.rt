@@ -8,7 +8,8 @@ ghost use Rattle.world.specs.Taking.{StopsAt};
 
 use crate::step::{RunStop, Step};
 use crate::world::{NewWorldFault, World};
-use acceptor_store::{Identity, MemoryRows, Rows, SqliteRows};
+use acceptor_store::SqliteRows;
+use saved_rows::{Identity, MemoryRows, Rows};
 use code_table::CodeTable;
 use sqlite::{Connection, MemStore};
 use std::alloc::{AllocError, Global};

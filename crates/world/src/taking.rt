@@ -11,7 +11,7 @@ use crate::laws;
 use crate::logging::log_offer;
 use crate::step::{Outcome, RunStop, Seen, Step, WorldRefusal};
 use crate::world::World;
-use acceptor_store::Rows;
+use saved_rows::Rows;
 use line_check::laws::one_setting;
 use tape_frames::Tape;
 

@@ -10,7 +10,7 @@ ghost use Rattle.world.specs.Worlds.{station_at};
 
 use crate::laws;
 use crate::logs::{OfferLog, ReleaseLog};
-use acceptor_store::{Balky, Rows};
+use saved_rows::{Balky, Rows};
 use code_table::CodeTable;
 use station::{Datagram, Station};
 use std::alloc::{AllocError, Global};

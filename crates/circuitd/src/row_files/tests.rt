@@ -1,10 +1,10 @@
 //! Rows in a file of the host: made, taken up, refused.
 
-ghost use Rattle.acceptor_store.specs.Saved.{HasPromise};
+ghost use Rattle.saved_rows.specs.Saved.{HasPromise};
 ghost use Rattle.std.specs.Prelude.{IfSome};
 
 use super::{create_rows, open_rows};
-use acceptor_store::{Identity, Rows, RowsFault};
+use saved_rows::{Identity, Rows, RowsFault};
 use ballots::{Ballot, Member, Number, Row};
 use sqlite::Wary;
 use std::fs;

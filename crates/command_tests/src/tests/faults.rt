@@ -1,6 +1,6 @@
 //! The texts of the faults of saved rows, and how a command ends by them.
 
-use acceptor_store::RowsFault;
+use saved_rows::RowsFault;
 use command_ends::{End, Fault};
 use std::alloc::Global;
 

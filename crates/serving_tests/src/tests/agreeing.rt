@@ -2,7 +2,7 @@
 
 use crate::fixture::RELEASE;
 use crate::plant::{OFFER, Plant, Run};
-use acceptor_store::MemoryRows;
+use saved_rows::MemoryRows;
 use ballots::Member;
 use command_ends::End;
 use std::alloc::Global;

@@ -4,7 +4,7 @@ use crate::fixture::{RELEASE, ballot};
 use crate::plant::{OFFER, Run, SEARCH, TURN};
 use crate::stories::{Story, bench_of, is_true, taken};
 use crate::wires::Manner;
-use acceptor_store::MemoryRows;
+use saved_rows::MemoryRows;
 use ballots::Number;
 use command_ends::End;
 use std::alloc::Global;

@@ -5,7 +5,7 @@ use crate::plant::{OFFER, Run, TURN, offer_of};
 use crate::stories::{Story, is_true};
 use crate::wires::{Manner, Scripted};
 use crate::writers::{Held, Slow};
-use acceptor_store::MemoryRows;
+use saved_rows::MemoryRows;
 use command_ends::End;
 use serve_command::serve_run;
 use std::alloc::Global;

@@ -1,7 +1,7 @@
 //! Worlds over rows in memory, and tables of steps with what is to be seen of each.
 
 use crate::{Outcome, Seen, Step, World};
-use acceptor_store::{MemoryRows, Rows};
+use saved_rows::{MemoryRows, Rows};
 use ballots::Ballot;
 use code_table::CodeTable;
 use line_check::galley;

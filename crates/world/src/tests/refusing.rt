@@ -3,7 +3,7 @@
 use super::playing::Act::{Deliver, OfferX, Seek};
 use super::playing::{Line, Sample, WIDTHS, circuit, part, plays, step_of};
 use crate::{NewWorldFault, RunStop, Step, World, WorldRefusal};
-use acceptor_store::MemoryRows;
+use saved_rows::MemoryRows;
 use std::alloc::Global;
 use std::test::Fail;
 

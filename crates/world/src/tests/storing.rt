@@ -3,7 +3,8 @@
 use super::agreeing::THREE;
 use super::playing::{WIDTHS, part, step_of};
 use crate::{OfferLog, ReleaseLog, World};
-use acceptor_store::{Identity, MemoryRows, Rows, SqliteRows};
+use acceptor_store::SqliteRows;
+use saved_rows::{Identity, MemoryRows, Rows};
 use line_check::galley;
 use sqlite::{Connection, MemStore};
 use station::Datagram;

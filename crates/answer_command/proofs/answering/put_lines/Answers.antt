@@ -1,5 +1,5 @@
 use Rattle.std.proofs.Common.{sym, ◌∙◌}
-use Rattle.acceptor_store.specs.Memory.{saved}
+use Rattle.saved_rows.specs.Memory.{saved}
 use Rattle.answer_command.proofs.Loop.{texts, standing_at, starts, skips, goes_on, stops, on_err}
 use Rattle.answer_command.proofs.answering.put_lines.Goals as goal
 use Rattle.answer_command.proofs.answering.put_lines.Goals.{then-not-is_blank+in_ok-put_line, else-not-is_blank}

@@ -1,5 +1,5 @@
 use Rattle.std.proofs.Common.{map, drop}
-use Rattle.acceptor_store.specs.Memory.{saved}
+use Rattle.saved_rows.specs.Memory.{saved}
 use Rattle.answer_command.proofs.Loop.{Standing}
 use Rattle.answer_command.proofs.answering.put_lines.Given as goal
 

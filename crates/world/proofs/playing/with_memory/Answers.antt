@@ -1,8 +1,8 @@
 -- One member more.
 use Rattle.std.proofs.Common.{◌≡◌, List, [], ◌∷◌, ◌++◌, sym, subst, ap}
 use Rattle.std.specs.Prelude.{map}
-use Rattle.acceptor_store.specs.declared.memory.MemoryRows.{MemoryRows}
-use Rattle.acceptor_store.specs.contracts.memory.MemoryRowsRows.TheImpl.{ghosts}
+use Rattle.saved_rows.specs.declared.memory.MemoryRows.{MemoryRows}
+use Rattle.saved_rows.specs.contracts.memory.MemoryRowsRows.TheImpl.{ghosts}
 use Rattle.world.specs.Founding.{Part, AreNewlyMade, given_of}
 use Rattle.world.proofs.Founding.{newly_more, newly_none, given_more}
 use Rattle.world.proofs.playing.with_memory.Goals as goal

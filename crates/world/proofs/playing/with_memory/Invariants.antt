@@ -1,7 +1,7 @@
 -- The rows so far were just made, each for the member whose turn it was.
 use Rattle.std.proofs.Common.{◌≡◌}
 use Rattle.std.specs.Prelude.{map}
-use Rattle.acceptor_store.specs.contracts.memory.MemoryRowsRows.TheImpl.{ghosts}
+use Rattle.saved_rows.specs.contracts.memory.MemoryRowsRows.TheImpl.{ghosts}
 use Rattle.world.specs.Founding.{AreNewlyMade, given_of}
 use Rattle.world.proofs.playing.with_memory.Given as goal
 

@@ -1,7 +1,7 @@
 -- One station's store is armed, and the others stay.
 use Rattle.std.proofs.Common.{◌≡◌, ◌∙◌, refl, sym, ap, subst, Some}
 use Rattle.std.specs.Vec.{with_item}
-use Rattle.acceptor_store.specs.declared.balky.Balky.{Balky}
+use Rattle.saved_rows.specs.declared.balky.Balky.{Balky}
 use Rattle.station.specs.Stations.{sight}
 use Rattle.world.proofs.Members.{kept_before, made_after}
 use Rattle.world.proofs.Asking.{changed}
