@@ -13,6 +13,3 @@ pub use answer::{Answer, Release};
 pub use datagram::Datagram;
 pub use refusal::StepRefusal;
 pub use station::{BadMember, Station};
-
-#[cfg(test)]
-mod tests;

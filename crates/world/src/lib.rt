@@ -15,6 +15,3 @@ pub use playing::{PlayFault, Played, play, play_in_databases, play_in_memory};
 pub use slugs::Slugs;
 pub use step::{Outcome, RunStop, Seen, Step, WorldRefusal};
 pub use world::{NewWorldFault, World};
-
-#[cfg(test)]
-mod tests;

@@ -1,0 +1,290 @@
+//! Stories of one station: what is done to it, and what has to come of it.
+
+use crate::endings::is_note;
+use acceptor_store::{Balky, MemoryRows};
+use ballots::{Ballot, Member, Number, Row};
+use code_table::CodeTable;
+use fixtures::{CODES, FLOOD, WIDTHS};
+use station::{Answer, Datagram, Release, Station, StepRefusal};
+use std::alloc::Global;
+use tape_frames::Tape;
+use widths::Widths;
+
+/// What is done to a station, for number 12 and at moment 0 where nothing else is said.
+#[derive(Clone, Copy)]
+pub enum Act {
+    Offer(u32, &'static [u8]),
+    Seek,
+    Due(u64),
+    Receive(&'static [u8]),
+    /// Its next save is refused, after it was passed on where this says so.
+    Arm(bool),
+    Restart,
+}
+
+/// How it ends.
+#[derive(Clone, Copy)]
+pub enum Ends {
+    /// With this note.
+    Done(&'static str),
+    Refused(StepRefusal),
+    /// It is no step, and always done.
+    Always,
+}
+
+/// What is open of number 12.
+#[derive(Clone, Copy)]
+pub enum Open {
+    /// It is not asked.
+    Unasked,
+    Nothing,
+    /// A proposal at the ballot of this round and owner.
+    At(u32, u8),
+}
+
+/// What is done to a station, and what has to come of it.
+#[derive(Clone, Copy)]
+pub struct Turn {
+    pub act: Act,
+    pub ends: Ends,
+    /// How many datagrams it sends.
+    pub sent: usize,
+    /// The member that the first of them goes to, and its bytes, where they are asked.
+    pub datagram: Option<(u8, &'static [u8])>,
+    /// Whether it releases the flood story for number 12, as one slug; else it releases nothing.
+    pub releases: bool,
+    /// Whether the station is then stopped.
+    pub stopped: bool,
+    /// Whether it has then released number 12 since it started.
+    pub released: bool,
+    pub open: Open,
+}
+
+/// An offer of the flood story for number 12, which begins the first ballot of member 1 of three.
+pub const OFFER: Turn = Turn {
+    act: Act::Offer(12, FLOOD),
+    ends: Ends::Done("began 1.1"),
+    sent: 2,
+    datagram: None,
+    releases: false,
+    stopped: false,
+    released: false,
+    open: Open::At(1, 1),
+};
+
+/// A step that sends nothing, after which no proposal is open.
+pub const QUIET: Turn = Turn {
+    ends: Ends::Always,
+    sent: 0,
+    open: Open::Nothing,
+    ..OFFER
+};
+
+/// What a station leaves saved of number 12.
+#[derive(Clone, Copy)]
+pub enum Left {
+    /// It is not asked.
+    Unasked,
+    /// A row.
+    Row,
+    /// A row with a promise of this round and owner, and no vote.
+    Promise(u32, u8),
+}
+
+/// A station of circuit 7, the ballot that it promised for number 12 before, and what is done to it.
+#[derive(Clone, Copy)]
+pub struct Story {
+    pub me: u8,
+    pub members: u8,
+    pub promised: Option<(u32, u8)>,
+    pub turns: &'static [Turn],
+    pub left: Left,
+}
+
+/// A member of one with blank rows.
+pub const ALONE: Story = Story {
+    me: 1,
+    members: 1,
+    promised: None,
+    turns: &[],
+    left: Left::Unasked,
+};
+
+/// Member 1 of three with blank rows.
+pub const FIRST: Story = Story {
+    members: 3,
+    ..ALONE
+};
+
+/// Member 2 of three with blank rows.
+pub const SECOND: Story = Story { me: 2, ..FIRST };
+
+type Bench = Station<Balky<MemoryRows>>;
+
+fn ballot(round: u32, owner: u8) -> Option<Ballot> {
+    Ballot::new(round, Member::new(owner)?)
+}
+
+/// Blank rows, or with this promise for number 12.
+fn rows_with(alloc: Global, promised: Option<(u32, u8)>) -> Option<MemoryRows> {
+    let Some((round, owner)) = promised else {
+        return Some(MemoryRows::new(alloc));
+    };
+    let number = Number::new(12)?;
+    let row = Row::new(Some(ballot(round, owner)?), None)?;
+    let mut rows = MemoryRows::new(alloc);
+    rows.save(number, row).ok()?;
+    Some(rows)
+}
+
+/// The station of a story, before its turns.
+fn bench_of(alloc: Global, story: &Story) -> Option<Bench> {
+    let table = CodeTable::read(alloc, CODES).ok()?;
+    let widths = Widths::read(alloc, WIDTHS).ok()?;
+    let rows = Balky::new(rows_with(alloc, story.promised)?);
+    Station::new(alloc, 7, story.me, story.members, table, widths, rows).ok()
+}
+
+/// Whether the first of these datagrams is the one that is told.
+fn is_first(out: &[Datagram], told: Option<(u8, &[u8])>) -> bool {
+    match (told, out.first()) {
+        (None, _) => true,
+        (Some((to, bytes)), Some(datagram)) => {
+            datagram.to().get() == to && datagram.bytes() == bytes
+        }
+        (Some(_), None) => false,
+    }
+}
+
+/// Whether this is a release of the flood story for number 12, as one slug.
+fn is_flood(release: &Release) -> bool {
+    match &release.set {
+        Ok(slugs) => {
+            release.number.get() == 12 && release.tape.frames() == FLOOD && slugs.len() == 1
+        }
+        Err(_) => false,
+    }
+}
+
+/// Whether an answer is the one that is told.
+fn answers(alloc: Global, answer: &Answer, turn: &Turn, note: &str) -> bool {
+    let same_release = match &answer.release {
+        Some(release) => turn.releases && is_flood(release),
+        None => !turn.releases,
+    };
+    same_release
+        && answer.out.len() == turn.sent
+        && is_first(answer.out.as_slice(), turn.datagram)
+        && is_note(alloc, answer.note, note)
+}
+
+/// Whether a step ended as it is told.
+fn is_told(alloc: Global, step: Result<Answer, StepRefusal>, turn: &Turn) -> bool {
+    match (step, turn.ends) {
+        (Ok(answer), Ends::Done(note)) => answers(alloc, &answer, turn, note),
+        (Err(reason), Ends::Refused(refusal)) => reason == refusal,
+        _ => false,
+    }
+}
+
+/// Whether what is done ends as it is told.
+fn acts(alloc: Global, bench: &mut Bench, turn: &Turn) -> bool {
+    let step = match turn.act {
+        Act::Offer(number, frames) => {
+            let Ok(tape) = Tape::from_bytes(alloc, frames) else {
+                return false;
+            };
+            bench.offer(number, &tape, 0)
+        }
+        Act::Seek => bench.seek(12, 0),
+        Act::Due(now) => bench.due(now),
+        Act::Receive(bytes) => bench.receive(bytes, 0),
+        Act::Arm(saved) => {
+            bench.rows_mut().arm(saved);
+            return true;
+        }
+        Act::Restart => {
+            bench.restart();
+            return true;
+        }
+    };
+    is_told(alloc, step, turn)
+}
+
+/// Whether this is open of number 12.
+fn is_open(bench: &Bench, number: Number, open: Open) -> bool {
+    let found = bench.open_ballot(number);
+    match open {
+        Open::Unasked => true,
+        Open::Nothing => found.is_none(),
+        Open::At(round, owner) => found.is_some() && found == ballot(round, owner),
+    }
+}
+
+/// Whether a turn comes to what it has to.
+fn takes(alloc: Global, bench: &mut Bench, number: Number, turn: &Turn) -> bool {
+    acts(alloc, bench, turn)
+        && bench.stopped() == turn.stopped
+        && bench.released(number) == turn.released
+        && is_open(bench, number, turn.open)
+}
+
+/// Whether a row has a promise of this round and owner, and no vote.
+fn is_promise(row: &Row, round: u32, owner: u8) -> bool {
+    let promised = row.promised();
+    promised.is_some() && promised == ballot(round, owner) && row.vote().is_none()
+}
+
+/// Whether a station leaves this saved.
+fn leaves(bench: Bench, number: Number, left: Left) -> bool {
+    match left {
+        Left::Unasked => true,
+        Left::Row => bench.rows().rows().row(number).is_some(),
+        Left::Promise(round, owner) => {
+            let rows = bench.into_rows().into_rows();
+            match rows.row(number) {
+                Some(row) => is_promise(row, round, owner),
+                None => false,
+            }
+        }
+    }
+}
+
+/// How many turns of a story come to what they have to, up to the first that does not, and one more where the station
+/// then leaves saved what it has to.
+fn come(alloc: Global, story: &Story) -> Option<usize> {
+    let number = Number::new(12)?;
+    let mut bench = bench_of(alloc, story)?;
+    for (place, turn) in story.turns.iter().enumerate() {
+        if !takes(alloc, &mut bench, number, turn) {
+            return Some(place);
+        }
+    }
+    let count = story.turns.len();
+    Some(if leaves(bench, number, story.left) {
+        count.saturating_add(1)
+    } else {
+        count
+    })
+}
+
+/// The place of the first turn of a story that does not come to what it has to; nothing where all do.
+pub fn fails_at(alloc: Global, story: &Story) -> Option<usize> {
+    match come(alloc, story) {
+        Some(count) if count > story.turns.len() => None,
+        Some(place) => Some(place),
+        None => Some(0),
+    }
+}
+
+/// Whether a station that is no member of its circuit is refused, and its parts, handed back, make none of a circuit
+/// that is too large either.
+pub fn is_no_member(alloc: Global) -> Option<bool> {
+    let table = CodeTable::read(alloc, CODES).ok()?;
+    let widths = Widths::read(alloc, WIDTHS).ok()?;
+    let rows = MemoryRows::new(alloc);
+    Some(match Station::new(alloc, 7, 4, 3, table, widths, rows) {
+        Ok(_) => false,
+        Err(bad) => Station::new(alloc, 7, 3, 16, bad.table, bad.widths, bad.rows).is_err(),
+    })
+}

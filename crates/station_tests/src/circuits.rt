@@ -1,0 +1,405 @@
+//! Stories of a circuit over rows in memory: the steps, what has to be seen of each, and what the logs have to say.
+
+use crate::endings::{is_end, is_refusal};
+use acceptor_store::MemoryRows;
+use ballots::Number;
+use code_table::CodeTable;
+use fixtures::{CODES, FLOOD, LIGATURE, WIDTHS};
+use line_check::{SetFault, galley};
+use std::alloc::Global;
+use tape_frames::Tape;
+use widths::Widths;
+use world::{
+    NewWorldFault, OfferLog, ReleaseLog, RunStop, Seen, Step, World, WorldRefusal, play_in_memory,
+};
+
+/// Widths that lack the matrix `fi`.
+pub const WIDTHS_WITHOUT_FI: &str =
+    "measure = 30\nband_min = 2\nband_max = 6\nthin = 2\nen = 5\nem = 10\n\
+[matrix]\na = 5\nb = 6\nA = 8\nB = 9\n";
+
+/// What the flood story sets as, and what it does with its ligature.
+pub const FLOOD_SET: &str = "0001 J 0 0 a b _4 a _4 b\n";
+
+pub const LIGATURE_SET: &str = "0001 J 0 0 a b _4 a _3 fi\n";
+
+/// What is done, of number 12 and at moment 0 where nothing else is said.
+#[derive(Clone, Copy)]
+pub enum Act {
+    OfferFlood(u8),
+    OfferLigature(u8),
+    Seek(u8),
+    Due(u8, u64),
+    Deliver(usize),
+    Restart(u8),
+    Balk(u8, bool),
+}
+
+/// A step, and what is to be seen of it: who acted, the first datagram, how many were sent, whether a tape was released,
+/// and how it ended.
+#[derive(Clone, Copy)]
+pub struct Line(
+    pub Act,
+    pub u8,
+    pub usize,
+    pub usize,
+    pub bool,
+    pub &'static str,
+);
+
+/// A datagram by its place from 1: its kind, its sender, its addressee, and the round and owner of its ballot.
+#[derive(Clone, Copy)]
+pub struct Head(pub usize, pub u8, pub u8, pub u8, pub (u8, u8));
+
+/// An offer for number 12: the member and the frames.
+#[derive(Clone, Copy)]
+pub struct Offered(pub u8, pub &'static [u8]);
+
+/// A release of number 12: the member, the frames and what they set as.
+#[derive(Clone, Copy)]
+pub struct Released(
+    pub u8,
+    pub &'static [u8],
+    pub Result<&'static str, SetFault>,
+);
+
+/// A circuit of so many members, the last with these widths; its steps; and what its logs then have: how many datagrams,
+/// some of them, the frames that one of them ends with, all offers and all releases; and the open ballot of member 1.
+#[derive(Clone, Copy)]
+pub struct Story {
+    pub members: u8,
+    pub last: &'static str,
+    pub lines: &'static [Line],
+    pub sent: usize,
+    pub heads: &'static [Head],
+    pub tail: Option<(usize, &'static [u8])>,
+    pub offers: &'static [Offered],
+    pub releases: &'static [Released],
+    pub open: Option<Option<(u32, u8)>>,
+    /// Where its steps stop that are taken in one run.
+    pub stop: Option<RunStop>,
+}
+
+/// A circuit of three to which nothing happens.
+pub const CALM: Story = Story {
+    members: 3,
+    last: WIDTHS,
+    lines: &[],
+    sent: 0,
+    heads: &[],
+    tail: None,
+    offers: &[],
+    releases: &[],
+    open: None,
+    stop: None,
+};
+
+type Circuit = World<MemoryRows>;
+
+/// A member's code table, and these widths.
+fn pair(alloc: Global, widths: &str) -> Option<(CodeTable, Widths)> {
+    let table = CodeTable::read(alloc, CODES).ok()?;
+    let widths = Widths::read(alloc, widths).ok()?;
+    Some((table, widths))
+}
+
+/// The code tables and the widths of so many members, the last of them with these widths.
+fn pairs(alloc: Global, members: u8, last: &str) -> Option<Vec<(CodeTable, Widths)>> {
+    let mut pairs = Vec::new(alloc);
+    for member in 0..members {
+        let is_last = u32::from(member) + 1 == u32::from(members);
+        let widths = if is_last { last } else { WIDTHS };
+        pairs.push(pair(alloc, widths)?).ok()?;
+    }
+    Some(pairs)
+}
+
+/// The same, each with blank rows.
+fn parts(alloc: Global, members: u8, last: &str) -> Option<Vec<(CodeTable, Widths, MemoryRows)>> {
+    let mut parts = Vec::new(alloc);
+    for (table, widths) in pairs(alloc, members, last)? {
+        parts.push((table, widths, MemoryRows::new(alloc))).ok()?;
+    }
+    Some(parts)
+}
+
+/// The circuit of a story, before its steps.
+fn circuit(alloc: Global, story: &Story) -> Option<Circuit> {
+    let parts = parts(alloc, story.members, story.last)?;
+    World::new(alloc, 7, parts).ok()
+}
+
+/// The step of an act.
+fn step_of(alloc: Global, act: Act) -> Option<Step> {
+    let (number, now) = (12, 0);
+    let frames = if let Act::OfferFlood(_) = act {
+        FLOOD
+    } else {
+        LIGATURE
+    };
+    Some(match act {
+        Act::OfferFlood(member) | Act::OfferLigature(member) => Step::Offer {
+            member,
+            number,
+            tape: Tape::from_bytes(alloc, frames).ok()?,
+            now,
+        },
+        Act::Seek(member) => Step::Seek {
+            member,
+            number,
+            now,
+        },
+        Act::Due(member, now) => Step::Due { member, now },
+        Act::Deliver(k) => Step::Deliver { k, now },
+        Act::Restart(member) => Step::Restart { member },
+        Act::Balk(member, saved) => Step::Balk { member, saved },
+    })
+}
+
+/// Whether this is seen of a step.
+fn is_seen(alloc: Global, seen: &Seen, line: &Line) -> bool {
+    let Line(_, member, first, count, released, text) = *line;
+    seen.member == member
+        && seen.first == first
+        && seen.count == count
+        && seen.released == released
+        && is_end(alloc, seen.outcome, text)
+}
+
+/// Whether what is to be seen of a step is seen, or it is the step's refusal.
+fn takes(alloc: Global, world: &mut Circuit, line: &Line) -> bool {
+    let Some(step) = step_of(alloc, line.0) else {
+        return false;
+    };
+    match world.step(&step) {
+        Ok(seen) => is_seen(alloc, &seen, line),
+        Err(refusal) => is_refusal(refusal, line.5),
+    }
+}
+
+/// How many steps are seen as they have to be, up to the first that is not.
+fn taken(alloc: Global, world: &mut Circuit, lines: &[Line]) -> usize {
+    for (place, line) in lines.iter().enumerate() {
+        if !takes(alloc, world, line) {
+            return place;
+        }
+    }
+    lines.len()
+}
+
+/// The steps of a story.
+fn steps_of(alloc: Global, lines: &[Line]) -> Option<Vec<Step>> {
+    let mut steps = Vec::new(alloc);
+    for line in lines {
+        steps.push(step_of(alloc, line.0)?).ok()?;
+    }
+    Some(steps)
+}
+
+/// Whether a datagram was sent with this head, of number 12 of circuit 7.
+fn is_sent(world: &Circuit, head: &Head) -> bool {
+    let Head(place, kind, from, to, (round, owner)) = *head;
+    let bytes = [
+        0x54, 0x4e, 1, kind, 0, 7, from, to, 0, 0, 0, 12, 0, 0, 0, round, owner,
+    ];
+    match world.sent().get(place.saturating_sub(1)) {
+        Some(datagram) => datagram.to().get() == to && datagram.bytes().starts_with(&bytes),
+        None => false,
+    }
+}
+
+/// Whether so many datagrams were sent, and those that are told among them.
+fn has_sent(world: &Circuit, story: &Story) -> bool {
+    for head in story.heads {
+        if !is_sent(world, head) {
+            return false;
+        }
+    }
+    let ends = match story.tail {
+        None => true,
+        Some((place, frames)) => match world.sent().get(place.saturating_sub(1)) {
+            Some(datagram) => datagram.bytes().ends_with(frames),
+            None => false,
+        },
+    };
+    ends && world.sent().len() == story.sent
+}
+
+/// Whether these are the offers.
+fn are_offers(logs: &[OfferLog], told: &[Offered]) -> bool {
+    for (log, offered) in logs.iter().zip(told) {
+        let same = log.member() == offered.0 && log.number() == 12;
+        if !same || log.tape().frames() != offered.1 {
+            return false;
+        }
+    }
+    logs.len() == told.len()
+}
+
+/// Whether a release set as this text, or has this fault.
+fn is_set(alloc: Global, log: &ReleaseLog, told: Result<&str, SetFault>) -> bool {
+    match (log.set(), told) {
+        (Ok(slugs), Ok(text)) => {
+            let mut out = Vec::new(alloc);
+            galley(slugs, &mut out).is_ok() && out.as_slice() == text.as_bytes()
+        }
+        (Err(fault), Err(told)) => fault == told,
+        _ => false,
+    }
+}
+
+/// Whether these are the releases.
+fn are_releases(alloc: Global, logs: &[ReleaseLog], told: &[Released]) -> bool {
+    for (log, released) in logs.iter().zip(told) {
+        let same = log.member() == released.0 && log.number() == 12;
+        if !same || log.tape().frames() != released.1 || !is_set(alloc, log, released.2) {
+            return false;
+        }
+    }
+    logs.len() == told.len()
+}
+
+/// The round and the owner of member 1's open proposal of number 12.
+fn open_ballot(world: &Circuit) -> Option<(u32, u8)> {
+    let ballot = world.station(1)?.open_ballot(Number::new(12)?)?;
+    Some((ballot.round(), ballot.owner().get()))
+}
+
+/// Whether there is a station of the last member, and none of a member 0 or one behind the last.
+fn has_members(world: &Circuit, members: u8) -> bool {
+    world.station(members).is_some()
+        && world.station(0).is_none()
+        && world.station(members.saturating_add(1)).is_none()
+}
+
+/// Whether the members are there, and the logs have what they have to.
+fn has_logged(alloc: Global, world: &Circuit, story: &Story) -> bool {
+    let same_open = match story.open {
+        None => true,
+        Some(open) => open_ballot(world) == open,
+    };
+    same_open
+        && has_members(world, story.members)
+        && has_sent(world, story)
+        && are_offers(world.offers(), story.offers)
+        && are_releases(alloc, world.releases(), story.releases)
+}
+
+/// How many steps of a story are seen as they have to be, and one more where the logs are then what they have to be.
+fn told(alloc: Global, world: &mut Circuit, story: &Story) -> usize {
+    let count = taken(alloc, world, story.lines);
+    if count == story.lines.len() && has_logged(alloc, world, story) {
+        count.saturating_add(1)
+    } else {
+        count
+    }
+}
+
+/// The same of the steps in one run, which stops where it has to; none where the run or the logs are not as they have
+/// to be.
+fn ran(alloc: Global, world: &mut Circuit, story: &Story) -> usize {
+    let Some(steps) = steps_of(alloc, story.lines) else {
+        return 0;
+    };
+    let end = match world.run(steps.as_slice()) {
+        Ok(()) => None,
+        Err(stop) => Some(stop),
+    };
+    if end == story.stop && has_logged(alloc, world, story) {
+        story.lines.len().saturating_add(1)
+    } else {
+        0
+    }
+}
+
+fn has_stopped(world: &Circuit, member: u8) -> bool {
+    match world.station(member) {
+        Some(station) => station.stopped(),
+        None => false,
+    }
+}
+
+/// How long the logs are, and which of three members have stopped.
+fn all_seen(world: &Circuit) -> ([usize; 3], [bool; 3]) {
+    let logs = [
+        world.sent().len(),
+        world.offers().len(),
+        world.releases().len(),
+    ];
+    let stopped = [
+        has_stopped(world, 1),
+        has_stopped(world, 2),
+        has_stopped(world, 3),
+    ];
+    (logs, stopped)
+}
+
+/// Whether a step that is refused memory leaves all as it was.
+fn keeps_all(alloc: Global, world: &mut Circuit, act: Act) -> bool {
+    let Some(step) = step_of(alloc, act) else {
+        return true;
+    };
+    let before = all_seen(world);
+    match world.step(&step) {
+        Err(WorldRefusal::OutOfMemory) => all_seen(world) == before,
+        _ => true,
+    }
+}
+
+/// How many steps of a story leave all as it was where they are refused memory, up to the first that does not; and one
+/// more where all do.
+fn kept(alloc: Global, world: &mut Circuit, lines: &[Line]) -> usize {
+    for (place, line) in lines.iter().enumerate() {
+        if !keeps_all(alloc, world, line.0) {
+            return place;
+        }
+    }
+    lines.len().saturating_add(1)
+}
+
+/// How the steps of a story are taken, and what is asked of them.
+#[derive(Clone, Copy)]
+pub enum Way {
+    /// One by one: what is seen of each, and what the logs then have.
+    Steps,
+    /// In one run: where it stops, and what the logs then have.
+    Run,
+    /// One by one: that those that are refused memory change nothing.
+    Memory,
+}
+
+/// The place of the first step of a story that does not come to what it has to, or its length where only the logs are
+/// not what they have to be; nothing where all is.
+pub fn fails_at(alloc: Global, story: &Story, way: Way) -> Option<usize> {
+    let Some(mut world) = circuit(alloc, story) else {
+        return Some(0);
+    };
+    let count = match way {
+        Way::Steps => told(alloc, &mut world, story),
+        Way::Run => ran(alloc, &mut world, story),
+        Way::Memory => kept(alloc, &mut world, story.lines),
+    };
+    if count > story.lines.len() {
+        None
+    } else {
+        Some(count)
+    }
+}
+
+/// Whether the steps of a story, played from the beginning of its circuit, leave the logs as they have to be.
+pub fn plays(alloc: Global, story: &Story) -> Option<bool> {
+    let members = pairs(alloc, story.members, story.last)?;
+    let steps = steps_of(alloc, story.lines)?;
+    let world = play_in_memory(alloc, 7, members, steps.as_slice()).ok()?;
+    Some(has_logged(alloc, &world, story))
+}
+
+/// Whether a circuit of this many members is refused, and all of them are handed back.
+pub fn is_handed_back(alloc: Global, members: u8) -> Option<bool> {
+    let given = parts(alloc, members, WIDTHS)?;
+    let count = usize::from(members);
+    match World::new(alloc, 7, given) {
+        Err(NewWorldFault::BadCount(back)) => Some(back.len() == count),
+        _ => Some(false),
+    }
+}

@@ -1,0 +1,19 @@
+//! The tests of a station and of a whole circuit, over rows in memory.
+#![tactic(auto)]
+
+#[cfg(test)]
+mod agreeing;
+#[cfg(test)]
+mod alone;
+#[cfg(test)]
+mod benches;
+#[cfg(test)]
+mod circuits;
+#[cfg(test)]
+mod endings;
+#[cfg(test)]
+mod failing;
+#[cfg(test)]
+mod passing;
+#[cfg(test)]
+mod refusing;

@@ -1,0 +1,70 @@
+//! Circuits and steps that there are not, and offers that are refused.
+
+use crate::circuits::Act::{Deliver, OfferFlood, Seek};
+use crate::circuits::{CALM, Line, Offered, Story, Way, fails_at, is_handed_back};
+use fixtures::FLOOD;
+use world::{RunStop, WorldRefusal};
+
+#[test]
+fn counts_that_are_refused(rt: HostRuntime) {
+    for (members, refused) in &[(0, true), (15, false), (16, true)] {
+        assert!(rt;
+            is_handed_back(rt.alloc(), *members) == Some(*refused),
+            "{members}"
+        );
+    }
+}
+
+/// Datagrams that were never sent, and members that there are not.
+const STRANGE: Story = Story {
+    lines: &[
+        Line(Deliver(0), 0, 0, 0, false, "no-such-datagram"),
+        Line(Deliver(1), 0, 0, 0, false, "no-such-datagram"),
+        Line(Seek(0), 0, 0, 0, false, "no-such-member"),
+        Line(Seek(4), 0, 0, 0, false, "no-such-member"),
+    ],
+    ..CALM
+};
+
+/// A number is offered while a proposal of it is open.
+const OPEN: Story = Story {
+    lines: &[
+        Line(OfferFlood(1), 1, 1, 2, false, "began 1.1"),
+        Line(OfferFlood(1), 1, 3, 0, false, "refused already-open"),
+    ],
+    sent: 2,
+    offers: &[Offered(1, FLOOD)],
+    ..CALM
+};
+
+const STORIES: &[Story] = &[STRANGE, OPEN];
+
+/// The third step delivers what was not sent yet: a run stops before it.
+const TOO_EARLY: &[Story] = &[Story {
+    lines: &[
+        Line(OfferFlood(1), 1, 1, 2, false, "began 1.1"),
+        Line(Deliver(1), 2, 3, 1, false, "promised 1.1"),
+        Line(Deliver(4), 0, 0, 0, false, "no-such-datagram"),
+        Line(Deliver(3), 1, 4, 4, false, "proposed 1.1"),
+    ],
+    sent: 3,
+    offers: &[Offered(1, FLOOD)],
+    stop: Some(RunStop {
+        at: 2,
+        refusal: WorldRefusal::NoSuchDatagram,
+    }),
+    ..CALM
+}];
+
+#[test]
+fn steps_that_there_are_not(rt: HostRuntime) {
+    for (place, story) in STORIES.iter().enumerate() {
+        assert!(rt;
+            fails_at(rt.alloc(), story, Way::Steps).is_none(),
+            "{place}"
+        );
+    }
+    for story in TOO_EARLY {
+        assert!(rt; fails_at(rt.alloc(), story, Way::Run).is_none());
+    }
+}
