@@ -1,0 +1,147 @@
+//! A circuit over databases in memory logs what it logs over rows in memory.
+// Of crates.txt this needs: ballots tape_frames acceptor_store code_table widths line_check station world fixtures sqlite.
+
+use acceptor_store::{Identity, MemoryRows, Rows, SqliteRows};
+use code_table::CodeTable;
+use fixtures::{CODES, FLOOD, WIDTHS};
+use line_check::galley;
+use sqlite::{Connection, MemStore};
+use station::Datagram;
+use std::alloc::Global;
+use tape_frames::Tape;
+use widths::Widths;
+use world::{OfferLog, ReleaseLog, Step, World};
+
+/// The datagrams that come, in order, after member 1 of three was offered the flood story for number 12.
+const DELIVERED: &[usize] = &[1, 3, 6, 4, 8, 9, 7];
+
+/// The database of a member of three.
+fn database(alloc: Global, member: u8) -> Option<SqliteRows<MemStore>> {
+    let identity = Identity {
+        circuit: 7,
+        member,
+        members: 3,
+    };
+    let conn = Connection::open_in_memory(alloc).ok()?;
+    SqliteRows::create(alloc, conn, identity).ok()
+}
+
+/// The circuit of these rows, before its steps.
+fn circuit<R: Rows>(alloc: Global, rows: Vec<R>) -> Option<World<R>> {
+    let mut parts = Vec::new(alloc);
+    for rows in rows {
+        let table = CodeTable::read(alloc, CODES).ok()?;
+        let widths = Widths::read(alloc, WIDTHS).ok()?;
+        parts.push((table, widths, rows)).ok()?;
+    }
+    World::new(alloc, 7, parts).ok()
+}
+
+/// The offer and the deliveries.
+fn steps(alloc: Global) -> Option<Vec<Step>> {
+    let mut steps = Vec::new(alloc);
+    let offer = Step::Offer {
+        member: 1,
+        number: 12,
+        tape: Tape::from_bytes(alloc, FLOOD).ok()?,
+        now: 0,
+    };
+    steps.push(offer).ok()?;
+    for k in DELIVERED {
+        steps.push(Step::Deliver { k: *k, now: 0 }).ok()?;
+    }
+    Some(steps)
+}
+
+/// A circuit of these rows, after the steps.
+fn agreed<R: Rows>(alloc: Global, rows: Vec<R>) -> Option<World<R>> {
+    let mut world = circuit(alloc, rows)?;
+    world.run(steps(alloc)?.as_slice()).ok()?;
+    Some(world)
+}
+
+fn in_memory(alloc: Global) -> Option<World<MemoryRows>> {
+    let mut rows = Vec::new(alloc);
+    for _ in 0..3 {
+        rows.push(MemoryRows::new(alloc)).ok()?;
+    }
+    agreed(alloc, rows)
+}
+
+fn in_databases(alloc: Global) -> Option<World<SqliteRows<MemStore>>> {
+    let mut rows = Vec::new(alloc);
+    for member in &[1, 2, 3] {
+        rows.push(database(alloc, *member)?).ok()?;
+    }
+    agreed(alloc, rows)
+}
+
+fn are_same_datagrams(left: &[Datagram], right: &[Datagram]) -> bool {
+    for (one, other) in left.iter().zip(right) {
+        if one.to() != other.to() || one.bytes() != other.bytes() {
+            return false;
+        }
+    }
+    left.len() == right.len()
+}
+
+fn are_same_offers(left: &[OfferLog], right: &[OfferLog]) -> bool {
+    for (one, other) in left.iter().zip(right) {
+        let same = one.member() == other.member() && one.number() == other.number();
+        if !same || one.tape().frames() != other.tape().frames() {
+            return false;
+        }
+    }
+    left.len() == right.len()
+}
+
+/// What a release sets as.
+fn text_of(alloc: Global, release: &ReleaseLog) -> Option<Vec<u8>> {
+    let mut text = Vec::new(alloc);
+    galley(release.set().ok()?, &mut text).ok()?;
+    Some(text)
+}
+
+/// Whether both set, as the same text.
+fn is_same_text(alloc: Global, one: &ReleaseLog, other: &ReleaseLog) -> bool {
+    match (text_of(alloc, one), text_of(alloc, other)) {
+        (Some(one), Some(other)) => one.as_slice() == other.as_slice(),
+        _ => false,
+    }
+}
+
+fn are_same_releases(alloc: Global, left: &[ReleaseLog], right: &[ReleaseLog]) -> bool {
+    for (one, other) in left.iter().zip(right) {
+        let same = one.member() == other.member() && one.number() == other.number();
+        if !same || one.tape().frames() != other.tape().frames() {
+            return false;
+        }
+        if !is_same_text(alloc, one, other) {
+            return false;
+        }
+    }
+    left.len() == right.len()
+}
+
+/// How many datagrams, offers and releases a circuit over databases logs, where they are those of a circuit over rows in
+/// memory.
+fn logged(alloc: Global) -> Option<[usize; 3]> {
+    let plain = in_memory(alloc)?;
+    let saved = in_databases(alloc)?;
+    let same = are_same_datagrams(plain.sent(), saved.sent())
+        && are_same_offers(plain.offers(), saved.offers())
+        && are_same_releases(alloc, plain.releases(), saved.releases());
+    if !same {
+        return None;
+    }
+    Some([
+        saved.sent().len(),
+        saved.offers().len(),
+        saved.releases().len(),
+    ])
+}
+
+#[test]
+fn databases_give_the_same(rt: HostRuntime) {
+    assert!(rt; logged(rt.alloc()) == Some([9, 1, 3]));
+}
