@@ -1,5 +1,5 @@
 -- Steps one after the other.
-use Rattle.std.proofs.Common.{◌≡◌, ℕ, List, Option, Some, Result, Ok, Err, OnOk, inl, inr, refl, sym, subst}
+use Rattle.std.proofs.Common.{◌≡◌, ℕ, Option, Some, Result, Ok, Err, OnOk, inl, inr, sym, subst}
 use Rattle.protocol.specs.Refusals.{Call, Offering, Seeking, Falling_due, Receiving}
 use Rattle.protocol.specs.Rows.{Tape}
 use Rattle.station.specs.declared.answer.Answer.{Answer}

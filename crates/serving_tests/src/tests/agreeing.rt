@@ -8,19 +8,25 @@ use command_ends::End;
 use std::alloc::Global;
 use wire::{Address, UdpWire};
 
+/// A socket at a free port of this machine, and the address of a member there.
+fn probe_of<'a>(rt: &'a HostRuntime, number: u8) -> Option<(UdpWire<'a, HostRuntime>, Address)> {
+    let mut address = Address {
+        member: Member::new(number)?,
+        ip: [127, 0, 0, 1],
+        port: 0,
+    };
+    let probe = UdpWire::bind(rt, rt, &address, Vec::new(rt.alloc())).ok()?;
+    address.port = probe.port().ok()?;
+    Some((probe, address))
+}
+
 /// Three addresses on this machine whose ports are free.
 fn free_addresses(rt: &HostRuntime) -> Option<Vec<Address>> {
     let mut probes = Vec::new(rt.alloc());
     let mut addresses = Vec::new(rt.alloc());
     for number in 1..=3u8 {
-        let mut address = Address {
-            member: Member::new(number)?,
-            ip: [127, 0, 0, 1],
-            port: 0,
-        };
         // They are held until each has a port of its own.
-        let probe = UdpWire::bind(rt, rt, &address, Vec::new(rt.alloc())).ok()?;
-        address.port = probe.port().ok()?;
+        let (probe, address) = probe_of(rt, number)?;
         probes.push(probe).ok()?;
         addresses.push(address).ok()?;
     }
@@ -76,17 +82,22 @@ fn all_come_to<'a>(alloc: Global, posts: &mut [Post<'a>], out: &str) -> Option<b
     Some(true)
 }
 
-/// Whether three stations agree on what the first offers, and none has a fault.
-fn agree(rt: &HostRuntime) -> Option<bool> {
-    let mut posts = three_posts(rt)?;
+/// Whether these agree on what the first offers, and none has a fault.
+fn come_to_agree<'a>(alloc: Global, posts: &mut [Post<'a>]) -> Option<bool> {
     let first = posts.first_mut()?;
     if !first.takes(&Run { turns: 0, ..OFFER }) {
         return Some(false);
     }
-    if !all_come_to(rt.alloc(), &mut posts, RELEASE)? {
+    if !all_come_to(alloc, posts, RELEASE)? {
         return Some(false);
     }
     Some(posts.iter().all(|post| post.has_printed(RELEASE, "")))
+}
+
+/// Whether three stations agree.
+fn agree(rt: &HostRuntime) -> Option<bool> {
+    let mut posts = three_posts(rt)?;
+    come_to_agree(rt.alloc(), &mut posts)
 }
 
 #[test]

@@ -8,8 +8,10 @@ use crate::writers::{Held, Slow};
 use saved_rows::MemoryRows;
 use command_ends::End;
 use serve_command::serve_run;
+use station::Station;
 use std::alloc::Global;
 use std::io::Write;
+use tape_frames::Tape;
 
 /// The text "no packet".
 const NO_PACKET: &[u8] = b"6e6f207061636b6574";
@@ -46,23 +48,27 @@ fn what_comes_from_the_wire(rt: HostRuntime) {
     assert!(rt; is_true(rt.alloc(), &COMING));
 }
 
+/// Whether this run of a station ends as it has to over a writer, on a wire on which nothing comes.
+fn ends<W: Write>(
+    alloc: Global,
+    station: &mut Station<MemoryRows>,
+    offer: Option<(u32, Tape)>,
+    run: &Run,
+    writer: &mut W,
+) -> bool {
+    let mut wire = Scripted::new(alloc, Manner::Whole);
+    let mut err = Vec::new(alloc);
+    let end = serve_run(
+        alloc, station, &mut wire, offer, run.seek, run.turns, writer, &mut err,
+    );
+    end == run.end && err.as_slice() == run.err.as_bytes()
+}
+
 /// Whether this run of member 1 alone ends as it has to over a writer.
 fn ends_over<W: Write>(alloc: Global, run: &Run, writer: &mut W) -> Option<bool> {
     let offer = offer_of(alloc, run).ok()?;
     let mut station = station_over(alloc, 1, 1, MemoryRows::new(alloc))?;
-    let mut wire = Scripted::new(alloc, Manner::Whole);
-    let mut err = Vec::new(alloc);
-    let end = serve_run(
-        alloc,
-        &mut station,
-        &mut wire,
-        offer,
-        run.seek,
-        run.turns,
-        writer,
-        &mut err,
-    );
-    Some(end == run.end && err.as_slice() == run.err.as_bytes())
+    Some(ends(alloc, &mut station, offer, run, writer))
 }
 
 /// The story, and no turn.

@@ -73,10 +73,11 @@ const SPENT: Story = Story {
     ..OFFERS_AND_SEARCHES
 };
 
+const STORIES: &[Story] = &[OFFERS_AND_SEARCHES, RELEASED, OPEN, SPENT];
+
 #[test]
 fn offers_and_searches_that_are_refused(rt: HostRuntime) {
-    assert!(rt; is_true(rt.alloc(), &OFFERS_AND_SEARCHES));
-    assert!(rt; is_true(rt.alloc(), &RELEASED));
-    assert!(rt; is_true(rt.alloc(), &OPEN));
-    assert!(rt; is_true(rt.alloc(), &SPENT));
+    for (place, story) in STORIES.iter().enumerate() {
+        assert!(rt; is_true(rt.alloc(), story), "{place}");
+    }
 }
