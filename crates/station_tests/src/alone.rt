@@ -5,7 +5,7 @@ use crate::benches::Ends::{Done, Refused};
 use crate::benches::{
     ALONE, FIRST, Left, OFFER, Open, QUIET, SECOND, Story, Turn, fails_at, is_no_member,
 };
-use acceptor_store::RowsFault;
+use saved_rows::RowsFault;
 use fixtures::FLOOD;
 use line_check::{Cause, SetFault};
 use packets::PacketFault;

@@ -1,7 +1,7 @@
 //! Stories of one station: what is done to it, and what has to come of it.
 
 use crate::endings::is_note;
-use acceptor_store::{Balky, MemoryRows};
+use saved_rows::{Balky, MemoryRows};
 use ballots::{Ballot, Member, Number, Row};
 use code_table::CodeTable;
 use fixtures::{CODES, FLOOD, WIDTHS};

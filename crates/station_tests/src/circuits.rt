@@ -1,7 +1,7 @@
 //! Stories of a circuit over rows in memory: the steps, what has to be seen of each, and what the logs have to say.
 
 use crate::endings::{is_end, is_refusal};
-use acceptor_store::MemoryRows;
+use saved_rows::MemoryRows;
 use ballots::Number;
 use code_table::CodeTable;
 use fixtures::{CODES, FLOOD, LIGATURE, WIDTHS};

@@ -1,7 +1,9 @@
 //! The tests of all that needs a database: saved rows, which are made, taken up again and damaged, beside those in memory;
-//! what `rows` prints; stations that start again.
+//! what `rows` prints; stations that start again; a circuit over databases.
 #![tactic(auto)]
 
+#[cfg(test)]
+mod circuits;
 #[cfg(test)]
 mod damages;
 #[cfg(test)]
