@@ -46,6 +46,16 @@ pub(crate) fn counted_alone(me: Member, members: u8, report: Option<Vote>) -> Sl
     slots
 }
 
+/// Counts anew: of as many members this one alone is counted.
+pub(crate) fn count_anew(slots: &mut Slots, me: Member, report: Option<Vote>)
+    requires few { length slots.old.items ≤ 15 }
+    requires member { me ≤ length slots.old.items }
+    ensures items { slots.new.items ≡ slice_set (nothing_counted (length slots.old.items)) (me - 1) (Some report) }
+    ensures many { length slots.new.items ≡ length slots.old.items }
+{
+    *slots = counted_alone(me, slots.len() as u8, report);
+}
+
 /// Whether the member is counted.
 fn is_counted(slots: &[Option<Option<Vote>>], member: Member) -> bool
     requires { member ≤ length slots.now }

@@ -11,7 +11,7 @@ ghost use Rattle.proposer.specs.InHand.{StandsFor, IsOfTheSame};
 ghost use Rattle.proposer.specs.Answers.{IsNew, IsCountedAs, marks_after_promise, StaysWhereUncounted, IsDueAnswer, marks_after_due, StaysWhereNotBegun, IsOwnAndAbove};
 
 use crate::answer::{BeginRefusal, Counted, DueAnswer};
-use crate::promises::{Slots, count_once, counted_alone, greatest_vote, is_quorum};
+use crate::promises::{Slots, count_anew, count_once, counted_alone, greatest_vote, is_quorum};
 use ballots::laws::slots_of_members;
 use ballots::{Ballot, Member, Vote, VoteRef};
 use std::alloc::{AllocError, Global};
@@ -246,7 +246,7 @@ impl Proposal {
             None => Ok(DueAnswer::GaveUp),
             Some(ballot) => {
                 self.ballot = ballot;
-                self.slots = counted_alone(self.me, self.slots.len() as u8, report);
+                count_anew(&mut self.slots, self.me, report);
                 self.gathers = true;
                 self.begun += 1;
                 self.moved = now;
