@@ -11,9 +11,9 @@ ghost use Rattle.answer_command.specs.AnswerText.{is_blank, lines_of, lines_text
 ghost use Rattle.command_ends.specs.declared.end.End.TheVariants.{Done};
 
 use crate::line::{Seat, answer_line};
-use saved_rows::MemoryRows;
 use ballots::Member;
 use command_ends::{End, Fault};
+use saved_rows::MemoryRows;
 use std::alloc::{AllocError, Global};
 use std::io::{Read, Write};
 use streams::{put_all, read_input};

@@ -14,11 +14,11 @@ ghost use Rattle.answer_command.specs.Asked.{asked_of, asked_of_packet, asked_in
 ghost use Rattle.answer_command.specs.Replies.{refused_text, answered, rows_after, back, voted_tape};
 
 use acceptor::{AcceptAnswer, PrepareAnswer, accept, prepare};
-use saved_rows::MemoryRows;
 use ballots::{Ballot, Member, Number, Row};
 use command_ends::Refusal;
 use hex::FromHexError;
 use packets::{BodyRef, PacketRef, decode, encode};
+use saved_rows::MemoryRows;
 use std::alloc::{AllocError, Global};
 use tape_frames::TapeRef;
 

@@ -1,7 +1,7 @@
 //! The texts of the faults of files and of saved rows, each a line without its end.
 
-use saved_rows::RowsFault;
 use code_table::TableFault;
+use saved_rows::RowsFault;
 use std::fmt;
 use tape_frames::TapeFault;
 use widths::{WidthFault, WidthKey};

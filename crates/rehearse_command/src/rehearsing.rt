@@ -2,9 +2,9 @@
 
 use crate::script::{LineFault, Order, is_ignored, order_of};
 use crate::showing::put_seen;
-use saved_rows::MemoryRows;
 use code_table::CodeTable;
 use command_ends::{End, Fault, read_text, table_of, widths_of};
+use saved_rows::MemoryRows;
 use std::alloc::Global;
 use std::io::{Read, Write};
 use widths::Widths;

@@ -1,9 +1,9 @@
 //! What a rehearsal shows of a step: a line for what it did, one for each datagram, and the release.
 
 use crate::notes::NoteText;
-use saved_rows::{MemoryRows, RowsFault};
 use command_ends::{Fault, RefusalText, put_release};
 use packets::{BodyRef, PacketRef, decode};
+use saved_rows::{MemoryRows, RowsFault};
 use station::{Datagram, StepRefusal};
 use std::alloc::Global;
 use std::io;

@@ -9,9 +9,9 @@ ghost use Rattle.rows_command.specs.RowsText.{ballot_text, promise_text, vote_te
 ghost use Rattle.command_ends.specs.declared.end.End.TheVariants.{Done};
 
 use acceptor_store::SqliteRows;
-use saved_rows::Identity;
 use ballots::{Ballot, Number, Row, Vote};
 use command_ends::{End, Fault};
+use saved_rows::Identity;
 use sqlite::Alter;
 use std::alloc::{AllocError, Global};
 use std::io::Write;

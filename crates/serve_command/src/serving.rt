@@ -6,8 +6,8 @@ ghost use Rattle.station.specs.Steps.{tears};
 ghost use Rattle.serve_command.specs.Serving.{Serves, TakesIn, SeesToDue, Turns, TakesTurns, Offers, Searches, Runs};
 ghost use Rattle.command_ends.specs.declared.end.End.TheVariants.{Done};
 
-use saved_rows::Rows;
 use command_ends::{End, Fault, put_release};
+use saved_rows::Rows;
 use station::{Answer, Release, Station, StepRefusal};
 use std::alloc::Global;
 use std::io::Write;

@@ -1,9 +1,9 @@
 //! Stations over the files of the examples, and the release of their story.
 
-use saved_rows::Rows;
 use ballots::{Ballot, Member};
 use code_table::CodeTable;
 use fixtures::{CODES, WIDTHS};
+use saved_rows::Rows;
 use station::Station;
 use std::alloc::Global;
 use widths::Widths;

@@ -1,9 +1,9 @@
 //! A station at work, and the steps that it is driven by.
 
 use crate::fixture::station_over;
-use saved_rows::Rows;
 use command_ends::End;
 use fixtures::FLOOD;
+use saved_rows::Rows;
 use serve_command::{serve_run, serve_turn};
 use station::Station;
 use std::alloc::Global;

@@ -3,8 +3,8 @@
 use crate::fixture::ballot;
 use crate::plant::{Plant, Run};
 use crate::wires::{Manner, Scripted};
-use saved_rows::{Balky, MemoryRows};
 use ballots::{Number, Row};
+use saved_rows::{Balky, MemoryRows};
 use std::alloc::Global;
 
 /// A station of circuit 7, the ballot that it promised for number 12 before, its wire, and what happens to it.

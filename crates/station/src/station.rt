@@ -8,10 +8,10 @@ ghost use Rattle.node_core.specs.Standing.{StandsFor};
 ghost use Rattle.station.specs.Stations.{IsFixed, with_rows};
 ghost use Rattle.station.specs.contracts.station.Station.{the_row};
 
-use saved_rows::Rows;
 use ballots::{Ballot, Member, Number};
 use code_table::CodeTable;
 use node_core::NodeCore;
+use saved_rows::Rows;
 use std::alloc::Global;
 use widths::Widths;
 

@@ -17,10 +17,10 @@ use crate::checks::{check_packet, fault_of, fits_version_one};
 use crate::getting_ready::save;
 use crate::refusal::StepRefusal;
 use crate::station::Station;
-use saved_rows::Rows;
 use ballots::Number;
 use node_core::{CoreRefusal, Event};
 use packets::decode;
+use saved_rows::Rows;
 use tape_frames::Tape;
 
 impl<R: Rows> Station<R> {

@@ -5,10 +5,10 @@ use crate::benches::Ends::{Done, Refused};
 use crate::benches::{
     ALONE, FIRST, Left, OFFER, Open, QUIET, SECOND, Story, Turn, fails_at, is_no_member,
 };
-use saved_rows::RowsFault;
 use fixtures::FLOOD;
 use line_check::{Cause, SetFault};
 use packets::PacketFault;
+use saved_rows::RowsFault;
 use station::StepRefusal;
 
 /// A Prepare at 1.1 from member 1 to member 2 of circuit 7, for number 12.

@@ -1,10 +1,10 @@
 //! Stories of one station: what is done to it, and what has to come of it.
 
 use crate::endings::is_note;
-use saved_rows::{Balky, MemoryRows};
 use ballots::{Ballot, Member, Number, Row};
 use code_table::CodeTable;
 use fixtures::{CODES, FLOOD, WIDTHS};
+use saved_rows::{Balky, MemoryRows};
 use station::{Answer, Datagram, Release, Station, StepRefusal};
 use std::alloc::Global;
 use tape_frames::Tape;

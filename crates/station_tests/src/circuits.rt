@@ -1,11 +1,11 @@
 //! Stories of a circuit over rows in memory: the steps, what has to be seen of each, and what the logs have to say.
 
 use crate::endings::{is_end, is_refusal};
-use saved_rows::MemoryRows;
 use ballots::Number;
 use code_table::CodeTable;
 use fixtures::{CODES, FLOOD, LIGATURE, WIDTHS};
 use line_check::{SetFault, galley};
+use saved_rows::MemoryRows;
 use std::alloc::Global;
 use tape_frames::Tape;
 use widths::Widths;

@@ -1,7 +1,7 @@
 //! The texts of the faults of saved rows, and how a command ends by them.
 
-use saved_rows::RowsFault;
 use command_ends::{End, Fault};
+use saved_rows::RowsFault;
 use std::alloc::Global;
 
 const FAULTS: &[(RowsFault, &str, End)] = &[

@@ -2,9 +2,9 @@
 
 use crate::fixture::RELEASE;
 use crate::plant::{OFFER, Plant, Run};
-use saved_rows::MemoryRows;
 use ballots::Member;
 use command_ends::End;
+use saved_rows::MemoryRows;
 use std::alloc::Global;
 use wire::{Address, UdpWire};
 

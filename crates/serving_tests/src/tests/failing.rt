@@ -4,9 +4,9 @@ use crate::fixture::{RELEASE, ballot};
 use crate::plant::{OFFER, Run, SEARCH, TURN};
 use crate::stories::{Story, bench_of, is_true, taken};
 use crate::wires::Manner;
-use saved_rows::MemoryRows;
 use ballots::Number;
 use command_ends::End;
+use saved_rows::MemoryRows;
 use std::alloc::Global;
 
 const DEAF: Story = Story {
