@@ -1,0 +1,36 @@
+//! What the command line asks for.
+
+use ballots::Member;
+use check_command::TapePaths;
+use rehearse_command::ScriptPaths;
+
+/// A command, with all that it is given.
+#[derive(Clone, Copy, Debug)]
+pub enum Asked<'a> {
+    /// To answer requests as one acceptor of a circuit.
+    Answer { circuit: u16, me: Member },
+    /// To set a tape, and where `listing` is set to list its frames first.
+    Check { paths: TapePaths<'a>, listing: bool },
+    /// To list the saved rows in the file at a path.
+    Rows { path: &'a str },
+    /// To serve a station.
+    Serve(Plan<'a>),
+    /// To rehearse a circuit by a script.
+    Rehearse { paths: ScriptPaths<'a> },
+}
+
+/// What the command line of `serve` asks for.
+#[derive(Clone, Copy, Debug)]
+pub struct Plan<'a> {
+    /// The path of the configuration.
+    pub config: &'a str,
+    /// How many turns the station takes.
+    pub turns: u32,
+    /// Whether the tables of the saved rows are made.
+    pub create: bool,
+    /// The number for which a tape is offered, and the path of the tape: both, or neither.
+    pub number: Option<u32>,
+    pub tape: Option<&'a str>,
+    /// The number whose tape is sought.
+    pub seek: Option<u32>,
+}

@@ -1,0 +1,258 @@
+//! What `clap` is told: the commands, their arguments, and the help of each.
+
+use clap::builder::ValueParser;
+use clap::{Arg, ArgAction, Command};
+use std::alloc::{AllocError, Global};
+
+/// Adds a required argument that is taken as it stands.
+fn with_word<'a>(
+    alloc: Global,
+    command: Command<'a>,
+    name: &'a str,
+    help: &'a str,
+) -> Result<Command<'a>, AllocError> {
+    command.arg(
+        Arg::new(alloc, name)
+            .required(true)
+            .action(ArgAction::Set)
+            .help(help),
+    )
+}
+
+/// Adds required arguments that are taken as they stand, each by its name and its help.
+fn with_words<'a>(
+    alloc: Global,
+    command: Command<'a>,
+    words: &[(&'a str, &'a str)],
+) -> Result<Command<'a>, AllocError> {
+    let mut command = command;
+    for (name, help) in words {
+        command = with_word(alloc, command, *name, *help)?;
+    }
+    Ok(command)
+}
+
+/// Adds a required argument that is a number of a range.
+fn with_number<'a>(
+    alloc: Global,
+    command: Command<'a>,
+    name: &'a str,
+    parser: ValueParser<'a>,
+    help: &'a str,
+) -> Result<Command<'a>, AllocError> {
+    command.arg(
+        Arg::new(alloc, name)
+            .required(true)
+            .action(ArgAction::Set)
+            .help(help)
+            .value_parser(parser),
+    )
+}
+
+/// Adds an option that takes no value.
+fn with_flag<'a>(
+    alloc: Global,
+    command: Command<'a>,
+    name: &'a str,
+    help: &'a str,
+) -> Result<Command<'a>, AllocError> {
+    command.arg(
+        Arg::new(alloc, name)
+            .long(name)
+            .action(ArgAction::SetTrue)
+            .help(help),
+    )
+}
+
+/// Adds an option that takes a value.
+fn with_option<'a>(
+    alloc: Global,
+    command: Command<'a>,
+    name: &'a str,
+    value: &'a str,
+    parser: ValueParser<'a>,
+    help: &'a str,
+) -> Result<Command<'a>, AllocError> {
+    command.arg(
+        Arg::new(alloc, name)
+            .long(name)
+            .value_name(value)
+            .value_parser(parser)
+            .help(help),
+    )
+}
+
+const ANSWER_EXAMPLE: &str = "\
+Example: member 1 asks member 2 of circuit 7 to promise ballot 1.1 for number 12, and gets its promise.
+
+  $ echo 544e0101000701020000000c0000000101 | circuitd answer 7 2
+  544e0102000702010000000c000000010100";
+
+fn answer_command<'a>(alloc: Global) -> Result<Command<'a>, AllocError> {
+    let command = Command::new(alloc, "answer")
+        .about(
+            "Answers requests as one acceptor: a datagram in hex per line in, its reply per line out",
+        )
+        .after_help(ANSWER_EXAMPLE);
+    let circuit = clap::value_parser!(u16);
+    let help = "The circuit's number, 0 to 65535";
+    let command = with_number(alloc, command, "CIRCUIT", circuit, help)?;
+    let member = clap::value_parser!(u8).range(1..=15);
+    let help = "The member that answers, 1 to 15";
+    with_number(alloc, command, "MEMBER", member, help)
+}
+
+const CHECK_EXAMPLE: &str = "\
+Example: what the linecaster will cast of a tape, a line per slug: its number, J for justified,
+the blank left and right, and the matrices with the width of each spaceband.
+
+  $ circuitd check codes.toml widths.toml flood.tape
+  0001 J 0 0 a b _4 a _4 b
+
+A tape that does not set is told with its place, counted in frames from 0:
+
+  $ circuitd check codes.toml widths.toml overset.tape
+  fault: overset 1 at 7 line 1";
+
+const CHECK_WORDS: &[(&str, &str)] = &[
+    ("TABLE", "The code table, as examples/codes.toml"),
+    ("WIDTHS", "The width file, as examples/widths.toml"),
+    ("TAPE", "The tape, one frame per byte"),
+];
+
+fn check_command<'a>(alloc: Global) -> Result<Command<'a>, AllocError> {
+    let command = Command::new(alloc, "check")
+        .about(
+            "Sets a tape by a code table and a width file, and writes its galley: one line per slug",
+        )
+        .after_help(CHECK_EXAMPLE);
+    let command = with_words(alloc, command, CHECK_WORDS)?;
+    let help = "First write one line per frame: its holes, and the frame in decimal";
+    with_flag(alloc, command, "holes", help)
+}
+
+const ROWS_EXAMPLE: &str =
+    "Example:\n  $ circuitd rows station2.db\n  station 2 of 3 circuit 7\n  3 1.1 - -\n  12 1.3 1.1 010204";
+
+fn rows_command<'a>(alloc: Global) -> Result<Command<'a>, AllocError> {
+    let command = Command::new(alloc, "rows")
+        .about(
+            "Lists what a station saved: per number its promise, its vote and the frames of that, in hex",
+        )
+        .after_help(ROWS_EXAMPLE);
+    let help = "The station's database, as its configuration names it";
+    with_word(alloc, command, "DB", help)
+}
+
+const SERVE_EXAMPLE: &str = "\
+Example: the first plant of a circuit makes its row file and puts a story on the wire as number 12.
+It serves for about a minute, and prints the story when the circuit has agreed on it:
+
+  $ circuitd serve station1.toml --turns 1200 --create --number 12 --tape story.tape
+  release 12 01020301030204
+  0001 J 0 0 a b _4 a _4 b
+
+Every other plant of the circuit runs `circuitd serve` with its own configuration at the same time.
+Later a plant that missed the story asks the others for it:
+
+  $ circuitd serve station3.toml --turns 1200 --seek 12";
+
+/// Adds how long a station serves, and whether it starts for the first time.
+fn with_turns<'a>(alloc: Global, command: Command<'a>) -> Result<Command<'a>, AllocError> {
+    let help =
+        "How many turns to serve, 1 to 1000000: a turn takes in one datagram, or waits for 50 milliseconds";
+    let turns = Arg::new(alloc, "turns")
+        .long("turns")
+        .value_name("T")
+        .value_parser(clap::value_parser!(u32).range(1..=1_000_000))
+        .help(help)
+        .required(true);
+    let command = command.arg(turns)?;
+    let help = "Make the row file: for the first start of a station, and never again";
+    with_flag(alloc, command, "create", help)
+}
+
+/// Adds the story that a station offers first, and the one that it seeks.
+fn with_beginning<'a>(alloc: Global, command: Command<'a>) -> Result<Command<'a>, AllocError> {
+    let number = clap::value_parser!(u32);
+    let help = "First offer a story under this number, 1 to 999999; goes with --tape";
+    let command = with_option(alloc, command, "number", "N", number, help)?;
+    let tape = ValueParser::string();
+    let help = "The tape that is offered, one frame per byte; goes with --number";
+    let command = with_option(alloc, command, "tape", "FILE", tape, help)?;
+    let seek = clap::value_parser!(u32);
+    let help = "Then ask the circuit for the story of this number";
+    with_option(alloc, command, "seek", "N", seek, help)
+}
+
+fn serve_command<'a>(alloc: Global) -> Result<Command<'a>, AllocError> {
+    let command = Command::new(alloc, "serve")
+        .about(
+            "Runs this plant's station on the wire, and prints each story that the circuit has agreed on",
+        )
+        .after_help(SERVE_EXAMPLE);
+    let help =
+        "The station's configuration: its circuit, its member, its files and the addresses of all stations";
+    let command = with_word(alloc, command, "CONFIG", help)?;
+    let command = with_turns(alloc, command)?;
+    with_beginning(alloc, command)
+}
+
+const REHEARSE_EXAMPLE: &str = "\
+Example: the first of three members offers a story, and its first request comes to member 2.
+
+  members 3
+  offer 1 12 01020301030204
+  deliver 1
+
+The lines of this script print what each member did and what it sent:
+
+  $ circuitd rehearse codes.toml widths.toml story.script
+  1 began 1.1
+   #1 prepare 1>2 12 1.1
+   #2 prepare 1>3 12 1.1
+  2 promised 1.1
+   #3 promise 2>1 12 1.1";
+
+const REHEARSE_WORDS: &[(&str, &str)] = &[
+    (
+        "TABLE",
+        "The code table of all members, as examples/codes.toml",
+    ),
+    (
+        "WIDTHS",
+        "The width file of all members, as examples/widths.toml",
+    ),
+    ("SCRIPT", "The script, as examples/story.script"),
+];
+
+fn rehearse_command<'a>(alloc: Global) -> Result<Command<'a>, AllocError> {
+    let command = Command::new(alloc, "rehearse")
+        .about(
+            "Rehearses a whole circuit by a script: who offers, what is delivered when, who starts again",
+        )
+        .after_help(REHEARSE_EXAMPLE);
+    with_words(alloc, command, REHEARSE_WORDS)
+}
+
+/// Adds the commands over tapes: what an acceptor answers, and what a linecaster casts.
+fn with_tools<'a>(alloc: Global, program: Command<'a>) -> Result<Command<'a>, AllocError> {
+    let program = program.subcommand(answer_command(alloc)?)?;
+    program.subcommand(check_command(alloc)?)
+}
+
+/// Adds the commands over stations: what one saved, one on the wire, and a rehearsal of several.
+fn with_stations<'a>(alloc: Global, program: Command<'a>) -> Result<Command<'a>, AllocError> {
+    let program = program.subcommand(rows_command(alloc)?)?;
+    let program = program.subcommand(serve_command(alloc)?)?;
+    program.subcommand(rehearse_command(alloc)?)
+}
+
+/// All commands of the program.
+pub(crate) fn grammar<'a>(alloc: Global) -> Result<Command<'a>, AllocError> {
+    let program = Command::new(alloc, "circuitd")
+        .about("A wire circuit whose numbers never mean two stories")
+        .subcommand_required(true);
+    let program = with_tools(alloc, program)?;
+    with_stations(alloc, program)
+}

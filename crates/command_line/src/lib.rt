@@ -1,0 +1,9 @@
+//! The command line: what the words of a call ask the program for.
+#![tactic(auto)]
+
+mod asked;
+mod grammar;
+mod parsing;
+
+pub use asked::{Asked, Plan};
+pub use parsing::parse;

@@ -1,0 +1,91 @@
+//! The command that the words of a call give.
+
+use crate::asked::{Asked, Plan};
+use crate::grammar::grammar;
+use ballots::Member;
+use check_command::TapePaths;
+use clap::error::ErrorKind;
+use clap::{ArgMatches, Error};
+use command_ends::{End, Fault};
+use rehearse_command::ScriptPaths;
+use std::alloc::Global;
+
+fn matches_of<'a>(alloc: Global, words: &'a [String]) -> Result<ArgMatches<'a>, Error> {
+    grammar(alloc)?.try_get_matches_from(words)
+}
+
+fn answer_of<'a>(matches: &ArgMatches<'a>) -> Option<Asked<'a>> {
+    let circuit = matches.get_one::<u16>("CIRCUIT")?;
+    let me = Member::new(matches.get_one::<u8>("MEMBER")?)?;
+    Some(Asked::Answer { circuit, me })
+}
+
+fn check_of<'a>(matches: &ArgMatches<'a>) -> Option<Asked<'a>> {
+    let paths = TapePaths {
+        table: matches.get_str("TABLE")?,
+        widths: matches.get_str("WIDTHS")?,
+        tape: matches.get_str("TAPE")?,
+    };
+    let listing = matches.get_flag("holes");
+    Some(Asked::Check { paths, listing })
+}
+
+fn rows_of<'a>(matches: &ArgMatches<'a>) -> Option<Asked<'a>> {
+    let path = matches.get_str("DB")?;
+    Some(Asked::Rows { path })
+}
+
+fn serve_of<'a>(matches: &ArgMatches<'a>) -> Option<Asked<'a>> {
+    let plan = Plan {
+        config: matches.get_str("CONFIG")?,
+        turns: matches.get_one::<u32>("turns")?,
+        create: matches.get_flag("create"),
+        number: matches.get_one::<u32>("number"),
+        tape: matches.get_str("tape"),
+        seek: matches.get_one::<u32>("seek"),
+    };
+    Some(Asked::Serve(plan))
+}
+
+fn rehearse_of<'a>(matches: &ArgMatches<'a>) -> Option<Asked<'a>> {
+    let paths = ScriptPaths {
+        table: matches.get_str("TABLE")?,
+        widths: matches.get_str("WIDTHS")?,
+        script: matches.get_str("SCRIPT")?,
+    };
+    Some(Asked::Rehearse { paths })
+}
+
+fn asked_of<'a>(matches: &ArgMatches<'a>) -> Option<Asked<'a>> {
+    match matches.subcommand() {
+        Some(("answer", given)) => answer_of(given),
+        Some(("check", given)) => check_of(given),
+        Some(("rows", given)) => rows_of(given),
+        Some(("serve", given)) => serve_of(given),
+        Some(("rehearse", given)) => rehearse_of(given),
+        _ => None,
+    }
+}
+
+/// How a line that asks for no command ends: what `clap` says of it is printed, the help to the output.
+fn told(rt: &HostRuntime, error: &Error) -> End {
+    if error.kind() == ErrorKind::OutOfMemory {
+        return Fault::OutOfMemory.tell(&mut rt.stderr());
+    }
+    let _ = error.print(rt);
+    End::Usage
+}
+
+/// The command that the words give; the first word is the program's own name.
+///
+/// Help and mistakes are printed as `clap` words them, and end as usage. Where memory is refused, that fault is
+/// told and is the end.
+pub fn parse<'a>(rt: &HostRuntime, words: &'a [String]) -> Result<Asked<'a>, End> {
+    match matches_of(rt.alloc(), words) {
+        Ok(matches) => match asked_of(&matches) {
+            Some(asked) => Ok(asked),
+            None => Err(End::Usage),
+        },
+        Err(error) => Err(told(rt, &error)),
+    }
+}

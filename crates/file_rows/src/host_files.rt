@@ -1,0 +1,52 @@
+//! Saved rows in files of the host, each a database.
+
+ghost use Rattle.acceptor_store.specs.Identity.{IsIdentity};
+
+use crate::row_files::RowFiles;
+use acceptor_store::{Identity, RowsFault, SqliteRows};
+use sqlite::{Connection, Error, ErrorCode, FileFrom, FileStore, Wary};
+use std::fs;
+
+/// The files of the host. A story that is lost to a torn write would be a promise broken, so the database supposes
+/// nothing of one.
+#[derive(Clone, Copy, Debug)]
+pub struct HostFiles;
+
+impl RowFiles for HostFiles {
+    type Rows = SqliteRows<FileStore<FileFrom<Wary>>>;
+
+    fn create(
+        &self,
+        rt: &HostRuntime,
+        path: &str,
+        identity: Identity,
+    ) -> Result<SqliteRows<FileStore<FileFrom<Wary>>>, RowsFault> {
+        let conn = match Connection::open_from(rt, path, false, Wary) {
+            Ok(conn) => conn,
+            Err((Error::SqliteFailure(ErrorCode::OutOfMemory), _)) => {
+                return Err(RowsFault::OutOfMemory);
+            }
+            Err(_) => return Err(RowsFault::Store),
+        };
+        match SqliteRows::create(rt.alloc(), conn, identity) {
+            Ok(rows) => Ok(rows),
+            Err((fault, _)) => Err(fault),
+        }
+    }
+
+    fn open(
+        &self,
+        rt: &HostRuntime,
+        path: &str,
+        identity: Option<Identity>,
+    ) -> Result<SqliteRows<FileStore<FileFrom<Wary>>>, RowsFault> {
+        // To the database a missing file is an empty one.
+        if !matches!(fs::exists(rt, path), Ok(true)) {
+            return Err(RowsFault::Store);
+        }
+        match SqliteRows::open_from(rt, path, false, Wary, identity) {
+            Ok(rows) => Ok(rows),
+            Err((fault, _, _)) => Err(fault),
+        }
+    }
+}

@@ -1,0 +1,32 @@
+//! What a station asks of the files that it saves its rows in.
+
+ghost use Rattle.acceptor_store.specs.Identity.{IsIdentity};
+
+use acceptor_store::{Identity, Rows, RowsFault};
+
+/// Files that hold saved rows.
+pub trait RowFiles {
+    /// The rows in one of them.
+    type Rows: Rows;
+
+    /// Makes the tables of this station in the file at a path, which is made where it is not there.
+    ///
+    /// `Store` where the tables are there already or the file is refused, as one that another has open; `OutOfMemory`.
+    fn create(
+        &self,
+        rt: &HostRuntime,
+        path: &str,
+        identity: Identity,
+    ) -> Result<Self::Rows, RowsFault>
+        requires { IsIdentity identity };
+
+    /// Takes up the rows in the file at a path: those of this station, or whosever they are where none is given.
+    ///
+    /// A file that is not there is refused with `Store`, and not made; else the fault is that of the rows.
+    fn open(
+        &self,
+        rt: &HostRuntime,
+        path: &str,
+        identity: Option<Identity>,
+    ) -> Result<Self::Rows, RowsFault>;
+}

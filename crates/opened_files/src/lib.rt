@@ -1,0 +1,6 @@
+//! Files of the host that may not open.
+#![tactic(auto)]
+
+mod opened;
+
+pub use opened::Opened;
