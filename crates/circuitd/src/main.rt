@@ -1,22 +1,18 @@
 //! circuitd: one station of a wire circuit, and the tools round it.
 #![tactic(auto)]
 
-mod arguments;
-mod opened;
-mod row_files;
-mod starting;
-
 use answer_command::answer;
-use arguments::{Asked, parse};
 use ballots::Member;
 use check_command::{TapePaths, check};
 use command_ends::{End, Fault};
-use opened::Opened;
+use command_line::{Asked, parse};
+use file_rows::{HostFiles, RowFiles};
+use opened_files::Opened;
 use rehearse_command::{ScriptPaths, rehearse};
 use rows_command::print_rows;
-use sqlite::Wary;
+use station_start::serve;
 use std::env;
-use std::io::{BufWriter, ErrorKind};
+use std::io::{BufWriter, ErrorKind, Write};
 use std::process::ExitCode;
 
 fn command_words(rt: &HostRuntime) -> Result<Vec<String>, End> {
@@ -33,19 +29,13 @@ fn command_words(rt: &HostRuntime) -> Result<Vec<String>, End> {
     }
 }
 
-fn run_answer(rt: &HostRuntime, circuit: u16, me: Member) -> End {
-    let Ok(mut out) = BufWriter::new(rt.alloc(), rt.stdout()) else {
-        return Fault::OutOfMemory.tell(&mut rt.stderr());
-    };
+fn run_answer<W: Write>(rt: &HostRuntime, circuit: u16, me: Member, out: &mut W) -> End {
     let mut input = rt.stdin();
     let mut err = rt.stderr();
-    answer(rt.alloc(), circuit, me, &mut input, &mut out, &mut err)
+    answer(rt.alloc(), circuit, me, &mut input, out, &mut err)
 }
 
-fn run_check(rt: &HostRuntime, paths: &TapePaths<'_>, listing: bool) -> End {
-    let Ok(mut out) = BufWriter::new(rt.alloc(), rt.stdout()) else {
-        return Fault::OutOfMemory.tell(&mut rt.stderr());
-    };
+fn run_check<W: Write>(rt: &HostRuntime, paths: &TapePaths<'_>, listing: bool, out: &mut W) -> End {
     let mut table = Opened::at(rt, paths.table);
     let mut widths = Opened::at(rt, paths.widths);
     let mut tape = Opened::at(rt, paths.tape);
@@ -57,35 +47,20 @@ fn run_check(rt: &HostRuntime, paths: &TapePaths<'_>, listing: bool) -> End {
         &mut widths,
         &mut tape,
         listing,
-        &mut out,
+        out,
         &mut err,
     )
 }
 
-fn run_rows(rt: &HostRuntime, path: &str) -> End {
-    let Ok(mut out) = BufWriter::new(rt.alloc(), rt.stdout()) else {
-        return Fault::OutOfMemory.tell(&mut rt.stderr());
-    };
+fn run_rows<W: Write>(rt: &HostRuntime, path: &str, out: &mut W) -> End {
     let mut err = rt.stderr();
-    match row_files::open_rows(rt, path, Wary, None) {
-        Ok(mut rows) => print_rows(rt.alloc(), &mut rows, &mut out, &mut err),
+    match HostFiles.open(rt, path, None) {
+        Ok(mut rows) => print_rows(rt.alloc(), &mut rows, out, &mut err),
         Err(fault) => Fault::of_rows(fault).tell(&mut err),
     }
 }
 
-fn run_serve(rt: &HostRuntime, plan: &starting::Plan<'_>) -> End {
-    let Ok(mut out) = BufWriter::new(rt.alloc(), rt.stdout()) else {
-        return Fault::OutOfMemory.tell(&mut rt.stderr());
-    };
-    let mut err = rt.stderr();
-    // A story that is lost to a torn write would be a promise broken, so the database supposes nothing of one.
-    starting::serve(rt, plan, Wary, &mut out, &mut err)
-}
-
-fn run_rehearse(rt: &HostRuntime, paths: &ScriptPaths<'_>) -> End {
-    let Ok(mut out) = BufWriter::new(rt.alloc(), rt.stdout()) else {
-        return Fault::OutOfMemory.tell(&mut rt.stderr());
-    };
+fn run_rehearse<W: Write>(rt: &HostRuntime, paths: &ScriptPaths<'_>, out: &mut W) -> End {
     let mut table = Opened::at(rt, paths.table);
     let mut widths = Opened::at(rt, paths.widths);
     let mut script = Opened::at(rt, paths.script);
@@ -96,18 +71,21 @@ fn run_rehearse(rt: &HostRuntime, paths: &ScriptPaths<'_>) -> End {
         &mut table,
         &mut widths,
         &mut script,
-        &mut out,
+        out,
         &mut err,
     )
 }
 
 fn run_command(rt: &HostRuntime, asked: &Asked<'_>) -> End {
+    let Ok(mut out) = BufWriter::new(rt.alloc(), rt.stdout()) else {
+        return Fault::OutOfMemory.tell(&mut rt.stderr());
+    };
     match asked {
-        Asked::Answer { circuit, me } => run_answer(rt, *circuit, *me),
-        Asked::Check { paths, listing } => run_check(rt, paths, *listing),
-        Asked::Rows { path } => run_rows(rt, *path),
-        Asked::Serve(plan) => run_serve(rt, plan),
-        Asked::Rehearse { paths } => run_rehearse(rt, paths),
+        Asked::Answer { circuit, me } => run_answer(rt, *circuit, *me, &mut out),
+        Asked::Check { paths, listing } => run_check(rt, paths, *listing, &mut out),
+        Asked::Rows { path } => run_rows(rt, *path, &mut out),
+        Asked::Serve(plan) => serve(rt, plan, &HostFiles, &mut out, &mut rt.stderr()),
+        Asked::Rehearse { paths } => run_rehearse(rt, paths, &mut out),
     }
 }
 
