@@ -1,9 +1,10 @@
 //! Saved rows in files of the host, each a database.
 
-ghost use Rattle.acceptor_store.specs.Identity.{IsIdentity};
+ghost use Rattle.saved_rows.specs.Identity.{IsIdentity};
 
 use crate::row_files::RowFiles;
-use acceptor_store::{Identity, RowsFault, SqliteRows};
+use acceptor_store::SqliteRows;
+use saved_rows::{Identity, RowsFault};
 use sqlite::{Connection, Error, ErrorCode, FileFrom, FileStore, Wary};
 use std::fs;
 

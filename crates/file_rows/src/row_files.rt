@@ -1,8 +1,8 @@
 //! What a station asks of the files that it saves its rows in.
 
-ghost use Rattle.acceptor_store.specs.Identity.{IsIdentity};
+ghost use Rattle.saved_rows.specs.Identity.{IsIdentity};
 
-use acceptor_store::{Identity, Rows, RowsFault};
+use saved_rows::{Identity, Rows, RowsFault};
 
 /// Files that hold saved rows.
 pub trait RowFiles {

@@ -1,11 +1,10 @@
 //! A station that starts from its configuration, the files that this names, its saved rows and its socket.
 
 ghost use Rattle.std.specs.Prelude.{◌≤◌, length};
-ghost use Rattle.acceptor_store.specs.Identity.{IsIdentity};
+ghost use Rattle.saved_rows.specs.Identity.{IsIdentity};
 ghost use Rattle.configuration.specs.Stations.{IsCircuit};
 
 use crate::files::{Files, offer_of, read_files};
-use acceptor_store::{Identity, Rows};
 use ballots::Member;
 use code_table::CodeTable;
 use command_ends::{End, Fault};
@@ -13,6 +12,7 @@ use command_line::Plan;
 use configuration::{Config, read_config};
 use file_rows::RowFiles;
 use opened_files::Opened;
+use saved_rows::{Identity, Rows};
 use serve_command::serve_run;
 use station::Station;
 use std::io::Write;
