@@ -20,3 +20,5 @@ mod restarts;
 mod samples;
 #[cfg(test)]
 mod sessions;
+#[cfg(test)]
+mod upgrades;
