@@ -8,4 +8,3 @@ pub mod Reaching
 pub mod Founding
 pub mod Asking
 pub mod Existing
-pub mod Databases

@@ -1,6 +1,6 @@
 //! A circuit that is played from its beginning.
 
-ghost use Rattle.std.specs.Prelude.{◌≡◌, ◌≤◌, None, IfOk, IfErr, IfSome, length, map};
+ghost use Rattle.std.specs.Prelude.{◌≡◌, None, IfOk, IfErr, IfSome, length, map};
 ghost use Rattle.world.specs.Founding.{AreBlank, AreNewlyMade, IsCount, IsUnfounded, given_of};
 ghost use Rattle.world.specs.Playing.{IsUnplayed, Plays};
 ghost use Rattle.world.specs.Reach.{Agreed, AllHonest, AllKept, IsReached};
@@ -8,10 +8,8 @@ ghost use Rattle.world.specs.Taking.{StopsAt};
 
 use crate::step::{RunStop, Step};
 use crate::world::{NewWorldFault, World};
-use acceptor_store::SqliteRows;
-use saved_rows::{Identity, MemoryRows, Rows};
 use code_table::CodeTable;
-use sqlite::{Connection, MemStore};
+use saved_rows::{MemoryRows, Rows};
 use std::alloc::{AllocError, Global};
 use widths::Widths;
 
@@ -114,66 +112,6 @@ pub fn play_in_memory(
         return Err(PlayFault::BadCount);
     }
     let Ok(members) = with_memory(alloc, members) else {
-        return Err(PlayFault::OutOfMemory);
-    };
-    match play(alloc, circuit, members, steps) {
-        Ok(played) => Ok(played),
-        Err(_) => Err(PlayFault::OutOfMemory),
-    }
-}
-
-/// These members, each with rows in a database of its own, which lies in memory.
-fn with_databases(
-    alloc: Global,
-    circuit: u16,
-    count: u8,
-    members: Vec<(CodeTable, Widths)>,
-) -> Result<Vec<(CodeTable, Widths, SqliteRows<MemStore>)>, AllocError>
-    requires many { length members.items ≤ count }
-    requires few { count ≤ 15 }
-    ensures new { IfOk result (λ v. AreNewlyMade ⟦<SqliteRows<MemStore> as Rows>⟧ v.items) }
-    ensures given { IfOk result (λ v. map given_of v.items ≡ members.items) }
-{
-    let mut parts = Vec::with_capacity(alloc, members.len())?;
-    let mut me = 0;
-    for (table, widths) in members {
-        me += 1;
-        let identity = Identity {
-            circuit,
-            member: me,
-            members: count,
-        };
-        let conn = Connection::open_in_memory(alloc)?;
-        match SqliteRows::create(alloc, conn, identity) {
-            Ok(rows) => parts.push((table, widths, rows))?,
-            Err(_) => return Err(AllocError),
-        }
-    }
-    Ok(parts)
-}
-
-/// Plays a circuit from its beginning, its members over databases that are made for them in memory: takes the steps in
-/// order, up to the first that is refused.
-///
-/// Whatever the steps are, the releases agree, as [`play_in_memory`] says.
-///
-/// It is not played as `BadCount` where there are no members or more than 15; `OutOfMemory`, also where a member's
-/// database could not be made.
-pub fn play_in_databases(
-    alloc: Global,
-    circuit: u16,
-    members: Vec<(CodeTable, Widths)>,
-    steps: &[Step],
-) -> Result<Played<SqliteRows<MemStore>>, PlayFault>
-    ensures unplayed { IfErr result (IsUnplayed (length members.items)) }
-    ensures plays { IfOk result (λ p. Plays ⟦<SqliteRows<MemStore> as Rows>⟧ circuit members.items steps.now p.world p.run) }
-    ensures stops { IfOk result (λ p. IfErr p.run (StopsAt steps.now p.world)) }
-    ensures agreed { IfOk result (λ p. Agreed p.world) }
-{
-    let Some(count) = member_count(members.len()) else {
-        return Err(PlayFault::BadCount);
-    };
-    let Ok(members) = with_databases(alloc, circuit, count, members) else {
         return Err(PlayFault::OutOfMemory);
     };
     match play(alloc, circuit, members, steps) {

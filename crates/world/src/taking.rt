@@ -11,8 +11,8 @@ use crate::laws;
 use crate::logging::log_offer;
 use crate::step::{Outcome, RunStop, Seen, Step, WorldRefusal};
 use crate::world::World;
-use saved_rows::Rows;
 use line_check::laws::one_setting;
+use saved_rows::Rows;
 use tape_frames::Tape;
 
 impl<R: Rows> World<R> {

@@ -10,8 +10,8 @@ ghost use Rattle.world.specs.Worlds.{station_at};
 
 use crate::laws;
 use crate::logs::{OfferLog, ReleaseLog};
-use saved_rows::{Balky, Rows};
 use code_table::CodeTable;
+use saved_rows::{Balky, Rows};
 use station::{Datagram, Station};
 use std::alloc::{AllocError, Global};
 use widths::Widths;

@@ -4,9 +4,8 @@ use Rattle.std.specs.Prelude.{map}
 use Rattle.sqlite_trees.specs.declared.memory.MemStore.{MemStore}
 use Rattle.acceptor_store.specs.Sqlite.{SqliteOf}
 use Rattle.world.specs.Founding.{Part, AreNewlyMade, given_of}
-use Rattle.world.proofs.Databases.{in_memory}
-use Rattle.world.proofs.Founding.{newly_more, newly_none, given_more}
-use Rattle.world.proofs.playing.with_databases.Goals as goal
+use Rattle.database_circuits.proofs.Databases.{in_memory, newly_more, newly_none, given_more}
+use Rattle.database_circuits.proofs.playing.with_databases.Goals as goal
 
 pub loop-table-init : goal.loop-table-init
 loop-table-init c = record {

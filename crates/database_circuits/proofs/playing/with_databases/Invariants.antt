@@ -2,8 +2,8 @@
 use Rattle.std.proofs.Common.{◌≡◌, length}
 use Rattle.std.specs.Prelude.{map}
 use Rattle.world.specs.Founding.{AreNewlyMade, given_of}
-use Rattle.world.proofs.Databases.{in_memory}
-use Rattle.world.proofs.playing.with_databases.Given as goal
+use Rattle.database_circuits.proofs.Databases.{in_memory}
+use Rattle.database_circuits.proofs.playing.with_databases.Given as goal
 
 abbrev pub invariant-loop-table : goal.invariant-loop-table
 invariant-loop-table l =
