@@ -1,5 +1,6 @@
-//! The tests of all that needs a database: saved rows, which are made, taken up again and damaged, beside those in memory;
-//! what `rows` prints; stations that start again; a circuit over databases.
+//! The tests of all that needs a database: saved rows, which are made, taken up again, damaged and upgraded, beside those in
+//! memory; rows in a host's file; what `rows` prints; what `serve` starts from, and stations that start again; a circuit over
+//! databases.
 #![tactic(auto)]
 
 #[cfg(test)]
@@ -11,6 +12,8 @@ mod databases;
 #[cfg(test)]
 mod deeds;
 #[cfg(test)]
+mod files;
+#[cfg(test)]
 mod listings;
 #[cfg(test)]
 mod memory;
@@ -20,5 +23,7 @@ mod restarts;
 mod samples;
 #[cfg(test)]
 mod sessions;
+#[cfg(test)]
+mod starting;
 #[cfg(test)]
 mod upgrades;
