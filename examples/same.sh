@@ -1,5 +1,6 @@
 #!/usr/bin/env bash
 # The tests have the files and the tapes of the examples as constants, in the crate fixtures: this tells whether they are the same.
+# Then, where the program is built, each example of the README is run, and has to print what stands there, byte for byte.
 set -eu
 cd "$(dirname "$0")"
 python3 - <<'END'
@@ -37,4 +38,53 @@ for name, path in COPIES.items():
 if differing:
     sys.exit("\n".join(differing))
 print("The tests' files and tapes are those of the examples.")
+END
+
+circuitd=$PWD/../crates/circuitd/out/circuitd
+if [ ! -x "$circuitd" ]; then
+    echo "The program is not built, so the README's examples were not run: examples/first_circuit.sh builds it."
+    exit 0
+fi
+python3 - "$circuitd" <<'END'
+import os
+import re
+import shutil
+import subprocess
+import sys
+import tempfile
+
+with open("../README.md", encoding="utf-8") as file:
+    readme = file.read()
+differing = 0
+with tempfile.TemporaryDirectory() as work:
+    files = [name for name in os.listdir(".") if name.endswith((".toml", ".tape", ".script"))]
+    os.makedirs(os.path.join(work, "examples"))
+    for name in files:
+        shutil.copy(name, os.path.join(work, "examples"))
+    os.makedirs(os.path.join(work, "bin"))
+    os.symlink(sys.argv[1], os.path.join(work, "bin", "circuitd"))
+    path = os.path.join(work, "bin") + os.pathsep + os.environ["PATH"]
+    # an example is a block whose first line is a command
+    for block in re.findall(r"^```\n(\$ .*?)^```$", readme, re.DOTALL | re.MULTILINE):
+        commands, told, goes_on = [], "", False
+        for line in block.splitlines(keepends=True):
+            if goes_on or line.startswith("$ "):
+                commands.append(line.removeprefix("$ "))
+                goes_on = line.endswith("\\\n")
+            else:
+                told += line
+        run = subprocess.run(
+            ["bash", "-c", "".join(commands) + "wait"],
+            cwd=work,
+            env=dict(os.environ, PATH=path),
+            stdout=subprocess.PIPE,
+            stderr=subprocess.STDOUT,
+            text=True,
+        )
+        if run.stdout != told:
+            differing += 1
+            sys.stderr.write("The README says otherwise than the program. This\n" + "".join(commands) + "prints\n" + run.stdout)
+if differing:
+    sys.exit(1)
+print("The program prints what the README says.")
 END
