@@ -1,11 +1,12 @@
 //! A circuit over databases in memory logs what it logs over rows in memory.
-// Of crates.txt this needs: ballots tape_frames acceptor_store code_table widths line_check station world fixtures sqlite.
 
-use acceptor_store::{Identity, MemoryRows, Rows, SqliteRows};
+use acceptor_store::SqliteRows;
 use code_table::CodeTable;
+use database_circuits::play_in_databases;
 use fixtures::{CODES, FLOOD, WIDTHS};
 use line_check::galley;
-use sqlite::{Connection, MemStore};
+use saved_rows::{MemoryRows, Rows};
+use sqlite::MemStore;
 use station::Datagram;
 use std::alloc::Global;
 use tape_frames::Tape;
@@ -14,17 +15,6 @@ use world::{OfferLog, ReleaseLog, Step, World};
 
 /// The datagrams that come, in order, after member 1 of three was offered the flood story for number 12.
 const DELIVERED: &[usize] = &[1, 3, 6, 4, 8, 9, 7];
-
-/// The database of a member of three.
-fn database(alloc: Global, member: u8) -> Option<SqliteRows<MemStore>> {
-    let identity = Identity {
-        circuit: 7,
-        member,
-        members: 3,
-    };
-    let conn = Connection::open_in_memory(alloc).ok()?;
-    SqliteRows::create(alloc, conn, identity).ok()
-}
 
 /// The circuit of these rows, before its steps.
 fn circuit<R: Rows>(alloc: Global, rows: Vec<R>) -> Option<World<R>> {
@@ -68,12 +58,25 @@ fn in_memory(alloc: Global) -> Option<World<MemoryRows>> {
     agreed(alloc, rows)
 }
 
-fn in_databases(alloc: Global) -> Option<World<SqliteRows<MemStore>>> {
-    let mut rows = Vec::new(alloc);
-    for member in &[1, 2, 3] {
-        rows.push(database(alloc, *member)?).ok()?;
+/// The code tables and the widths of three members.
+fn members(alloc: Global) -> Option<Vec<(CodeTable, Widths)>> {
+    let mut members = Vec::new(alloc);
+    for _ in 0..3 {
+        let table = CodeTable::read(alloc, CODES).ok()?;
+        let widths = Widths::read(alloc, WIDTHS).ok()?;
+        members.push((table, widths)).ok()?;
     }
-    agreed(alloc, rows)
+    Some(members)
+}
+
+/// The circuit over databases, after the steps.
+fn in_databases(alloc: Global) -> Option<World<SqliteRows<MemStore>>> {
+    let steps = steps(alloc)?;
+    let played = play_in_databases(alloc, 7, members(alloc)?, steps.as_slice()).ok()?;
+    if played.run.is_err() {
+        return None;
+    }
+    Some(played.world)
 }
 
 fn are_same_datagrams(left: &[Datagram], right: &[Datagram]) -> bool {
