@@ -68,19 +68,42 @@ fn is_taken_up(rt: &HostRuntime) -> Option<bool> {
     Some(saved && rows.into_connection().close().is_ok())
 }
 
+/// Whether a file that is not there is refused, and not made by the look.
+fn stays_missing(rt: &HostRuntime) -> bool {
+    fs::create_dir(rt, FOLDER).is_ok()
+        && refusal_of(rt, None) == Some(RowsFault::Store)
+        && matches!(fs::exists(rt, PATH), Ok(false))
+}
+
+/// Whether a file that is no database is refused.
+fn is_refused(rt: &HostRuntime) -> bool {
+    fs::write(rt, PATH, b"no database".as_slice()).is_ok()
+        && refusal_of(rt, None) == Some(RowsFault::Store)
+}
+
+/// The first place at which the file does not answer as it has to; 5 where there is none.
+fn first_wrong(rt: &HostRuntime) -> usize {
+    if !stays_missing(rt) {
+        return 0;
+    }
+    if is_made(rt) != Some(true) {
+        return 1;
+    }
+    if refusal_of(rt, Some(OTHER)) != Some(RowsFault::WrongStation) {
+        return 2;
+    }
+    if is_taken_up(rt) != Some(true) {
+        return 3;
+    }
+    if !is_refused(rt) {
+        return 4;
+    }
+    5
+}
+
 #[test]
 fn rows_in_a_file(rt: HostRuntime) {
     let _ = fs::remove_dir_all(&rt, FOLDER);
-    assert!(rt; fs::create_dir(&rt, FOLDER).is_ok());
-    assert!(rt; refusal_of(&rt, None) == Some(RowsFault::Store));
-    assert!(rt;
-        matches!(fs::exists(&rt, PATH), Ok(false)),
-        "a look made the file"
-    );
-    assert!(rt; is_made(&rt) == Some(true));
-    assert!(rt; refusal_of(&rt, Some(OTHER)) == Some(RowsFault::WrongStation));
-    assert!(rt; is_taken_up(&rt) == Some(true));
-    assert!(rt; fs::write(&rt, PATH, b"no database".as_slice()).is_ok());
-    assert!(rt; refusal_of(&rt, None) == Some(RowsFault::Store));
+    assert!(rt; first_wrong(&rt) == 5);
     assert!(rt; fs::remove_dir_all(&rt, FOLDER).is_ok());
 }
