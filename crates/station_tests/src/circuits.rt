@@ -10,7 +10,8 @@ use std::alloc::Global;
 use tape_frames::Tape;
 use widths::Widths;
 use world::{
-    NewWorldFault, OfferLog, ReleaseLog, RunStop, Seen, Step, World, WorldRefusal, play_in_memory,
+    NewWorldFault, OfferLog, PlayFault, ReleaseLog, RunStop, Seen, Step, World, WorldRefusal,
+    play_in_memory,
 };
 
 /// Widths that lack the matrix `fi`.
@@ -390,8 +391,17 @@ pub fn fails_at(alloc: Global, story: &Story, way: Way) -> Option<usize> {
 pub fn plays(alloc: Global, story: &Story) -> Option<bool> {
     let members = pairs(alloc, story.members, story.last)?;
     let steps = steps_of(alloc, story.lines)?;
-    let world = play_in_memory(alloc, 7, members, steps.as_slice()).ok()?;
-    Some(has_logged(alloc, &world, story))
+    let played = play_in_memory(alloc, 7, members, steps.as_slice()).ok()?;
+    Some(played.run.err() == story.stop && has_logged(alloc, &played.world, story))
+}
+
+/// Whether a circuit of this many members is not played, for their count.
+pub fn is_unplayed(alloc: Global, members: u8) -> Option<bool> {
+    let members = pairs(alloc, members, WIDTHS)?;
+    match play_in_memory(alloc, 7, members, &[]) {
+        Err(fault) => Some(fault == PlayFault::BadCount),
+        Ok(_) => Some(false),
+    }
 }
 
 /// Whether a circuit of this many members is refused, and all of them are handed back.

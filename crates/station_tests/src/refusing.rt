@@ -1,7 +1,9 @@
 //! Circuits and steps that there are not, and offers that are refused.
 
 use crate::circuits::Act::{Deliver, OfferFlood, Seek};
-use crate::circuits::{CALM, Line, Offered, Story, Way, fails_at, is_handed_back};
+use crate::circuits::{
+    CALM, Line, Offered, Story, Way, fails_at, is_handed_back, is_unplayed, plays,
+};
 use fixtures::FLOOD;
 use world::{RunStop, WorldRefusal};
 
@@ -10,6 +12,10 @@ fn counts_that_are_refused(rt: HostRuntime) {
     for (members, refused) in &[(0, true), (15, false), (16, true)] {
         assert!(rt;
             is_handed_back(rt.alloc(), *members) == Some(*refused),
+            "{members}"
+        );
+        assert!(rt;
+            is_unplayed(rt.alloc(), *members) == Some(*refused),
             "{members}"
         );
     }
@@ -66,5 +72,6 @@ fn steps_that_there_are_not(rt: HostRuntime) {
     }
     for story in TOO_EARLY {
         assert!(rt; fails_at(rt.alloc(), story, Way::Run).is_none());
+        assert!(rt; plays(rt.alloc(), story) == Some(true));
     }
 }
