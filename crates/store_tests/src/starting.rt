@@ -292,7 +292,7 @@ fn held_gone(rt: &HostRuntime, folder: String) -> Option<usize> {
     fs::remove_file(rt, database.as_str()).ok()?;
     let socket = gone(rt, &site, SOCKET)?;
     site.remove(rt)?;
-    Some(rows + socket)
+    Some(rows.saturating_add(socket))
 }
 
 /// How many starts go as they have to: those over the texts, and those over the row file and the socket.
