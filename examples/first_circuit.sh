@@ -47,7 +47,7 @@ prove_and_build() {
     (cd "$top/crates/circuitd" && build rt run -- check "$examples/codes.toml" "$examples/widths.toml" "$examples/flood.tape")
 }
 
-echo "Proving and building the program: some minutes on a fresh machine, seconds after that."
+echo "Proving and building the program: about half an hour on a fresh machine, seconds after that."
 prove_and_build
 
 cp station?.toml codes.toml widths.toml ./*.tape "$work"
