@@ -14,9 +14,11 @@ pub mod Due
 pub mod Meeting
 pub mod Proposing
 pub mod Turns
+pub mod Once
 pub mod Fitting
 pub mod Steps
 pub mod Agreements
 pub mod Holding
 pub mod Rehearsing
+pub mod Contending
 pub mod Upgrading

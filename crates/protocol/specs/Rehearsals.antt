@@ -1,13 +1,13 @@
 -- Worked examples of refusals and of histories, of number 12: the definitions are not empty.
-use Rattle.std.specs.Prelude.{◌≡◌, ℕ, List, [], ◌∷◌, ◌++◌, Some, None, Ok, Err, true, false, map}
+use Rattle.std.specs.Prelude.{◌≡◌, ℕ, List, [], ◌∷◌, ◌++◌, Some, None, Ok, Err, Bool, true, false, map}
 use Rattle.std.specs.List.{AllZip}
 use Rattle.protocol.specs.Rows.{Tape, vote_for}
 use Rattle.protocol.specs.Packets.{Packet, Prepare, Promise, Accept, Accepted, Nack}
-use Rattle.protocol.specs.Turn.{Offered, Note_began, Note_promised, Note_proposed, Note_heard, Note_voted, packet_to}
+use Rattle.protocol.specs.Turn.{Offered, Note_began, Note_nothing, Note_promised, Note_silent, Note_nacked, Note_denied, Note_idle, Note_proposed, Note_heard, Note_voted, packet_to}
 use Rattle.protocol.specs.Runs.{ballot, run_of}
-use Rattle.protocol.specs.Refusals.{Stopped, Wrong_circuit, Not_for_me, Stranger, Bad_number, Already_released, Already_open, Wire_too_old, Bad_datagram, packet_refusal, number_refusal}
+use Rattle.protocol.specs.Refusals.{Setup, Offering, Receiving, Stopped, Wrong_circuit, Not_for_me, Stranger, Bad_number, Already_released, Already_open, Wire_too_old, Tape_faulty, Bad_datagram, packet_refusal, number_refusal, refusal}
 use Rattle.protocol.specs.Versions.{Version, One, Two, fits}
-use Rattle.protocol.specs.Circuit.{Circuit, Carries, Datagram, Release, State, Step, Offers, Seeks, Delivers, Restarts, Upgrades, Balks, Outcome, Done, Refused, Torn_by_store, Restarted, Upgraded, Armed, History, starts, goes_on}
+use Rattle.protocol.specs.Circuit.{Circuit, Carries, Datagram, Offer, Release, State, Step, Offers, Seeks, Falls_due, Delivers, Restarts, Upgrades, Balks, Outcome, Done, Refused, Torn_by_store, Torn_by_memory, Restarted, Upgraded, Armed, History, starts, goes_on}
 
 -- a member of 3 refuses packets of another circuit, for another, and of strangers: the sender, the owner of the ballot, of a reported vote, of a Nack's promise
 pub record PacketsAreRefused (D F : Type 0) : Type 0 where
@@ -29,6 +29,34 @@ pub record NumbersAreRefused (D F : Type 0) : Type 0 where
   pub released : (tape : Tape) → number_refusal {D = D} {F = F} 12 (run_of 7 1 1 (Offered 12 tape 0 ∷ [])).marks ≡ Some Already_released
   pub open_one : (tape : Tape) → number_refusal {D = D} {F = F} 12 (run_of 7 3 1 (Offered 12 tape 0 ∷ [])).marks ≡ Some Already_open
   pub other : (tape : Tape) → number_refusal {D = D} {F = F} 13 (run_of 7 3 1 (Offered 12 tape 0 ∷ [])).marks ≡ None
+
+-- 2 of 3 to which no bytes spell a packet and at which no tape sets; its version has a spelling for each tape, or for none
+abbrev pub faulty_setup : {D G F : Type 0} → D → F → Bool → Setup D G F
+faulty_setup d f fits = record { circuit = 7; count = 3; me = 2; reads = λ bytes. Err d; fits = λ tape. fits; sets = λ tape. Err f }
+
+-- a station that is stopped says so, whatever else is wrong: bytes that it can't read, a tape that doesn't set
+abbrev pub StoppedIsToldFirst : (D G F : Type 0) → Type 0
+StoppedIsToldFirst D G F =
+    (d : D) (f : F) (tape : Tape)
+    → (refusal {G = G} (faulty_setup d f true) true [] (Receiving [] 0) ≡ Some Stopped)
+    × (refusal {G = G} (faulty_setup d f true) true [] (Offering 12 tape 0) ≡ Some Stopped)
+    × (refusal {G = G} (faulty_setup d f true) false [] (Receiving [] 0) ≡ Some (Bad_datagram d))
+    × (refusal {G = G} (faulty_setup d f true) false [] (Offering 12 tape 0) ≡ Some (Tape_faulty f))
+
+-- a stranger's packet for another member is one for another member
+abbrev pub AddresseeIsToldFirst : (D F : Type 0) → Type 0
+AddresseeIsToldFirst D F = packet_refusal {D = D} {F = F} 7 3 2 (packet_to 7 4 12 (ballot 1 4) Prepare 3) ≡ Some Not_for_me
+
+-- a number out of range, and one that is open, is told before what is wrong with the tape
+abbrev pub NumberIsToldFirst : (D G F : Type 0) → Type 0
+NumberIsToldFirst D G F =
+    (d : D) (f : F) (tape : Tape)
+    → (refusal {G = G} (faulty_setup d f true) false [] (Offering 0 tape 0) ≡ Some Bad_number)
+    × (refusal {G = G} (faulty_setup d f false) false (run_of 7 3 2 (Offered 12 tape 0 ∷ [])).marks (Offering 12 tape 0) ≡ Some Already_open)
+
+-- that a version has no spelling for a tape is told before the tape's own fault
+abbrev pub VersionIsToldFirst : (D G F : Type 0) → Type 0
+VersionIsToldFirst D G F = (d : D) (f : F) (tape : Tape) → refusal {G = G} (faulty_setup d f false) false [] (Offering 12 tape 0) ≡ Some Wire_too_old
 
 -- a step that was taken, and how it ended
 pub record Taken (D F : Type 0) : Type 0 where
@@ -153,3 +181,88 @@ VoteOutlivesUpgrades D G F =
     ∷ record { step = Delivers 12 0; outcome = Done (Note_proposed (ballot 1 3)) }
     ∷ record { step = Delivers 14 0; outcome = Done (Note_voted (ballot 1 3)) }
     ∷ record { step = Delivers 18 0; outcome = Done (Note_heard (ballot 1 3)) } ∷ [])
+
+-- a member's offer of a tape
+abbrev pub offer_by : ℕ → Tape → Offer
+offer_by m tape = record { member = m; number = 12; tape = tape }
+
+-- 1 of 1 whose store refuses the save of its first offer, as unsaved, has no vote after the restart: a search finds nothing, at 1.1.
+-- Its next offer ends in want of memory, which leaves the row and stops the station. After a restart an offer releases the tape at 2.1,
+-- and after one more a search releases it again
+abbrev pub LosesWhatIsUnsaved : {D G F : Type 0} → Circuit D G F → Type 0
+LosesWhatIsUnsaved {D = D} {G = G} {F = F} z =
+    (v : Version) (tape : Tape) (slugs : G) → fits v tape ≡ true → z.sets 1 tape ≡ Ok slugs
+    → (w : State G F) × (h : History z w) × (started_at h 1 ≡ v)
+    × (w.releases ≡ release_by z 1 tape ∷ release_by z 1 tape ∷ []) × (w.offers ≡ offer_by 1 tape ∷ offer_by 1 tape ∷ offer_by 1 tape ∷ [])
+    × (steps_of h
+    ≡ record { step = Balks 1 false; outcome = Armed false }
+    ∷ record { step = Offers 1 12 tape 0; outcome = Torn_by_store }
+    ∷ record { step = Restarts 1; outcome = Restarted }
+    ∷ record { step = Seeks 1 12 0; outcome = Done (Note_nothing (ballot 1 1)) }
+    ∷ record { step = Offers 1 12 tape 0; outcome = Torn_by_memory }
+    ∷ record { step = Seeks 1 12 0; outcome = Refused Stopped }
+    ∷ record { step = Restarts 1; outcome = Restarted }
+    ∷ record { step = Offers 1 12 tape 0; outcome = Done (Note_proposed (ballot 2 1)) }
+    ∷ record { step = Restarts 1; outcome = Restarted }
+    ∷ record { step = Seeks 1 12 0; outcome = Done (Note_proposed (ballot 3 1)) } ∷ [])
+
+-- each circuit of one is such
+abbrev pub UnsavedVoteIsLost : (D G F : Type 0) → Type 0
+UnsavedVoteIsLost D G F = (z : Circuit D G F) → z.count ≡ 1 → LosesWhatIsUnsaved z
+
+-- what goes out as 3 of 3 asks for 1.3 and 2 promises it, as 1 asks for 1.1 and 2 denies it, and as 1 asks anew
+abbrev pub packets_denied : ℕ → List Packet
+packets_denied k =
+    packet_to k 3 12 (ballot 1 3) Prepare 1 ∷ packet_to k 3 12 (ballot 1 3) Prepare 2
+    ∷ packet_to k 2 12 (ballot 1 3) (Promise None) 3
+    ∷ packet_to k 1 12 (ballot 1 1) Prepare 2 ∷ packet_to k 1 12 (ballot 1 1) Prepare 3
+    ∷ packet_to k 2 12 (ballot 1 1) (Nack (ballot 1 3)) 1
+    ∷ packet_to k 1 12 (ballot 2 1) Prepare 2 ∷ packet_to k 1 12 (ballot 2 1) Prepare 3 ∷ []
+
+-- 2 of three promises 3 the ballot 1.3 and denies 1 the ballot 1.1; the Prepare of 3 that comes once more it leaves unanswered.
+-- 1 is not due at 289, and at 290 it begins 2.1, above the Nack. Nobody votes, so nothing is released
+abbrev pub DeniesTheLower : {D G F : Type 0} → Circuit D G F → Type 0
+DeniesTheLower {D = D} {G = G} {F = F} z =
+    (v : Version) (spell : Packet → List ℕ) (x y : Tape) (one three : G) → fits v x ≡ true → fits v y ≡ true → z.sets 3 x ≡ Ok three → z.sets 1 y ≡ Ok one
+    → AllZip (Carries z v) (packets_denied z.number) (map (datagram_of spell) (packets_denied z.number))
+    → (w : State G F) × (h : History z w) × ((m : ℕ) → started_at h m ≡ v) × (w.releases ≡ []) × (w.sent ≡ map (datagram_of spell) (packets_denied z.number))
+    × (steps_of h
+    ≡ record { step = Offers 3 12 x 0; outcome = Done (Note_began (ballot 1 3)) }
+    ∷ record { step = Delivers 2 0; outcome = Done (Note_promised (ballot 1 3)) }
+    ∷ record { step = Offers 1 12 y 0; outcome = Done (Note_began (ballot 1 1)) }
+    ∷ record { step = Delivers 4 0; outcome = Done (Note_nacked (ballot 1 3)) }
+    ∷ record { step = Delivers 6 0; outcome = Done (Note_denied (ballot 1 3)) }
+    ∷ record { step = Delivers 2 0; outcome = Done Note_silent }
+    ∷ record { step = Falls_due 1 289; outcome = Done Note_idle }
+    ∷ record { step = Falls_due 1 290; outcome = Done (Note_began (ballot 2 1)) } ∷ [])
+
+-- each circuit of three is such
+abbrev pub LowerIsDenied : (D G F : Type 0) → Type 0
+LowerIsDenied D G F = (z : Circuit D G F) → z.count ≡ 3 → DeniesTheLower z
+
+-- what goes out in a fight of two proposers: 1 of 3 proposes its tape, for which 2 votes, and 3 proposes it anew
+abbrev pub packets_of_fight : ℕ → Tape → List Packet
+packets_of_fight k tape = packets_of_three k tape ++ packets_after k tape
+
+-- a fight of two proposers. 2 of three has voted for the tape of 1 at 1.1, and no one knows that it is chosen, when 3 is offered a tape of its own.
+-- 2 reports its vote as it promises 1.3, so 3 proposes the tape of 1 and not its own, and releases it once 2 has voted at 1.3
+abbrev pub FightsForOne : {D G F : Type 0} → Circuit D G F → Type 0
+FightsForOne {D = D} {G = G} {F = F} z =
+    (v : Version) (spell : Packet → List ℕ) (x y : Tape) (one three : G) → fits v x ≡ true → fits v y ≡ true → z.sets 1 x ≡ Ok one → z.sets 3 y ≡ Ok three
+    → AllZip (Carries z v) (packets_of_fight z.number x) (map (datagram_of spell) (packets_of_fight z.number x))
+    → (w : State G F) × (h : History z w) × ((m : ℕ) → started_at h m ≡ v)
+    × (w.releases ≡ release_by z 3 x ∷ []) × (w.offers ≡ offer_by 1 x ∷ offer_by 3 y ∷ []) × (w.sent ≡ map (datagram_of spell) (packets_of_fight z.number x))
+    × (steps_of h
+    ≡ record { step = Offers 1 12 x 0; outcome = Done (Note_began (ballot 1 1)) }
+    ∷ record { step = Delivers 1 0; outcome = Done (Note_promised (ballot 1 1)) }
+    ∷ record { step = Delivers 3 0; outcome = Done (Note_proposed (ballot 1 1)) }
+    ∷ record { step = Delivers 4 0; outcome = Done (Note_voted (ballot 1 1)) }
+    ∷ record { step = Offers 3 12 y 0; outcome = Done (Note_began (ballot 1 3)) }
+    ∷ record { step = Delivers 11 0; outcome = Done (Note_promised (ballot 1 3)) }
+    ∷ record { step = Delivers 12 0; outcome = Done (Note_proposed (ballot 1 3)) }
+    ∷ record { step = Delivers 14 0; outcome = Done (Note_voted (ballot 1 3)) }
+    ∷ record { step = Delivers 18 0; outcome = Done (Note_heard (ballot 1 3)) } ∷ [])
+
+-- each circuit of three is such
+abbrev pub TwoProposersFight : (D G F : Type 0) → Type 0
+TwoProposersFight D G F = (z : Circuit D G F) → z.count ≡ 3 → FightsForOne z

@@ -1,12 +1,12 @@
 -- One station's turns, one after another, and worked examples of them: each holds by computing the turns.
 -- The examples are of number 12 in circuit 7; c of m stands for a circuit of c members and its station m.
-use Rattle.std.specs.Prelude.{◌≡◌, ℕ, zero, suc, ◌*◌, List, [], ◌∷◌, ◌++◌, Option, Some, None, map}
+use Rattle.std.specs.Prelude.{◌≡◌, ℕ, zero, suc, ◌*◌, List, [], ◌∷◌, ◌++◌, Option, Some, None, ◌==◌, map, if◌then◌else◌}
 use Rattle.protocol.specs.Ballots.{Ballot}
 use Rattle.protocol.specs.Rows.{Tape, Row, vote_for, raised, blank}
 use Rattle.protocol.specs.Packets.{Packet, Body, Prepare, Promise, Accept, Accepted, Nack}
 use Rattle.protocol.specs.Marks.{Mark}
 use Rattle.protocol.specs.Proposals.{open_ballot}
-use Rattle.protocol.specs.Turn.{Event, Offered, Sought, Came_due, Arrived, Note, Note_began, Note_nothing, Note_proposed, Note_idle, Note_gave_up, Note_promised, Note_silent, Note_nacked, Note_voted_again, Note_voted, Note_overtaken, Note_denied, Note_settled, Note_heard, Turn, packet_to, turn}
+use Rattle.protocol.specs.Turn.{Event, Offered, Sought, Came_due, Arrived, number_of, Note, Note_began, Note_nothing, Note_proposed, Note_idle, Note_gave_up, Note_promised, Note_silent, Note_nacked, Note_voted_again, Note_voted, Note_overtaken, Note_denied, Note_settled, Note_heard, Turn, packet_to, turn}
 
 -- what a turn shows to the outside
 pub record Shown : Type 0 where
@@ -213,3 +213,67 @@ GivesUp =
     → ((run_of 7 2 1 (Offered 12 tape 0 ∷ dues 32)).shown ≡ (run_of 7 2 1 (Offered 12 tape 0 ∷ dues 31)).shown ++ shows (Note_gave_up (ballot 32 1)) [] ∷ [])
     × ((run_of 7 2 1 (Offered 12 tape 0 ∷ dues 31)).shown ≡ (run_of 7 2 1 (Offered 12 tape 0 ∷ dues 30)).shown ++ begins_at 32 ∷ [])
     × (open_ballot 12 (run_of 7 2 1 (Offered 12 tape 0 ∷ dues 32)).marks ≡ None)
+
+-- where a station stands with the rows of all its numbers, and what it has shown so far, the first first
+pub record Station : Type 0 where
+  pub marks : List Mark
+  pub rows : ℕ → Row
+  pub shown : List Shown
+
+-- the rows with this one of n
+abbrev pub row_at : ℕ → Row → (ℕ → Row) → ℕ → Row
+row_at n row rows j = if j == n then row else rows j
+
+-- the station after a turn about n; it stays where no ballot is left
+abbrev pub took : ℕ → Station → Option Turn → Station
+took n s None = s
+took n s (Some t) = record { marks = t.marks; rows = row_at n t.row s.rows; shown = s.shown ++ record { note = t.note; out = t.out; release = t.release } ∷ [] }
+
+-- the station after these events too, the first first, each about a number of its own
+abbrev pub takes_on : ℕ → ℕ → ℕ → Station → List Event → Station
+takes_on k c m s [] = s
+takes_on k c m s (e ∷ es) = takes_on k c m (took (number_of e) s (turn k c m s.marks (s.rows (number_of e)) e)) es
+
+-- the notes of a station that starts with blank rows, the first first
+abbrev pub notes_over : ℕ → ℕ → ℕ → List Event → List Note
+notes_over k c m es = map (λ (s : Shown). s.note) (takes_on k c m (record { marks = []; rows = λ n. blank; shown = [] }) es).shown
+
+-- a search of 1 of 3 is denied by 6.2 and then finds nothing, which closes it. The offer after it begins anew:
+-- at its due moment it is denied by nothing, so it goes on above the row's own promise of 2.1 and not above 6.2
+abbrev pub ClosedIsForgotten : Type 0
+ClosedIsForgotten =
+    (tape : Tape)
+    → notes_of (run_of 7 3 1 (Sought 12 0 ∷ gets 2 (ballot 1 1) (Nack (ballot 6 2)) 1 ∷ gets 3 (ballot 1 1) (Promise None) 1 ∷ Offered 12 tape 0 ∷ Came_due 12 290 ∷ []))
+    ≡ Note_began (ballot 1 1) ∷ Note_denied (ballot 6 2) ∷ Note_nothing (ballot 1 1) ∷ Note_began (ballot 2 1) ∷ Note_began (ballot 3 1) ∷ []
+
+-- 1 of 3 seeks 13 while it offers a tape for 12. As 13 is closed, 12 stays open and denied by 6.2, so it goes on above 6.2;
+-- and as 13 is released, 12 stays open too
+abbrev pub NumbersStandApart : Type 0
+NumbersStandApart =
+    (x y : Tape)
+    → notes_over 7 3 1 (
+    Sought 13 0 ∷ Offered 12 x 0 ∷ gets 2 (ballot 1 1) (Nack (ballot 6 2)) 1
+    ∷ Arrived (packet_to 7 2 13 (ballot 1 1) (Promise None) 1) 0 ∷ Came_due 13 290 ∷ Came_due 12 290
+    ∷ Arrived (packet_to 7 2 13 (ballot 1 2) (Accepted y) 1) 300 ∷ Arrived (packet_to 7 3 13 (ballot 1 2) (Accepted y) 1) 300
+    ∷ Arrived (packet_to 7 3 13 (ballot 1 2) (Accepted y) 1) 300 ∷ Came_due 12 580 ∷ []
+    )
+    ≡ Note_began (ballot 1 1) ∷ Note_began (ballot 1 1) ∷ Note_denied (ballot 6 2)
+    ∷ Note_nothing (ballot 1 1) ∷ Note_idle ∷ Note_began (ballot 7 1)
+    ∷ Note_heard (ballot 1 2) ∷ Note_heard (ballot 1 2) ∷ Note_settled ∷ Note_began (ballot 8 1) ∷ []
+
+-- 1 of 2 that gave up at 32.1 is offered a tape again: it begins above its saved promise, and counts its ballots from the first
+abbrev pub OfferedAfterGivingUp : Type 0
+OfferedAfterGivingUp =
+    (tape : Tape)
+    → notes_of (run_of 7 2 1 ((Offered 12 tape 0 ∷ dues 32) ++ Offered 12 tape 9280 ∷ Came_due 12 9570 ∷ []))
+    ≡ notes_of (run_of 7 2 1 (Offered 12 tape 0 ∷ dues 32)) ++ Note_began (ballot 33 1) ∷ Note_began (ballot 34 1) ∷ []
+
+-- 1 of 3 that promised the last round but one begins the last, gives up as that falls due, and has no turn for an offer then;
+-- one that is denied by the last round gives up at once
+abbrev pub LastRoundIsBegun : Type 0
+LastRoundIsBegun =
+    (tape : Tape)
+    → (notes_of (run_from 7 3 1 (raised blank (ballot 4294967294 2)) (Offered 12 tape 0 ∷ Came_due 12 290 ∷ Offered 12 tape 300 ∷ []))
+    ≡ Note_began (ballot 4294967295 1) ∷ Note_gave_up (ballot 4294967295 1) ∷ [])
+    × (notes_of (run_of 7 3 1 (Offered 12 tape 0 ∷ gets 2 (ballot 1 1) (Nack (ballot 4294967295 2)) 1 ∷ Came_due 12 290 ∷ []))
+    ≡ Note_began (ballot 1 1) ∷ Note_denied (ballot 4294967295 2) ∷ Note_gave_up (ballot 1 1) ∷ [])

@@ -4,11 +4,11 @@ use Rattle.std.specs.Prelude.{◌≡◌, ℕ, ◌<◌, ◌≤◌, ◌⊎◌, Lis
 use Rattle.protocol.specs.Ballots.{Ballot, IsBelow, IsNoneOrBelow, IsNoneOrAtMost, IsMember, next, Majority}
 use Rattle.protocol.specs.Rows.{Tape, Vote, vote_for, Row, raised, voted}
 use Rattle.protocol.specs.Packets.{Packet, Body, Prepare, Promise, Accept, Accepted, Nack}
-use Rattle.protocol.specs.Acceptor.{Prepares, Accepts, Reply, Promises, Nacks, Says_nothing, Votes, Votes_again, reply_of, next_row}
+use Rattle.protocol.specs.Acceptor.{Request, Prepares, Accepts, Reply, Promises, Nacks, Says_nothing, Votes, Votes_again, reply_of, next_row}
 use Rattle.protocol.specs.Marks.{Mark, Began, Promised, Proposed, Denied, Heard, Closed, Released}
 use Rattle.protocol.specs.Proposals.{begun}
 use Rattle.protocol.specs.Readings.{IsReleased, IsOpen, Gathers, IsCounted, Picks, Ripe, GreatestDenied, IsDue}
-use Rattle.protocol.specs.Turn.{Event, Offered, Sought, Came_due, Arrived, Note, Note_began, Note_proposed, Note_nothing, Note_gave_up, Note_promised, Note_voted_again, Note_voted, Note_counted, Note_heard, Note_denied, Note_nacked, Note_overtaken, Note_idle, Note_silent, Note_stale, Note_repeated, Note_settled, Turn, stays, packet_to, to_others, packet_turn, turn}
+use Rattle.protocol.specs.Turn.{Event, Offered, Sought, Came_due, Arrived, number_of, Note, Note_began, Note_proposed, Note_nothing, Note_gave_up, Note_promised, Note_voted_again, Note_voted, Note_counted, Note_heard, Note_denied, Note_nacked, Note_overtaken, Note_idle, Note_silent, Note_stale, Note_repeated, Note_settled, Turn, stays, packet_to, to_others, packet_turn, turn}
 
 -- the vote of a member for n is heard
 pub data Hears (c n j : ℕ) (b : Ballot) (t : Tape) (marks : List Mark) (release : Option Tape) (after : List Mark) : Type 0 where
@@ -180,12 +180,39 @@ note_on b Says_nothing = Note_silent
 note_on b Votes = Note_voted b
 note_on b Votes_again = Note_voted_again b
 
--- a station answers each Prepare and Accept as an acceptor with its row does, and leaves the row that the acceptor does
+-- a vote's tape, to all others
+abbrev pub tells_vote : ℕ → ℕ → ℕ → Packet → Option Vote → List Packet
+tells_vote k c m p None = []
+tells_vote k c m p (Some v) = to_others k c m p.number p.ballot (Accepted v.tape)
+
+-- what goes out on an acceptor's reply to the request in p, with the vote of its row after it: to the sender the report in a Promise,
+-- or the promise that stands in the way in a Nack; to all others the tape that the row has a vote for
+abbrev pub out_on : ℕ → ℕ → ℕ → Packet → Option Vote → Reply → List Packet
+out_on k c m p vote (Promises report) = packet_to k m p.number p.ballot (Promise report) p.from ∷ []
+out_on k c m p vote (Nacks a) = packet_to k m p.number p.ballot (Nack a) p.from ∷ []
+out_on k c m p vote Says_nothing = []
+out_on k c m p vote Votes = tells_vote k c m p vote
+out_on k c m p vote Votes_again = tells_vote k c m p vote
+
+-- the turn on the request in p is what an acceptor with this row does: in the row that it leaves, in its note, and in what goes out
+abbrev pub IsAcceptors : ℕ → ℕ → ℕ → Row → Packet → Request → Turn → Type 0
+IsAcceptors k c m row p r t =
+    (t.row ≡ next_row row r) × (t.note ≡ note_on p.ballot (reply_of row r)) × (t.out ≡ out_on k c m p (next_row row r).vote (reply_of row r))
+
+-- a station answers each Prepare and Accept as an acceptor with its row does
 abbrev pub TurnsAreAnAcceptors : Type 0
 TurnsAreAnAcceptors =
     (k c m now : ℕ) (marks : List Mark) (row : Row) (p : Packet)
-    → ((packet_turn k c m now marks row p Prepare).row ≡ next_row row (Prepares p.ballot))
-    × ((packet_turn k c m now marks row p Prepare).note ≡ note_on p.ballot (reply_of row (Prepares p.ballot)))
-    × ((tape : Tape)
-    → ((packet_turn k c m now marks row p (Accept tape)).row ≡ next_row row (Accepts p.ballot tape))
-    × ((packet_turn k c m now marks row p (Accept tape)).note ≡ note_on p.ballot (reply_of row (Accepts p.ballot tape))))
+    → IsAcceptors k c m row p (Prepares p.ballot) (packet_turn k c m now marks row p Prepare)
+    × ((tape : Tape) → IsAcceptors k c m row p (Accepts p.ballot tape) (packet_turn k c m now marks row p (Accept tape)))
+
+-- a turn about n doesn't release it where it was released before; what was released stays so, and what the turn releases is so from then on
+pub record ReleasesOnce (marks : List Mark) (n : ℕ) (t : Turn) : Type 0 where
+  pub again : IsReleased marks n → t.release ≡ None
+  pub stay : (j : ℕ) → IsReleased marks j → IsReleased t.marks j
+  pub noted : (tape : Tape) → t.release ≡ Some tape → IsReleased t.marks n
+
+-- where a number was released since the start, no turn releases it again
+abbrev pub NumbersAreReleasedOnce : Type 0
+NumbersAreReleasedOnce =
+    (k c m : ℕ) (marks : List Mark) (row : Row) (e : Event) (t : Turn) → IsMember c m → turn k c m marks row e ≡ Some t → ReleasesOnce marks (number_of e) t

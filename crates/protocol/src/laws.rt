@@ -5,18 +5,24 @@ ghost use Rattle.protocol.specs.Acceptor.{StepsAreOfTheWhole};
 ghost use Rattle.protocol.specs.Agreement.{BallotsHaveOneTape, ChosenIsOne, HeardIsVoted, HistoriesAgree, PromisesBind, ReportsAreGreatest, RipeIsChosen, VotesAreBacked, VotesAreOffered};
 ghost use Rattle.protocol.specs.Fitting.{HistoriesFit, TurnsFit, VersionTwoReadsBoth};
 ghost use Rattle.protocol.specs.Readings.{NextDueIsLeast};
-ghost use Rattle.protocol.specs.Rehearsals.{NumbersAreRefused, OneMemberReleases, PacketsAreRefused, SavedVoteIsReleased, ThreeMembersRelease, TornUpgrades, VoteOutlivesUpgrades};
-ghost use Rattle.protocol.specs.Runs.{BallotsStandApart, BeginsAbovePromise, FallsDueAbove, FirstAcceptStands, FirstOfTwoReleases, GivesUp, GreaterReportIsTaken, LastRoundIsSpent, LeastMemberDecides, LowerIsNacked, OneFindsNothing, OneReleases, PassedIsOvertaken, ReleasedIsSettled, RepeatedVoteCountsOnce, SecondOfTwoReleases, ThirdTakesOver, VoteIsReported};
-ghost use Rattle.protocol.specs.Table.{TurnsAreAnAcceptors, TurnsAreOfTheTable};
+ghost use Rattle.protocol.specs.Rehearsals.{AddresseeIsToldFirst, LowerIsDenied, NumberIsToldFirst, NumbersAreRefused, OneMemberReleases, PacketsAreRefused, SavedVoteIsReleased, StoppedIsToldFirst, ThreeMembersRelease, TornUpgrades, TwoProposersFight, UnsavedVoteIsLost, VersionIsToldFirst, VoteOutlivesUpgrades};
+ghost use Rattle.protocol.specs.Runs.{BallotsStandApart, BeginsAbovePromise, ClosedIsForgotten, FallsDueAbove, FirstAcceptStands, FirstOfTwoReleases, GivesUp, GreaterReportIsTaken, LastRoundIsBegun, LastRoundIsSpent, LeastMemberDecides, LowerIsNacked, NumbersStandApart, OfferedAfterGivingUp, OneFindsNothing, OneReleases, PassedIsOvertaken, ReleasedIsSettled, RepeatedVoteCountsOnce, SecondOfTwoReleases, ThirdTakesOver, VoteIsReported};
+ghost use Rattle.protocol.specs.Table.{NumbersAreReleasedOnce, TurnsAreAnAcceptors, TurnsAreOfTheTable};
 
 /// An acceptor that keeps one row answers as the whole list of its requests says.
 pub fn acceptor_steps()
     ensures { StepsAreOfTheWhole }
 {}
 
-/// A station answers each Prepare and Accept as an acceptor with its row does.
+/// A station answers each Prepare and Accept as an acceptor with its row does: it leaves the row that the acceptor does, and what goes out is
+/// the acceptor's report, the promise that stands in the way, or the tape that the acceptor has voted for.
 pub fn turns_are_an_acceptors()
     ensures { TurnsAreAnAcceptors }
+{}
+
+/// Where a number was released since a station's start, no turn of it releases the number again.
+pub fn numbers_are_released_once()
+    ensures { NumbersAreReleasedOnce }
 {}
 
 /// What is due next is the least number that is due.
@@ -108,10 +114,26 @@ pub fn turns_of_more()
     ensures settled { ReleasedIsSettled }
 {}
 
+/// Worked examples of what ends a proposal: a close, the last round, and what they leave of other numbers and of the proposal after.
+pub fn turns_at_an_end()
+    ensures forgotten { ClosedIsForgotten }
+    ensures others { NumbersStandApart }
+    ensures anew { OfferedAfterGivingUp }
+    ensures last { LastRoundIsBegun }
+{}
+
 /// Worked examples of refusals.
 pub fn refusals<D, F>()
     ensures packets { PacketsAreRefused D F }
     ensures numbers { NumbersAreRefused D F }
+{}
+
+/// Worked examples of calls that a station has two reasons to refuse.
+pub fn refusals_in_order<D, G, F>()
+    ensures stopped { StoppedIsToldFirst D G F }
+    ensures addressee { AddresseeIsToldFirst D F }
+    ensures number { NumberIsToldFirst D G F }
+    ensures version { VersionIsToldFirst D G F }
 {}
 
 /// A circuit of one member releases what it is offered, at either version.
@@ -122,6 +144,17 @@ pub fn one_member_releases<D, G, F>()
 /// A vote that was saved as the store failed is released after the restart.
 pub fn saved_vote_is_released<D, G, F>()
     ensures { SavedVoteIsReleased D G F }
+{}
+
+/// A vote that was not saved as the store failed is lost, want of memory leaves the saved row, and a restart forgets what was released.
+pub fn unsaved_vote_is_lost<D, G, F>()
+    ensures { UnsavedVoteIsLost D G F }
+{}
+
+/// Two proposers of three: the lower one is denied and begins anew above; the later one takes over what may have been chosen.
+pub fn two_proposers<D, G, F>()
+    ensures denied { LowerIsDenied D G F }
+    ensures fight { TwoProposersFight D G F }
 {}
 
 /// Three members at one version release what one of them is offered.
