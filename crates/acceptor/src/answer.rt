@@ -9,7 +9,7 @@ use std::alloc::{AllocError, Global};
 use tape_frames::TapeRef;
 
 /// The answer to a prepare request.
-#[derive(Debug, Drop)]
+#[derive(Drop)]
 pub enum PrepareAnswer<'a> {
     /// There was no promise, or a lower one: it promises, and reports the row's vote.
     Promise { report: Option<&'a Vote> },
@@ -20,7 +20,7 @@ pub enum PrepareAnswer<'a> {
 }
 
 /// The answer to an accept request.
-#[derive(Debug, Drop)]
+#[derive(Drop)]
 pub enum AcceptAnswer {
     /// It has promised this higher ballot.
     Nack { promised: Ballot },

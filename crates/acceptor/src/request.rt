@@ -4,7 +4,7 @@ use ballots::{Ballot, Vote};
 use tape_frames::Tape;
 
 /// A request to an acceptor.
-#[derive(Debug, Drop)]
+#[derive(Drop)]
 pub enum Request {
     /// Promise to accept nothing below this ballot.
     Prepare { ballot: Ballot },
@@ -13,7 +13,7 @@ pub enum Request {
 }
 
 /// What an acceptor says to a request.
-#[derive(Debug, Drop)]
+#[derive(Drop)]
 pub enum Reply {
     /// It promises, and reports its highest vote.
     Promise { report: Option<Vote> },

@@ -9,7 +9,7 @@ use std::marker::Model;
 
 /// A round, 1 to 4,294,967,295, and the member that it belongs to, written `round.owner`.
 /// Lamport, Paxos Made Simple: proposals carry ordered numbers, and no two proposers share one.
-#[derive(Clone, Copy, Debug, PartialEq, Eq)]
+#[derive(Clone, Copy, PartialEq, Eq)]
 pub struct Ballot {
     round: u32,
     owner: Member,

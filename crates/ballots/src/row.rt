@@ -10,7 +10,7 @@ use std::marker::Model;
 
 /// The highest promise and the highest vote of an acceptor for one number.
 /// A vote stands only beside a promise that isn't below it.
-#[derive(Debug, Drop)]
+#[derive(Drop)]
 pub struct Row {
     promised: Option<Ballot>,
     vote: Option<Vote>,

@@ -9,7 +9,7 @@ use std::marker::Model;
 use tape_frames::{Tape, TapeRef};
 
 /// A vote of an acceptor. Clauses see the pair of ballot and frames.
-#[derive(Debug, Drop)]
+#[derive(Drop)]
 pub struct Vote {
     ballot: Ballot,
     tape: Tape,
@@ -24,7 +24,7 @@ impl Model for Vote {
 }
 
 /// A vote whose tape is lent.
-#[derive(Debug, Drop)]
+#[derive(Drop)]
 pub struct VoteRef<'a> {
     ballot: Ballot,
     tape: TapeRef<'a>,
@@ -50,14 +50,14 @@ impl Vote {
     pub fn ballot(&self) -> Ballot
         ensures { result ≡ self.now.ballot }
     {
-        self.ballot
+        self.lend().ballot()
     }
 
     /// The tape that was voted for, lent.
     pub fn tape(&self) -> TapeRef<'_>
         ensures { result ≡ self.now.tape }
     {
-        self.tape.lend()
+        self.lend().tape()
     }
 
     /// The two parts, given up.
@@ -72,21 +72,14 @@ impl Vote {
     pub fn lend(&self) -> VoteRef<'_>
         ensures { result ≡ self.now }
     {
-        VoteRef {
-            ballot: self.ballot,
-            tape: self.tape.lend(),
-        }
+        VoteRef::new(self.ballot, self.tape.lend())
     }
 
     /// An equal vote with frames of its own.
     pub fn copy(&self, alloc: Global) -> Result<Vote, AllocError>
         ensures { IfOk result (λ v. v ≡ self.now) }
     {
-        let tape = self.tape.copy(alloc)?;
-        Ok(Vote {
-            ballot: self.ballot,
-            tape,
-        })
+        self.lend().copy(alloc)
     }
 }
 

@@ -18,7 +18,7 @@ use tape_frames::TapeRef;
 /// The votes for one number that were heard since the station's start: of each member the one of greatest ballot.
 ///
 /// Lamport, Paxos Made Simple: a learner finds out that a tape is chosen by hearing of the votes of a majority.
-#[derive(Debug, Drop)]
+#[derive(Drop)]
 pub struct Heard {
     alloc: Global,
     slots: ArrayVec<Option<Vote>, 15>,

@@ -9,7 +9,7 @@ use std::alloc::{AllocError, Global};
 use tape_frames::{Tape, TapeRef};
 
 /// The kind of a packet.
-#[derive(Clone, Copy, Debug, PartialEq, Eq)]
+#[derive(Clone, Copy, PartialEq, Eq)]
 pub(crate) enum Kind {
     Prepare,
     Promise,
@@ -19,7 +19,7 @@ pub(crate) enum Kind {
 }
 
 /// What a packet says, its tapes lent.
-#[derive(Debug, Drop)]
+#[derive(Drop)]
 pub enum BodyRef<'a> {
     /// A request to promise.
     Prepare,
@@ -34,7 +34,7 @@ pub enum BodyRef<'a> {
 }
 
 /// What a packet says, with frames of its own.
-#[derive(Debug, Drop)]
+#[derive(Drop)]
 pub enum Body {
     /// A request to promise.
     Prepare,

@@ -2,7 +2,7 @@
 
 /// The first fault of the bytes. The header's come in the order in which they stand here, from `Short`
 /// to `BadSender`; the body's, `Short`, `BadReport` and `BadFrames`, in the order of its bytes; then `Long`.
-#[derive(Clone, Copy, Debug, PartialEq, Eq)]
+#[derive(Clone, Copy, PartialEq, Eq)]
 pub enum PacketFault {
     /// The bytes end before the packet does.
     Short,

@@ -12,7 +12,7 @@ use ballots::{Ballot, Member, Number};
 pub(crate) const HEADER_LEN: usize = 17;
 
 /// What a header says.
-#[derive(Clone, Copy, Debug)]
+#[derive(Clone, Copy)]
 pub(crate) struct Header {
     pub kind: Kind,
     pub circuit: u16,

@@ -14,7 +14,7 @@ use std::marker::Model;
 /// Its sender and its addressee are two members. The ballot of a Prepare or an Accept is its sender's,
 /// and that of a Promise or a Nack its addressee's. A reported vote is below the ballot, and the promise
 /// of a Nack above it.
-#[derive(Debug, Drop)]
+#[derive(Drop)]
 pub struct PacketRef<'a> {
     circuit: u16,
     from: Member,
@@ -38,7 +38,7 @@ impl<'a> Model for PacketRef<'a> {
 }
 
 /// A packet with frames of its own. It keeps the same rules.
-#[derive(Debug, Drop)]
+#[derive(Drop)]
 pub struct Packet {
     circuit: u16,
     from: Member,

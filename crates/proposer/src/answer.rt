@@ -3,7 +3,7 @@
 use ballots::Ballot;
 
 /// Why no ballot was begun.
-#[derive(Clone, Copy, Debug, PartialEq, Eq)]
+#[derive(Clone, Copy, PartialEq, Eq)]
 pub enum BeginRefusal {
     /// There is no round above the one that was seen.
     RoundsSpent,
@@ -12,7 +12,7 @@ pub enum BeginRefusal {
 }
 
 /// What became of a promise.
-#[derive(Clone, Copy, Debug, PartialEq, Eq)]
+#[derive(Clone, Copy, PartialEq, Eq)]
 pub enum Counted {
     /// It is for another ballot, or the proposal no longer gathers promises.
     Stale,
@@ -25,7 +25,7 @@ pub enum Counted {
 }
 
 /// What a proposal does at a moment.
-#[derive(Clone, Copy, Debug, PartialEq, Eq)]
+#[derive(Clone, Copy, PartialEq, Eq)]
 pub enum DueAnswer {
     /// Its due moment has not come.
     Wait,

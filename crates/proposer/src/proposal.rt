@@ -25,7 +25,7 @@ const MOST_BALLOTS: u8 = 32;
 ///
 /// Lamport, Paxos Made Simple: with the promises of a majority it proposes the tape of the highest vote that was
 /// reported, or its own where none was.
-#[derive(Debug, Drop)]
+#[derive(Drop)]
 pub struct Proposal {
     alloc: Global,
     me: Member,

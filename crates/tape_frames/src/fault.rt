@@ -1,7 +1,7 @@
 //! Why bytes are no tape.
 
 /// The first of these that holds.
-#[derive(Clone, Copy, Debug, PartialEq, Eq)]
+#[derive(Clone, Copy, PartialEq, Eq)]
 pub enum TapeFault {
     /// There is no frame.
     Empty,

@@ -9,7 +9,7 @@ use std::marker::Model;
 
 /// A packed tape whose bytes are lent: six bits a frame, the highest first, and zero bits behind the last as far
 /// as the end of the last byte. Clauses see the list of its frames.
-#[derive(Debug, Drop)]
+#[derive(Drop)]
 pub struct PackedRef<'a> {
     length: u16,
     bytes: &'a [u8],

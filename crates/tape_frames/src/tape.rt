@@ -13,7 +13,7 @@ use std::marker::Model;
 pub const MAX_FRAMES: usize = 4096;
 
 /// A tape that owns its frames: 1 to [`MAX_FRAMES`] of them, each below 64. Clauses see the list of its frames.
-#[derive(Debug, Drop)]
+#[derive(Drop)]
 pub struct Tape {
     frames: Vec<u8>,
 }
@@ -30,7 +30,7 @@ impl Model for Tape {
 }
 
 /// A tape whose frames are lent. Clauses see the list of its frames.
-#[derive(Debug, Drop)]
+#[derive(Drop)]
 pub struct TapeRef<'a> {
     frames: &'a [u8],
 }
@@ -150,14 +150,14 @@ impl Tape {
         ensures frames { result.now ≡ self.now }
         ensures is_tape { IsTape self.now }
     {
-        self.frames.as_slice()
+        self.lend().frames()
     }
 
     /// How many frames it has, 1 to [`MAX_FRAMES`].
     pub fn len(&self) -> usize
         ensures { result ≡ length self.now }
     {
-        self.frames.len()
+        self.lend().len()
     }
 
     /// Whether the frames are equal.
