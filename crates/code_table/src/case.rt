@@ -1,7 +1,7 @@
 //! The two cases of a keyboard.
 
 /// Which of a frame's two meanings holds: a shift code selects the second, an unshift code the first.
-#[derive(Clone, Copy, Debug, PartialEq, Eq)]
+#[derive(Clone, Copy, PartialEq, Eq)]
 pub enum Case {
     Unshift,
     Shift,

@@ -3,7 +3,7 @@
 use crate::meaning::Meaning;
 
 /// The two meanings of a frame.
-#[derive(Debug, Drop)]
+#[derive(Drop)]
 pub struct Entry {
     /// What it means in the first case.
     pub unshift: Meaning,

@@ -6,7 +6,7 @@ ghost use Rattle.code_table.specs.declared.fault.TableFault.TheVariants.{OutOfMe
 use std::alloc::AllocError;
 
 /// The first of these that holds. Entries are counted from 1, and the first faulty entry decides.
-#[derive(Clone, Copy, Debug, PartialEq, Eq)]
+#[derive(Clone, Copy, PartialEq, Eq)]
 pub enum TableFault {
     /// The text is not TOML.
     NotToml,

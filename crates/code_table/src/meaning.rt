@@ -6,7 +6,7 @@ ghost use Rattle.code_table.specs.Texts.{function_of, matrix_of, meaning_of, may
 use crate::name::Name;
 
 /// What a frame means in one case.
-#[derive(Debug, Drop)]
+#[derive(Drop)]
 pub enum Meaning {
     /// The matrix of this name goes into the line.
     Matrix(Name),

@@ -12,7 +12,7 @@ use std::str;
 const MAX_BYTES: usize = 8;
 
 /// The name of a matrix: 1 to 8 bytes, each 0x21 to 0x7E, the first not `@`. Clauses see the list of its bytes.
-#[derive(Debug, Drop)]
+#[derive(Drop)]
 pub struct Name {
     bytes: ArrayVec<u8, 8>,
 }

@@ -17,7 +17,7 @@ use std::marker::Model;
 use toml::Table;
 
 /// What each of the 64 frames means in each case. Clauses see the entry of each frame, in their order.
-#[derive(Debug, Drop)]
+#[derive(Drop)]
 pub struct CodeTable {
     places: Vec<Option<Entry>>,
 }

@@ -6,7 +6,7 @@ ghost use Rattle.line_check.specs.declared.fault.LineFault.TheVariants.{OutOfMem
 use std::alloc::AllocError;
 
 /// What is wrong at a position of a tape.
-#[derive(Clone, Copy, Debug, PartialEq, Eq)]
+#[derive(Clone, Copy, PartialEq, Eq)]
 pub enum Cause {
     /// The frame means nothing in the case that holds there.
     UnknownCode,
@@ -21,7 +21,7 @@ pub enum Cause {
 }
 
 /// The first faulty position of a tape.
-#[derive(Clone, Copy, Debug, PartialEq, Eq)]
+#[derive(Clone, Copy, PartialEq, Eq)]
 pub struct SetFault {
     /// The position, from 0; the length of the tape is its end.
     pub at: u32,
@@ -32,7 +32,7 @@ pub struct SetFault {
 }
 
 /// The first faulty position of a tape, or want of memory.
-#[derive(Clone, Copy, Debug, PartialEq, Eq)]
+#[derive(Clone, Copy, PartialEq, Eq)]
 pub enum SetError {
     Fault(SetFault),
     /// The slugs could not be kept.
@@ -40,7 +40,7 @@ pub enum SetError {
 }
 
 /// Why a line has no slug, or want of memory.
-#[derive(Clone, Copy, Debug, PartialEq, Eq)]
+#[derive(Clone, Copy, PartialEq, Eq)]
 pub enum LineFault {
     /// The line has more than the measure, by this many units, with its bands at their least.
     Overset { over: u32 },

@@ -7,7 +7,7 @@ use slug_reader::Rail;
 use std::marker::Model;
 
 /// One thing in a slug. Widths are in units.
-#[derive(Debug, Drop)]
+#[derive(Drop)]
 pub enum Piece {
     /// A matrix.
     Matrix { name: Name, rail: Rail, width: u16 },
@@ -18,7 +18,7 @@ pub enum Piece {
 }
 
 /// The pieces of a slug, in their order. Clauses see their list.
-#[derive(Debug, Drop)]
+#[derive(Drop)]
 pub struct Pieces {
     list: Vec<Piece>,
 }

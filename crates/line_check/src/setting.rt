@@ -17,7 +17,7 @@ use tape_frames::Tape;
 use widths::Widths;
 
 /// Why lines are not slugs.
-#[derive(Clone, Copy, Debug, PartialEq, Eq)]
+#[derive(Clone, Copy, PartialEq, Eq)]
 pub enum Unset {
     /// The line that is cut at this position has no slug, and each line before it has one.
     Misfit { at: u32, cause: Cause },

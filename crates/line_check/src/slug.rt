@@ -3,7 +3,7 @@
 use crate::piece::Pieces;
 
 /// How a slug fills its measure.
-#[derive(Clone, Copy, Debug, PartialEq, Eq)]
+#[derive(Clone, Copy, PartialEq, Eq)]
 pub enum Kind {
     /// By its bands.
     J,
@@ -16,7 +16,7 @@ pub enum Kind {
 }
 
 /// A line that was cast. `left`, the widths of its items, and `right` add up to the measure.
-#[derive(Debug, Drop)]
+#[derive(Drop)]
 pub struct Slug {
     /// Its items, in order, each band with its width.
     pub items: Pieces,

@@ -15,7 +15,7 @@ use std::mem;
 use widths::Widths;
 
 /// What a frame did.
-#[derive(Clone, Copy, Debug, PartialEq, Eq)]
+#[derive(Clone, Copy, PartialEq, Eq)]
 pub enum Taken {
     /// The line goes on.
     Kept,
@@ -26,7 +26,7 @@ pub enum Taken {
 }
 
 /// The case and the rail that hold, and the line since the last cut.
-#[derive(Debug, Drop)]
+#[derive(Drop)]
 pub struct Assembler {
     pub case: Case,
     pub rail: Rail,

@@ -4,7 +4,7 @@ ghost use Rattle.std.specs.Prelude.{◌≡◌};
 ghost use Rattle.slug_reader.specs.Faults.{fault_of};
 
 /// What is wrong at a position of a tape.
-#[derive(Clone, Copy, Debug, PartialEq, Eq)]
+#[derive(Clone, Copy, PartialEq, Eq)]
 pub enum Flaw {
     /// The frame means nothing in the case that holds there.
     UnknownCode,
@@ -15,7 +15,7 @@ pub enum Flaw {
 }
 
 /// The first faulty position of a tape.
-#[derive(Clone, Copy, Debug, PartialEq, Eq)]
+#[derive(Clone, Copy, PartialEq, Eq)]
 pub struct Stop {
     /// The position; the length of the tape is its end.
     pub at: u32,
@@ -24,7 +24,7 @@ pub struct Stop {
 }
 
 /// The first faulty position of a tape, or want of memory.
-#[derive(Clone, Copy, Debug, PartialEq, Eq)]
+#[derive(Clone, Copy, PartialEq, Eq)]
 pub enum ReadFault {
     /// The frame at this position means nothing in the case that holds there.
     UnknownCode { at: u32 },

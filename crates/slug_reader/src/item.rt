@@ -3,14 +3,14 @@
 use code_table::Name;
 
 /// Where a matrix hangs, which selects one of the two characters that it carries.
-#[derive(Clone, Copy, Debug, PartialEq, Eq)]
+#[derive(Clone, Copy, PartialEq, Eq)]
 pub enum Rail {
     Lower,
     Upper,
 }
 
 /// One thing in a line. Widths are in units.
-#[derive(Debug, Drop)]
+#[derive(Drop)]
 pub enum Item {
     /// A matrix.
     Matrix { name: Name, rail: Rail, width: u16 },

@@ -9,7 +9,7 @@ use std::marker::Model;
 const MAX_ITEMS: usize = 4096;
 
 /// The items of a line in their order, 1 to 4,096 of them. Clauses see their list.
-#[derive(Debug, Drop)]
+#[derive(Drop)]
 pub struct Items {
     list: Vec<Item>,
 }

@@ -3,7 +3,7 @@
 use crate::items::Items;
 
 /// Where a line stands that does not fill its measure.
-#[derive(Clone, Copy, Debug, PartialEq, Eq)]
+#[derive(Clone, Copy, PartialEq, Eq)]
 pub enum Quad {
     Left,
     Center,
@@ -11,7 +11,7 @@ pub enum Quad {
 }
 
 /// A line with items, before it is cast.
-#[derive(Debug, Drop)]
+#[derive(Drop)]
 pub struct Line {
     /// Its items, in order.
     pub items: Items,

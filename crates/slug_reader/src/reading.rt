@@ -14,7 +14,7 @@ use tape_frames::Tape;
 use widths::Widths;
 
 /// How far a tape could be read.
-#[derive(Debug, Drop)]
+#[derive(Drop)]
 pub struct Reading {
     /// The lines with items that were cut before the first faulty position, in order.
     pub lines: Vec<Line>,

@@ -10,7 +10,7 @@ use std::io::{ErrorKind, Read};
 pub const MAX_INPUT: usize = 1_048_576;
 
 /// Why an input is not taken.
-#[derive(Clone, Copy, Debug, PartialEq, Eq)]
+#[derive(Clone, Copy, PartialEq, Eq)]
 pub enum InputFault {
     /// The reader failed.
     CannotRead,

@@ -7,7 +7,7 @@ ghost use Rattle.streams.specs.Fronts.{AppendsFront};
 use std::io::Write;
 
 /// A writer took less than all.
-#[derive(Clone, Copy, Debug, PartialEq, Eq)]
+#[derive(Clone, Copy, PartialEq, Eq)]
 pub struct CannotWrite;
 
 /// Writes all the bytes. A write that takes none or fails ends it, and then a front of the bytes was written:

@@ -10,7 +10,7 @@ use code_table::Name;
 use std::cmp::Ordering;
 
 /// A matrix and its width.
-#[derive(Debug, Drop)]
+#[derive(Drop)]
 pub struct MatrixWidth {
     /// Its name.
     pub name: Name,

@@ -6,7 +6,7 @@ ghost use Rattle.widths.specs.declared.fault.WidthFault.TheVariants.{OutOfMemory
 use std::alloc::{AllocError, AllocFailed};
 
 /// A key of a width file, in the order in which they are looked at.
-#[derive(Clone, Copy, Debug, PartialEq, Eq)]
+#[derive(Clone, Copy, PartialEq, Eq)]
 pub enum WidthKey {
     Measure,
     BandMin,
@@ -20,7 +20,7 @@ pub enum WidthKey {
 }
 
 /// The first of these that holds, key by key, then of the bands, and then entry by entry.
-#[derive(Clone, Copy, Debug, PartialEq, Eq)]
+#[derive(Clone, Copy, PartialEq, Eq)]
 pub enum WidthFault {
     /// The text is not TOML.
     NotToml,

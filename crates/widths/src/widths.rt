@@ -17,7 +17,7 @@ use toml::Table;
 
 /// The measure of a slug and the widths of what stands in it, in whole units.
 /// Clauses see the record of its keys, its matrices in byte order of their names.
-#[derive(Debug, Drop)]
+#[derive(Drop)]
 pub struct Widths {
     measure: u16,
     band_min: u16,
