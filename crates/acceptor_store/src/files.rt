@@ -1,8 +1,9 @@
 //! Rows in a host's file.
 
-ghost use Rattle.std.specs.Prelude.{◌≡◌, None, IsTrue, IfOk, IfErr};
+ghost use Rattle.std.specs.Prelude.{◌≡◌, true, false, None, IsTrue, IfOk, IfErr, IfSome};
+ghost use Rattle.sqlite_std_file.specs.File.{IsFresh};
 ghost use Rattle.sqlite.specs.State.{HasCleanDisk};
-ghost use Rattle.sqlite.specs.Files.{file_state};
+ghost use Rattle.sqlite.specs.Files.{file_state, IsCleanLeft, LeavesFiles};
 ghost use Rattle.sqlite.specs.WalFiles.{image_at};
 ghost use Rattle.acceptor_store.specs.Sqlite.{IsOurs, IsRefusal, Agrees};
 
@@ -12,7 +13,7 @@ use saved_rows::{Identity, RowsFault};
 use sqlite::{Connection, FileFrom, FileStore, Leftover, Start};
 
 impl<T: Start> SqliteRows<FileStore<FileFrom<T>>> {
-    ghost use Rattle.acceptor_store.specs.Files.{IsTakenUp, TakesItsOwn};
+    ghost use Rattle.acceptor_store.specs.Files.{IsTakenUp, TakesItsOwn, RefusesFiles};
 
     /// Opens a file and takes up the rows that it holds, as [`SqliteRows::open`] does. `path`, `new_has_sums`
     /// and `start` are as for `Connection::open_from`.
@@ -39,7 +40,13 @@ impl<T: Start> SqliteRows<FileStore<FileFrom<T>>> {
         ensures made { IfOk result (TakesItsOwn (image_at T.Start)) }
         ensures rows { IfOk result (λ s. HasCleanDisk (file_state s.conn) → IsOurs s.alone s.found → IsTakenUp (image_at T.Start) s) }
         ensures given { IfOk result (λ s. Agrees given s.identity) }
+        ensures unstopped { IfOk result (λ s. s.stopped ≡ false) }
+
+        // Why it is refused. No row is written then either; where no database was opened, one that the files held is
+        // unharmed, though an empty log may stay beside it.
+        ensures refuses { IfErr result (λ e. IfSome e.1 (RefusesFiles (image_at T.Start) given e.0)) }
         ensures refusal { IfErr result (λ e. e.1 ≡ None → IsRefusal e.0) }
+        ensures left { IfErr result (λ e. IfSome e.2 (λ left. (files : _) × IsFresh true files.log × IsFresh false files.db × (IsCleanLeft left → LeavesFiles files left))) }
     {
         let conn = match Connection::open_from(rt, path, new_has_sums, start) {
             Ok(conn) => conn,

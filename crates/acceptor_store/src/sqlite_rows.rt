@@ -133,6 +133,7 @@ impl<S: Alter + Drop> SqliteRows<S> {
         ensures stored { IfOk result (λ s. IsKept S.Store s → stored_identity (state S.Store conn).now.trees ≡ Some s.identity) }
         ensures unstopped { IfOk result (λ s. s.stopped ≡ false) }
         ensures clean { IfOk result (λ s. doubt (state S.Store conn).is_clean ≤ doubt (state S.Store s.conn).is_clean) }
+        ensures crash { IfOk result (λ s. IsKept S.Store s → (left : _) → (state S.Store s.conn).may_leave left → (state S.Store conn).may_leave left) }
 
         // What the store owes: tables as `create` makes them are its own. With what the host owes they are kept.
         ensures made { IfOk result (λ s. (state S.Store conn).now.schema ≡ row_schema → IsOurs s.alone s.found) }
@@ -141,6 +142,8 @@ impl<S: Alter + Drop> SqliteRows<S> {
         // Why it is refused; nothing is changed then either.
         ensures refuses { IfErr result (λ e. HasCleanDisk (state S.Store e.1) → (state S.Store conn).now.schema ≡ row_schema → RefusesToOpen given (state S.Store conn).now.trees e.0) }
         ensures unchanged { IfErr result (λ e. HasCleanDisk (state S.Store e.1) → (state S.Store conn).now.schema ≡ row_schema → IsTrue (state S.Store e.1).is_open → (state S.Store e.1).now ≡ (state S.Store conn).now) }
+        ensures crash_err { IfErr result (λ e. HasCleanDisk (state S.Store e.1) → (state S.Store conn).now.schema ≡ row_schema → (left : _) → (state S.Store e.1).may_leave left → (state S.Store conn).may_leave left) }
+        ensures clean_err { IfErr result (λ e. doubt (state S.Store conn).is_clean ≤ doubt (state S.Store e.1).is_clean) }
     {
         if !conn.is_autocommit() {
             return Err((RowsFault::Store, conn));

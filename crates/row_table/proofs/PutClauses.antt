@@ -194,3 +194,11 @@ module _ {V : Type 0} (items : V → List Row) (sql : List ℕ) (params : Row) (
   pub query_rests : (r : Result V Error) → IfOk r (λ v. Shown sql params old new (items v)) → IfErr r (FailsToQuery sql params old new) → IsTrue new.is_open → WasKept old new × (new.now ≡ new.committed)
   query_rests (Ok v) h e opened = rests_unchanged (shown_same sql params old new (items v) (subst (λ s. IsPlain (understood s sql)) (sym has) plain) h)
   query_rests (Err x) h e opened = elim (query_leaves sql params old new x e) [ inl same ↦ rests_unchanged same | inr undone ↦ rests_undone opened undone ]
+
+-- a crash leaves what it might have left before
+pub query_left : (sql : List ℕ) (params : Row) (old new : State) → IsPlain (understood row_schema sql) → old.now.schema ≡ row_schema → Survives old new (CommitsShowing sql params old)
+    → HasCleanDisk new → (db : Trees) → new.may_leave db → old.may_leave db
+query_left sql params old new plain has survives clean db left = elim (survives.crash clean db left) [
+  | inl before ↦ before
+  | inr by ↦ absurd (never_commits sql params old db (subst (λ s. IsPlain (understood s sql)) (sym has) plain) by)
+]

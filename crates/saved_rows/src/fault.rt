@@ -1,7 +1,7 @@
 //! Why rows could not be read or saved.
 
 /// Why a call on saved rows was refused.
-#[derive(Clone, Copy, Debug, PartialEq, Eq)]
+#[derive(Clone, Copy, PartialEq, Eq)]
 pub enum RowsFault {
     /// The store refused: a statement or a save failed, or an earlier save did.
     Store,

@@ -2,7 +2,7 @@ use Rattle.std.proofs.Common.{[], subst, sym, Vec}
 use Rattle.sqlite.specs.Listing.{understood}
 use Rattle.std.specs.declared.alloc.Global.{Global}
 use Rattle.sqlite_value.specs.Order.{Row}
-use Rattle.row_table.proofs.PutClauses.{query_rests}
+use Rattle.row_table.proofs.PutClauses.{query_rests, query_left}
 use Rattle.sqlite.specs.Held.{state}
 use Rattle.sqlite.proofs.Callers.{IsPlain}
 use Rattle.row_table.proofs.StateLemmas.{shown_same}
@@ -29,3 +29,7 @@ returns-clause-rests g c clean has still =
     let new = state g.S.Store c.query_all.new.self in
     let items = λ (v : Vec Row Global). v.items in
     query_rests items station_text [] old new station_plain has still c.query_all.result (c.query_all.ensures.ok clean) (c.query_all.ensures.err clean)
+
+pub returns-clause-leaves : goal.returns-clause-leaves
+returns-clause-leaves g c clean has =
+    query_left station_text [] (state g.S.Store c.args.conn.now) (state g.S.Store c.query_all.new.self) station_plain has c.query_all.ensures.survives clean
