@@ -27,7 +27,7 @@ use std::alloc::{AllocError, Global};
 use tape_frames::{Tape, TapeRef};
 
 /// One number's open proposal and heard votes. The number was not released.
-#[derive(Debug, Drop)]
+#[derive(Drop)]
 pub(crate) struct Desk {
     pub number: Number,
     pub proposal: Option<Proposal>,

@@ -5,7 +5,7 @@ use packets::PacketRef;
 use tape_frames::Tape;
 
 /// An event of one number. `now` is its moment, in milliseconds.
-#[derive(Debug, Drop)]
+#[derive(Drop)]
 pub enum Event<'a> {
     /// The tape is offered for the number.
     Offer {

@@ -35,7 +35,7 @@ use tape_frames::{Tape, TapeRef};
 /// What a station took in since its start, of all numbers, and its seat.
 ///
 /// Memory that was refused leaves it failed: nothing of it can be used then until it is cleared.
-#[derive(Debug, Drop)]
+#[derive(Drop)]
 pub struct NodeCore {
     alloc: Global,
     seat: Seat,

@@ -6,7 +6,7 @@ use ballots::Member;
 use std::marker::Model;
 
 /// A member of a circuit. Clauses see the numbers.
-#[derive(Clone, Copy, Debug)]
+#[derive(Clone, Copy)]
 pub(crate) struct Seat {
     circuit: u16,
     me: Member,

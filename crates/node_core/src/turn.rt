@@ -10,7 +10,7 @@ use std::alloc::Global;
 use tape_frames::Tape;
 
 /// What a turn did.
-#[derive(Clone, Copy, Debug, PartialEq, Eq)]
+#[derive(Clone, Copy, PartialEq, Eq)]
 pub enum Note {
     /// It began a ballot, and asks the others for their promises.
     Began { ballot: Ballot },
@@ -49,7 +49,7 @@ pub enum Note {
 }
 
 /// What a turn hands out.
-#[derive(Debug, Drop)]
+#[derive(Drop)]
 pub struct Turn {
     /// The number's row after it, where it changes: it has to be saved before anything is handed out.
     pub row: Option<Row>,
@@ -80,7 +80,7 @@ impl Turn {
 }
 
 /// Why there is no turn.
-#[derive(Clone, Copy, Debug, PartialEq, Eq)]
+#[derive(Clone, Copy, PartialEq, Eq)]
 pub enum CoreRefusal {
     /// Memory was refused before, and the core was not cleared since.
     Failed,

@@ -10,7 +10,7 @@ use std::alloc::Global;
 use tape_frames::Tape;
 
 /// A tape that was released, and what the station's own code table and widths make of it.
-#[derive(Debug, Drop)]
+#[derive(Drop)]
 pub struct Release {
     pub number: Number,
     pub tape: Tape,
@@ -19,7 +19,7 @@ pub struct Release {
 
 /// What a step that was done hands out: the datagrams to send, at most 28, the release if there is one,
 /// and what the step did in a word.
-#[derive(Debug, Drop)]
+#[derive(Drop)]
 pub struct Answer {
     pub out: Vec<Datagram>,
     pub release: Option<Release>,

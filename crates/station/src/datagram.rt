@@ -6,7 +6,7 @@ use ballots::Member;
 use std::marker::Model;
 
 /// The spelling of a packet on its way to a member. Clauses see its addressee and its bytes.
-#[derive(Debug, Drop)]
+#[derive(Drop)]
 pub struct Datagram {
     to: Member,
     bytes: Vec<u8>,

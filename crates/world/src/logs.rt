@@ -9,7 +9,7 @@ use tape_frames::Tape;
 
 /// A tape that a member was offered for a number, where the offer was done, or the member's store or want of
 /// memory in the member ended it. Clauses see the protocol's offer.
-#[derive(Debug, Drop)]
+#[derive(Drop)]
 pub struct OfferLog {
     member: u8,
     number: u32,
@@ -59,7 +59,7 @@ impl OfferLog {
 
 /// A tape that a member released for a number, and what the member's code table and widths made of it.
 /// Clauses see the protocol's release.
-#[derive(Debug, Drop)]
+#[derive(Drop)]
 pub struct ReleaseLog {
     member: u8,
     number: u32,

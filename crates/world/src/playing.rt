@@ -23,7 +23,7 @@ pub struct Played<R: Rows> {
 }
 
 /// Why a circuit was not played.
-#[derive(Clone, Copy, Debug, PartialEq, Eq)]
+#[derive(Clone, Copy, PartialEq, Eq)]
 pub enum PlayFault {
     /// There are no members, or more than 15.
     BadCount,

@@ -6,7 +6,7 @@ use line_check::Slug;
 use std::marker::Model;
 
 /// The slugs of a tape, in order. Clauses see their list.
-#[derive(Debug, Drop)]
+#[derive(Drop)]
 pub struct Slugs {
     slugs: Vec<Slug>,
 }

@@ -5,7 +5,7 @@ use station::StepRefusal;
 use tape_frames::Tape;
 
 /// What is done next. Moments are in milliseconds, and may go backwards.
-#[derive(Debug, Drop)]
+#[derive(Drop)]
 pub enum Step {
     /// A member is offered a tape for a number.
     Offer {
@@ -43,7 +43,7 @@ pub enum Step {
 }
 
 /// How a step ended.
-#[derive(Clone, Copy, Debug, PartialEq, Eq)]
+#[derive(Clone, Copy, PartialEq, Eq)]
 pub enum Outcome {
     /// The station did it.
     Done(Note),
@@ -56,7 +56,7 @@ pub enum Outcome {
 }
 
 /// What is seen of a step.
-#[derive(Clone, Copy, Debug, PartialEq, Eq)]
+#[derive(Clone, Copy, PartialEq, Eq)]
 pub struct Seen {
     /// The member that acted: of a delivery the addressee.
     pub member: u8,
@@ -71,7 +71,7 @@ pub struct Seen {
 }
 
 /// Why there is no such step, or why it could not be taken. Nothing is changed by it.
-#[derive(Clone, Copy, Debug, PartialEq, Eq)]
+#[derive(Clone, Copy, PartialEq, Eq)]
 pub enum WorldRefusal {
     /// The member, or the addressee of the datagram, is none of the circuit's.
     NoSuchMember,
@@ -82,7 +82,7 @@ pub enum WorldRefusal {
 }
 
 /// Where a run stopped, and why. The steps before it stand.
-#[derive(Clone, Copy, Debug, PartialEq, Eq)]
+#[derive(Clone, Copy, PartialEq, Eq)]
 pub struct RunStop {
     /// The place of the refused step in the list, from 0.
     pub at: usize,
