@@ -1,1 +1,4 @@
+pub mod Ends
 pub mod RefusalWords
+pub mod ReleaseText
+pub mod Statuses

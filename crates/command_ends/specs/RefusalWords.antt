@@ -1,7 +1,10 @@
 -- The words for why a line or a datagram is refused.
-use Rattle.std.specs.Prelude.{ℕ, List, codes}
+use Rattle.std.specs.Prelude.{ℕ, List, ◌++◌, codes}
 use Rattle.packets.specs.declared.fault.PacketFault.{PacketFault}
 use Rattle.packets.specs.declared.fault.PacketFault.TheVariants as faults
+use Rattle.station.specs.declared.refusal.StepRefusal.{StepRefusal}
+use Rattle.station.specs.declared.refusal.StepRefusal.TheVariants as steps
+use Rattle.command_ends.specs.ReleaseText.{cause_text}
 use Rattle.command_ends.specs.declared.refusal.Refusal.{Refusal}
 use Rattle.command_ends.specs.declared.refusal.Refusal.TheVariants.{NotHex, Packet, WrongCircuit, NotForMe, NotARequest}
 
@@ -26,3 +29,33 @@ word_of (Packet fault) = fault_word fault
 word_of WrongCircuit = codes "wrong-circuit"
 word_of NotForMe = codes "not-for-me"
 word_of NotARequest = codes "not-a-request"
+
+-- the word for why a station refuses a step
+abbrev pub step_word : StepRefusal → List ℕ
+step_word steps.Stopped = codes "stopped"
+step_word (steps.BadDatagram fault) = fault_word fault
+step_word steps.WrongCircuit = codes "wrong-circuit"
+step_word steps.NotForMe = codes "not-for-me"
+step_word steps.Stranger = codes "stranger"
+step_word steps.BadNumber = codes "bad-number"
+step_word steps.AlreadyReleased = codes "already-released"
+step_word steps.AlreadyOpen = codes "already-open"
+step_word (steps.TapeFaulty fault) = codes "tape-faulty"
+step_word steps.RoundsSpent = codes "rounds-spent"
+step_word (steps.Store fault) = codes "store"
+step_word steps.OutOfMemory = codes "memory"
+
+-- why a station refuses a step; a tape that does not set has its cause behind the word
+abbrev pub refusal_text : StepRefusal → List ℕ
+refusal_text steps.Stopped = step_word steps.Stopped
+refusal_text (steps.BadDatagram fault) = step_word (steps.BadDatagram fault)
+refusal_text steps.WrongCircuit = step_word steps.WrongCircuit
+refusal_text steps.NotForMe = step_word steps.NotForMe
+refusal_text steps.Stranger = step_word steps.Stranger
+refusal_text steps.BadNumber = step_word steps.BadNumber
+refusal_text steps.AlreadyReleased = step_word steps.AlreadyReleased
+refusal_text steps.AlreadyOpen = step_word steps.AlreadyOpen
+refusal_text (steps.TapeFaulty fault) = step_word (steps.TapeFaulty fault) ++ (codes " " ++ cause_text fault)
+refusal_text steps.RoundsSpent = step_word steps.RoundsSpent
+refusal_text (steps.Store fault) = step_word (steps.Store fault)
+refusal_text steps.OutOfMemory = step_word steps.OutOfMemory

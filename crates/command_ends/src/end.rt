@@ -1,9 +1,13 @@
 //! How a command ends.
 
+ghost use Rattle.std.specs.Prelude.{◌≡◌};
+ghost use Rattle.std.specs.Process.{exit_status};
+ghost use Rattle.command_ends.specs.Statuses.{status_of};
+
 use std::process::ExitCode;
 
-/// The end of a command. Its exit status is the place here, from 0.
-#[derive(Clone, Copy, Debug, PartialEq, Eq)]
+/// The end of a command.
+#[derive(Clone, Copy, PartialEq, Eq)]
 pub enum End {
     /// All was done.
     Done,
@@ -20,8 +24,24 @@ pub enum End {
 }
 
 impl End {
-    /// The exit status of the program.
-    pub fn status(self) -> ExitCode {
-        ExitCode::from(self as u8)
+    /// The exit status of the program, as a number.
+    pub fn code(self) -> u8
+        ensures { result ≡ status_of self }
+    {
+        match self {
+            End::Done => 0,
+            End::Input => 1,
+            End::Usage => 2,
+            End::Store => 3,
+            End::Socket => 4,
+            End::Memory => 5,
+        }
+    }
+
+    /// The exit status of the program, as `main` gives it.
+    pub fn status(self) -> ExitCode
+        ensures { exit_status result ≡ status_of self }
+    {
+        ExitCode::from(self.code())
     }
 }

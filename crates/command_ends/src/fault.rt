@@ -1,6 +1,7 @@
 //! The faults that a person reads on standard error.
 
 ghost use Rattle.std.specs.Prelude.{◌≡◌};
+ghost use Rattle.command_ends.specs.Ends.{end_of, end_of_rows, end_of_step};
 ghost use Rattle.command_ends.specs.declared.end.End.TheVariants.{Done};
 
 use crate::end::End;
@@ -20,44 +21,61 @@ use widths::WidthFault;
 /// Why a command did not end well. Its text is one line.
 #[derive(Clone, Copy, Error)]
 pub enum Fault<'a> {
+    /// The input at this path can't be read.
     #[error("cannot read {0}")]
     CannotRead(&'a str),
+    /// The output can't be written.
     #[error("cannot write")]
     CannotWrite,
+    /// An input is longer than any is taken.
     #[error("input too long")]
     InputTooLong,
+    /// Memory was refused.
     #[error("out of memory")]
     OutOfMemory,
+    /// A text is no code table.
     #[error("{}", TableText(*.0))]
     Table(TableFault),
+    /// A text is no width file.
     #[error("{}", WidthsText(*.0))]
     Widths(WidthFault),
+    /// Bytes are no tape.
     #[error("{}", TapeText(*.0))]
     Tape(TapeFault),
+    /// A tape does not set.
     #[error("fault: {}", CauseText(*.0))]
     Unset(SetFault),
+    /// A line of a script, counted from 1, is not played.
     #[error("script line {line}: {what}")]
     Script {
         line: usize,
         what: &'static str,
     },
+    /// Rows are not read or saved.
     #[error("{}", RowsText(*.0))]
     Rows(RowsFault),
+    /// A text is no configuration.
     #[error("config: {0}")]
     Config(&'static str),
+    /// A key of a configuration.
     #[error("config: {what} {key}")]
     ConfigKey {
         what: &'static str,
         key: &'static str,
     },
+    /// A station of a configuration, counted from 1.
     #[error("config: bad station {0}")]
     ConfigStation(usize),
+    /// The socket failed.
     #[error("socket: {0}")]
     Socket(&'static str),
+    /// A datagram to this member was not taken.
     #[error("socket: send failed to {0}")]
     SendFailed(u8),
+    /// A station did not take a step that was asked of it.
     #[error("refused {}", RefusalText(*.0))]
     Refused(StepRefusal),
+    /// A number without a tape, or a tape without a number.
     #[error("usage: --number and --tape go together")]
     Unpaired,
 }
@@ -104,7 +122,9 @@ impl<'a> Fault<'a> {
     }
 
     /// Why rows are not read or saved.
-    pub fn of_rows(fault: RowsFault) -> Fault<'a> {
+    pub fn of_rows(fault: RowsFault) -> Fault<'a>
+        ensures { end_of result ≡ end_of_rows fault }
+    {
         match fault {
             RowsFault::OutOfMemory => Fault::OutOfMemory,
             _ => Fault::Rows(fault),
@@ -112,7 +132,9 @@ impl<'a> Fault<'a> {
     }
 
     /// Why a station did not take a step that was asked of it.
-    pub fn of_step(refusal: StepRefusal) -> Fault<'a> {
+    pub fn of_step(refusal: StepRefusal) -> Fault<'a>
+        ensures { end_of result ≡ end_of_step refusal }
+    {
         match refusal {
             StepRefusal::Store(fault) => Fault::of_rows(fault),
             StepRefusal::OutOfMemory => Fault::OutOfMemory,
@@ -127,7 +149,8 @@ impl<'a> Fault<'a> {
 
     /// How a command ends by this fault.
     pub fn end(&self) -> End
-        ensures { ¬ (result ≡ Done) }
+        ensures end { result ≡ end_of self.now }
+        ensures fails { ¬ (result ≡ Done) }
     {
         match self {
             Fault::OutOfMemory => End::Memory,
@@ -140,7 +163,8 @@ impl<'a> Fault<'a> {
 
     /// Writes the text, and gives the end. That the writer fails is ignored.
     pub fn tell<E: Write>(&self, err: &mut E) -> End
-        ensures { ¬ (result ≡ Done) }
+        ensures end { result ≡ end_of self.now }
+        ensures fails { ¬ (result ≡ Done) }
     {
         let _ = writeln!(err, "{self}");
         self.end()

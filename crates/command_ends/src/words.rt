@@ -1,5 +1,9 @@
 //! The words of causes and refusals, as they are printed.
 
+ghost use Rattle.std.specs.Prelude.{◌≡◌, Some};
+ghost use Rattle.command_ends.specs.RefusalWords.{refusal_text, step_word};
+ghost use Rattle.command_ends.specs.ReleaseText.{cause_text};
+
 use crate::refusal::Refusal;
 use line_check::{Cause, SetFault};
 use station::StepRefusal;
@@ -10,21 +14,24 @@ use std::fmt;
 pub struct CauseText(pub SetFault);
 
 impl fmt::Display for CauseText {
+    ghost output = { λ c. Some (cause_text c.0) };
+
     fn fmt<W: fmt::Write>(&self, f: &mut fmt::Formatter<W>) -> fmt::Result {
         let (at, line) = (self.0.at, self.0.line);
-        let word = match self.0.cause {
-            Cause::UnknownCode => "unknown-code",
-            Cause::NoWidth => "no-width",
-            Cause::Unfinished => "unfinished",
-            Cause::Overset { over } => return write!(f, "overset {over} at {at} line {line}"),
-            Cause::Loose { under } => return write!(f, "loose {under} at {at} line {line}"),
-        };
-        write!(f, "{word} at {at} line {line}")
+        match self.0.cause {
+            Cause::UnknownCode => write!(f, "unknown-code at {at} line {line}"),
+            Cause::NoWidth => write!(f, "no-width at {at} line {line}"),
+            Cause::Unfinished => write!(f, "unfinished at {at} line {line}"),
+            Cause::Overset { over } => write!(f, "overset {over} at {at} line {line}"),
+            Cause::Loose { under } => write!(f, "loose {under} at {at} line {line}"),
+        }
     }
 }
 
 /// The word for why a station refuses a step.
-fn refusal_word(refusal: StepRefusal) -> &'static str {
+fn refusal_word(refusal: StepRefusal) -> &'static str
+    ensures { result.now ≡ step_word refusal }
+{
     match refusal {
         StepRefusal::Stopped => "stopped",
         StepRefusal::BadDatagram(fault) => Refusal::Packet(fault).word(),
@@ -46,6 +53,8 @@ fn refusal_word(refusal: StepRefusal) -> &'static str {
 pub struct RefusalText(pub StepRefusal);
 
 impl fmt::Display for RefusalText {
+    ghost output = { λ r. Some (refusal_text r.0) };
+
     fn fmt<W: fmt::Write>(&self, f: &mut fmt::Formatter<W>) -> fmt::Result {
         let word = refusal_word(self.0);
         match self.0 {

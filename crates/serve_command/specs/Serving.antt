@@ -1,58 +1,194 @@
--- What `serve` does to a station: calls of its steps, one after the other, and nothing else.
-use Rattle.std.specs.Prelude.{◌≡◌, ◌⊎◌, ◌+◌, ℕ, List, Option, Some, None, Result, Ok}
+-- What `serve` did, by a list of what happened: which steps its station took, what passed over its wire, what it wrote and how it ended.
+use Rattle.std.specs.Prelude.{◌≡◌, ◌⊎◌, ◌+◌, ℕ, List, [], ◌∷◌, ◌++◌, map, flat_map, Bool, true, Option, Some, None, Result, Ok, Err}
+use Rattle.std.specs.Io.KnownBytes.{Appends}
+use Rattle.streams.specs.Fronts.{AppendsFront}
 use Rattle.protocol.specs.Rows.{Tape}
 use Rattle.protocol.specs.Marks.{Mark}
+use Rattle.protocol.specs.Circuit.{Datagram}
 use Rattle.protocol.specs.Refusals.{Call, Offering, Seeking, Falling_due, Receiving}
+use Rattle.saved_rows.specs.declared.fault.RowsFault.TheVariants as row_faults
+use Rattle.saved_rows.specs.declared.rows.Rows.{Ghosts}
 use Rattle.node_core.specs.Standing.{StandsFor}
 use Rattle.station.specs.declared.answer.Answer.{Answer}
+use Rattle.station.specs.declared.answer.Release.{Release}
 use Rattle.station.specs.declared.refusal.StepRefusal.{StepRefusal}
+use Rattle.station.specs.declared.refusal.StepRefusal.TheVariants.{Store, OutOfMemory}
 use Rattle.station.specs.declared.station.Station.{Station}
-use Rattle.station.specs.Stations.{Sight}
+use Rattle.station.specs.Readiness.{slugs_of}
+use Rattle.station.specs.Stations.{sight}
 use Rattle.station.specs.Steps.{Steps}
+use Rattle.wire.specs.Passing.{Passed, came, sent, told, Passes}
+use Rattle.command_ends.specs.ReleaseText.{release_text}
+use Rattle.command_ends.specs.Ends.{end_of}
+use Rattle.command_ends.specs.declared.end.End.{End}
+use Rattle.command_ends.specs.declared.end.End.TheVariants as ends
+use Rattle.command_ends.specs.declared.fault.Fault.{Fault}
+
+-- the clock was asked, or the station was called and answered
+pub data Event : Type 0 where
+  asked : (moment : ℕ) → Event
+  took : (call : Call) (answer : Result Answer StepRefusal) → Event
+
+-- a datagram that comes is the one that the station is called with
+abbrev pub coming : Call → List Passed
+coming (Offering n tape now) = []
+coming (Seeking n now) = []
+coming (Falling_due now) = []
+coming (Receiving bytes now) = came bytes ∷ []
+
+-- each datagram that the station hands out is sent to its addressee, once, in order
+abbrev pub sending : List Datagram → List Passed
+sending out = map (λ (d : Datagram). sent d.to d.bytes) out
+
+-- what the station hands out on the wire; a refusal hands out nothing
+abbrev pub going : Result Answer StepRefusal → List Passed
+going (Ok answer) = sending answer.out.items
+going (Err refusal) = []
+
+-- what passes over the wire in an event
+abbrev pub passing : Event → List Passed
+passing (asked moment) = told moment ∷ []
+passing (took call answer) = coming call ++ going answer
+
+-- a release is written as its line and its galley
+abbrev pub release_of : Release → List ℕ
+release_of r = release_text [] r.number r.tape (slugs_of r.set)
+
+-- what is written of a release, if there is one
+abbrev pub printing : Option Release → List ℕ
+printing None = []
+printing (Some r) = release_of r
+
+-- what is written of an answer; of a refusal nothing is
+abbrev pub written : Result Answer StepRefusal → List ℕ
+written (Ok answer) = printing answer.release
+written (Err refusal) = []
+
+-- what is written in an event
+abbrev pub writing : Event → List ℕ
+writing (asked moment) = []
+writing (took call answer) = written answer
 
 -- one step by this call, for all marks that the station's core stands for
-abbrev pub IsStep : {R : Type 0} → Sight R → Call → Station R → Station R → Result Answer StepRefusal → Type 0
-IsStep x call old new answer = (marks : List Mark) → StandsFor old.core marks → Steps x call old new marks answer
+abbrev pub IsStep : {R : Type 0} → Ghosts R → Call → Station R → Station R → Result Answer StepRefusal → Type 0
+IsStep g call old new answer = (marks : List Mark) → StandsFor old.core marks → Steps (sight g) call old new marks answer
 
--- steps alone changed the station
-pub data Serves {R : Type 0} (x : Sight R) : Station R → Station R → Type 0 where
-  stays : (s : Station R) → Serves x s s
-  goes : (call : Call) (old mid new : Station R) (answer : Result Answer StepRefusal) → IsStep x call old mid answer → Serves x mid new → Serves x old new
+-- these calls, one after the other, and nothing else changed the station
+abbrev pub Takes : {R : Type 0} → Ghosts R → Station R → Station R → List Event → Type 0
+Takes g old new [] = new ≡ old
+Takes g old new (asked moment ∷ rest) = Takes g old new rest
+Takes {R = R} g old new (took call answer ∷ rest) = (mid : Station R) × IsStep g call old mid answer × Takes g mid new rest
 
--- one datagram was taken in, or none
-abbrev pub TakesIn : {R : Type 0} → Sight R → ℕ → Station R → Station R → Type 0
-TakesIn x now old new =
-    (new ≡ old) ⊎ ((bytes : List ℕ) × (answer : Result Answer StepRefusal) × IsStep x (Receiving bytes now) old new answer)
+-- the station was stopped by its rows, otherwise than for memory
+abbrev pub IsByStore : StepRefusal → Type 0
+IsByStore (Store fault) = ¬ (fault ≡ row_faults.OutOfMemory)
+IsByStore _ = ⊥
+
+-- the station was stopped for memory, its own or that of its rows
+abbrev pub IsForMemory : StepRefusal → Type 0
+IsForMemory (Store fault) = fault ≡ row_faults.OutOfMemory
+IsForMemory OutOfMemory = Unit {0}
+IsForMemory _ = ⊥
+
+-- the station has stopped, and its last step answered a refusal of this kind
+pub record Stops (log : List Event) (new : Bool) (Kind : StepRefusal → Type 0) : Type 0 where
+  pub before : List Event
+  pub call : Call
+  pub refusal : StepRefusal
+  pub kind : Kind refusal
+  pub is_last : log ≡ before ++ took call (Err refusal) ∷ []
+  pub stopped : new ≡ true
+
+-- an end has its cause: only by its store or for memory did the station stop; where it goes on and memory is the cause, a growth of the command was refused
+abbrev pub HasCause : List Event → Bool → Bool → End → Type 0
+HasCause log old new ends.Done = new ≡ old
+HasCause log old new ends.Input = new ≡ old
+HasCause log old new ends.Usage = ⊥
+HasCause log old new ends.Store = Stops log new IsByStore
+HasCause log old new ends.Socket = new ≡ old
+HasCause log old new ends.Memory = (new ≡ old) ⊎ Stops log new IsForMemory
+
+-- a station, its wire and its output
+pub record Post (R N W : Type 0) : Type 0 where
+  pub station : Station R
+  pub wire : N
+  pub out : W
+
+abbrev pub post : {R N W : Type 0} → Station R → N → W → Post R N W
+post station wire out = record { station = station; wire = wire; out = out }
+
+-- what is known of the rows, of what has passed over the wire and of what the output holds
+pub record Known (R N W : Type 0) : Type 1 where
+  pub rows : Ghosts R
+  pub passed : N → Option (List Passed)
+  pub contents : W → Option (List ℕ)
+
+abbrev pub known : {R N W : Type 0} → Ghosts R → (N → Option (List Passed)) → (W → Option (List ℕ)) → Known R N W
+known rows passed contents = record { rows = rows; passed = passed; contents = contents }
+
+-- how a command goes on or ends
+abbrev pub ended : {A : Type 0} → Result A Fault → End
+ended (Ok done) = ends.Done
+ended (Err fault) = end_of fault
+
+-- what `serve` did up to this end, by a list of events: the station took these steps and no others; what passed over the wire is what came for them and what they handed out;
+-- of their releases' text a front was written, and where it ended well all of it, and the events are of this form
+pub record Serves {R N W : Type 0} (k : Known R N W) (old new : Post R N W) (end : End) (Form : List Event → Type 0) : Type 0 where
+  pub log : List Event
+  pub steps : k.rows.kept new.station.rows → Takes k.rows old.station new.station log
+  pub passes : Passes (k.passed old.wire) (k.passed new.wire) (flat_map passing log)
+  pub front : AppendsFront (k.contents old.out) (k.contents new.out) (flat_map writing log)
+  pub whole : end ≡ ends.Done → Appends (k.contents old.out) (k.contents new.out) (flat_map writing log)
+  pub form : end ≡ ends.Done → Form log
+  pub cause : HasCause log old.station.stopped new.station.stopped end
+
+-- one datagram at most was taken in
+abbrev pub IsTakingIn : ℕ → List Event → Type 0
+IsTakingIn now log = (log ≡ []) ⊎ ((bytes : List ℕ) × (answer : Result Answer StepRefusal) × (log ≡ took (Receiving bytes now) answer ∷ []))
 
 -- it was seen to what is due
-abbrev pub SeesToDue : {R : Type 0} → Sight R → ℕ → Station R → Station R → Type 0
-SeesToDue x now old new = (answer : Result Answer StepRefusal) × IsStep x (Falling_due now) old new answer
+abbrev pub IsSeeingToDue : ℕ → List Event → Type 0
+IsSeeingToDue now log = (answer : Result Answer StepRefusal) × (log ≡ took (Falling_due now) answer ∷ [])
+
+-- the clock was asked, and the rest is at its moment
+abbrev pub AtClock : (ℕ → List Event → Type 0) → List Event → Type 0
+AtClock Form log = (now : ℕ) × (rest : List Event) × Form now rest × (log ≡ asked now ∷ rest)
+
+-- the tape was taken
+abbrev pub IsOffering : ℕ → Tape → ℕ → List Event → Type 0
+IsOffering n tape now log = (answer : Answer) × (log ≡ took (Offering n tape now) (Ok answer) ∷ [])
+
+-- the search was begun
+abbrev pub IsSeeking : ℕ → ℕ → List Event → Type 0
+IsSeeking n now log = (answer : Answer) × (log ≡ took (Seeking n now) (Ok answer) ∷ [])
+
+-- the offer was made, if there is one
+abbrev pub IsOffer : Option (ℕ × Tape) → List Event → Type 0
+IsOffer None log = log ≡ []
+IsOffer (Some offer) log = AtClock (IsOffering offer.0 offer.1) log
+
+-- the search was made, if there is one
+abbrev pub IsSearch : Option ℕ → List Event → Type 0
+IsSearch None log = log ≡ []
+IsSearch (Some number) log = AtClock (IsSeeking number) log
+
+-- the one, and then the other
+pub record Then (First Last : List Event → Type 0) (log : List Event) : Type 0 where
+  pub first : List Event
+  pub last : List Event
+  pub is_first : First first
+  pub is_last : Last last
+  pub joined : log ≡ first ++ last
 
 -- a turn: one datagram at most, and then what is due
-pub record Turns {R : Type 0} (x : Sight R) (now : ℕ) (old new : Station R) : Type 0 where
-  pub mid : Station R
-  pub takes_in : TakesIn x now old mid
-  pub sees_to_due : SeesToDue x now mid new
+abbrev pub IsTurn : ℕ → List Event → Type 0
+IsTurn now log = Then (IsTakingIn now) (IsSeeingToDue now) log
 
--- so many turns, one after the other
-pub data TakesTurns {R : Type 0} (x : Sight R) : ℕ → Station R → Station R → Type 0 where
-  none : (s : Station R) → TakesTurns x 0 s s
-  one_more : (n m now : ℕ) (old mid new : Station R) → m ≡ n + 1 → TakesTurns x n old mid → Turns x now mid new → TakesTurns x m old new
-
--- the tape that is offered was taken, if there is one
-abbrev pub Offers : {R : Type 0} → Sight R → Option (ℕ × Tape) → Station R → Station R → Type 0
-Offers x None old new = new ≡ old
-Offers x (Some offer) old new = (now : ℕ) × (answer : Answer) × IsStep x (Offering offer.0 offer.1 now) old new (Ok answer)
-
--- the search was begun, if there is one
-abbrev pub Searches : {R : Type 0} → Sight R → Option ℕ → Station R → Station R → Type 0
-Searches x None old new = new ≡ old
-Searches x (Some number) old new = (now : ℕ) × (answer : Answer) × IsStep x (Seeking number now) old new (Ok answer)
+-- so many turns, each at the moment of the clock
+pub data AreTurns : ℕ → List Event → Type 0 where
+  none : AreTurns 0 []
+  one_more : (n m : ℕ) (before last log : List Event) → m ≡ n + 1 → AreTurns n before → AtClock IsTurn last → log ≡ before ++ last → AreTurns m log
 
 -- the offer, then the search, then so many turns
-pub record Runs {R : Type 0} (x : Sight R) (offer : Option (ℕ × Tape)) (seek : Option ℕ) (turns : ℕ) (old new : Station R) : Type 0 where
-  pub offered : Station R
-  pub sought : Station R
-  pub offers : Offers x offer old offered
-  pub searches : Searches x seek offered sought
-  pub takes_turns : TakesTurns x turns sought new
+abbrev pub IsRun : Option (ℕ × Tape) → Option ℕ → ℕ → List Event → Type 0
+IsRun offer seek turns log = Then (Then (IsOffer offer) (IsSearch seek)) (AreTurns turns) log

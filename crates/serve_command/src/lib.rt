@@ -1,6 +1,7 @@
 //! The command `serve`: the turns of a station over a wire.
 #![tactic(auto)]
 
+mod handing_on;
 mod serving;
 
 pub use serving::{serve_run, serve_turn};

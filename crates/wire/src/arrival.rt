@@ -1,7 +1,8 @@
 //! What a station asks of the network.
 
-ghost use Rattle.std.specs.Prelude.{◌≤◌, length};
-ghost use Rattle.wire.specs.Arrival.{Fits};
+ghost use Rattle.std.specs.Prelude.{◌≤◌, List, [], ◌∷◌, Option, None, length};
+ghost use Rattle.wire.specs.Arrival.{Fits, came_by};
+ghost use Rattle.wire.specs.Passing.{Passed, Passes, sent, told};
 
 use ballots::Member;
 
@@ -18,13 +19,19 @@ pub enum Arrival {
 
 /// A network of datagrams, with a clock.
 pub trait Wire {
+    // What has passed over it, in order, where that is known: a socket of the host tells nothing.
+    ghost passed: { Self → Option (List Passed) } = { λ _. None };
+
     /// Takes one datagram at most, within the time limit.
     fn receive(&mut self, buffer: &mut [u8]) -> Arrival
-        ensures { Fits result (length buffer.new) };
+        ensures fits { Fits result (length buffer.new) }
+        ensures passes { Passes (passed self.old) (passed self.new) (came_by result buffer.new) };
 
     /// Sends a datagram to a member, and answers whether the network took it. It may be lost all the same.
-    fn send(&mut self, to: Member, bytes: &[u8]) -> bool;
+    fn send(&mut self, to: Member, bytes: &[u8]) -> bool
+        ensures passes { Passes (passed self.old) (passed self.new) (sent to bytes.now ∷ []) };
 
     /// The moment, in milliseconds since the start.
-    fn now(&mut self) -> u64;
+    fn now(&mut self) -> u64
+        ensures passes { Passes (passed self.old) (passed self.new) (told result ∷ []) };
 }

@@ -1,4 +1,8 @@
-//! Datagrams over UDP.
+//! Datagrams over UDP. Of what passes over a socket of the host nothing is known.
+
+ghost use Rattle.std.specs.Prelude.{◌≡◌, ◌/◌, ◌^◌, ◌-◌, min, IfOk, option_copied};
+ghost use Rattle.std.specs.Duration.{as_nanos};
+ghost use Rattle.wire.specs.Addresses.{IsAt, address_of};
 
 use crate::address::Address;
 use crate::arrival::{Arrival, Wire};
@@ -24,9 +28,25 @@ pub struct UdpWire<'a, C: Clock> {
 }
 
 /// The socket address of a station.
-fn socket_address(address: &Address) -> SocketAddr {
+fn socket_address(address: &Address) -> SocketAddr
+    ensures { IsAt address.now result }
+{
     let [a, b, c, d] = address.ip;
     SocketAddr::new(IpAddr::V4(Ipv4Addr::new(a, b, c, d)), address.port)
+}
+
+/// The address of a member, of those of all members in order from 1.
+fn address_of(stations: &[Address], member: Member) -> Option<&Address>
+    ensures { option_copied result ≡ address_of stations.now member }
+{
+    stations.get(usize::from(member.get()) - 1)
+}
+
+/// A duration in whole milliseconds, as many as there are numbers for.
+fn moment_of(elapsed: Duration) -> u64
+    ensures { result ≡ min (as_nanos elapsed / 1_000_000) (2 ^ 64 - 1) }
+{
+    u64::try_from(elapsed.as_millis()).unwrap_or(u64::MAX)
 }
 
 impl<'a, C: Clock> UdpWire<'a, C> {
@@ -36,7 +56,10 @@ impl<'a, C: Clock> UdpWire<'a, C> {
         clock: &'a C,
         own: &Address,
         stations: Vec<Address>,
-    ) -> io::Result<UdpWire<'a, C>> {
+    ) -> io::Result<UdpWire<'a, C>>
+        ensures stations { IfOk result (λ w. w.stations ≡ stations) }
+        ensures moment { IfOk result (λ w. w.moment ≡ 0) }
+    {
         let socket = UdpSocket::bind(net, socket_address(own))?;
         socket.set_read_timeout(Some(Duration::from_millis(LIMIT)))?;
         let start = Instant::now(clock)?;
@@ -68,8 +91,7 @@ impl<'a, C: Clock> Wire for UdpWire<'a, C> {
     }
 
     fn send(&mut self, to: Member, bytes: &[u8]) -> bool {
-        let place = usize::from(to.get()) - 1;
-        match self.stations.get(place) {
+        match address_of(&self.stations, to) {
             Some(address) => match self.socket.send_to(bytes, socket_address(address)) {
                 Ok(count) => count == bytes.len(),
                 Err(_) => false,
@@ -78,9 +100,12 @@ impl<'a, C: Clock> Wire for UdpWire<'a, C> {
         }
     }
 
-    fn now(&mut self) -> u64 {
+    /// Where the clock fails, it is the last moment that was told.
+    fn now(&mut self) -> u64
+        ensures { result ≡ self.new.moment }
+    {
         if let Ok(elapsed) = self.start.elapsed(self.clock) {
-            self.moment = u64::try_from(elapsed.as_millis()).unwrap_or(u64::MAX);
+            self.moment = moment_of(elapsed);
         }
         self.moment
     }

@@ -1,33 +1,41 @@
 -- One turn more.
-use Rattle.std.proofs.Common.{rules, ◌≡◌, ◌+◌, refl, arith}
-use Rattle.serve_command.specs.Serving.{none, one_more}
+use Rattle.std.proofs.Common.{rules, ◌≡◌, ◌+◌, refl, sym}
 use Rattle.command_ends.specs.declared.end.End.TheVariants.{Done}
-use Rattle.serve_command.proofs.Served.{then, all_turned}
+use Rattle.serve_command.specs.Serving.{known, post, IsTurn, AtClock, Then, AreTurns, none, one_more}
+use Rattle.serve_command.proofs.Served.{Passes-nil, nothing, and_then, of_form, answered}
 use Rattle.serve_command.proofs.serving.take_turns.Goals as goal
 
 pub loop-init : goal.loop-init
 loop-init g c = record {
   was_kept = λ kept. kept;
-  turns = λ kept. none c.args.station.now;
-  goes_on = λ some. absurd (omega (arith, some));
+  serves =
+      nothing (known g.R.Rows g.N.Wire.passed g.W.Write.contents) c.args.station.now c.args.wire.now c.args.wire.now c.args.out.now Done (AreTurns 0)
+      (Passes-nil (g.N.Wire.passed c.args.wire.now)) (λ done. none) refl;
 }
 
 pub loop-preserved : goal.loop-preserved
 loop-preserved g c =
-    let done : c.serve_turn-end.result ≡ Done = search rules in
+    let done : c.timed_turn-end.result ≡ Done = search rules in
+    let k = known g.R.Rows g.N.Wire.passed g.W.Write.contents in
+    let old = post c.args.station.now c.args.wire.now c.args.out.now in
+    let mid = post c.loop.station c.loop.wire c.loop.out in
+    let new = post c.timed_turn-end.new.station c.timed_turn-end.new.wire c.timed_turn-end.new.out in
     record {
-      was_kept = λ kept. c.loop.invariant.was_kept (c.serve_turn-end.ensures.was_kept kept);
-      turns = λ kept.
-          one_more c.loop.counter (c.loop.counter + 1) c.now-now.result c.args.station.now c.loop.station c.serve_turn-end.new.station refl
-          (c.loop.invariant.turns (c.serve_turn-end.ensures.was_kept kept)) (c.serve_turn-end.ensures.turns kept done);
-      goes_on = λ some. c.serve_turn-end.ensures.goes_on done;
+      was_kept = λ kept. c.loop.invariant.was_kept (c.timed_turn-end.ensures.was_kept kept);
+      serves =
+          of_form k old new Done (Then (AreTurns c.loop.counter) (AtClock IsTurn)) (AreTurns (c.loop.counter + 1))
+          (λ log is form. one_more c.loop.counter (c.loop.counter + 1) form.first form.last log refl form.is_first form.is_last form.joined)
+          (and_then k old mid new Done (AreTurns c.loop.counter) (AtClock IsTurn) c.timed_turn-end.ensures.was_kept c.loop.invariant.serves
+          (answered k mid new c.timed_turn-end.result Done (AtClock IsTurn) (sym done) c.timed_turn-end.ensures.serves));
     }
 
 pub returns-then-ne-clause-serves : goal.returns-then-ne-clause-serves
-returns-then-ne-clause-serves g c = λ kept.
-    then _ c.args.station.now c.loop.station c.serve_turn-end.new.station
-    (all_turned _ c.loop.counter c.args.station.now c.loop.station (c.loop.invariant.turns (c.serve_turn-end.ensures.was_kept kept)))
-    (c.serve_turn-end.ensures.serves kept)
-
-pub returns-clause-serves : goal.returns-clause-serves
-returns-clause-serves g c = λ kept. all_turned _ c.loop.counter c.args.station.now c.loop.station (c.loop.invariant.turns kept)
+returns-then-ne-clause-serves g c =
+    let bad : ¬ (c.timed_turn-end.result ≡ Done) = search rules in
+    let k = known g.R.Rows g.N.Wire.passed g.W.Write.contents in
+    let old = post c.args.station.now c.args.wire.now c.args.out.now in
+    let mid = post c.loop.station c.loop.wire c.loop.out in
+    let new = post c.timed_turn-end.new.station c.timed_turn-end.new.wire c.timed_turn-end.new.out in
+    of_form k old new c.timed_turn-end.result (Then (AreTurns c.loop.counter) (AtClock IsTurn)) (AreTurns c.args.turns)
+    (λ log done form. absurd (bad done))
+    (and_then k old mid new c.timed_turn-end.result (AreTurns c.loop.counter) (AtClock IsTurn) c.timed_turn-end.ensures.was_kept c.loop.invariant.serves c.timed_turn-end.ensures.serves)

@@ -1,0 +1,58 @@
+-- How a command ends by a fault.
+use Rattle.std.specs.Prelude.{◌≡◌, ◌⊎◌}
+use Rattle.saved_rows.specs.declared.fault.RowsFault.{RowsFault}
+use Rattle.saved_rows.specs.declared.fault.RowsFault.TheVariants as rows
+use Rattle.station.specs.declared.refusal.StepRefusal.{StepRefusal}
+use Rattle.station.specs.declared.refusal.StepRefusal.TheVariants as steps
+use Rattle.command_ends.specs.declared.end.End.{End}
+use Rattle.command_ends.specs.declared.end.End.TheVariants.{Input, Usage, Store, Memory}
+use Rattle.command_ends.specs.declared.end.End.TheVariants as ends
+use Rattle.command_ends.specs.declared.fault.Fault.{Fault}
+use Rattle.command_ends.specs.declared.fault.Fault.TheVariants as faults
+
+-- want of memory, the store of rows, the socket and the command line have ends of their own; any other fault is one of an input
+abbrev pub end_of : Fault → End
+end_of (faults.CannotRead path) = Input
+end_of faults.CannotWrite = Input
+end_of faults.InputTooLong = Input
+end_of faults.OutOfMemory = Memory
+end_of (faults.Table fault) = Input
+end_of (faults.Widths fault) = Input
+end_of (faults.Tape fault) = Input
+end_of (faults.Unset fault) = Input
+end_of (faults.Script line what) = Input
+end_of (faults.Rows fault) = Store
+end_of (faults.Config what) = Input
+end_of (faults.ConfigKey what key) = Input
+end_of (faults.ConfigStation entry) = Input
+end_of (faults.Socket what) = ends.Socket
+end_of (faults.SendFailed member) = ends.Socket
+end_of (faults.Refused refusal) = Input
+end_of faults.Unpaired = Usage
+
+-- rows that are not read or saved for want of memory end a command as any want of memory does
+abbrev pub end_of_rows : RowsFault → End
+end_of_rows rows.Store = Store
+end_of_rows rows.WrongStation = Store
+end_of_rows rows.WrongSchema = Store
+end_of_rows (rows.Damaged number) = Store
+end_of_rows rows.OutOfMemory = Memory
+
+-- a step that a station refused: by its rows, for want of memory, or for what was asked of it
+abbrev pub end_of_step : StepRefusal → End
+end_of_step steps.Stopped = Input
+end_of_step (steps.BadDatagram fault) = Input
+end_of_step steps.WrongCircuit = Input
+end_of_step steps.NotForMe = Input
+end_of_step steps.Stranger = Input
+end_of_step steps.BadNumber = Input
+end_of_step steps.AlreadyReleased = Input
+end_of_step steps.AlreadyOpen = Input
+end_of_step (steps.TapeFaulty fault) = Input
+end_of_step steps.RoundsSpent = Input
+end_of_step (steps.Store fault) = end_of_rows fault
+end_of_step steps.OutOfMemory = Memory
+
+-- memory for a text was refused, or it can't be written
+abbrev pub IsOfWriting : Fault → Type 0
+IsOfWriting fault = (fault ≡ faults.OutOfMemory) ⊎ (fault ≡ faults.CannotWrite)

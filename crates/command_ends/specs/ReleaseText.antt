@@ -1,0 +1,44 @@
+-- The text of a release.
+use Rattle.std.specs.Prelude.{ℕ, List, ◌++◌, Result, Ok, Err, codes, decimal}
+use Rattle.std.specs.Borrow.{Bor}
+use Rattle.hex.specs.Hex.{encode_lower}
+use Rattle.line_check.specs.Galley.{galley_of}
+use Rattle.line_check.specs.declared.fault.Cause.{Cause}
+use Rattle.line_check.specs.declared.fault.Cause.TheVariants.{UnknownCode, NoWidth, Unfinished, Overset, Loose}
+use Rattle.line_check.specs.declared.fault.SetFault.{SetFault}
+use Rattle.line_check.specs.declared.slug.Slug.{Slug}
+
+-- the word of a cause, with the units by which a line is overset or loose, before its place
+abbrev pub cause_at : Cause → List ℕ → List ℕ
+cause_at UnknownCode place = codes "unknown-code at " ++ place
+cause_at NoWidth place = codes "no-width at " ++ place
+cause_at Unfinished place = codes "unfinished at " ++ place
+cause_at (Overset over) place = codes "overset " ++ (decimal over ++ (codes " at " ++ place))
+cause_at (Loose under) place = codes "loose " ++ (decimal under ++ (codes " at " ++ place))
+
+-- a cause with its place, as `unknown-code at 3 line 1`
+abbrev pub cause_text : SetFault → List ℕ
+cause_text f = cause_at f.cause (decimal f.at ++ (codes " line " ++ decimal f.line))
+
+-- what setting a tape gave, its slugs as a list
+abbrev pub lent : {E : Type 0} → Result (Bor (List Slug)) E → Result (List Slug) E
+lent (Ok slugs) = Ok slugs.now
+lent (Err fault) = Err fault
+
+-- a number and a text for its frames, as a line behind a lead
+abbrev pub plain_line : List ℕ → ℕ → List ℕ → List ℕ
+plain_line lead n frames = lead ++ (codes "release " ++ (decimal n ++ (codes " " ++ (frames ++ codes "\n"))))
+
+-- the line of a release that sets, behind a lead: its frames are in hex
+abbrev pub set_line : List ℕ → ℕ → List ℕ → List ℕ
+set_line lead n frames = plain_line lead n (encode_lower frames)
+
+-- the line of one that does not set, with the cause
+abbrev pub faulty_line : List ℕ → ℕ → List ℕ → SetFault → List ℕ
+faulty_line lead n frames fault =
+    lead ++ (codes "release " ++ (decimal n ++ (codes " " ++ (encode_lower frames ++ (codes " faulty " ++ (cause_text fault ++ codes "\n"))))))
+
+-- a release behind a lead: its line, and its galley where it sets
+abbrev pub release_text : List ℕ → ℕ → List ℕ → Result (List Slug) SetFault → List ℕ
+release_text lead n frames (Ok slugs) = set_line lead n frames ++ galley_of slugs
+release_text lead n frames (Err fault) = faulty_line lead n frames fault

@@ -1,0 +1,14 @@
+-- Where a datagram goes.
+use Rattle.std.specs.Prelude.{◌≡◌, ℕ, ◌-◌, List, Option, slice_get}
+use Rattle.std.specs.Net.Addr.{ipv4_octets, MatchIp}
+use Rattle.std.specs.Net.Socket.{socket_ip, socket_port}
+use Rattle.std.specs.declared.net.socket_addr.SocketAddr.{SocketAddr}
+use Rattle.wire.specs.declared.address.Address.{Address}
+
+-- the socket address has the address's IP address and port
+abbrev pub IsAt : Address → SocketAddr → Type 0
+IsAt address at = MatchIp (socket_ip at) (λ ip. ipv4_octets ip ≡ address.ip) (λ ip. ⊥) × (socket_port at ≡ address.port)
+
+-- the address of a member, of those of all members in order from 1
+abbrev pub address_of : List Address → ℕ → Option Address
+address_of stations member = slice_get stations (member - 1)
