@@ -18,7 +18,7 @@ use tape_frames::{Tape, holes};
 use widths::Widths;
 
 /// Where the three files of `check` are.
-#[derive(Clone, Copy, Debug)]
+#[derive(Clone, Copy)]
 pub struct TapePaths<'a> {
     pub table: &'a str,
     pub widths: &'a str,

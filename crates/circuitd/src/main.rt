@@ -1,18 +1,12 @@
 //! circuitd: one station of a wire circuit, and the tools round it.
 #![tactic(auto)]
 
-use answer_command::answer;
-use ballots::Member;
-use check_command::{TapePaths, check};
 use command_ends::{End, Fault};
-use command_line::{Asked, parse};
-use file_rows::{HostFiles, RowFiles};
-use opened_files::Opened;
-use rehearse_command::{ScriptPaths, rehearse};
-use rows_command::print_rows;
-use station_start::serve;
+use command_line::parse;
+use commands::run_command;
+use file_rows::HostFiles;
 use std::env;
-use std::io::{BufWriter, ErrorKind, Write};
+use std::io::{BufWriter, ErrorKind};
 use std::process::ExitCode;
 
 fn command_words(rt: &HostRuntime) -> Result<Vec<String>, End> {
@@ -29,74 +23,23 @@ fn command_words(rt: &HostRuntime) -> Result<Vec<String>, End> {
     }
 }
 
-fn run_answer<W: Write>(rt: &HostRuntime, circuit: u16, me: Member, out: &mut W) -> End {
-    let mut input = rt.stdin();
-    let mut err = rt.stderr();
-    answer(rt.alloc(), circuit, me, &mut input, out, &mut err)
-}
-
-fn run_check<W: Write>(rt: &HostRuntime, paths: &TapePaths<'_>, listing: bool, out: &mut W) -> End {
-    let mut table = Opened::at(rt, paths.table);
-    let mut widths = Opened::at(rt, paths.widths);
-    let mut tape = Opened::at(rt, paths.tape);
-    let mut err = rt.stderr();
-    check(
-        rt.alloc(),
-        paths,
-        &mut table,
-        &mut widths,
-        &mut tape,
-        listing,
-        out,
-        &mut err,
-    )
-}
-
-fn run_rows<W: Write>(rt: &HostRuntime, path: &str, out: &mut W) -> End {
-    let mut err = rt.stderr();
-    match HostFiles.open(rt, path, None) {
-        Ok(mut rows) => print_rows(rt.alloc(), &mut rows, out, &mut err),
-        Err(fault) => Fault::of_rows(fault).tell(&mut err),
-    }
-}
-
-fn run_rehearse<W: Write>(rt: &HostRuntime, paths: &ScriptPaths<'_>, out: &mut W) -> End {
-    let mut table = Opened::at(rt, paths.table);
-    let mut widths = Opened::at(rt, paths.widths);
-    let mut script = Opened::at(rt, paths.script);
-    let mut err = rt.stderr();
-    rehearse(
-        rt.alloc(),
-        paths,
-        &mut table,
-        &mut widths,
-        &mut script,
-        out,
-        &mut err,
-    )
-}
-
-fn run_command(rt: &HostRuntime, asked: &Asked<'_>) -> End {
-    let Ok(mut out) = BufWriter::new(rt.alloc(), rt.stdout()) else {
-        return Fault::OutOfMemory.tell(&mut rt.stderr());
+/// Runs the command of these words over the standard streams and the files of the host.
+fn run_words(rt: &HostRuntime, words: &[String]) -> End {
+    let (mut input, mut err) = (rt.stdin(), rt.stderr());
+    let asked = match parse(rt.alloc(), words, &mut rt.stdout(), &mut err) {
+        Ok(asked) => asked,
+        Err(end) => return end,
     };
-    match asked {
-        Asked::Answer { circuit, me } => run_answer(rt, *circuit, *me, &mut out),
-        Asked::Check { paths, listing } => run_check(rt, paths, *listing, &mut out),
-        Asked::Rows { path } => run_rows(rt, *path, &mut out),
-        Asked::Serve(plan) => serve(rt, plan, &HostFiles, &mut out, &mut rt.stderr()),
-        Asked::Rehearse { paths } => run_rehearse(rt, paths, &mut out),
+    match BufWriter::new(rt.alloc(), rt.stdout()) {
+        Ok(mut out) => run_command(rt, &asked, &HostFiles, &mut input, &mut out, &mut err),
+        Err(_) => Fault::OutOfMemory.tell(&mut err),
     }
 }
 
 fn run(rt: &HostRuntime) -> End {
-    let words = match command_words(rt) {
-        Ok(words) => words,
-        Err(end) => return end,
-    };
-    match parse(rt, &words) {
+    match command_words(rt) {
+        Ok(words) => run_words(rt, &words),
         Err(end) => end,
-        Ok(asked) => run_command(rt, &asked),
     }
 }
 

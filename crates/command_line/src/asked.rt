@@ -5,7 +5,7 @@ use check_command::TapePaths;
 use rehearse_command::ScriptPaths;
 
 /// A command, with all that it is given.
-#[derive(Clone, Copy, Debug)]
+#[derive(Clone, Copy)]
 pub enum Asked<'a> {
     /// To answer requests as one acceptor of a circuit.
     Answer { circuit: u16, me: Member },
@@ -20,7 +20,7 @@ pub enum Asked<'a> {
 }
 
 /// What the command line of `serve` asks for.
-#[derive(Clone, Copy, Debug)]
+#[derive(Clone, Copy)]
 pub struct Plan<'a> {
     /// The path of the configuration.
     pub config: &'a str,

@@ -235,24 +235,22 @@ fn rehearse_command<'a>(alloc: Global) -> Result<Command<'a>, AllocError> {
     with_words(alloc, command, REHEARSE_WORDS)
 }
 
-/// Adds the commands over tapes: what an acceptor answers, and what a linecaster casts.
-fn with_tools<'a>(alloc: Global, program: Command<'a>) -> Result<Command<'a>, AllocError> {
-    let program = program.subcommand(answer_command(alloc)?)?;
-    program.subcommand(check_command(alloc)?)
+/// Adds a command to the program, unless memory was refused while it was made.
+fn with_command<'a>(
+    program: Command<'a>,
+    command: Result<Command<'a>, AllocError>,
+) -> Result<Command<'a>, AllocError> {
+    program.subcommand(command?)
 }
 
-/// Adds the commands over stations: what one saved, one on the wire, and a rehearsal of several.
-fn with_stations<'a>(alloc: Global, program: Command<'a>) -> Result<Command<'a>, AllocError> {
-    let program = program.subcommand(rows_command(alloc)?)?;
-    let program = program.subcommand(serve_command(alloc)?)?;
-    program.subcommand(rehearse_command(alloc)?)
-}
-
-/// All commands of the program.
+/// All commands of the program: those over tapes, and those over stations.
 pub(crate) fn grammar<'a>(alloc: Global) -> Result<Command<'a>, AllocError> {
     let program = Command::new(alloc, "circuitd")
         .about("A wire circuit whose numbers never mean two stories")
         .subcommand_required(true);
-    let program = with_tools(alloc, program)?;
-    with_stations(alloc, program)
+    let program = with_command(program, answer_command(alloc))?;
+    let program = with_command(program, check_command(alloc))?;
+    let program = with_command(program, rows_command(alloc))?;
+    let program = with_command(program, serve_command(alloc))?;
+    with_command(program, rehearse_command(alloc))
 }

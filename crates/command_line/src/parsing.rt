@@ -9,6 +9,7 @@ use clap::{ArgMatches, Error};
 use command_ends::{End, Fault};
 use rehearse_command::ScriptPaths;
 use std::alloc::Global;
+use std::io::Write;
 
 fn matches_of<'a>(alloc: Global, words: &'a [String]) -> Result<ArgMatches<'a>, Error> {
     grammar(alloc)?.try_get_matches_from(words)
@@ -67,25 +68,35 @@ fn asked_of<'a>(matches: &ArgMatches<'a>) -> Option<Asked<'a>> {
     }
 }
 
-/// How a line that asks for no command ends: what `clap` says of it is printed, the help to the output.
-fn told(rt: &HostRuntime, error: &Error) -> End {
+/// Writes what `clap` says of a line that asks for no command: help to `out`, a mistake to `err`. That the writer fails
+/// is ignored.
+fn tell<W: Write, E: Write>(error: &Error, out: &mut W, err: &mut E) -> End {
     if error.kind() == ErrorKind::OutOfMemory {
-        return Fault::OutOfMemory.tell(&mut rt.stderr());
+        return Fault::OutOfMemory.tell(err);
     }
-    let _ = error.print(rt);
+    let _ = if error.use_stderr() {
+        write!(err, "{error}")
+    } else {
+        write!(out, "{error}")
+    };
     End::Usage
 }
 
 /// The command that the words give; the first word is the program's own name.
 ///
-/// Help and mistakes are printed as `clap` words them, and end as usage. Where memory is refused, that fault is
-/// told and is the end.
-pub fn parse<'a>(rt: &HostRuntime, words: &'a [String]) -> Result<Asked<'a>, End> {
-    match matches_of(rt.alloc(), words) {
+/// Help is written to `out` and mistakes to `err`, as `clap` words them, and end as usage. Where memory is refused, that
+/// fault is told and is the end.
+pub fn parse<'a, W: Write, E: Write>(
+    alloc: Global,
+    words: &'a [String],
+    out: &mut W,
+    err: &mut E,
+) -> Result<Asked<'a>, End> {
+    match matches_of(alloc, words) {
         Ok(matches) => match asked_of(&matches) {
             Some(asked) => Ok(asked),
             None => Err(End::Usage),
         },
-        Err(error) => Err(told(rt, &error)),
+        Err(error) => Err(tell(&error, out, err)),
     }
 }

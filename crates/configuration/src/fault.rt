@@ -1,5 +1,7 @@
 //! Why a configuration is none.
 
+use command_ends::Fault;
+
 /// The keys of a configuration, in the order in which they are read.
 #[derive(Clone, Copy, PartialEq, Eq)]
 pub enum ConfigKey {
@@ -40,4 +42,22 @@ pub enum ConfigFault {
     BadStation(usize),
     /// There is no memory for it.
     OutOfMemory,
+}
+
+impl ConfigFault {
+    /// The fault as a command tells it.
+    pub fn told<'a>(self) -> Fault<'a> {
+        let (what, key) = match self {
+            ConfigFault::NotToml => return Fault::Config("not toml"),
+            ConfigFault::BadStation(entry) => return Fault::ConfigStation(entry),
+            ConfigFault::OutOfMemory => return Fault::OutOfMemory,
+            ConfigFault::Missing(key) => ("missing", key),
+            ConfigFault::WrongType(key) => ("wrong type", key),
+            ConfigFault::OutOfRange(key) => ("out of range", key),
+        };
+        Fault::ConfigKey {
+            what,
+            key: key.name(),
+        }
+    }
 }

@@ -10,32 +10,16 @@ use std::alloc::Global;
 use std::io::{Read, Write};
 use std::str;
 
-/// The text of a fault, as a command tells it.
-fn told<'a>(fault: ConfigFault) -> Fault<'a> {
-    let (what, key) = match fault {
-        ConfigFault::NotToml => return Fault::Config("not toml"),
-        ConfigFault::BadStation(entry) => return Fault::ConfigStation(entry),
-        ConfigFault::OutOfMemory => return Fault::OutOfMemory,
-        ConfigFault::Missing(key) => ("missing", key),
-        ConfigFault::WrongType(key) => ("wrong type", key),
-        ConfigFault::OutOfRange(key) => ("out of range", key),
-    };
-    Fault::ConfigKey {
-        what,
-        key: key.name(),
-    }
-}
-
 /// The configuration of a text. What isn't UTF-8 is not TOML.
 fn config_of<'a>(alloc: Global, bytes: &[u8]) -> Result<Config, Fault<'a>>
     ensures { IfOk result (λ c. IsCircuit c.member c.stations.items) }
 {
     let Ok(text) = str::from_utf8(bytes) else {
-        return Err(told(ConfigFault::NotToml));
+        return Err(ConfigFault::NotToml.told());
     };
     match Config::read(alloc, text) {
         Ok(config) => Ok(config),
-        Err(fault) => Err(told(fault)),
+        Err(fault) => Err(fault.told()),
     }
 }
 

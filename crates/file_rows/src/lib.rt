@@ -1,8 +1,7 @@
-//! Saved rows in files: made at the first start of a station, and taken up at every other.
+//! Saved rows in files of the host, each a database.
 #![tactic(auto)]
 
 mod host_files;
-mod row_files;
 
 pub use host_files::HostFiles;
 pub use row_files::RowFiles;

@@ -6,4 +6,5 @@ mod rehearsing;
 mod script;
 mod showing;
 
+pub use notes::NoteText;
 pub use rehearsing::{ScriptPaths, rehearse};

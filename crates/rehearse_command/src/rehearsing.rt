@@ -14,7 +14,7 @@ use world::{NewWorldFault, Step, World, WorldRefusal};
 const CIRCUIT: u16 = 7;
 
 /// Where the three files of `rehearse` are.
-#[derive(Clone, Copy, Debug)]
+#[derive(Clone, Copy)]
 pub struct ScriptPaths<'a> {
     pub table: &'a str,
     pub widths: &'a str,

@@ -1,8 +1,10 @@
-//! What a station asks of the files that it saves its rows in.
+//! Files that saved rows lie in: made at the first start of a station, and taken up at every other.
 
 ghost use Rattle.saved_rows.specs.Identity.{IsIdentity};
 
+use command_ends::End;
 use saved_rows::{Identity, Rows, RowsFault};
+use std::io::Write;
 
 /// Files that hold saved rows.
 pub trait RowFiles {
@@ -29,4 +31,13 @@ pub trait RowFiles {
         path: &str,
         identity: Option<Identity>,
     ) -> Result<Self::Rows, RowsFault>;
+
+    /// Lists the rows in the file at a path, whosever they are, as the command `rows` prints them.
+    fn list<W: Write, E: Write>(
+        &self,
+        rt: &HostRuntime,
+        path: &str,
+        out: &mut W,
+        err: &mut E,
+    ) -> End;
 }

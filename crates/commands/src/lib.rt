@@ -1,0 +1,7 @@
+//! What the program does with the words of each command: the files at its paths, the standard streams and the saved rows,
+//! each handed to its place.
+#![tactic(auto)]
+
+mod running;
+
+pub use running::run_command;

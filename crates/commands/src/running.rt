@@ -1,0 +1,84 @@
+//! Each command, run over the files that its words name.
+
+ghost use Rattle.std.specs.Prelude.{◌≡◌, ℕ, IfSome};
+ghost use Rattle.std.specs.Io.KnownBytes.{Appends};
+ghost use Rattle.streams.specs.Fronts.{AppendsFront};
+ghost use Rattle.answer_command.specs.AnswerText.{answer_text};
+ghost use Rattle.command_ends.specs.declared.end.End.TheVariants.{Done};
+ghost use Rattle.command_line.specs.declared.asked.Asked.TheVariants.{Answer};
+
+use answer_command::answer;
+use check_command::{TapePaths, check};
+use command_ends::End;
+use command_line::Asked;
+use opened_files::Opened;
+use rehearse_command::{ScriptPaths, rehearse};
+use row_files::RowFiles;
+use station_start::serve;
+use std::io::{Read, Write};
+
+/// Checks the tape at its path by the table and the widths at theirs.
+fn run_check<W: Write, E: Write>(
+    rt: &HostRuntime,
+    paths: &TapePaths<'_>,
+    listing: bool,
+    out: &mut W,
+    err: &mut E,
+) -> End {
+    let mut table = Opened::at(rt, paths.table);
+    let mut widths = Opened::at(rt, paths.widths);
+    let mut tape = Opened::at(rt, paths.tape);
+    check(
+        rt.alloc(),
+        paths,
+        &mut table,
+        &mut widths,
+        &mut tape,
+        listing,
+        out,
+        err,
+    )
+}
+
+/// Rehearses by the script at its path, and the table and the widths at theirs.
+fn run_rehearse<W: Write, E: Write>(
+    rt: &HostRuntime,
+    paths: &ScriptPaths<'_>,
+    out: &mut W,
+    err: &mut E,
+) -> End {
+    let mut table = Opened::at(rt, paths.table);
+    let mut widths = Opened::at(rt, paths.widths);
+    let mut script = Opened::at(rt, paths.script);
+    rehearse(
+        rt.alloc(),
+        paths,
+        &mut table,
+        &mut widths,
+        &mut script,
+        out,
+        err,
+    )
+}
+
+/// Runs the command that was asked for: what it is given on a pipe is read from `input`, what it prints goes to `out`,
+/// and its fault to `err`. A path that can't be opened is told in the place in which the file would be read.
+pub fn run_command<F: RowFiles, R: Read, W: Write, E: Write>(
+    rt: &HostRuntime,
+    asked: &Asked<'_>,
+    row_files: &F,
+    input: &mut R,
+    out: &mut W,
+    err: &mut E,
+) -> End
+    ensures answered { (circuit : ℕ) → (me : ℕ) → asked.now ≡ Answer circuit me → result ≡ Done → IfSome (R.remaining input.old) (λ xs. Appends (W.contents out.old) (W.contents out.new) (answer_text circuit me xs)) }
+    ensures front { (circuit : ℕ) → (me : ℕ) → asked.now ≡ Answer circuit me → IfSome (R.remaining input.old) (λ xs. AppendsFront (W.contents out.old) (W.contents out.new) (answer_text circuit me xs)) }
+{
+    match asked {
+        Asked::Answer { circuit, me } => answer(rt.alloc(), *circuit, *me, input, out, err),
+        Asked::Check { paths, listing } => run_check(rt, paths, *listing, out, err),
+        Asked::Rows { path } => row_files.list(rt, *path, out, err),
+        Asked::Serve(plan) => serve(rt, plan, row_files, out, err),
+        Asked::Rehearse { paths } => run_rehearse(rt, paths, out, err),
+    }
+}

@@ -1,0 +1,6 @@
+//! What the commands ask of the files that saved rows lie in.
+#![tactic(auto)]
+
+mod files;
+
+pub use files::RowFiles;
