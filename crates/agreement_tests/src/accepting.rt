@@ -2,32 +2,35 @@
 
 use crate::rows::{At, Frames, ballot, parts};
 use acceptor::{Reply, Request, run};
-use fixtures::{FLOOD, LIGATURE};
+use ballots::Vote;
+use fixtures::{FLOOD, LIGATURE, LONGEST};
 use std::alloc::Global;
 use tape_frames::Tape;
 
 /// What an acceptor is asked.
 #[derive(Clone, Copy)]
-enum Asked {
+pub enum Asked {
     Prepare(At),
     Accept(At, Frames),
 }
 
 /// What it has to say.
 #[derive(Clone, Copy)]
-enum Said {
+pub enum Said {
     Promise,
     Report(At, Frames),
+    Silent,
     Nack(At),
     Voted,
     Again,
 }
 
-/// Requests and their replies, and the promise that stands after them.
+/// Requests and their replies, and the promise and the vote that stand after them.
 struct Story {
     name: &'static str,
     steps: &'static [(Asked, Said)],
     promised: At,
+    voted: Option<(At, Frames)>,
 }
 
 fn request(alloc: Global, asked: Asked) -> Option<Request> {
@@ -57,6 +60,7 @@ fn says(reply: &Reply, said: Said) -> bool {
         (Reply::Promise { report: Some(vote) }, Said::Report(voted, frames)) => {
             parts(vote.ballot()) == voted && vote.tape().frames() == frames
         }
+        (Reply::Silent, Said::Silent) => true,
         (Reply::Nack { promised }, Said::Nack(above)) => parts(*promised) == above,
         (Reply::Voted, Said::Voted) => true,
         (Reply::Again, Said::Again) => true,
@@ -74,17 +78,34 @@ fn as_told(replies: &[Reply], steps: &[(Asked, Said)]) -> usize {
     replies.len()
 }
 
-/// Whether a run of the requests is as the story tells.
-fn is_true(alloc: Global, story: &Story) -> bool {
-    let Some(requests) = requests(alloc, story.steps) else {
+/// Whether the vote is this one, or there is none.
+fn is_vote(vote: Option<&Vote>, voted: Option<(At, Frames)>) -> bool {
+    match (vote, voted) {
+        (None, None) => true,
+        (Some(vote), Some((at, frames))) => {
+            parts(vote.ballot()) == at && vote.tape().frames() == frames
+        }
+        _ => false,
+    }
+}
+
+/// Whether a run of the requests is answered so, and leaves this promise and this vote.
+pub fn is_run(
+    alloc: Global,
+    steps: &[(Asked, Said)],
+    promised: At,
+    voted: Option<(At, Frames)>,
+) -> bool {
+    let Some(requests) = requests(alloc, steps) else {
         return false;
     };
     match run(alloc, &requests) {
         Err(_) => false,
         Ok((row, replies)) => {
-            replies.len() == story.steps.len()
-                && as_told(&replies, story.steps) == story.steps.len()
-                && row.promised().map(parts) == Some(story.promised)
+            replies.len() == steps.len()
+                && as_told(&replies, steps) == steps.len()
+                && row.promised().map(parts) == Some(promised)
+                && is_vote(row.vote(), voted)
         }
     }
 }
@@ -97,6 +118,7 @@ const STORIES: &[Story] = &[
             (Asked::Prepare((1, 3)), Said::Report((1, 1), FLOOD)),
         ],
         promised: (1, 3),
+        voted: Some(((1, 1), FLOOD)),
     },
     Story {
         name: "the first vote at a ballot stands",
@@ -106,6 +128,7 @@ const STORIES: &[Story] = &[
             (Asked::Prepare((1, 3)), Said::Report((1, 1), FLOOD)),
         ],
         promised: (1, 3),
+        voted: Some(((1, 1), FLOOD)),
     },
     Story {
         name: "a promise refuses what is below",
@@ -113,8 +136,10 @@ const STORIES: &[Story] = &[
             (Asked::Prepare((1, 3)), Said::Promise),
             (Asked::Accept((1, 1), FLOOD), Said::Nack((1, 3))),
             (Asked::Prepare((2, 1)), Said::Promise),
+            (Asked::Prepare((2, 1)), Said::Silent),
         ],
         promised: (2, 1),
+        voted: None,
     },
     Story {
         name: "the greatest vote is reported",
@@ -124,12 +149,27 @@ const STORIES: &[Story] = &[
             (Asked::Prepare((2, 2)), Said::Report((1, 3), LIGATURE)),
         ],
         promised: (2, 2),
+        voted: Some(((1, 3), LIGATURE)),
+    },
+    Story {
+        name: "the longest tape is voted for and reported",
+        steps: &[
+            (Asked::Accept((1, 1), LONGEST), Said::Voted),
+            (Asked::Accept((1, 1), LONGEST), Said::Again),
+            (Asked::Prepare((1, 3)), Said::Report((1, 1), LONGEST)),
+        ],
+        promised: (1, 3),
+        voted: Some(((1, 1), LONGEST)),
     },
 ];
 
 #[test]
 fn runs(rt: HostRuntime) {
     for story in STORIES {
-        assert!(rt; is_true(rt.alloc(), story), "{}", story.name);
+        assert!(rt;
+            is_run(rt.alloc(), story.steps, story.promised, story.voted),
+            "{}",
+            story.name
+        );
     }
 }

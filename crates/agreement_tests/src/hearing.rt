@@ -4,13 +4,13 @@ ghost use Rattle.std.specs.Prelude.{◌≡◌, ◌≤◌, IfSome};
 
 use crate::rows::{At, Frames, ballot, parts};
 use ballots::{Ballot, Member};
-use fixtures::{FLOOD, LIGATURE};
+use fixtures::{FLOOD, LIGATURE, LONGEST};
 use learner::Heard;
 use std::alloc::Global;
 use tape_frames::TapeRef;
 
 #[derive(Clone, Copy)]
-enum Step {
+pub enum Step {
     /// A member's vote, and the ballot at which a majority then votes.
     Hear(u8, At, Frames, Option<At>),
     /// The tape that then stands at a ballot.
@@ -94,19 +94,19 @@ fn takes(heard: &mut Heard, members: u8, times: u32, step: Step) -> bool
     }
 }
 
-/// How many steps come to what they have to, up to the first that doesn't.
-fn taken(alloc: Global, times: u32, story: &Story) -> usize {
-    let Some(last) = Member::new(story.members) else {
+/// How many steps come to what they have to in a circuit of so many, up to the first that doesn't.
+pub fn taken(alloc: Global, many: u8, times: u32, steps: &[Step]) -> usize {
+    let Some(last) = Member::new(many) else {
         return 0;
     };
     let members = last.get();
     let mut heard = Heard::new(alloc, members);
-    for (place, step) in story.steps.iter().enumerate() {
+    for (place, step) in steps.iter().enumerate() {
         if !takes(&mut heard, members, times, *step) {
             return place;
         }
     }
-    story.steps.len()
+    steps.len()
 }
 
 const STORIES: &[Story] = &[
@@ -137,6 +137,39 @@ const STORIES: &[Story] = &[
             Step::Tape((2, 1), Some(FLOOD)),
         ],
     },
+    // the third member never votes: it hears of the two that do
+    Story {
+        name: "the first is told again and again",
+        members: 3,
+        steps: &[
+            Step::Hear(1, (1, 1), FLOOD, None),
+            Step::Hear(1, (1, 1), FLOOD, None),
+            Step::Hear(1, (1, 1), FLOOD, None),
+            Step::Hear(2, (1, 1), FLOOD, Some((1, 1))),
+            Step::Tape((1, 1), Some(FLOOD)),
+        ],
+    },
+    // the second voted for the flood story at 1.1, and again at the third member's ballot
+    Story {
+        name: "what was voted for is proposed again",
+        members: 3,
+        steps: &[
+            Step::Hear(2, (1, 1), FLOOD, None),
+            Step::Hear(3, (1, 3), FLOOD, None),
+            Step::Hear(2, (1, 3), FLOOD, Some((1, 3))),
+            Step::Tape((1, 1), None),
+            Step::Tape((1, 3), Some(FLOOD)),
+        ],
+    },
+    Story {
+        name: "the longest tape",
+        members: 3,
+        steps: &[
+            Step::Hear(1, (1, 1), LONGEST, None),
+            Step::Hear(3, (1, 1), LONGEST, Some((1, 1))),
+            Step::Tape((1, 1), Some(LONGEST)),
+        ],
+    },
     Story {
         name: "half is no majority",
         members: 2,
@@ -156,7 +189,7 @@ const STORIES: &[Story] = &[
 fn votes(rt: HostRuntime) {
     for story in STORIES {
         assert!(rt;
-            taken(rt.alloc(), 1, story) == story.steps.len(),
+            taken(rt.alloc(), story.members, 1, story.steps) == story.steps.len(),
             "{}",
             story.name
         );
@@ -167,7 +200,7 @@ fn votes(rt: HostRuntime) {
 fn votes_heard_again_and_again(rt: HostRuntime) {
     for story in STORIES {
         assert!(rt;
-            taken(rt.alloc(), 200, story) == story.steps.len(),
+            taken(rt.alloc(), story.members, 200, story.steps) == story.steps.len(),
             "{}",
             story.name
         );

@@ -4,9 +4,17 @@
 #[cfg(test)]
 mod accepting;
 #[cfg(test)]
+mod draws;
+#[cfg(test)]
 mod hearing;
 #[cfg(test)]
 mod proposing;
+#[cfg(test)]
+mod random_promises;
+#[cfg(test)]
+mod random_requests;
+#[cfg(test)]
+mod random_votes;
 #[cfg(test)]
 mod ranges;
 #[cfg(test)]

@@ -4,14 +4,14 @@ ghost use Rattle.std.specs.Prelude.{◌≡◌, ◌≤◌, IfSome};
 
 use crate::rows::{At, Frames, ballot, parts};
 use ballots::{Ballot, Member, VoteRef};
-use fixtures::{FLOOD, LIGATURE};
+use fixtures::{FLOOD, LIGATURE, LONGEST};
 use proposer::{BeginRefusal, Counted, DueAnswer, Proposal};
 use std::alloc::Global;
 use tape_frames::{Tape, TapeRef};
 
 /// What happens to a proposal, and what it has to answer.
 #[derive(Clone, Copy)]
-enum Step {
+pub enum Step {
     /// Its ballot.
     IsAt(At),
     /// Whether it gathers promises at a ballot.
@@ -38,14 +38,14 @@ enum Step {
 
 /// A proposal of a member in a circuit of so many, begun at a moment, and what happens to it; its own tape is given up at last.
 #[derive(Clone, Copy)]
-struct Story {
-    name: &'static str,
-    me: u8,
-    members: u8,
-    seen: Option<At>,
-    own: Option<Frames>,
-    begun_at: u64,
-    steps: &'static [Step],
+pub struct Story<'a> {
+    pub name: &'static str,
+    pub me: u8,
+    pub members: u8,
+    pub seen: Option<At>,
+    pub own: Option<Frames>,
+    pub begun_at: u64,
+    pub steps: &'a [Step],
 }
 
 /// Where there is a ballot, the ballot of the row.
@@ -212,7 +212,7 @@ fn own_of(alloc: Global, own: Option<Frames>) -> Option<Option<Tape>> {
 }
 
 /// The proposal of a story, before its steps.
-fn begun(alloc: Global, story: &Story) -> Option<Proposal>
+fn begun(alloc: Global, story: &Story<'_>) -> Option<Proposal>
     ensures { IfSome result (λ p. p.members ≡ story.now.members) }
 {
     let members = Member::new(story.members)?.get();
@@ -232,7 +232,7 @@ fn is_given_up(own: Option<Tape>, frames: Option<Frames>) -> bool {
 }
 
 /// How many steps come to what they have to, up to the first that doesn't; 0 where another tape than the own is given up then.
-fn taken_of(alloc: Global, story: &Story) -> usize {
+pub fn taken_of(alloc: Global, story: &Story<'_>) -> usize {
     let Some(mut proposal) = begun(alloc, story) else {
         return 0;
     };
@@ -248,7 +248,7 @@ fn taken_of(alloc: Global, story: &Story) -> usize {
 const ONE_FRAME: Frames = &[1];
 
 /// A proposal of member 1 of five, with no tape of its own.
-const FIRST: Story = Story {
+pub const FIRST: Story<'static> = Story {
     name: "",
     me: 1,
     members: 5,
@@ -258,7 +258,7 @@ const FIRST: Story = Story {
     steps: &[],
 };
 
-const STORIES: &[Story] = &[
+const STORIES: &[Story<'static>] = &[
     Story {
         name: "five members",
         seen: Some((1, 3)),
@@ -317,6 +317,53 @@ const STORIES: &[Story] = &[
             Step::DueMoment(430),
             Step::Promise(1, (1, 2), None, Counted::Stale),
             Step::Nack((1, 2), (5, 3), true),
+        ],
+        ..FIRST
+    },
+    Story {
+        name: "a vote was reported",
+        me: 3,
+        members: 3,
+        own: Some(LIGATURE),
+        steps: &[
+            Step::IsAt((1, 3)),
+            Step::DueMoment(370),
+            Step::Promise(2, (1, 3), Some(((1, 1), FLOOD)), Counted::Quorum),
+            Step::Picks(Some(FLOOD)),
+        ],
+        ..FIRST
+    },
+    Story {
+        name: "none was reported",
+        me: 3,
+        members: 3,
+        own: Some(LIGATURE),
+        steps: &[
+            Step::Promise(2, (1, 3), None, Counted::Quorum),
+            Step::Picks(Some(LIGATURE)),
+        ],
+        ..FIRST
+    },
+    Story {
+        name: "another's ballot was promised",
+        members: 3,
+        own: Some(LIGATURE),
+        steps: &[
+            Step::IsAt((1, 1)),
+            Step::Nack((1, 1), (1, 3), true),
+            Step::Waits((1, 1), 289),
+            Step::Begins((1, 1), 290, (2, 1)),
+        ],
+        ..FIRST
+    },
+    Story {
+        name: "the longest tapes",
+        members: 3,
+        own: Some(LONGEST),
+        steps: &[
+            Step::Picks(Some(LONGEST)),
+            Step::Promise(3, (1, 1), Some(((1, 1), LONGEST)), Counted::Quorum),
+            Step::Picks(Some(LONGEST)),
         ],
         ..FIRST
     },

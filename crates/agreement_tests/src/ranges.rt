@@ -1,8 +1,8 @@
 //! Members, numbers, ballots, majorities and saved rows.
 
-use crate::rows::{At, ballot, parts};
+use crate::rows::{At, Frames, ballot, parts};
 use ballots::{Ballot, Member, Number, Row, Vote, majority};
-use fixtures::FLOOD;
+use fixtures::{FLOOD, LONGEST};
 use std::alloc::Global;
 use tape_frames::Tape;
 
@@ -108,34 +108,35 @@ fn majorities(rt: HostRuntime) {
     }
 }
 
-/// A copy of a vote for the flood story at 1.1.
-fn vote(alloc: Global) -> Option<Vote> {
-    let tape = Tape::from_bytes(alloc, FLOOD).ok()?;
-    Vote::new(ballot((1, 1))?, tape).copy(alloc).ok()
+/// A copy of a vote for this tape at 1.1, and of the copy, lent.
+fn vote(alloc: Global, frames: Frames) -> Option<Vote> {
+    let tape = Tape::from_bytes(alloc, frames).ok()?;
+    let copy = Vote::new(ballot((1, 1))?, tape).copy(alloc).ok()?;
+    copy.lend().copy(alloc).ok()
 }
 
 /// Whether the vote makes no row without a promise.
 fn is_refused(alloc: Global) -> bool {
-    match vote(alloc) {
+    match vote(alloc, FLOOD) {
         None => false,
         Some(vote) => Row::new(None, Some(vote)).is_none(),
     }
 }
 
 /// A copy of the row with the vote and a promise of 1.3.
-fn row(alloc: Global) -> Option<Row> {
-    let row = Row::new(Some(ballot((1, 3))?), Some(vote(alloc)?))?;
+fn row(alloc: Global, frames: Frames) -> Option<Row> {
+    let row = Row::new(Some(ballot((1, 3))?), Some(vote(alloc, frames)?))?;
     row.copy(alloc).ok()
 }
 
 /// Whether that row has this promise, and the vote at this ballot.
-fn holds(alloc: Global, promised: At, voted: At) -> bool {
-    let Some(row) = row(alloc) else {
+fn holds(alloc: Global, frames: Frames, promised: At, voted: At) -> bool {
+    let Some(row) = row(alloc, frames) else {
         return false;
     };
     let vote_stands = match row.vote() {
         None => false,
-        Some(vote) => parts(vote.ballot()) == voted && vote.tape().frames() == FLOOD,
+        Some(vote) => parts(vote.ballot()) == voted && vote.tape().frames() == frames,
     };
     vote_stands && row.promised().map(parts) == Some(promised)
 }
@@ -143,5 +144,11 @@ fn holds(alloc: Global, promised: At, voted: At) -> bool {
 #[test]
 fn saved_rows(rt: HostRuntime) {
     assert!(rt; is_refused(rt.alloc()));
-    assert!(rt; holds(rt.alloc(), (1, 3), (1, 1)));
+    for frames in &[FLOOD, LONGEST] {
+        assert!(rt;
+            holds(rt.alloc(), frames, (1, 3), (1, 1)),
+            "{}",
+            frames.len()
+        );
+    }
 }

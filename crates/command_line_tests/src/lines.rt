@@ -1,63 +1,7 @@
-//! Command lines that are taken, and those that end as usage.
+//! Command lines that are taken.
 
-use command_ends::End;
+use crate::words::words_of;
 use command_line::{Asked, Plan, parse};
-use std::alloc::Global;
-
-/// The words of a line, in which single spaces stand between them.
-fn words_of(alloc: Global, line: &str) -> Option<Vec<String>> {
-    let mut words = Vec::new(alloc);
-    for word in line.split(' ') {
-        words.push(word.to_string(alloc).ok()?).ok()?;
-    }
-    Some(words)
-}
-
-const USAGE: &[&str] = &[
-    "circuitd",
-    "circuitd --help",
-    "circuitd sing",
-    "circuitd answer",
-    "circuitd answer 7",
-    "circuitd answer 65536 2",
-    "circuitd answer seven 2",
-    "circuitd answer 7 0",
-    "circuitd answer 7 16",
-    "circuitd answer 7 2 3",
-    "circuitd check codes.toml widths.toml",
-    "circuitd check codes.toml widths.toml story.tape --hole",
-    "circuitd rows",
-    "circuitd rows one.db two.db",
-    "circuitd rehearse codes.toml widths.toml",
-    "circuitd serve",
-    "circuitd serve --help",
-    "circuitd serve station.toml",
-    "circuitd serve --turns 1",
-    "circuitd serve station.toml --turns",
-    "circuitd serve station.toml --turns 0",
-    "circuitd serve station.toml --turns 1000001",
-    "circuitd serve station.toml --turns ten",
-    "circuitd serve station.toml --turns 1 --number 4294967296 --tape story.tape",
-    "circuitd serve station.toml --turns 1 --number twelve --tape story.tape",
-    "circuitd serve station.toml --turns 1 --seek 4294967296",
-    "circuitd serve station.toml --turns 1 --seek -1",
-    "circuitd serve station.toml --turns 1 --loud",
-];
-
-/// Whether a line ends as usage.
-fn is_usage(rt: &HostRuntime, line: &str) -> bool {
-    match words_of(rt.alloc(), line) {
-        Some(words) => matches!(parse(rt, &words), Err(End::Usage)),
-        None => false,
-    }
-}
-
-#[test]
-fn lines_that_are_usage(rt: HostRuntime) {
-    for line in USAGE {
-        assert!(rt; is_usage(&rt, *line), "{line}");
-    }
-}
 
 /// One turn of a station that is there already, and nothing to begin with.
 const ONE_TURN: Plan<'static> = Plan {
@@ -108,7 +52,9 @@ fn is_plan(rt: &HostRuntime, line: &str, wanted: &Plan<'_>) -> bool {
     let Some(words) = words_of(rt.alloc(), line) else {
         return false;
     };
-    match parse(rt, &words) {
+    let mut told = Vec::new(rt.alloc());
+    let mut mistakes = Vec::new(rt.alloc());
+    match parse(rt.alloc(), &words, &mut told, &mut mistakes) {
         Ok(Asked::Serve(plan)) => is_same(&plan, wanted),
         _ => false,
     }

@@ -9,6 +9,10 @@ use std::io::{ErrorKind, Read, Write};
 pub struct Slow {
     pub taken: Vec<u8>,
     pub room: usize,
+    /// Whether it tells a call that it has no room for that it was interrupted, and not that it took nothing.
+    pub interrupts: bool,
+    /// Whether it hands on what it has taken.
+    pub flushes: bool,
 }
 
 impl Slow {
@@ -16,27 +20,47 @@ impl Slow {
         Slow {
             taken: Vec::new(alloc),
             room,
+            interrupts: false,
+            flushes: true,
         }
+    }
+
+    /// One that is interrupted where it has no room.
+    pub fn interrupted(alloc: Global, room: usize) -> Slow {
+        let mut out = Slow::new(alloc, room);
+        out.interrupts = true;
+        out
+    }
+
+    /// One that takes all and hands on nothing.
+    pub fn kept_back(alloc: Global) -> Slow {
+        let mut out = Slow::new(alloc, 1_000_000);
+        out.flushes = false;
+        out
     }
 }
 
 impl Write for Slow {
     fn write(&mut self, buf: &[u8]) -> io::Result<usize> {
-        if self.room == 0 {
-            return Ok(0);
+        if self.room == 0 && self.interrupts {
+            return Err(io::Error::from(ErrorKind::Interrupted));
         }
         match buf.first() {
-            None => Ok(0),
-            Some(byte) => {
+            Some(byte) if self.room > 0 => {
                 self.taken.push(*byte)?;
                 self.room -= 1;
                 Ok(1)
             }
+            _ => Ok(0),
         }
     }
 
     fn flush(&mut self) -> io::Result<()> {
-        Ok(())
+        if self.flushes {
+            Ok(())
+        } else {
+            Err(io::Error::from(ErrorKind::Other))
+        }
     }
 }
 

@@ -1,11 +1,12 @@
 //! A core, the row that its turns have saved, and the story that both go through.
 
 use crate::events::{ballot_of, event_of};
-use crate::steps::{Did, Saved, Step, early, renewal};
-use crate::turns::is_turn_of;
-use ballots::{Ballot, Member, Number, Row};
-use node_core::{CoreRefusal, NodeCore};
+use crate::steps::{At, Did, Saved, Step, Voted, early, renewal};
+use crate::turns::{is_turn_of, parts, words_of};
+use ballots::{Member, Number, Row, Vote};
+use node_core::{CoreRefusal, NodeCore, Turn};
 use std::alloc::Global;
+use tape_frames::Tape;
 
 /// A member of circuit 7, of so many, and what happens to its core.
 #[derive(Clone, Copy)]
@@ -36,12 +37,24 @@ pub fn bench_of(alloc: Global, me: u8, members: u8) -> Option<Bench> {
     })
 }
 
+/// The row with this promise and this vote.
+fn promised(alloc: Global, at: At, voted: Option<Voted>) -> Option<Row> {
+    let vote = match voted {
+        None => None,
+        Some((at, frames)) => {
+            let tape = Tape::from_bytes(alloc, frames).ok()?;
+            Some(Vote::new(ballot_of(at)?, tape))
+        }
+    };
+    Row::new(Some(ballot_of(at)?), vote)
+}
+
 /// The row that is handed in, where it is not the one that was left.
-fn row_of(saved: Saved) -> Option<Row> {
+fn row_of(alloc: Global, saved: Saved) -> Option<Row> {
     match saved {
         Saved::Left => None,
         Saved::Blank => Some(Row::blank()),
-        Saved::Promised(round, owner) => Row::new(Some(ballot_of((round, owner))?), None),
+        Saved::Promised(at, voted) => promised(alloc, at, voted),
     }
 }
 
@@ -52,16 +65,33 @@ fn save(row: &mut Row, after: Option<Row>) {
     }
 }
 
+/// The turn of a step, or why there is none; its row is not the saved one yet.
+fn turn_of(alloc: Global, bench: &mut Bench, step: &Step) -> Option<Result<Turn, CoreRefusal>> {
+    save(&mut bench.row, row_of(alloc, step.saved));
+    let event = event_of(alloc, step, bench.core.me(), bench.core.members())?;
+    Some(bench.core.handle(event, &bench.row))
+}
+
 /// Whether the turn of a step is as it has to be, or why there is none. Its row is then the saved one.
 pub fn answer(alloc: Global, bench: &mut Bench, step: &Step) -> Option<Result<bool, CoreRefusal>> {
-    save(&mut bench.row, row_of(step.saved));
-    let event = event_of(alloc, step, bench.core.me(), bench.core.members())?;
-    match bench.core.handle(event, &bench.row) {
+    match turn_of(alloc, bench, step)? {
         Err(refusal) => Some(Err(refusal)),
         Ok(turn) => {
-            let is_so = is_turn_of(&turn, step);
+            let is_so = is_turn_of(alloc, &turn, bench.core.me(), step);
             save(&mut bench.row, turn.row);
             Some(Ok(is_so))
+        }
+    }
+}
+
+/// The note of a step's turn, whose row is then the saved one.
+pub fn noted(alloc: Global, bench: &mut Bench, step: &Step) -> Option<(&'static str, At)> {
+    match turn_of(alloc, bench, step)? {
+        Err(_) => None,
+        Ok(turn) => {
+            let note = words_of(turn.note);
+            save(&mut bench.row, turn.row);
+            Some(note)
         }
     }
 }
@@ -93,20 +123,12 @@ fn is_due(core: &NodeCore, due: &[(u64, Option<u32>)]) -> bool {
     true
 }
 
-/// Whether the ballot is of this round and owner, or there is none.
-fn is_open(ballot: Option<Ballot>, named: Option<(u32, u8)>) -> bool {
-    match named {
-        None => ballot.is_none(),
-        Some(named) => ballot.is_some() && ballot == ballot_of(named),
-    }
-}
-
 /// Whether the core is left as the step says.
 fn is_left(core: &NodeCore, step: &Step) -> bool {
     let Some(number) = Number::new(step.number) else {
         return false;
     };
-    is_open(core.open_ballot(number), step.open)
+    core.open_ballot(number).map(parts) == step.open
         && core.released(number) == step.released
         && is_due(core, step.due)
 }

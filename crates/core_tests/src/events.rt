@@ -1,50 +1,69 @@
-//! The events of the steps.
+//! The packets of the steps, and the events.
 
 ghost use Rattle.std.specs.Prelude.{◌≡◌, ◌≤◌, IfSome};
 ghost use Rattle.node_core.specs.Calls.{MayCome};
 
-use crate::steps::{Coming, Step};
-use ballots::{Ballot, Member, Number};
-use fixtures::FLOOD;
+use crate::steps::{At, Coming, Says, Step, Voted};
+use ballots::{Ballot, Member, Number, VoteRef};
 use node_core::Event;
 use packets::{BodyRef, PacketRef};
 use std::alloc::Global;
 use tape_frames::{Tape, TapeRef};
 
 /// The ballot of this round and owner.
-pub fn ballot_of(named: (u32, u8)) -> Option<Ballot> {
-    Ballot::new(named.0, Member::new(named.1)?)
+pub fn ballot_of(at: At) -> Option<Ballot> {
+    Ballot::new(at.0, Member::new(at.1)?)
 }
 
-/// What a packet says, or why there is none.
-fn body_of(coming: Coming) -> Option<BodyRef<'static>> {
-    match coming {
-        Coming::Prepare => Some(BodyRef::Prepare),
-        Coming::Promise => Some(BodyRef::Promise { report: None }),
-        Coming::Accepted => Some(BodyRef::Accepted {
-            tape: TapeRef::from_bytes(FLOOD).ok()?,
-        }),
-        _ => None,
-    }
+/// The vote that is reported.
+fn vote_of(voted: Voted) -> Option<VoteRef<'static>> {
+    let tape = TapeRef::from_bytes(voted.1).ok()?;
+    Some(VoteRef::new(ballot_of(voted.0)?, tape))
 }
 
-/// The packet of a step, to this member of a circuit.
-fn packet_of(step: &Step, number: Number, me: Member, members: u8) -> Option<PacketRef<'static>>
-    ensures to { IfSome result (λ p. p.to ≡ me) }
-    ensures from { IfSome result (λ p. p.from ≤ members) }
+/// What a packet says.
+fn body_of(says: Says) -> Option<BodyRef<'static>> {
+    Some(match says {
+        Says::Prepare => BodyRef::Prepare,
+        Says::Promise(None) => BodyRef::Promise { report: None },
+        Says::Promise(Some(voted)) => BodyRef::Promise {
+            report: Some(vote_of(voted)?),
+        },
+        Says::Accept(frames) => BodyRef::Accept {
+            tape: TapeRef::from_bytes(frames).ok()?,
+        },
+        Says::Accepted(frames) => BodyRef::Accepted {
+            tape: TapeRef::from_bytes(frames).ok()?,
+        },
+        Says::Nack(promised) => BodyRef::Nack {
+            promised: ballot_of(promised)?,
+        },
+    })
+}
+
+/// The packet that says so.
+pub fn packet_of(
+    from: Member,
+    to: Member,
+    number: Number,
+    at: At,
+    says: Says,
+) -> Option<PacketRef<'static>>
+    ensures from { IfSome result (λ p. p.from ≡ from) }
+    ensures to { IfSome result (λ p. p.to ≡ to) }
 {
-    let from = Member::new(step.from)?;
-    if from.get() > members {
+    PacketRef::new(7, from, to, number, ballot_of(at)?, body_of(says)?)
+}
+
+/// The member of this number, in a circuit of so many.
+fn member_of(members: u8, number: u8) -> Option<Member>
+    ensures { IfSome result (λ m. m ≤ members) }
+{
+    let member = Member::new(number)?;
+    if member.get() > members {
         return None;
     }
-    PacketRef::new(
-        7,
-        from,
-        me,
-        number,
-        ballot_of(step.ballot)?,
-        body_of(step.coming)?,
-    )
+    Some(member)
 }
 
 /// The event of a step, to this member of a circuit.
@@ -54,15 +73,15 @@ pub fn event_of(alloc: Global, step: &Step, me: Member, members: u8) -> Option<E
     let number = Number::new(step.number)?;
     let now = step.now;
     Some(match step.coming {
-        Coming::Offer => Event::Offer {
+        Coming::Offer(frames) => Event::Offer {
             number,
-            tape: Tape::from_bytes(alloc, FLOOD).ok()?,
+            tape: Tape::from_bytes(alloc, frames).ok()?,
             now,
         },
         Coming::Seek => Event::Seek { number, now },
         Coming::Due => Event::Due { number, now },
-        _ => Event::Arrived {
-            packet: packet_of(step, number, me, members)?,
+        Coming::Packet(from, at, says) => Event::Arrived {
+            packet: packet_of(member_of(members, from)?, me, number, at, says)?,
             now,
         },
     })

@@ -6,7 +6,11 @@ mod bench;
 #[cfg(test)]
 mod events;
 #[cfg(test)]
+mod random_requests;
+#[cfg(test)]
 mod steps;
+#[cfg(test)]
+mod stories;
 #[cfg(test)]
 mod tests;
 #[cfg(test)]

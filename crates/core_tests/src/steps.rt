@@ -1,36 +1,49 @@
 //! The steps of a story: what comes to a core, and what has to come of it.
 
+use fixtures::FLOOD;
 use node_core::CoreRefusal;
+
+/// A ballot: its round and its owner.
+pub type At = (u32, u8);
+
+/// The frames of a tape.
+pub type Frames = &'static [u8];
+
+/// A vote: its ballot and its tape.
+pub type Voted = (At, Frames);
+
+/// What a packet says.
+#[derive(Clone, Copy)]
+pub enum Says {
+    Prepare,
+    /// With the vote that it reports.
+    Promise(Option<Voted>),
+    Accept(Frames),
+    Accepted(Frames),
+    /// With the ballot that was promised.
+    Nack(At),
+}
 
 /// What comes to the core.
 #[derive(Clone, Copy)]
 pub enum Coming {
-    /// The story is offered.
-    Offer,
+    Offer(Frames),
     Seek,
     Due,
-    Prepare,
-    /// A promise that reports no vote.
-    Promise,
-    /// A vote for the story.
-    Accepted,
+    /// From this member, at this ballot.
+    Packet(u8, At, Says),
 }
 
-/// What a turn does, or why there is none.
+/// What comes of it.
 #[derive(Clone, Copy, PartialEq, Eq)]
 pub enum Did {
-    Begin,
-    Propose,
-    Idle,
-    GiveUp,
-    Promise,
-    /// Its own row has passed the ballot.
-    Overtaken,
-    Hear,
-    /// The number was released before.
-    Settled,
+    /// A turn with this note and the note's ballot, or with a note that has none.
+    Note(&'static str, At),
     Refuse(CoreRefusal),
 }
+
+/// Where a note has no ballot.
+pub const NONE: At = (0, 0);
 
 /// The saved row that is handed in.
 #[derive(Clone, Copy)]
@@ -38,8 +51,8 @@ pub enum Saved {
     /// The one that the steps before have left.
     Left,
     Blank,
-    /// With a promise of this round and owner, and no vote.
-    Promised(u32, u8),
+    /// With a promise, and with a vote or none.
+    Promised(At, Option<Voted>),
 }
 
 /// One event, its turn, and the core after it.
@@ -53,19 +66,17 @@ pub struct Step {
     pub coming: Coming,
     pub number: u32,
     pub now: u64,
-    /// The member that a packet comes from.
-    pub from: u8,
-    /// The round and the owner of the ballot that a packet is of, and the note.
-    pub ballot: (u32, u8),
     pub did: Did,
-    /// The members that packets go out to, in this order.
-    pub to: &'static [u8],
-    /// The promise of the row that is to be saved, if one is.
-    pub promised: Option<(u32, u8)>,
-    /// The story is released.
-    pub releases: bool,
+    /// The packets that go out, in this order: to whom, and what they say.
+    pub out: &'static [(u8, Says)],
+    /// The ballot of each of them.
+    pub at: At,
+    /// The promise and the vote of the row that is to be saved, if one is.
+    pub saves: Option<(At, Option<Voted>)>,
+    /// The tape that is released, if one is.
+    pub releases: Option<Frames>,
     /// The ballot of the number's open proposal after the turn.
-    pub open: Option<(u32, u8)>,
+    pub open: Option<At>,
     /// The number's tape was released by then.
     pub released: bool,
     /// The least number that is due then, at each of these moments.
@@ -80,12 +91,11 @@ pub const IDLE: Step = Step {
     coming: Coming::Due,
     number: 12,
     now: 0,
-    from: 0,
-    ballot: (1, 1),
-    did: Did::Idle,
-    to: &[],
-    promised: None,
-    releases: false,
+    did: Did::Note("idle", NONE),
+    out: &[],
+    at: (1, 1),
+    saves: None,
+    releases: None,
     open: None,
     released: false,
     due: &[],
@@ -93,10 +103,10 @@ pub const IDLE: Step = Step {
 
 /// An offer that begins with ballot 1.1 of a circuit of two.
 pub const OFFER: Step = Step {
-    coming: Coming::Offer,
-    did: Did::Begin,
-    to: &[2],
-    promised: Some((1, 1)),
+    coming: Coming::Offer(FLOOD),
+    did: Did::Note("began", (1, 1)),
+    out: &[(2, Says::Prepare)],
+    saves: Some(((1, 1), None)),
     open: Some((1, 1)),
     ..IDLE
 };
@@ -107,11 +117,29 @@ pub const SEEK: Step = Step {
     ..OFFER
 };
 
+/// An offer that begins with ballot 1.1 of a circuit of three.
+pub const OFFER_OF_THREE: Step = Step {
+    out: &[(2, Says::Prepare), (3, Says::Prepare)],
+    ..OFFER
+};
+
+/// A search that begins so.
+pub const SEEK_OF_THREE: Step = Step {
+    coming: Coming::Seek,
+    ..OFFER_OF_THREE
+};
+
 /// A vote of the first member at ballot 1.1.
 pub const VOTE: Step = Step {
-    coming: Coming::Accepted,
-    from: 1,
-    did: Did::Hear,
+    coming: Coming::Packet(1, (1, 1), Says::Accepted(FLOOD)),
+    did: Did::Note("heard", (1, 1)),
+    ..IDLE
+};
+
+/// A promise of the second member for the proposal at 1.1, without a vote.
+pub const PROMISE: Step = Step {
+    coming: Coming::Packet(2, (1, 1), Says::Promise(None)),
+    open: Some((1, 1)),
     ..IDLE
 };
 
@@ -129,8 +157,9 @@ pub fn renewal(round: u32) -> Step {
     let mut step = OFFER;
     step.coming = Coming::Due;
     step.now = 290 * u64::from(round);
-    step.ballot = next;
-    step.promised = Some(next);
+    step.did = Did::Note("began", next);
+    step.at = next;
+    step.saves = Some((next, None));
     step.open = Some(next);
     step
 }

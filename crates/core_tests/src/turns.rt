@@ -1,73 +1,119 @@
 //! What the turns of the steps have to be.
 
-use crate::events::ballot_of;
-use crate::steps::{Did, Step};
-use ballots::{Ballot, Row};
-use fixtures::FLOOD;
+use crate::events::packet_of;
+use crate::steps::{At, Did, Frames, NONE, Says, Step, Voted};
+use ballots::{Ballot, Member, Number, Row, Vote};
 use node_core::{Note, Turn};
-use packets::{BodyRef, Packet};
+use packets::{Packet, PacketRef, encode};
+use std::alloc::Global;
 use tape_frames::Tape;
 
-/// The note of a turn that does this at the ballot.
-fn note_of(did: Did, ballot: Ballot) -> Option<Note> {
-    match did {
-        Did::Begin => Some(Note::Began { ballot }),
-        Did::Propose => Some(Note::Proposed { ballot }),
-        Did::Idle => Some(Note::Idle),
-        Did::GiveUp => Some(Note::GaveUp { ballot }),
-        Did::Promise => Some(Note::Promised { ballot }),
-        Did::Overtaken => Some(Note::Overtaken { ballot }),
-        Did::Hear => Some(Note::Heard { ballot }),
-        Did::Settled => Some(Note::Settled),
-        Did::Refuse(_) => None,
+/// The round and the owner of a ballot.
+pub fn parts(ballot: Ballot) -> At {
+    (ballot.round(), ballot.owner().get())
+}
+
+/// The note in the word of the rehearsals, and its ballot.
+pub fn words_of(note: Note) -> (&'static str, At) {
+    match note {
+        Note::Began { ballot } => ("began", parts(ballot)),
+        Note::Nothing { ballot } => ("nothing", parts(ballot)),
+        Note::Proposed { ballot } => ("proposed", parts(ballot)),
+        Note::Idle => ("idle", NONE),
+        Note::GaveUp { ballot } => ("gave-up", parts(ballot)),
+        Note::Promised { ballot } => ("promised", parts(ballot)),
+        Note::Silent => ("silent", NONE),
+        Note::Nacked { promised } => ("nacked", parts(promised)),
+        Note::VotedAgain { ballot } => ("voted-again", parts(ballot)),
+        Note::Voted { ballot } => ("voted", parts(ballot)),
+        Note::Stale => ("stale", NONE),
+        Note::Overtaken { ballot } => ("overtaken", parts(ballot)),
+        Note::Repeated => ("repeated", NONE),
+        Note::Counted { ballot } => ("counted", parts(ballot)),
+        Note::Denied { promised } => ("denied", parts(promised)),
+        Note::Settled => ("settled", NONE),
+        Note::Heard { ballot } => ("heard", parts(ballot)),
     }
 }
 
 /// Whether the note is that of the step.
-fn is_noted(note: Note, step: &Step) -> bool {
-    match ballot_of(step.ballot) {
-        Some(ballot) => note_of(step.did, ballot) == Some(note),
-        None => false,
-    }
+fn is_noted(note: Note, did: Did) -> bool {
+    let (word, at) = words_of(note);
+    did == Did::Note(word, at)
 }
 
-/// Whether the packet goes to this member, and is a Prepare where it has to be one.
-fn goes_to(packet: &Packet, to: u8, asks: bool) -> bool {
-    let packet = packet.lend();
-    packet.to().get() == to && matches!(packet.body(), BodyRef::Prepare) == asks
-}
-
-/// Whether packets go out to these members, in this order, and are Prepares where they ask for promises.
-fn go_out(out: &[Packet], to: &[u8], asks: bool) -> bool {
-    for (packet, to) in out.iter().zip(to) {
-        if !goes_to(packet, *to, asks) {
-            return false;
-        }
-    }
-    out.len() == to.len()
-}
-
-/// Whether a row is to be saved with this promise, or none is.
-fn is_saved(row: &Option<Row>, promised: Option<(u32, u8)>) -> bool {
-    match (row, promised) {
-        (None, None) => true,
-        (Some(row), Some(named)) => row.promised() == ballot_of(named),
+/// Whether the two have one spelling, and so are one packet.
+fn are_one(alloc: Global, packet: &PacketRef<'_>, other: &PacketRef<'_>) -> bool {
+    match (encode(alloc, packet), encode(alloc, other)) {
+        (Ok(bytes), Ok(others)) => bytes.as_slice() == others.as_slice(),
         _ => false,
     }
 }
 
-/// Whether the story is released, where it has to be, and else nothing.
-fn is_released(release: &Option<Tape>, releases: bool) -> bool {
-    match release {
-        None => !releases,
-        Some(tape) => releases && tape.frames() == FLOOD,
+/// The packet that has to go out of the step from this member.
+fn going(from: Member, step: &Step, to: u8, says: Says) -> Option<PacketRef<'static>> {
+    packet_of(
+        from,
+        Member::new(to)?,
+        Number::new(step.number)?,
+        step.at,
+        says,
+    )
+}
+
+/// Whether this packet is the one that has to go out.
+fn goes(alloc: Global, packet: &Packet, from: Member, step: &Step, to: u8, says: Says) -> bool {
+    match going(from, step, to, says) {
+        Some(other) => are_one(alloc, &packet.lend(), &other),
+        None => false,
     }
 }
 
-/// Whether the turn is that of the step.
-pub fn is_turn_of(turn: &Turn, step: &Step) -> bool {
-    is_noted(turn.note, step)
-        && go_out(turn.out.as_slice(), step.to, step.did == Did::Begin)
-        && is_saved(&turn.row, step.promised)
+/// Whether the packets of the step go out from this member.
+fn go_out(alloc: Global, out: &[Packet], from: Member, step: &Step) -> bool {
+    for (packet, (to, says)) in out.iter().zip(step.out) {
+        if !goes(alloc, packet, from, step, *to, *says) {
+            return false;
+        }
+    }
+    out.len() == step.out.len()
+}
+
+/// Whether this is the vote, or there is none.
+fn is_vote(vote: Option<&Vote>, voted: Option<Voted>) -> bool {
+    match (vote, voted) {
+        (None, None) => true,
+        (Some(vote), Some((at, frames))) => {
+            parts(vote.ballot()) == at && vote.tape().frames() == frames
+        }
+        _ => false,
+    }
+}
+
+/// Whether a row is to be saved with this promise and this vote, or none is.
+fn is_saved(row: &Option<Row>, saves: Option<(At, Option<Voted>)>) -> bool {
+    match (row, saves) {
+        (None, None) => true,
+        (Some(row), Some((promised, voted))) => {
+            row.promised().map(parts) == Some(promised) && is_vote(row.vote(), voted)
+        }
+        _ => false,
+    }
+}
+
+/// Whether this tape is released, or none.
+fn is_released(release: &Option<Tape>, releases: Option<Frames>) -> bool {
+    match (release, releases) {
+        (None, None) => true,
+        (Some(tape), Some(frames)) => tape.frames() == frames,
+        _ => false,
+    }
+}
+
+/// Whether the turn of this member is that of the step.
+pub fn is_turn_of(alloc: Global, turn: &Turn, me: Member, step: &Step) -> bool {
+    is_noted(turn.note, step.did)
+        && go_out(alloc, turn.out.as_slice(), me, step)
+        && is_saved(&turn.row, step.saves)
         && is_released(&turn.release, step.releases)
 }

@@ -17,6 +17,8 @@ pub struct Run {
     /// Its next save is refused, after it was passed on.
     pub armed: bool,
     pub restarted: bool,
+    /// The moment that the clock tells.
+    pub at: u64,
     /// The datagrams that come, in hexadecimal digits.
     pub coming: &'static [&'static [u8]],
     pub offer: Option<(u32, &'static [u8])>,
@@ -32,6 +34,7 @@ pub struct Run {
 pub const TURN: Run = Run {
     armed: false,
     restarted: false,
+    at: 0,
     coming: &[],
     offer: None,
     seek: None,

@@ -28,6 +28,7 @@ fn takes(bench: &mut Bench, step: &Run) -> bool {
     if step.restarted {
         bench.station.restart();
     }
+    bench.wire.moment = step.at;
     bench.wire.bring_all(step.coming) && bench.takes(step) && bench.wire.sent == step.sent
 }
 
@@ -64,6 +65,15 @@ pub fn taken(bench: &mut Bench, steps: &[Run]) -> usize {
 pub fn is_true(alloc: Global, story: &Story) -> bool {
     match bench_of(alloc, story) {
         Some(mut bench) => taken(&mut bench, story.steps) == story.steps.len(),
+        None => false,
+    }
+}
+
+/// Whether each step of a story comes to what it has to, and these datagrams were sent, a line for each.
+pub fn sends(alloc: Global, story: &Story, log: &str) -> bool {
+    match bench_of(alloc, story) {
+        Some(mut bench) => taken(&mut bench, story.steps) == story.steps.len()
+            && bench.wire.log.as_slice() == log.as_bytes(),
         None => false,
     }
 }

@@ -1,7 +1,8 @@
-//! What a station prints and how a run ends, over wires of the tests and over sockets.
+//! What a station prints and sends and how a run ends, over wires of the tests and over sockets.
 
 mod agreeing;
 mod failing;
 mod printing;
 mod refusing;
+mod sending;
 mod sockets;

@@ -2,6 +2,7 @@
 
 use ballots::Member;
 use std::alloc::Global;
+use std::io::Write;
 use wire::{Arrival, Wire};
 
 /// What a wire of the tests does.
@@ -15,14 +16,17 @@ pub enum Manner {
     Torn,
 }
 
-/// A wire to which these datagrams come, and then nothing.
+/// A wire to which these datagrams come, and then nothing. It keeps what it was asked to send.
 #[derive(Drop)]
 pub struct Scripted {
     pub alloc: Global,
     pub manner: Manner,
+    pub moment: u64,
     pub coming: Vec<Vec<u8>>,
     pub next: usize,
     pub sent: usize,
+    /// A line for each datagram that it was asked to send: the addressee, and the bytes in hex.
+    pub log: Vec<u8>,
 }
 
 impl Scripted {
@@ -30,9 +34,20 @@ impl Scripted {
         Scripted {
             alloc,
             manner,
+            moment: 0,
             coming: Vec::new(alloc),
             next: 0,
             sent: 0,
+            log: Vec::new(alloc),
+        }
+    }
+
+    /// Keeps a line for a datagram; whether there was memory for it.
+    fn note(&mut self, to: Member, bytes: &[u8]) -> bool {
+        let to = to.get();
+        match hex::encode(self.alloc, bytes) {
+            Ok(digits) => writeln!(&mut self.log, "{to} {digits}").is_ok(),
+            Err(_) => false,
         }
     }
 
@@ -72,12 +87,12 @@ impl Wire for Scripted {
         Arrival::Datagram { length }
     }
 
-    fn send(&mut self, _to: Member, _bytes: &[u8]) -> bool {
+    fn send(&mut self, to: Member, bytes: &[u8]) -> bool {
         self.sent = self.sent.saturating_add(1);
-        self.manner != Manner::Deaf
+        self.note(to, bytes) && self.manner != Manner::Deaf
     }
 
     fn now(&mut self) -> u64 {
-        0
+        self.moment
     }
 }

@@ -16,7 +16,7 @@ const SEVENTH: &str = "frame = 6\nunshift = \"@unshift\"\nshift = \"@unshift\"\n
 const LAST: &str = "frame = 63\nunshift = \"@ignore\"\nshift = \"@ignore\"\n";
 
 /// A meaning as a code table writes it; empty where there is none.
-fn word_of(meaning: Option<&Meaning>) -> &str {
+pub fn word_of(meaning: Option<&Meaning>) -> &str {
     match meaning {
         None => "",
         Some(Meaning::Matrix(name)) => name.as_str(),

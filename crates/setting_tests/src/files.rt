@@ -34,4 +34,15 @@ impl Job {
             tape: Tape::from_bytes(alloc, frames).ok()?,
         })
     }
+
+    /// These frames by the example's table, in which frame 0 is an en space, and by its widths.
+    pub fn with_en(alloc: Global, frames: &[u8]) -> Option<Job> {
+        let old = "frame = 0\nunshift = \"@ignore\"";
+        let codes = CODES
+            .replace(alloc, old, "frame = 0\nunshift = \"@en\"")
+            .ok()?;
+        let mut job = Job::new(alloc, true, frames)?;
+        job.table = CodeTable::read(alloc, &codes).ok()?;
+        Some(job)
+    }
 }

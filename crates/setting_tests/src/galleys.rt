@@ -1,6 +1,7 @@
 //! The texts of galleys.
 
-use crate::slugs::slugs_of;
+use crate::files::Job;
+use crate::slugs::{set_job, slugs_of};
 use code_table::Name;
 use fixtures::{FLOOD, HARVEST, LIGATURE};
 use line_check::{Kind, Piece, Pieces, Slug, galley};
@@ -29,6 +30,9 @@ const GALLEYS: &[(&[u8], &str)] = &[
     (&[2, 2, 3, 2, 2, 4], "0001 J 0 0 b b _6 b b\n"),
     (&[11, 11, 3, 11, 11, 4], "0001 J 0 0 fi fi _2 fi fi\n"),
     (&[1, 1, 1, 1, 1, 1, 4], "0001 J 0 0 a a a a a a\n"),
+    // three bands: of 10 units that are left the first takes one more, of 8 the first two
+    (&[1, 3, 1, 3, 1, 3, 1, 4], "0001 J 0 0 a _4 a _3 a _3 a\n"),
+    (&[1, 3, 1, 3, 2, 3, 2, 4], "0001 J 0 0 a _3 a _3 b _2 b\n"),
     // quadded
     (HARVEST, "0001 C 10 11 B\n0002 R 22 0 A\n"),
     (&[8, 1, 10, 9, 2, 7, 4], "0001 L 0 17 ^a ~2 b\n"),
@@ -49,6 +53,24 @@ fn galleys(rt: HostRuntime) {
     for (frames, text) in GALLEYS {
         assert!(rt; sets(rt.alloc(), frames, text), "{text}");
     }
+}
+
+/// Whether the text is the galley of these frames by the example's table, in which frame 0 is an en space.
+fn sets_with_en(alloc: Global, frames: &[u8], text: &str) -> bool {
+    match Job::with_en(alloc, frames) {
+        Some(job) => match set_job(alloc, &job) {
+            Ok(slugs) => is_galley(alloc, &slugs, text),
+            Err(_) => false,
+        },
+        None => false,
+    }
+}
+
+/// The three fixed spaces: thin, em and en, of 2, 10 and 5 units.
+#[test]
+fn fixed_spaces(rt: HostRuntime) {
+    let text = "0001 L 0 2 a ~2 b ~10 ~5\n";
+    assert!(rt; sets_with_en(rt.alloc(), &[1, 10, 2, 7, 5, 10, 6, 0, 4], text));
 }
 
 /// The flood story again and again, and ignored frames up to the most frames of a tape: 585 times, and one.

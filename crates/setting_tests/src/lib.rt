@@ -16,6 +16,10 @@ mod inputs;
 #[cfg(test)]
 mod lines;
 #[cfg(test)]
+mod random_tables;
+#[cfg(test)]
+mod random_widths;
+#[cfg(test)]
 mod slugs;
 #[cfg(test)]
 mod width_files;

@@ -10,7 +10,7 @@ use std::alloc::Global;
 use widths::Widths;
 
 /// The slugs of a tape.
-fn set_job(alloc: Global, job: &Job) -> Result<Vec<Slug>, SetError> {
+pub fn set_job(alloc: Global, job: &Job) -> Result<Vec<Slug>, SetError> {
     set(alloc, &job.table, &job.widths, &job.tape)
 }
 

@@ -10,7 +10,7 @@ use widths::{WidthFault, WidthKey, Widths};
 type Named = (&'static str, Option<u16>);
 
 /// The measure, the least and the greatest width of a band, and the widths of the thin, the en and the em space.
-fn measures_of(widths: &Widths) -> [u16; 6] {
+pub fn measures_of(widths: &Widths) -> [u16; 6] {
     [
         widths.measure(),
         widths.band_min(),

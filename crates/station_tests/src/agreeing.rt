@@ -2,8 +2,8 @@
 
 use crate::circuits::Act::{Deliver, Due, OfferFlood, OfferLigature};
 use crate::circuits::{
-    CALM, FLOOD_SET, Head, LIGATURE_SET, Line, Offered, Released, Story, WIDTHS_WITHOUT_FI, Way,
-    fails_at, plays,
+    CALM, FLOOD_BODY, FLOOD_REPORT, FLOOD_SET, LIGATURE_BODY, LIGATURE_SET, Line, NO_REPORT,
+    Offered, PREPARE, Released, Sent, Story, WIDTHS_WITHOUT_FI, Way, fails_at, plays,
 };
 use fixtures::{FLOOD, LIGATURE};
 use line_check::{Cause, SetFault};
@@ -20,17 +20,16 @@ const THREE: Story = Story {
         Line(Deliver(9), 3, 10, 0, false, "heard 1.1"),
         Line(Deliver(7), 3, 10, 0, true, "heard 1.1"),
     ],
-    sent: 9,
-    heads: &[
-        Head(1, 1, 1, 2, (1, 1)),
-        Head(2, 1, 1, 3, (1, 1)),
-        Head(3, 2, 2, 1, (1, 1)),
-        Head(4, 3, 1, 2, (1, 1)),
-        Head(5, 3, 1, 3, (1, 1)),
-        Head(6, 4, 1, 2, (1, 1)),
-        Head(7, 4, 1, 3, (1, 1)),
-        Head(8, 4, 2, 1, (1, 1)),
-        Head(9, 4, 2, 3, (1, 1)),
+    sent: &[
+        Sent(1, 1, 2, (1, 1), PREPARE),
+        Sent(1, 1, 3, (1, 1), PREPARE),
+        Sent(2, 2, 1, (1, 1), NO_REPORT),
+        Sent(3, 1, 2, (1, 1), FLOOD_BODY),
+        Sent(3, 1, 3, (1, 1), FLOOD_BODY),
+        Sent(4, 1, 2, (1, 1), FLOOD_BODY),
+        Sent(4, 1, 3, (1, 1), FLOOD_BODY),
+        Sent(4, 2, 1, (1, 1), FLOOD_BODY),
+        Sent(4, 2, 3, (1, 1), FLOOD_BODY),
     ],
     offers: &[Offered(1, FLOOD)],
     releases: &[
@@ -55,19 +54,18 @@ const REPEATED: Story = Story {
         Line(Deliver(4), 2, 10, 2, false, "voted-again 1.1"),
         Line(Deliver(7), 3, 12, 0, false, "settled"),
     ],
-    sent: 11,
-    heads: &[
-        Head(1, 1, 1, 2, (1, 1)),
-        Head(2, 1, 1, 3, (1, 1)),
-        Head(3, 2, 2, 1, (1, 1)),
-        Head(4, 3, 1, 2, (1, 1)),
-        Head(5, 3, 1, 3, (1, 1)),
-        Head(6, 4, 1, 2, (1, 1)),
-        Head(7, 4, 1, 3, (1, 1)),
-        Head(8, 4, 2, 1, (1, 1)),
-        Head(9, 4, 2, 3, (1, 1)),
-        Head(10, 4, 2, 1, (1, 1)),
-        Head(11, 4, 2, 3, (1, 1)),
+    sent: &[
+        Sent(1, 1, 2, (1, 1), PREPARE),
+        Sent(1, 1, 3, (1, 1), PREPARE),
+        Sent(2, 2, 1, (1, 1), NO_REPORT),
+        Sent(3, 1, 2, (1, 1), FLOOD_BODY),
+        Sent(3, 1, 3, (1, 1), FLOOD_BODY),
+        Sent(4, 1, 2, (1, 1), FLOOD_BODY),
+        Sent(4, 1, 3, (1, 1), FLOOD_BODY),
+        Sent(4, 2, 1, (1, 1), FLOOD_BODY),
+        Sent(4, 2, 3, (1, 1), FLOOD_BODY),
+        Sent(4, 2, 1, (1, 1), FLOOD_BODY),
+        Sent(4, 2, 3, (1, 1), FLOOD_BODY),
     ],
     ..THREE
 };
@@ -85,9 +83,26 @@ const REPORTED: Story = Story {
         Line(Deliver(14), 2, 17, 2, false, "voted 1.3"),
         Line(Deliver(18), 3, 19, 0, true, "heard 1.3"),
     ],
-    sent: 18,
-    heads: &[Head(13, 3, 3, 1, (1, 3)), Head(14, 3, 3, 2, (1, 3))],
-    tail: Some((14, FLOOD)),
+    sent: &[
+        Sent(1, 1, 2, (1, 1), PREPARE),
+        Sent(1, 1, 3, (1, 1), PREPARE),
+        Sent(2, 2, 1, (1, 1), NO_REPORT),
+        Sent(3, 1, 2, (1, 1), FLOOD_BODY),
+        Sent(3, 1, 3, (1, 1), FLOOD_BODY),
+        Sent(4, 1, 2, (1, 1), FLOOD_BODY),
+        Sent(4, 1, 3, (1, 1), FLOOD_BODY),
+        Sent(4, 2, 1, (1, 1), FLOOD_BODY),
+        Sent(4, 2, 3, (1, 1), FLOOD_BODY),
+        Sent(1, 3, 1, (1, 3), PREPARE),
+        Sent(1, 3, 2, (1, 3), PREPARE),
+        Sent(2, 2, 3, (1, 3), FLOOD_REPORT),
+        Sent(3, 3, 1, (1, 3), FLOOD_BODY),
+        Sent(3, 3, 2, (1, 3), FLOOD_BODY),
+        Sent(4, 3, 1, (1, 3), FLOOD_BODY),
+        Sent(4, 3, 2, (1, 3), FLOOD_BODY),
+        Sent(4, 2, 1, (1, 3), FLOOD_BODY),
+        Sent(4, 2, 3, (1, 3), FLOOD_BODY),
+    ],
     offers: &[Offered(1, FLOOD), Offered(3, LIGATURE)],
     releases: &[Released(3, FLOOD, Ok(FLOOD_SET))],
     ..CALM
@@ -104,7 +119,13 @@ const TWO: Story = Story {
         Line(Deliver(3), 2, 5, 1, true, "voted 1.1"),
         Line(Deliver(5), 1, 6, 0, true, "heard 1.1"),
     ],
-    sent: 5,
+    sent: &[
+        Sent(1, 1, 2, (1, 1), PREPARE),
+        Sent(2, 2, 1, (1, 1), NO_REPORT),
+        Sent(3, 1, 2, (1, 1), FLOOD_BODY),
+        Sent(4, 1, 2, (1, 1), FLOOD_BODY),
+        Sent(4, 2, 1, (1, 1), FLOOD_BODY),
+    ],
     offers: &[Offered(1, FLOOD)],
     releases: &[
         Released(2, FLOOD, Ok(FLOOD_SET)),
@@ -125,7 +146,13 @@ const UNSET: Story = Story {
         Line(Deliver(4), 2, 6, 0, true, "heard 1.1"),
         Line(Deliver(5), 1, 6, 0, true, "heard 1.1"),
     ],
-    sent: 5,
+    sent: &[
+        Sent(1, 1, 2, (1, 1), PREPARE),
+        Sent(2, 2, 1, (1, 1), NO_REPORT),
+        Sent(3, 1, 2, (1, 1), LIGATURE_BODY),
+        Sent(4, 1, 2, (1, 1), LIGATURE_BODY),
+        Sent(4, 2, 1, (1, 1), LIGATURE_BODY),
+    ],
     offers: &[Offered(1, LIGATURE)],
     releases: &[
         Released(

@@ -1,9 +1,9 @@
 //! One station: what it answers, what it refuses, and what its saved rows make of a restart.
 
-use crate::benches::Act::{Arm, Due, Offer, Receive, Restart, Seek};
-use crate::benches::Ends::{Done, Refused};
+use crate::benches::Act::{Arm, Due, Offer, Receive, Refuse, Restart, Seek};
+use crate::benches::Ends::{Always, Done, Refused};
 use crate::benches::{
-    ALONE, FIRST, Left, OFFER, Open, QUIET, SECOND, Story, Turn, fails_at, is_no_member,
+    ALONE, FIRST, Left, OFFER, Open, QUIET, SECOND, Story, Turn, are_no_members, fails_at,
 };
 use fixtures::FLOOD;
 use line_check::{Cause, SetFault};
@@ -112,6 +112,107 @@ const SAVES: &[Story] = &[
         ..ALONE
     },
 ];
+
+/// The row could not be read for this reason, and the station stops.
+const DAMAGED: Turn = Turn {
+    ends: Refused(StepRefusal::Store(RowsFault::Damaged { number: 12 })),
+    ..STOPPED
+};
+
+const NO_MEMORY: Turn = Turn {
+    ends: Refused(StepRefusal::Store(RowsFault::OutOfMemory)),
+    ..STOPPED
+};
+
+/// A member of three whose rows are not read: each reason comes to a refusal of its own, each kind of step meets one,
+/// and then nothing is done until the member starts again; its rows are as they were. What is refused or idle before
+/// the rows are asked stays so.
+const UNREAD: &[Story] = &[Story {
+    turns: &[
+        Turn {
+            act: Refuse(RowsFault::Damaged { number: 12 }),
+            ..QUIET
+        },
+        Turn {
+            act: Offer(0, FLOOD),
+            ends: Refused(StepRefusal::BadNumber),
+            ..QUIET
+        },
+        Turn {
+            act: Receive(&TO_MEMBER_3),
+            ends: Refused(StepRefusal::NotForMe),
+            ..QUIET
+        },
+        Turn {
+            act: Due(0),
+            ends: Done("idle"),
+            ..QUIET
+        },
+        DAMAGED,
+        Turn {
+            act: Receive(&PREPARE),
+            ends: Refused(StepRefusal::Stopped),
+            ..STOPPED
+        },
+        Turn {
+            act: Restart,
+            ..QUIET
+        },
+        Turn {
+            act: Refuse(RowsFault::Store),
+            ..QUIET
+        },
+        Turn {
+            act: Receive(&PREPARE),
+            ..STOPPED
+        },
+        Turn {
+            act: Restart,
+            ..QUIET
+        },
+        Turn {
+            act: Refuse(RowsFault::OutOfMemory),
+            ..QUIET
+        },
+        Turn {
+            act: Seek,
+            ..NO_MEMORY
+        },
+        Turn {
+            act: Restart,
+            ..QUIET
+        },
+        // blank still: with a promise of its own, or a vote, this would be silent, denied or reported
+        Turn {
+            act: Receive(&PREPARE),
+            ends: Done("promised 1.1"),
+            sent: 1,
+            datagram: Some((1, &PROMISE)),
+            ..QUIET
+        },
+        Turn {
+            ends: Done("began 2.2"),
+            open: Open::At(2, 2),
+            ..OFFER
+        },
+        Turn {
+            act: Refuse(RowsFault::Damaged { number: 12 }),
+            ends: Always,
+            open: Open::At(2, 2),
+            ..QUIET
+        },
+        Turn {
+            act: Due(330),
+            ..DAMAGED
+        },
+        Turn {
+            act: Restart,
+            ..QUIET
+        },
+    ],
+    left: Left::Promise(2, 2),
+    ..SECOND
+}];
 
 const STEPS: &[Story] = &[
     // Offers that are refused: no ballot is left above the saved promise; the number is none, or open; the tape ends
@@ -246,13 +347,23 @@ fn what_was_saved_is_found(rt: HostRuntime) {
 }
 
 #[test]
+fn rows_that_are_not_read(rt: HostRuntime) {
+    for story in UNREAD {
+        assert!(rt; fails_at(rt.alloc(), story).is_none());
+    }
+}
+
+#[test]
 fn what_is_offered_comes_or_is_due(rt: HostRuntime) {
     for (place, story) in STEPS.iter().enumerate() {
         assert!(rt; fails_at(rt.alloc(), story).is_none(), "{place}");
     }
 }
 
+/// Members and counts of circuits that have no such member, or more members than a circuit can have.
+const NO_MEMBERS: &[(u8, u8)] = &[(4, 3), (0, 3), (0, 0), (1, 0), (3, 16), (16, 16)];
+
 #[test]
 fn no_such_member(rt: HostRuntime) {
-    assert!(rt; is_no_member(rt.alloc()) == Some(true));
+    assert!(rt; are_no_members(rt.alloc(), NO_MEMBERS) == Some(true));
 }

@@ -1,11 +1,12 @@
 //! Stories of one station: what is done to it, and what has to come of it.
 
 use crate::endings::is_note;
+use crate::unread::Unread;
 use ballots::{Ballot, Member, Number, Row};
 use code_table::CodeTable;
 use fixtures::{CODES, FLOOD, WIDTHS};
-use saved_rows::{Balky, MemoryRows};
-use station::{Answer, Datagram, Release, Station, StepRefusal};
+use saved_rows::{Balky, MemoryRows, RowsFault};
+use station::{Answer, BadMember, Datagram, Release, Station, StepRefusal};
 use std::alloc::Global;
 use tape_frames::Tape;
 use widths::Widths;
@@ -19,6 +20,8 @@ pub enum Act {
     Receive(&'static [u8]),
     /// Its next save is refused, after it was passed on where this says so.
     Arm(bool),
+    /// Its rows are then not read, for this reason.
+    Refuse(RowsFault),
     Restart,
 }
 
@@ -119,7 +122,7 @@ pub const FIRST: Story = Story {
 /// Member 2 of three with blank rows.
 pub const SECOND: Story = Story { me: 2, ..FIRST };
 
-type Bench = Station<Balky<MemoryRows>>;
+type Bench = Station<Unread<Balky<MemoryRows>>>;
 
 fn ballot(round: u32, owner: u8) -> Option<Ballot> {
     Ballot::new(round, Member::new(owner)?)
@@ -137,11 +140,17 @@ fn rows_with(alloc: Global, promised: Option<(u32, u8)>) -> Option<MemoryRows> {
     Some(rows)
 }
 
-/// The station of a story, before its turns.
-fn bench_of(alloc: Global, story: &Story) -> Option<Bench> {
+/// A code table and widths.
+fn setting(alloc: Global) -> Option<(CodeTable, Widths)> {
     let table = CodeTable::read(alloc, CODES).ok()?;
     let widths = Widths::read(alloc, WIDTHS).ok()?;
-    let rows = Balky::new(rows_with(alloc, story.promised)?);
+    Some((table, widths))
+}
+
+/// The station of a story, before its turns.
+fn bench_of(alloc: Global, story: &Story) -> Option<Bench> {
+    let (table, widths) = setting(alloc)?;
+    let rows = Unread::new(Balky::new(rows_with(alloc, story.promised)?));
     Station::new(alloc, 7, story.me, story.members, table, widths, rows).ok()
 }
 
@@ -203,6 +212,10 @@ fn acts(alloc: Global, bench: &mut Bench, turn: &Turn) -> bool {
             bench.rows_mut().arm(saved);
             return true;
         }
+        Act::Refuse(fault) => {
+            bench.rows_mut().refuse(fault);
+            return true;
+        }
         Act::Restart => {
             bench.restart();
             return true;
@@ -239,10 +252,10 @@ fn is_promise(row: &Row, round: u32, owner: u8) -> bool {
 fn leaves(bench: Bench, number: Number, left: Left) -> bool {
     match left {
         Left::Unasked => true,
-        Left::Row => bench.rows().rows().row(number).is_some(),
+        Left::Row => bench.rows().rows().rows().row(number).is_some(),
         Left::Promise(round, owner) => {
-            let rows = bench.into_rows().into_rows();
-            match rows.row(number) {
+            let rows = bench.into_rows();
+            match rows.rows().rows().row(number) {
                 Some(row) => is_promise(row, round, owner),
                 None => false,
             }
@@ -277,14 +290,26 @@ pub fn fails_at(alloc: Global, story: &Story) -> Option<usize> {
     }
 }
 
-/// Whether a station that is no member of its circuit is refused, and its parts, handed back, make none of a circuit
-/// that is too large either.
-pub fn is_no_member(alloc: Global) -> Option<bool> {
-    let table = CodeTable::read(alloc, CODES).ok()?;
-    let widths = Widths::read(alloc, WIDTHS).ok()?;
+/// What a station that is no member of its circuit was made of, handed back; nothing where it is a member.
+fn handed_back(
+    alloc: Global,
+    (me, members): (u8, u8),
+    parts: BadMember<MemoryRows>,
+) -> Option<BadMember<MemoryRows>> {
+    Station::new(alloc, 7, me, members, parts.table, parts.widths, parts.rows).err()
+}
+
+/// Whether stations that are no members of their circuits are refused, each made of what the one before handed back.
+pub fn are_no_members(alloc: Global, cases: &[(u8, u8)]) -> Option<bool> {
+    let (table, widths) = setting(alloc)?;
     let rows = MemoryRows::new(alloc);
-    Some(match Station::new(alloc, 7, 4, 3, table, widths, rows) {
-        Ok(_) => false,
-        Err(bad) => Station::new(alloc, 7, 3, 16, bad.table, bad.widths, bad.rows).is_err(),
-    })
+    let mut parts = BadMember {
+        table,
+        widths,
+        rows,
+    };
+    for case in cases {
+        parts = handed_back(alloc, *case, parts)?;
+    }
+    Some(true)
 }

@@ -6,6 +6,7 @@ use code_table::CodeTable;
 use fixtures::{CODES, FLOOD, LIGATURE, WIDTHS};
 use line_check::{SetFault, galley};
 use saved_rows::MemoryRows;
+use station::Datagram;
 use std::alloc::Global;
 use tape_frames::Tape;
 use widths::Widths;
@@ -48,9 +49,23 @@ pub struct Line(
     pub &'static str,
 );
 
-/// A datagram by its place from 1: its kind, its sender, its addressee, and the round and owner of its ballot.
+/// A datagram of number 12: its kind, its sender, its addressee, the round and owner of its ballot, and its body.
 #[derive(Clone, Copy)]
-pub struct Head(pub usize, pub u8, pub u8, pub u8, pub (u8, u8));
+pub struct Sent(pub u8, pub u8, pub u8, pub (u8, u8), pub &'static [u8]);
+
+/// The bodies of datagrams. A Prepare has none; a Promise reports no vote, or one for the flood story at 1.1.
+pub const PREPARE: &[u8] = &[];
+
+pub const NO_REPORT: &[u8] = &[0];
+
+pub const FLOOD_REPORT: &[u8] = &[1, 0, 0, 0, 1, 1, 0, 7, 1, 2, 3, 1, 3, 2, 4];
+
+/// An Accept and an Accepted have the length of the tape, and the tape; a Nack has what was promised, here 1.3.
+pub const FLOOD_BODY: &[u8] = &[0, 7, 1, 2, 3, 1, 3, 2, 4];
+
+pub const LIGATURE_BODY: &[u8] = &[0, 7, 1, 2, 3, 1, 3, 11, 4];
+
+pub const PROMISED_1_3: &[u8] = &[0, 0, 0, 1, 3];
 
 /// An offer for number 12: the member and the frames.
 #[derive(Clone, Copy)]
@@ -64,16 +79,14 @@ pub struct Released(
     pub Result<&'static str, SetFault>,
 );
 
-/// A circuit of so many members, the last with these widths; its steps; and what its logs then have: how many datagrams,
-/// some of them, the frames that one of them ends with, all offers and all releases; and the open ballot of member 1.
+/// A circuit of so many members, the last with these widths; its steps; and what its logs then have: all datagrams in
+/// order, all offers and all releases; and the open ballot of member 1.
 #[derive(Clone, Copy)]
 pub struct Story {
     pub members: u8,
     pub last: &'static str,
     pub lines: &'static [Line],
-    pub sent: usize,
-    pub heads: &'static [Head],
-    pub tail: Option<(usize, &'static [u8])>,
+    pub sent: &'static [Sent],
     pub offers: &'static [Offered],
     pub releases: &'static [Released],
     pub open: Option<Option<(u32, u8)>>,
@@ -86,16 +99,14 @@ pub const CALM: Story = Story {
     members: 3,
     last: WIDTHS,
     lines: &[],
-    sent: 0,
-    heads: &[],
-    tail: None,
+    sent: &[],
     offers: &[],
     releases: &[],
     open: None,
     stop: None,
 };
 
-type Circuit = World<MemoryRows>;
+pub type Circuit = World<MemoryRows>;
 
 /// A member's code table, and these widths.
 fn pair(alloc: Global, widths: &str) -> Option<(CodeTable, Widths)> {
@@ -105,7 +116,7 @@ fn pair(alloc: Global, widths: &str) -> Option<(CodeTable, Widths)> {
 }
 
 /// The code tables and the widths of so many members, the last of them with these widths.
-fn pairs(alloc: Global, members: u8, last: &str) -> Option<Vec<(CodeTable, Widths)>> {
+pub fn settings(alloc: Global, members: u8, last: &str) -> Option<Vec<(CodeTable, Widths)>> {
     let mut pairs = Vec::new(alloc);
     for member in 0..members {
         let is_last = u32::from(member) + 1 == u32::from(members);
@@ -116,9 +127,13 @@ fn pairs(alloc: Global, members: u8, last: &str) -> Option<Vec<(CodeTable, Width
 }
 
 /// The same, each with blank rows.
-fn parts(alloc: Global, members: u8, last: &str) -> Option<Vec<(CodeTable, Widths, MemoryRows)>> {
+pub fn parts(
+    alloc: Global,
+    members: u8,
+    last: &str,
+) -> Option<Vec<(CodeTable, Widths, MemoryRows)>> {
     let mut parts = Vec::new(alloc);
-    for (table, widths) in pairs(alloc, members, last)? {
+    for (table, widths) in settings(alloc, members, last)? {
         parts.push((table, widths, MemoryRows::new(alloc))).ok()?;
     }
     Some(parts)
@@ -197,33 +212,27 @@ fn steps_of(alloc: Global, lines: &[Line]) -> Option<Vec<Step>> {
     Some(steps)
 }
 
-/// Whether a datagram was sent with this head, of number 12 of circuit 7.
-fn is_sent(world: &Circuit, head: &Head) -> bool {
-    let Head(place, kind, from, to, (round, owner)) = *head;
-    let bytes = [
+/// Whether this is the datagram that is told, byte for byte.
+fn is_told(datagram: &Datagram, told: &Sent) -> bool {
+    let Sent(kind, from, to, (round, owner), body) = *told;
+    let head = [
         0x54, 0x4e, 1, kind, 0, 7, from, to, 0, 0, 0, 12, 0, 0, 0, round, owner,
     ];
-    match world.sent().get(place.saturating_sub(1)) {
-        Some(datagram) => datagram.to().get() == to && datagram.bytes().starts_with(&bytes),
-        None => false,
-    }
+    let bytes = datagram.bytes();
+    datagram.to().get() == to
+        && bytes.len() == head.len().saturating_add(body.len())
+        && bytes.starts_with(&head)
+        && bytes.ends_with(body)
 }
 
-/// Whether so many datagrams were sent, and those that are told among them.
-fn has_sent(world: &Circuit, story: &Story) -> bool {
-    for head in story.heads {
-        if !is_sent(world, head) {
+/// Whether these are the datagrams.
+fn are_sent(datagrams: &[Datagram], told: &[Sent]) -> bool {
+    for (datagram, told) in datagrams.iter().zip(told) {
+        if !is_told(datagram, told) {
             return false;
         }
     }
-    let ends = match story.tail {
-        None => true,
-        Some((place, frames)) => match world.sent().get(place.saturating_sub(1)) {
-            Some(datagram) => datagram.bytes().ends_with(frames),
-            None => false,
-        },
-    };
-    ends && world.sent().len() == story.sent
+    datagrams.len() == told.len()
 }
 
 /// Whether these are the offers.
@@ -238,7 +247,7 @@ fn are_offers(logs: &[OfferLog], told: &[Offered]) -> bool {
 }
 
 /// Whether a release set as this text, or has this fault.
-fn is_set(alloc: Global, log: &ReleaseLog, told: Result<&str, SetFault>) -> bool {
+pub fn is_set(alloc: Global, log: &ReleaseLog, told: Result<&str, SetFault>) -> bool {
     match (log.set(), told) {
         (Ok(slugs), Ok(text)) => {
             let mut out = Vec::new(alloc);
@@ -281,7 +290,7 @@ fn has_logged(alloc: Global, world: &Circuit, story: &Story) -> bool {
     };
     same_open
         && has_members(world, story.members)
-        && has_sent(world, story)
+        && are_sent(world.sent(), story.sent)
         && are_offers(world.offers(), story.offers)
         && are_releases(alloc, world.releases(), story.releases)
 }
@@ -389,7 +398,7 @@ pub fn fails_at(alloc: Global, story: &Story, way: Way) -> Option<usize> {
 
 /// Whether the steps of a story, played from the beginning of its circuit, leave the logs as they have to be.
 pub fn plays(alloc: Global, story: &Story) -> Option<bool> {
-    let members = pairs(alloc, story.members, story.last)?;
+    let members = settings(alloc, story.members, story.last)?;
     let steps = steps_of(alloc, story.lines)?;
     let played = play_in_memory(alloc, 7, members, steps.as_slice()).ok()?;
     Some(played.run.err() == story.stop && has_logged(alloc, &played.world, story))
@@ -397,7 +406,7 @@ pub fn plays(alloc: Global, story: &Story) -> Option<bool> {
 
 /// Whether a circuit of this many members is not played, for their count.
 pub fn is_unplayed(alloc: Global, members: u8) -> Option<bool> {
-    let members = pairs(alloc, members, WIDTHS)?;
+    let members = settings(alloc, members, WIDTHS)?;
     match play_in_memory(alloc, 7, members, &[]) {
         Err(fault) => Some(fault == PlayFault::BadCount),
         Ok(_) => Some(false),

@@ -4,11 +4,15 @@
 #[cfg(test)]
 mod agreeing;
 #[cfg(test)]
+mod agreement;
+#[cfg(test)]
 mod alone;
 #[cfg(test)]
 mod benches;
 #[cfg(test)]
 mod circuits;
+#[cfg(test)]
+mod dice;
 #[cfg(test)]
 mod endings;
 #[cfg(test)]
@@ -17,3 +21,7 @@ mod failing;
 mod passing;
 #[cfg(test)]
 mod refusing;
+#[cfg(test)]
+mod scripts;
+#[cfg(test)]
+mod unread;

@@ -1,7 +1,9 @@
 //! Ballots that pass one another, are repeated, begun anew or given up.
 
 use crate::circuits::Act::{Deliver, Due, OfferFlood, OfferLigature, Restart};
-use crate::circuits::{CALM, Head, Line, Offered, Story, Way, fails_at};
+use crate::circuits::{
+    CALM, FLOOD_BODY, Line, NO_REPORT, Offered, PREPARE, PROMISED_1_3, Sent, Story, Way, fails_at,
+};
 use fixtures::{FLOOD, LIGATURE};
 
 /// The ballot after a restart is above the one that the restart forgot.
@@ -11,8 +13,12 @@ const AFRESH: Story = Story {
         Line(Restart(1), 1, 3, 0, false, "restarted"),
         Line(OfferLigature(1), 1, 3, 2, false, "began 2.1"),
     ],
-    sent: 4,
-    heads: &[Head(3, 1, 1, 2, (2, 1)), Head(4, 1, 1, 3, (2, 1))],
+    sent: &[
+        Sent(1, 1, 2, (1, 1), PREPARE),
+        Sent(1, 1, 3, (1, 1), PREPARE),
+        Sent(1, 1, 2, (2, 1), PREPARE),
+        Sent(1, 1, 3, (2, 1), PREPARE),
+    ],
     offers: &[Offered(1, FLOOD), Offered(1, LIGATURE)],
     ..CALM
 };
@@ -29,8 +35,16 @@ const DENIED: Story = Story {
         Line(Due(1, 289), 1, 7, 0, false, "idle"),
         Line(Due(1, 290), 1, 7, 2, false, "began 2.1"),
     ],
-    sent: 8,
-    heads: &[Head(6, 5, 2, 1, (1, 1))],
+    sent: &[
+        Sent(1, 3, 1, (1, 3), PREPARE),
+        Sent(1, 3, 2, (1, 3), PREPARE),
+        Sent(2, 2, 3, (1, 3), NO_REPORT),
+        Sent(1, 1, 2, (1, 1), PREPARE),
+        Sent(1, 1, 3, (1, 1), PREPARE),
+        Sent(5, 2, 1, (1, 1), PROMISED_1_3),
+        Sent(1, 1, 2, (2, 1), PREPARE),
+        Sent(1, 1, 3, (2, 1), PREPARE),
+    ],
     offers: &[Offered(3, FLOOD), Offered(1, LIGATURE)],
     ..CALM
 };
@@ -45,7 +59,15 @@ const ONCE: Story = Story {
         Line(Deliver(7), 3, 8, 0, false, "heard 1.1"),
         Line(Deliver(7), 3, 8, 0, false, "heard 1.1"),
     ],
-    sent: 7,
+    sent: &[
+        Sent(1, 1, 2, (1, 1), PREPARE),
+        Sent(1, 1, 3, (1, 1), PREPARE),
+        Sent(2, 2, 1, (1, 1), NO_REPORT),
+        Sent(3, 1, 2, (1, 1), FLOOD_BODY),
+        Sent(3, 1, 3, (1, 1), FLOOD_BODY),
+        Sent(4, 1, 2, (1, 1), FLOOD_BODY),
+        Sent(4, 1, 3, (1, 1), FLOOD_BODY),
+    ],
     offers: &[Offered(1, FLOOD)],
     ..CALM
 };
@@ -59,7 +81,14 @@ const PASSED: Story = Story {
         Line(Deliver(4), 1, 6, 1, false, "promised 1.3"),
         Line(Deliver(3), 1, 7, 0, false, "overtaken 1.1"),
     ],
-    sent: 6,
+    sent: &[
+        Sent(1, 1, 2, (1, 1), PREPARE),
+        Sent(1, 1, 3, (1, 1), PREPARE),
+        Sent(2, 2, 1, (1, 1), NO_REPORT),
+        Sent(1, 3, 1, (1, 3), PREPARE),
+        Sent(1, 3, 2, (1, 3), PREPARE),
+        Sent(2, 1, 3, (1, 3), NO_REPORT),
+    ],
     offers: &[Offered(1, FLOOD), Offered(3, LIGATURE)],
     open: Some(Some((1, 1))),
     ..CALM
@@ -103,7 +132,40 @@ const GIVEN_UP: Story = Story {
         Line(Due(1, 8_990), 1, 32, 1, false, "began 32.1"),
         Line(Due(1, 9_280), 1, 33, 0, false, "gave-up 32.1"),
     ],
-    sent: 32,
+    sent: &[
+        Sent(1, 1, 2, (1, 1), PREPARE),
+        Sent(1, 1, 2, (2, 1), PREPARE),
+        Sent(1, 1, 2, (3, 1), PREPARE),
+        Sent(1, 1, 2, (4, 1), PREPARE),
+        Sent(1, 1, 2, (5, 1), PREPARE),
+        Sent(1, 1, 2, (6, 1), PREPARE),
+        Sent(1, 1, 2, (7, 1), PREPARE),
+        Sent(1, 1, 2, (8, 1), PREPARE),
+        Sent(1, 1, 2, (9, 1), PREPARE),
+        Sent(1, 1, 2, (10, 1), PREPARE),
+        Sent(1, 1, 2, (11, 1), PREPARE),
+        Sent(1, 1, 2, (12, 1), PREPARE),
+        Sent(1, 1, 2, (13, 1), PREPARE),
+        Sent(1, 1, 2, (14, 1), PREPARE),
+        Sent(1, 1, 2, (15, 1), PREPARE),
+        Sent(1, 1, 2, (16, 1), PREPARE),
+        Sent(1, 1, 2, (17, 1), PREPARE),
+        Sent(1, 1, 2, (18, 1), PREPARE),
+        Sent(1, 1, 2, (19, 1), PREPARE),
+        Sent(1, 1, 2, (20, 1), PREPARE),
+        Sent(1, 1, 2, (21, 1), PREPARE),
+        Sent(1, 1, 2, (22, 1), PREPARE),
+        Sent(1, 1, 2, (23, 1), PREPARE),
+        Sent(1, 1, 2, (24, 1), PREPARE),
+        Sent(1, 1, 2, (25, 1), PREPARE),
+        Sent(1, 1, 2, (26, 1), PREPARE),
+        Sent(1, 1, 2, (27, 1), PREPARE),
+        Sent(1, 1, 2, (28, 1), PREPARE),
+        Sent(1, 1, 2, (29, 1), PREPARE),
+        Sent(1, 1, 2, (30, 1), PREPARE),
+        Sent(1, 1, 2, (31, 1), PREPARE),
+        Sent(1, 1, 2, (32, 1), PREPARE),
+    ],
     offers: &[Offered(1, FLOOD)],
     open: Some(None),
     ..CALM

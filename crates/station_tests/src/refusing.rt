@@ -2,7 +2,8 @@
 
 use crate::circuits::Act::{Deliver, OfferFlood, Seek};
 use crate::circuits::{
-    CALM, Line, Offered, Story, Way, fails_at, is_handed_back, is_unplayed, plays,
+    CALM, Line, NO_REPORT, Offered, PREPARE, Sent, Story, Way, fails_at, is_handed_back,
+    is_unplayed, plays,
 };
 use fixtures::FLOOD;
 use world::{RunStop, WorldRefusal};
@@ -38,7 +39,10 @@ const OPEN: Story = Story {
         Line(OfferFlood(1), 1, 1, 2, false, "began 1.1"),
         Line(OfferFlood(1), 1, 3, 0, false, "refused already-open"),
     ],
-    sent: 2,
+    sent: &[
+        Sent(1, 1, 2, (1, 1), PREPARE),
+        Sent(1, 1, 3, (1, 1), PREPARE),
+    ],
     offers: &[Offered(1, FLOOD)],
     ..CALM
 };
@@ -53,7 +57,11 @@ const TOO_EARLY: &[Story] = &[Story {
         Line(Deliver(4), 0, 0, 0, false, "no-such-datagram"),
         Line(Deliver(3), 1, 4, 4, false, "proposed 1.1"),
     ],
-    sent: 3,
+    sent: &[
+        Sent(1, 1, 2, (1, 1), PREPARE),
+        Sent(1, 1, 3, (1, 1), PREPARE),
+        Sent(2, 2, 1, (1, 1), NO_REPORT),
+    ],
     offers: &[Offered(1, FLOOD)],
     stop: Some(RunStop {
         at: 2,
@@ -70,6 +78,10 @@ fn steps_that_there_are_not(rt: HostRuntime) {
             "{place}"
         );
     }
+}
+
+#[test]
+fn a_run_stops_before_what_there_is_not(rt: HostRuntime) {
     for story in TOO_EARLY {
         assert!(rt; fails_at(rt.alloc(), story, Way::Run).is_none());
         assert!(rt; plays(rt.alloc(), story) == Some(true));

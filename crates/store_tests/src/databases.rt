@@ -3,9 +3,8 @@
 use crate::deeds::Deed;
 use crate::memory::TWO;
 use crate::samples::{PROMISED, Sample, VOTED};
-use crate::sessions::{Listing, MADE, Manner, OPENED, STATION, Session, played};
+use crate::sessions::{Listing, MADE, Manner, OPENED, STATION, Session, told};
 use saved_rows::{Identity, RowsFault};
-use std::alloc::Global;
 
 const BOTH: Listing = Listing::Rows(&[(3, PROMISED), (12, VOTED)]);
 
@@ -91,7 +90,7 @@ const STOPPED: &[Session] = &[
             Deed::Refused(12, RowsFault::Store),
             Deed::Put(12, PROMISED, Some(RowsFault::Store)),
         ],
-        listing: Listing::Refused,
+        listing: Listing::Refused(RowsFault::Store),
         ..MADE
     },
     Session {
@@ -166,16 +165,6 @@ const STORIES: &[&[Session]] = &[
     LONGEST_STATED,
     TOO_LONG,
 ];
-
-/// The place of the first of these stories that goes otherwise; how many there are where none does.
-fn told(alloc: Global, stories: &[&[Session]]) -> usize {
-    for (place, sessions) in stories.iter().enumerate() {
-        if played(alloc, sessions) != Some(sessions.len()) {
-            return place;
-        }
-    }
-    stories.len()
-}
 
 #[test]
 fn in_a_database(rt: HostRuntime) {

@@ -1,6 +1,6 @@
 //! What is done to saved rows of any kind, and what has to come of it.
 
-use crate::samples::{Sample, is_copied, is_row, long_row, row_of};
+use crate::samples::{Sample, is_copied, is_long_copied, is_long_row, is_row, long_row, row_of};
 use ballots::{Number, Row};
 use saved_rows::{Rows, RowsFault};
 use std::alloc::Global;
@@ -18,7 +18,7 @@ pub enum Deed {
     Refused(u32, RowsFault),
     /// A row with a tape of this many frames is saved under this number.
     PutLong(u32, usize),
-    /// The row under this number has a tape of this many frames.
+    /// The row under this number has that tape, and so has a copy of it.
     GetLong(u32, usize),
 }
 
@@ -41,20 +41,13 @@ fn puts_long<R: Rows>(alloc: Global, rows: &mut R, number: u32, frames: usize) -
     Some(rows.put(number, &row).is_ok())
 }
 
-/// How many frames the tape of a row's vote has; 0 without a vote.
-fn frames_of(row: &Row) -> usize {
-    match row.vote() {
-        None => 0,
-        Some(vote) => vote.tape().len(),
-    }
-}
-
 /// Whether the row that was read is the one of this deed.
 fn is_read(alloc: Global, row: &Row, deed: &Deed) -> bool {
     match deed {
         Deed::Get(_, sample) => is_row(row, sample.as_ref()),
         Deed::Copy(_, sample) => is_row(row, Some(sample)) && is_copied(alloc, row, sample),
-        Deed::GetLong(_, frames) => frames_of(row) == *frames,
+        Deed::GetLong(_, frames) => is_long_row(row, *frames)
+            && is_long_copied(alloc, row, *frames),
         _ => false,
     }
 }

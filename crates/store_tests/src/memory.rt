@@ -30,11 +30,15 @@ fn gives_and_takes(alloc: Global, rows: &mut MemoryRows) -> Option<bool> {
     Some(taken)
 }
 
-/// Whether two rows are saved in memory, lent, taken out and saved again.
+/// The longest tape is saved, and read back.
+const LONG: &[Deed] = &[Deed::PutLong(13, 4096), Deed::GetLong(13, 4096)];
+
+/// Whether two rows are saved in memory, lent, taken out and saved again, and then one with the longest tape.
 fn keeps_in_memory(alloc: Global) -> Option<bool> {
     let mut rows = MemoryRows::new(alloc);
     let saved = done(alloc, &mut rows, TWO) == TWO.len() && are_lent(&rows)?;
-    Some(saved && gives_and_takes(alloc, &mut rows)? && are_lent(&rows)?)
+    let again = saved && gives_and_takes(alloc, &mut rows)? && are_lent(&rows)?;
+    Some(again && done(alloc, &mut rows, LONG) == LONG.len())
 }
 
 #[test]

@@ -86,6 +86,38 @@ pub fn is_copied(alloc: Global, row: &Row, sample: &Sample) -> bool {
     }
 }
 
+/// Whether these are so many frames 63.
+fn are_long(frames: &[u8], count: usize) -> bool {
+    for frame in frames {
+        if *frame != 63 {
+            return false;
+        }
+    }
+    frames.len() == count
+}
+
+/// Whether a row is that of [`long_row`].
+pub fn is_long_row(row: &Row, count: usize) -> bool {
+    let votes = match row.vote() {
+        None => false,
+        Some(vote) => ballot_of((1, 1)) == Some(vote.ballot())
+            && are_long(vote.tape().frames(), count),
+    };
+    votes && row.promised().is_some() && row.promised() == ballot_of((1, 1))
+}
+
+/// Whether a copy of it is, and one of its vote.
+pub fn is_long_copied(alloc: Global, row: &Row, count: usize) -> bool {
+    let voted = match row.vote() {
+        None => false,
+        Some(vote) => is_vote_copied(alloc, vote),
+    };
+    match row.copy(alloc) {
+        Ok(copy) => voted && is_long_row(&copy, count),
+        Err(_) => false,
+    }
+}
+
 /// The row of a promise of 1.1 and a vote at it for this many frames 63.
 pub fn long_row(alloc: Global, frames: usize) -> Option<Row>
     ensures { IfSome result HasPromise }

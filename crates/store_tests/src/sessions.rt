@@ -4,9 +4,13 @@ use crate::deeds::{Deed, done};
 use crate::samples::{Sample, is_row};
 use acceptor_store::SqliteRows;
 use ballots::{Number, Row};
+use command_ends::End;
+use rows_command::print_rows;
 use saved_rows::{Identity, RowsFault};
 use sqlite::{Connection, MemStore, params};
 use std::alloc::Global;
+use std::io;
+use std::io::Write;
 
 /// Member 2 of 3 of circuit 7.
 pub const STATION: Identity = Identity {
@@ -31,12 +35,21 @@ pub enum Listing {
     Rows(&'static [(u32, Sample)]),
     /// So many rows.
     Count(usize),
-    /// Nothing: it is refused as the store's.
-    Refused,
+    /// Nothing: it is refused so.
+    Refused(RowsFault),
+}
+
+/// What `rows` prints to a writer that takes so many bytes: a front of the text, how it ends, and its fault.
+#[derive(Clone, Copy)]
+pub struct Print {
+    pub room: usize,
+    pub text: &'static str,
+    pub end: End,
+    pub fault: &'static str,
 }
 
 /// What is done to a database: statements, and one that saves a tape of so many frames 63 under 12, if of any; then the
-/// rows made or taken up, which may be refused; and, where they are not, deeds and a listing.
+/// rows made or taken up, which may be refused; and, where they are not, deeds, a listing, and what `rows` prints, each time.
 #[derive(Clone, Copy)]
 pub struct Session {
     pub statements: &'static str,
@@ -45,6 +58,7 @@ pub struct Session {
     pub refusal: Option<RowsFault>,
     pub deeds: &'static [Deed],
     pub listing: Listing,
+    pub prints: &'static [Print],
 }
 
 /// The rows are made, and none is saved.
@@ -55,6 +69,7 @@ pub const MADE: Session = Session {
     refusal: None,
     deeds: &[],
     listing: Listing::Rows(&[]),
+    prints: &[],
 };
 
 /// The rows are taken up for the station, and there is none.
@@ -78,16 +93,68 @@ fn is_listed(listed: Result<Vec<(Number, Row)>, RowsFault>, wanted: &Listing) ->
     match (listed, wanted) {
         (Ok(rows), Listing::Rows(wanted)) => are_rows(rows.as_slice(), wanted),
         (Ok(rows), Listing::Count(count)) => rows.len() == *count,
-        (Err(fault), Listing::Refused) => fault == RowsFault::Store,
+        (Err(fault), Listing::Refused(wanted)) => fault == *wanted,
         _ => false,
     }
 }
 
-/// Whether the rows are the station's, and answer and list as a session says.
+/// A writer that takes one byte a call, and at most so many.
+#[derive(Drop)]
+struct Slow {
+    taken: Vec<u8>,
+    room: usize,
+}
+
+impl Write for Slow {
+    fn write(&mut self, buf: &[u8]) -> io::Result<usize> {
+        if self.room == 0 {
+            return Ok(0);
+        }
+        match buf.first() {
+            None => Ok(0),
+            Some(byte) => {
+                self.taken.push(*byte)?;
+                self.room -= 1;
+                Ok(1)
+            }
+        }
+    }
+
+    fn flush(&mut self) -> io::Result<()> {
+        Ok(())
+    }
+}
+
+/// Whether `rows` prints so.
+fn is_printed(alloc: Global, rows: &mut SqliteRows<MemStore>, print: &Print) -> bool {
+    let mut out = Slow {
+        taken: Vec::new(alloc),
+        room: print.room,
+    };
+    let mut err = Vec::new(alloc);
+    let end = print_rows(alloc, rows, &mut out, &mut err);
+    print.text.as_bytes().starts_with(&out.taken)
+        && (out.taken.len() == print.text.len() || out.room == 0)
+        && end == print.end
+        && err.as_slice() == print.fault.as_bytes()
+}
+
+/// Whether it prints so each time.
+fn are_printed(alloc: Global, rows: &mut SqliteRows<MemStore>, prints: &[Print]) -> bool {
+    for print in prints {
+        if !is_printed(alloc, rows, print) {
+            return false;
+        }
+    }
+    true
+}
+
+/// Whether the rows are the station's, and answer, list and print as a session says.
 fn serves(alloc: Global, rows: &mut SqliteRows<MemStore>, session: &Session) -> bool {
     rows.identity() == STATION
         && done(alloc, rows, session.deeds) == session.deeds.len()
         && is_listed(rows.all(), &session.listing)
+        && are_printed(alloc, rows, session.prints)
 }
 
 /// Runs the statements of a session.
@@ -140,4 +207,14 @@ pub fn played(alloc: Global, sessions: &[Session]) -> Option<usize> {
         }
     }
     Some(sessions.len())
+}
+
+/// The place of the first of these stories that goes otherwise; how many there are where none does.
+pub fn told(alloc: Global, stories: &[&[Session]]) -> usize {
+    for (place, sessions) in stories.iter().enumerate() {
+        if played(alloc, sessions) != Some(sessions.len()) {
+            return place;
+        }
+    }
+    stories.len()
 }

@@ -1,7 +1,7 @@
 //! The first fault of bytes that are no packet. Where two faults stand, the one that comes first in the order is answered.
 
 use crate::samples::{
-    ACCEPT, ACCEPTED, NACK, PREPARE, PROMISE, REPORT, SHORT_REPORT, fails, long_report,
+    ACCEPT, ACCEPTED, LONG_REPORT, NACK, PREPARE, PROMISE, REPORT, SHORT_REPORT, fails, long_packet,
 };
 use packets::PacketFault;
 use std::alloc::Global;
@@ -146,7 +146,7 @@ fn first_faults(rt: HostRuntime) {
 }
 
 fn long_fails(alloc: Global, frames: usize, changes: &[(usize, u8)], fault: PacketFault) -> bool {
-    match long_report(alloc, frames) {
+    match long_packet(alloc, LONG_REPORT, frames) {
         Some(bytes) => fails(alloc, &bytes, changes, &[], Some(fault)),
         None => false,
     }

@@ -4,6 +4,8 @@
 #[cfg(test)]
 mod faults;
 #[cfg(test)]
+mod garbled;
+#[cfg(test)]
 mod packings;
 #[cfg(test)]
 mod rules;

@@ -77,6 +77,14 @@ fn zeros_are_packed(alloc: Global, length: u16, bytes: usize) -> Option<bool> {
     }
 }
 
+// Whether the most frames, of which each has all holes, are packed in bytes of which each bit is set, and unpacked again.
+fn longest_goes_both_ways(alloc: Global) -> Option<bool> {
+    match (vec![in alloc; 63u8; 4096], vec![in alloc; 255u8; 3072]) {
+        (Ok(frames), Ok(bytes)) => Some(goes_both_ways(alloc, &frames, &bytes)),
+        _ => None,
+    }
+}
+
 #[test]
 fn both_ways(rt: HostRuntime) {
     for (frames, bytes) in PACKINGS {
@@ -96,4 +104,5 @@ fn no_packed_tapes(rt: HostRuntime) {
 fn most_frames(rt: HostRuntime) {
     assert!(rt; zeros_are_packed(rt.alloc(), 4096, 3072) == Some(true));
     assert!(rt; zeros_are_packed(rt.alloc(), 4097, 3073) == Some(false));
+    assert!(rt; longest_goes_both_ways(rt.alloc()) == Some(true));
 }

@@ -33,8 +33,17 @@ pub const SHORT_REPORT: &[u8] = &[
 ];
 
 /// The front of such a report of 4,096 frames, as far as the length.
-const LONG_FRONT: &[u8] = &[
+pub const LONG_REPORT: &[u8] = &[
     0x54, 0x4e, 1, 2, 0, 7, 2, 3, 0, 0, 0, 12, 0, 0, 0, 1, 3, 1, 0, 0, 0, 1, 1, 0x10, 0,
+];
+
+/// The front of such an Accept, and of the vote that is told of then.
+pub const LONG_ACCEPT: &[u8] = &[
+    0x54, 0x4e, 1, 3, 0, 7, 1, 2, 0, 0, 0, 12, 0, 0, 0, 1, 1, 0x10, 0,
+];
+
+pub const LONG_ACCEPTED: &[u8] = &[
+    0x54, 0x4e, 1, 4, 0, 7, 2, 1, 0, 0, 0, 12, 0, 0, 0, 1, 1, 0x10, 0,
 ];
 
 /// 2 tells 1 that it has promised 1.3.
@@ -95,10 +104,10 @@ pub fn fails(
     }
 }
 
-/// The report of a tape of so many frames, its length written as 4,096.
-pub fn long_report(alloc: Global, frames: usize) -> Option<Vec<u8>> {
+/// The packet of this front with a tape of so many frames, its length written as 4,096.
+pub fn long_packet(alloc: Global, front: &[u8], frames: usize) -> Option<Vec<u8>> {
     match vec![in alloc; 63u8; frames] {
-        Ok(tape) => changed(alloc, LONG_FRONT, &[], &tape),
+        Ok(tape) => changed(alloc, front, &[], &tape),
         Err(_) => None,
     }
 }

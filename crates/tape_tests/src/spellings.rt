@@ -1,8 +1,8 @@
 //! What packets say, and that each has one spelling.
 
 use crate::samples::{
-    ACCEPT, ACCEPTED, ALL, NACK, PREPARE, PREPARE_OF_3, PROMISE, REPORT, changed, fault_of,
-    long_report,
+    ACCEPT, ACCEPTED, ALL, LONG_ACCEPT, LONG_ACCEPTED, LONG_REPORT, NACK, PREPARE, PREPARE_OF_3,
+    PROMISE, REPORT, changed, fault_of, long_packet,
 };
 use packets::{BodyRef, PacketFault, PacketRef, decode, encode};
 use std::alloc::Global;
@@ -111,8 +111,8 @@ fn more_is_long(alloc: Global, bytes: &[u8]) -> bool {
     }
 }
 
-// Whether the bytes, if they are a packet, are its spelling.
-fn is_one(alloc: Global, bytes: &[u8]) -> bool {
+/// Whether the bytes, if they are a packet, are its spelling.
+pub fn is_one(alloc: Global, bytes: &[u8]) -> bool {
     match decode(bytes) {
         Ok(packet) => is_spelled(alloc, &packet, bytes),
         Err(_) => true,
@@ -169,9 +169,9 @@ fn one_spelling(rt: HostRuntime) {
     }
 }
 
-// The longest packet's length, where it comes again.
-fn longest(alloc: Global) -> Option<usize> {
-    match long_report(alloc, 4096) {
+// The length of the longest packet of this front, where it comes again.
+fn longest(alloc: Global, front: &[u8]) -> Option<usize> {
+    match long_packet(alloc, front, 4096) {
         Some(bytes) => if comes_again(alloc, &bytes) {
             Some(bytes.len())
         } else {
@@ -181,7 +181,15 @@ fn longest(alloc: Global) -> Option<usize> {
     }
 }
 
+const LONGEST: &[(&[u8], usize)] = &[
+    (LONG_REPORT, 4121),
+    (LONG_ACCEPT, 4115),
+    (LONG_ACCEPTED, 4115),
+];
+
 #[test]
-fn longest_packet(rt: HostRuntime) {
-    assert!(rt; longest(rt.alloc()) == Some(4121));
+fn longest_packets(rt: HostRuntime) {
+    for (front, len) in LONGEST {
+        assert!(rt; longest(rt.alloc(), front) == Some(*len), "{len}");
+    }
 }

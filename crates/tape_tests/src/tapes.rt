@@ -14,39 +14,39 @@ fn fault_of_zeros(alloc: Global, len: usize) -> Option<TapeFault> {
     }
 }
 
-// Whether a copy is the same tape.
+// Whether the copy of a tape, lent or not, is the same tape.
 fn copies(alloc: Global, tape: &Tape) -> bool {
-    match tape.copy(alloc) {
-        Ok(copy) => copy.same(tape.lend()),
+    match (tape.copy(alloc), tape.lend().copy(alloc)) {
+        (Ok(copy), Ok(other)) => copy.same(tape.lend()) && other.same(tape.lend()),
+        _ => false,
+    }
+}
+
+// Whether these frames are a tape, lent or not, whose copies are the same tape.
+fn is_kept(alloc: Global, frames: &[u8]) -> bool {
+    match Tape::from_bytes(alloc, frames) {
+        Ok(tape) => {
+            tape.len() == frames.len()
+                && tape.frames() == frames
+                && copies(alloc, &tape)
+                && is_lent(frames)
+        }
         Err(_) => false,
     }
 }
 
-fn is_copied(alloc: Global, bytes: &[u8]) -> bool {
-    match Tape::from_bytes(alloc, bytes) {
-        Ok(tape) => copies(alloc, &tape),
-        Err(_) => false,
-    }
-}
-
-// Whether a lent tape's copy has these frames.
-fn has_frames(alloc: Global, tape: &TapeRef<'_>, frames: &[u8]) -> bool {
-    match tape.copy(alloc) {
-        Ok(copy) => copy.len() == frames.len() && copy.frames() == frames,
-        Err(_) => false,
-    }
-}
-
-fn is_lent(alloc: Global, frames: &[u8]) -> bool {
-    match TapeRef::from_bytes(frames) {
-        Ok(tape) => tape.len() == frames.len() && has_frames(alloc, &tape, frames),
-        Err(_) => false,
-    }
-}
-
-fn is_lent_long(alloc: Global, len: usize) -> bool {
+// The same of so many frames.
+fn are_kept(alloc: Global, len: usize) -> bool {
     match vec![in alloc; 63u8; len] {
-        Ok(frames) => is_lent(alloc, &frames),
+        Ok(frames) => is_kept(alloc, &frames),
+        Err(_) => false,
+    }
+}
+
+// Whether a lent tape has these frames.
+fn is_lent(frames: &[u8]) -> bool {
+    match TapeRef::from_bytes(frames) {
+        Ok(tape) => tape.len() == frames.len() && tape.frames() == frames,
         Err(_) => false,
     }
 }
@@ -73,8 +73,8 @@ fn faults(rt: HostRuntime) {
 // One frame, and the most that a tape has.
 #[test]
 fn copied(rt: HostRuntime) {
-    assert!(rt; is_copied(rt.alloc(), &[1]));
-    assert!(rt; is_lent_long(rt.alloc(), 4096));
+    assert!(rt; is_kept(rt.alloc(), &[1]));
+    assert!(rt; are_kept(rt.alloc(), 4096));
 }
 
 fn has_holes(frame: u8, row: &[u8]) -> bool {

@@ -1,6 +1,5 @@
 //! The texts of galleys and faults, of the whole command.
 
-use crate::failing::{Broken, Slow};
 use check_command::{TapePaths, check};
 use command_ends::End;
 use fixtures::{CODES, FLOOD, HARVEST, LIGATURE, OVERSET, WIDTHS};
@@ -174,49 +173,4 @@ fn a_listing_of_holes(rt: HostRuntime) {
     assert!(rt; lists(rt.alloc(), HARVEST, End::Done, text, ""));
     let fault = "fault: unfinished at 1 line 1\n";
     assert!(rt; lists(rt.alloc(), &[1], End::Input, "o..... 1\n", fault));
-}
-
-#[test]
-fn files_that_do_not_open(rt: HostRuntime) {
-    let mut broken = Broken { given: true };
-    let fault = "cannot read story.tape\n";
-    assert!(rt;
-        ends(
-            rt.alloc(),
-            (CODES, WIDTHS),
-            &mut broken,
-            false,
-            End::Input,
-            "",
-            fault
-        )
-    );
-}
-
-/// Whether a writer with room for so many bytes gets that front of the galley, and `check` ends well only with room
-/// for all.
-fn is_front(alloc: Global, room: usize) -> bool {
-    let text = b"0001 J 0 0 a b _4 a _4 b\n";
-    let (mut table, mut widths) = (CODES.as_bytes(), WIDTHS.as_bytes());
-    let mut tape = FLOOD;
-    let mut out = Slow::new(alloc, room);
-    let mut err = Vec::new(alloc);
-    let end = check(
-        alloc,
-        &PATHS,
-        &mut table,
-        &mut widths,
-        &mut tape,
-        false,
-        &mut out,
-        &mut err,
-    );
-    text.starts_with(&out.taken) && out.taken.len() == room && (end == End::Done) == (room == 25)
-}
-
-#[test]
-fn a_front_of_the_galley(rt: HostRuntime) {
-    for room in [0, 1, 4, 12, 24, 25] {
-        assert!(rt; is_front(rt.alloc(), room), "{room}");
-    }
 }

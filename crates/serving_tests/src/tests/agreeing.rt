@@ -82,22 +82,28 @@ fn all_come_to<'a>(alloc: Global, posts: &mut [Post<'a>], out: &str) -> Option<b
     Some(true)
 }
 
+/// The offer of the story, and no turn.
+const OFFER_ALONE: Run = Run { turns: 0, ..OFFER };
+
+/// Whether the first takes the offer.
+fn offers<'a>(posts: &mut [Post<'a>]) -> bool {
+    match posts.first_mut() {
+        Some(first) => first.takes(&OFFER_ALONE),
+        None => false,
+    }
+}
+
 /// Whether these agree on what the first offers, and none has a fault.
-fn come_to_agree<'a>(alloc: Global, posts: &mut [Post<'a>]) -> Option<bool> {
-    let first = posts.first_mut()?;
-    if !first.takes(&Run { turns: 0, ..OFFER }) {
-        return Some(false);
-    }
-    if !all_come_to(alloc, posts, RELEASE)? {
-        return Some(false);
-    }
-    Some(posts.iter().all(|post| post.has_printed(RELEASE, "")))
+fn come_to_agree<'a>(alloc: Global, posts: &mut [Post<'a>]) -> bool {
+    offers(posts)
+        && all_come_to(alloc, posts, RELEASE) == Some(true)
+        && posts.iter().all(|post| post.has_printed(RELEASE, ""))
 }
 
 /// Whether three stations agree.
 fn agree(rt: &HostRuntime) -> Option<bool> {
     let mut posts = three_posts(rt)?;
-    come_to_agree(rt.alloc(), &mut posts)
+    Some(come_to_agree(rt.alloc(), &mut posts))
 }
 
 #[test]

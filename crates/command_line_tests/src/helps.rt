@@ -1,0 +1,171 @@
+//! The help of the program and of each command.
+
+use crate::words::words_of;
+use command_ends::End;
+use command_line::parse;
+
+const PROGRAM: &str = "\
+A wire circuit whose numbers never mean two stories
+
+Usage: circuitd <COMMAND>
+
+Commands:
+  answer    Answers requests as one acceptor: a datagram in hex per line in, its reply per line out
+  check     Sets a tape by a code table and a width file, and writes its galley: one line per slug
+  rows      Lists what a station saved: per number its promise, its vote and the frames of that, in hex
+  serve     Runs this plant's station on the wire, and prints each story that the circuit has agreed on
+  rehearse  Rehearses a whole circuit by a script: who offers, what is delivered when, who starts again
+  help      Print this message or the help of the given subcommand(s)
+
+Options:
+  -h, --help  Print help
+";
+
+const ANSWER: &str = "\
+Answers requests as one acceptor: a datagram in hex per line in, its reply per line out
+
+Usage: circuitd answer <CIRCUIT> <MEMBER>
+
+Arguments:
+  <CIRCUIT>  The circuit's number, 0 to 65535
+  <MEMBER>   The member that answers, 1 to 15
+
+Options:
+  -h, --help  Print help
+
+Example: member 1 asks member 2 of circuit 7 to promise ballot 1.1 for number 12, and gets its promise.
+
+  $ echo 544e0101000701020000000c0000000101 | circuitd answer 7 2
+  544e0102000702010000000c000000010100
+";
+
+const CHECK: &str = "\
+Sets a tape by a code table and a width file, and writes its galley: one line per slug
+
+Usage: circuitd check [OPTIONS] <TABLE> <WIDTHS> <TAPE>
+
+Arguments:
+  <TABLE>   The code table, as examples/codes.toml
+  <WIDTHS>  The width file, as examples/widths.toml
+  <TAPE>    The tape, one frame per byte
+
+Options:
+      --holes  First write one line per frame: its holes, and the frame in decimal
+  -h, --help   Print help
+
+Example: what the linecaster will cast of a tape, a line per slug: its number, J for justified,
+the blank left and right, and the matrices with the width of each spaceband.
+
+  $ circuitd check codes.toml widths.toml flood.tape
+  0001 J 0 0 a b _4 a _4 b
+
+A tape that does not set is told with its place, counted in frames from 0:
+
+  $ circuitd check codes.toml widths.toml overset.tape
+  fault: overset 1 at 7 line 1
+";
+
+const ROWS: &str = "\
+Lists what a station saved: per number its promise, its vote and the frames of that, in hex
+
+Usage: circuitd rows <DB>
+
+Arguments:
+  <DB>  The station's database, as its configuration names it
+
+Options:
+  -h, --help  Print help
+
+Example:
+  $ circuitd rows station2.db
+  station 2 of 3 circuit 7
+  3 1.1 - -
+  12 1.3 1.1 010204
+";
+
+const SERVE: &str = "\
+Runs this plant's station on the wire, and prints each story that the circuit has agreed on
+
+Usage: circuitd serve [OPTIONS] --turns <T> <CONFIG>
+
+Arguments:
+  <CONFIG>  The station's configuration: its circuit, its member, its files and the addresses of all stations
+
+Options:
+      --turns <T>    How many turns to serve, 1 to 1000000: a turn takes in one datagram, or waits for 50 milliseconds
+      --create       Make the row file: for the first start of a station, and never again
+      --number <N>   First offer a story under this number, 1 to 999999; goes with --tape
+      --tape <FILE>  The tape that is offered, one frame per byte; goes with --number
+      --seek <N>     Then ask the circuit for the story of this number
+  -h, --help         Print help
+
+Example: the first plant of a circuit makes its row file and puts a story on the wire as number 12.
+It serves for about a minute, and prints the story when the circuit has agreed on it:
+
+  $ circuitd serve station1.toml --turns 1200 --create --number 12 --tape story.tape
+  release 12 01020301030204
+  0001 J 0 0 a b _4 a _4 b
+
+Every other plant of the circuit runs `circuitd serve` with its own configuration at the same time.
+Later a plant that missed the story asks the others for it:
+
+  $ circuitd serve station3.toml --turns 1200 --seek 12
+";
+
+const REHEARSE: &str = "\
+Rehearses a whole circuit by a script: who offers, what is delivered when, who starts again
+
+Usage: circuitd rehearse <TABLE> <WIDTHS> <SCRIPT>
+
+Arguments:
+  <TABLE>   The code table of all members, as examples/codes.toml
+  <WIDTHS>  The width file of all members, as examples/widths.toml
+  <SCRIPT>  The script, as examples/story.script
+
+Options:
+  -h, --help  Print help
+
+Example: the first of three members offers a story, and its first request comes to member 2.
+
+  members 3
+  offer 1 12 01020301030204
+  deliver 1
+
+The lines of this script print what each member did and what it sent:
+
+  $ circuitd rehearse codes.toml widths.toml story.script
+  1 began 1.1
+   #1 prepare 1>2 12 1.1
+   #2 prepare 1>3 12 1.1
+  2 promised 1.1
+   #3 promise 2>1 12 1.1
+";
+
+/// What asks for help, and the help.
+const HELPS: &[(&str, &str)] = &[
+    ("circuitd --help", PROGRAM),
+    ("circuitd help", PROGRAM),
+    ("circuitd answer -h", ANSWER),
+    ("circuitd check --help", CHECK),
+    ("circuitd help rows", ROWS),
+    ("circuitd rows --help", ROWS),
+    ("circuitd serve --help", SERVE),
+    ("circuitd rehearse --help", REHEARSE),
+];
+
+/// Whether a line ends as usage, with this help on the output.
+fn is_help(rt: &HostRuntime, line: &str, help: &str) -> Option<bool> {
+    let alloc = rt.alloc();
+    let words = words_of(alloc, line)?;
+    let mut out = Vec::new(alloc);
+    let mut err = Vec::new(alloc);
+    let ended = matches!(parse(alloc, &words, &mut out, &mut err), Err(End::Usage));
+    Some(ended && err.is_empty() && out.as_slice() == help.as_bytes())
+}
+
+#[test]
+fn lines_that_ask_for_help(rt: HostRuntime) {
+    for (line, help) in HELPS {
+        assert!(rt; is_help(&rt, *line, *help) == Some(true), "{line}");
+    }
+}

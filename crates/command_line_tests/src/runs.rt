@@ -1,0 +1,180 @@
+//! What each command does with the words of its line: each file in the place of another would print something else.
+
+use crate::words::words_of;
+use command_ends::End;
+use command_line::parse;
+use commands::run_command;
+use fixtures::{CODES, WIDTHS};
+use row_files::RowFiles;
+use saved_rows::{Identity, MemoryRows, RowsFault};
+use std::fs;
+use std::io::Write;
+
+const FOLDER: &str = "circuitd_words";
+
+/// Files of rows that none can be made in or taken up from; where they are listed, their path stands for them.
+struct NoRows;
+
+impl RowFiles for NoRows {
+    type Rows = MemoryRows;
+
+    fn create(
+        &self,
+        _rt: &HostRuntime,
+        path: &str,
+        _identity: Identity,
+    ) -> Result<MemoryRows, RowsFault> {
+        match path {
+            "made.db" => Err(RowsFault::WrongSchema),
+            _ => Err(RowsFault::Store),
+        }
+    }
+
+    fn open(
+        &self,
+        _rt: &HostRuntime,
+        path: &str,
+        _identity: Option<Identity>,
+    ) -> Result<MemoryRows, RowsFault> {
+        match path {
+            "made.db" => Err(RowsFault::WrongStation),
+            _ => Err(RowsFault::Store),
+        }
+    }
+
+    fn list<W: Write, E: Write>(
+        &self,
+        _rt: &HostRuntime,
+        path: &str,
+        out: &mut W,
+        err: &mut E,
+    ) -> End {
+        let _ = writeln!(out, "rows of {path}");
+        let _ = writeln!(err, "listed");
+        End::Store
+    }
+}
+
+/// Member 1 alone of circuit 7.
+const STATION: &str = "\
+circuit = 7
+member = 1
+table = \"circuitd_words/codes.toml\"
+widths = \"circuitd_words/widths.toml\"
+rows = \"made.db\"
+[[station]]
+member = 1
+ip = \"127.0.0.1\"
+port = 7001
+";
+
+/// The files that the lines name. The tape is the flood tape of the examples.
+const FILES: &[(&str, &str)] = &[
+    ("circuitd_words/codes.toml", CODES),
+    ("circuitd_words/widths.toml", WIDTHS),
+    ("circuitd_words/flood.tape", "\x01\x02\x03\x01\x03\x02\x04"),
+    (
+        "circuitd_words/story.script",
+        "members 3\noffer 2 12 01020301030204\n",
+    ),
+    ("circuitd_words/station.toml", STATION),
+];
+
+/// A line, what comes on the input, and what it comes to: the end, the output, the faults.
+#[derive(Clone, Copy)]
+struct Run {
+    line: &'static str,
+    input: &'static str,
+    end: End,
+    out: &'static str,
+    err: &'static str,
+}
+
+const SILENT: Run = Run {
+    line: "",
+    input: "",
+    end: End::Done,
+    out: "",
+    err: "",
+};
+
+const RUNS: &[Run] = &[
+    Run {
+        line: "circuitd answer 7 2",
+        input: "544e0101000701020000000c0000000101\n",
+        out: "544e0102000702010000000c000000010100\n",
+        ..SILENT
+    },
+    Run {
+        line: "circuitd check circuitd_words/codes.toml circuitd_words/widths.toml circuitd_words/flood.tape",
+        out: "0001 J 0 0 a b _4 a _4 b\n",
+        ..SILENT
+    },
+    Run {
+        line: "circuitd check --holes circuitd_words/codes.toml circuitd_words/widths.toml circuitd_words/flood.tape",
+        out: "o..... 1\n.o.... 2\noo.... 3\no..... 1\noo.... 3\n.o.... 2\n..o... 4\n0001 J 0 0 a b _4 a _4 b\n",
+        ..SILENT
+    },
+    Run {
+        line: "circuitd rehearse circuitd_words/codes.toml circuitd_words/widths.toml circuitd_words/story.script",
+        out: "2 began 1.2\n #1 prepare 2>1 12 1.2\n #2 prepare 2>3 12 1.2\n",
+        ..SILENT
+    },
+    Run {
+        line: "circuitd rows station1.db",
+        end: End::Store,
+        out: "rows of station1.db\n",
+        err: "listed\n",
+        ..SILENT
+    },
+    Run {
+        line: "circuitd serve circuitd_words/station.toml --turns 1 --create --number 12 --tape circuitd_words/flood.tape",
+        end: End::Store,
+        err: "store: wrong schema\n",
+        ..SILENT
+    },
+    Run {
+        line: "circuitd serve circuitd_words/station.toml --turns 1",
+        end: End::Store,
+        err: "store: wrong station\n",
+        ..SILENT
+    },
+];
+
+/// Whether a line comes to what it has to.
+fn goes(rt: &HostRuntime, run: &Run) -> Option<bool> {
+    let alloc = rt.alloc();
+    let words = words_of(alloc, run.line)?;
+    let mut input = run.input.as_bytes();
+    let mut out = Vec::new(alloc);
+    let mut err = Vec::new(alloc);
+    let asked = match parse(alloc, &words, &mut out, &mut err) {
+        Ok(asked) => asked,
+        Err(_) => return None,
+    };
+    let end = run_command(rt, &asked, &NoRows, &mut input, &mut out, &mut err);
+    Some(
+        end == run.end
+            && out.as_slice() == run.out.as_bytes()
+            && err.as_slice() == run.err.as_bytes(),
+    )
+}
+
+/// Makes the files anew.
+fn put_files(rt: &HostRuntime) -> Option<()> {
+    let _ = fs::remove_dir_all(rt, FOLDER);
+    fs::create_dir(rt, FOLDER).ok()?;
+    for (path, text) in FILES {
+        fs::write(rt, *path, text.as_bytes()).ok()?;
+    }
+    Some(())
+}
+
+#[test]
+fn words_in_their_places(rt: HostRuntime) {
+    assert!(rt; put_files(&rt) == Some(()));
+    for run in RUNS {
+        assert!(rt; goes(&rt, run) == Some(true), "{}", run.line);
+    }
+    assert!(rt; fs::remove_dir_all(&rt, FOLDER).is_ok());
+}

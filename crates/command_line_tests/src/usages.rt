@@ -1,0 +1,167 @@
+//! Command lines that are usage, each with what is said of it.
+
+use crate::words::words_of;
+use command_ends::End;
+use command_line::parse;
+
+/// Lines that ask for nothing: what the mistake is, and the usage of the command, if it is told.
+const USAGES: &[(&str, &str, &str)] = &[
+    (
+        "circuitd",
+        "'circuitd' requires a subcommand but one was not provided\n  [subcommands: answer, check, rows, serve, rehearse, help]",
+        "<COMMAND>",
+    ),
+    (
+        "circuitd sing",
+        "unrecognized subcommand 'sing'",
+        "<COMMAND>",
+    ),
+    (
+        "circuitd answer",
+        "the following required arguments were not provided:\n  <CIRCUIT>\n  <MEMBER>",
+        "answer <CIRCUIT> <MEMBER>",
+    ),
+    (
+        "circuitd answer 7",
+        "the following required arguments were not provided:\n  <MEMBER>",
+        "answer <CIRCUIT> <MEMBER>",
+    ),
+    (
+        "circuitd answer 65536 2",
+        "invalid value '65536' for '<CIRCUIT>': 65536 is not in 0..=65535",
+        "",
+    ),
+    (
+        "circuitd answer seven 2",
+        "invalid value 'seven' for '<CIRCUIT>': invalid digit found in string",
+        "",
+    ),
+    (
+        "circuitd answer 7 0",
+        "invalid value '0' for '<MEMBER>': 0 is not in 1..=15",
+        "",
+    ),
+    (
+        "circuitd answer 7 16",
+        "invalid value '16' for '<MEMBER>': 16 is not in 1..=15",
+        "",
+    ),
+    (
+        "circuitd answer 7 2 3",
+        "unexpected argument '3' found",
+        "answer <CIRCUIT> <MEMBER>",
+    ),
+    (
+        "circuitd check codes.toml widths.toml",
+        "the following required arguments were not provided:\n  <TAPE>",
+        "check <TABLE> <WIDTHS> <TAPE>",
+    ),
+    (
+        "circuitd check codes.toml widths.toml story.tape --hole",
+        "unexpected argument '--hole' found\n\n  tip: a similar argument exists: '--holes'",
+        "check --holes <TABLE> <WIDTHS> <TAPE>",
+    ),
+    (
+        "circuitd rows",
+        "the following required arguments were not provided:\n  <DB>",
+        "rows <DB>",
+    ),
+    (
+        "circuitd rows one.db two.db",
+        "unexpected argument 'two.db' found",
+        "rows <DB>",
+    ),
+    (
+        "circuitd rehearse codes.toml widths.toml",
+        "the following required arguments were not provided:\n  <SCRIPT>",
+        "rehearse <TABLE> <WIDTHS> <SCRIPT>",
+    ),
+    (
+        "circuitd serve",
+        "the following required arguments were not provided:\n  --turns <T>\n  <CONFIG>",
+        "serve --turns <T> <CONFIG>",
+    ),
+    (
+        "circuitd serve station.toml",
+        "the following required arguments were not provided:\n  --turns <T>",
+        "serve --turns <T> <CONFIG>",
+    ),
+    (
+        "circuitd serve --turns 1",
+        "the following required arguments were not provided:\n  <CONFIG>",
+        "serve --turns <T> <CONFIG>",
+    ),
+    (
+        "circuitd serve station.toml --turns",
+        "a value is required for '--turns <T>' but none was supplied",
+        "",
+    ),
+    (
+        "circuitd serve station.toml --turns 0",
+        "invalid value '0' for '--turns <T>': 0 is not in 1..=1000000",
+        "",
+    ),
+    (
+        "circuitd serve station.toml --turns 1000001",
+        "invalid value '1000001' for '--turns <T>': 1000001 is not in 1..=1000000",
+        "",
+    ),
+    (
+        "circuitd serve station.toml --turns ten",
+        "invalid value 'ten' for '--turns <T>': invalid digit found in string",
+        "",
+    ),
+    (
+        "circuitd serve station.toml --turns 1 --number 4294967296 --tape story.tape",
+        "invalid value '4294967296' for '--number <N>': 4294967296 is not in 0..=4294967295",
+        "",
+    ),
+    (
+        "circuitd serve station.toml --turns 1 --number twelve --tape story.tape",
+        "invalid value 'twelve' for '--number <N>': invalid digit found in string",
+        "",
+    ),
+    (
+        "circuitd serve station.toml --turns 1 --seek 4294967296",
+        "invalid value '4294967296' for '--seek <N>': 4294967296 is not in 0..=4294967295",
+        "",
+    ),
+    (
+        "circuitd serve station.toml --turns 1 --seek -1",
+        "unexpected argument '-1' found\n\n  tip: to pass '-1' as a value, use '-- -1'",
+        "serve [OPTIONS] --turns <T> <CONFIG>",
+    ),
+    (
+        "circuitd serve station.toml --turns 1 --loud",
+        "unexpected argument '--loud' found\n\n  tip: to pass '--loud' as a value, use '-- --loud'",
+        "serve --turns <T> <CONFIG>",
+    ),
+];
+
+/// Whether a line ends as usage, with this mistake and this usage on the output of faults.
+fn is_usage(rt: &HostRuntime, line: &str, mistake: &str, usage: &str) -> Option<bool> {
+    let alloc = rt.alloc();
+    let words = words_of(alloc, line)?;
+    let lead = if usage.is_empty() {
+        ""
+    } else {
+        "\n\nUsage: circuitd "
+    };
+    let text = format!(in alloc;
+        "error: {mistake}{lead}{usage}\n\nFor more information, try '--help'.\n"
+    ).ok()?;
+    let mut out = Vec::new(alloc);
+    let mut err = Vec::new(alloc);
+    let ended = matches!(parse(alloc, &words, &mut out, &mut err), Err(End::Usage));
+    Some(ended && out.is_empty() && err.as_slice() == text.as_bytes())
+}
+
+#[test]
+fn lines_that_are_usage(rt: HostRuntime) {
+    for (line, mistake, usage) in USAGES {
+        assert!(rt;
+            is_usage(&rt, *line, *mistake, *usage) == Some(true),
+            "{line}"
+        );
+    }
+}

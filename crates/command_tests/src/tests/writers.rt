@@ -1,0 +1,160 @@
+//! Writers that stop, are interrupted or hand nothing on: the command ends by that, with a front written.
+
+use crate::failing::Slow;
+use answer_command::answer;
+use ballots::Member;
+use check_command::{TapePaths, check};
+use command_ends::End;
+use fixtures::{CODES, HARVEST, WIDTHS};
+use rehearse_command::{ScriptPaths, rehearse};
+use std::alloc::Global;
+use streams::put_all;
+
+/// Whether a writer that is interrupted behind so many bytes has this front of a text, and is not asked again.
+fn is_interrupted(alloc: Global, room: usize, front: &[u8]) -> bool {
+    let mut out = Slow::interrupted(alloc, room);
+    put_all(&mut out, b"slugs").is_err() && out.taken.as_slice() == front
+}
+
+#[test]
+fn an_interrupted_write_ends_a_text(rt: HostRuntime) {
+    assert!(rt; is_interrupted(rt.alloc(), 0, b""));
+    assert!(rt; is_interrupted(rt.alloc(), 3, b"slu"));
+}
+
+/// What a command prints, with its listing where it has one.
+const CHECKED: &str = "0001 C 10 11 B\n0002 R 22 0 A\n";
+
+const LISTED: &str = "o.o... 5\n.o.... 2\nooo... 7\n..o... 4\no..... 1\noo.o.. 11\n..o... 4\n\
+0001 C 10 11 B\n0002 R 22 0 A\n";
+
+const SCRIPT: &str = "members 3\nseek 1 12\n";
+
+const REHEARSED: &str = "1 began 1.1\n #1 prepare 1>2 12 1.1\n #2 prepare 1>3 12 1.1\n";
+
+const ASKED: &str = "544e0101000701020000000c0000000101";
+
+const ANSWERED: &str = "544e0102000702010000000c000000010100\n";
+
+/// A command, and whether `check` prints its listing.
+#[derive(Clone, Copy)]
+enum Command {
+    Check(bool),
+    Rehearse,
+    Answer,
+}
+
+fn run_check(alloc: Global, listing: bool, out: &mut Slow, err: &mut Vec<u8>) -> End {
+    let paths = TapePaths {
+        table: "codes.toml",
+        widths: "widths.toml",
+        tape: "story.tape",
+    };
+    let (mut table, mut widths, mut tape) = (CODES.as_bytes(), WIDTHS.as_bytes(), HARVEST);
+    check(
+        alloc,
+        &paths,
+        &mut table,
+        &mut widths,
+        &mut tape,
+        listing,
+        out,
+        err,
+    )
+}
+
+fn run_rehearse(alloc: Global, out: &mut Slow, err: &mut Vec<u8>) -> End {
+    let paths = ScriptPaths {
+        table: "codes.toml",
+        widths: "widths.toml",
+        script: "story.script",
+    };
+    let (mut table, mut widths, mut script) = (
+        CODES.as_bytes(),
+        WIDTHS.as_bytes(),
+        SCRIPT.as_bytes(),
+    );
+    rehearse(
+        alloc,
+        &paths,
+        &mut table,
+        &mut widths,
+        &mut script,
+        out,
+        err,
+    )
+}
+
+fn run_answer(alloc: Global, out: &mut Slow, err: &mut Vec<u8>) -> Option<End> {
+    let me = Member::new(2)?;
+    Some(answer(alloc, 7, me, &mut ASKED.as_bytes(), out, err))
+}
+
+/// How a command over this writer ends.
+fn run(alloc: Global, command: Command, out: &mut Slow, err: &mut Vec<u8>) -> Option<End> {
+    match command {
+        Command::Check(listing) => Some(run_check(alloc, listing, out, err)),
+        Command::Rehearse => Some(run_rehearse(alloc, out, err)),
+        Command::Answer => run_answer(alloc, out, err),
+    }
+}
+
+/// How a command ends, and what it tells.
+type Ending = (End, &'static str);
+
+const DONE: Ending = (End::Done, "");
+
+const CANNOT_WRITE: Ending = (End::Input, "cannot write\n");
+
+/// Whether a command over this writer ends so, with so many bytes of its text written.
+fn ends(
+    alloc: Global,
+    command: Command,
+    text: &str,
+    mut out: Slow,
+    many: usize,
+    ending: Ending,
+) -> bool {
+    let mut err = Vec::new(alloc);
+    let end = run(alloc, command, &mut out, &mut err);
+    end == Some(ending.0)
+        && err.as_slice() == ending.1.as_bytes()
+        && out.taken.len() == many
+        && text.as_bytes().starts_with(&out.taken)
+}
+
+/// The place of the first writer over which a command does not end as it has to: two with room for the whole text, of
+/// which the second hands nothing on, and those with less room, which take nothing more or are interrupted.
+fn first_wrong(alloc: Global, command: Command, text: &str) -> Option<usize> {
+    let all = text.len();
+    if !ends(alloc, command, text, Slow::new(alloc, all), all, DONE)
+        || !ends(
+            alloc,
+            command,
+            text,
+            Slow::kept_back(alloc),
+            all,
+            CANNOT_WRITE,
+        )
+    {
+        return Some(all);
+    }
+    (0..all).find(|room| {
+        let stops = Slow::new(alloc, *room);
+        !ends(alloc, command, text, stops, *room, CANNOT_WRITE)
+    })
+}
+
+const COMMANDS: &[(Command, &str)] = &[
+    (Command::Check(false), CHECKED),
+    (Command::Check(true), LISTED),
+    (Command::Rehearse, REHEARSED),
+    (Command::Answer, ANSWERED),
+];
+
+#[test]
+fn writers_that_fail(rt: HostRuntime) {
+    for (command, text) in COMMANDS {
+        assert!(rt; first_wrong(rt.alloc(), *command, text) == None, "{text}");
+    }
+}

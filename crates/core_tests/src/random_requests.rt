@@ -1,0 +1,124 @@
+//! Random requests to a core, which keeps a saved row, beside a run of an acceptor over all of them.
+
+use crate::bench::{Bench, bench_of, noted};
+use crate::events::ballot_of;
+use crate::steps::{At, Coming, Frames, IDLE, NONE, Says, Step};
+use crate::turns::parts;
+use acceptor::{Reply, Request, run};
+use ballots::{Row, Vote};
+use fixtures::{Dice, FLOOD, LIGATURE};
+use std::alloc::Global;
+use tape_frames::Tape;
+
+/// A ballot, and the tape that is to be voted for, or none where a promise is asked for.
+type Asked = (At, Option<Frames>);
+
+/// A request of member 1 or 3, at one of three rounds.
+fn drawn(dice: &mut Dice) -> Asked {
+    let owner = if dice.throw(2) == 0 { 1 } else { 3 };
+    let frames = match dice.throw(4) {
+        0 => Some(FLOOD),
+        1 => Some(LIGATURE),
+        _ => None,
+    };
+    ((1 + dice.throw(3), owner), frames)
+}
+
+fn request(alloc: Global, asked: Asked) -> Option<Request> {
+    let ballot = ballot_of(asked.0)?;
+    Some(match asked.1 {
+        None => Request::Prepare { ballot },
+        Some(frames) => Request::Accept {
+            ballot,
+            tape: Tape::from_bytes(alloc, frames).ok()?,
+        },
+    })
+}
+
+/// Up to fifteen requests, twice: as they come in packets, and as an acceptor takes them.
+fn drawn_list(alloc: Global, dice: &mut Dice) -> Option<(Vec<Asked>, Vec<Request>)> {
+    let mut list = Vec::new(alloc);
+    let mut requests = Vec::new(alloc);
+    for _ in 0..dice.throw(16) {
+        let asked = drawn(dice);
+        list.push(asked).ok()?;
+        requests.push(request(alloc, asked)?).ok()?;
+    }
+    Some((list, requests))
+}
+
+/// The step at which the request comes to member 2.
+fn step_of(asked: Asked) -> Step {
+    let mut step = IDLE;
+    let says = match asked.1 {
+        None => Says::Prepare,
+        Some(frames) => Says::Accept(frames),
+    };
+    step.coming = Coming::Packet(asked.0.1, asked.0, says);
+    step
+}
+
+/// The note of the reply to a request at this ballot.
+fn words_for(reply: &Reply, at: At) -> (&'static str, At) {
+    match reply {
+        Reply::Promise { .. } => ("promised", at),
+        Reply::Silent => ("silent", NONE),
+        Reply::Nack { promised } => ("nacked", parts(*promised)),
+        Reply::Voted => ("voted", at),
+        Reply::Again => ("voted-again", at),
+    }
+}
+
+fn are_one_vote(vote: Option<&Vote>, other: Option<&Vote>) -> bool {
+    match (vote, other) {
+        (None, None) => true,
+        (Some(vote), Some(other)) => {
+            vote.ballot() == other.ballot() && vote.tape().same(other.tape())
+        }
+        _ => false,
+    }
+}
+
+/// Whether each turn is noted as the acceptor replies, and the row that is saved at last is the acceptor's.
+fn follows(alloc: Global, bench: &mut Bench, list: &[Asked], row: &Row, replies: &[Reply]) -> bool {
+    for (asked, reply) in list.iter().zip(replies) {
+        let note = noted(alloc, bench, &step_of(*asked));
+        if note != Some(words_for(reply, asked.0)) {
+            return false;
+        }
+    }
+    bench.row.promised() == row.promised() && are_one_vote(bench.row.vote(), row.vote())
+}
+
+/// Whether the core of member 2 of three does.
+fn is_acceptor(alloc: Global, list: &[Asked], requests: &[Request]) -> bool {
+    match (run(alloc, requests), bench_of(alloc, 2, 3)) {
+        (Ok((row, replies)), Some(mut bench)) => {
+            follows(alloc, &mut bench, list, &row, &replies)
+        }
+        _ => false,
+    }
+}
+
+const SEED: u64 = 1990;
+
+const CASES: u32 = 500;
+
+/// How many lists of requests are answered as they have to be, up to the first that isn't.
+fn answered(alloc: Global, dice: &mut Dice) -> u32 {
+    for case in 0..CASES {
+        let Some((list, requests)) = drawn_list(alloc, dice) else {
+            return case;
+        };
+        if !is_acceptor(alloc, &list, &requests) {
+            return case;
+        }
+    }
+    CASES
+}
+
+#[test]
+fn random_requests(rt: HostRuntime) {
+    let cases = answered(rt.alloc(), &mut Dice::new(SEED));
+    assert!(rt; cases == CASES, "seed {SEED}, case {cases}");
+}

@@ -1,0 +1,335 @@
+//! What `serve` starts from, over files, a database and a socket of this machine, and how it starts again.
+
+use acceptor_store::SqliteRows;
+use ballots::Member;
+use command_ends::End;
+use command_line::Plan;
+use file_rows::{HostFiles, RowFiles};
+use fixtures::{CODES, FLOOD, WIDTHS};
+use rows_command::print_rows;
+use sqlite::Alter;
+use station_start::serve;
+use std::alloc::Global;
+use std::fs;
+use wire::{Address, UdpWire};
+
+/// The folder of these tests, and what stands in it.
+const FOLDER: &str = "circuitd_starts";
+
+const CONFIG: &str = "circuitd_starts/station.toml";
+
+const TABLE: &str = "circuitd_starts/codes.toml";
+
+const WIDTH_FILE: &str = "circuitd_starts/widths.toml";
+
+const STORY: &str = "circuitd_starts/story.tape";
+
+const ROWS: &str = "circuitd_starts/station1.db";
+
+/// The text of the story's release for number 12.
+const RELEASE: &str = "release 12 01020301030204\n0001 J 0 0 a b _4 a _4 b\n";
+
+/// What is saved after the first run, and after a search of a station that started again.
+const FIRST_ROWS: &str = "station 1 of 1 circuit 7\n12 1.1 1.1 01020301030204\n";
+
+const LATER_ROWS: &str = "station 1 of 1 circuit 7\n12 2.1 2.1 01020301030204\n";
+
+/// What is changed in the folder before a start.
+#[derive(Clone, Copy)]
+enum Change {
+    /// The configuration of member 1 alone of this circuit is put there.
+    Circuit(u16),
+    /// A file at this path with this text.
+    File(&'static str, &'static str),
+    /// The story's tape, as these frames.
+    Tape(&'static [u8]),
+    /// The row file is taken away.
+    NoRows,
+}
+
+/// What is found of the row file after a start.
+#[derive(Clone, Copy)]
+enum Left {
+    /// It is not looked for.
+    Unseen,
+    /// It is not there.
+    Missing,
+    /// `rows` prints this of it.
+    Rows(&'static str),
+}
+
+/// What is changed in the folder, how `serve` is called then, what it comes to, and what it leaves.
+#[derive(Clone, Copy)]
+struct Start {
+    changes: &'static [Change],
+    create: bool,
+    offers: bool,
+    end: End,
+    text: &'static str,
+    fault: &'static str,
+    left: Left,
+}
+
+/// A first start with the story, refused for its files.
+const FIRST: Start = Start {
+    changes: &[],
+    create: true,
+    offers: true,
+    end: End::Input,
+    text: "",
+    fault: "",
+    left: Left::Unseen,
+};
+
+/// Whether `serve` ends so, and prints this text and this fault.
+fn ends(rt: &HostRuntime, plan: &Plan<'_>, end: End, text: &str, fault: &str) -> bool {
+    let mut out = Vec::new(rt.alloc());
+    let mut err = Vec::new(rt.alloc());
+    let ended = serve(rt, plan, &HostFiles, &mut out, &mut err);
+    ended == end && out.as_slice() == text.as_bytes() && err.as_slice() == fault.as_bytes()
+}
+
+/// Whether one turn goes so: with an offer of the story for number 12, or a search of it.
+fn goes(rt: &HostRuntime, start: &Start) -> bool {
+    let plan = Plan {
+        config: CONFIG,
+        turns: 1,
+        create: start.create,
+        number: if start.offers { Some(12) } else { None },
+        tape: if start.offers { Some(STORY) } else { None },
+        seek: if start.offers { None } else { Some(12) },
+    };
+    ends(rt, &plan, start.end, start.text, start.fault)
+}
+
+/// The configuration of member 1 alone of a circuit, at this port.
+fn config_text(alloc: Global, circuit: u16, port: u16) -> Option<String> {
+    format!(in alloc;
+        "circuit = {circuit}\nmember = 1\ntable = \"{TABLE}\"\nwidths = \"{WIDTH_FILE}\"\nrows = \"{ROWS}\"\n\
+[[station]]\nmember = 1\nip = \"127.0.0.1\"\nport = {port}\n"
+    )
+    .ok()
+}
+
+/// Whether a change of the folder is made.
+fn is_made(rt: &HostRuntime, port: u16, change: &Change) -> bool {
+    match change {
+        Change::Circuit(circuit) => match config_text(rt.alloc(), *circuit, port) {
+            Some(text) => fs::write(rt, CONFIG, text.as_bytes()).is_ok(),
+            None => false,
+        },
+        Change::File(path, text) => fs::write(rt, *path, text.as_bytes()).is_ok(),
+        Change::Tape(frames) => fs::write(rt, STORY, *frames).is_ok(),
+        Change::NoRows => fs::remove_file(rt, ROWS).is_ok(),
+    }
+}
+
+/// Whether `rows` prints this text of these.
+fn is_listed<S: Alter + Drop>(alloc: Global, rows: &mut SqliteRows<S>, text: &str) -> bool {
+    let mut out = Vec::new(alloc);
+    let mut err = Vec::new(alloc);
+    let ended = print_rows(alloc, rows, &mut out, &mut err);
+    ended == End::Done && out.as_slice() == text.as_bytes() && err.is_empty()
+}
+
+/// Whether `rows` prints this text of the row file.
+fn are_saved(rt: &HostRuntime, text: &str) -> bool {
+    match HostFiles.open(rt, ROWS, None) {
+        Ok(mut rows) => is_listed(rt.alloc(), &mut rows, text),
+        Err(_) => false,
+    }
+}
+
+/// Whether the row file is found so.
+fn is_left(rt: &HostRuntime, left: &Left) -> bool {
+    match left {
+        Left::Unseen => true,
+        Left::Missing => matches!(fs::exists(rt, ROWS), Ok(false)),
+        Left::Rows(text) => are_saved(rt, *text),
+    }
+}
+
+/// The place of the first start that goes otherwise; how many there are where none does.
+fn gone(rt: &HostRuntime, port: u16, starts: &[Start]) -> usize {
+    for (place, start) in starts.iter().enumerate() {
+        for change in start.changes {
+            if !is_made(rt, port, change) {
+                return place;
+            }
+        }
+        if !goes(rt, start) || !is_left(rt, &start.left) {
+            return place;
+        }
+    }
+    starts.len()
+}
+
+/// A socket at a free port.
+fn probe<'a>(rt: &'a HostRuntime) -> Option<UdpWire<'a, HostRuntime>> {
+    let own = Address {
+        member: Member::new(1)?,
+        ip: [127, 0, 0, 1],
+        port: 0,
+    };
+    UdpWire::bind(rt, rt, &own, Vec::new(rt.alloc())).ok()
+}
+
+/// A port that is free.
+fn free_port(rt: &HostRuntime) -> Option<u16> {
+    probe(rt)?.port().ok()
+}
+
+/// How many of the starts go as they have to with the station's port in another's hands.
+fn held_gone(rt: &HostRuntime, starts: &[Start]) -> Option<usize> {
+    let held = probe(rt)?;
+    let port = held.port().ok()?;
+    Some(gone(rt, port, starts))
+}
+
+/// An empty folder.
+fn make_folder(rt: &HostRuntime) -> bool {
+    let _ = fs::remove_dir_all(rt, FOLDER);
+    fs::create_dir(rt, FOLDER).is_ok()
+}
+
+const OWNED: &[Start] = &[
+    // A row file that is not there is not made without a word.
+    Start {
+        changes: &[
+            Change::Circuit(7),
+            Change::File(TABLE, CODES),
+            Change::File(WIDTH_FILE, WIDTHS),
+            Change::Tape(FLOOD),
+        ],
+        create: false,
+        end: End::Store,
+        fault: "store: refused\n",
+        left: Left::Missing,
+        ..FIRST
+    },
+    // It is made once.
+    Start {
+        end: End::Done,
+        text: RELEASE,
+        left: Left::Rows(FIRST_ROWS),
+        ..FIRST
+    },
+    Start {
+        end: End::Store,
+        fault: "store: refused\n",
+        left: Left::Rows(FIRST_ROWS),
+        ..FIRST
+    },
+    // A station that starts again finds its story, and keeps it at the ballot of its own round.
+    Start {
+        create: false,
+        offers: false,
+        end: End::Done,
+        text: RELEASE,
+        left: Left::Rows(LATER_ROWS),
+        ..FIRST
+    },
+    // It is taken up by the station that it belongs to alone.
+    Start {
+        changes: &[Change::Circuit(8)],
+        create: false,
+        offers: false,
+        end: End::Store,
+        fault: "store: wrong station\n",
+        left: Left::Rows(LATER_ROWS),
+        ..FIRST
+    },
+];
+
+/// Each start stumbles over the next file, and none over the row file, in whose place a text stands.
+const ORDER: &[Start] = &[
+    Start {
+        changes: &[Change::File(
+            ROWS,
+            "no database of rows, but a text that someone put in its place",
+        )],
+        fault: "cannot read circuitd_starts/station.toml\n",
+        ..FIRST
+    },
+    Start {
+        changes: &[Change::File(CONFIG, "circuit")],
+        fault: "config: not toml\n",
+        ..FIRST
+    },
+    Start {
+        changes: &[Change::Circuit(7)],
+        fault: "cannot read circuitd_starts/codes.toml\n",
+        ..FIRST
+    },
+    Start {
+        changes: &[Change::File(TABLE, "code = 3")],
+        fault: "table: no codes\n",
+        ..FIRST
+    },
+    Start {
+        changes: &[Change::File(TABLE, CODES)],
+        fault: "cannot read circuitd_starts/widths.toml\n",
+        ..FIRST
+    },
+    Start {
+        changes: &[Change::File(WIDTH_FILE, "measure = 0")],
+        fault: "widths: out of range measure\n",
+        ..FIRST
+    },
+    Start {
+        changes: &[Change::File(WIDTH_FILE, WIDTHS)],
+        fault: "cannot read circuitd_starts/story.tape\n",
+        ..FIRST
+    },
+    Start {
+        changes: &[Change::Tape(&[])],
+        fault: "tape: empty\n",
+        ..FIRST
+    },
+];
+
+/// The row file is told before the socket, whose port another station has.
+const HELD: &[Start] = &[
+    Start {
+        changes: &[Change::Circuit(7), Change::Tape(FLOOD)],
+        end: End::Store,
+        fault: "store: refused\n",
+        ..FIRST
+    },
+    Start {
+        changes: &[Change::NoRows],
+        end: End::Socket,
+        fault: "socket: cannot bind\n",
+        ..FIRST
+    },
+];
+
+#[test]
+fn from_files(rt: HostRuntime) {
+    let port = free_port(&rt).unwrap_or(0);
+    assert!(rt; make_folder(&rt));
+    assert_eq!(rt; gone(&rt, port, OWNED), OWNED.len());
+    assert!(rt; make_folder(&rt));
+    assert_eq!(rt; gone(&rt, port, ORDER), ORDER.len());
+    assert!(rt; held_gone(&rt, HELD) == Some(HELD.len()));
+    assert!(rt; fs::remove_dir_all(&rt, FOLDER).is_ok());
+}
+
+/// A number without a tape, and a tape without a number.
+const UNPAIRED: &[(Option<u32>, Option<&str>)] = &[(Some(12), None), (None, Some("story.tape"))];
+
+#[test]
+fn a_number_goes_with_a_tape(rt: HostRuntime) {
+    for (number, tape) in UNPAIRED {
+        let plan = Plan {
+            config: "",
+            turns: 1,
+            create: false,
+            number: *number,
+            tape: *tape,
+            seek: None,
+        };
+        let text = "usage: --number and --tape go together\n";
+        assert!(rt; ends(&rt, &plan, End::Usage, "", text));
+    }
+}

@@ -1,0 +1,72 @@
+//! Rows of which one reading can be refused.
+
+ghost use Rattle.std.specs.Prelude.{◌+◌};
+
+use ballots::{Number, Row};
+use saved_rows::{Balky, Rows, RowsFault};
+
+/// Rows whose next reading can be made to be refused, for any reason.
+/// Clauses see the rows inside, why the next reading is refused, and how many they refused themselves.
+#[derive(Drop)]
+pub struct Unread<R: Rows> {
+    rows: R,
+    fault: Option<RowsFault>,
+    refusals: u64,
+}
+
+impl<R: Rows> Unread<R> {
+    /// These rows, which are read.
+    pub fn new(rows: R) -> Unread<R> {
+        Unread {
+            rows,
+            fault: None,
+            refusals: 0,
+        }
+    }
+
+    /// The next reading is refused for this reason.
+    pub fn refuse(&mut self, fault: RowsFault) {
+        self.fault = Some(fault);
+    }
+
+    /// The rows inside.
+    pub fn rows(&self) -> &R {
+        &self.rows
+    }
+}
+
+impl<R: Rows> Unread<Balky<R>> {
+    /// The next save is refused, after it was passed on where `saved`.
+    pub fn arm(&mut self, saved: bool) {
+        self.rows.arm(saved);
+    }
+}
+
+impl<R: Rows> Rows for Unread<R> {
+    ghost made = { λ s. R.made s.rows };
+
+    ghost honest = { λ s. R.honest s.rows };
+
+    ghost kept = { λ s. R.kept s.rows };
+
+    ghost is_open = { λ s. R.is_open s.rows };
+
+    ghost saved = { λ s. R.saved s.rows };
+
+    ghost refusals = { λ s. R.refusals s.rows + s.refusals };
+
+    ghost halves = { λ s. R.halves s.rows };
+
+    fn get(&mut self, number: Number) -> Result<Row, RowsFault> {
+        let Some(fault) = self.fault else {
+            return self.rows.get(number);
+        };
+        self.fault = None;
+        self.refusals = self.refusals.saturating_add(1);
+        Err(fault)
+    }
+
+    fn put(&mut self, number: Number, row: &Row) -> Result<(), RowsFault> {
+        self.rows.put(number, row)
+    }
+}
