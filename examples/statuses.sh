@@ -1,0 +1,91 @@
+#!/usr/bin/env bash
+# Each command of the built program is run once, and then so that it ends with status 1, 2, 3 and 4: what it prints, on
+# either stream, and its status have to be those that stand here, byte for byte.
+set -eu
+cd "$(dirname "$0")"
+
+circuitd=$PWD/../crates/circuitd/out/circuitd
+if [ ! -x "$circuitd" ]; then
+    echo "The program is not built, so its commands were not run: examples/first_circuit.sh builds it."
+    exit 0
+fi
+python3 - "$circuitd" <<'END'
+import os
+import shutil
+import socket
+import subprocess
+import sys
+import tempfile
+
+# a circuit of one station, on a port that is free
+STATION = """circuit = 7
+member = 1
+table = "codes.toml"
+widths = "widths.toml"
+rows = "station1.db"
+[[station]]
+member = 1
+ip = "127.0.0.1"
+port = {port}
+"""
+SCRIPT = "members 3\noffer 1 12 01020301030204\n"
+BEGAN = "1 began 1.1\n #1 prepare 1>2 12 1.1\n #2 prepare 1>3 12 1.1\n"
+GALLEY = "0001 J 0 0 a b _4 a _4 b\n"
+UNKNOWN = """error: unrecognized subcommand 'sing'
+
+Usage: circuitd <COMMAND>
+
+For more information, try '--help'.
+"""
+
+# the words, the input, the status, the output and the faults
+RUNS = [
+    ("answer 7 2", "544e0101000701020000000c0000000101\n", 0, "544e0102000702010000000c000000010100\n", ""),
+    ("check codes.toml widths.toml flood.tape", "", 0, GALLEY, ""),
+    ("rehearse codes.toml widths.toml one.script", "", 0, BEGAN, ""),
+    ("serve one.toml --turns 1 --create --number 12 --tape flood.tape", "", 0, "release 12 01020301030204\n" + GALLEY, ""),
+    ("rows station1.db", "", 0, "station 1 of 1 circuit 7\n12 1.1 1.1 01020301030204\n", ""),
+    ("check codes.toml widths.toml overset.tape", "", 1, "", "fault: overset 1 at 7 line 1\n"),
+    ("check widths.toml codes.toml flood.tape", "", 1, "", "table: no codes\n"),
+    ("check codes.toml widths.toml no.tape", "", 1, "", "cannot read no.tape\n"),
+    ("sing", "", 2, "", UNKNOWN),
+    ("serve one.toml --turns 1 --number 12", "", 2, "", "usage: --number and --tape go together\n"),
+    ("serve one.toml --turns 1 --create", "", 3, "", "store: refused\n"),
+    ("rows flood.tape", "", 3, "", "store: refused\n"),
+    ("rows no.db", "", 3, "", "store: refused\n"),
+]
+# the station's port is another's by then
+TAKEN = ("serve one.toml --turns 1", "", 4, "", "socket: cannot bind\n")
+
+
+def udp():
+    return socket.socket(socket.AF_INET, socket.SOCK_DGRAM)
+
+
+def goes(work, words, given, status, out, err):
+    run = subprocess.run(
+        [sys.argv[1], *words.split()], cwd=work, input=given, capture_output=True, text=True, timeout=60
+    )
+    if (run.returncode, run.stdout, run.stderr) == (status, out, err):
+        return True
+    sys.stderr.write(f"circuitd {words}\nends with {run.returncode} and prints\n{run.stdout}{run.stderr}")
+    return False
+
+
+with tempfile.TemporaryDirectory() as work:
+    for name in ["codes.toml", "widths.toml", "flood.tape", "overset.tape"]:
+        shutil.copy(name, work)
+    with udp() as probe:
+        probe.bind(("127.0.0.1", 0))
+        port = probe.getsockname()[1]
+    for name, text in [("one.toml", STATION.format(port=port)), ("one.script", SCRIPT)]:
+        with open(os.path.join(work, name), "w", encoding="utf-8") as file:
+            file.write(text)
+    well = [goes(work, *run) for run in RUNS]
+    with udp() as other:
+        other.bind(("127.0.0.1", port))
+        well.append(goes(work, *TAKEN))
+if not all(well):
+    sys.exit(1)
+print("Each command of the program prints what it has to, and ends with its status.")
+END
