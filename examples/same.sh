@@ -55,8 +55,10 @@ import tempfile
 
 with open("../README.md", encoding="utf-8") as file:
     readme = file.read()
-differing = 0
-with tempfile.TemporaryDirectory() as work:
+
+
+def differing_in(work):
+    """What the program prints otherwise than the README, each example in its order, in an empty folder."""
     files = [name for name in os.listdir(".") if name.endswith((".toml", ".tape", ".script"))]
     os.makedirs(os.path.join(work, "examples"))
     for name in files:
@@ -64,6 +66,7 @@ with tempfile.TemporaryDirectory() as work:
     os.makedirs(os.path.join(work, "bin"))
     os.symlink(sys.argv[1], os.path.join(work, "bin", "circuitd"))
     path = os.path.join(work, "bin") + os.pathsep + os.environ["PATH"]
+    differing = []
     # an example is a block whose first line is a command
     for block in re.findall(r"^```\n(\$ .*?)^```$", readme, re.DOTALL | re.MULTILINE):
         commands, told, goes_on = [], "", False
@@ -82,9 +85,18 @@ with tempfile.TemporaryDirectory() as work:
             text=True,
         )
         if run.stdout != told:
-            differing += 1
-            sys.stderr.write("The README says otherwise than the program. This\n" + "".join(commands) + "prints\n" + run.stdout)
+            differing.append("The README says otherwise than the program. This\n" + "".join(commands) + "prints\n" + run.stdout)
+    return differing
+
+
+# On a busy machine a promise may come after the moment at which its ballot is begun anew, and then a row has a
+# greater ballot. So what differs is run again, three times in all.
+for _ in range(3):
+    with tempfile.TemporaryDirectory() as work:
+        differing = differing_in(work)
+    if not differing:
+        break
 if differing:
-    sys.exit(1)
+    sys.exit("".join(differing))
 print("The program prints what the README says.")
 END
