@@ -99,13 +99,13 @@ histories_agree {D = D} {G = G} {F = F} z w h = record {
 -- a datagram that was sent stays sent
 sent_stays : {D G F : Type 0} {z : Circuit D G F} (w : State G F) (s : Step) (o : Outcome D F) (after : State G F) → StepsTo z w s o after → (d : Datagram) → IsAmong w.sent d → IsAmong after.sent d
 sent_stays {G = G} {F = F} w s o after (is_done m call e t out task member unrefused event turn carried armed how is) d i = subst (λ (x : State G F). IsAmong x.sent d) (sym (same_state is)) (among_left w.sent out d i)
-sent_stays {G = G} {F = F} w s o after (is_torn m call e row armed task member unrefused event leaves is) d i = subst (λ (x : State G F). IsAmong x.sent d) (sym (same_state is)) i
+sent_stays {G = G} {F = F} w s o after (is_torn m call e row armed task member event leaves is) d i = subst (λ (x : State G F). IsAmong x.sent d) (sym (same_state is)) i
 sent_stays {G = G} {F = F} w s o after (is_refused m call r task member refused how is) d i = subst (λ (x : State G F). IsAmong x.sent d) (sym (same_state is)) i
 sent_stays {G = G} {F = F} w s o after (is_idle m call task member unrefused event how is) d i = subst (λ (x : State G F). IsAmong x.sent d) (sym (same_state is)) i
 sent_stays {G = G} {F = F} w s o after (is_spent m call e task member unrefused event turn how is) d i = subst (λ (x : State G F). IsAmong x.sent d) (sym (same_state is)) i
 sent_stays {G = G} {F = F} w s o after (restarts m member is_restart how is) d i = subst (λ (x : State G F). IsAmong x.sent d) (sym (same_state is)) i
 sent_stays {G = G} {F = F} w s o after (upgrades m member is_upgrade how unarmed is) d i = subst (λ (x : State G F). IsAmong x.sent d) (sym (same_state is)) i
-sent_stays {G = G} {F = F} w s o after (upgrade_is_torn m v member is_upgrade how turns is) d i = subst (λ (x : State G F). IsAmong x.sent d) (sym (same_state is)) i
+sent_stays {G = G} {F = F} w s o after (upgrade_is_torn m v member is_upgrade turns is) d i = subst (λ (x : State G F). IsAmong x.sent d) (sym (same_state is)) i
 sent_stays {G = G} {F = F} w s o after (is_armed m b member is_balk how is) d i = subst (λ (x : State G F). IsAmong x.sent d) (sym (same_state is)) i
 
 pub promises_bind : {D G F : Type 0} → PromisesBind D G F

@@ -1,5 +1,5 @@
 -- Histories with a torn step, and of two proposers.
-use Rattle.std.proofs.Common.{◌≡◌, inl, inr, refl, arith, [], ◌∷◌, Some, None, true, false}
+use Rattle.std.proofs.Common.{◌≡◌, inl, refl, arith, [], ◌∷◌, Some, None, true, false}
 use Rattle.std.specs.Prelude.{◌==◌}
 use Rattle.std.proofs.lemmas.Bool.{eq-eqb}
 use Rattle.protocol.specs.Ballots.{IsMember}
@@ -7,7 +7,7 @@ use Rattle.protocol.specs.Rows.{blank, raised, vote_for}
 use Rattle.protocol.specs.Packets.{Packet, Prepare, Promise, Accept, Accepted, Nack}
 use Rattle.protocol.specs.Turn.{Note_began, Note_nothing, Note_promised, Note_silent, Note_nacked, Note_denied, Note_idle, Note_proposed, Note_heard, Note_voted, Offered, Sought, Came_due, Arrived, packet_to}
 use Rattle.protocol.specs.Refusals.{Offering, Seeking, Falling_due, Receiving, Stopped}
-use Rattle.protocol.specs.Circuit.{Circuit, Datagram, Offers, Seeks, Falls_due, Delivers, Restarts, Balks, Done, Refused, Torn_by_store, Torn_by_memory, Restarted, Armed, before_save, at_save, is_refused, is_idle, is_done, is_torn, restarts, is_armed, History, goes_on}
+use Rattle.protocol.specs.Circuit.{Circuit, Datagram, Offers, Seeks, Falls_due, Delivers, Restarts, Balks, Done, Refused, Torn_as_armed, Torn_by_memory, Restarted, Armed, memory_before_save, at_save, is_refused, is_idle, is_done, is_torn, restarts, is_armed, History, goes_on}
 use Rattle.protocol.specs.Runs.{ballot}
 use Rattle.protocol.specs.Rehearsals.{LosesWhatIsUnsaved, UnsavedVoteIsLost, DeniesTheLower, LowerIsDenied, FightsForOne, TwoProposersFight, datagram_of}
 use Rattle.protocol.proofs.Steps.{heard_here}
@@ -18,12 +18,12 @@ loses_what_is_unsaved {D = D} {G = G} {F = F} k reads version_of sets says v tap
     let z : Circuit D G F = record { number = k; count = 1; reads = reads; version_of = version_of; sets = sets; says = says } in
     let me : IsMember 1 1 = (omega arith, omega arith) in
     let h1 : History z _ = goes_on (begins z v) (Balks 1 false) (Armed false) (is_armed 1 false me refl refl (same _)) in
-    let h2 : History z _ = goes_on h1 (Offers 1 12 tape 0) Torn_by_store
-    (is_torn 1 (Offering 12 tape 0) (Offered 12 tape 0) blank None refl me (rw fit refl) refl (at_save _ refl (rw (fit, s) refl) refl (changes tape) refl refl) (same _)) in
+    let h2 : History z _ = goes_on h1 (Offers 1 12 tape 0) Torn_as_armed
+    (is_torn 1 (Offering 12 tape 0) (Offered 12 tape 0) blank None refl me refl (at_save _ (rw (fit, s) refl) refl (changes tape) (refl, refl) refl) (same _)) in
     let h3 : History z _ = goes_on h2 (Restarts 1) Restarted (restarts 1 me refl refl (same _)) in
     let h4 : History z _ = goes_on h3 (Seeks 1 12 0) (Done (Note_nothing (ballot 1 1))) (is_done 1 (Seeking 12 0) (Sought 12 0) _ [] refl me refl refl refl tt (inl refl) refl (same _)) in
     let h5 : History z _ = goes_on h4 (Offers 1 12 tape 0) Torn_by_memory
-    (is_torn 1 (Offering 12 tape 0) (Offered 12 tape 0) (raised blank (ballot 1 1)) None refl me (rw fit refl) refl (before_save (inr refl) refl refl) (same _)) in
+    (is_torn 1 (Offering 12 tape 0) (Offered 12 tape 0) (raised blank (ballot 1 1)) None refl me refl (memory_before_save refl (rw fit refl) refl refl) (same _)) in
     let h6 : History z _ = goes_on h5 (Seeks 1 12 0) (Refused Stopped) (is_refused 1 (Seeking 12 0) Stopped refl me refl refl (same _)) in
     let h7 : History z _ = goes_on h6 (Restarts 1) Restarted (restarts 1 me refl refl (same _)) in
     let h8 : History z _ = goes_on h7 (Offers 1 12 tape 0) (Done (Note_proposed (ballot 2 1)))

@@ -10,7 +10,7 @@ use Rattle.protocol.specs.Marks.{Mark}
 use Rattle.protocol.specs.Proposals.{next_due}
 use Rattle.protocol.specs.Turn.{Turn, turn, Event, Offered, Sought, Came_due, Arrived, number_of}
 use Rattle.protocol.specs.Refusals.{Call, Offering, Seeking, Falling_due, Receiving, Refusal, Stopped, wire_refusal, number_refusal, call_refusal, early_refusal, due_event, arrival, event_of}
-use Rattle.protocol.specs.Circuit.{Circuit, hears, setup_of, State, IsSameState, fresh, Outcome, with_at, saved, MayLeave, MayGoOver, Leaves, before_save, at_save, StepsTo, is_refused, is_idle, is_spent, is_done, is_torn, restarts, upgrades, upgrade_is_torn, is_armed, History, starts, goes_on}
+use Rattle.protocol.specs.Circuit.{Circuit, hears, setup_of, State, IsSameState, fresh, Outcome, with_at, saved, MayLeave, Leaves, store_before_save, memory_before_save, at_save, StepsTo, is_refused, is_idle, is_spent, is_done, is_torn, restarts, upgrades, upgrade_is_torn, is_armed, History, starts, goes_on}
 use Rattle.protocol.specs.Circuit as circuit
 use Rattle.protocol.specs.Fitting.{Fits, VoteFits, MarksFit, BodyFits, EventFits, TurnFits, SpellsWhatFits, MembersFit, HistoriesFit}
 use Rattle.protocol.proofs.Places.{with_at_cases, with_at-self, with_at-same, saved_cases, saved-self}
@@ -121,15 +121,10 @@ module _ {D G F : Type 0} (z : Circuit D G F) (spells : SpellsWhatFits z) where
       emptied : k ≡ m → MarksFit v (with_at w.marks m [] k)
       emptied same = subst (λ (l : List Mark). MarksFit v l) (sym (ap (λ (x : ℕ). with_at w.marks m [] x) same ∙ with_at-same w.marks m [])) (no_marks v)
 
-  may_go_over : (armed : Option Bool) (before v : Version) → MayGoOver armed before v → (v ≡ before) ⊎ (v ≡ Two)
-  may_go_over (Some false) before v h = inl h
-  may_go_over (Some true) before v h = h
-  may_go_over None before v h = h
-
-  may_leave : (armed : Option Bool) (before after row : Row) → MayLeave armed before after row → (row ≡ before) ⊎ (row ≡ after)
-  may_leave (Some false) before after row h = inl h
-  may_leave (Some true) before after row h = h
-  may_leave None before after row h = h
+  may_leave : {A : Type 0} (armed : Option Bool) (o : Outcome D F) (before after now : A) → MayLeave armed o before after now → (now ≡ before) ⊎ (now ≡ after)
+  may_leave (Some false) o before after now h = inl h.1
+  may_leave (Some true) o before after now h = elim h [ inl x ↦ inr x.1 | inr x ↦ x.1 ]
+  may_leave None o before after now h = h.1
 
   taken_fits :
       (w : State G F) → MembersFit w → (m : ℕ) (call : Call) (e : Event) (t : Turn) → IsMember z.count m
@@ -147,21 +142,22 @@ module _ {D G F : Type 0} (z : Circuit D G F) (spells : SpellsWhatFits z) where
   step_fits w s o after h (is_done m call e t out task member unrefused event taken carried armed how is) =
       let f = taken_fits w h m call e t member (first_none _ _ unrefused) event taken in
       subst (λ (x : State G F). MembersFit x) (sym (same_state is)) (record { rows = saved_fit w h m (number_of e) t.row f.row; marks = marked_fit w h m t.marks f.marks })
-  step_fits w s o after h (is_torn m call e row armed task member unrefused event leaves is) =
+  step_fits w s o after h (is_torn m call e row armed task member event leaves is) =
       subst (λ (x : State G F). MembersFit x) (sym (same_state is)) (record { rows = saved_fit w h m (number_of e) row (left leaves); marks = marked_fit w h m [] (no_marks (w.version m)) })
     where
       left : Leaves z w m call e o row armed → VoteFits (w.version m) row.vote
-      left (before_save how same stays) = subst (λ (r : Row). VoteFits (w.version m) r.vote) (sym same) (h.rows m (number_of e))
-      left (at_save t how un taken changes may disarmed) = elim (may_leave (w.armed m) (w.rows m (number_of e)) t.row row may) [
+      left (store_before_save how un same stays) = subst (λ (r : Row). VoteFits (w.version m) r.vote) (sym same) (h.rows m (number_of e))
+      left (memory_before_save how un same stays) = subst (λ (r : Row). VoteFits (w.version m) r.vote) (sym same) (h.rows m (number_of e))
+      left (at_save t un taken changes may disarmed) = elim (may_leave (w.armed m) o (w.rows m (number_of e)) t.row row may) [
         | inl same ↦ subst (λ (r : Row). VoteFits (w.version m) r.vote) (sym same) (h.rows m (number_of e))
-        | inr same ↦ subst (λ (r : Row). VoteFits (w.version m) r.vote) (sym same) (taken_fits w h m call e t member unrefused event taken).row
+        | inr same ↦ subst (λ (r : Row). VoteFits (w.version m) r.vote) (sym same) (taken_fits w h m call e t member (first_none _ _ un) event taken).row
       ]
   step_fits w s o after h (restarts m member is_restart how is) =
       subst (λ (x : State G F). MembersFit x) (sym (same_state is)) (record { rows = h.rows; marks = marked_fit w h m [] (no_marks (w.version m)) })
   step_fits w s o after h (upgrades m member is_upgrade how unarmed is) =
       subst (λ (x : State G F). MembersFit x) (sym (same_state is)) (record { rows = λ k. (turned_fit w h m Two (inr refl) k).0; marks = λ k. (turned_fit w h m Two (inr refl) k).1 })
-  step_fits w s o after h (upgrade_is_torn m v member is_upgrade how turns is) =
-      let t = may_go_over (w.armed m) (w.version m) v turns in
+  step_fits w s o after h (upgrade_is_torn m v member is_upgrade turns is) =
+      let t = may_leave (w.armed m) o (w.version m) Two v turns in
       subst (λ (x : State G F). MembersFit x) (sym (same_state is)) (record { rows = λ k. (turned_fit w h m v t k).0; marks = λ k. (turned_fit w h m v t k).1 })
   step_fits w s o after h (is_armed m b member is_balk how is) = subst (λ (x : State G F). MembersFit x) (sym (same_state is)) (record { rows = h.rows; marks = h.marks })
 

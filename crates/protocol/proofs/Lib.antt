@@ -21,4 +21,5 @@ pub mod Agreements
 pub mod Holding
 pub mod Rehearsing
 pub mod Contending
+pub mod Tearing
 pub mod Upgrading

@@ -1,5 +1,5 @@
 -- Histories that release.
-use Rattle.std.proofs.Common.{◌≡◌, ℕ, inl, inr, refl, ap, sym, subst, arith, List, [], ◌∷◌, Some, None, true}
+use Rattle.std.proofs.Common.{◌≡◌, ℕ, inl, refl, ap, sym, subst, arith, List, [], ◌∷◌, Some, None, true}
 use Rattle.std.specs.Prelude.{◌==◌, map, Result, Ok}
 use Rattle.std.specs.List.{AllZip}
 use Rattle.std.proofs.lemmas.Bool.{eq-eqb}
@@ -9,7 +9,7 @@ use Rattle.protocol.specs.Versions.{Version, fits}
 use Rattle.protocol.specs.Packets.{Packet, Prepare, Promise, Accept, Accepted}
 use Rattle.protocol.specs.Turn.{Note_began, Note_promised, Note_proposed, Note_heard, Note_voted, Offered, Sought, Arrived, packet_to}
 use Rattle.protocol.specs.Refusals.{Offering, Seeking, Receiving, Stopped}
-use Rattle.protocol.specs.Circuit.{Circuit, State, IsSameState, fresh, Offers, Seeks, Delivers, Restarts, Balks, Done, Refused, Torn_by_store, Restarted, Armed, Carries, at_save, is_refused, is_done, is_torn, restarts, is_armed, History, starts, goes_on}
+use Rattle.protocol.specs.Circuit.{Circuit, State, IsSameState, fresh, Offers, Seeks, Delivers, Restarts, Balks, Done, Refused, Torn_as_armed, Restarted, Armed, Carries, at_save, is_refused, is_done, is_torn, restarts, is_armed, History, starts, goes_on}
 use Rattle.protocol.specs.Runs.{ballot}
 use Rattle.protocol.proofs.Steps.{heard_here}
 use Rattle.protocol.specs.Rehearsals.{steps_of, started_at, OneMemberReleases, SavedVoteIsReleased, ThreeMembersRelease, packets_of_three, datagram_of, release_by}
@@ -47,7 +47,7 @@ IsSavedAndReleased {D = D} {G = G} {F = F} z =
     → (w : State G F) × (h : History z w) × (started_at h 1 ≡ v) × (w.releases ≡ release_by z 1 tape ∷ [])
     × (steps_of h
     ≡ record { step = Balks 1 true; outcome = Armed true }
-    ∷ record { step = Offers 1 12 tape 0; outcome = Torn_by_store }
+    ∷ record { step = Offers 1 12 tape 0; outcome = Torn_as_armed }
     ∷ record { step = Seeks 1 12 0; outcome = Refused Stopped }
     ∷ record { step = Restarts 1; outcome = Restarted }
     ∷ record { step = Seeks 1 12 0; outcome = Done (Note_proposed (ballot 2 1)) } ∷ [])
@@ -60,7 +60,7 @@ is_saved_and_released {D = D} {G = G} {F = F} k reads version_of sets says v tap
     let z : Circuit D G F = record { number = k; count = 1; reads = reads; version_of = version_of; sets = sets; says = says } in
     let me : IsMember 1 1 = (omega arith, omega arith) in
     let h1 : History z _ = goes_on (begins z v) (Balks 1 true) (Armed true) (is_armed 1 true me refl refl (same _)) in
-    let h2 : History z _ = goes_on h1 (Offers 1 12 tape 0) Torn_by_store (is_torn 1 (Offering 12 tape 0) (Offered 12 tape 0) (voted (ballot 1 1) tape) None refl me (rw fit refl) refl (at_save _ refl (rw (fit, s) refl) refl (changes tape) (inr refl) refl) (same _)) in
+    let h2 : History z _ = goes_on h1 (Offers 1 12 tape 0) Torn_as_armed (is_torn 1 (Offering 12 tape 0) (Offered 12 tape 0) (voted (ballot 1 1) tape) None refl me refl (at_save _ (rw (fit, s) refl) refl (changes tape) (inl (refl, refl)) refl) (same _)) in
     let h3 : History z _ = goes_on h2 (Seeks 1 12 0) (Refused Stopped) (is_refused 1 (Seeking 12 0) Stopped refl me refl refl (same _)) in
     let h4 : History z _ = goes_on h3 (Restarts 1) Restarted (restarts 1 me refl refl (same _)) in
     let h5 : History z _ = goes_on h4 (Seeks 1 12 0) (Done (Note_proposed (ballot 2 1))) (is_done 1 (Seeking 12 0) (Sought 12 0) _ [] refl me refl refl refl tt (inl refl) refl (same _)) in

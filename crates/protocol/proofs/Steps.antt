@@ -12,7 +12,7 @@ use Rattle.protocol.specs.Proposals.{next_due}
 use Rattle.protocol.specs.Turn.{Turn, Event, Offered, Sought, Came_due, Arrived, number_of}
 use Rattle.protocol.specs.Table.{VotedAt, IsTurn}
 use Rattle.protocol.specs.Refusals.{Call, Offering, Seeking, Falling_due, Receiving, due_event, arrival, event_of}
-use Rattle.protocol.specs.Circuit.{Circuit, hears, setup_of, Datagram, Offer, Release, State, IsSameState, fresh, Step, Offers, Seeks, Falls_due, Delivers, Restarts, Upgrades, Balks, Outcome, with_at, saved, Carries, datagram_at, Task, delivery, task_of, offers_with, releases_with, MayLeave, Leaves, before_save, at_save, StepsTo, is_refused, is_idle, is_spent, is_done, is_torn, restarts, upgrades, upgrade_is_torn, is_armed, History, starts, goes_on}
+use Rattle.protocol.specs.Circuit.{Circuit, hears, setup_of, Datagram, Offer, Release, State, IsSameState, fresh, Step, Offers, Seeks, Falls_due, Delivers, Restarts, Upgrades, Balks, Outcome, with_at, saved, Carries, datagram_at, Task, delivery, task_of, offers_with, releases_with, MayLeave, Leaves, store_before_save, memory_before_save, at_save, StepsTo, is_refused, is_idle, is_spent, is_done, is_torn, restarts, upgrades, upgrade_is_torn, is_armed, History, starts, goes_on}
 use Rattle.protocol.specs.Agreement.{HoldsVote, WasVoted}
 use Rattle.protocol.proofs.Meeting.{is_turn}
 use Rattle.protocol.proofs.Sound.{Votes, Releases, Rows, PacketHolds, Sound}
@@ -309,14 +309,15 @@ torn_sound {D = D} {G = G} {F = F} {z = z} {V = V} W w s m call e o row armed af
         (subst (λ (r : Row). (k j : ℕ) (b : Ballot) (u : Tape) → ts.votes k j b u → V k j b u ⊎ VotedAt (saved w.rows m (number_of e) r k j) b u) (sym same) ts.held)
         h.set
 
-    may : (armed' : Option Bool) (t : Turn) → IsTurn z.number z.count m (w.marks m) (w.rows m (number_of e)) e t → MayLeave armed' (w.rows m (number_of e)) t.row row → SoundState z W end
-    may (Some false) t turn x = old_row x
-    may (Some true) t turn x = elim x [ inl y ↦ old_row y | inr y ↦ new_row t turn y ]
-    may None t turn x = elim x [ inl y ↦ old_row y | inr y ↦ new_row t turn y ]
+    may : (armed' : Option Bool) (t : Turn) → IsTurn z.number z.count m (w.marks m) (w.rows m (number_of e)) e t → MayLeave armed' o (w.rows m (number_of e)) t.row row → SoundState z W end
+    may (Some false) t turn x = old_row x.1
+    may (Some true) t turn x = elim x [ inl y ↦ new_row t turn y.1 | inr y ↦ elim y.1 [ inl q ↦ old_row q | inr q ↦ new_row t turn q ] ]
+    may None t turn x = elim x.1 [ inl y ↦ old_row y | inr y ↦ new_row t turn y ]
 
     by : Leaves z w m call e o row armed → SoundState z W end
-    by (before_save how same stays) = old_row same
-    by (at_save t how unrefused turn changes x disarmed) = may (w.armed m) t (is_turn z.number z.count m (w.marks m) (w.rows m (number_of e)) e t member turn) x
+    by (store_before_save how unrefused same stays) = old_row same
+    by (memory_before_save how unrefused same stays) = old_row same
+    by (at_save t unrefused turn changes x disarmed) = may (w.armed m) t (is_turn z.number z.count m (w.marks m) (w.rows m (number_of e)) e t member turn) x
 
 -- nothing changed
 stays_sound : {D G F : Type 0} {z : Circuit D G F} {V : Votes} (W : Votes) (w after : State G F) → SoundState z V w → IsSameState after w → Follows V W after → SoundState z W after
@@ -331,13 +332,13 @@ step_sound W w s o after h (is_idle m call task member unrefused event how is) f
 step_sound W w s o after h (is_spent m call e task member unrefused event turn how is) f = stays_sound W w after h is f
 step_sound {z = z} W w s o after h (is_done m call e t out task member unrefused event turn carried armed how is) f =
     done_sound W w m e t out after h (turns w s m call e t h member task event (is_turn z.number z.count m (w.marks m) (w.rows m (number_of e)) e t member turn)) (all_go z (w.version m) t.out out carried) (same_state is) f
-step_sound W w s o after h (is_torn m call e row armed task member unrefused event leaves is) f =
+step_sound W w s o after h (is_torn m call e row armed task member event leaves is) f =
     torn_sound W w s m call e o row armed after h member task event leaves (same_state is) f
 step_sound {G = G} {F = F} {z = z} {V = V} W w s o after h (restarts m member is_restart how is) f =
     subst (λ (x : State G F). SoundState z W x) (sym (same_state is)) (calm_sound W w _ h (subst (λ (x : State G F). Follows V W x) (same_state is) f) refl refl (clear m h.sound))
 step_sound {G = G} {F = F} {z = z} {V = V} W w s o after h (upgrades m member is_upgrade how unarmed is) f =
     subst (λ (x : State G F). SoundState z W x) (sym (same_state is)) (calm_sound W w _ h (subst (λ (x : State G F). Follows V W x) (same_state is) f) refl refl (clear m h.sound))
-step_sound {G = G} {F = F} {z = z} {V = V} W w s o after h (upgrade_is_torn m v member is_upgrade how turns is) f =
+step_sound {G = G} {F = F} {z = z} {V = V} W w s o after h (upgrade_is_torn m v member is_upgrade turns is) f =
     subst (λ (x : State G F). SoundState z W x) (sym (same_state is)) (calm_sound W w _ h (subst (λ (x : State G F). Follows V W x) (same_state is) f) refl refl (clear m h.sound))
 step_sound {G = G} {F = F} {z = z} {V = V} W w s o after h (is_armed m b member is_balk how is) f =
     subst (λ (x : State G F). SoundState z W x) (sym (same_state is)) (calm_sound W w _ h (subst (λ (x : State G F). Follows V W x) (same_state is) f) refl refl h.sound)

@@ -1,5 +1,5 @@
 -- Histories in which members go over.
-use Rattle.std.proofs.Common.{◌≡◌, ℕ, inl, inr, refl, arith, List, [], ◌∷◌, Some, None, true, false}
+use Rattle.std.proofs.Common.{◌≡◌, ℕ, inl, refl, arith, List, [], ◌∷◌, Some, None, true, false}
 use Rattle.std.specs.Prelude.{◌==◌, map, Ok, Err}
 use Rattle.std.specs.List.{AllZip}
 use Rattle.std.proofs.lemmas.Bool.{eq-eqb}
@@ -9,7 +9,7 @@ use Rattle.protocol.specs.Versions.{Version, One, Two, fits}
 use Rattle.protocol.specs.Packets.{Packet, Prepare, Promise, Accept, Accepted}
 use Rattle.protocol.specs.Turn.{Note_began, Note_promised, Note_proposed, Note_heard, Note_voted, Offered, Arrived, packet_to}
 use Rattle.protocol.specs.Refusals.{Offering, Receiving, Wire_too_old, Bad_datagram}
-use Rattle.protocol.specs.Circuit.{Circuit, State, Offers, Delivers, Restarts, Upgrades, Balks, Done, Refused, Torn_by_store, Restarted, Upgraded, Armed, Carries, is_refused, is_done, restarts, upgrades, upgrade_is_torn, is_armed, History, goes_on}
+use Rattle.protocol.specs.Circuit.{Circuit, State, Offers, Delivers, Restarts, Upgrades, Balks, Done, Refused, Torn_as_armed, Restarted, Upgraded, Armed, Carries, is_refused, is_done, restarts, upgrades, upgrade_is_torn, is_armed, History, goes_on}
 use Rattle.protocol.specs.Runs.{ballot}
 use Rattle.protocol.specs.Rehearsals.{steps_of, started_at, TornUpgrades, VoteOutlivesUpgrades, packets_of_three, packets_after, datagram_of, release_by}
 use Rattle.protocol.proofs.Steps.{spelled_heard}
@@ -21,13 +21,13 @@ AreTorn {D = D} {G = G} {F = F} z =
     → ((w : State G F) × (h : History z w) × (started_at h 1 ≡ One) × (w.version 1 ≡ One)
     × (steps_of h
     ≡ record { step = Balks 1 false; outcome = Armed false }
-    ∷ record { step = Upgrades 1; outcome = Torn_by_store }
+    ∷ record { step = Upgrades 1; outcome = Torn_as_armed }
     ∷ record { step = Restarts 1; outcome = Restarted }
     ∷ record { step = Offers 1 12 tape 0; outcome = Refused Wire_too_old } ∷ []))
     × ((w : State G F) × (h : History z w) × (started_at h 1 ≡ One) × (w.releases ≡ release_by z 1 tape ∷ [])
     × (steps_of h
     ≡ record { step = Balks 1 true; outcome = Armed true }
-    ∷ record { step = Upgrades 1; outcome = Torn_by_store }
+    ∷ record { step = Upgrades 1; outcome = Torn_as_armed }
     ∷ record { step = Restarts 1; outcome = Restarted }
     ∷ record { step = Offers 1 12 tape 0; outcome = Done (Note_proposed (ballot 1 1)) } ∷ []))
 
@@ -36,11 +36,11 @@ are_torn {D = D} {G = G} {F = F} k reads version_of sets says tape slugs unfit s
     let z : Circuit D G F = record { number = k; count = 1; reads = reads; version_of = version_of; sets = sets; says = says } in
     let me : IsMember 1 1 = (omega arith, omega arith) in
     let a1 : History z _ = goes_on (begins z One) (Balks 1 false) (Armed false) (is_armed 1 false me refl refl (same _)) in
-    let a2 : History z _ = goes_on a1 (Upgrades 1) Torn_by_store (upgrade_is_torn 1 One me refl refl refl (same _)) in
+    let a2 : History z _ = goes_on a1 (Upgrades 1) Torn_as_armed (upgrade_is_torn 1 One me refl (refl, refl) (same _)) in
     let a3 : History z _ = goes_on a2 (Restarts 1) Restarted (restarts 1 me refl refl (same _)) in
     let a4 : History z _ = goes_on a3 (Offers 1 12 tape 0) (Refused Wire_too_old) (is_refused 1 (Offering 12 tape 0) Wire_too_old refl me (rw unfit refl) refl (same _)) in
     let b1 : History z _ = goes_on (begins z One) (Balks 1 true) (Armed true) (is_armed 1 true me refl refl (same _)) in
-    let b2 : History z _ = goes_on b1 (Upgrades 1) Torn_by_store (upgrade_is_torn 1 Two me refl refl (inr refl) (same _)) in
+    let b2 : History z _ = goes_on b1 (Upgrades 1) Torn_as_armed (upgrade_is_torn 1 Two me refl (inl (refl, refl)) (same _)) in
     let b3 : History z _ = goes_on b2 (Restarts 1) Restarted (restarts 1 me refl refl (same _)) in
     let b4 : History z _ = goes_on b3 (Offers 1 12 tape 0) (Done (Note_proposed (ballot 1 1))) (is_done 1 (Offering 12 tape 0) (Offered 12 tape 0) _ [] refl me (rw s refl) refl refl tt (inl refl) refl (same _)) in
     ((_, a4, refl, refl, refl), (_, b4, refl, refl, refl))

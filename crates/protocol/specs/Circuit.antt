@@ -87,11 +87,12 @@ pub data Step : Type 0 where
   Upgrades : (member : ℕ) → Step
   Balks : (member : ℕ) → (saved : Bool) → Step
 
--- how a step ended: done with a note, refused, torn by the store or by want of memory, restarted, gone over to version 2, armed
+-- how a step ended: done with a note, refused, torn by the member's own store, as its store was armed to refuse, or by want of memory,
+-- restarted, gone over to version 2, armed
 pub data Outcome (D F : Type 0) : Type 0 where
   Done : (note : Note) → Outcome D F
   Refused : (refusal : Refusal D F) → Outcome D F
-  Torn_by_store Torn_by_memory : Outcome D F
+  Torn_by_store Torn_as_armed Torn_by_memory : Outcome D F
   Restarted : Outcome D F
   Upgraded : Outcome D F
   Armed : (saved : Bool) → Outcome D F
@@ -144,28 +145,28 @@ abbrev pub releases_with : {D G F : Type 0} → Circuit D G F → List (Release 
 releases_with z releases m n None = releases
 releases_with z releases m n (Some t) = releases ++ record { member = m; number = n; tape = t; set = z.sets m t } ∷ []
 
--- what a save that is refused may leave of the row: a store armed as unsaved leaves the old one, any other the old or the new
-abbrev pub MayLeave : Option Bool → Row → Row → Row → Type 0
-MayLeave (Some false) before after row = row ≡ before
-MayLeave (Some true) before after row = (row ≡ before) ⊎ (row ≡ after)
-MayLeave None before after row = (row ≡ before) ⊎ (row ≡ after)
+-- what a refused save leaves of a row, or a refused upgrade of a version, and how that step ends.
+-- An armed store refuses by itself: as unsaved it leaves what was before, as saved what comes after.
+-- The member's own store leaves either of them; one that is armed as unsaved does not ask it
+abbrev pub MayLeave : {A D F : Type 0} → Option Bool → Outcome D F → A → A → A → Type 0
+MayLeave (Some false) o before after now = (o ≡ Torn_as_armed) × (now ≡ before)
+MayLeave (Some true) o before after now = ((o ≡ Torn_as_armed) × (now ≡ after)) ⊎ ((o ≡ Torn_by_store) × ((now ≡ before) ⊎ (now ≡ after)))
+MayLeave None o before after now = (o ≡ Torn_by_store) × ((now ≡ before) ⊎ (now ≡ after))
 
--- at which version a torn upgrade may leave a member: a store armed as unsaved leaves it where it was, any other there or at version 2
-abbrev pub MayGoOver : Option Bool → Version → Version → Type 0
-MayGoOver (Some false) before v = v ≡ before
-MayGoOver (Some true) before v = (v ≡ before) ⊎ (v ≡ Two)
-MayGoOver None before v = (v ≡ before) ⊎ (v ≡ Two)
-
--- what a step that is torn leaves of the row of the event's number and of the armed flag:
--- before any save both as they were; at the save, which only the store tears, a row that it may leave, unarmed
+-- what a step that is torn leaves of the row of the event's number and of the armed flag.
+-- Before any save both are as they were: where nothing refuses the call the member's own store may fail as it is read,
+-- and memory may be wanted before that, while an offered tape is set. At the save a row that it may leave, unarmed
 pub data Leaves {D G F : Type 0} (z : Circuit D G F) (w : State G F) (m : ℕ) (call : Call) (e : Event) (o : Outcome D F) (row : Row) (armed : Option Bool) : Type 0 where
-  before_save :
-      (o ≡ Torn_by_store) ⊎ (o ≡ Torn_by_memory)
+  store_before_save :
+      o ≡ Torn_by_store → refusal (setup_of z (w.version m) m) (w.is_stopped m) (w.marks m) call ≡ None
+      → row ≡ w.rows m (number_of e) → armed ≡ w.armed m → Leaves z w m call e o row armed
+  memory_before_save :
+      o ≡ Torn_by_memory → early_refusal (setup_of z (w.version m) m) (w.is_stopped m) (w.marks m) call ≡ None
       → row ≡ w.rows m (number_of e) → armed ≡ w.armed m → Leaves z w m call e o row armed
   at_save :
-      (t : Turn) → o ≡ Torn_by_store → refusal (setup_of z (w.version m) m) (w.is_stopped m) (w.marks m) call ≡ None
+      (t : Turn) → refusal (setup_of z (w.version m) m) (w.is_stopped m) (w.marks m) call ≡ None
       → turn z.number z.count m (w.marks m) (w.rows m (number_of e)) e ≡ Some t → ¬ (t.row ≡ w.rows m (number_of e))
-      → MayLeave (w.armed m) (w.rows m (number_of e)) t.row row → armed ≡ None → Leaves z w m call e o row armed
+      → MayLeave (w.armed m) o (w.rows m (number_of e)) t.row row → armed ≡ None → Leaves z w m call e o row armed
 
 -- a step of a circuit, how it ends and where it leads
 pub data StepsTo {D G F : Type 0} (z : Circuit D G F) (w : State G F) (s : Step) (o : Outcome D F) (after : State G F) : Type 0 where
@@ -207,7 +208,6 @@ pub data StepsTo {D G F : Type 0} (z : Circuit D G F) (w : State G F) (s : Step)
   -- the store or want of memory ends it: the station stops and forgets its marks, and nothing is sent or released
   is_torn :
       (m : ℕ) (call : Call) (e : Event) (row : Row) (armed : Option Bool) → task_of w.sent s ≡ Some (record { member = m; call = call }) → IsMember z.count m
-      → early_refusal (setup_of z (w.version m) m) (w.is_stopped m) (w.marks m) call ≡ None
       → event_of (setup_of z (w.version m) m) (w.marks m) call ≡ Some e
       → Leaves z w m call e o row armed
       → IsSameState after (record w {
@@ -231,7 +231,7 @@ pub data StepsTo {D G F : Type 0} (z : Circuit D G F) (w : State G F) (s : Step)
   -- a torn upgrade: the store refuses to go over; all rows stand, and all are of the old version or all of version 2;
   -- the station stops and forgets its marks
   upgrade_is_torn :
-      (m : ℕ) (v : Version) → IsMember z.count m → s ≡ Upgrades m → o ≡ Torn_by_store → MayGoOver (w.armed m) (w.version m) v
+      (m : ℕ) (v : Version) → IsMember z.count m → s ≡ Upgrades m → MayLeave (w.armed m) o (w.version m) Two v
       → IsSameState after (record w { version = with_at w.version m v; marks = with_at w.marks m []; is_stopped = with_at w.is_stopped m true; armed = with_at w.armed m None })
       → StepsTo z w s o after
   -- a member's store is armed

@@ -13,6 +13,7 @@ pub mod Readings
 pub mod Table
 pub mod Refusals
 pub mod Circuit
+pub mod Tearing
 pub mod Agreement
 pub mod Fitting
 pub mod Rehearsals

@@ -7,7 +7,7 @@ use Rattle.protocol.specs.Turn.{Offered, Note_began, Note_nothing, Note_promised
 use Rattle.protocol.specs.Runs.{ballot, run_of}
 use Rattle.protocol.specs.Refusals.{Setup, Offering, Receiving, Stopped, Wrong_circuit, Not_for_me, Stranger, Bad_number, Already_released, Already_open, Wire_too_old, Tape_faulty, Bad_datagram, packet_refusal, number_refusal, refusal}
 use Rattle.protocol.specs.Versions.{Version, One, Two, fits}
-use Rattle.protocol.specs.Circuit.{Circuit, Carries, Datagram, Offer, Release, State, Step, Offers, Seeks, Falls_due, Delivers, Restarts, Upgrades, Balks, Outcome, Done, Refused, Torn_by_store, Torn_by_memory, Restarted, Upgraded, Armed, History, starts, goes_on}
+use Rattle.protocol.specs.Circuit.{Circuit, Carries, Datagram, Offer, Release, State, Step, Offers, Seeks, Falls_due, Delivers, Restarts, Upgrades, Balks, Outcome, Done, Refused, Torn_by_store, Torn_as_armed, Torn_by_memory, Restarted, Upgraded, Armed, History, starts, goes_on}
 
 -- a member of 3 refuses packets of another circuit, for another, and of strangers: the sender, the owner of the ballot, of a reported vote, of a Nack's promise
 pub record PacketsAreRefused (D F : Type 0) : Type 0 where
@@ -92,7 +92,7 @@ SavedVoteIsReleased D G F =
     → (w : State G F) × (h : History z w) × (started_at h 1 ≡ v) × (w.releases ≡ release_by z 1 tape ∷ [])
     × (steps_of h
     ≡ record { step = Balks 1 true; outcome = Armed true }
-    ∷ record { step = Offers 1 12 tape 0; outcome = Torn_by_store }
+    ∷ record { step = Offers 1 12 tape 0; outcome = Torn_as_armed }
     ∷ record { step = Seeks 1 12 0; outcome = Refused Stopped }
     ∷ record { step = Restarts 1; outcome = Restarted }
     ∷ record { step = Seeks 1 12 0; outcome = Done (Note_proposed (ballot 2 1)) } ∷ [])
@@ -136,13 +136,13 @@ TornUpgrades D G F =
     → ((w : State G F) × (h : History z w) × (started_at h 1 ≡ One) × (w.version 1 ≡ One)
     × (steps_of h
     ≡ record { step = Balks 1 false; outcome = Armed false }
-    ∷ record { step = Upgrades 1; outcome = Torn_by_store }
+    ∷ record { step = Upgrades 1; outcome = Torn_as_armed }
     ∷ record { step = Restarts 1; outcome = Restarted }
     ∷ record { step = Offers 1 12 tape 0; outcome = Refused Wire_too_old } ∷ []))
     × ((w : State G F) × (h : History z w) × (started_at h 1 ≡ One) × (w.releases ≡ release_by z 1 tape ∷ [])
     × (steps_of h
     ≡ record { step = Balks 1 true; outcome = Armed true }
-    ∷ record { step = Upgrades 1; outcome = Torn_by_store }
+    ∷ record { step = Upgrades 1; outcome = Torn_as_armed }
     ∷ record { step = Restarts 1; outcome = Restarted }
     ∷ record { step = Offers 1 12 tape 0; outcome = Done (Note_proposed (ballot 1 1)) } ∷ []))
 
@@ -196,7 +196,7 @@ LosesWhatIsUnsaved {D = D} {G = G} {F = F} z =
     × (w.releases ≡ release_by z 1 tape ∷ release_by z 1 tape ∷ []) × (w.offers ≡ offer_by 1 tape ∷ offer_by 1 tape ∷ offer_by 1 tape ∷ [])
     × (steps_of h
     ≡ record { step = Balks 1 false; outcome = Armed false }
-    ∷ record { step = Offers 1 12 tape 0; outcome = Torn_by_store }
+    ∷ record { step = Offers 1 12 tape 0; outcome = Torn_as_armed }
     ∷ record { step = Restarts 1; outcome = Restarted }
     ∷ record { step = Seeks 1 12 0; outcome = Done (Note_nothing (ballot 1 1)) }
     ∷ record { step = Offers 1 12 tape 0; outcome = Torn_by_memory }
@@ -209,6 +209,57 @@ LosesWhatIsUnsaved {D = D} {G = G} {F = F} z =
 -- each circuit of one is such
 abbrev pub UnsavedVoteIsLost : (D G F : Type 0) → Type 0
 UnsavedVoteIsLost D G F = (z : Circuit D G F) → z.count ≡ 1 → LosesWhatIsUnsaved z
+
+-- 1 of 1 is offered a tape that doesn't set. It is refused; but memory may be refused first, while the tape is set,
+-- and then the station stops, and the offer counts as one that was made
+abbrev pub MemoryEndsSetting : {D G F : Type 0} → Circuit D G F → Type 0
+MemoryEndsSetting {D = D} {G = G} {F = F} z =
+    (v : Version) (tape : Tape) (fault : F) → fits v tape ≡ true → z.sets 1 tape ≡ Err fault
+    → (w : State G F) × (h : History z w) × (started_at h 1 ≡ v) × (w.is_stopped 1 ≡ true) × (w.offers ≡ offer_by 1 tape ∷ [])
+    × (steps_of h
+    ≡ record { step = Offers 1 12 tape 0; outcome = Refused (Tape_faulty fault) }
+    ∷ record { step = Offers 1 12 tape 0; outcome = Torn_by_memory } ∷ [])
+
+-- each circuit of one is such
+abbrev pub SettingWantsMemory : (D G F : Type 0) → Type 0
+SettingWantsMemory D G F = (z : Circuit D G F) → z.count ≡ 1 → MemoryEndsSetting z
+
+-- 1 of 1 is armed as saved. Its own store fails as the row is read, which leaves it armed: after a restart its next offer is torn as armed,
+-- and the vote was saved, which a search finds after one more restart
+abbrev pub StaysArmed : {D G F : Type 0} → Circuit D G F → Type 0
+StaysArmed {D = D} {G = G} {F = F} z =
+    (v : Version) (tape : Tape) (slugs : G) → fits v tape ≡ true → z.sets 1 tape ≡ Ok slugs
+    → (w : State G F) × (h : History z w) × (started_at h 1 ≡ v)
+    × (w.releases ≡ release_by z 1 tape ∷ []) × (w.offers ≡ offer_by 1 tape ∷ offer_by 1 tape ∷ [])
+    × (steps_of h
+    ≡ record { step = Balks 1 true; outcome = Armed true }
+    ∷ record { step = Offers 1 12 tape 0; outcome = Torn_by_store }
+    ∷ record { step = Restarts 1; outcome = Restarted }
+    ∷ record { step = Offers 1 12 tape 0; outcome = Torn_as_armed }
+    ∷ record { step = Restarts 1; outcome = Restarted }
+    ∷ record { step = Seeks 1 12 0; outcome = Done (Note_proposed (ballot 2 1)) } ∷ [])
+
+-- each circuit of one is such
+abbrev pub ReadingLeavesArmed : (D G F : Type 0) → Type 0
+ReadingLeavesArmed D G F = (z : Circuit D G F) → z.count ≡ 1 → StaysArmed z
+
+-- 1 of 1 is armed as saved, and its own store refuses the save too and leaves the row before: after the restart a search finds nothing,
+-- and the next offer is not torn
+abbrev pub SaveIsRefusedTwice : {D G F : Type 0} → Circuit D G F → Type 0
+SaveIsRefusedTwice {D = D} {G = G} {F = F} z =
+    (v : Version) (tape : Tape) (slugs : G) → fits v tape ≡ true → z.sets 1 tape ≡ Ok slugs
+    → (w : State G F) × (h : History z w) × (started_at h 1 ≡ v)
+    × (w.releases ≡ release_by z 1 tape ∷ []) × (w.offers ≡ offer_by 1 tape ∷ offer_by 1 tape ∷ [])
+    × (steps_of h
+    ≡ record { step = Balks 1 true; outcome = Armed true }
+    ∷ record { step = Offers 1 12 tape 0; outcome = Torn_by_store }
+    ∷ record { step = Restarts 1; outcome = Restarted }
+    ∷ record { step = Seeks 1 12 0; outcome = Done (Note_nothing (ballot 1 1)) }
+    ∷ record { step = Offers 1 12 tape 0; outcome = Done (Note_proposed (ballot 2 1)) } ∷ [])
+
+-- each circuit of one is such
+abbrev pub StoreRefusesToo : (D G F : Type 0) → Type 0
+StoreRefusesToo D G F = (z : Circuit D G F) → z.count ≡ 1 → SaveIsRefusedTwice z
 
 -- what goes out as 3 of 3 asks for 1.3 and 2 promises it, as 1 asks for 1.1 and 2 denies it, and as 1 asks anew
 abbrev pub packets_denied : ℕ → List Packet

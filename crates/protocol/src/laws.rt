@@ -5,9 +5,10 @@ ghost use Rattle.protocol.specs.Acceptor.{StepsAreOfTheWhole};
 ghost use Rattle.protocol.specs.Agreement.{BallotsHaveOneTape, ChosenIsOne, HeardIsVoted, HistoriesAgree, PromisesBind, ReportsAreGreatest, RipeIsChosen, VotesAreBacked, VotesAreOffered};
 ghost use Rattle.protocol.specs.Fitting.{HistoriesFit, TurnsFit, VersionTwoReadsBoth};
 ghost use Rattle.protocol.specs.Readings.{NextDueIsLeast};
-ghost use Rattle.protocol.specs.Rehearsals.{AddresseeIsToldFirst, LowerIsDenied, NumberIsToldFirst, NumbersAreRefused, OneMemberReleases, PacketsAreRefused, SavedVoteIsReleased, StoppedIsToldFirst, ThreeMembersRelease, TornUpgrades, TwoProposersFight, UnsavedVoteIsLost, VersionIsToldFirst, VoteOutlivesUpgrades};
+ghost use Rattle.protocol.specs.Rehearsals.{AddresseeIsToldFirst, LowerIsDenied, NumberIsToldFirst, NumbersAreRefused, OneMemberReleases, PacketsAreRefused, ReadingLeavesArmed, SavedVoteIsReleased, SettingWantsMemory, StoppedIsToldFirst, StoreRefusesToo, ThreeMembersRelease, TornUpgrades, TwoProposersFight, UnsavedVoteIsLost, VersionIsToldFirst, VoteOutlivesUpgrades};
 ghost use Rattle.protocol.specs.Runs.{BallotsStandApart, BeginsAbovePromise, ClosedIsForgotten, FallsDueAbove, FirstAcceptStands, FirstOfTwoReleases, GivesUp, GreaterReportIsTaken, LastRoundIsBegun, LastRoundIsSpent, LeastMemberDecides, LowerIsNacked, NumbersStandApart, OfferedAfterGivingUp, OneFindsNothing, OneReleases, PassedIsOvertaken, ReleasedIsSettled, RepeatedVoteCountsOnce, SecondOfTwoReleases, ThirdTakesOver, VoteIsReported};
 ghost use Rattle.protocol.specs.Table.{NumbersAreReleasedOnce, TurnsAreAnAcceptors, TurnsAreOfTheTable};
+ghost use Rattle.protocol.specs.Tearing.{StoreTearsTheUnrefused, TornAsItWasArmed};
 
 /// An acceptor that keeps one row answers as the whole list of its requests says.
 pub fn acceptor_steps()
@@ -48,6 +49,13 @@ pub fn turns_fit()
 /// In every history, with upgrades and torn ones among its steps, each member holds only tapes that its version can save and send.
 pub fn histories_fit<D, G, F>()
     ensures { HistoriesFit D G F }
+{}
+
+/// Where a member's store tears a step, nothing refuses what the member was asked. A step that is torn as its store was armed leaves the row
+/// that it was armed to leave: the row after where as saved, the row before where as unsaved.
+pub fn what_the_store_tears<D, G, F>()
+    ensures unrefused { StoreTearsTheUnrefused D G F }
+    ensures armed { TornAsItWasArmed D G F }
 {}
 
 /// All votes and Accepts of one number and ballot carry one tape.
@@ -149,6 +157,14 @@ pub fn saved_vote_is_released<D, G, F>()
 /// A vote that was not saved as the store failed is lost, want of memory leaves the saved row, and a restart forgets what was released.
 pub fn unsaved_vote_is_lost<D, G, F>()
     ensures { UnsavedVoteIsLost D G F }
+{}
+
+/// Torn steps that are not as their store was armed: memory that is refused while a tape is set, a store that fails as it is read and stays armed,
+/// and one that refuses the save that an armed store passes on.
+pub fn torn_otherwise<D, G, F>()
+    ensures setting { SettingWantsMemory D G F }
+    ensures reading { ReadingLeavesArmed D G F }
+    ensures too { StoreRefusesToo D G F }
 {}
 
 /// Two proposers of three: the lower one is denied and begins anew above; the later one takes over what may have been chosen.

@@ -72,7 +72,7 @@ impl<R: Rows> Rows for Balky<R> {
     ghost refusals = { λ s. R.refusals s.rows + s.refusals };
 
     // A reading leaves it armed as it was.
-    ghost alike = { λ old new. (new.armed ≡ old.armed) × R.alike old.rows new.rows };
+    ghost alike = { λ old new. (new.armed ≡ old.armed) × (R.refusals old.rows ≤ R.refusals new.rows) × R.alike old.rows new.rows };
 
     // Only unarmed it saves.
     ghost passes = { λ old new. (old.armed ≡ None) × (new.armed ≡ None) × R.passes old.rows new.rows };
@@ -86,8 +86,11 @@ impl<R: Rows> Rows for Balky<R> {
         (R.kept new.rows → WithRow (R.saved old.rows) number row (R.saved new.rows))
         ⊎ (Rises (R.refusals old.rows) (R.refusals new.rows) × R.tells old.rows new.rows number row)) };
 
-    // An armed one refuses as its own fault, else its rows answer for theirs.
-    ghost blames = { λ old new fault. (IsSome old.armed × (fault ≡ Store)) ⊎ R.blames old.rows new.rows fault };
+    // An armed one refuses a save as its own fault, and is unarmed by it. Else it is armed as it was, and its rows
+    // refused and answer for theirs.
+    ghost blames = { λ old new fault. (R.refusals old.rows ≤ R.refusals new.rows)
+        × ((IsSome old.armed × (new.armed ≡ None) × (fault ≡ Store))
+        ⊎ ((new.armed ≡ old.armed) × Rises (R.refusals old.rows) (R.refusals new.rows) × R.blames old.rows new.rows fault)) };
 
     ghost halves = { λ s. R.halves s.rows };
 
@@ -109,7 +112,9 @@ impl<R: Rows> Rows for Balky<R> {
             ⊎ (Rises (R.refusals self.old.rows) (R.refusals self.new.rows) × R.tells self.old.rows self.new.rows number row.now))) }
         ensures cause { OnErr result (Rises (R.refusals self.old.rows + self.old.refusals) (R.refusals self.new.rows + self.new.refusals)) }
         ensures counts { R.refusals self.old.rows + self.old.refusals ≤ R.refusals self.new.rows + self.new.refusals }
-        ensures blames { IfErr result (λ fault. (IsSome self.old.armed × (fault ≡ RowsFault.Store)) ⊎ R.blames self.old.rows self.new.rows fault) }
+        ensures blames { IfErr result (λ fault. (R.refusals self.old.rows ≤ R.refusals self.new.rows)
+            × ((IsSome self.old.armed × (self.new.armed ≡ None) × (fault ≡ RowsFault.Store))
+            ⊎ ((self.new.armed ≡ self.old.armed) × Rises (R.refusals self.old.rows) (R.refusals self.new.rows) × R.blames self.old.rows self.new.rows fault))) }
         ensures made { R.made self.old.rows → R.made self.new.rows }
         ensures was_kept { R.kept self.new.rows → R.kept self.old.rows }
         ensures was_open { R.kept self.new.rows → R.is_open self.new.rows → R.is_open self.old.rows }

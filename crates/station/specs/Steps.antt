@@ -147,6 +147,15 @@ abbrev pub OnStore : {A : Type 0} → Result A StepRefusal → Type 0 → Type 0
 OnStore (Err (Store fault)) P = P
 OnStore _ P = Unit {0}
 
+-- what holds of the fault where the store refused
+abbrev pub IfStore : {A : Type 0} → Result A StepRefusal → (RowsFault → Type 0) → Type 0
+IfStore (Err (Store fault)) P = P fault
+IfStore _ P = Unit {0}
+
+-- the rows blame this fault: as they were read, or as a row was saved after they were read
+abbrev pub IsBlamed : {R : Type 0} → Sight R → R → R → RowsFault → Type 0
+IsBlamed {R = R} x old new fault = x.blames old new fault ⊎ ((mid : R) × x.alike old mid × x.blames mid new fault)
+
 -- the refusals that stop a station
 abbrev pub tears : StepRefusal → Bool
 tears Stopped = false

@@ -5,7 +5,7 @@ ghost use Rattle.std.specs.List.{AllZip};
 ghost use Rattle.saved_rows.specs.Saved.{HasPromise, Rises};
 ghost use Rattle.station.specs.Stations.{sight};
 ghost use Rattle.station.specs.Readiness.{Carries, IsReleased, Saves};
-ghost use Rattle.station.specs.Steps.{OnStore, tears};
+ghost use Rattle.station.specs.Steps.{OnStore, IfStore, tears};
 
 use crate::answer::{Answer, Release};
 use crate::datagram::Datagram;
@@ -79,6 +79,7 @@ pub(crate) fn save<R: Rows>(
     ensures made { R.made rows.old → R.made rows.new }
     ensures many { IfOk result (λ a. length a.out.items ≡ length turn.out.items) }
     ensures cause { OnStore result (Rises (R.refusals rows.old) (R.refusals rows.new)) }
+    ensures blames { IfStore result (R.blames rows.old rows.new) }
     ensures counts { R.refusals rows.old ≤ R.refusals rows.new }
     ensures tears { IfErr result (λ r. tears r ≡ true) }
 {

@@ -10,7 +10,7 @@ ghost use Rattle.node_core.specs.Calls.{MayCome};
 ghost use Rattle.node_core.specs.Turns.{event_value};
 ghost use Rattle.station.specs.Refusing.{ChecksNumber};
 ghost use Rattle.station.specs.Stations.{sight, IsFixed};
-ghost use Rattle.station.specs.Steps.{Ends, IsFree, Steps, OnStore, tears, stopped_after};
+ghost use Rattle.station.specs.Steps.{Ends, IsFree, Steps, OnStore, IfStore, IsBlamed, tears, stopped_after};
 
 use crate::answer::Answer;
 use crate::checks::{check_packet, fault_of, fits_version_one};
@@ -35,6 +35,7 @@ impl<R: Rows> Station<R> {
         ensures made { R.made self.old.rows → R.made self.new.rows }
         ensures few { IfOk result (λ a. length a.out.items ≤ 28) }
         ensures cause { OnStore result (Rises (R.refusals self.old.rows) (R.refusals self.new.rows)) }
+        ensures blames { IfStore result (IsBlamed (sight R.Rows) self.old.rows self.new.rows) }
         ensures stops { self.new.stopped ≡ stopped_after self.old.stopped result }
         ensures stopped { self.old.stopped ≡ true → (result ≡ Err StepRefusal.Stopped) × (self.new ≡ self.old) }
     {
@@ -65,6 +66,7 @@ impl<R: Rows> Station<R> {
         ensures made { R.made self.old.rows → R.made self.new.rows }
         ensures few { IfOk result (λ a. length a.out.items ≤ 28) }
         ensures cause { OnStore result (Rises (R.refusals self.old.rows) (R.refusals self.new.rows)) }
+        ensures blames { IfStore result (IsBlamed (sight R.Rows) self.old.rows self.new.rows) }
         ensures stops { self.new.stopped ≡ stopped_after self.old.stopped result }
         ensures stopped { self.old.stopped ≡ true → (result ≡ Err StepRefusal.Stopped) × (self.new ≡ self.old) }
     {
@@ -86,6 +88,7 @@ impl<R: Rows> Station<R> {
         ensures made { R.made self.old.rows → R.made self.new.rows }
         ensures few { IfOk result (λ a. length a.out.items ≤ 28) }
         ensures cause { OnStore result (Rises (R.refusals self.old.rows) (R.refusals self.new.rows)) }
+        ensures blames { IfStore result (IsBlamed (sight R.Rows) self.old.rows self.new.rows) }
         ensures stops { self.new.stopped ≡ stopped_after self.old.stopped result }
         ensures stopped { self.old.stopped ≡ true → (result ≡ Err StepRefusal.Stopped) × (self.new ≡ self.old) }
     {
@@ -109,6 +112,7 @@ impl<R: Rows> Station<R> {
         ensures made { R.made self.old.rows → R.made self.new.rows }
         ensures few { IfOk result (λ a. length a.out.items ≤ 28) }
         ensures cause { OnStore result (Rises (R.refusals self.old.rows) (R.refusals self.new.rows)) }
+        ensures blames { IfStore result (IsBlamed (sight R.Rows) self.old.rows self.new.rows) }
         ensures stops { self.new.stopped ≡ stopped_after self.old.stopped result }
         ensures stopped { self.old.stopped ≡ true → (result ≡ Err StepRefusal.Stopped) × (self.new ≡ self.old) }
     {
@@ -130,6 +134,7 @@ impl<R: Rows> Station<R> {
         ensures value { IfOk result (λ n. n ≡ number) }
         ensures checks { (marks : List Mark) → StandsFor self.now.core marks → ChecksNumber number marks result }
         ensures cause { OnStore result ⊥ }
+        ensures blames { IfStore result (λ fault. ⊥) }
         ensures goes_on { IfErr result (λ r. tears r ≡ false) }
     {
         let Some(number) = Number::new(number) else {
@@ -156,6 +161,7 @@ impl<R: Rows> Station<R> {
         ensures made { R.made self.old.rows → R.made self.new.rows }
         ensures few { IfOk result (λ a. length a.out.items ≤ 28) }
         ensures cause { OnStore result (Rises (R.refusals self.old.rows) (R.refusals self.new.rows)) }
+        ensures blames { IfStore result (IsBlamed (sight R.Rows) self.old.rows self.new.rows) }
         ensures stops { self.new.stopped ≡ stopped_after self.old.stopped result }
     {
         let row = match self.rows.get(number) {

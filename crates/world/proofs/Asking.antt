@@ -1,6 +1,6 @@
 -- A station that was asked by a step of the world, of plain values.
-use Rattle.std.proofs.Common.{◌≡◌, ℕ, zero, suc, ◌-◌, ◌+◌, ◌<◌, ◌≤◌, refl, sym, ap, subst, ◌∙◌, arith, List, [], ◌∷◌, ◌++◌, Some, None, Option, Bool, true, false, length, get_or, append-nil}
-use Rattle.std.specs.Prelude.{Result, Ok, Err, slice_get, slice_set, ◌==◌, option_map, is_some, if◌then◌else◌}
+use Rattle.std.proofs.Common.{◌≡◌, ℕ, zero, suc, ◌-◌, ◌+◌, ◌<◌, ◌≤◌, inl, inr, refl, sym, ap, subst, ◌∙◌, arith, List, [], ◌∷◌, ◌++◌, Some, None, Option, Bool, true, false, length, get_or, append-nil}
+use Rattle.std.specs.Prelude.{Result, Ok, Err, IsSome, slice_get, slice_set, ◌==◌, option_map, is_some, if◌then◌else◌}
 use Rattle.std.proofs.lemmas.Bool.{eqb-true}
 use Rattle.std.proofs.lemmas.Option.{slice_get-get_or}
 use Rattle.protocol.specs.Marks.{Mark}
@@ -10,28 +10,32 @@ use Rattle.protocol.specs.Circuit.{Datagram, Task, Missing, task_of, delivery, d
 use Rattle.packets.specs.declared.fault.PacketFault.{PacketFault}
 use Rattle.line_check.specs.Laws.{OneSetting}
 use Rattle.line_check.specs.declared.fault.SetFault.{SetFault}
-use Rattle.saved_rows.specs.Saved.{Saved}
+use Rattle.saved_rows.specs.Saved.{Saved, Rises}
 use Rattle.saved_rows.specs.declared.balky.Balky.{Balky}
+use Rattle.saved_rows.specs.declared.fault.RowsFault.{RowsFault}
+use Rattle.saved_rows.specs.declared.rows.Rows.{Ghosts}
 use Rattle.node_core.specs.Standing.{StandsFor as CoreStandsFor}
 use Rattle.station.specs.declared.station.Station.{Station}
 use Rattle.station.specs.declared.answer.Answer.{Answer}
 use Rattle.station.specs.declared.answer.Release.{Release}
 use Rattle.station.specs.declared.refusal.StepRefusal.{StepRefusal}
-use Rattle.station.specs.Stations.{Sight}
-use Rattle.station.specs.Steps.{Steps}
+use Rattle.station.specs.declared.refusal.StepRefusal.TheVariants.{Stopped, BadDatagram, WrongCircuit, NotForMe, Stranger, BadNumber, AlreadyReleased, AlreadyOpen, TapeFaulty, RoundsSpent, Store, OutOfMemory}
+use Rattle.station.specs.Stations.{Sight, sight}
+use Rattle.station.specs.Steps.{Steps, IfStore, IsBlamed}
 use Rattle.world.specs.declared.world.World.{World}
 use Rattle.world.specs.declared.step.Step.{Step}
 use Rattle.world.specs.declared.step.Step.TheVariants as steps
 use Rattle.world.specs.declared.step.Seen.{Seen}
 use Rattle.world.specs.declared.step.Outcome.{Outcome}
+use Rattle.world.specs.declared.step.Outcome.TheVariants as outcomes
 use Rattle.world.specs.declared.step.WorldRefusal.{WorldRefusal}
 use Rattle.world.specs.Setups.{StationCircuit, StationState}
 use Rattle.world.specs.Worlds.{count_of, IsSame, station_at}
-use Rattle.world.specs.Taking.{step_value, outcome_value, was_taken, offers_after, actor, missing_in, IsReason, Tells}
+use Rattle.world.specs.Taking.{step_value, EndsAs, RefusedAs, RowsRefused, IsCause, WasTorn, IfTorn, TellsWhy, was_taken, offers_after, actor, missing_in, IsReason, Tells}
 use Rattle.world.specs.Reach.{AllKept, AllMade, StandsFor, Moves}
 use Rattle.world.specs.Logging.{logged, offered_of, out_of, outcome_of, released_of, seen_of, was_released}
-use Rattle.world.proofs.Members.{Changes, kept_here, kept_before, made_after, some_is}
-use Rattle.world.proofs.Turning.{balky_sight, stood}
+use Rattle.world.proofs.Members.{Changes, here, kept_here, kept_before, made_after, some_is}
+use Rattle.world.proofs.Turning.{balky_sight, rises_before, stood}
 use Rattle.world.proofs.Stepping.{offers_of, answered}
 
 -- one station was changed where it stands
@@ -131,6 +135,73 @@ deliver_brings v v' k m now d same low high is acts there = record {
     to : d.to ≡ m
     to = some_is (ap (λ (o : Option Datagram). option_map (λ (q : Datagram). q.to) o) (sym at_k) ∙ acts)
 
+-- the station that was changed, before and after
+before_at : {R : Type 0} (v v1 v' : World R) (i m : ℕ) (s s' : Station (Balky R)) → IsSame v v1 → Changes v1 v' i m s s' → station_at v m ≡ Some s
+before_at v v1 v' i m s s' same ch =
+    ap (λ (k : ℕ). station_at v k) (sym ch.is_member) ∙ (ap (λ q. slice_get q.items i) (sym same.stations) ∙ ch.at_i)
+
+after_at : {R : Type 0} (v1 v' : World R) (i m : ℕ) (s s' : Station (Balky R)) → Changes v1 v' i m s s' → station_at v' m ≡ Some s'
+after_at v1 v' i m s s' ch = ap (λ (k : ℕ). station_at v' k) (sym ch.is_member) ∙ here v1 v' i m s s' ch
+
+-- a step ends so where less is asked of the member's own rows
+refused_more : (q : StepRefusal) (P Q : Type 0) → (P → Q) → (o : circuit.Outcome PacketFault SetFault) → RefusedAs q P o → RefusedAs q Q o
+refused_more Stopped P Q f o e = e
+refused_more (BadDatagram fault) P Q f o e = e
+refused_more WrongCircuit P Q f o e = e
+refused_more NotForMe P Q f o e = e
+refused_more Stranger P Q f o e = e
+refused_more BadNumber P Q f o e = e
+refused_more AlreadyReleased P Q f o e = e
+refused_more AlreadyOpen P Q f o e = e
+refused_more (TapeFaulty fault) P Q f o e = e
+refused_more RoundsSpent P Q f o e = e
+refused_more (Store fault) P Q f o e = elim e [ inl armed ↦ inl armed | inr own ↦ inr (own.0, f own.1) ]
+refused_more OutOfMemory P Q f o e = e
+
+ends_more : (out : Outcome) (P Q : Type 0) → (P → Q) → (o : circuit.Outcome PacketFault SetFault) → EndsAs out P o → EndsAs out Q o
+ends_more (outcomes.Done note) P Q f o e = e
+ends_more (outcomes.Refused q) P Q f o e = refused_more q P Q f o e
+ends_more outcomes.Restarted P Q f o e = e
+ends_more (outcomes.Armed saved) P Q f o e = e
+
+-- where the store refused, the step is seen as torn
+seen_torn : (r : Result Answer StepRefusal) (P Q : RowsFault → Type 0) → ((fault : RowsFault) → P fault → Q fault) → IfStore r P → IfTorn (outcome_of r) Q
+seen_torn (Ok a) P Q f e = tt
+seen_torn (Err Stopped) P Q f e = tt
+seen_torn (Err (BadDatagram fault)) P Q f e = tt
+seen_torn (Err WrongCircuit) P Q f e = tt
+seen_torn (Err NotForMe) P Q f e = tt
+seen_torn (Err Stranger) P Q f e = tt
+seen_torn (Err BadNumber) P Q f e = tt
+seen_torn (Err AlreadyReleased) P Q f e = tt
+seen_torn (Err AlreadyOpen) P Q f e = tt
+seen_torn (Err (TapeFaulty fault)) P Q f e = tt
+seen_torn (Err RoundsSpent) P Q f e = tt
+seen_torn (Err (Store fault)) P Q f e = f fault e
+seen_torn (Err OutOfMemory) P Q f e = tt
+
+-- rows that can balk blame a fault since they were armed, or since the rows inside do
+caused :
+    {R : Type 0} (g : Ghosts R) (s s' : Station (Balky R)) (fault : RowsFault) → IsBlamed (balky_sight (sight g) g.refusals) s.rows s'.rows fault → IsCause g s s' fault
+caused g s s' fault (inl now) = elim now.1 [ inl armed ↦ inl armed | inr own ↦ inr (own.0, own.1, inl own.2) ]
+caused g s s' fault (inr after) = elim after.2.1 [
+  | inl armed ↦ inl (subst (λ (f : Option Bool). IsSome f) after.1.0 armed.0, armed.1, armed.2)
+  | inr own ↦ inr (
+    own.0 ∙ after.1.0,
+    rises_before (g.refusals s.rows.rows) (g.refusals after.0.rows) (g.refusals s'.rows.rows) after.1.1 after.2.0 own.1,
+    inr (after.0.rows, after.1.2, own.2),
+  )
+]
+
+-- where the store tore the step, it is told why
+pub tells_why :
+    {R : Type 0} (g : Ghosts R) (v v1 v' : World R) (i m sent : ℕ) (s s' : Station (Balky R)) (r : Result Answer StepRefusal) (seen : Seen) → IsSame v v1 → Changes v1 v' i m s s'
+    → seen ≡ seen_of m sent r → IfStore r (IsBlamed (balky_sight (sight g) g.refusals) s.rows s'.rows) → TellsWhy g v v' (Ok seen)
+tells_why g v v1 v' i m sent s s' r seen same ch is_seen blames =
+    subst (λ (q : Seen). IfTorn q.outcome (WasTorn g v v' q.member)) (sym is_seen)
+    (seen_torn r (IsBlamed (balky_sight (sight g) g.refusals) s.rows s'.rows) (WasTorn g v v' m)
+    (λ fault blamed. record { before = s; after = s'; at_old = before_at v v1 v' i m s s' same ch; at_new = after_at v1 v' i m s s' ch; cause = caused g s s' fault blamed }) blames)
+
 so_many : (m : ℕ) (r : Result Answer StepRefusal) → length (released_of m r) ≡ (if was_released r then 1 else 0)
 so_many m (Ok a) = go a.release
   where
@@ -165,16 +236,24 @@ module _ {R : Type 0} (v v1 v' : World R) (step : Step) (m : ℕ) (call : Call) 
     -- it is a step of every state that the world stands for
     pub asked :
         OneSetting → (x.kept s'.rows.rows → (marks : List Mark) → CoreStandsFor s.core marks → Steps (balky_sight x count) call s s' marks r)
-        → AllKept x.kept v' → (z : StationCircuit) (w : StationState) → StandsFor x.is_open x.saved z v w → Moves x.is_open x.saved z w step v' (Ok seen)
+        → AllKept x.kept v' → (z : StationCircuit) (w : StationState) → StandsFor x.is_open x.saved z v w → Moves x.is_open x.saved count z w step v v' (Ok seen)
     asked one answers kept z w h =
         let h1 = still x.is_open x.saved v v1 same z w h in
         let task = ap (λ (l : List Datagram). task_of l (step_value step)) h.sent ∙ brings.task in
         let marks = stood x count z v1 v' w i m s s' ch h1 in
         let did = answers (kept_here v1 v' i m s s' ch x.kept kept) (w.marks m) marks in
-        let comes = answered x count one z v1 v' w i m s s' ch h1 (step_value step) call task r did (record { sent = sent; offers = offers; releases = releases }) in
-        let ends : outcome_value seen.outcome ≡ outcome_value (outcome_of r) = ap (λ (q : Seen). outcome_value q.outcome) is_seen in
-        let P : circuit.Outcome PacketFault SetFault → Type 0 = λ o. (after : StationState) × StandsFor x.is_open x.saved z v' after × circuit.StepsTo z w (step_value step) o after in
-        subst P (sym ends) comes
+        let ended = answered x count one z v1 v' w i m s s' ch h1 (step_value step) call task (kept_here v1 v' i m s s' ch x.kept kept) r did (record { sent = sent; offers = offers; releases = releases }) in
+        let comes = ended.2 in
+        let own : Rises (count s.rows.rows) (count s'.rows.rows) → RowsRefused count v v' m = λ rises. record {
+          before = s;
+          after = s';
+          at_old = before_at v v1 v' i m s s' same ch;
+          at_new = after_at v1 v' i m s s' ch;
+          rises = rises;
+        } in
+        let P : Seen → Type 0 = λ q. (after : StationState) × StandsFor x.is_open x.saved z v' after
+        × (o : circuit.Outcome PacketFault SetFault) × EndsAs q.outcome (RowsRefused count v v' q.member) o × circuit.StepsTo z w (step_value step) o after in
+        subst P (sym is_seen) (comes.0, comes.1, ended.0, ends_more (outcome_of r) _ _ own ended.0 ended.1, comes.2)
 
     pub asked_kept : (x.kept s'.rows.rows → x.kept s.rows.rows) → AllKept x.kept v' → AllKept x.kept v
     asked_kept was all = same_kept x.kept v v1 same (kept_before v1 v' i m s s' ch x.kept was all)

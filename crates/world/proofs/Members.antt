@@ -69,7 +69,7 @@ module _ {R : Type 0} (v v' : World R) (i m : ℕ) (s s' : Station (Balky R)) (c
   pub within : i < length v.stations.items
   within = slice_get_within v.stations.items i s ch.at_i
 
-  here : slice_get v'.stations.items i ≡ Some s'
+  pub here : slice_get v'.stations.items i ≡ Some s'
   here = ap (λ xs. slice_get xs i) ch.stations ∙ got_same v.stations.items i s' within
 
   there : (j : ℕ) → j ≢ i → slice_get v'.stations.items j ≡ slice_get v.stations.items j

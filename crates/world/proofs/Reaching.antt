@@ -23,7 +23,7 @@ use Rattle.world.specs.declared.step.Seen.{Seen}
 use Rattle.world.specs.declared.step.WorldRefusal.{WorldRefusal}
 use Rattle.world.specs.Setups.{StationCircuit, StationState}
 use Rattle.world.specs.Laws.{AreAgreed, StationsAgree}
-use Rattle.world.specs.Taking.{step_value}
+use Rattle.world.specs.Taking.{step_value, Tells, TellsWhy, Takes}
 use Rattle.world.specs.Worlds.{station_at}
 use Rattle.world.specs.Reach.{AllHonest, AllKept, AllMade, StandsFor, Moves, Leads, Reached, IsReached, Agreed, SetsAs}
 
@@ -53,10 +53,10 @@ module _ (z : StationCircuit) where
   after_step w after s o (is_spent m call e task member refused event turn ends same) all = along w.releases after.releases same.releases all
   after_step w after s o (is_done m call e t out task member refused event turn carried armed ends same) all =
       along (releases_with z w.releases m (number_of e) t.release) after.releases same.releases (with_release w.releases m (number_of e) t.release member all)
-  after_step w after s o (is_torn m call e row armed task member refused event leaves same) all = along w.releases after.releases same.releases all
+  after_step w after s o (is_torn m call e row armed task member event leaves same) all = along w.releases after.releases same.releases all
   after_step w after s o (restarts m member is ends same) all = along w.releases after.releases same.releases all
   after_step w after s o (upgrades m member is ends unarmed same) all = along w.releases after.releases same.releases all
-  after_step w after s o (upgrade_is_torn m k member is ends may same) all = along w.releases after.releases same.releases all
+  after_step w after s o (upgrade_is_torn m k member is may same) all = along w.releases after.releases same.releases all
   after_step w after s o (is_armed m b member is ends same) all = along w.releases after.releases same.releases all
 
   of_members : {w : StationState} → History z w → OfMembers w.releases
@@ -116,9 +116,9 @@ stays_reached g halves v v' stays was moves r =
     }
 
 -- a world that moved is reached
-pub goes : {R : Type 0} (is_open : R → Type 0) (saved : R → Saved) (z : StationCircuit) (v v' : World R) (r : Reached is_open saved z v) (step : Step) (q : Result Seen WorldRefusal) → Moves is_open saved z r.0 step v' q → Reached is_open saved z v'
-goes is_open saved z v v' r step (Ok seen) m = (m.0, m.1, goes_on r.2 (step_value step) _ m.2)
-goes is_open saved z v v' r step (Err refusal) m = (r.0, m, r.2)
+pub goes : {R : Type 0} (is_open : R → Type 0) (saved : R → Saved) (count : R → ℕ) (z : StationCircuit) (v v' : World R) (r : Reached is_open saved z v) (step : Step) (q : Result Seen WorldRefusal) → Moves is_open saved count z r.0 step v v' q → Reached is_open saved z v'
+goes is_open saved count z v v' r step (Ok seen) m = (m.0, m.1, goes_on r.2 (step_value step) m.2 m.4)
+goes is_open saved count z v v' r step (Err refusal) m = (r.0, m, r.2)
 
 -- one step more
 pub leads_more :
@@ -126,6 +126,12 @@ pub leads_more :
     → Leads z w (steps ++ step ∷ []) after
 leads_more z w mid after [] step o l st = (o, after, subst (λ (u : StationState). StepsTo z u (step_value step) o after) l st, refl)
 leads_more z w mid after (s ∷ steps) step o l st = (l.0, l.1, l.2, leads_more z l.1 mid after steps step o l.3 st)
+
+pub takes_more :
+    {R : Type 0} (g : Ghosts R) (v mid v' : World R) (steps : List Step) (step : Step) (seen : Seen) → Takes g v steps mid → Tells step mid v' (Ok seen) → TellsWhy g mid v' (Ok seen)
+    → Takes g v (steps ++ step ∷ []) v'
+takes_more {R = R} g v mid v' [] step seen l t why = (v', seen, subst (λ (u : World R). Tells step u v' (Ok seen)) l t, subst (λ (u : World R). TellsWhy g u v' (Ok seen)) l why, refl)
+takes_more g v mid v' (s ∷ steps) step seen l t why = (l.0, l.1, l.2, l.3, takes_more g l.0 mid v' steps step seen l.4 t why)
 
 -- a history goes on by the steps that lead on
 pub led : (z : StationCircuit) (w after : StationState) (steps : List Step) → History z w → Leads z w steps after → History z after

@@ -20,15 +20,16 @@ use Rattle.station.specs.declared.answer.Answer.{Answer}
 use Rattle.station.specs.declared.answer.Release.{Release}
 use Rattle.station.specs.declared.refusal.StepRefusal.{StepRefusal}
 use Rattle.station.specs.declared.refusal.StepRefusal.TheVariants.{Stopped, BadDatagram, WrongCircuit, NotForMe, Stranger, BadNumber, AlreadyReleased, AlreadyOpen, TapeFaulty, RoundsSpent, Store, OutOfMemory}
+use Rattle.node_core.specs.Turns.{note_value}
 use Rattle.station.specs.Stations.{Sight, setup_of}
 use Rattle.station.specs.Steps.{Steps}
 use Rattle.world.specs.declared.world.World.{World}
 use Rattle.world.specs.Setups.{StationCircuit, StationState}
 use Rattle.world.specs.Reach.{StandsFor}
-use Rattle.world.specs.Taking.{outcome_value, is_torn}
+use Rattle.world.specs.Taking.{EndsAs, is_torn}
 use Rattle.world.specs.Logging.{logged, offered_of, out_of, outcome_of, released_of}
 use Rattle.world.proofs.Members.{Changes, some_is}
-use Rattle.world.proofs.Turning.{balky_sight, Comes, Sends, refused_comes, idle_comes, spent_comes, done_comes, memory_comes, store_comes}
+use Rattle.world.proofs.Turning.{balky_sight, Comes, Own, Sends, refused_comes, idle_comes, spent_comes, done_comes, memory_comes, store_comes}
 
 -- what a call adds to the offers where it ended so
 abbrev pub offers_of : ℕ → Call → Result Answer StepRefusal → List circuit.Offer
@@ -104,30 +105,46 @@ module _ {R : Type 0} (x : Sight R) (count : R → ℕ) (one : OneSetting) (z : 
       refused_comes x count z v v' w i m s s' ch h step call r task is same
       (l.sent ∙ append-nil v.sent.items) (l.offers ∙ with_refused s (w.marks m) v.offers.items m call q un) (l.releases ∙ append-nil v.releases.items)
 
-  pub answered : (r : Result Answer StepRefusal) → Steps (balky_sight x count) call s s' (w.marks m) r → Logs r → To (outcome_value (outcome_of r))
-  answered (Ok a) (inl d) l =
-      subst (λ (o : circuit.Outcome PacketFault SetFault). To o) (ap circuit.Done (sym d.note))
-      (idle_comes x count z v v' w i m s s' ch h step call task d.unrefused d.no_event d.same
-      (l.sent ∙ (ap (λ (g : List circuit.Datagram). v.sent.items ++ g) d.out ∙ append-nil v.sent.items))
-      (l.offers ∙ with_none s (w.marks m) v.offers.items m call a d.no_event)
-      (l.releases ∙ (ap (λ (o : Option Release). v.releases.items ++ logged m o) d.release ∙ append-nil v.releases.items)))
-  answered (Ok a) (inr d) l =
-      done_comes x count z v v' w i m s s' ch h one step call d.0 a task d.1 d.2 l.sent (l.offers ∙ with_done s (w.marks m) v.offers.items m call d.0 a d.1.event) l.releases
-  answered (Err Stopped) d l = refused refusals.Stopped Stopped refl d.0 d.1 l
-  answered (Err (BadDatagram fault)) d l = refused (refusals.Bad_datagram fault) (BadDatagram fault) refl d.0 d.1 l
-  answered (Err WrongCircuit) d l = refused refusals.Wrong_circuit WrongCircuit refl d.0 d.1 l
-  answered (Err NotForMe) d l = refused refusals.Not_for_me NotForMe refl d.0 d.1 l
-  answered (Err Stranger) d l = refused refusals.Stranger Stranger refl d.0 d.1 l
-  answered (Err BadNumber) d l = refused refusals.Bad_number BadNumber refl d.0 d.1 l
-  answered (Err AlreadyReleased) d l = refused refusals.Already_released AlreadyReleased refl d.0 d.1 l
-  answered (Err AlreadyOpen) d l = refused refusals.Already_open AlreadyOpen refl d.0 d.1 l
-  answered (Err (TapeFaulty fault)) d l = refused (refusals.Tape_faulty fault) (TapeFaulty fault) refl d.0 d.1 l
-  answered (Err RoundsSpent) d l =
-      spent_comes x count z v v' w i m s s' ch h step call d.0 task d.1 d.2
-      (l.sent ∙ append-nil v.sent.items) (l.offers ∙ with_refused s (w.marks m) v.offers.items m call RoundsSpent refl) (l.releases ∙ append-nil v.releases.items)
-  answered (Err (Store fault)) d l =
-      store_comes x count z v v' w i m s s' ch h step call d.0 task d.1 d.2
+  -- the step ended as what is seen of it
+  abbrev pub Ended : Result Answer StepRefusal → Type 0
+  Ended r = (o : circuit.Outcome PacketFault SetFault) × EndsAs (outcome_of r) (Own x count z v v' w i m s s' ch h) o × To o
+
+  pub answered : x.kept s'.rows.rows → (r : Result Answer StepRefusal) → Steps (balky_sight x count) call s s' (w.marks m) r → Logs r → Ended r
+  answered kept (Ok a) (inl d) l = (
+    circuit.Done (note_value a.note),
+    refl,
+    subst (λ (o : circuit.Outcome PacketFault SetFault). To o) (ap circuit.Done (sym d.note))
+        (idle_comes x count z v v' w i m s s' ch h step call task d.unrefused d.no_event d.same
+        (l.sent ∙ (ap (λ (g : List circuit.Datagram). v.sent.items ++ g) d.out ∙ append-nil v.sent.items))
+        (l.offers ∙ with_none s (w.marks m) v.offers.items m call a d.no_event)
+        (l.releases ∙ (ap (λ (o : Option Release). v.releases.items ++ logged m o) d.release ∙ append-nil v.releases.items))),
+  )
+  answered kept (Ok a) (inr d) l = (
+    circuit.Done (note_value a.note),
+    refl,
+    done_comes x count z v v' w i m s s' ch h one step call d.0 a task d.1 d.2 l.sent (l.offers ∙ with_done s (w.marks m) v.offers.items m call d.0 a d.1.event) l.releases,
+  )
+  answered kept (Err Stopped) d l = (_, refl, refused refusals.Stopped Stopped refl d.0 d.1 l)
+  answered kept (Err (BadDatagram fault)) d l = (_, refl, refused (refusals.Bad_datagram fault) (BadDatagram fault) refl d.0 d.1 l)
+  answered kept (Err WrongCircuit) d l = (_, refl, refused refusals.Wrong_circuit WrongCircuit refl d.0 d.1 l)
+  answered kept (Err NotForMe) d l = (_, refl, refused refusals.Not_for_me NotForMe refl d.0 d.1 l)
+  answered kept (Err Stranger) d l = (_, refl, refused refusals.Stranger Stranger refl d.0 d.1 l)
+  answered kept (Err BadNumber) d l = (_, refl, refused refusals.Bad_number BadNumber refl d.0 d.1 l)
+  answered kept (Err AlreadyReleased) d l = (_, refl, refused refusals.Already_released AlreadyReleased refl d.0 d.1 l)
+  answered kept (Err AlreadyOpen) d l = (_, refl, refused refusals.Already_open AlreadyOpen refl d.0 d.1 l)
+  answered kept (Err (TapeFaulty fault)) d l = (_, refl, refused (refusals.Tape_faulty fault) (TapeFaulty fault) refl d.0 d.1 l)
+  answered kept (Err RoundsSpent) d l = (
+    _,
+    refl,
+    spent_comes x count z v v' w i m s s' ch h step call d.0 task d.1 d.2
+        (l.sent ∙ append-nil v.sent.items) (l.offers ∙ with_refused s (w.marks m) v.offers.items m call RoundsSpent refl) (l.releases ∙ append-nil v.releases.items),
+  )
+  answered kept (Err (Store fault)) d l =
+      store_comes x count z v v' w i m s s' ch h step call d.0 task d.1 kept d.2
       (l.sent ∙ append-nil v.sent.items) (l.offers ∙ with_store s (w.marks m) v.offers.items m call d.0 fault d.1.event) (l.releases ∙ append-nil v.releases.items)
-  answered (Err OutOfMemory) d l =
-      memory_comes x count z v v' w i m s s' ch h step call d.0 task d.1 d.2
-      (l.sent ∙ append-nil v.sent.items) (l.offers ∙ with_memory s (w.marks m) v.offers.items m call d.0 d.1.event) (l.releases ∙ append-nil v.releases.items)
+  answered kept (Err OutOfMemory) d l = (
+    _,
+    refl,
+    memory_comes x count z v v' w i m s s' ch h step call d.0 task d.1 d.2
+        (l.sent ∙ append-nil v.sent.items) (l.offers ∙ with_memory s (w.marks m) v.offers.items m call d.0 d.1.event) (l.releases ∙ append-nil v.releases.items),
+  )

@@ -1,6 +1,7 @@
 -- What a station did is a step of the state that its world stands for: done, idle, spent, refused or torn.
-use Rattle.std.proofs.Common.{◌≡◌, ◌≢◌, ℕ, suc, ◌<◌, ◌⊎◌, inl, inr, refl, sym, ap, subst, ◌∙◌, arith, List, [], ◌∷◌, ◌++◌, Some, None, Option, Bool, true, false, length, append-nil}
+use Rattle.std.proofs.Common.{◌≡◌, ◌≢◌, ℕ, suc, ◌<◌, ◌≤◌, ◌⊎◌, inl, inr, refl, sym, ap, subst, ◌∙◌, arith, List, [], ◌∷◌, ◌++◌, Some, None, Option, Bool, true, false, length, append-nil}
 use Rattle.std.specs.Prelude.{Result, Ok, IsSome}
+use Rattle.std.proofs.lemmas.Bool.{cases_lt}
 use Rattle.std.specs.List.{AllZip}
 use Rattle.protocol.specs.Ballots.{IsMember}
 use Rattle.protocol.specs.Rows.{Tape, Row}
@@ -10,7 +11,7 @@ use Rattle.protocol.specs.Marks.{Mark}
 use Rattle.protocol.specs.Turn.{Event, number_of, Note_idle, Turn, turn}
 use Rattle.protocol.specs.Refusals.{Call, Refusal, Rounds_spent, refusal, early_refusal, event_of}
 use Rattle.protocol.specs.Circuit as circuit
-use Rattle.protocol.specs.Circuit.{Datagram, Release, IsSameState, Outcome, Task, task_of, with_at, saved, offers_with, releases_with, MayLeave, Leaves, before_save, at_save, StepsTo, is_refused, is_idle, is_spent, is_done, is_torn}
+use Rattle.protocol.specs.Circuit.{Datagram, Release, IsSameState, Outcome, Task, task_of, with_at, saved, offers_with, releases_with, MayLeave, Leaves, store_before_save, memory_before_save, at_save, StepsTo, is_refused, is_idle, is_spent, is_done, is_torn}
 use Rattle.packets.specs.declared.fault.PacketFault.{PacketFault}
 use Rattle.code_table.specs.Tables.{Places, mean}
 use Rattle.widths.specs.Widths.{WidthFile}
@@ -36,7 +37,7 @@ use Rattle.world.specs.Setups.{StationCircuit, StationState}
 use Rattle.world.specs.Reach.{Shows, StandsFor}
 use Rattle.world.specs.Logging.{logged}
 use Rattle.world.proofs.Members.{Changes, Elsewhere, with_at-other, with_at-same, with_at-self, within, shown, stands_after}
-use Rattle.world.proofs.Alike.{faulty_alike, refusal_alike, early_alike, event_alike, unrefused_early, unstopped}
+use Rattle.world.proofs.Alike.{faulty_alike, refusal_alike, early_alike, event_alike, unstopped}
 
 -- the words of rows that can balk, as their trait has them there
 abbrev pub balky_sight : {R : Type 0} → Sight R → (R → ℕ) → Sight (Balky R)
@@ -44,7 +45,7 @@ balky_sight x refusals = record {
   kept = λ s. x.kept s.rows;
   is_open = λ s. x.is_open s.rows;
   saved = λ s. x.saved s.rows;
-  alike = λ old new. (new.armed ≡ old.armed) × x.alike old.rows new.rows;
+  alike = λ old new. (new.armed ≡ old.armed) × (refusals old.rows ≤ refusals new.rows) × x.alike old.rows new.rows;
   passes = λ old new. (old.armed ≡ None) × (new.armed ≡ None) × x.passes old.rows new.rows;
   tells = λ old new number row. (new.armed ≡ None)
       × (old.armed ≡ Some false → new.rows ≡ old.rows)
@@ -52,8 +53,18 @@ balky_sight x refusals = record {
       × (old.armed ≡ Some true →
       (x.kept new.rows → WithRow (x.saved old.rows) number row (x.saved new.rows))
       ⊎ (Rises (refusals old.rows) (refusals new.rows) × x.tells old.rows new.rows number row));
-  blames = λ old new fault. (IsSome old.armed × (fault ≡ Store)) ⊎ x.blames old.rows new.rows fault;
+  blames = λ old new fault. (refusals old.rows ≤ refusals new.rows)
+      × ((IsSome old.armed × (new.armed ≡ None) × (fault ≡ Store))
+      ⊎ ((new.armed ≡ old.armed) × Rises (refusals old.rows) (refusals new.rows) × x.blames old.rows new.rows fault));
 }
+
+unarmed : IsSome {T = Bool} None → ⊥
+unarmed e = let no : false ≡ true = e in cc
+
+-- a count that rose after it did not fall
+pub rises_before : (a b c : ℕ) → a ≤ b → b ≤ c → Rises b c → Rises a c
+rises_before a b c up on (inl rise) = inl (omega (arith, up, rise))
+rises_before a b c up on (inr most) = elim (cases_lt a c) [ inl less ↦ inl less | inr same ↦ inr (omega (arith, up, on, most, same)) ]
 
 pub same_state : (w : StationState) → IsSameState w w
 same_state w = record { version = λ m. refl; rows = λ m n. refl; marks = λ m. refl; is_stopped = λ m. refl; armed = λ m. refl; sent = refl; offers = refl; releases = refl }
@@ -273,14 +284,14 @@ module _ {R : Type 0} (x : Sight R) (refusals : R → ℕ) (z : StationCircuit) 
   -- a torn step, with the row that it leaves
   torn_to :
       (step : circuit.Step) (call : Call) (e : Event) (o : Outcome PacketFault SetFault) (row : Row) → Sends step call
-      → early_refusal (stations.setup_of s) s.stopped (w.marks m) call ≡ None → event_of (stations.setup_of s) (w.marks m) call ≡ Some e
+      → event_of (stations.setup_of s) (w.marks m) call ≡ Some e
       → Leaves z w m call e o row s'.rows.armed → IsFixed s s' → s'.stopped ≡ true → CoreStandsFor s'.core []
       → (x.is_open s'.rows.rows → (j : ℕ) → x.saved s'.rows.rows j ≡ with_at (w.rows m) (number_of e) row j)
       → v'.sent.items ≡ v.sent.items → v'.offers.items ≡ offers_with v.offers.items m e → v'.releases.items ≡ v.releases.items → Comes step o
-  torn_to step call e o row task unrefused event leaves fixed stops stands rows sent offers releases = (
+  torn_to step call e o row task event leaves fixed stops stands rows sent offers releases = (
     after,
     stands_after v v' i m s s' ch x.is_open x.saved z w h after new others (h.sent ∙ sym sent) (ap (λ (l : List circuit.Offer). offers_with l m e) h.offers ∙ sym offers) (h.releases ∙ sym releases),
-    is_torn m call e row s'.rows.armed task member (early_is call ∙ unrefused) (event_is call ∙ event) leaves (same_state after),
+    is_torn m call e row s'.rows.armed task member (event_is call ∙ event) leaves (same_state after),
   )
     where
       after : StationState
@@ -327,22 +338,39 @@ module _ {R : Type 0} (x : Sight R) (refusals : R → ℕ) (z : StationCircuit) 
       (step : circuit.Step) (call : Call) (e : Event) → Sends step call → AsksEarly s (w.marks m) call e → TornByMemory (balky_sight x refusals) s s'
       → v'.sent.items ≡ v.sent.items → v'.offers.items ≡ offers_with v.offers.items m e → v'.releases.items ≡ v.releases.items → Comes step circuit.Torn_by_memory
   memory_comes step call e task asks d sent offers releases = elim d.rows [
-    | inl same ↦ torn_to step call e circuit.Torn_by_memory (w.rows m (number_of e)) task asks.unrefused asks.event
-        (before_save (inr refl) refl (ap (λ (r : Balky R). r.armed) same ∙ old.armed)) d.fixed d.stops d.stands_for (unasked (number_of e) same) sent offers releases
-    | inr r ↦ torn_to step call e circuit.Torn_by_memory (w.rows m (number_of e)) task asks.unrefused asks.event
-        (before_save (inr refl) refl (r.alike.0 ∙ old.armed)) d.fixed d.stops d.stands_for (stays (number_of e) r) sent offers releases
+    | inl same ↦ torn_to step call e circuit.Torn_by_memory (w.rows m (number_of e)) task asks.event
+        (memory_before_save refl (early_is call ∙ asks.unrefused) refl (ap (λ (r : Balky R). r.armed) same ∙ old.armed)) d.fixed d.stops d.stands_for (unasked (number_of e) same) sent offers releases
+    | inr r ↦ torn_to step call e circuit.Torn_by_memory (w.rows m (number_of e)) task asks.event
+        (memory_before_save refl (early_is call ∙ asks.unrefused) refl (r.alike.0 ∙ old.armed)) d.fixed d.stops d.stands_for (stays (number_of e) r) sent offers releases
   ]
 
-  module _ (step : circuit.Step) (call : Call) (e : Event) {fault : RowsFault} (task : Sends step call) (asks : Asks s (w.marks m) call e) (d : TornByStore (balky_sight x refusals) e s s' (w.marks m) fault)
+  -- the member's own rows refused a call
+  abbrev pub Own : Type 0
+  Own = Rises (refusals s.rows.rows) (refusals s'.rows.rows)
+
+  -- it was torn by its store: as it was armed, or by its own rows
+  abbrev pub ComesTorn : circuit.Step → Type 0
+  ComesTorn step = (o : Outcome PacketFault SetFault) × ((o ≡ circuit.Torn_as_armed) ⊎ ((o ≡ circuit.Torn_by_store) × Own)) × Comes step o
+
+  module _ (step : circuit.Step) (call : Call) (e : Event) {fault : RowsFault} (task : Sends step call) (asks : Asks s (w.marks m) call e) (kept : x.kept s'.rows.rows)
+      (d : TornByStore (balky_sight x refusals) e s s' (w.marks m) fault)
       (sent : v'.sent.items ≡ v.sent.items) (offers : v'.offers.items ≡ offers_with v.offers.items m e) (releases : v'.releases.items ≡ v.releases.items) where
     n : ℕ
     n = number_of e
 
-    unrefused : early_refusal (stations.setup_of s) s.stopped (w.marks m) call ≡ None
-    unrefused = unrefused_early (early_refusal (stations.setup_of s) s.stopped (w.marks m) call) _ asks.unrefused
+    to : (o : Outcome PacketFault SetFault) (row : Row) → Leaves z w m call e o row s'.rows.armed → (x.is_open s'.rows.rows → (j : ℕ) → x.saved s'.rows.rows j ≡ with_at (w.rows m) (number_of e) row j) → Comes step o
+    to o row leaves rows = torn_to step call e o row task asks.event leaves d.fixed d.stops d.stands_for rows sent offers releases
 
-    to : (row : Row) → Leaves z w m call e circuit.Torn_by_store row s'.rows.armed → (x.is_open s'.rows.rows → (j : ℕ) → x.saved s'.rows.rows j ≡ with_at (w.rows m) (number_of e) row j) → Comes step circuit.Torn_by_store
-    to row leaves rows = torn_to step call e circuit.Torn_by_store row task unrefused asks.event leaves d.fixed d.stops d.stands_for rows sent offers releases
+    by_own : Own → Comes step circuit.Torn_by_store → ComesTorn step
+    by_own own comes = (circuit.Torn_by_store, inr (refl, own), comes)
+
+    as_armed : Comes step circuit.Torn_as_armed → ComesTorn step
+    as_armed comes = (circuit.Torn_as_armed, inl refl, comes)
+
+    -- the rows were read and refused to be
+    at_read : WasRead (balky_sight x refusals) s.rows s'.rows → Rises (refusals s.rows.rows) (refusals s'.rows.rows) → ComesTorn step
+    at_read r own =
+        by_own own (to circuit.Torn_by_store (w.rows m (number_of e)) (store_before_save refl (refusal_is call ∙ asks.unrefused) refl (r.alike.0 ∙ old.armed)) (stays (number_of e) r))
 
     module _ (r : AtSave (balky_sight x refusals) e s (w.marks m) s'.rows fault) where
       changes : ¬ (r.taken.row ≡ w.rows m (number_of e))
@@ -351,37 +379,49 @@ module _ {R : Type 0} (x : Sight R) (refusals : R → ℕ) (z : StationCircuit) 
       armed_mid : r.balked.mid.armed ≡ w.armed m
       armed_mid = r.balked.read.alike.0 ∙ old.armed
 
-      leaves : (row : Row) → MayLeave (w.armed m) (w.rows m (number_of e)) r.taken.row row → Leaves z w m call e circuit.Torn_by_store row s'.rows.armed
-      leaves row may = at_save r.taken refl (refusal_is call ∙ asks.unrefused) (turns e (Some r.taken) r.was_open r.is_turn) changes may r.balked.tells.0
+      leaves : (o : Outcome PacketFault SetFault) (row : Row) → MayLeave (w.armed m) o (w.rows m (number_of e)) r.taken.row row → Leaves z w m call e o row s'.rows.armed
+      leaves o row may = at_save r.taken (refusal_is call ∙ asks.unrefused) (turns e (Some r.taken) r.was_open r.is_turn) changes may r.balked.tells.0
 
       keeps :
-          (x.is_open s'.rows.rows → (k : ℕ) → x.saved s'.rows.rows k ≡ x.saved r.balked.mid.rows k)
-          → MayLeave (w.armed m) (w.rows m (number_of e)) r.taken.row (w.rows m (number_of e)) → Comes step circuit.Torn_by_store
-      keeps same may = to (w.rows m (number_of e)) (leaves (w.rows m (number_of e)) may) (λ here j. same here j ∙ stays (number_of e) r.balked.read r.balked.mid_open j)
+          (o : Outcome PacketFault SetFault) → (x.is_open s'.rows.rows → (k : ℕ) → x.saved s'.rows.rows k ≡ x.saved r.balked.mid.rows k)
+          → MayLeave (w.armed m) o (w.rows m (number_of e)) r.taken.row (w.rows m (number_of e)) → Comes step o
+      keeps o same may = to o (w.rows m (number_of e)) (leaves o (w.rows m (number_of e)) may) (λ here j. same here j ∙ stays (number_of e) r.balked.read r.balked.mid_open j)
 
       mid : (j : ℕ) → with_at (x.saved r.balked.mid.rows) (number_of e) r.taken.row j ≡ with_at (w.rows m) (number_of e) r.taken.row j
       mid j = λ q. with_at (λ k. (r.balked.read.same r.balked.mid_open k ∙ old.rows r.was_open k) q) (number_of e) r.taken.row j
 
       saves :
-          ((k : ℕ) → x.saved s'.rows.rows k ≡ with_at (x.saved r.balked.mid.rows) (number_of e) r.taken.row k)
-          → MayLeave (w.armed m) (w.rows m (number_of e)) r.taken.row r.taken.row → Comes step circuit.Torn_by_store
-      saves has may = to r.taken.row (leaves r.taken.row may) (λ here j. has j ∙ mid j)
+          (o : Outcome PacketFault SetFault) → ((k : ℕ) → x.saved s'.rows.rows k ≡ with_at (x.saved r.balked.mid.rows) (number_of e) r.taken.row k)
+          → MayLeave (w.armed m) o (w.rows m (number_of e)) r.taken.row r.taken.row → Comes step o
+      saves o has may = to o r.taken.row (leaves o r.taken.row may) (λ here j. has j ∙ mid j)
 
+      -- its own rows refused the save
       either :
-          MayLeave (w.armed m) (w.rows m (number_of e)) r.taken.row (w.rows m (number_of e)) → MayLeave (w.armed m) (w.rows m (number_of e)) r.taken.row r.taken.row
-          → Comes step circuit.Torn_by_store
-      either may also = elim r.balked.either [
-        | inl shut ↦ keeps (λ here. absurd (shut here)) may
-        | inr o ↦ elim o [ inl same ↦ keeps (λ here. same) may | inr has ↦ saves has also ]
+          Rises (refusals r.balked.mid.rows) (refusals s'.rows.rows) → MayLeave {D = PacketFault} {F = SetFault} (w.armed m) circuit.Torn_by_store (w.rows m (number_of e)) r.taken.row (w.rows m (number_of e))
+          → MayLeave {D = PacketFault} {F = SetFault} (w.armed m) circuit.Torn_by_store (w.rows m (number_of e)) r.taken.row r.taken.row → ComesTorn step
+      either rise may also =
+          by_own (rises_before (refusals s.rows.rows) (refusals r.balked.mid.rows) (refusals s'.rows.rows) r.balked.read.alike.1 r.balked.blames.0 rise)
+          (elim r.balked.either [
+            | inl shut ↦ keeps circuit.Torn_by_store (λ here. absurd (shut here)) may
+            | inr o ↦ elim o [ inl same ↦ keeps circuit.Torn_by_store (λ here. same) may | inr has ↦ saves circuit.Torn_by_store has also ]
+          ])
+
+      balked : (o : Option Bool) → w.armed m ≡ o → ComesTorn step
+      balked None is = elim r.balked.blames.1 [
+        | inl armed ↦ absurd (unarmed (subst (λ (f : Option Bool). IsSome f) (armed_mid ∙ is) armed.0))
+        | inr own ↦ either own.1 (rw is (refl, inl refl)) (rw is (refl, inr refl))
       ]
+      balked (Some true) is = elim (r.balked.tells.3 (armed_mid ∙ is)) [
+        | inl has ↦ as_armed (saves circuit.Torn_as_armed (has kept) (rw is (inl (refl, refl))))
+        | inr own ↦ either own.0 (rw is (inr (refl, inl refl))) (rw is (inr (refl, inr refl)))
+      ]
+      balked (Some false) is = as_armed (keeps circuit.Torn_as_armed (λ here k. ap (λ (y : R). x.saved y k) (r.balked.tells.1 (armed_mid ∙ is))) (rw is (refl, refl)))
 
-      balked : (o : Option Bool) → w.armed m ≡ o → Comes step circuit.Torn_by_store
-      balked None is = either (rw is (inl refl)) (rw is (inr refl))
-      balked (Some true) is = either (rw is (inl refl)) (rw is (inr refl))
-      balked (Some false) is = keeps (λ here k. ap (λ (y : R). x.saved y k) (r.balked.tells.1 (armed_mid ∙ is))) (rw is refl)
-
-    pub store_comes : Comes step circuit.Torn_by_store
+    pub store_comes : ComesTorn step
     store_comes = elim d.at [
-      | inl r ↦ to (w.rows m (number_of e)) (before_save (inl refl) refl (r.0.alike.0 ∙ old.armed)) (stays (number_of e) r.0)
+      | inl r ↦ elim r.1.1 [
+        | inl armed ↦ absurd (unarmed (subst (λ (f : Option Bool). IsSome f) (sym r.0.alike.0 ∙ armed.1) armed.0))
+        | inr own ↦ at_read r.0 own.1
+      ]
       | inr r ↦ balked r (w.armed m) refl
     ]

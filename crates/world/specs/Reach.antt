@@ -21,7 +21,7 @@ use Rattle.world.specs.declared.step.RunStop.{RunStop}
 use Rattle.world.specs.declared.step.WorldRefusal.{WorldRefusal}
 use Rattle.world.specs.Setups.{StationCircuit, StationState, IsSetUp}
 use Rattle.world.specs.Worlds.{station_at, count_of}
-use Rattle.world.specs.Taking.{step_value, outcome_value}
+use Rattle.world.specs.Taking.{step_value, EndsAs, RowsRefused}
 
 -- both halves: what each member's rows stand on was made for it, nobody else wrote to them, and they read back what was written
 abbrev pub AllKept : {R : Type 0} → (R → Type 0) → World R → Type 0
@@ -60,11 +60,12 @@ pub record StandsFor {R : Type 0} (is_open : R → Type 0) (saved : R → Saved)
   pub offers : w.offers ≡ v.offers.items
   pub releases : w.releases ≡ v.releases.items
 
--- the state goes on by this step and ends as what was seen of it; where the step was refused the state stays
-abbrev pub Moves : {R : Type 0} → (R → Type 0) → (R → Saved) → StationCircuit → StationState → Step → World R → Result Seen WorldRefusal → Type 0
-Moves is_open saved z w step new (Ok seen) =
-    (after : StationState) × StandsFor is_open saved z new after × StepsTo z w (step_value step) (outcome_value seen.outcome) after
-Moves is_open saved z w step new (Err refusal) = StandsFor is_open saved z new w
+-- the state goes on by this step, which ends as what was seen of it; where the step was refused the state stays
+abbrev pub Moves : {R : Type 0} → (R → Type 0) → (R → Saved) → (R → ℕ) → StationCircuit → StationState → Step → World R → World R → Result Seen WorldRefusal → Type 0
+Moves is_open saved count z w step old new (Ok seen) =
+    (after : StationState) × StandsFor is_open saved z new after
+    × (o : Outcome PacketFault SetFault) × EndsAs seen.outcome (RowsRefused count old new seen.member) o × StepsTo z w (step_value step) o after
+Moves is_open saved count z w step old new (Err refusal) = StandsFor is_open saved z new w
 
 -- these steps, one after the other, lead from one state to another
 abbrev pub Leads : StationCircuit → StationState → List Step → StationState → Type 0

@@ -1,10 +1,18 @@
 -- Steps, outcomes and refusals of a world in the protocol's words, and what a step adds to the logs.
-use Rattle.std.specs.Prelude.{◌≡◌, ℕ, ◌+◌, List, [], ◌∷◌, ◌++◌, Option, Some, None, Result, Ok, Err, Bool, true, false, length, option_map, slice_get, if◌then◌else◌}
+use Rattle.std.specs.Prelude.{◌≡◌, ◌⊎◌, ℕ, ◌+◌, List, [], ◌∷◌, ◌++◌, Option, Some, None, IsSome, Result, Ok, Err, Bool, true, false, length, option_map, slice_get, take, if◌then◌else◌}
 use Rattle.protocol.specs.Circuit as circuit
 use Rattle.protocol.specs.Refusals as refusals
 use Rattle.packets.specs.declared.fault.PacketFault.{PacketFault}
 use Rattle.line_check.specs.declared.fault.SetFault.{SetFault}
+use Rattle.saved_rows.specs.Saved.{Rises}
+use Rattle.saved_rows.specs.declared.balky.Balky.{Balky}
+use Rattle.saved_rows.specs.declared.fault.RowsFault.{RowsFault}
+use Rattle.saved_rows.specs.declared.fault.RowsFault.TheVariants as row_faults
+use Rattle.saved_rows.specs.declared.rows.Rows.{Ghosts}
 use Rattle.node_core.specs.Turns.{note_value}
+use Rattle.station.specs.declared.station.Station.{Station}
+use Rattle.station.specs.Stations.{sight}
+use Rattle.station.specs.Steps.{IsBlamed}
 use Rattle.station.specs.declared.refusal.StepRefusal.{StepRefusal}
 use Rattle.station.specs.declared.refusal.StepRefusal.TheVariants.{Stopped, BadDatagram, WrongCircuit, NotForMe, Stranger, BadNumber, AlreadyReleased, AlreadyOpen, TapeFaulty, RoundsSpent, Store, OutOfMemory}
 use Rattle.world.specs.declared.step.Step.{Step}
@@ -16,7 +24,7 @@ use Rattle.world.specs.declared.step.RunStop.{RunStop}
 use Rattle.world.specs.declared.step.WorldRefusal.{WorldRefusal}
 use Rattle.world.specs.declared.step.WorldRefusal.TheVariants as world_refusals
 use Rattle.world.specs.declared.world.World.{World}
-use Rattle.world.specs.Worlds.{count_of, IsSame, GoesOn}
+use Rattle.world.specs.Worlds.{count_of, station_at, IsSame, GoesOn}
 
 -- the step of the circuit
 abbrev pub step_value : Step → circuit.Step
@@ -27,27 +35,61 @@ step_value (steps.Deliver k now) = circuit.Delivers k now
 step_value (steps.Restart member) = circuit.Restarts member
 step_value (steps.Balk member saved) = circuit.Balks member saved
 
--- how a step ended that the station refused: refused for this reason, or torn
-abbrev pub refused_value : StepRefusal → circuit.Outcome PacketFault SetFault
-refused_value Stopped = circuit.Refused refusals.Stopped
-refused_value (BadDatagram fault) = circuit.Refused (refusals.Bad_datagram fault)
-refused_value WrongCircuit = circuit.Refused refusals.Wrong_circuit
-refused_value NotForMe = circuit.Refused refusals.Not_for_me
-refused_value Stranger = circuit.Refused refusals.Stranger
-refused_value BadNumber = circuit.Refused refusals.Bad_number
-refused_value AlreadyReleased = circuit.Refused refusals.Already_released
-refused_value AlreadyOpen = circuit.Refused refusals.Already_open
-refused_value (TapeFaulty fault) = circuit.Refused (refusals.Tape_faulty fault)
-refused_value RoundsSpent = circuit.Refused refusals.Rounds_spent
-refused_value (Store fault) = circuit.Torn_by_store
-refused_value OutOfMemory = circuit.Torn_by_memory
+-- how the circuit's step ended where the station refused it for this reason. Where the store tore it: as it was armed,
+-- or by the member's own rows, which then did refuse
+abbrev pub RefusedAs : StepRefusal → (own : Type 0) → circuit.Outcome PacketFault SetFault → Type 0
+RefusedAs Stopped own o = o ≡ circuit.Refused refusals.Stopped
+RefusedAs (BadDatagram fault) own o = o ≡ circuit.Refused (refusals.Bad_datagram fault)
+RefusedAs WrongCircuit own o = o ≡ circuit.Refused refusals.Wrong_circuit
+RefusedAs NotForMe own o = o ≡ circuit.Refused refusals.Not_for_me
+RefusedAs Stranger own o = o ≡ circuit.Refused refusals.Stranger
+RefusedAs BadNumber own o = o ≡ circuit.Refused refusals.Bad_number
+RefusedAs AlreadyReleased own o = o ≡ circuit.Refused refusals.Already_released
+RefusedAs AlreadyOpen own o = o ≡ circuit.Refused refusals.Already_open
+RefusedAs (TapeFaulty fault) own o = o ≡ circuit.Refused (refusals.Tape_faulty fault)
+RefusedAs RoundsSpent own o = o ≡ circuit.Refused refusals.Rounds_spent
+RefusedAs (Store fault) own o = (o ≡ circuit.Torn_as_armed) ⊎ ((o ≡ circuit.Torn_by_store) × own)
+RefusedAs OutOfMemory own o = o ≡ circuit.Torn_by_memory
 
--- how a step ended
-abbrev pub outcome_value : Outcome → circuit.Outcome PacketFault SetFault
-outcome_value (outcomes.Done note) = circuit.Done (note_value note)
-outcome_value (outcomes.Refused refusal) = refused_value refusal
-outcome_value outcomes.Restarted = circuit.Restarted
-outcome_value (outcomes.Armed saved) = circuit.Armed saved
+-- how the circuit's step ended, by what was seen of it and whether the member's own rows refused
+abbrev pub EndsAs : Outcome → (own : Type 0) → circuit.Outcome PacketFault SetFault → Type 0
+EndsAs (outcomes.Done note) own o = o ≡ circuit.Done (note_value note)
+EndsAs (outcomes.Refused refusal) own o = RefusedAs refusal own o
+EndsAs outcomes.Restarted own o = o ≡ circuit.Restarted
+EndsAs (outcomes.Armed saved) own o = o ≡ circuit.Armed saved
+
+-- a member's own rows refused a call, and counted it
+pub record RowsRefused {R : Type 0} (count : R → ℕ) (old new : World R) (m : ℕ) : Type 0 where
+  pub before : Station (Balky R)
+  pub after : Station (Balky R)
+  pub at_old : station_at old m ≡ Some before
+  pub at_new : station_at new m ≡ Some after
+  pub rises : Rises (count before.rows.rows) (count after.rows.rows)
+
+-- why the store tore a step of this station with this fault: it was armed to refuse a save, tells that as a fault of the store, and is armed no more;
+-- or it is armed as it was, and the member's own rows refused, and blame this fault
+abbrev pub IsCause : {R : Type 0} → Ghosts R → Station (Balky R) → Station (Balky R) → RowsFault → Type 0
+IsCause g old new fault =
+    (IsSome old.rows.armed × (new.rows.armed ≡ None) × (fault ≡ row_faults.Store))
+    ⊎ ((new.rows.armed ≡ old.rows.armed) × Rises (g.refusals old.rows.rows) (g.refusals new.rows.rows) × IsBlamed (sight g) old.rows.rows new.rows.rows fault)
+
+-- a step of this member was torn by its store with this fault, and this is why
+pub record WasTorn {R : Type 0} (g : Ghosts R) (old new : World R) (m : ℕ) (fault : RowsFault) : Type 0 where
+  pub before : Station (Balky R)
+  pub after : Station (Balky R)
+  pub at_old : station_at old m ≡ Some before
+  pub at_new : station_at new m ≡ Some after
+  pub cause : IsCause g before after fault
+
+-- what holds of the fault where the store tore a step that ended so
+abbrev pub IfTorn : Outcome → (RowsFault → Type 0) → Type 0
+IfTorn (outcomes.Refused (Store fault)) P = P fault
+IfTorn _ P = Unit {0}
+
+-- where the store tore the step, it is told why
+abbrev pub TellsWhy : {R : Type 0} → Ghosts R → World R → World R → Result Seen WorldRefusal → Type 0
+TellsWhy g old new (Ok seen) = IfTorn seen.outcome (WasTorn g old new seen.member)
+TellsWhy g old new (Err refusal) = Unit {0}
 
 -- the step was torn
 abbrev pub is_torn : StepRefusal → Bool
@@ -118,6 +160,16 @@ missing_in v step = circuit.missing (count_of v) v.sent.items (step_value step)
 abbrev pub Tells : {R : Type 0} → Step → World R → World R → Result Seen WorldRefusal → Type 0
 Tells step old new (Ok seen) = (missing_in old step ≡ None) × Adds step old new seen
 Tells step old new (Err refusal) = IsReason (missing_in old step) refusal × IsSame old new
+
+-- these steps were taken, one after the other: of each it is told what it added, and where the store tore it, why
+abbrev pub Takes : {R : Type 0} → Ghosts R → World R → List Step → World R → Type 0
+Takes g old [] new = new ≡ old
+Takes {R = R} g old (step ∷ steps) new = (mid : World R) × (seen : Seen) × Tells step old mid (Ok seen) × TellsWhy g old mid (Ok seen) × Takes g mid steps new
+
+-- all steps were taken, or those before the one that was refused, which changed nothing
+abbrev pub TakesFront : {R A : Type 0} → Ghosts R → World R → List Step → World R → Result A RunStop → Type 0
+TakesFront g old steps new (Ok x) = Takes g old steps new
+TakesFront {R = R} g old steps new (Err stop) = (mid : World R) × Takes g old (take stop.at steps) mid × IsSame mid new
 
 -- a run stopped at a step of its list, which this world refuses for this reason
 abbrev pub StopsAt : {R : Type 0} → List Step → World R → RunStop → Type 0

@@ -4,7 +4,7 @@ ghost use Rattle.std.specs.Prelude.{◌≡◌, ◌<◌, ◌≤◌, ◌+◌, suc,
 ghost use Rattle.protocol.specs.Circuit.{datagram_at, member_missing};
 ghost use Rattle.world.specs.Reach.{Agreed, AllHonest, AllKept, AllMade, IsReached, Moves, Runs, StandsFor};
 ghost use Rattle.world.specs.Setups.{StationCircuit, StationState};
-ghost use Rattle.world.specs.Taking.{Found, StopsAt, Tells};
+ghost use Rattle.world.specs.Taking.{Found, StopsAt, TakesFront, Tells, TellsWhy};
 ghost use Rattle.world.specs.Worlds.{count_of};
 
 use crate::laws;
@@ -22,9 +22,11 @@ impl<R: Rows> World<R> {
     /// before the station is asked. That a station refuses a step is an outcome, also where its store or its memory does.
     pub fn step(&mut self, step: &Step) -> Result<Seen, WorldRefusal>
         // Of every circuit and state that the world stands for, it takes the step, and ends as the circuit's step does.
-        ensures steps { AllKept R.kept self.new → (z : StationCircuit) (w : StationState) → StandsFor R.is_open R.saved z self.old w → Moves R.is_open R.saved z w step.now self.new result }
+        ensures steps { AllKept R.kept self.new → (z : StationCircuit) (w : StationState) → StandsFor R.is_open R.saved z self.old w → Moves R.is_open R.saved R.refusals z w step.now self.old self.new result }
         // Whatever the rows do, what is seen is what was logged, and a refusal changes nothing and has its reason.
         ensures tells { Tells step.now self.old self.new result }
+        // Where the store tears the step, it is told why: the fault is that of an armed store, or one that the member's own rows blame.
+        ensures why { TellsWhy R.Rows self.old self.new result }
         ensures was_kept { AllKept R.kept self.new → AllKept R.kept self.old }
         ensures made { AllMade R.made self.old → AllMade R.made self.new }
         // The headline: a world that is reached stays so; and where the hosts of its rows were honest, what is released in it is agreed.
@@ -53,6 +55,8 @@ impl<R: Rows> World<R> {
 
     /// Takes steps in order, up to the first that is refused. The steps before it stand.
     pub fn run(&mut self, steps: &[Step]) -> Result<(), RunStop>
+        // Whatever the rows do, each of these steps was told, and where a store tore it, why.
+        ensures takes { TakesFront R.Rows self.old steps.now self.new result }
         ensures runs { AllKept R.kept self.new → (z : StationCircuit) (w : StationState) → StandsFor R.is_open R.saved z self.old w → Runs R.is_open R.saved z w steps.now self.new result }
         ensures stops { IfErr result (StopsAt steps.now self.new) }
         ensures was_kept { AllKept R.kept self.new → AllKept R.kept self.old }
@@ -104,8 +108,9 @@ impl<R: Rows> World<R> {
         tape: &Tape,
         now: u64,
     ) -> Result<Seen, WorldRefusal>
-        ensures steps { AllKept R.kept self.new → (z : StationCircuit) (w : StationState) → StandsFor R.is_open R.saved z self.old w → Moves R.is_open R.saved z w (Step.Offer member number tape.now now) self.new result }
+        ensures steps { AllKept R.kept self.new → (z : StationCircuit) (w : StationState) → StandsFor R.is_open R.saved z self.old w → Moves R.is_open R.saved R.refusals z w (Step.Offer member number tape.now now) self.old self.new result }
         ensures tells { Tells (Step.Offer member number tape.now now) self.old self.new result }
+        ensures why { TellsWhy R.Rows self.old self.new result }
         ensures was_kept { AllKept R.kept self.new → AllKept R.kept self.old }
         ensures made { AllMade R.made self.old → AllMade R.made self.new }
     {
@@ -122,8 +127,9 @@ impl<R: Rows> World<R> {
 
     /// A member seeks a tape.
     fn seek(&mut self, member: u8, number: u32, now: u64) -> Result<Seen, WorldRefusal>
-        ensures steps { AllKept R.kept self.new → (z : StationCircuit) (w : StationState) → StandsFor R.is_open R.saved z self.old w → Moves R.is_open R.saved z w (Step.Seek member number now) self.new result }
+        ensures steps { AllKept R.kept self.new → (z : StationCircuit) (w : StationState) → StandsFor R.is_open R.saved z self.old w → Moves R.is_open R.saved R.refusals z w (Step.Seek member number now) self.old self.new result }
         ensures tells { Tells (Step.Seek member number now) self.old self.new result }
+        ensures why { TellsWhy R.Rows self.old self.new result }
         ensures was_kept { AllKept R.kept self.new → AllKept R.kept self.old }
         ensures made { AllMade R.made self.old → AllMade R.made self.new }
     {
@@ -136,8 +142,9 @@ impl<R: Rows> World<R> {
 
     /// A member sees to what is due.
     fn due(&mut self, member: u8, now: u64) -> Result<Seen, WorldRefusal>
-        ensures steps { AllKept R.kept self.new → (z : StationCircuit) (w : StationState) → StandsFor R.is_open R.saved z self.old w → Moves R.is_open R.saved z w (Step.Due member now) self.new result }
+        ensures steps { AllKept R.kept self.new → (z : StationCircuit) (w : StationState) → StandsFor R.is_open R.saved z self.old w → Moves R.is_open R.saved R.refusals z w (Step.Due member now) self.old self.new result }
         ensures tells { Tells (Step.Due member now) self.old self.new result }
+        ensures why { TellsWhy R.Rows self.old self.new result }
         ensures was_kept { AllKept R.kept self.new → AllKept R.kept self.old }
         ensures made { AllMade R.made self.old → AllMade R.made self.new }
     {
@@ -150,8 +157,9 @@ impl<R: Rows> World<R> {
 
     /// A datagram comes to its addressee.
     fn deliver(&mut self, k: usize, now: u64) -> Result<Seen, WorldRefusal>
-        ensures steps { AllKept R.kept self.new → (z : StationCircuit) (w : StationState) → StandsFor R.is_open R.saved z self.old w → Moves R.is_open R.saved z w (Step.Deliver k now) self.new result }
+        ensures steps { AllKept R.kept self.new → (z : StationCircuit) (w : StationState) → StandsFor R.is_open R.saved z self.old w → Moves R.is_open R.saved R.refusals z w (Step.Deliver k now) self.old self.new result }
         ensures tells { Tells (Step.Deliver k now) self.old self.new result }
+        ensures why { TellsWhy R.Rows self.old self.new result }
         ensures was_kept { AllKept R.kept self.new → AllKept R.kept self.old }
         ensures made { AllMade R.made self.old → AllMade R.made self.new }
     {
@@ -166,8 +174,9 @@ impl<R: Rows> World<R> {
 
     /// A member starts again.
     fn restart(&mut self, member: u8) -> Result<Seen, WorldRefusal>
-        ensures steps { AllKept R.kept self.new → (z : StationCircuit) (w : StationState) → StandsFor R.is_open R.saved z self.old w → Moves R.is_open R.saved z w (Step.Restart member) self.new result }
+        ensures steps { AllKept R.kept self.new → (z : StationCircuit) (w : StationState) → StandsFor R.is_open R.saved z self.old w → Moves R.is_open R.saved R.refusals z w (Step.Restart member) self.old self.new result }
         ensures tells { Tells (Step.Restart member) self.old self.new result }
+        ensures why { TellsWhy R.Rows self.old self.new result }
         ensures was_kept { AllKept R.kept self.new → AllKept R.kept self.old }
         ensures made { AllMade R.made self.old → AllMade R.made self.new }
     {
@@ -178,8 +187,9 @@ impl<R: Rows> World<R> {
 
     /// A member's store is armed to refuse a save.
     fn balk(&mut self, member: u8, saved: bool) -> Result<Seen, WorldRefusal>
-        ensures steps { AllKept R.kept self.new → (z : StationCircuit) (w : StationState) → StandsFor R.is_open R.saved z self.old w → Moves R.is_open R.saved z w (Step.Balk member saved) self.new result }
+        ensures steps { AllKept R.kept self.new → (z : StationCircuit) (w : StationState) → StandsFor R.is_open R.saved z self.old w → Moves R.is_open R.saved R.refusals z w (Step.Balk member saved) self.old self.new result }
         ensures tells { Tells (Step.Balk member saved) self.old self.new result }
+        ensures why { TellsWhy R.Rows self.old self.new result }
         ensures was_kept { AllKept R.kept self.new → AllKept R.kept self.old }
         ensures made { AllMade R.made self.old → AllMade R.made self.new }
     {

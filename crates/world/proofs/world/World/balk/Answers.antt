@@ -1,6 +1,7 @@
 -- One station's store is armed, and the others stay.
 use Rattle.std.proofs.Common.{◌≡◌, ◌∙◌, refl, sym, ap, subst, Some}
 use Rattle.std.specs.Vec.{with_item}
+use Rattle.protocol.specs.Circuit as circuit
 use Rattle.saved_rows.specs.declared.balky.Balky.{Balky}
 use Rattle.station.specs.Stations.{sight}
 use Rattle.world.proofs.Members.{kept_before, made_after}
@@ -19,7 +20,8 @@ returns-clause-steps g c = λ kept z w h.
     let ch = changed v v' c.in_ok-place.place c.args.member s s' o.place o.within c.index_mut.ensures.value refl in
     let armed : c.arm.new.self ≡ record s.rows { armed = Some c.args.saved } =
     c.arm.ensures ∙ ap (λ (r : Balky g.row.R.Denot). record r { armed = Some c.args.saved }) c.rows_mut.ensures.value in
-    rw c.unsent.ensures (balk_comes x g.R.Rows.refusals z v v' w c.in_ok-place.place c.args.member s s' ch h refl refl refl c.args.saved (ap (λ (r : Balky g.row.R.Denot). record s { rows = r }) armed))
+    let comes = balk_comes x g.R.Rows.refusals z v v' w c.in_ok-place.place c.args.member s s' ch h refl refl refl c.args.saved (ap (λ (r : Balky g.row.R.Denot). record s { rows = r }) armed) in
+    rw c.unsent.ensures (comes.0, comes.1, circuit.Armed c.args.saved, refl, comes.2)
 
 pub returns-clause-was_kept : goal.returns-clause-was_kept
 returns-clause-was_kept g c =

@@ -1,6 +1,7 @@
 -- One station starts again, and the others stay.
 use Rattle.std.proofs.Common.{refl}
 use Rattle.std.specs.Vec.{with_item}
+use Rattle.protocol.specs.Circuit as circuit
 use Rattle.station.specs.Stations.{sight}
 use Rattle.world.proofs.Members.{kept_before, made_after}
 use Rattle.world.proofs.Asking.{changed}
@@ -15,7 +16,8 @@ returns-clause-steps g c = λ kept z w h.
     let o = c.in_ok-place.ensures in
     let ch = changed v v' c.in_ok-place.place c.args.member c.index_mut.result.now c.restart.new.self o.place o.within c.index_mut.ensures.value refl in
     let e = c.restart.ensures in
-    rw c.unsent.ensures (restart_comes x g.R.Rows.refusals z v v' w c.in_ok-place.place c.args.member c.index_mut.result.now c.restart.new.self ch h refl refl refl e.fixed e.starts e.stands)
+    let comes = restart_comes x g.R.Rows.refusals z v v' w c.in_ok-place.place c.args.member c.index_mut.result.now c.restart.new.self ch h refl refl refl e.fixed e.starts e.stands in
+    rw c.unsent.ensures (comes.0, comes.1, circuit.Restarted, refl, comes.2)
 
 pub returns-clause-was_kept : goal.returns-clause-was_kept
 returns-clause-was_kept g c =

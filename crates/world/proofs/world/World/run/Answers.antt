@@ -4,16 +4,19 @@ use Rattle.std.specs.Prelude.{slice_get}
 use Rattle.std.proofs.lemmas.Option.{slice_get-get_or}
 use Rattle.std.proofs.lemmas.List.{take_more, take_all}
 use Rattle.world.specs.declared.step.Step.{Step}
-use Rattle.world.specs.Taking.{outcome_value}
+use Rattle.world.specs.Taking.{Takes}
 use Rattle.world.specs.Reach.{Leads}
 use Rattle.world.proofs.Asking.{reason_stays}
-use Rattle.world.proofs.Reaching.{led, leads_more, reached_agreed, stays_reached}
+use Rattle.world.proofs.Reaching.{led, leads_more, reached_agreed, stays_reached, takes_more}
 use Rattle.world.proofs.world.World.run.Goals as goal
 
 pub returns-in-Err-clause-runs : goal.returns-in-Err-clause-runs
 returns-in-Err-clause-runs g c = λ kept z w h.
     let l = c.loop-at.invariant.runs (c.step.ensures.was_kept kept) z w h in
     (l.0, c.in-Err.ensures.steps kept z l.0 l.1, l.2)
+
+pub returns-in-Err-clause-takes : goal.returns-in-Err-clause-takes
+returns-in-Err-clause-takes g c = (c.loop-at.self, c.loop-at.invariant.takes, c.in-Err.ensures.tells.1)
 
 pub returns-in-Err-clause-stops : goal.returns-in-Err-clause-stops
 returns-in-Err-clause-stops g c =
@@ -32,6 +35,14 @@ returns-in-Err-clause-reached g c =
 
 pub loop-at-preserved : goal.loop-at-preserved
 loop-at-preserved g c = record {
+  takes =
+      let steps = c.args.steps.now in
+      let step = c.index-steps-at.result in
+      let longer : take (c.loop-at.at + 1) steps ≡ take c.loop-at.at steps ++ step ∷ [] =
+      take_more steps c.loop-at.at step c.loop-at-test.true ∙ ap (λ (s : Step). take c.loop-at.at steps ++ s ∷ []) (sym c.index-steps-at.is) in
+      let e = c.in_default.ensures in
+      subst (λ (ss : List Step). Takes g.R.Rows c.args.self.now ss c.step.new.self) (sym longer)
+      (takes_more g.R.Rows c.args.self.now c.loop-at.self c.step.new.self (take c.loop-at.at steps) step c.in_default.field-0 c.loop-at.invariant.takes e.tells e.why);
   was_kept = λ kept. c.loop-at.invariant.was_kept (c.step.ensures.was_kept kept);
   made = λ made. c.step.ensures.made (c.loop-at.invariant.made made);
   runs = λ kept z w h.
@@ -41,9 +52,14 @@ loop-at-preserved g c = record {
       let m = c.in_default.ensures.steps kept z l.0 l.1 in
       let longer : take (c.loop-at.at + 1) steps ≡ take c.loop-at.at steps ++ step ∷ [] =
       take_more steps c.loop-at.at step c.loop-at-test.true ∙ ap (λ (s : Step). take c.loop-at.at steps ++ s ∷ []) (sym c.index-steps-at.is) in
-      let more : Leads z w (take c.loop-at.at steps ++ step ∷ []) m.0 = leads_more z w l.0 m.0 (take c.loop-at.at steps) step (outcome_value c.in_default.field-0.outcome) l.2 m.2 in
+      let more : Leads z w (take c.loop-at.at steps ++ step ∷ []) m.0 = leads_more z w l.0 m.0 (take c.loop-at.at steps) step m.2 l.2 m.4 in
       (m.0, m.1, subst (λ (ss : List Step). Leads z w ss m.0) (sym longer) more);
 }
+
+pub returns-clause-takes : goal.returns-clause-takes
+returns-clause-takes g c =
+    let all : take c.loop-at.at c.args.steps.now ≡ c.args.steps.now = take_all c.loop-at.at c.args.steps.now c.loop-at-test.false in
+    subst (λ (ss : List Step). Takes g.R.Rows c.args.self.now ss c.loop-at.self) all c.loop-at.invariant.takes
 
 pub returns-clause-runs : goal.returns-clause-runs
 returns-clause-runs g c = λ kept z w h.

@@ -1,10 +1,10 @@
 -- A search: done, refused or torn.
-use Rattle.std.proofs.Common.{◌∙◌, sym, ap, append-nil}
+use Rattle.std.proofs.Common.{◌∙◌, sym, ap, append-nil, length}
 use Rattle.std.proofs.lemmas.Result.{err_from_is_err_and}
 use Rattle.protocol.specs.Refusals.{Seeking}
 use Rattle.station.specs.Stations.{sight}
 use Rattle.world.specs.declared.step.Step.TheVariants as steps
-use Rattle.world.proofs.Asking.{asked, asked_kept, asked_made, changed_in, same_kept, same_made, seek_brings, still}
+use Rattle.world.proofs.Asking.{asked, asked_kept, asked_made, changed_in, same_kept, same_made, seek_brings, still, tells_why}
 use Rattle.world.proofs.world.World.seek.Goals as goal
 
 pub returns-in_err-make_room-clause-steps : goal.returns-in_err-make_room-clause-steps
@@ -61,3 +61,15 @@ returns-clause-made g c =
     let same = c.make_room.ensures.same in
     let ch = changed_in v v1 v' c.in_ok-place.place c.args.member s s' same o.place o.within c.index_mut.ensures.value (ap (λ q. q.items) c.take_in.ensures.stations) in
     asked_made g.R.Rows.made v v1 v' c.in_ok-place.place c.args.member s s' same ch c.seek-step.ensures.made
+
+pub returns-clause-why : goal.returns-clause-why
+returns-clause-why g c =
+    let v = c.args.self.now in
+    let v1 = c.make_room.new.self in
+    let v' = c.take_in.new.self in
+    let s = c.index_mut.result.now in
+    let s' = c.seek-step.new.self in
+    let o = c.in_ok-place.ensures in
+    let same = c.make_room.ensures.same in
+    let ch = changed_in v v1 v' c.in_ok-place.place c.args.member s s' same o.place o.within c.index_mut.ensures.value (ap (λ q. q.items) c.take_in.ensures.stations) in
+    tells_why g.R.Rows v v1 v' c.in_ok-place.place c.args.member (length v1.sent.items) s s' c.seek-step.result c.take_in.result same ch c.take_in.ensures.seen c.seek-step.ensures.blames

@@ -1,0 +1,42 @@
+-- What tears a step, and what it leaves: of every step of a circuit.
+use Rattle.std.specs.Prelude.{◌≡◌, ℕ, Some, None, Bool, true, false, if◌then◌else◌}
+use Rattle.protocol.specs.Turn.{Event, number_of, Turn, turn}
+use Rattle.protocol.specs.Refusals.{Call, refusal, event_of}
+use Rattle.protocol.specs.Circuit.{Circuit, State, Step, Outcome, Done, Refused, Torn_by_store, Torn_as_armed, Torn_by_memory, Restarted, Upgraded, Armed, Task, task_of, setup_of, StepsTo}
+
+-- the step ended so by the member's store, of its own accord or as it was armed
+abbrev pub by_store : {D F : Type 0} → Outcome D F → Bool
+by_store (Done note) = false
+by_store (Refused refusal) = false
+by_store Torn_by_store = true
+by_store Torn_as_armed = true
+by_store Torn_by_memory = false
+by_store Restarted = false
+by_store Upgraded = false
+by_store (Armed saved) = false
+
+-- what a member was asked where its store tore the step, nothing refuses: the number is free, the packet is for it, the tape that is offered sets.
+-- A spent round alone comes after the row is read
+abbrev pub StoreTearsTheUnrefused : (D G F : Type 0) → Type 0
+StoreTearsTheUnrefused D G F =
+    (z : Circuit D G F) (w after : State G F) (s : Step) (o : Outcome D F) (m : ℕ) (call : Call)
+    → StepsTo z w s o after → by_store o ≡ true → task_of w.sent s ≡ Some (record { member = m; call = call })
+    → refusal (setup_of z (w.version m) m) (w.is_stopped m) (w.marks m) call ≡ None
+
+-- a step that was torn as armed came to a save of an armed store, which is not armed any more:
+-- as saved it has the row of the turn, as unsaved the row before
+pub record WasArmed {D G F : Type 0} (z : Circuit D G F) (w after : State G F) (e : Event) (t : Task) : Type 0 where
+  pub taken : Turn
+  pub is_turn : turn z.number z.count t.member (w.marks t.member) (w.rows t.member (number_of e)) e ≡ Some taken
+  pub saved : Bool
+  pub armed : w.armed t.member ≡ Some saved
+  pub row : after.rows t.member (number_of e) ≡ (if saved then taken.row else w.rows t.member (number_of e))
+  pub unarmed : after.armed t.member ≡ None
+
+-- so is each step that was torn as armed
+abbrev pub TornAsItWasArmed : (D G F : Type 0) → Type 0
+TornAsItWasArmed D G F =
+    (z : Circuit D G F) (w after : State G F) (s : Step) (m : ℕ) (call : Call) (e : Event)
+    → StepsTo z w s Torn_as_armed after → task_of w.sent s ≡ Some (record { member = m; call = call })
+    → event_of (setup_of z (w.version m) m) (w.marks m) call ≡ Some e
+    → WasArmed z w after e (record { member = m; call = call })
