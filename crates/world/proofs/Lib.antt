@@ -7,4 +7,5 @@ pub mod Starting
 pub mod Reaching
 pub mod Founding
 pub mod Asking
+pub mod Tearing
 pub mod Existing

@@ -161,6 +161,19 @@ abbrev pub Tells : {R : Type 0} → Step → World R → World R → Result Seen
 Tells step old new (Ok seen) = (missing_in old step ≡ None) × Adds step old new seen
 Tells step old new (Err refusal) = IsReason (missing_in old step) refusal × IsSame old new
 
+-- the store of this member was armed to refuse a save
+pub record WasArmed {R : Type 0} (v : World R) (m : ℕ) : Type 0 where
+  pub station : Station (Balky R)
+  pub at_member : station_at v m ≡ Some station
+  pub armed : IsSome station.rows.armed
+
+-- of rows that blame nothing but want of memory: where a step is told as torn by the store, it was torn for want of memory,
+-- or as its member's store was armed, and that is told as a fault of the store
+abbrev pub TearsForMemory : {R : Type 0} → Ghosts R → Type 0
+TearsForMemory {R = R} g =
+    (old new : World R) (seen : Seen) → TellsWhy g old new (Ok seen)
+    → IfTorn seen.outcome (λ fault. (fault ≡ row_faults.OutOfMemory) ⊎ (WasArmed old seen.member × (fault ≡ row_faults.Store)))
+
 -- these steps were taken, one after the other: of each it is told what it added, and where the store tore it, why
 abbrev pub Takes : {R : Type 0} → Ghosts R → World R → List Step → World R → Type 0
 Takes g old [] new = new ≡ old

@@ -1,12 +1,14 @@
 //! The laws over every history, at the packets' own reading and at what tables and widths make of tapes.
 //! The functions do nothing but cite the laws that they rest on.
 
+ghost use Rattle.world.specs.Taking.{TearsForMemory};
 ghost use Rattle.world.specs.Laws.{OneTape, VotesOffered, PromisesKept, ReportsGreatest, VotesBacked, HeardVoted, RipeChosen, OneChosen, CircuitsExist, StationsAgree};
 
 use crate::slugs::Slugs;
 use line_check::SetFault;
 use packets::PacketFault;
 use protocol::laws;
+use saved_rows::{MemoryRows, Rows};
 
 /// All votes and Accepts of one number and ballot carry one tape.
 pub fn one_tape()
@@ -51,6 +53,12 @@ pub fn chosen_is_one()
 {
     laws::chosen_is_one::<PacketFault, Slugs, SetFault>();
 }
+
+/// In a world over rows in memory, what is told of a step that the store tore is want of memory, or that its member's store was armed to
+/// refuse the save.
+pub fn rows_in_memory_want_memory()
+    ensures { TearsForMemory ⟦<MemoryRows as Rows>⟧ }
+{}
 
 /// There is a circuit of stations, whatever their tables and widths: each tape sets in one way.
 pub fn circuits_exist()

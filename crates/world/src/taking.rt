@@ -20,6 +20,7 @@ impl<R: Rows> World<R> {
     ///
     /// Refused as `NoSuchMember`, `NoSuchDatagram` or `OutOfMemory`, each of which changes nothing: the logs grow
     /// before the station is asked. That a station refuses a step is an outcome, also where its store or its memory does.
+    /// A fault of its store is that of the member's own rows; an armed store tells its refusal as [`saved_rows::RowsFault::Store`].
     pub fn step(&mut self, step: &Step) -> Result<Seen, WorldRefusal>
         // Of every circuit and state that the world stands for, it takes the step, and ends as the circuit's step does.
         ensures steps { AllKept R.kept self.new → (z : StationCircuit) (w : StationState) → StandsFor R.is_open R.saved z self.old w → Moves R.is_open R.saved R.refusals z w step.now self.old self.new result }
