@@ -2,6 +2,7 @@
 
 use ballots::Ballot;
 use node_core::Note;
+use saved_rows::RowsFault;
 use station::StepRefusal;
 use std::alloc::Global;
 use world::{Outcome, WorldRefusal};
@@ -35,7 +36,8 @@ fn ended(outcome: Outcome) -> (&'static str, Option<Ballot>) {
         Outcome::Done(note) => noted(note),
         Outcome::Refused(StepRefusal::Stopped) => ("refused stopped", None),
         Outcome::Refused(StepRefusal::AlreadyOpen) => ("refused already-open", None),
-        Outcome::Refused(StepRefusal::Store(_)) => ("stopped store", None),
+        Outcome::Refused(StepRefusal::TapeFaulty(_)) => ("refused tape-faulty", None),
+        Outcome::Refused(StepRefusal::Store(RowsFault::Store)) => ("stopped store", None),
         Outcome::Refused(_) => ("refused", None),
         Outcome::Restarted => ("restarted", None),
         Outcome::Armed { saved: true } => ("armed saved", None),
