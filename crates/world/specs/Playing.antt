@@ -1,5 +1,5 @@
 -- A circuit that is played from its beginning: where its steps lead, and why it is not played.
-use Rattle.std.specs.Prelude.{ℕ, List, Result}
+use Rattle.std.specs.Prelude.{◌≡◌, ℕ, List, Result, map}
 use Rattle.protocol.specs.Versions.{One}
 use Rattle.protocol.specs.Circuit.{fresh}
 use Rattle.saved_rows.specs.declared.rows.Rows.{Ghosts}
@@ -9,8 +9,8 @@ use Rattle.world.specs.declared.step.RunStop.{RunStop}
 use Rattle.world.specs.declared.playing.PlayFault.{PlayFault}
 use Rattle.world.specs.declared.playing.PlayFault.TheVariants.{BadCount, OutOfMemory}
 use Rattle.world.specs.Setups.{StationCircuit}
-use Rattle.world.specs.Founding.{Given, IsCount, IsCircuitOf}
-use Rattle.world.specs.Reach.{Runs}
+use Rattle.world.specs.Founding.{Part, Given, given_of, IsCount, IsFounded, IsCircuitOf}
+use Rattle.world.specs.Reach.{Runs, StandsFor}
 
 -- from the fresh state of the circuit of these members, all at version 1, the steps lead to a state that the world stands for,
 -- or those before the one that was refused do
@@ -21,3 +21,11 @@ Plays g k members steps v run = (z : StationCircuit) → IsCircuitOf k members z
 abbrev pub IsUnplayed : ℕ → PlayFault → Type 0
 IsUnplayed count BadCount = ¬ IsCount count
 IsUnplayed count OutOfMemory = IsCount count
+
+-- circuit k of these members, whatever their rows, and nothing went between them
+abbrev pub IsBeginning : {R : Type 0} → ℕ → List Given → World R → Type 0
+IsBeginning {R = R} k members v = (parts : List (Part R)) × (map given_of parts ≡ members) × IsFounded k parts v
+
+-- the world stands for the fresh state of the circuit of these members, all at version 1
+abbrev pub IsFresh : {R : Type 0} → Ghosts R → ℕ → List Given → World R → Type 0
+IsFresh g k members v = (z : StationCircuit) → IsCircuitOf k members z → StandsFor g.is_open g.saved z v (fresh (λ _. One))

@@ -11,7 +11,7 @@ mod taking;
 mod world;
 
 pub use logs::{OfferLog, ReleaseLog};
-pub use playing::{PlayFault, Played, play, play_in_memory};
+pub use playing::{PlayFault, Played, circuit_in_memory, play, play_in_memory};
 pub use slugs::Slugs;
 pub use step::{Outcome, RunStop, Seen, Step, WorldRefusal};
 pub use world::{NewWorldFault, World};

@@ -1,8 +1,8 @@
 //! A circuit that is played from its beginning.
 
-ghost use Rattle.std.specs.Prelude.{◌≡◌, None, IfOk, IfErr, IfSome, length, map};
+ghost use Rattle.std.specs.Prelude.{◌≡◌, None, IfOk, IfErr, IfSome, OnOk, length, map};
 ghost use Rattle.world.specs.Founding.{AreBlank, AreNewlyMade, IsCount, IsUnfounded, given_of};
-ghost use Rattle.world.specs.Playing.{IsUnplayed, Plays};
+ghost use Rattle.world.specs.Playing.{IsBeginning, IsFresh, IsUnplayed, Plays};
 ghost use Rattle.world.specs.Reach.{Agreed, AllHonest, AllKept, IsReached};
 ghost use Rattle.world.specs.Taking.{StopsAt};
 
@@ -90,6 +90,46 @@ fn with_memory(
     Ok(parts)
 }
 
+/// The members of a circuit, each with empty rows in memory.
+fn founders(
+    alloc: Global,
+    members: Vec<(CodeTable, Widths)>,
+) -> Result<Vec<(CodeTable, Widths, MemoryRows)>, PlayFault>
+    ensures unplayed { IfErr result (IsUnplayed (length members.items)) }
+    ensures count { OnOk result (IsCount (length members.items)) }
+    ensures new { IfOk result (λ v. AreNewlyMade ⟦<MemoryRows as Rows>⟧ v.items) }
+    ensures given { IfOk result (λ v. map given_of v.items ≡ members.items) }
+{
+    if member_count(members.len()).is_none() {
+        return Err(PlayFault::BadCount);
+    }
+    match with_memory(alloc, members) {
+        Ok(members) => Ok(members),
+        Err(_) => Err(PlayFault::OutOfMemory),
+    }
+}
+
+/// A circuit of these members, numbered from 1 in the list's order, over empty rows in memory. Nothing went between them.
+///
+/// There is none as `BadCount` where there are no members or more than 15; `OutOfMemory`.
+pub fn circuit_in_memory(
+    alloc: Global,
+    circuit: u16,
+    members: Vec<(CodeTable, Widths)>,
+) -> Result<World<MemoryRows>, PlayFault>
+    ensures unplayed { IfErr result (IsUnplayed (length members.items)) }
+    ensures begins { IfOk result (IsBeginning circuit members.items) }
+    // It stands for a fresh state of the circuit of these members, all at version 1.
+    ensures fresh { IfOk result (IsFresh ⟦<MemoryRows as Rows>⟧ circuit members.items) }
+    ensures reached { IfOk result (IsReached ⟦<MemoryRows as Rows>⟧) }
+{
+    let parts = founders(alloc, members)?;
+    match World::new(alloc, circuit, parts) {
+        Ok(world) => Ok(world),
+        Err(_) => Err(PlayFault::OutOfMemory),
+    }
+}
+
 /// Plays a circuit from its beginning, its members over empty rows in memory: takes the steps in order, up to the first
 /// that is refused.
 ///
@@ -108,12 +148,7 @@ pub fn play_in_memory(
     ensures stops { IfOk result (λ p. IfErr p.run (StopsAt steps.now p.world)) }
     ensures agreed { IfOk result (λ p. Agreed p.world) }
 {
-    if member_count(members.len()).is_none() {
-        return Err(PlayFault::BadCount);
-    }
-    let Ok(members) = with_memory(alloc, members) else {
-        return Err(PlayFault::OutOfMemory);
-    };
+    let members = founders(alloc, members)?;
     match play(alloc, circuit, members, steps) {
         Ok(played) => Ok(played),
         Err(_) => Err(PlayFault::OutOfMemory),
