@@ -2,6 +2,7 @@
 #![tactic(auto)]
 
 mod notes;
+mod outcomes;
 mod rehearsing;
 mod script;
 mod showing;

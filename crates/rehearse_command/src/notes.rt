@@ -1,29 +1,71 @@
 //! The words of notes, as they are printed.
 
+ghost use Rattle.std.specs.Prelude.{◌≡◌, Some};
+ghost use Rattle.rehearse_command.specs.Words.{ballot_text, note_ballot, note_text, note_word};
+
 use ballots::Ballot;
 use node_core::Note;
 use std::fmt;
 
-/// The word of a note, and the ballot that stands behind it, if any.
-fn parts(note: Note) -> (&'static str, Option<Ballot>) {
+/// The word of a note.
+fn word_of(note: Note) -> &'static str
+    ensures { result.now ≡ note_word note }
+{
     match note {
-        Note::Began { ballot } => ("began", Some(ballot)),
-        Note::Nothing { ballot } => ("nothing", Some(ballot)),
-        Note::Proposed { ballot } => ("proposed", Some(ballot)),
-        Note::Idle => ("idle", None),
-        Note::GaveUp { ballot } => ("gave-up", Some(ballot)),
-        Note::Promised { ballot } => ("promised", Some(ballot)),
-        Note::Silent => ("silent", None),
-        Note::Nacked { promised } => ("nacked", Some(promised)),
-        Note::VotedAgain { ballot } => ("voted-again", Some(ballot)),
-        Note::Voted { ballot } => ("voted", Some(ballot)),
-        Note::Stale => ("stale", None),
-        Note::Overtaken { ballot } => ("overtaken", Some(ballot)),
-        Note::Repeated => ("repeated", None),
-        Note::Counted { ballot } => ("counted", Some(ballot)),
-        Note::Denied { promised } => ("denied", Some(promised)),
-        Note::Settled => ("settled", None),
-        Note::Heard { ballot } => ("heard", Some(ballot)),
+        Note::Began { .. } => "began",
+        Note::Nothing { .. } => "nothing",
+        Note::Proposed { .. } => "proposed",
+        Note::Idle => "idle",
+        Note::GaveUp { .. } => "gave-up",
+        Note::Promised { .. } => "promised",
+        Note::Silent => "silent",
+        Note::Nacked { .. } => "nacked",
+        Note::VotedAgain { .. } => "voted-again",
+        Note::Voted { .. } => "voted",
+        Note::Stale => "stale",
+        Note::Overtaken { .. } => "overtaken",
+        Note::Repeated => "repeated",
+        Note::Counted { .. } => "counted",
+        Note::Denied { .. } => "denied",
+        Note::Settled => "settled",
+        Note::Heard { .. } => "heard",
+    }
+}
+
+/// The ballot that stands behind the word, if any.
+fn ballot_of(note: Note) -> Option<Ballot>
+    ensures { result ≡ note_ballot note }
+{
+    match note {
+        Note::Began { ballot } => Some(ballot),
+        Note::Nothing { ballot } => Some(ballot),
+        Note::Proposed { ballot } => Some(ballot),
+        Note::Idle => None,
+        Note::GaveUp { ballot } => Some(ballot),
+        Note::Promised { ballot } => Some(ballot),
+        Note::Silent => None,
+        Note::Nacked { promised } => Some(promised),
+        Note::VotedAgain { ballot } => Some(ballot),
+        Note::Voted { ballot } => Some(ballot),
+        Note::Stale => None,
+        Note::Overtaken { ballot } => Some(ballot),
+        Note::Repeated => None,
+        Note::Counted { ballot } => Some(ballot),
+        Note::Denied { promised } => Some(promised),
+        Note::Settled => None,
+        Note::Heard { ballot } => Some(ballot),
+    }
+}
+
+/// A ballot, as `1.2`.
+#[derive(Clone, Copy)]
+pub(crate) struct BallotText(pub Ballot);
+
+impl fmt::Display for BallotText {
+    ghost output = { λ b. Some (ballot_text b.0) };
+
+    fn fmt<W: fmt::Write>(&self, f: &mut fmt::Formatter<W>) -> fmt::Result {
+        write!(f, "{}.{}", self.0.round(), self.0.owner().get())
     }
 }
 
@@ -32,10 +74,13 @@ fn parts(note: Note) -> (&'static str, Option<Ballot>) {
 pub struct NoteText(pub Note);
 
 impl fmt::Display for NoteText {
+    ghost output = { λ n. Some (note_text n.0) };
+
     fn fmt<W: fmt::Write>(&self, f: &mut fmt::Formatter<W>) -> fmt::Result {
-        match parts(self.0) {
-            (word, Some(ballot)) => write!(f, "{word} {ballot}"),
-            (word, None) => f.write_str(word),
+        let word = word_of(self.0);
+        match ballot_of(self.0) {
+            Some(ballot) => write!(f, "{word} {}", BallotText(ballot)),
+            None => f.write_str(word),
         }
     }
 }

@@ -1,14 +1,21 @@
 //! The command `rehearse`: a whole circuit in one process, driven by a script.
 
+ghost use Rattle.std.specs.Prelude.{◌≡◌, ℕ, List, [], Option, OnOk, OnErr, IfOk, IfSome};
+ghost use Rattle.std.specs.List.{All};
+ghost use Rattle.std.specs.Io.KnownBytes.{Appends};
+ghost use Rattle.streams.specs.Fronts.{AppendsFront};
+ghost use Rattle.command_ends.specs.declared.end.End.TheVariants.{Done};
+ghost use Rattle.rehearse_command.specs.Rehearsals.{Inputs, IsSetUpBy, IsStaged, inputs, Rehearses, Stands, StandsFront};
+
 use crate::script::{LineFault, Order, is_ignored, order_of};
-use crate::showing::put_seen;
+use crate::showing::put_scene;
 use code_table::CodeTable;
 use command_ends::{End, Fault, read_text, table_of, widths_of};
 use saved_rows::MemoryRows;
-use std::alloc::Global;
+use std::alloc::{AllocError, Global};
 use std::io::{Read, Write};
 use widths::Widths;
-use world::{NewWorldFault, Step, World, WorldRefusal};
+use world::{PlayFault, Step, World, WorldRefusal, circuit_in_memory};
 
 /// The number of the circuit that is rehearsed.
 const CIRCUIT: u16 = 7;
@@ -35,28 +42,92 @@ struct Texts<'a> {
     widths: &'a [u8],
 }
 
-/// A circuit of so many members, each with the table and the widths of these texts.
-fn stage_of<'a>(
+/// So many members, each with the table and the widths of these texts.
+fn members_of<'a>(
     alloc: Global,
     texts: Texts<'_>,
-    line: usize,
     count: u8,
-) -> Result<Stage, Fault<'a>> {
-    let mut members: Vec<(CodeTable, Widths, MemoryRows)> = Vec::new(alloc);
+) -> Result<Vec<(CodeTable, Widths)>, Fault<'a>>
+    ensures { IfOk result (λ members. All (IsSetUpBy (inputs (Some texts.entry.table.now) (Some texts.entry.widths.now))) members.items) }
+{
+    let mut members: Vec<(CodeTable, Widths)> = Vec::new(alloc);
     for _ in 0..count {
         let table = table_of(alloc, texts.table)?;
         let widths = widths_of(alloc, texts.widths)?;
-        if members
-            .push((table, widths, MemoryRows::new(alloc)))
-            .is_err()
-        {
+        if members.push((table, widths)).is_err() {
             return Err(Fault::OutOfMemory);
         }
     }
-    match World::new(alloc, CIRCUIT, members) {
+    Ok(members)
+}
+
+/// A circuit of so many members, in which nothing has happened yet.
+fn stage_of<'a>(alloc: Global, texts: Texts<'_>, line: usize, count: u8) -> Result<Stage, Fault<'a>>
+    ensures { IfOk result (λ stage. (start now : Option (List ℕ)) → Appends start now [] → Stands (inputs (Some texts.entry.table.now) (Some texts.entry.widths.now)) start now stage.world) }
+{
+    let members = members_of(alloc, texts, count)?;
+    match circuit_in_memory(alloc, CIRCUIT, members) {
         Ok(world) => Ok(Stage { world, now: 0 }),
-        Err(NewWorldFault::BadCount(_)) => Err(Fault::script(line, "bad line")),
-        Err(NewWorldFault::OutOfMemory) => Err(Fault::OutOfMemory),
+        Err(PlayFault::BadCount) => Err(Fault::script(line, "bad line")),
+        Err(PlayFault::OutOfMemory) => Err(Fault::OutOfMemory),
+    }
+}
+
+/// The step that a line orders at a moment; `None` where it orders none.
+fn step_of(order: Order, now: u64) -> Option<Step> {
+    match order {
+        Order::Members(_) => None,
+        Order::At(_) => None,
+        Order::Offer {
+            member,
+            number,
+            tape,
+        } => Some(Step::Offer {
+            member,
+            number,
+            tape,
+            now,
+        }),
+        Order::Seek { member, number } => Some(Step::Seek {
+            member,
+            number,
+            now,
+        }),
+        Order::Due { member } => Some(Step::Due { member, now }),
+        Order::Deliver { k } => Some(Step::Deliver { k: k as usize, now }),
+        Order::Restart { member } => Some(Step::Restart { member }),
+        Order::Balk { member, saved } => Some(Step::Balk { member, saved }),
+    }
+}
+
+/// Why a line is not played whose step a world refuses.
+fn fault_of<'a>(refusal: WorldRefusal, line: usize) -> Fault<'a> {
+    match refusal {
+        WorldRefusal::NoSuchMember => Fault::script(line, "no such member"),
+        WorldRefusal::NoSuchDatagram => Fault::script(line, "no such datagram"),
+        WorldRefusal::OutOfMemory => Fault::OutOfMemory,
+    }
+}
+
+/// Takes a step, and shows what it did.
+fn show_step<'a, W: Write>(
+    alloc: Global,
+    world: &mut World<MemoryRows>,
+    step: &Step,
+    line: usize,
+    out: &mut W,
+) -> Result<(), Fault<'a>>
+    ensures goes_on { (by : Inputs) (start : Option (List ℕ)) → Stands by start (W.contents out.old) world.old → OnOk result (Stands by start (W.contents out.new) world.new) }
+    ensures stops { (by : Inputs) (start : Option (List ℕ)) → Stands by start (W.contents out.old) world.old → OnErr result (StandsFront by start (W.contents out.new) world.new) }
+{
+    let (sent, released) = (world.sent().len(), world.releases().len());
+    match world.step(step) {
+        Ok(seen) => {
+            let (_, new_sent) = world.sent().split_at(sent);
+            let (_, new_releases) = world.releases().split_at(released);
+            put_scene(alloc, &seen, sent, new_sent, new_releases, out)
+        }
+        Err(refusal) => Err(fault_of(refusal, line)),
     }
 }
 
@@ -68,40 +139,53 @@ impl Stage {
         order: Order,
         line: usize,
         out: &mut W,
-    ) -> Result<(), Fault<'a>> {
-        let now = self.now;
-        let step = match order {
-            Order::Members(_) => return Err(Fault::script(line, "bad line")),
-            Order::At(moment) => {
-                self.now = moment;
-                return Ok(());
-            }
-            Order::Offer {
-                member,
-                number,
-                tape,
-            } => Step::Offer {
-                member,
-                number,
-                tape,
-                now,
-            },
-            Order::Seek { member, number } => Step::Seek {
-                member,
-                number,
-                now,
-            },
-            Order::Due { member } => Step::Due { member, now },
-            Order::Deliver { k } => Step::Deliver { k: k as usize, now },
-            Order::Restart { member } => Step::Restart { member },
-            Order::Balk { member, saved } => Step::Balk { member, saved },
-        };
-        match self.world.step(&step) {
-            Ok(seen) => put_seen(alloc, &self.world, &seen, out),
-            Err(WorldRefusal::NoSuchMember) => Err(Fault::script(line, "no such member")),
-            Err(WorldRefusal::NoSuchDatagram) => Err(Fault::script(line, "no such datagram")),
-            Err(WorldRefusal::OutOfMemory) => Err(Fault::OutOfMemory),
+    ) -> Result<(), Fault<'a>>
+        ensures goes_on { (by : Inputs) (start : Option (List ℕ)) → Stands by start (W.contents out.old) self.old.world → OnOk result (Stands by start (W.contents out.new) self.new.world) }
+        ensures stops { (by : Inputs) (start : Option (List ℕ)) → Stands by start (W.contents out.old) self.old.world → OnErr result (StandsFront by start (W.contents out.new) self.new.world) }
+    {
+        if let Order::At(moment) = order {
+            self.now = moment;
+            return Ok(());
         }
+        match step_of(order, self.now) {
+            Some(step) => show_step(alloc, &mut self.world, &step, line, out),
+            None => Err(Fault::script(line, "bad line")),
+        }
+    }
+}
+
+/// Sets the stage by the first line that is not ignored.
+fn set_stage<'a>(
+    alloc: Global,
+    texts: Texts<'_>,
+    line: usize,
+    order: Result<Order, LineFault>,
+) -> Result<Stage, Fault<'a>>
+    ensures { IfOk result (λ stage. (start now : Option (List ℕ)) → Appends start now [] → Stands (inputs (Some texts.entry.table.now) (Some texts.entry.widths.now)) start now stage.world) }
+{
+    match order {
+        Ok(Order::Members(count)) => stage_of(alloc, texts, line, count),
+        Err(LineFault::OutOfMemory) => Err(Fault::OutOfMemory),
+        _ => Err(Fault::script(line, "bad line")),
+    }
+}
+
+/// Plays a line on the stage that is set.
+fn play_order<'a, W: Write>(
+    alloc: Global,
+    stage: &mut Stage,
+    line: usize,
+    order: Result<Order, LineFault>,
+    out: &mut W,
+) -> Result<(), Fault<'a>>
+    ensures goes_on { (by : Inputs) (start : Option (List ℕ)) → Stands by start (W.contents out.old) stage.old.world → OnOk result (Stands by start (W.contents out.new) stage.new.world) }
+    ensures stops { (by : Inputs) (start : Option (List ℕ)) → Stands by start (W.contents out.old) stage.old.world → OnErr result (StandsFront by start (W.contents out.new) stage.new.world) }
+{
+    match order {
+        Ok(order) => stage.play(alloc, order, line, out),
+        Err(LineFault::OutOfMemory) => Err(Fault::OutOfMemory),
+        Err(LineFault::BadTape) => Err(Fault::script(line, "bad tape")),
+        Err(LineFault::BadLine) => Err(Fault::script(line, "bad line")),
     }
 }
 
@@ -113,23 +197,42 @@ fn play_line<'a, W: Write>(
     line: usize,
     words: &[u8],
     out: &mut W,
-) -> Result<(), Fault<'a>> {
+) -> Result<(), Fault<'a>>
+    ensures goes_on { (start : Option (List ℕ)) → IsStaged (inputs (Some texts.entry.table.now) (Some texts.entry.widths.now)) start (W.contents out.old) stage.old → OnOk result (IsStaged (inputs (Some texts.entry.table.now) (Some texts.entry.widths.now)) start (W.contents out.new) stage.new) }
+    ensures stops { (start : Option (List ℕ)) → IsStaged (inputs (Some texts.entry.table.now) (Some texts.entry.widths.now)) start (W.contents out.old) stage.old → OnErr result (Rehearses (inputs (Some texts.entry.table.now) (Some texts.entry.widths.now)) (AppendsFront start (W.contents out.new))) }
+{
     let order = order_of(alloc, words);
-    if matches!(order, Err(LineFault::OutOfMemory)) {
-        return Err(Fault::OutOfMemory);
+    match stage {
+        Some(stage) => play_order(alloc, stage, line, order, out),
+        None => {
+            *stage = Some(set_stage(alloc, texts, line, order)?);
+            Ok(())
+        }
     }
-    let Some(stage) = stage else {
-        let Ok(Order::Members(count)) = order else {
-            return Err(Fault::script(line, "bad line"));
-        };
-        *stage = Some(stage_of(alloc, texts, line, count)?);
-        return Ok(());
-    };
-    match order {
-        Ok(order) => stage.play(alloc, order, line, out),
-        Err(LineFault::BadTape) => Err(Fault::script(line, "bad tape")),
-        Err(_) => Err(Fault::script(line, "bad line")),
+}
+
+/// The lines of a script.
+fn lines_of<'a>(alloc: Global, script: &'a [u8]) -> Result<Vec<&'a [u8]>, AllocError> {
+    script.split(|b| *b == b'\n').collect(alloc)
+}
+
+/// Plays lines, up to the first fault.
+fn play_lines<'a, W: Write>(
+    alloc: Global,
+    texts: Texts<'_>,
+    lines: &[&[u8]],
+    out: &mut W,
+) -> Result<(), Fault<'a>>
+    ensures ok { OnOk result (Rehearses (inputs (Some texts.entry.table.now) (Some texts.entry.widths.now)) (Appends (W.contents out.old) (W.contents out.new))) }
+    ensures err { OnErr result (Rehearses (inputs (Some texts.entry.table.now) (Some texts.entry.widths.now)) (AppendsFront (W.contents out.old) (W.contents out.new))) }
+{
+    let mut stage = None;
+    for (index, words) in lines.iter().enumerate() {
+        if !is_ignored(words) {
+            play_line(alloc, texts, &mut stage, index + 1, words, out)?;
+        }
     }
+    Ok(())
 }
 
 /// Plays all lines, up to the first fault.
@@ -138,17 +241,18 @@ fn play_all<'a, W: Write>(
     texts: Texts<'_>,
     script: &[u8],
     out: &mut W,
-) -> Result<(), Fault<'a>> {
-    let mut stage = None;
-    for (index, words) in script.split(|b| *b == b'\n').enumerate() {
-        if !is_ignored(words) {
-            play_line(alloc, texts, &mut stage, index + 1, words, out)?;
-        }
+) -> Result<(), Fault<'a>>
+    ensures ok { OnOk result (Rehearses (inputs (Some texts.entry.table.now) (Some texts.entry.widths.now)) (Appends (W.contents out.old) (W.contents out.new))) }
+    ensures err { OnErr result (Rehearses (inputs (Some texts.entry.table.now) (Some texts.entry.widths.now)) (AppendsFront (W.contents out.old) (W.contents out.new))) }
+{
+    let Ok(lines) = lines_of(alloc, script) else {
+        return Err(Fault::OutOfMemory);
+    };
+    play_lines(alloc, texts, &lines, out)?;
+    match out.flush() {
+        Ok(()) => Ok(()),
+        Err(_) => Err(Fault::CannotWrite),
     }
-    if out.flush().is_err() {
-        return Err(Fault::CannotWrite);
-    }
-    Ok(())
 }
 
 /// The text of a code table, which is taken once to see that it is one.
@@ -156,7 +260,9 @@ fn table_text<'a, R: Read>(
     alloc: Global,
     input: &mut R,
     path: &'a str,
-) -> Result<Vec<u8>, Fault<'a>> {
+) -> Result<Vec<u8>, Fault<'a>>
+    ensures { IfOk result (λ v. IfSome (R.remaining input.old) (λ xs. v.items ≡ xs)) }
+{
     let text = read_text(alloc, input, path)?;
     let _ = table_of(alloc, &text)?;
     Ok(text)
@@ -167,7 +273,9 @@ fn widths_text<'a, R: Read>(
     alloc: Global,
     input: &mut R,
     path: &'a str,
-) -> Result<Vec<u8>, Fault<'a>> {
+) -> Result<Vec<u8>, Fault<'a>>
+    ensures { IfOk result (λ v. IfSome (R.remaining input.old) (λ xs. v.items ≡ xs)) }
+{
     let text = read_text(alloc, input, path)?;
     let _ = widths_of(alloc, &text)?;
     Ok(text)
@@ -181,7 +289,10 @@ fn rehearsed<'a, R: Read, S: Read, T: Read, W: Write>(
     widths: &mut S,
     script: &mut T,
     out: &mut W,
-) -> Result<(), Fault<'a>> {
+) -> Result<(), Fault<'a>>
+    ensures ok { OnOk result (Rehearses (inputs (R.remaining table.old) (S.remaining widths.old)) (Appends (W.contents out.old) (W.contents out.new))) }
+    ensures err { OnErr result (Rehearses (inputs (R.remaining table.old) (S.remaining widths.old)) (AppendsFront (W.contents out.old) (W.contents out.new))) }
+{
     let table = table_text(alloc, table, paths.table)?;
     let widths = widths_text(alloc, widths, paths.widths)?;
     let script = read_text(alloc, script, paths.script)?;
@@ -204,7 +315,11 @@ pub fn rehearse<R: Read, S: Read, T: Read, W: Write, E: Write>(
     script: &mut T,
     out: &mut W,
     err: &mut E,
-) -> End {
+) -> End
+    // Where it ends well, all was written that is shown of a circuit that agrees; otherwise a front of that.
+    ensures done { result ≡ Done → Rehearses (inputs (R.remaining table.old) (S.remaining widths.old)) (Appends (W.contents out.old) (W.contents out.new)) }
+    ensures front { Rehearses (inputs (R.remaining table.old) (S.remaining widths.old)) (AppendsFront (W.contents out.old) (W.contents out.new)) }
+{
     match rehearsed(alloc, paths, table, widths, script, out) {
         Ok(()) => End::Done,
         Err(fault) => {

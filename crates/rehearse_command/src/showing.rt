@@ -1,38 +1,34 @@
 //! What a rehearsal shows of a step: a line for what it did, one for each datagram, and the release.
 
-use crate::notes::NoteText;
-use command_ends::{Fault, RefusalText, put_release};
+ghost use Rattle.std.specs.Prelude.{◌≡◌, ◌+◌, ◌≤◌, Some, IfOk, OnOk, OnErr, flat_map, length, string_bytes};
+ghost use Rattle.std.specs.Io.KnownBytes.{Appends};
+ghost use Rattle.streams.specs.Fronts.{AppendsFront};
+ghost use Rattle.rehearse_command.specs.Lines.{datagram_line, datagrams_text, kind_word, outcome_line, packet_line, released_text, route_text};
+ghost use Rattle.rehearse_command.specs.Scenes.{scene_text};
+
+use crate::notes::BallotText;
+use crate::outcomes::OutcomeText;
+use command_ends::{Fault, put_release};
 use packets::{BodyRef, PacketRef, decode};
-use saved_rows::{MemoryRows, RowsFault};
-use station::{Datagram, StepRefusal};
-use std::alloc::Global;
-use std::io;
+use station::Datagram;
+use std::alloc::{AllocError, Global};
+use std::fmt;
 use std::io::Write;
-use world::{Outcome, Seen, World};
+use streams::put_all;
+use world::{Outcome, ReleaseLog, Seen};
 
-/// Writes why a member did not take a step. Two refusals stop it.
-fn put_refusal<W: Write>(member: u8, refusal: StepRefusal, out: &mut W) -> io::Result<()> {
-    let cause = match refusal {
-        StepRefusal::OutOfMemory | StepRefusal::Store(RowsFault::OutOfMemory) => "memory",
-        StepRefusal::Store(_) => "store",
-        _ => return writeln!(out, "{member} refused {}", RefusalText(refusal)),
-    };
-    writeln!(out, "{member} stopped {cause}")
-}
-
-/// Writes what became of a member's step.
-fn put_outcome<W: Write>(member: u8, outcome: &Outcome, out: &mut W) -> io::Result<()> {
-    match outcome {
-        Outcome::Done(note) => writeln!(out, "{member} {}", NoteText(*note)),
-        Outcome::Refused(refusal) => put_refusal(member, *refusal, out),
-        Outcome::Restarted => writeln!(out, "{member} restarted"),
-        Outcome::Armed { saved: true } => writeln!(out, "{member} armed saved"),
-        Outcome::Armed { saved: false } => writeln!(out, "{member} armed unsaved"),
-    }
+/// The line for what became of a member's step.
+fn outcome_line(alloc: Global, member: u8, outcome: Outcome) -> Result<String, AllocError>
+    ensures { IfOk result (λ t. string_bytes t ≡ outcome_line member outcome) }
+{
+    let text = OutcomeText(outcome);
+    format!(in alloc; "{member} {text}\n")
 }
 
 /// The word for a packet's kind.
-fn kind_word(packet: &PacketRef<'_>) -> &'static str {
+fn kind_word(packet: &PacketRef<'_>) -> &'static str
+    ensures { result.now ≡ kind_word packet.now.body }
+{
     match packet.body() {
         BodyRef::Prepare => "prepare",
         BodyRef::Promise { .. } => "promise",
@@ -42,49 +38,141 @@ fn kind_word(packet: &PacketRef<'_>) -> &'static str {
     }
 }
 
+/// From whom to whom, as `1>2`.
+#[derive(Clone, Copy)]
+struct RouteText {
+    from: u8,
+    to: u8,
+}
+
+impl fmt::Display for RouteText {
+    ghost output = { λ r. Some (route_text r.from r.to) };
+
+    fn fmt<W: fmt::Write>(&self, f: &mut fmt::Formatter<W>) -> fmt::Result {
+        write!(f, "{}>{}", self.from, self.to)
+    }
+}
+
+/// The line of the `k`-th packet ever sent.
+fn packet_line(alloc: Global, k: usize, packet: &PacketRef<'_>) -> Result<String, AllocError>
+    ensures { IfOk result (λ t. string_bytes t ≡ packet_line k packet.now) }
+{
+    let kind = kind_word(packet);
+    let route = RouteText {
+        from: packet.from().get(),
+        to: packet.to().get(),
+    };
+    let number = packet.number().get();
+    let ballot = BallotText(packet.ballot());
+    format!(in alloc; " #{k} {kind} {route} {number} {ballot}\n")
+}
+
+/// Writes a line, if there was memory for it.
+fn put_line<'a, W: Write>(line: &str, out: &mut W) -> Result<(), Fault<'a>>
+    ensures ok { OnOk result (Appends (W.contents out.old) (W.contents out.new) line.now) }
+    ensures err { OnErr result (AppendsFront (W.contents out.old) (W.contents out.new) line.now) }
+{
+    match put_all(out, line.as_bytes()) {
+        Ok(()) => Ok(()),
+        Err(_) => Err(Fault::CannotWrite),
+    }
+}
+
+/// Writes what became of a member's step.
+fn put_outcome<'a, W: Write>(
+    alloc: Global,
+    member: u8,
+    outcome: Outcome,
+    out: &mut W,
+) -> Result<(), Fault<'a>>
+    ensures ok { OnOk result (Appends (W.contents out.old) (W.contents out.new) (outcome_line member outcome)) }
+    ensures err { OnErr result (AppendsFront (W.contents out.old) (W.contents out.new) (outcome_line member outcome)) }
+{
+    match outcome_line(alloc, member, outcome) {
+        Ok(line) => put_line(&line, out),
+        Err(_) => Err(Fault::OutOfMemory),
+    }
+}
+
 /// Writes the `k`-th datagram ever sent. Each spells a packet, for a station sent it.
-fn put_datagram<W: Write>(k: usize, datagram: &Datagram, out: &mut W) -> io::Result<()> {
+fn put_datagram<'a, W: Write>(
+    alloc: Global,
+    k: usize,
+    datagram: &Datagram,
+    out: &mut W,
+) -> Result<(), Fault<'a>>
+    ensures ok { OnOk result (Appends (W.contents out.old) (W.contents out.new) (datagram_line k datagram.now)) }
+    ensures err { OnErr result (AppendsFront (W.contents out.old) (W.contents out.new) (datagram_line k datagram.now)) }
+{
     let Ok(packet) = decode(datagram.bytes()) else {
         return Ok(());
     };
-    let kind = kind_word(&packet);
-    let (from, to) = (packet.from().get(), packet.to().get());
-    let (number, ballot) = (packet.number().get(), packet.ballot());
-    writeln!(out, " #{k} {kind} {from}>{to} {number} {ballot}")
+    match packet_line(alloc, k, &packet) {
+        Ok(line) => put_line(&line, out),
+        Err(_) => Err(Fault::OutOfMemory),
+    }
 }
 
-/// Writes the datagrams that a step sent.
-fn put_datagrams<W: Write>(seen: &Seen, sent: &[Datagram], out: &mut W) -> io::Result<()> {
-    let from = seen.first.saturating_sub(1);
-    for (index, datagram) in sent.iter().skip(from).take(seen.count).enumerate() {
-        put_datagram(seen.first.saturating_add(index), datagram, out)?;
+/// Writes the datagrams that a step sent, before which so many were sent.
+fn put_datagrams<'a, W: Write>(
+    alloc: Global,
+    before: usize,
+    sent: &[Datagram],
+    out: &mut W,
+) -> Result<(), Fault<'a>>
+    requires { before + length sent.now ≤ usize.MAX }
+    ensures ok { OnOk result (Appends (W.contents out.old) (W.contents out.new) (datagrams_text before sent.now)) }
+    ensures err { OnErr result (AppendsFront (W.contents out.old) (W.contents out.new) (datagrams_text before sent.now)) }
+{
+    for (index, datagram) in sent.iter().enumerate() {
+        put_datagram(alloc, before + index + 1, datagram, out)?;
     }
     Ok(())
 }
 
-/// Writes all that is seen of a step that a world has just taken.
-pub fn put_seen<'a, W: Write>(
+/// Writes a release, behind a blank.
+fn put_released<'a, W: Write>(
     alloc: Global,
-    world: &World<MemoryRows>,
-    seen: &Seen,
+    release: &ReleaseLog,
     out: &mut W,
-) -> Result<(), Fault<'a>> {
-    if put_outcome(seen.member, &seen.outcome, out).is_err()
-        || put_datagrams(seen, world.sent(), out).is_err()
-    {
-        return Err(Fault::CannotWrite);
+) -> Result<(), Fault<'a>>
+    ensures ok { OnOk result (Appends (W.contents out.old) (W.contents out.new) (released_text release.now)) }
+    ensures err { OnErr result (AppendsFront (W.contents out.old) (W.contents out.new) (released_text release.now)) }
+{
+    let number = release.number();
+    put_release(alloc, " ", number, release.tape(), release.set(), out)
+}
+
+/// Writes the releases of a step: one at most, as a station releases one tape at a time.
+fn put_releases<'a, W: Write>(
+    alloc: Global,
+    releases: &[ReleaseLog],
+    out: &mut W,
+) -> Result<(), Fault<'a>>
+    ensures ok { OnOk result (Appends (W.contents out.old) (W.contents out.new) (flat_map released_text releases.now)) }
+    ensures err { OnErr result (AppendsFront (W.contents out.old) (W.contents out.new) (flat_map released_text releases.now)) }
+{
+    for release in releases {
+        put_released(alloc, release, out)?;
     }
-    match world.releases().last() {
-        Some(release) if seen.released => {
-            put_release(
-                alloc,
-                " ",
-                release.number(),
-                release.tape(),
-                release.set(),
-                out,
-            )
-        }
-        _ => Ok(()),
-    }
+    Ok(())
+}
+
+/// Writes all that is seen of a step, before which so many datagrams were sent: what it did, and the datagrams and the
+/// releases that it added. Where memory or the writer fails, a front of this text was written.
+pub fn put_scene<'a, W: Write>(
+    alloc: Global,
+    seen: &Seen,
+    before: usize,
+    sent: &[Datagram],
+    releases: &[ReleaseLog],
+    out: &mut W,
+) -> Result<(), Fault<'a>>
+    requires { before + length sent.now ≤ usize.MAX }
+    ensures ok { OnOk result (Appends (W.contents out.old) (W.contents out.new) (scene_text before (record { member = seen.now.member; outcome = seen.now.outcome; sent = sent.now; releases = releases.now }))) }
+    ensures err { OnErr result (AppendsFront (W.contents out.old) (W.contents out.new) (scene_text before (record { member = seen.now.member; outcome = seen.now.outcome; sent = sent.now; releases = releases.now }))) }
+{
+    put_outcome(alloc, seen.member, seen.outcome, out)?;
+    put_datagrams(alloc, before, sent, out)?;
+    put_releases(alloc, releases, out)
 }

@@ -158,7 +158,7 @@ refused_more RoundsSpent P Q f o e = e
 refused_more (Store fault) P Q f o e = elim e [ inl armed ↦ inl armed | inr own ↦ inr (own.0, f own.1) ]
 refused_more OutOfMemory P Q f o e = e
 
-ends_more : (out : Outcome) (P Q : Type 0) → (P → Q) → (o : circuit.Outcome PacketFault SetFault) → EndsAs out P o → EndsAs out Q o
+pub ends_more : (out : Outcome) (P Q : Type 0) → (P → Q) → (o : circuit.Outcome PacketFault SetFault) → EndsAs out P o → EndsAs out Q o
 ends_more (outcomes.Done note) P Q f o e = e
 ends_more (outcomes.Refused q) P Q f o e = refused_more q P Q f o e
 ends_more outcomes.Restarted P Q f o e = e

@@ -1,0 +1,4 @@
+pub mod Lines
+pub mod Rehearsals
+pub mod Scenes
+pub mod Words
