@@ -307,6 +307,9 @@ fn rehearsed<'a, R: Read, S: Read, T: Read, W: Write>(
 ///
 /// The table is read and taken before the widths are read, and the widths before the script. The first fault ends it;
 /// a faulty line leaves what the lines before it wrote.
+///
+/// Whatever the lines are, what is written is what a circuit did, step by step, whose members are set up by these texts,
+/// and its releases agree: no two of one number differ, and each released tape was offered for its number.
 pub fn rehearse<R: Read, S: Read, T: Read, W: Write, E: Write>(
     alloc: Global,
     paths: &ScriptPaths<'_>,
@@ -316,7 +319,7 @@ pub fn rehearse<R: Read, S: Read, T: Read, W: Write, E: Write>(
     out: &mut W,
     err: &mut E,
 ) -> End
-    // Where it ends well, all was written that is shown of a circuit that agrees; otherwise a front of that.
+    // Where it ends well, all is written that is shown of such a circuit; otherwise a front of that.
     ensures done { result ≡ Done → Rehearses (inputs (R.remaining table.old) (S.remaining widths.old)) (Appends (W.contents out.old) (W.contents out.new)) }
     ensures front { Rehearses (inputs (R.remaining table.old) (S.remaining widths.old)) (AppendsFront (W.contents out.old) (W.contents out.new)) }
 {
