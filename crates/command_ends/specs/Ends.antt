@@ -56,3 +56,25 @@ end_of_step steps.OutOfMemory = Memory
 -- memory for a text was refused, or it can't be written
 abbrev pub IsOfWriting : Fault → Type 0
 IsOfWriting fault = (fault ≡ faults.OutOfMemory) ⊎ (fault ≡ faults.CannotWrite)
+
+-- a command that only an input, an output or want of memory can end before all is done
+abbrev pub IsOfInput : End → Type 0
+IsOfInput ends.Done = Unit {0}
+IsOfInput Input = Unit {0}
+IsOfInput Usage = ⊥
+IsOfInput Store = ⊥
+IsOfInput ends.Socket = ⊥
+IsOfInput Memory = Unit {0}
+
+-- one that also the store of rows can end
+abbrev pub IsOfRows : End → Type 0
+IsOfRows ends.Done = Unit {0}
+IsOfRows Input = Unit {0}
+IsOfRows Usage = ⊥
+IsOfRows Store = Unit {0}
+IsOfRows ends.Socket = ⊥
+IsOfRows Memory = Unit {0}
+
+-- a command line that is none, or want of memory
+abbrev pub IsOfUsage : End → Type 0
+IsOfUsage end = (end ≡ Usage) ⊎ (end ≡ Memory)

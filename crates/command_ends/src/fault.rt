@@ -1,7 +1,7 @@
 //! The faults that a person reads on standard error.
 
 ghost use Rattle.std.specs.Prelude.{◌≡◌};
-ghost use Rattle.command_ends.specs.Ends.{end_of, end_of_rows, end_of_step};
+ghost use Rattle.command_ends.specs.Ends.{end_of, end_of_rows, end_of_step, IsOfInput, IsOfRows};
 ghost use Rattle.command_ends.specs.declared.end.End.TheVariants.{Done};
 
 use crate::end::End;
@@ -89,7 +89,9 @@ impl<'a> fmt::Debug for Fault<'a> {
 
 impl<'a> Fault<'a> {
     /// Why the input at this path is not taken.
-    pub fn of_input(fault: InputFault, path: &'a str) -> Fault<'a> {
+    pub fn of_input(fault: InputFault, path: &'a str) -> Fault<'a>
+        ensures { IsOfInput (end_of result) }
+    {
         match fault {
             InputFault::CannotRead => Fault::CannotRead(path),
             InputFault::TooLong => Fault::InputTooLong,
@@ -98,7 +100,9 @@ impl<'a> Fault<'a> {
     }
 
     /// Why a text is no code table.
-    pub fn of_table(fault: TableFault) -> Fault<'a> {
+    pub fn of_table(fault: TableFault) -> Fault<'a>
+        ensures { IsOfInput (end_of result) }
+    {
         match fault {
             TableFault::OutOfMemory => Fault::OutOfMemory,
             _ => Fault::Table(fault),
@@ -106,7 +110,9 @@ impl<'a> Fault<'a> {
     }
 
     /// Why a text is no width file.
-    pub fn of_widths(fault: WidthFault) -> Fault<'a> {
+    pub fn of_widths(fault: WidthFault) -> Fault<'a>
+        ensures { IsOfInput (end_of result) }
+    {
         match fault {
             WidthFault::OutOfMemory => Fault::OutOfMemory,
             _ => Fault::Widths(fault),
@@ -114,7 +120,9 @@ impl<'a> Fault<'a> {
     }
 
     /// Why bytes are no tape.
-    pub fn of_tape(fault: TapeFault) -> Fault<'a> {
+    pub fn of_tape(fault: TapeFault) -> Fault<'a>
+        ensures { IsOfInput (end_of result) }
+    {
         match fault {
             TapeFault::OutOfMemory => Fault::OutOfMemory,
             _ => Fault::Tape(fault),
@@ -123,7 +131,8 @@ impl<'a> Fault<'a> {
 
     /// Why rows are not read or saved.
     pub fn of_rows(fault: RowsFault) -> Fault<'a>
-        ensures { end_of result ≡ end_of_rows fault }
+        ensures end { end_of result ≡ end_of_rows fault }
+        ensures cause { IsOfRows (end_of result) }
     {
         match fault {
             RowsFault::OutOfMemory => Fault::OutOfMemory,

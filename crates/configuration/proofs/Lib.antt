@@ -1,1 +1,3 @@
-pub mod Filling
+pub mod Entries
+pub mod Octets
+pub mod Order

@@ -1,3 +1,5 @@
-pub mod Octets
-pub mod Places
+pub mod Addresses
+pub mod Ends
+pub mod Keys
+pub mod Reading
 pub mod Stations

@@ -1,27 +1,74 @@
 //! IP addresses as they are written.
 
-ghost use Rattle.std.specs.Prelude.{IfSome};
-ghost use Rattle.configuration.specs.Octets.{IsOctet};
+ghost use Rattle.std.specs.Prelude.{◌≡◌, ◌∷◌, ◌<◌, [], length, nat_le, MatchOption};
+ghost use Rattle.std.specs.Char.{is_ascii_digit};
+ghost use Rattle.std.specs.List.{list_all, slice_split};
+ghost use Rattle.configuration.specs.Addresses.{octet_of, four, is_dot, ip_of};
+
+/// The most digits of a number of an address.
+const MOST_DIGITS: usize = 3;
+
+/// Whether each byte is a decimal digit.
+fn all_digits(word: &[u8]) -> bool
+    ensures { result ≡ list_all is_ascii_digit word.now }
+{
+    word.iter().all(|byte| byte.is_ascii_digit())
+}
+
+/// Whether it is no longer than the numbers of an address.
+fn is_short(word: &str) -> bool
+    ensures { result ≡ nat_le (length word.now) 3 }
+{
+    word.len() <= MOST_DIGITS
+}
 
 /// A number of one to three decimal digits, up to 255.
 fn octet_of(word: &str) -> Option<u8>
-    ensures { IfSome result (IsOctet word.now) }
+    ensures { result ≡ octet_of word.now }
 {
-    if word.len() > 3 || !word.bytes().all(|b| b.is_ascii_digit()) {
+    if !is_short(word) || !all_digits(word.as_bytes()) {
         return None;
     }
-    word.parse::<u8>().ok()
+    match word.parse::<u8>() {
+        Ok(number) => Some(number),
+        Err(_) => None,
+    }
+}
+
+/// The text before the first dot, and the text behind it.
+fn split_dot(text: &str) -> Option<(&str, &str)>
+    ensures { MatchOption result (slice_split is_dot text.now ≡ text.now ∷ []) (λ parts. slice_split is_dot text.now ≡ parts.0.now ∷ slice_split is_dot parts.1.now) }
+{
+    text.split_once('.')
+}
+
+/// The text before the first dot, that before the second, that before the third, and all behind it.
+fn parts_of(text: &str) -> Option<(&str, &str, &str, &str)>
+    ensures { MatchOption result (length (slice_split is_dot text.now) < 4) (λ parts. slice_split is_dot text.now ≡ parts.0.now ∷ parts.1.now ∷ parts.2.now ∷ slice_split is_dot parts.3.now) }
+{
+    let (first, rest) = split_dot(text)?;
+    let (second, rest) = split_dot(rest)?;
+    let (third, rest) = split_dot(rest)?;
+    Some((first, second, third, rest))
+}
+
+/// Four octets, where each is one.
+fn octets_of(first: &str, second: &str, third: &str, fourth: &str) -> Option<[u8; 4]>
+    ensures { result ≡ four (octet_of first.now ∷ octet_of second.now ∷ octet_of third.now ∷ octet_of fourth.now ∷ []) }
+{
+    Some([
+        octet_of(first)?,
+        octet_of(second)?,
+        octet_of(third)?,
+        octet_of(fourth)?,
+    ])
 }
 
 /// The four parts of an IP address: decimal numbers of one to three digits, 0 to 255, with dots between.
-pub(crate) fn ip_of(text: &str) -> Option<[u8; 4]> {
-    let mut parts = text.split('.');
-    let first = octet_of(parts.next()?)?;
-    let second = octet_of(parts.next()?)?;
-    let third = octet_of(parts.next()?)?;
-    let fourth = octet_of(parts.next()?)?;
-    match parts.next() {
-        None => Some([first, second, third, fourth]),
-        Some(_) => None,
-    }
+#[tactic(auto, using(crate::proofs::Octets::ip_few, crate::proofs::Octets::ip_parts))]
+pub(crate) fn ip_of(text: &str) -> Option<[u8; 4]>
+    ensures { result ≡ ip_of text.now }
+{
+    let (first, second, third, fourth) = parts_of(text)?;
+    octets_of(first, second, third, fourth)
 }

@@ -1,6 +1,13 @@
 //! Why a configuration is none.
 
+ghost use Rattle.std.specs.Prelude.{◌≡◌};
+ghost use Rattle.command_ends.specs.Ends.{end_of, IsOfInput};
+ghost use Rattle.configuration.specs.Ends.{end_of_config};
+ghost use Rattle.configuration.specs.Keys.{name_of};
+ghost use Rattle.configuration.specs.declared.fault.ConfigFault.TheVariants.{OutOfMemory};
+
 use command_ends::Fault;
+use std::alloc::{AllocError, AllocFailed};
 
 /// The keys of a configuration, in the order in which they are read.
 #[derive(Clone, Copy, PartialEq, Eq)]
@@ -15,7 +22,9 @@ pub enum ConfigKey {
 
 impl ConfigKey {
     /// The key as it stands in the file.
-    pub fn name(self) -> &'static str {
+    pub fn name(self) -> &'static str
+        ensures { result.now ≡ name_of self }
+    {
         match self {
             ConfigKey::Circuit => "circuit",
             ConfigKey::Member => "member",
@@ -38,15 +47,35 @@ pub enum ConfigFault {
     WrongType(ConfigKey),
     /// The value of the key is out of range. That a member is above the number of stations is found last of all.
     OutOfRange(ConfigKey),
-    /// The entry of this place, from 1, among the stations is none.
+    /// The entry of this place, from 1, among the stations is none, or an earlier one has its member, or its IP address
+    /// and port.
     BadStation(usize),
     /// There is no memory for it.
     OutOfMemory,
 }
 
+impl From<AllocError> for ConfigFault {
+    ghost from_gives = { λ _ fault. fault ≡ OutOfMemory };
+
+    fn from(_error: AllocError) -> ConfigFault {
+        ConfigFault::OutOfMemory
+    }
+}
+
+impl<T: Drop> From<AllocFailed<T>> for ConfigFault {
+    ghost from_gives = { λ _ fault. fault ≡ OutOfMemory };
+
+    fn from(_error: AllocFailed<T>) -> ConfigFault {
+        ConfigFault::OutOfMemory
+    }
+}
+
 impl ConfigFault {
     /// The fault as a command tells it.
-    pub fn told<'a>(self) -> Fault<'a> {
+    pub(crate) fn told<'a>(self) -> Fault<'a>
+        ensures end { end_of result ≡ end_of_config self }
+        ensures cause { IsOfInput (end_of result) }
+    {
         let (what, key) = match self {
             ConfigFault::NotToml => return Fault::Config("not toml"),
             ConfigFault::BadStation(entry) => return Fault::ConfigStation(entry),

@@ -3,8 +3,11 @@
 
 mod address;
 mod config;
+mod entry;
 mod fault;
+mod keys;
 mod reading;
+mod stations;
 
 pub use config::Config;
 pub use fault::{ConfigFault, ConfigKey};

@@ -1,0 +1,62 @@
+-- The address of a station, as an entry of a TOML document has it.
+use Rattle.std.specs.Prelude.{ℕ, List, [], ◌∷◌, map, length, Bool, codes, Option, Some, None, nat_le, ◌==◌, ◌&&◌, if◌then◌else◌}
+use Rattle.std.specs.Char.{is_ascii_digit}
+use Rattle.std.specs.List.{list_all, slice_split}
+use Rattle.std.specs.Str.Parse.{digits_value}
+use Rattle.toml.specs.Data.{Data, Members, get_member, as_integer, as_str, as_table}
+use Rattle.wire.specs.declared.address.Address.{Address}
+use Rattle.configuration.specs.Keys.{in_range}
+
+-- one step after another, as long as there is a value
+infixl 10 ◌>>=◌
+abbrev pub ◌>>=◌ : {A B : Type 0} → Option A → (A → Option B) → Option B
+(Some x) >>= f = f x
+None >>= f = None
+
+-- a decimal number of one to three digits, 0 to 255
+unfoldable pub octet_of : List ℕ → Option ℕ
+octet_of text =
+    if list_all is_ascii_digit text && (nat_le 1 (length text) && (nat_le (length text) 3 && nat_le (digits_value 10 text) 255))
+    then Some (digits_value 10 text)
+    else None
+
+-- four numbers, where there are four and each is one
+abbrev pub four : List (Option ℕ) → Option (List ℕ)
+four (first ∷ second ∷ third ∷ fourth ∷ []) = do
+  a ← first
+  b ← second
+  c ← third
+  d ← fourth
+  Some (a ∷ b ∷ c ∷ d ∷ [])
+four _ = None
+
+-- the byte `.`
+abbrev pub is_dot : ℕ → Bool
+is_dot byte = byte == 46
+
+-- the numbers of an IP address: four, with dots between
+unfoldable pub ip_of : List ℕ → Option (List ℕ)
+ip_of text = four (map octet_of (slice_split is_dot text))
+
+-- the whole number at a key of an entry, from the least to the most
+unfoldable pub number_in : List ℕ → ℕ → ℕ → Members → Option ℕ
+number_in key least most entry = do
+  value ← get_member key entry
+  number ← as_integer value
+  in_range least most number
+
+-- the IP address of an entry
+unfoldable pub ip_in : Members → Option (List ℕ)
+ip_in entry = do
+  value ← get_member (codes "ip") entry
+  text ← as_str value
+  ip_of text
+
+-- the address of an entry: a table with the keys `member`, which is one of so many, `ip` and `port`
+unfoldable pub address_of : ℕ → Data → Option Address
+address_of members entry = do
+  keys ← as_table entry
+  member ← number_in (codes "member") 1 members keys
+  ip ← ip_in keys
+  port ← number_in (codes "port") 1 65535 keys
+  Some (record { member = member; ip = ip; port = port })

@@ -1,0 +1,14 @@
+-- How a command ends by a configuration that is none.
+use Rattle.command_ends.specs.declared.end.End.{End}
+use Rattle.command_ends.specs.declared.end.End.TheVariants.{Input, Memory}
+use Rattle.configuration.specs.declared.fault.ConfigFault.{ConfigFault}
+use Rattle.configuration.specs.declared.fault.ConfigFault.TheVariants.{NotToml, Missing, WrongType, OutOfRange, BadStation, OutOfMemory}
+
+-- want of memory has an end of its own; any other fault is one of an input
+abbrev pub end_of_config : ConfigFault → End
+end_of_config NotToml = Input
+end_of_config (Missing key) = Input
+end_of_config (WrongType key) = Input
+end_of_config (OutOfRange key) = Input
+end_of_config (BadStation entry) = Input
+end_of_config OutOfMemory = Memory

@@ -1,0 +1,80 @@
+-- The keys of a configuration, as a TOML document has them.
+use Rattle.std.specs.Prelude.{ℕ, zero, suc, ℤ, pos, negsuc, List, Bool, codes, Option, Some, None, Result, Ok, Err, nat_le, ◌&&◌, if◌then◌else◌}
+use Rattle.toml.specs.Data.{Data, Items, no_items, item, Members, get_member, as_integer, as_str, as_array}
+use Rattle.configuration.specs.declared.fault.ConfigKey.{ConfigKey}
+use Rattle.configuration.specs.declared.fault.ConfigKey.TheVariants.{Circuit, Member, Table, Widths, Rows, Station}
+use Rattle.configuration.specs.declared.fault.ConfigFault.{ConfigFault}
+use Rattle.configuration.specs.declared.fault.ConfigFault.TheVariants.{Missing, WrongType, OutOfRange}
+
+-- one step after another, up to the first fault
+infixl 10 ◌>>=◌
+abbrev pub ◌>>=◌ : {A B : Type 0} → Result A ConfigFault → (A → Result B ConfigFault) → Result B ConfigFault
+(Ok x) >>= f = f x
+(Err e) >>= f = Err e
+
+-- a value, or this fault where there is none
+abbrev pub wanted : {A : Type 0} → ConfigFault → Option A → Result A ConfigFault
+wanted fault None = Err fault
+wanted fault (Some x) = Ok x
+
+-- a test that has to hold, or this fault
+abbrev pub holds : ConfigFault → Bool → Result (Unit {0}) ConfigFault
+holds fault test = if test then Ok tt else Err fault
+
+-- a whole number from the least to the most
+unfoldable pub in_range : ℕ → ℕ → ℤ → Option ℕ
+in_range least most (pos n) = if nat_le least n && nat_le n most then Some n else None
+in_range least most (negsuc n) = None
+
+-- a key as it stands in the file
+abbrev pub name_of : ConfigKey → List ℕ
+name_of Circuit = codes "circuit"
+name_of Member = codes "member"
+name_of Table = codes "table"
+name_of Widths = codes "widths"
+name_of Rows = codes "rows"
+name_of Station = codes "station"
+
+-- the value at a key
+unfoldable pub value_at : ConfigKey → Members → Result Data ConfigFault
+value_at key file = wanted (Missing key) (get_member (name_of key) file)
+
+-- the whole number at a key, from the least to the most
+unfoldable pub number_at : ConfigKey → ℕ → ℕ → Members → Result ℕ ConfigFault
+number_at key least most file = do
+  value ← value_at key file
+  number ← wanted (WrongType key) (as_integer value)
+  wanted (OutOfRange key) (in_range least most number)
+
+-- the text at a key
+unfoldable pub text_at : ConfigKey → Members → Result (List ℕ) ConfigFault
+text_at key file = do
+  value ← value_at key file
+  wanted (WrongType key) (as_str value)
+
+-- the paths of three files
+pub record Paths : Type 0 where
+  pub table : List ℕ
+  pub widths : List ℕ
+  pub rows : List ℕ
+
+-- the three paths
+unfoldable pub paths_in : Members → Result Paths ConfigFault
+paths_in file = do
+  table ← text_at Table file
+  widths ← text_at Widths file
+  rows ← text_at Rows file
+  Ok (record { table = table; widths = widths; rows = rows })
+
+-- how many items there are
+abbrev pub count : Items → ℕ
+count no_items = zero
+count (item value rest) = suc (count rest)
+
+-- the entries of the stations, 15 at most
+unfoldable pub entries_at : Members → Result Items ConfigFault
+entries_at file = do
+  value ← value_at Station file
+  entries ← wanted (WrongType Station) (as_array value)
+  few ← holds (OutOfRange Station) (nat_le (count entries) 15)
+  Ok entries

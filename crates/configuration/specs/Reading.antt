@@ -1,0 +1,46 @@
+-- A configuration as a TOML document gives it, or its first fault.
+use Rattle.std.specs.Prelude.{ℕ, List, length, string_bytes, Option, Some, None, Result, Ok, Err, nat_le}
+use Rattle.toml.specs.Data.{Members}
+use Rattle.wire.specs.declared.address.Address.{Address}
+use Rattle.configuration.specs.Keys.{◌>>=◌, holds, number_at, paths_in, entries_at}
+use Rattle.configuration.specs.Stations.{read_stations}
+use Rattle.configuration.specs.declared.config.Config.{Config}
+use Rattle.configuration.specs.declared.fault.ConfigKey.TheVariants.{Circuit, Member}
+use Rattle.configuration.specs.declared.fault.ConfigFault.{ConfigFault}
+use Rattle.configuration.specs.declared.fault.ConfigFault.TheVariants.{NotToml, OutOfRange}
+
+-- what a configuration says: the circuit, the own member, the paths of three files, and the stations in order of their members
+pub record ConfigFile : Type 0 where
+  pub circuit : ℕ
+  pub member : ℕ
+  pub table : List ℕ
+  pub widths : List ℕ
+  pub rows : List ℕ
+  pub stations : List Address
+
+-- what this configuration says
+abbrev pub file_of : Config → ConfigFile
+file_of config = record {
+  circuit = config.circuit;
+  member = config.member;
+  table = string_bytes config.table;
+  widths = string_bytes config.widths;
+  rows = string_bytes config.rows;
+  stations = config.stations.items;
+}
+
+-- the configuration of a document, or its first fault: key by key, then entry by entry, and last that there is no station of the own member
+unfoldable pub read_file : Members → Result ConfigFile ConfigFault
+read_file file = do
+  circuit ← number_at Circuit 0 65535 file
+  member ← number_at Member 1 15 file
+  paths ← paths_in file
+  entries ← entries_at file
+  stations ← read_stations entries
+  own ← holds (OutOfRange Member) (nat_le member (length stations))
+  Ok (record { circuit = circuit; member = member; table = paths.table; widths = paths.widths; rows = paths.rows; stations = stations })
+
+-- the configuration of a document that was read; where none was read, it is not TOML
+unfoldable pub read_config : Option Members → Result ConfigFile ConfigFault
+read_config None = Err NotToml
+read_config (Some file) = read_file file

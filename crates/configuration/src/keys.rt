@@ -1,0 +1,124 @@
+//! The keys of a configuration in a TOML document.
+
+ghost use Rattle.std.specs.Prelude.{◌≡◌, ◌≤◌, IfSome, IfOk, MatchResult, Ok, Err, option_map, vec_len};
+ghost use Rattle.toml.specs.Data.{get_member};
+ghost use Rattle.toml.specs.View.{view, table_view, array_view};
+ghost use Rattle.configuration.specs.Keys.{in_range, value_at, number_at, text_at, paths_in, entries_at};
+ghost use Rattle.configuration.specs.declared.fault.ConfigKey.TheVariants.{Circuit, Member as MemberKey};
+
+use crate::fault::{ConfigFault, ConfigKey};
+use ballots::Member;
+use toml::value::Array;
+use toml::{Table, Value};
+
+/// The greatest number of a circuit.
+const LAST_CIRCUIT: u16 = 65535;
+
+/// The most stations of a circuit, and the last member.
+const MOST: u16 = 15;
+
+/// The paths of three files.
+#[derive(Clone, Copy)]
+pub(crate) struct Paths<'a> {
+    pub(crate) table: &'a str,
+    pub(crate) widths: &'a str,
+    pub(crate) rows: &'a str,
+}
+
+/// The value at the key of this name.
+#[tactic(auto, using(toml::proofs::Views::table_get))]
+pub(crate) fn value_of<'a>(keys: &'a Table, name: &str) -> Option<&'a Value>
+    ensures { option_map (λ v. view v.now) result ≡ get_member name.now (table_view keys.now) }
+{
+    keys.get(name)
+}
+
+/// The number, where it is from the least to the most.
+#[tactic(auto, unfolding(crate::specs::Keys::in_range))]
+pub(crate) fn in_range(least: u16, most: u16, number: i64) -> Option<u16>
+    ensures value { result ≡ in_range least most number }
+    ensures low { IfSome result (λ n. least ≤ n) }
+    ensures high { IfSome result (λ n. n ≤ most) }
+{
+    if i64::from(least) <= number && number <= i64::from(most) {
+        Some(number as u16)
+    } else {
+        None
+    }
+}
+
+/// The value at the key.
+#[tactic(auto, unfolding(crate::specs::Keys::value_at))]
+fn value_at(file: &Table, key: ConfigKey) -> Result<&Value, ConfigFault>
+    ensures { MatchResult result (λ v. value_at key (table_view file.now) ≡ Ok (view v.now)) (λ e. value_at key (table_view file.now) ≡ Err e) }
+{
+    match value_of(file, key.name()) {
+        Some(value) => Ok(value),
+        None => Err(ConfigFault::Missing(key)),
+    }
+}
+
+/// The whole number at the key, from the least to the most.
+#[tactic(auto, unfolding(crate::specs::Keys::number_at))]
+fn number_at(file: &Table, key: ConfigKey, least: u16, most: u16) -> Result<u16, ConfigFault>
+    ensures value { result ≡ number_at key least most (table_view file.now) }
+    ensures low { IfOk result (λ n. least ≤ n) }
+    ensures high { IfOk result (λ n. n ≤ most) }
+{
+    let value = value_at(file, key)?;
+    let number = value.as_integer().ok_or(ConfigFault::WrongType(key))?;
+    in_range(least, most, number).ok_or(ConfigFault::OutOfRange(key))
+}
+
+/// The circuit's number.
+pub(crate) fn circuit_at(file: &Table) -> Result<u16, ConfigFault>
+    ensures { result ≡ number_at Circuit 0 65535 (table_view file.now) }
+{
+    number_at(file, ConfigKey::Circuit, 0, LAST_CIRCUIT)
+}
+
+/// The own member.
+pub(crate) fn member_at(file: &Table) -> Result<Member, ConfigFault>
+    ensures { result ≡ number_at MemberKey 1 15 (table_view file.now) }
+{
+    let number = number_at(file, ConfigKey::Member, 1, MOST)?;
+    Member::new(number as u8).ok_or(ConfigFault::OutOfRange(ConfigKey::Member))
+}
+
+/// The text at the key.
+#[tactic(auto, unfolding(crate::specs::Keys::text_at))]
+fn text_at(file: &Table, key: ConfigKey) -> Result<&str, ConfigFault>
+    ensures { MatchResult result (λ t. text_at key (table_view file.now) ≡ Ok t.now) (λ e. text_at key (table_view file.now) ≡ Err e) }
+{
+    let value = value_at(file, key)?;
+    match value.as_str() {
+        Some(text) => Ok(text),
+        None => Err(ConfigFault::WrongType(key)),
+    }
+}
+
+/// The entries of the stations, 15 at most.
+#[tactic(auto, using(crate::proofs::Entries::counted), unfolding(crate::specs::Keys::entries_at))]
+pub(crate) fn entries_at(file: &Table) -> Result<&Array, ConfigFault>
+    ensures value { MatchResult result (λ a. entries_at (table_view file.now) ≡ Ok (array_view a.now)) (λ e. entries_at (table_view file.now) ≡ Err e) }
+    ensures few { IfOk result (λ a. vec_len a.now ≤ 15) }
+{
+    let value = value_at(file, ConfigKey::Station)?;
+    match value.as_array() {
+        Some(entries) if entries.len() <= usize::from(MOST) => Ok(entries),
+        Some(_) => Err(ConfigFault::OutOfRange(ConfigKey::Station)),
+        None => Err(ConfigFault::WrongType(ConfigKey::Station)),
+    }
+}
+
+/// The three paths.
+#[tactic(auto, unfolding(crate::specs::Keys::paths_in))]
+pub(crate) fn paths_in(file: &Table) -> Result<Paths<'_>, ConfigFault>
+    ensures { MatchResult result (λ p. paths_in (table_view file.now) ≡ Ok (record { table = p.table.now; widths = p.widths.now; rows = p.rows.now })) (λ e. paths_in (table_view file.now) ≡ Err e) }
+{
+    Ok(Paths {
+        table: text_at(file, ConfigKey::Table)?,
+        widths: text_at(file, ConfigKey::Widths)?,
+        rows: text_at(file, ConfigKey::Rows)?,
+    })
+}
