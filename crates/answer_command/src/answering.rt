@@ -8,6 +8,7 @@ ghost use Rattle.saved_rows.specs.Memory.{saved};
 ghost use Rattle.answer_command.specs.Asked.{asked_of};
 ghost use Rattle.answer_command.specs.Replies.{answered, rows_after};
 ghost use Rattle.answer_command.specs.AnswerText.{is_blank, lines_of, lines_text, answer_text};
+ghost use Rattle.command_ends.specs.Ends.{IsOfInput};
 ghost use Rattle.command_ends.specs.declared.end.End.TheVariants.{Done};
 
 use crate::line::{Seat, answer_line};
@@ -107,7 +108,7 @@ fn put_and_flush<W: Write>(
 /// Answers each line of the input as one acceptor of this circuit and member, over rows that last for the run.
 ///
 /// The whole input is read before anything is written. Where memory, the reader or the writer fails,
-/// a front of the text was written, and `err` has the fault.
+/// a front of the text was written, and `err` has the fault. Nothing else ends it.
 pub fn answer<R: Read, W: Write, E: Write>(
     alloc: Global,
     circuit: u16,
@@ -118,6 +119,7 @@ pub fn answer<R: Read, W: Write, E: Write>(
 ) -> End
     ensures done { result ≡ Done → IfSome (R.remaining input.old) (λ xs. Appends (W.contents out.old) (W.contents out.new) (answer_text circuit me xs)) }
     ensures front { IfSome (R.remaining input.old) (λ xs. AppendsFront (W.contents out.old) (W.contents out.new) (answer_text circuit me xs)) }
+    ensures ends { IsOfInput result }
 {
     let seat = Seat { circuit, me };
     let bytes = match read_input(alloc, input) {

@@ -1,11 +1,12 @@
 //! The command `rows`: what a database of saved rows holds.
 
-ghost use Rattle.std.specs.Prelude.{◌≡◌, ◌⊎◌, IsTrue, IfOk, OnOk, OnErr, flat_map, option_copied, string_bytes};
+ghost use Rattle.std.specs.Prelude.{◌≡◌, ◌⊎◌, IsTrue, IfOk, IfErr, OnOk, OnErr, flat_map, option_copied, string_bytes};
 ghost use Rattle.std.specs.Io.KnownBytes.{Appends};
 ghost use Rattle.streams.specs.Fronts.{AppendsFront};
 ghost use Rattle.saved_rows.specs.Saved.{SameRows};
 ghost use Rattle.acceptor_store.specs.Sqlite.{IsKept, IsOpen, saved_of, MayLeave};
 ghost use Rattle.rows_command.specs.RowsText.{ballot_text, promise_text, vote_text, row_line, station_line, rows_text, IsPrinted, IsFrontPrinted};
+ghost use Rattle.command_ends.specs.Ends.{IsOfWriting, IsOfRows};
 ghost use Rattle.command_ends.specs.declared.end.End.TheVariants.{Done};
 
 use acceptor_store::SqliteRows;
@@ -69,6 +70,7 @@ fn station_line(alloc: Global, station: Identity) -> Result<String, AllocError>
 fn put_text<'a, W: Write>(text: &str, out: &mut W) -> Result<(), Fault<'a>>
     ensures ok { OnOk result (Appends (W.contents out.old) (W.contents out.new) text.now) }
     ensures err { OnErr result (AppendsFront (W.contents out.old) (W.contents out.new) text.now) }
+    ensures fault { IfErr result IsOfWriting }
 {
     match put_all(out, text.as_bytes()) {
         Ok(()) => Ok(()),
@@ -84,6 +86,7 @@ fn put_row<'a, W: Write>(
 ) -> Result<(), Fault<'a>>
     ensures ok { OnOk result (Appends (W.contents out.old) (W.contents out.new) (row_line (number, row.now))) }
     ensures err { OnErr result (AppendsFront (W.contents out.old) (W.contents out.new) (row_line (number, row.now))) }
+    ensures fault { IfErr result IsOfWriting }
 {
     match row_line(alloc, number, row) {
         Ok(line) => put_text(&line, out),
@@ -99,6 +102,7 @@ fn put_rows<'a, W: Write>(
 ) -> Result<(), Fault<'a>>
     ensures ok { OnOk result (Appends (W.contents out.old) (W.contents out.new) (flat_map row_line rows.now)) }
     ensures err { OnErr result (AppendsFront (W.contents out.old) (W.contents out.new) (flat_map row_line rows.now)) }
+    ensures fault { IfErr result IsOfWriting }
 {
     for (number, row) in rows {
         put_row(alloc, *number, row, out)?;
@@ -115,6 +119,7 @@ fn put_listing<'a, W: Write>(
 ) -> Result<(), Fault<'a>>
     ensures ok { OnOk result (Appends (W.contents out.old) (W.contents out.new) (rows_text station rows.now)) }
     ensures err { OnErr result (AppendsFront (W.contents out.old) (W.contents out.new) (rows_text station rows.now)) }
+    ensures fault { IfErr result IsOfWriting }
 {
     match station_line(alloc, station) {
         Ok(line) => put_text(&line, out)?,
@@ -132,6 +137,7 @@ fn put_and_flush<'a, W: Write>(
 ) -> Result<(), Fault<'a>>
     ensures ok { OnOk result (Appends (W.contents out.old) (W.contents out.new) (rows_text station rows.now)) }
     ensures err { OnErr result (AppendsFront (W.contents out.old) (W.contents out.new) (rows_text station rows.now)) }
+    ensures fault { IfErr result IsOfWriting }
 {
     put_listing(alloc, station, rows, out)?;
     match out.flush() {
@@ -153,6 +159,9 @@ pub fn print_rows<S: Alter + Drop, W: Write, E: Write>(
 ) -> End
     ensures done { IsKept S.Store rows.new → result ≡ Done → IsPrinted (saved_of S.Store rows.old) rows.old.identity (W.contents out.old) (W.contents out.new) }
     ensures front { IsKept S.Store rows.new → (W.contents out.new ≡ W.contents out.old) ⊎ IsFrontPrinted (saved_of S.Store rows.old) rows.old.identity (W.contents out.old) (W.contents out.new) }
+
+    // A fault of the rows, the output or memory ends it, and nothing else.
+    ensures ends { IsOfRows result }
 
     // No row is written.
     ensures same { IsKept S.Store rows.new → IsOpen S.Store rows.new → SameRows (saved_of S.Store rows.old) (saved_of S.Store rows.new) }
