@@ -16,11 +16,9 @@ show() {
     [ ! -t 2 ] || printf '\r\033[K%s' "$1" >&2
 }
 
-# How far the prover is: which crate of how many it is at, and how many of that one's functions it has ended.
+# How far the prover is in the program itself.
 progress() {
-    local functions
-    functions=$(grep -h '^so far:' "$told" | tail -n 1 | sed 's/^so far: \([0-9]* of [0-9]*\) functions.*/, \1 functions/' || true)
-    show "  crate $place of $crates$functions, $SECONDS s"
+    show "$(sed -n 's/^so far: \([0-9]* of [0-9]*\) functions.*/  the program: \1 functions, /p' "$told" | tail -n 1)$SECONDS s"
 }
 
 # Runs a command of the build; its text stays in a file, whose end is shown where it fails.
@@ -38,35 +36,12 @@ build() {
     fi
 }
 
-# The crates that the program stands on, lowest first, and then itself.
-crates_of_the_program() {
-    awk '
-        function visit(name, lower, count, i) {
-            if (!(name in below) || name in seen) return
-            seen[name] = 1
-            count = split(below[name], lower, " ")
-            for (i = 1; i <= count; i++) visit(lower[i])
-            print name
-        }
-        /^[a-z_]+:/ { name = $1; sub(":", "", name); sub("^[^:]*:", ""); below[name] = $0 }
-        END { visit("circuitd") }
-    ' "$top/crates.txt"
-}
-
-# A crate at a time: over libraries that are there a check begins at once, without a first look over all the sources.
-# Where all stand from the last time, this only looks that nothing has changed.
+# The libraries side by side, then the program over them. Where all stand from the last time, this only looks that nothing
+# has changed.
 prove_and_build() {
-    local names
-    mapfile -t names < <(crates_of_the_program)
-    crates=${#names[@]}
-    for place in $(seq $((crates - 1))); do
-        : > "$told"
-        cd "$top/crates/${names[place - 1]}"
-        [ -d out ] || build rt lib
-    done
-    : > "$told"
+    "$examples/libraries.py" circuitd
     cd "$top/crates/circuitd"
-    place=$crates build rt run -- check "$examples/codes.toml" "$examples/widths.toml" "$examples/flood.tape"
+    build rt run -- check "$examples/codes.toml" "$examples/widths.toml" "$examples/flood.tape"
     cd "$examples"
 }
 

@@ -2,43 +2,30 @@
 
 ghost use Rattle.saved_rows.specs.Identity.{IsIdentity};
 
+use crate::file_rows::FileRows;
 use acceptor_store::SqliteRows;
 use command_ends::{End, Fault};
 use row_files::RowFiles;
 use rows_command::print_rows;
 use saved_rows::{Identity, RowsFault};
-use sqlite::{Alter, Connection, Error, ErrorCode, FileFrom, FileStore, Wary};
+use sqlite::{Connection, Error, ErrorCode, Wary};
 use std::alloc::Global;
 use std::fs;
 use std::io::Write;
 
-/// The files of the host. A story that is lost to a torn write would be a promise broken, so the database supposes
-/// nothing of one.
+/// The files of the host.
 #[derive(Clone, Copy)]
 pub struct HostFiles;
 
-/// Prints rows that were taken up, or tells why they were not.
-fn list_opened<S: Alter + Drop, W: Write, E: Write>(
-    alloc: Global,
-    opened: Result<SqliteRows<S>, RowsFault>,
-    out: &mut W,
-    err: &mut E,
-) -> End {
-    match opened {
-        Ok(mut rows) => print_rows(alloc, &mut rows, out, err),
-        Err(fault) => Fault::of_rows(fault).tell(err),
-    }
-}
-
 impl RowFiles for HostFiles {
-    type Rows = SqliteRows<FileStore<FileFrom<Wary>>>;
+    type Rows = FileRows;
 
     fn create(
         &self,
         rt: &HostRuntime,
         path: &str,
         identity: Identity,
-    ) -> Result<SqliteRows<FileStore<FileFrom<Wary>>>, RowsFault> {
+    ) -> Result<FileRows, RowsFault> {
         let conn = match Connection::open_from(rt, path, false, Wary) {
             Ok(conn) => conn,
             Err((Error::SqliteFailure(ErrorCode::OutOfMemory), _)) => {
@@ -47,7 +34,7 @@ impl RowFiles for HostFiles {
             Err(_) => return Err(RowsFault::Store),
         };
         match SqliteRows::create(rt.alloc(), conn, identity) {
-            Ok(rows) => Ok(rows),
+            Ok(rows) => Ok(FileRows::new(rows)),
             Err((fault, _)) => Err(fault),
         }
     }
@@ -57,13 +44,13 @@ impl RowFiles for HostFiles {
         rt: &HostRuntime,
         path: &str,
         identity: Option<Identity>,
-    ) -> Result<SqliteRows<FileStore<FileFrom<Wary>>>, RowsFault> {
+    ) -> Result<FileRows, RowsFault> {
         // To the database a missing file is an empty one.
         if !matches!(fs::exists(rt, path), Ok(true)) {
             return Err(RowsFault::Store);
         }
         match SqliteRows::open_from(rt, path, false, Wary, identity) {
-            Ok(rows) => Ok(rows),
+            Ok(rows) => Ok(FileRows::new(rows)),
             Err((fault, _, _)) => Err(fault),
         }
     }
@@ -75,6 +62,9 @@ impl RowFiles for HostFiles {
         out: &mut W,
         err: &mut E,
     ) -> End {
-        list_opened(rt.alloc(), self.open(rt, path, None), out, err)
+        match self.open(rt, path, None) {
+            Ok(mut rows) => print_rows(rt.alloc(), rows.database(), out, err),
+            Err(fault) => Fault::of_rows(fault).tell(err),
+        }
     }
 }

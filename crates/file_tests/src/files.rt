@@ -78,7 +78,7 @@ fn is_made<F: RowFiles>(rt: &HostRuntime, files: &F) -> bool {
 /// Whether it is taken up with the promise, and closes.
 fn is_taken_up(rt: &HostRuntime) -> bool {
     match HostFiles.open(rt, PATH, Some(STATION)) {
-        Ok(mut rows) => has_it(&mut rows) && rows.into_connection().close().is_ok(),
+        Ok(mut rows) => has_it(&mut rows) && rows.into_rows().into_connection().close().is_ok(),
         Err(_) => false,
     }
 }

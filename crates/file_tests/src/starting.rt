@@ -1,13 +1,10 @@
 //! What `serve` starts from, over files, a database and a socket of this machine, and how it starts again.
 
-use acceptor_store::SqliteRows;
 use ballots::Member;
 use command_ends::End;
 use command_line::Plan;
 use file_rows::{HostFiles, RowFiles};
 use fixtures::{CODES, FLOOD, WIDTHS};
-use rows_command::print_rows;
-use sqlite::Alter;
 use station_start::serve;
 use std::alloc::Global;
 use std::fs;
@@ -124,20 +121,12 @@ fn is_made(rt: &HostRuntime, port: u16, change: &Change) -> bool {
     }
 }
 
-/// Whether `rows` prints this text of these.
-fn is_listed<S: Alter + Drop>(alloc: Global, rows: &mut SqliteRows<S>, text: &str) -> bool {
-    let mut out = Vec::new(alloc);
-    let mut err = Vec::new(alloc);
-    let ended = print_rows(alloc, rows, &mut out, &mut err);
-    ended == End::Done && out.as_slice() == text.as_bytes() && err.is_empty()
-}
-
 /// Whether `rows` prints this text of the row file.
 fn are_saved(rt: &HostRuntime, text: &str) -> bool {
-    match HostFiles.open(rt, ROWS, None) {
-        Ok(mut rows) => is_listed(rt.alloc(), &mut rows, text),
-        Err(_) => false,
-    }
+    let mut out = Vec::new(rt.alloc());
+    let mut err = Vec::new(rt.alloc());
+    let ended = HostFiles.list(rt, ROWS, &mut out, &mut err);
+    ended == End::Done && out.as_slice() == text.as_bytes() && err.is_empty()
 }
 
 /// Whether the row file is found so.
@@ -304,14 +293,27 @@ const HELD: &[Start] = &[
     },
 ];
 
+/// Whether the starts over rows of its own go as they have to, in a new folder.
+fn are_owned(rt: &HostRuntime, port: u16) -> bool {
+    make_folder(rt) && gone(rt, port, OWNED) == OWNED.len()
+}
+
+/// Whether the faults of the files come in their order, in a new folder.
+fn are_in_order(rt: &HostRuntime, port: u16) -> bool {
+    make_folder(rt) && gone(rt, port, ORDER) == ORDER.len()
+}
+
+/// Whether the starts beside another who holds the port go as they have to.
+fn are_held(rt: &HostRuntime) -> bool {
+    held_gone(rt, HELD) == Some(HELD.len())
+}
+
 #[test]
 fn from_files(rt: HostRuntime) {
     let port = free_port(&rt).unwrap_or(0);
-    assert!(rt; make_folder(&rt));
-    assert_eq!(rt; gone(&rt, port, OWNED), OWNED.len());
-    assert!(rt; make_folder(&rt));
-    assert_eq!(rt; gone(&rt, port, ORDER), ORDER.len());
-    assert!(rt; held_gone(&rt, HELD) == Some(HELD.len()));
+    assert!(rt; are_owned(&rt, port));
+    assert!(rt; are_in_order(&rt, port));
+    assert!(rt; are_held(&rt));
     assert!(rt; fs::remove_dir_all(&rt, FOLDER).is_ok());
 }
 

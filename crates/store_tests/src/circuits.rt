@@ -16,12 +16,18 @@ use world::{OfferLog, ReleaseLog, Step, World};
 /// The datagrams that come, in order, after member 1 of three was offered the flood story for number 12.
 const DELIVERED: &[usize] = &[1, 3, 6, 4, 8, 9, 7];
 
+/// The code table and the widths of a member.
+fn read_files(alloc: Global) -> Option<(CodeTable, Widths)> {
+    let table = CodeTable::read(alloc, CODES).ok()?;
+    let widths = Widths::read(alloc, WIDTHS).ok()?;
+    Some((table, widths))
+}
+
 /// The circuit of these rows, before its steps.
 fn circuit<R: Rows>(alloc: Global, rows: Vec<R>) -> Option<World<R>> {
     let mut parts = Vec::new(alloc);
     for rows in rows {
-        let table = CodeTable::read(alloc, CODES).ok()?;
-        let widths = Widths::read(alloc, WIDTHS).ok()?;
+        let (table, widths) = read_files(alloc)?;
         parts.push((table, widths, rows)).ok()?;
     }
     World::new(alloc, 7, parts).ok()
@@ -62,9 +68,7 @@ fn in_memory(alloc: Global) -> Option<World<MemoryRows>> {
 fn members(alloc: Global) -> Option<Vec<(CodeTable, Widths)>> {
     let mut members = Vec::new(alloc);
     for _ in 0..3 {
-        let table = CodeTable::read(alloc, CODES).ok()?;
-        let widths = Widths::read(alloc, WIDTHS).ok()?;
-        members.push((table, widths)).ok()?;
+        members.push(read_files(alloc)?).ok()?;
     }
     Some(members)
 }
@@ -126,22 +130,28 @@ fn are_same_releases(alloc: Global, left: &[ReleaseLog], right: &[ReleaseLog]) -
     left.len() == right.len()
 }
 
+/// Whether a circuit over databases logs what one over rows in memory does.
+fn are_same_logs(
+    alloc: Global,
+    plain: &World<MemoryRows>,
+    saved: &World<SqliteRows<MemStore>>,
+) -> bool {
+    are_same_datagrams(plain.sent(), saved.sent())
+        && are_same_offers(plain.offers(), saved.offers())
+        && are_same_releases(alloc, plain.releases(), saved.releases())
+}
+
 /// How many datagrams, offers and releases a circuit over databases logs, where they are those of a circuit over rows in
 /// memory.
 fn logged(alloc: Global) -> Option<[usize; 3]> {
     let plain = in_memory(alloc)?;
     let saved = in_databases(alloc)?;
-    let same = are_same_datagrams(plain.sent(), saved.sent())
-        && are_same_offers(plain.offers(), saved.offers())
-        && are_same_releases(alloc, plain.releases(), saved.releases());
-    if !same {
-        return None;
-    }
-    Some([
+    let counts = [
         saved.sent().len(),
         saved.offers().len(),
         saved.releases().len(),
-    ])
+    ];
+    are_same_logs(alloc, &plain, &saved).then_some(counts)
 }
 
 #[test]

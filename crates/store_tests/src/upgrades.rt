@@ -77,13 +77,27 @@ fn finds(conn: &mut Connection<MemStore>, statements: &[(&str, usize)]) -> bool 
     true
 }
 
-/// Whether the upgrade to a promise under 3 and a vote under this number is taken, and what is then found.
-fn upgraded(alloc: Global, number: u32) -> Option<(bool, bool)> {
-    let mut conn = Connection::open_in_memory(alloc).ok()?;
-    conn.execute_batch(LAYOUT_ONE).ok()?;
+/// A promise under 3 and a vote under this number.
+fn entries(alloc: Global, number: u32) -> Option<Vec<EntryColumns>> {
+    let vote = vote(alloc, number)?;
     let mut entries = Vec::new(alloc);
     entries.push(promise()).ok()?;
-    entries.push(vote(alloc, number)?).ok()?;
+    entries.push(vote).ok()?;
+    Some(entries)
+}
+
+/// A database in layout 1.
+fn database(alloc: Global) -> Option<Connection<MemStore>> {
+    let mut conn = Connection::open_in_memory(alloc).ok()?;
+    conn.execute_batch(LAYOUT_ONE).ok()?;
+    Some(conn)
+}
+
+/// Whether the upgrade to a promise under 3 and a vote under this number is taken, and whether what is wanted is then
+/// found.
+fn upgraded(alloc: Global, number: u32) -> Option<(bool, bool)> {
+    let entries = entries(alloc, number)?;
+    let mut conn = database(alloc)?;
     if !conn.is_autocommit() {
         return None;
     }

@@ -105,6 +105,19 @@ const TAPES: &[(Sources, &str)] = &[
 
 const SCRIPTS: &[(Sources, &str)] = &[((TABLE, WIDE, BROKEN), "cannot read story.script\n")];
 
+/// The bytes of the three.
+fn bytes_of(alloc: Global, sources: Sources) -> Option<(Vec<u8>, Vec<u8>, Vec<u8>)> {
+    let first = sources.0.bytes(alloc)?;
+    let second = sources.1.bytes(alloc)?;
+    let third = sources.2.bytes(alloc)?;
+    Some((first, second, third))
+}
+
+/// What was told, where a command ended by an input and printed nothing.
+fn told_of_input(end: End, out: Vec<u8>, err: Vec<u8>) -> Option<Vec<u8>> {
+    (end == End::Input && out.is_empty()).then_some(err)
+}
+
 /// What `check` tells of these inputs, where it ends by an input and prints nothing.
 fn fault_of_check(alloc: Global, sources: Sources) -> Option<Vec<u8>> {
     let paths = TapePaths {
@@ -112,11 +125,7 @@ fn fault_of_check(alloc: Global, sources: Sources) -> Option<Vec<u8>> {
         widths: "widths.toml",
         tape: "story.tape",
     };
-    let (table, widths, tape) = (
-        sources.0.bytes(alloc)?,
-        sources.1.bytes(alloc)?,
-        sources.2.bytes(alloc)?,
-    );
+    let (table, widths, tape) = bytes_of(alloc, sources)?;
     let mut out = Vec::new(alloc);
     let mut err = Vec::new(alloc);
     let end = check(
@@ -129,11 +138,7 @@ fn fault_of_check(alloc: Global, sources: Sources) -> Option<Vec<u8>> {
         &mut out,
         &mut err,
     );
-    if end == End::Input && out.is_empty() {
-        Some(err)
-    } else {
-        None
-    }
+    told_of_input(end, out, err)
 }
 
 /// What `rehearse` tells of these inputs, where it ends by an input and prints nothing.
@@ -143,11 +148,7 @@ fn fault_of_rehearse(alloc: Global, sources: Sources) -> Option<Vec<u8>> {
         widths: "widths.toml",
         script: "story.script",
     };
-    let (table, widths, script) = (
-        sources.0.bytes(alloc)?,
-        sources.1.bytes(alloc)?,
-        sources.2.bytes(alloc)?,
-    );
+    let (table, widths, script) = bytes_of(alloc, sources)?;
     let mut out = Vec::new(alloc);
     let mut err = Vec::new(alloc);
     let end = rehearse(
@@ -159,11 +160,7 @@ fn fault_of_rehearse(alloc: Global, sources: Sources) -> Option<Vec<u8>> {
         &mut out,
         &mut err,
     );
-    if end == End::Input && out.is_empty() {
-        Some(err)
-    } else {
-        None
-    }
+    told_of_input(end, out, err)
 }
 
 /// Whether a fault that is told has this text.
