@@ -58,7 +58,7 @@ pub(crate) fn save<S: Alter>(
         columns.tape,
     );
     match ran {
-        Ok(_) => Ok(()),
+        Ok(()) => Ok(()),
         Err(error) => Err(fault_of(&error)),
     }
 }

@@ -1,4 +1,4 @@
--- What `put_row` leaves of a connection.
+-- What `replace_row` leaves of a connection.
 use Rattle.std.proofs.Common.{◌≡◌, ◌⊎◌, inl, inr, ℕ, ◌≤◌, List, [], ◌∷◌, Ok, Err, Result, OnOk, OnErr, IfOk, IfErr, IsTrue, sym, ap, subst, ◌∙◌, arith}
 use Rattle.sqlite_value.specs.declared.value.Value.{Value}
 use Rattle.sqlite_value.specs.Order.{Row}

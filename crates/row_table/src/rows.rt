@@ -9,8 +9,8 @@ ghost use Rattle.row_table.specs.Rows.{columns_of, columns_at, SavesIn, Serves, 
 
 use sqlite::{Alter, Connection, Error, Row, params};
 
-/// Saves one row: one statement.
-pub fn put_row<S: Alter>(
+/// Puts one row in place of the one under its number. It gives how many rows the statement changed.
+fn replace_row<S: Alter>(
     conn: &mut Connection<S>,
     number: u32,
     promised_round: u32,
@@ -38,6 +38,39 @@ pub fn put_row<S: Alter>(
             tape
         ],
     )
+}
+
+/// Saves one row: one statement.
+pub fn put_row<S: Alter>(
+    conn: &mut Connection<S>,
+    number: u32,
+    promised_round: u32,
+    promised_owner: u32,
+    vote_round: Option<u32>,
+    vote_owner: Option<u32>,
+    tape: Option<&[u8]>,
+) -> Result<(), Error>
+    ensures serves { Serves (state S.Store conn.old) → Serves (state S.Store conn.new) }
+    ensures saved { Serves (state S.Store conn.old) → HasCleanDisk (state S.Store conn.new) → OnOk result (WasSaved number (columns_of promised_round promised_owner vote_round vote_owner (option_map (λ b. b.now) tape.entry)) (state S.Store conn.old) (state S.Store conn.new)) }
+    ensures err { Serves (state S.Store conn.old) → HasCleanDisk (state S.Store conn.new) → IsTrue (state S.Store conn.new).is_open → OnErr result (WasKept (state S.Store conn.old) (state S.Store conn.new)) }
+    ensures crash { Serves (state S.Store conn.old) → HasCleanDisk (state S.Store conn.new) → IsTrue (state S.Store conn.old).is_open
+        → (db : _) → (state S.Store conn.new).may_leave db → (db ≡ (state S.Store conn.old).now.trees)
+        ⊎ SavesIn number (columns_of promised_round promised_owner vote_round vote_owner (option_map (λ b. b.now) tape.entry)) (state S.Store conn.old).now.trees db }
+    ensures clean { doubt (state S.Store conn.old).is_clean ≤ doubt (state S.Store conn.new).is_clean }
+{
+    let replaced = replace_row(
+        conn,
+        number,
+        promised_round,
+        promised_owner,
+        vote_round,
+        vote_owner,
+        tape,
+    );
+    match replaced {
+        Ok(_) => Ok(()),
+        Err(error) => Err(error),
+    }
 }
 
 /// The columns that are saved under a number: at most one row.

@@ -6,7 +6,7 @@ use Rattle.row_table.specs.Rows.{whole}
 use Rattle.row_table.proofs.ParamLemmas.{optional, bound_number}
 use Rattle.row_table.proofs.PutLemmas.{AreTaken, cast_int}
 use Rattle.row_table.proofs.PutClauses.{IsSettled, serves_on, saved_on, kept_on, crash_on}
-use Rattle.row_table.proofs.rows.put_row.Goals as goal
+use Rattle.row_table.proofs.rows.replace_row.Goals as goal
 
 bound_tape : (o : Option (Bor (List ℕ))) → bound_value (or_null (λ (b : Bor (List ℕ)). Blob b.now) o) ≡ or_null Blob (option_map (λ b. b.now) o)
 bound_tape None = refl
