@@ -1,5 +1,8 @@
 //! The command that the words of a call give.
 
+ghost use Rattle.std.specs.Prelude.{IfErr};
+ghost use Rattle.command_ends.specs.Ends.{IsOfUsage};
+
 use crate::asked::{Asked, Plan};
 use crate::grammar::grammar;
 use ballots::Member;
@@ -70,7 +73,9 @@ fn asked_of<'a>(matches: &ArgMatches<'a>) -> Option<Asked<'a>> {
 
 /// Writes what `clap` says of a line that asks for no command: help to `out`, a mistake to `err`. That the writer fails
 /// is ignored.
-fn tell<W: Write, E: Write>(error: &Error, out: &mut W, err: &mut E) -> End {
+fn tell<W: Write, E: Write>(error: &Error, out: &mut W, err: &mut E) -> End
+    ensures { IsOfUsage result }
+{
     if error.kind() == ErrorKind::OutOfMemory {
         return Fault::OutOfMemory.tell(err);
     }
@@ -91,7 +96,9 @@ pub fn parse<'a, W: Write, E: Write>(
     words: &'a [String],
     out: &mut W,
     err: &mut E,
-) -> Result<Asked<'a>, End> {
+) -> Result<Asked<'a>, End>
+    ensures { IfErr result IsOfUsage }
+{
     match matches_of(alloc, words) {
         Ok(matches) => match asked_of(&matches) {
             Some(asked) => Ok(asked),

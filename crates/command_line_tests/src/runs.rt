@@ -18,6 +18,11 @@ struct NoRows;
 impl RowFiles for NoRows {
     type Rows = MemoryRows;
 
+    // None are made or taken up.
+    ghost makes = { λ _ _ _ _. Unit {0} };
+
+    ghost takes_up = { λ _ _ _ _. Unit {0} };
+
     fn create(
         &self,
         _rt: &HostRuntime,

@@ -1,6 +1,8 @@
 //! Saved rows in files of the host, each a database.
 
+ghost use Rattle.std.specs.Prelude.{◌≡◌};
 ghost use Rattle.saved_rows.specs.Identity.{IsIdentity};
+ghost use Rattle.acceptor_store.specs.Sqlite.{Agrees};
 
 use crate::file_rows::FileRows;
 use acceptor_store::SqliteRows;
@@ -9,7 +11,6 @@ use row_files::RowFiles;
 use rows_command::print_rows;
 use saved_rows::{Identity, RowsFault};
 use sqlite::{Connection, Error, ErrorCode, Wary};
-use std::alloc::Global;
 use std::fs;
 use std::io::Write;
 
@@ -19,6 +20,10 @@ pub struct HostFiles;
 
 impl RowFiles for HostFiles {
     type Rows = FileRows;
+
+    ghost makes = { λ _ _ i rows. rows.rows.identity ≡ i };
+
+    ghost takes_up = { λ _ _ given rows. Agrees given rows.rows.identity };
 
     fn create(
         &self,

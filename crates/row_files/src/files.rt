@@ -1,6 +1,9 @@
 //! Files that saved rows lie in: made at the first start of a station, and taken up at every other.
 
+ghost use Rattle.std.specs.Prelude.{ℕ, List, Option, IfOk};
 ghost use Rattle.saved_rows.specs.Identity.{IsIdentity};
+ghost use Rattle.saved_rows.specs.declared.identity.Identity.{Identity as IdentityValue};
+ghost use Rattle.command_ends.specs.Ends.{IsOfRows};
 
 use command_ends::End;
 use saved_rows::{Identity, Rows, RowsFault};
@@ -11,6 +14,12 @@ pub trait RowFiles {
     /// The rows in one of them.
     type Rows: Rows;
 
+    // The rows in the file at a path were made for this station.
+    ghost makes: { Self → List ℕ → IdentityValue → Self.Rows → Type 0 };
+
+    // The rows in the file at a path were taken up as those of this station, or whosever they are where none was given.
+    ghost takes_up: { Self → List ℕ → Option IdentityValue → Self.Rows → Type 0 };
+
     /// Makes the tables of this station in the file at a path, which is made where it is not there.
     ///
     /// `Store` where the tables are there already or the file is refused, as one that another has open; `OutOfMemory`.
@@ -20,7 +29,8 @@ pub trait RowFiles {
         path: &str,
         identity: Identity,
     ) -> Result<Self::Rows, RowsFault>
-        requires { IsIdentity identity };
+        requires { IsIdentity identity }
+        ensures { IfOk result (makes self.now path.now identity) };
 
     /// Takes up the rows in the file at a path: those of this station, or whosever they are where none is given.
     ///
@@ -30,14 +40,17 @@ pub trait RowFiles {
         rt: &HostRuntime,
         path: &str,
         identity: Option<Identity>,
-    ) -> Result<Self::Rows, RowsFault>;
+    ) -> Result<Self::Rows, RowsFault>
+        ensures { IfOk result (takes_up self.now path.now identity) };
 
-    /// Lists the rows in the file at a path, whosever they are, as the command `rows` prints them.
+    /// Lists the rows in the file at a path, whosever they are, as the command `rows` prints them. It ends well, or by a
+    /// fault of the rows, the output or memory.
     fn list<W: Write, E: Write>(
         &self,
         rt: &HostRuntime,
         path: &str,
         out: &mut W,
         err: &mut E,
-    ) -> End;
+    ) -> End
+        ensures { IsOfRows result };
 }

@@ -2,6 +2,10 @@
 #![tactic(auto)]
 
 mod files;
+mod host;
+mod serving;
 mod starting;
 
-pub use starting::serve;
+pub use host::Host;
+pub use serving::serve;
+pub use starting::{Started, start};

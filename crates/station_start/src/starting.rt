@@ -1,28 +1,39 @@
-//! A station that starts from its configuration, the files that this names, its saved rows and its socket.
+//! A station that starts from its configuration: the files that this names, its saved rows and its wire.
 
-ghost use Rattle.std.specs.Prelude.{◌≤◌, length};
-ghost use Rattle.saved_rows.specs.Identity.{IsIdentity};
+ghost use Rattle.std.specs.Prelude.{◌≡◌, IfOk, Ok, option_map, string_bytes};
+ghost use Rattle.configuration.specs.Reading.{file_of};
 ghost use Rattle.configuration.specs.Stations.{IsCircuit};
+ghost use Rattle.saved_rows.specs.Identity.{IsIdentity};
+ghost use Rattle.station_start.specs.Starts.{identity_of, IsStationOf, IsTableAt, AreWidthsAt, IsOffer, AreRowsOf, IsWireOf};
 
-use crate::files::{Files, offer_of, read_files};
-use ballots::Member;
+use crate::files::{Files, read_files};
+use crate::host::Host;
 use code_table::CodeTable;
 use command_ends::{End, Fault};
-use command_line::Plan;
-use configuration::{Config, read_config};
-use opened_files::Opened;
+use configuration::Config;
 use row_files::RowFiles;
-use saved_rows::{Identity, Rows};
-use serve_command::serve_run;
+use saved_rows::{Identity, Rows, RowsFault};
 use station::Station;
+use std::alloc::Global;
 use std::io::Write;
+use tape_frames::Tape;
 use widths::Widths;
-use wire::{Address, UdpWire};
+use wire::Wire;
+
+/// A station over its saved rows, with its wire and what it offers first.
+#[derive(Drop)]
+pub struct Started<R: Rows, N: Wire + Drop> {
+    pub station: Station<R>,
+    pub wire: N,
+    /// The number and the tape that are offered, if any.
+    pub offer: Option<(u32, Tape)>,
+}
 
 /// Whose rows a station of this configuration saves.
 fn identity_of(config: &Config) -> Identity
     requires { IsCircuit config.now.member config.now.stations.items }
-    ensures { IsIdentity result }
+    ensures value { result ≡ identity_of (file_of config.now) }
+    ensures is_one { IsIdentity result }
 {
     Identity {
         circuit: config.circuit,
@@ -31,7 +42,17 @@ fn identity_of(config: &Config) -> Identity
     }
 }
 
-/// The saved rows of this station, made or taken up.
+/// The rows, or why there are none, as a command tells it.
+fn told<'a, R: Rows>(rows: Result<R, RowsFault>) -> Result<R, Fault<'a>>
+    ensures { IfOk result (λ r. rows ≡ Ok r) }
+{
+    match rows {
+        Ok(rows) => Ok(rows),
+        Err(fault) => Err(Fault::of_rows(fault)),
+    }
+}
+
+/// The saved rows of this station in the file at a path, made or taken up.
 fn rows_of<'a, F: RowFiles>(
     rt: &HostRuntime,
     row_files: &F,
@@ -40,126 +61,116 @@ fn rows_of<'a, F: RowFiles>(
     create: bool,
 ) -> Result<F::Rows, Fault<'a>>
     requires { IsIdentity identity }
+    ensures { IfOk result (AreRowsOf create (F.makes row_files.now path.now) (F.takes_up row_files.now path.now) identity) }
 {
-    let rows = if create {
-        row_files.create(rt, path, identity)
+    if create {
+        told(row_files.create(rt, path, identity))
     } else {
-        row_files.open(rt, path, Some(identity))
-    };
-    match rows {
-        Ok(rows) => Ok(rows),
-        Err(fault) => Err(Fault::of_rows(fault)),
+        told(row_files.open(rt, path, Some(identity)))
     }
 }
 
-/// The socket at the member's own address.
-fn bind<'a, 'f>(
-    rt: &'a HostRuntime,
-    member: Member,
-    stations: Vec<Address>,
-) -> Result<UdpWire<'a, HostRuntime>, Fault<'f>>
-    requires { member ≤ length stations.items }
+/// The wire at the member's own address, of those of all stations.
+fn wire_of<'f, H: Host>(host: &H, config: Config) -> Result<H::Wire, Fault<'f>>
+    requires { IsCircuit config.member config.stations.items }
+    ensures { IfOk result (IsWireOf H.is_bound (file_of config)) }
 {
-    let own = stations[usize::from(member.get()) - 1];
-    match UdpWire::bind(rt, rt, &own, stations) {
+    let own = config.stations[usize::from(config.member.get()) - 1];
+    match host.bind(&own, config.stations) {
         Ok(wire) => Ok(wire),
         Err(_) => Err(Fault::Socket("cannot bind")),
     }
 }
 
-/// The station of these files over its saved rows.
+/// The station of this identity, by these files and over these rows.
 fn station_of<R: Rows>(
-    rt: &HostRuntime,
+    alloc: Global,
     identity: Identity,
     table: CodeTable,
     widths: Widths,
     rows: R,
 ) -> Station<R>
     requires { IsIdentity identity }
+    ensures station { IsStationOf identity result }
+    ensures table { result.table ≡ table }
+    ensures widths { result.widths ≡ widths }
+    ensures rows { result.rows ≡ rows }
 {
     let Identity {
         circuit,
         member,
         members,
     } = identity;
-    match Station::new(rt.alloc(), circuit, member, members, table, widths, rows) {
+    match Station::new(alloc, circuit, member, members, table, widths, rows) {
         Ok(station) => station,
         Err(_) => unreachable!(),
     }
 }
 
-/// Binds the socket, and serves the station of these files over its rows.
-fn serve_over<R: Rows, W: Write, E: Write>(
-    rt: &HostRuntime,
-    plan: &Plan<'_>,
+/// Opens the wire, and puts the station over its rows.
+fn start_over<'f, H: Host, R: Rows>(
+    alloc: Global,
+    host: &H,
     config: Config,
     files: Files,
     rows: R,
-    out: &mut W,
-    err: &mut E,
-) -> End
+) -> Result<Started<R, H::Wire>, Fault<'f>>
     requires { IsCircuit config.member config.stations.items }
+    ensures station { IfOk result (λ s. IsStationOf (identity_of (file_of config)) s.station) }
+    ensures table { IfOk result (λ s. s.station.table ≡ files.table) }
+    ensures widths { IfOk result (λ s. s.station.widths ≡ files.widths) }
+    ensures offer { IfOk result (λ s. s.offer ≡ files.offer) }
+    ensures rows { IfOk result (λ s. s.station.rows ≡ rows) }
+    ensures wire { IfOk result (λ s. IsWireOf H.is_bound (file_of config) s.wire) }
 {
     let identity = identity_of(&config);
-    let mut wire = match bind(rt, config.member, config.stations) {
-        Ok(wire) => wire,
-        Err(fault) => return fault.tell(err),
-    };
-    let mut station = station_of(rt, identity, files.table, files.widths, rows);
-    serve_run(
-        rt.alloc(),
-        &mut station,
-        &mut wire,
-        files.offer,
-        plan.seek,
-        plan.turns,
-        out,
-        err,
-    )
+    let wire = wire_of(host, config)?;
+    let Files {
+        table,
+        widths,
+        offer,
+    } = files;
+    let station = station_of(alloc, identity, table, widths, rows);
+    Ok(Started {
+        station,
+        wire,
+        offer,
+    })
 }
 
-/// Reads the files of a configuration, takes its saved rows, and serves the station.
-fn start<F: RowFiles, W: Write, E: Write>(
-    rt: &HostRuntime,
-    plan: &Plan<'_>,
-    offer: Option<(u32, &str)>,
-    config: Config,
-    row_files: &F,
-    out: &mut W,
-    err: &mut E,
-) -> End
-    requires { IsCircuit config.member config.stations.items }
-{
-    let files = match read_files(rt, &config, offer) {
-        Ok(files) => files,
-        Err(fault) => return fault.tell(err),
-    };
-    let identity = identity_of(&config);
-    match rows_of(rt, row_files, &config.rows, identity, plan.create) {
-        Ok(rows) => serve_over(rt, plan, config, files, rows, out, err),
-        Err(fault) => fault.tell(err),
-    }
-}
-
-/// Serves the station of a configuration as the plan asks, with its rows saved in one of the files.
+/// The station of a configuration, over its saved rows in one of the files, made or taken up, with its wire and the tape
+/// that it offers first, if a number and a path are given.
 ///
-/// What it starts from is looked for in this order, and the first fault ends it: the configuration, the code table,
-/// the widths, the tape, the saved rows, the socket. A number without a tape, or a tape without a number, ends it
-/// before all of them, as usage.
-pub fn serve<F: RowFiles, W: Write, E: Write>(
+/// What it starts from is looked for in this order, and the first fault ends it and is told to `err`: the code table, the
+/// widths, the tape, the saved rows, the socket.
+pub fn start<H: Host, F: RowFiles, E: Write>(
     rt: &HostRuntime,
-    plan: &Plan<'_>,
+    host: &H,
     row_files: &F,
-    out: &mut W,
+    config: Config,
+    create: bool,
+    offer: Option<(u32, &str)>,
     err: &mut E,
-) -> End {
-    let offer = match offer_of(plan) {
-        Ok(offer) => offer,
-        Err(fault) => return fault.tell(err),
+) -> Result<Started<F::Rows, H::Wire>, End>
+    requires { IsCircuit config.member config.stations.items }
+    ensures station { IfOk result (λ s. IsStationOf (identity_of (file_of config)) s.station) }
+    ensures table { IfOk result (λ s. IsTableAt (H.text host.now) (string_bytes config.table) s.station.table) }
+    ensures widths { IfOk result (λ s. AreWidthsAt (H.text host.now) (string_bytes config.widths) s.station.widths) }
+    ensures offer { IfOk result (λ s. IsOffer (H.text host.now) (option_map (λ o. (o.0, o.1.now)) offer.entry) s.offer) }
+    ensures rows { IfOk result (λ s. AreRowsOf create (F.makes row_files.now (string_bytes config.rows)) (F.takes_up row_files.now (string_bytes config.rows)) (identity_of (file_of config)) s.station.rows) }
+    ensures wire { IfOk result (λ s. IsWireOf H.is_bound (file_of config) s.wire) }
+{
+    let files = match read_files(rt.alloc(), host, &config, offer) {
+        Ok(files) => files,
+        Err(fault) => return Err(fault.tell(err)),
     };
-    let mut input = Opened::at(rt, plan.config);
-    match read_config(rt.alloc(), &mut input, plan.config, err) {
-        Ok(config) => start(rt, plan, offer, config, row_files, out, err),
-        Err(end) => end,
+    let identity = identity_of(&config);
+    let rows = match rows_of(rt, row_files, &config.rows, identity, create) {
+        Ok(rows) => rows,
+        Err(fault) => return Err(fault.tell(err)),
+    };
+    match start_over(rt.alloc(), host, config, files, rows) {
+        Ok(started) => Ok(started),
+        Err(fault) => Err(fault.tell(err)),
     }
 }

@@ -1,0 +1,45 @@
+-- What a station starts from, by its configuration.
+use Rattle.std.specs.Prelude.{◌≡◌, ℕ, List, [], length, Bool, false, Option, Some, Ok, MatchBool, MatchOption, IfSome}
+use Rattle.toml.specs.Parse.{parse_document}
+use Rattle.code_table.specs.Tables.{Places}
+use Rattle.code_table.specs.Reading.{read_table}
+use Rattle.widths.specs.Widths.{WidthFile}
+use Rattle.widths.specs.Reading.{read_widths}
+use Rattle.saved_rows.specs.declared.identity.Identity.{Identity}
+use Rattle.node_core.specs.Standing.{StandsFor}
+use Rattle.station.specs.declared.station.Station.{Station}
+use Rattle.wire.specs.Addresses.{address_of}
+use Rattle.wire.specs.declared.address.Address.{Address}
+use Rattle.configuration.specs.Reading.{ConfigFile}
+
+-- whose rows a station of this configuration saves: those of its circuit and member, of as many members as there are stations
+abbrev pub identity_of : ConfigFile → Identity
+identity_of config = record { circuit = config.circuit; member = config.member; members = length config.stations }
+
+-- the station of this circuit and member, of so many members, that has taken nothing in
+pub record IsStationOf {R : Type 0} (i : Identity) (station : Station R) : Type 0 where
+  pub circuit : station.core.circuit ≡ i.circuit
+  pub member : station.core.me ≡ i.member
+  pub members : station.core.members ≡ i.members
+  pub goes : station.stopped ≡ false
+  pub fresh : StandsFor station.core []
+
+-- the table is the one in the text at this path, where that is known
+abbrev pub IsTableAt : (List ℕ → Option (List ℕ)) → List ℕ → Places → Type 0
+IsTableAt texts path table = IfSome (texts path) (λ text. read_table (parse_document text) ≡ Ok table)
+
+-- the measures and widths are those in the text at this path, where that is known
+abbrev pub AreWidthsAt : (List ℕ → Option (List ℕ)) → List ℕ → WidthFile → Type 0
+AreWidthsAt texts path widths = IfSome (texts path) (λ text. read_widths (parse_document text) ≡ Ok widths)
+
+-- the tape that is offered for a number is the file at a path, where both are asked for
+abbrev pub IsOffer : (List ℕ → Option (List ℕ)) → Option (ℕ × List ℕ) → Option (ℕ × List ℕ) → Type 0
+IsOffer texts asked offer = MatchOption asked (MatchOption offer (Unit {0}) (λ _. ⊥)) (λ a. MatchOption offer ⊥ (λ o. (o.0 ≡ a.0) × IfSome (texts a.1) (λ frames. o.1 ≡ frames)))
+
+-- the rows were made for the station, or taken up as the station's
+abbrev pub AreRowsOf : {R : Type 0} → Bool → (Identity → R → Type 0) → (Option Identity → R → Type 0) → Identity → R → Type 0
+AreRowsOf create makes takes_up i rows = MatchBool create (makes i rows) (takes_up (Some i) rows)
+
+-- the wire was opened at the member's own address among those of all stations, and sends to these
+abbrev pub IsWireOf : {N : Type 0} → (N → Address → List Address → Type 0) → ConfigFile → N → Type 0
+IsWireOf is_bound config wire = MatchOption (address_of config.stations config.member) ⊥ (λ own. is_bound wire own config.stations)

@@ -1,0 +1,56 @@
+//! What a station asks of the machine that it runs on.
+
+ghost use Rattle.std.specs.Prelude.{◌≡◌, ℕ, List, Option, None, Some, IfOk, IfSome};
+ghost use Rattle.wire.specs.declared.address.Address.{Address as AddressValue};
+
+use opened_files::Opened;
+use std::io;
+use std::io::Read;
+use wire::{Address, UdpWire, Wire};
+
+/// A machine with files of texts, and a network on which wires are opened.
+pub trait Host {
+    /// What a file is read by.
+    type Text: Read + Drop;
+
+    /// What a station sends and receives by.
+    type Wire: Wire + Drop;
+
+    // What the file at a path holds, where that is known.
+    ghost text: { Self → List ℕ → Option (List ℕ) };
+
+    // The wire was opened at this address, and sends to these.
+    ghost is_bound: { Self.Wire → AddressValue → List AddressValue → Type 0 };
+
+    /// The file at a path. One that can't be opened fails as it is read.
+    fn open(&self, path: &str) -> Self::Text
+        ensures { IfSome (text self.now path.now) (λ bytes. Self.Text.remaining result ≡ Some bytes) };
+
+    /// A wire at the own address, that sends to these stations, in order of members from 1.
+    fn bind(&self, own: &Address, stations: Vec<Address>) -> io::Result<Self::Wire>
+        ensures { IfOk result (λ wire. is_bound wire own.now stations.items) };
+}
+
+/// The machine that the program runs on. What its files hold is not known.
+#[derive(Clone, Copy)]
+pub(crate) struct ThisHost<'a> {
+    pub(crate) rt: &'a HostRuntime,
+}
+
+impl<'a> Host for ThisHost<'a> {
+    type Text = Opened;
+
+    type Wire = UdpWire<'a, HostRuntime>;
+
+    ghost text = { λ _ _. None };
+
+    ghost is_bound = { λ wire _ stations. wire.stations.items ≡ stations };
+
+    fn open(&self, path: &str) -> Opened {
+        Opened::at(self.rt, path)
+    }
+
+    fn bind(&self, own: &Address, stations: Vec<Address>) -> io::Result<UdpWire<'a, HostRuntime>> {
+        UdpWire::bind(self.rt, self.rt, own, stations)
+    }
+}
