@@ -43,7 +43,6 @@ pub octet_long : (text : List ℕ) → nat_le (length text) 3 ≡ false → octe
 unfolding octet_of
 octet_long text long = go (list_all is_ascii_digit text) (nat_le 1 (length text))
   where
-
     go : (a b : Bool) → cond (a && (b && (nat_le (length text) 3 && nat_le (digits_value 10 text) 255))) (Some (digits_value 10 text)) None ≡ None
     go true true = rw long refl
     go true false = refl

@@ -212,12 +212,14 @@ fn is_none_with(alloc: Global, old: &str, new: &str, fault: &str) -> bool {
 const TEXTS: &[(&str, &str, &str)] = &[
     ("circuit = 7", "circuit", "config: not toml\n"),
     ("circuit = 7\n", "", "config: missing circuit\n"),
+    ("member = 1\ntable", "table", "config: missing member\n"),
     (
         "member = 1\ntable",
         "member = \"1\"\ntable",
         "config: wrong type member\n",
     ),
     ("table = \"codes.toml\"\n", "", "config: missing table\n"),
+    ("widths = \"widths.toml\"\n", "", "config: missing widths\n"),
     (
         "widths = \"widths.toml\"",
         "widths = 3",
@@ -231,7 +233,17 @@ const TEXTS: &[(&str, &str, &str)] = &[
     ),
     ("[[station]]", "[station]", "config: wrong type station\n"),
     ("[[station]]", "[[stations]]", "config: missing station\n"),
+    (
+        "[[station]]\nmember = 1\nip = \"127.0.0.1\"\nport = 7001\n",
+        "station = [0, 0, 0, 0, 0, 0, 0, 0, 0, 0, 0, 0, 0, 0, 0, 0]\n",
+        "config: out of range station\n",
+    ),
     ("port = 7001", "port = 0", "config: bad station 1\n"),
+    (
+        "port = 7001\n",
+        "port = 7001\n[[station]]\nmember = 2\nip = \"127.0.0.1\"\nport = 7001\n",
+        "config: bad station 2\n",
+    ),
     (
         "member = 1\ntable",
         "member = 2\ntable",

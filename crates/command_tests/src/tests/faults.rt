@@ -2,7 +2,6 @@
 
 use code_table::TableFault;
 use command_ends::{End, Fault};
-use configuration::{ConfigFault, ConfigKey};
 use line_check::{Cause, SetFault};
 use saved_rows::RowsFault;
 use station::StepRefusal;
@@ -260,85 +259,6 @@ fn faults_of_rows(rt: HostRuntime) {
             "{text}"
         );
         assert!(rt; is_told(rt.alloc(), step, text, *end), "{text}");
-    }
-}
-
-const CONFIGS: &[(ConfigFault, &str, End)] = &[
-    (ConfigFault::NotToml, "config: not toml", End::Input),
-    (
-        ConfigFault::Missing(ConfigKey::Circuit),
-        "config: missing circuit",
-        End::Input,
-    ),
-    (
-        ConfigFault::WrongType(ConfigKey::Table),
-        "config: wrong type table",
-        End::Input,
-    ),
-    (
-        ConfigFault::OutOfRange(ConfigKey::Station),
-        "config: out of range station",
-        End::Input,
-    ),
-    (
-        ConfigFault::BadStation(15),
-        "config: bad station 15",
-        End::Input,
-    ),
-    (ConfigFault::OutOfMemory, "out of memory", End::Memory),
-];
-
-fn text_of_config(fault: ConfigFault) -> &'static str {
-    match fault {
-        ConfigFault::NotToml => CONFIGS[0].1,
-        ConfigFault::Missing(_) => CONFIGS[1].1,
-        ConfigFault::WrongType(_) => CONFIGS[2].1,
-        ConfigFault::OutOfRange(_) => CONFIGS[3].1,
-        ConfigFault::BadStation(_) => CONFIGS[4].1,
-        ConfigFault::OutOfMemory => CONFIGS[5].1,
-    }
-}
-
-#[test]
-fn faults_of_configurations(rt: HostRuntime) {
-    for (fault, text, end) in CONFIGS {
-        let told = fault.told();
-        assert!(rt;
-            text_of_config(*fault) == *text && is_told(rt.alloc(), told, text, *end),
-            "{text}"
-        );
-    }
-}
-
-/// The keys of a configuration, each told as missing.
-const CONFIG_KEYS: &[(ConfigKey, &str)] = &[
-    (ConfigKey::Circuit, "config: missing circuit"),
-    (ConfigKey::Member, "config: missing member"),
-    (ConfigKey::Table, "config: missing table"),
-    (ConfigKey::Widths, "config: missing widths"),
-    (ConfigKey::Rows, "config: missing rows"),
-    (ConfigKey::Station, "config: missing station"),
-];
-
-fn text_of_config_key(key: ConfigKey) -> &'static str {
-    match key {
-        ConfigKey::Circuit => CONFIG_KEYS[0].1,
-        ConfigKey::Member => CONFIG_KEYS[1].1,
-        ConfigKey::Table => CONFIG_KEYS[2].1,
-        ConfigKey::Widths => CONFIG_KEYS[3].1,
-        ConfigKey::Rows => CONFIG_KEYS[4].1,
-        ConfigKey::Station => CONFIG_KEYS[5].1,
-    }
-}
-
-#[test]
-fn keys_of_configurations(rt: HostRuntime) {
-    for (key, text) in CONFIG_KEYS {
-        let told = ConfigFault::Missing(*key).told();
-        assert!(rt;
-            text_of_config_key(*key) == *text && is_told(rt.alloc(), told, text, End::Input),
-            "{text}"
-        );
     }
 }
 

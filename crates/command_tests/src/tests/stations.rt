@@ -101,6 +101,75 @@ fn faults_at_each_entry(rt: HostRuntime) {
     }
 }
 
+/// A configuration of this member with stations of the members 1, 2 and so on at these addresses and ports.
+fn with_addresses(alloc: Global, member: u8, addresses: &[(&str, u16)]) -> Option<String> {
+    let head = format!(in alloc; "member = {member}\ntable").ok()?;
+    let mut text = HEAD.replace(alloc, "member = 1\ntable", &head).ok()?;
+    for (index, (ip, port)) in addresses.iter().enumerate() {
+        let member = index + 1;
+        let entry = format!(in alloc;
+            "[[station]]\nmember = {member}\nip = \"{ip}\"\nport = {port}\n"
+        );
+        text.push_str(&entry.ok()?).ok()?;
+    }
+    Some(text)
+}
+
+/// The fault of such a configuration, if it has one.
+fn fault_at(alloc: Global, member: u8, addresses: &[(&str, u16)]) -> Option<ConfigFault> {
+    fault_of(alloc, &with_addresses(alloc, member, addresses)?)
+}
+
+/// How many stations such a configuration of member 1 has.
+fn stations_at(alloc: Global, addresses: &[(&str, u16)]) -> Option<usize> {
+    let text = with_addresses(alloc, 1, addresses)?;
+    let config = Config::read(alloc, &text).ok()?;
+    Some(config.stations.len())
+}
+
+/// Stations of which two have one IP address and port, and the place of the later.
+const SHARED: &[(&[(&str, u16)], usize)] = &[
+    (&[("10.0.0.1", 7001), ("10.0.0.1", 7001)], 2),
+    (
+        &[("10.0.0.1", 7001), ("10.0.0.2", 7002), ("10.0.0.1", 7001)],
+        3,
+    ),
+    (
+        &[("10.0.0.1", 7001), ("10.0.0.2", 7002), ("10.0.0.2", 7002)],
+        3,
+    ),
+    // It is one address, however it is written.
+    (&[("10.0.0.1", 7001), ("010.000.0.01", 7001)], 2),
+    // The first of two.
+    (
+        &[("10.0.0.1", 7001), ("10.0.0.1", 7001), ("10.0.0.1", 7001)],
+        2,
+    ),
+];
+
+/// Stations that share one part of their addresses alone.
+const NEIGHBOURS: &[&[(&str, u16)]] = &[
+    &[("10.0.0.1", 7001), ("10.0.0.1", 7002)],
+    &[("10.0.0.1", 7001), ("10.0.0.2", 7001)],
+    &[("10.0.0.1", 7001), ("10.0.1.0", 7001), ("1.0.0.1", 7001)],
+];
+
+#[test]
+fn one_address_twice(rt: HostRuntime) {
+    let alloc = rt.alloc();
+    for (addresses, place) in SHARED {
+        let fault = ConfigFault::BadStation(*place);
+        assert!(rt; fault_at(alloc, 1, addresses) == Some(fault), "{place}");
+        // That there is no such member is found behind it.
+        assert!(rt; fault_at(alloc, 9, addresses) == Some(fault), "{place}");
+    }
+    for addresses in NEIGHBOURS {
+        assert!(rt; stations_at(alloc, addresses) == Some(addresses.len()));
+        let none = ConfigFault::OutOfRange(ConfigKey::Member);
+        assert!(rt; fault_at(alloc, 9, addresses) == Some(none));
+    }
+}
+
 /// The most stations of a circuit, and one more that is none.
 const SIXTEEN: &[(u8, u32)] = &[
     (1, 7000),
