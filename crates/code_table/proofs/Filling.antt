@@ -1,13 +1,19 @@
 -- The places of the entries that were read, and one entry more.
-use Rattle.std.proofs.Common.{◌≡◌, ℕ, zero, suc, ℤ, pos, negsuc, nat_le, ◌+◌, ◌<◌, ◌≤◌, ◌==◌, ◌≢◌, Bool, true, false, not, cond, List, [], ◌∷◌, ◌++◌, length, get_or, drop, replicate, slice_get, slice_set, Option, Some, None, is_some, Result, Ok, Err, refl, sym, ap, ◌∙◌, arith, add-zero, zero-add, add-one, drop-cons, length-append}
+use Rattle.std.proofs.Common.{◌≡◌, ℕ, zero, suc, ℤ, pos, negsuc, nat_le, ◌+◌, ◌<◌, ◌≤◌, ◌==◌, ◌≢◌, Bool, true, false, not, cond, List, [], ◌∷◌, ◌++◌, length, get_or, drop, replicate, slice_get, slice_set, Option, Some, None, is_some, Result, Ok, Err, refl, sym, ap, ◌∙◌, arith, inl, inr, add-zero, zero-add, add-one, drop-cons, length-append}
 use Rattle.std.specs.Option.{option_flatten}
+use Rattle.std.specs.Prelude.{option_map}
+use Rattle.std.specs.List.{AllByRecursion}
+use Rattle.std.proofs.lemmas.Bool.{cases_lt}
 use Rattle.std.proofs.lemmas.List.{drop_all}
 use Rattle.std.proofs.lemmas.Option.{cond_some}
 use Rattle.std.proofs.lemmas.Bool.Decides.{nat_tests}
 use Rattle.toml.specs.Data.{Data}
 use Rattle.toml.specs.View.{view, items_view}
 use Rattle.toml.specs.declared.value.Value.{Value}
-use Rattle.code_table.specs.Tables.{Places, is_placed}
+use Rattle.code_table.specs.Tables.{Places, is_placed, in_column, mean, case_of, AreAlike}
+use Rattle.code_table.specs.Texts.{is_same_case, may_stand}
+use Rattle.code_table.specs.declared.case.Case.{Case}
+use Rattle.code_table.specs.declared.case.Case.TheVariants as cases
 use Rattle.code_table.specs.Entries.{Keys, ◌>>=◌, wanted, holds, frame_of, keys_of, free_frame, columns_of, read_entry}
 use Rattle.code_table.specs.Reading.{entry_among, is_taken, places_from, places_of, read_entries, read_places}
 use Rattle.code_table.specs.declared.entry.Entry.{Entry}
@@ -112,16 +118,63 @@ untaken_none entries frame h = none_of (entry_among entries frame) h
     none_of None h = refl
     none_of (Some entry) h = absurd cc
 
+-- the columns of each entry may stand together
+abbrev AllFit : Entries → Type 0
+AllFit = AllByRecursion (λ e. may_stand e.1.unshift e.1.shift ≡ true)
+
+all_fit_more : (entries : Entries) (frame : ℕ) (entry : Entry) → AllFit entries → may_stand entry.unshift entry.shift ≡ true → AllFit (entries ++ (frame, entry) ∷ [])
+all_fit_more [] frame entry fit h = (h, tt)
+all_fit_more (first ∷ rest) frame entry fit h = (fit.0, all_fit_more rest frame entry fit.1 h)
+
+same_case : (a b : Option Case) → is_same_case a b ≡ true → b ≡ a
+same_case None None h = refl
+same_case None (Some cases.Unshift) h = absurd cc
+same_case None (Some cases.Shift) h = absurd cc
+same_case (Some cases.Unshift) None h = absurd cc
+same_case (Some cases.Shift) None h = absurd cc
+same_case (Some cases.Unshift) (Some cases.Unshift) h = refl
+same_case (Some cases.Unshift) (Some cases.Shift) h = absurd cc
+same_case (Some cases.Shift) (Some cases.Unshift) h = absurd cc
+same_case (Some cases.Shift) (Some cases.Shift) h = refl
+
+column_alike : (entry : Entry) (c : Case) → may_stand entry.unshift entry.shift ≡ true → case_of (Some (in_column c entry)) ≡ case_of (Some entry.unshift)
+unfolding may_stand
+column_alike entry cases.Unshift h = refl
+column_alike entry cases.Shift h = same_case (case_of (Some entry.unshift)) (case_of (Some entry.shift)) h
+
+among_alike : (entries : Entries) → AllFit entries → (c : Case) (frame : ℕ) → case_of (option_map (in_column c) (entry_among entries frame)) ≡ case_of (option_map (in_column cases.Unshift) (entry_among entries frame))
+among_alike [] fit c frame = refl
+among_alike (first ∷ rest) fit c frame =
+    elim (first.0 == frame) as (λ b. case_of (option_map (in_column c) (cond b (Some first.1) (entry_among rest frame))) ≡ case_of (option_map (in_column cases.Unshift) (cond b (Some first.1) (entry_among rest frame)))) [
+      | true ↦ column_alike first.1 c fit.0
+      | false ↦ among_alike rest fit.1 c frame
+    ]
+
+none_past : (entries : Entries) (start many at : ℕ) → many ≤ at → slice_get (places_from start many entries) at ≡ None
+none_past entries start zero at le = refl
+none_past entries start (suc many) zero le = absurd (omega (arith, le))
+none_past entries start (suc many) (suc at) le = none_past entries (suc start) many at (omega (arith, le))
+
+-- a case code means the same in both columns of the places of entries that fit
+places_alike : (entries : Entries) → AllFit entries → AreAlike (places_of entries)
+unfolding places_of mean
+places_alike entries fit c frame =
+    elim (cases_lt frame 64) [
+      | inl less ↦ rw (get_places entries 0 64 frame less, zero-add) (among_alike entries fit c frame)
+      | inr more ↦ rw (none_past entries 0 64 frame more) refl
+    ]
+
 -- how far the entries were read: those that are done, and what reading on from them gives
 pub record ReadSoFar (codes : List Value) (places : Places) (index : ℕ) : Type 0 where
   pub done : Entries
   pub filled : places ≡ places_of done
   pub count : length done ≡ index
+  pub fit : AllFit done
   pub on : read_entries done (items_view (drop index codes)) ≡ read_entries [] (items_view codes)
 
 pub starts : (codes : List Value) → ReadSoFar codes (replicate 64 None) 0
 unfolding places_of
-starts codes = record { done = []; filled = refl; count = refl; on = refl }
+starts codes = record { done = []; filled = refl; count = refl; fit = tt; on = refl }
 
 -- what is read next
 module _ (codes : List Value) (places : Places) (index : ℕ) (so_far : ReadSoFar codes places index) (d : Value) (within : index < length codes) where
@@ -135,14 +188,15 @@ module _ (codes : List Value) (places : Places) (index : ℕ) (so_far : ReadSoFa
   unfolding read_places
   stops e h = rw (← next, h) refl
 
-  pub goes_on : (frame : ℕ) (entry : Entry) → read_entry (is_placed places) (index + 1) (view (get_or codes index d)) ≡ Ok (frame, entry) → frame ≤ 63 → is_placed places frame ≡ false → ReadSoFar codes (slice_set places frame (Some entry)) (index + 1)
+  pub goes_on : (frame : ℕ) (entry : Entry) → read_entry (is_placed places) (index + 1) (view (get_or codes index d)) ≡ Ok (frame, entry) → frame ≤ 63 → is_placed places frame ≡ false → may_stand entry.unshift entry.shift ≡ true → ReadSoFar codes (slice_set places frame (Some entry)) (index + 1)
   unfolding places_of
-  goes_on frame entry h small free =
+  goes_on frame entry h small free fit =
       let untaken : is_taken so_far.done frame ≡ false = sym (placed_taken so_far.done frame small) ∙ rw so_far.filled at free in
       record {
         done = so_far.done ++ (frame, entry) ∷ [];
         filled = rw so_far.filled (sym (places_more so_far.done frame entry 0 64 frame (untaken_none so_far.done frame untaken) (omega arith) (omega arith)));
         count = rw length-append (omega (arith, so_far.count));
+        fit = all_fit_more so_far.done frame entry so_far.fit fit;
         on = rw h at next;
       }
 
@@ -160,3 +214,6 @@ length_places entries start (suc many) = ap suc (length_places entries (suc star
 pub full : (codes : List Value) (places : Places) (index : ℕ) → ReadSoFar codes places index → length places ≡ 64
 unfolding places_of
 full codes places index so_far = rw so_far.filled (length_places so_far.done 0 64)
+
+pub alike : (codes : List Value) (places : Places) (index : ℕ) → ReadSoFar codes places index → AreAlike places
+alike codes places index so_far = rw so_far.filled (places_alike so_far.done so_far.fit)

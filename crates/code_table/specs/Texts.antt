@@ -3,6 +3,9 @@ use Rattle.std.specs.Prelude.{ℕ, List, [], ◌∷◌, Bool, true, false, codes
 use Rattle.std.specs.Option.{option_or}
 use Rattle.std.specs.Str.{bytes_eq}
 use Rattle.code_table.specs.Names.{is_name}
+use Rattle.code_table.specs.Tables.{case_of}
+use Rattle.code_table.specs.declared.case.Case.{Case}
+use Rattle.code_table.specs.declared.case.Case.TheVariants as cases
 use Rattle.code_table.specs.declared.meaning.Meaning.{Meaning}
 use Rattle.code_table.specs.declared.meaning.Meaning.TheVariants.{Matrix, Shift, Unshift, Elevate, Return, Spaceband, Thin, En, Em, Upper, Lower, QuadLeft, QuadCenter, QuadRight, Ignore}
 
@@ -31,12 +34,13 @@ matrix_of text = if is_name text then Some (Matrix text) else None
 unfoldable pub meaning_of : List ℕ → Option Meaning
 meaning_of text = option_or (function_of text) (matrix_of text)
 
--- the two columns of an entry may stand together: where one is a shift or an unshift, so is the other
+-- the same case is selected, or none
+abbrev pub is_same_case : Option Case → Option Case → Bool
+is_same_case None None = true
+is_same_case (Some cases.Unshift) (Some cases.Unshift) = true
+is_same_case (Some cases.Shift) (Some cases.Shift) = true
+is_same_case _ _ = false
+
+-- the two columns of an entry may stand together: where one is a case code, so is the other, and they are the same
 unfoldable pub may_stand : Meaning → Meaning → Bool
-may_stand Shift Shift = true
-may_stand Unshift Unshift = true
-may_stand Shift _ = false
-may_stand Unshift _ = false
-may_stand _ Shift = false
-may_stand _ Unshift = false
-may_stand _ _ = true
+may_stand unshift shift = is_same_case (case_of (Some unshift)) (case_of (Some shift))

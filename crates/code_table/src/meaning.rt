@@ -1,8 +1,10 @@
 //! What a frame means.
 
-ghost use Rattle.std.specs.Prelude.{◌≡◌};
+ghost use Rattle.std.specs.Prelude.{◌≡◌, Some};
+ghost use Rattle.code_table.specs.Tables.{case_of};
 ghost use Rattle.code_table.specs.Texts.{function_of, matrix_of, meaning_of, may_stand};
 
+use crate::case::Case;
 use crate::name::Name;
 
 /// What a frame means in one case.
@@ -85,16 +87,27 @@ impl Meaning {
         }
     }
 
-    /// Whether the two may be the columns of one entry: where one is a shift or an unshift, so is the other.
+    /// The case that it selects for the frames after it, where it is a case code.
+    pub fn selects(&self) -> Option<Case>
+        ensures { result ≡ case_of (Some self.now) }
+    {
+        match self {
+            Meaning::Shift => Some(Case::Shift),
+            Meaning::Unshift => Some(Case::Unshift),
+            _ => None,
+        }
+    }
+
+    /// Whether the two may be the columns of one entry: where one is a case code, so is the other, and they are the same.
     #[tactic(auto, unfolding(crate::specs::Texts::may_stand))]
     pub(crate) fn may_stand(unshift: &Meaning, shift: &Meaning) -> bool
         ensures { result ≡ may_stand unshift.now shift.now }
     {
-        match (unshift, shift) {
-            (Meaning::Shift, Meaning::Shift) | (Meaning::Unshift, Meaning::Unshift) => true,
-            (Meaning::Shift | Meaning::Unshift, _) | (_, Meaning::Shift | Meaning::Unshift) =>
-                false,
-            _ => true,
+        match (unshift.selects(), shift.selects()) {
+            (None, None)
+            | (Some(Case::Unshift), Some(Case::Unshift))
+            | (Some(Case::Shift), Some(Case::Shift)) => true,
+            _ => false,
         }
     }
 }

@@ -1,8 +1,9 @@
 //! The entries of a code table in a TOML document, one after another.
 
-ghost use Rattle.std.specs.Prelude.{◌≡◌, ◌≤◌, false, length, replicate, None, MatchResult, Ok, Err, ◌⊎◌, IfOk, IfErr};
+ghost use Rattle.std.specs.Prelude.{◌≡◌, ◌≤◌, false, length, replicate, None, MatchResult, Ok, Err, ◌⊎◌, IfOk, IfErr, true};
 ghost use Rattle.toml.specs.View.{view, table_view, array_view};
-ghost use Rattle.code_table.specs.Tables.{is_placed};
+ghost use Rattle.code_table.specs.Tables.{is_placed, AreAlike};
+ghost use Rattle.code_table.specs.Texts.{may_stand};
 ghost use Rattle.code_table.specs.Entries.{free_frame, columns_of, read_entry};
 ghost use Rattle.code_table.specs.Reading.{codes_in, read_places};
 ghost use Rattle.code_table.specs.declared.fault.TableFault.TheVariants.{OutOfMemory};
@@ -42,7 +43,8 @@ fn free_frame(places: &[Option<Entry>], place: usize, number: i64) -> Result<u8,
 /// The two columns of the entry at this place.
 #[tactic(auto, unfolding(crate::specs::Entries::columns_of))]
 fn columns_of(place: usize, unshift: &str, shift: &str) -> Result<Entry, TableFault>
-    ensures { result ≡ columns_of place unshift.now shift.now }
+    ensures value { result ≡ columns_of place unshift.now shift.now }
+    ensures fit { IfOk result (λ entry. may_stand entry.unshift entry.shift ≡ true) }
 {
     let unshift = Meaning::of(unshift).ok_or(TableFault::BadMeaning { entry: place })?;
     let shift = Meaning::of(shift).ok_or(TableFault::BadMeaning { entry: place })?;
@@ -62,6 +64,7 @@ fn read_entry(
     ensures value { result ≡ read_entry (is_placed places.now) place (view code.now) }
     ensures small { IfOk result (λ read. read.0 ≤ 63) }
     ensures free { IfOk result (λ read. is_placed places.now read.0 ≡ false) }
+    ensures fit { IfOk result (λ read. may_stand read.1.unshift read.1.shift ≡ true) }
 {
     let keys = keys_of(code).ok_or(TableFault::WrongType { entry: place })?;
     let frame = free_frame(places, place, keys.frame)?;
@@ -95,6 +98,7 @@ pub fn codes_in(document: &Table) -> Result<&Array, TableFault>
 pub fn read_places(alloc: Global, codes: &Array) -> Result<Vec<Option<Entry>>, TableFault>
     ensures ok { IfOk result (λ places. read_places (array_view codes.now) ≡ Ok places.items) }
     ensures full { IfOk result (λ places. length places.items ≡ 64) }
+    ensures alike { IfOk result (λ places. AreAlike places.items) }
     ensures err { IfErr result (λ e. (e ≡ OutOfMemory) ⊎ (read_places (array_view codes.now) ≡ Err e)) }
 {
     let mut places = no_entries(alloc)?;

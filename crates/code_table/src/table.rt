@@ -5,7 +5,7 @@ ghost use Rattle.toml.specs.Parse.{parse_document};
 ghost use Rattle.toml.specs.View.{table_view};
 ghost use Rattle.code_table.specs.Reading.{read_table};
 ghost use Rattle.code_table.specs.declared.fault.TableFault.TheVariants.{NotToml, OutOfMemory};
-ghost use Rattle.code_table.specs.Tables.{mean};
+ghost use Rattle.code_table.specs.Tables.{mean, case_of};
 
 use crate::case::Case;
 use crate::entry::Entry;
@@ -16,7 +16,7 @@ use std::alloc::Global;
 use std::marker::Model;
 use toml::Table;
 
-/// What each of the 64 frames means in each case. Clauses see the entry of each frame, in their order.
+/// What each of the 64 frames means in each case, a case code the same in both. Clauses see the entry of each frame, in their order.
 #[derive(Drop)]
 pub struct CodeTable {
     places: Vec<Option<Entry>>,
@@ -24,13 +24,13 @@ pub struct CodeTable {
 
 impl Model for CodeTable {
     ghost use Rattle.std.specs.Prelude.{◌≡◌, length};
-    ghost use Rattle.code_table.specs.Tables.{Places};
+    ghost use Rattle.code_table.specs.Tables.{Places, AreAlike};
 
     ghost Value = { Places };
 
     ghost view = { λ t. t.places.items };
 
-    ghost invariant = { λ t. length t.places.items ≡ 64 };
+    ghost invariant = { λ t. (length t.places.items ≡ 64) × AreAlike t.places.items };
 }
 
 /// The document of a text.
@@ -64,10 +64,12 @@ impl CodeTable {
     }
 
     /// What the frame means in the case; `None` where the table has no entry of it, and for a frame above 63.
+    /// It selects the same case whichever case holds.
     #[tactic(auto, unfolding(crate::specs::Tables::mean))]
     pub fn meaning(&self, case: Case, frame: u8) -> Option<&Meaning>
         ensures value { option_copied result ≡ mean self.now case frame }
         ensures above { 64 ≤ frame → result ≡ None }
+        ensures alike { case_of (mean self.now case frame) ≡ case_of (mean self.now Case.Unshift frame) }
     {
         let entry = self.places.get(usize::from(frame))?.as_ref()?;
         Some(match case {

@@ -19,7 +19,7 @@ use Rattle.slug_reader.specs.declared.fault.Stop.{Stop}
 use Rattle.slug_reader.specs.declared.assembler.Assembler.{Assembler}
 use Rattle.slug_reader.specs.declared.assembler.Taken.TheVariants.{Kept, Cut, Flawed}
 use Rattle.slug_reader.specs.Positions.{before, or_else, first}
-use Rattle.slug_reader.specs.Meanings.{Meanings, case_of, rail_of, quad_of, is_elevate, frame_at, case_at, meaning_at, rail_at}
+use Rattle.slug_reader.specs.Meanings.{Meanings, selected_by, rail_of, quad_of, is_elevate, frame_at, case_at, meaning_at, rail_at}
 use Rattle.slug_reader.specs.Lines.{is_cut, items_before, quad_before, line_before, lines_before, is_filled}
 use Rattle.slug_reader.specs.Faults.{frame_flaw, flaw_at, end_flaw, stop_of, stop_at, stop_place, first_stop, lines_read, lines_of, fault_with, fault_of}
 use Rattle.slug_reader.specs.Assembling.{Keeps, Takes, line_cut}
@@ -80,7 +80,7 @@ stands_kept means widths tape i a b s t =
     let keeps : Keeps means widths (frame_at tape i) (meaning_at means tape i) a b = rw m at t.0 in
     let kept : is_elevate (meaning_at means tape i) ≡ false = rw m at t.1 in
     record {
-      case = keeps.case ∙ (ap (unwrap_or (case_of (means cases.Unshift (frame_at tape i)))) s.case ∙ sym (case_more means tape i));
+      case = keeps.case ∙ (ap (unwrap_or (selected_by means (frame_at tape i))) s.case ∙ sym (case_more means tape i));
       rail = keeps.rail ∙ (ap (unwrap_or (rail_of (meaning_at means tape i))) s.rail ∙ sym (rail_more means tape i));
       items = keeps.items ∙ (rw (s.items, s.rail) (sym (items_more means widths tape i kept)));
       quad = keeps.quad ∙ (ap (or_else (quad_of (meaning_at means tape i))) s.quad ∙ sym (quad_more means tape i kept));
@@ -101,7 +101,7 @@ cut_keeps means widths tape i a b s t =
       cut,
       plain.items ∙ (append-nil a.items.items ∙ s.items),
       plain.quad ∙ s.quad,
-      keeps.case ∙ (ap (unwrap_or (case_of (means cases.Unshift (frame_at tape i)))) s.case ∙ sym (case_more means tape i)),
+      keeps.case ∙ (ap (unwrap_or (selected_by means (frame_at tape i))) s.case ∙ sym (case_more means tape i)),
       keeps.rail ∙ (ap (unwrap_or (rail_of (meaning_at means tape i))) s.rail ∙ sym (rail_more means tape i)),
     )
 

@@ -7,16 +7,16 @@ use Rattle.code_table.specs.declared.case.Case.TheVariants as cases
 use Rattle.widths.specs.Widths.{WidthFile}
 use Rattle.slug_reader.specs.declared.item.Item.{Item}
 use Rattle.slug_reader.specs.Positions.{before, or_else}
-use Rattle.slug_reader.specs.Meanings.{Meanings, case_of, rail_of, quad_of, frame_at, case_at, meaning_at, rail_at}
+use Rattle.slug_reader.specs.Meanings.{Meanings, selected_by, rail_of, quad_of, frame_at, case_at, meaning_at, rail_at}
 use Rattle.slug_reader.specs.Lines.{is_cut, line_before, item_at, items_before, quad_before, line_of, is_filled, is_cast, lines_before}
 use Rattle.slug_reader.specs.Assembling.{line_cut}
 use Rattle.slug_reader.proofs.Lists.{last_push, unwrap_or_else, after_passed, after_kept, filter_map_one, length-found}
 
-pub case_more : (means : Meanings) (tape : List ℕ) (i : ℕ) → case_at means tape (i + 1) ≡ unwrap_or (case_of (means cases.Unshift (frame_at tape i))) (case_at means tape i)
+pub case_more : (means : Meanings) (tape : List ℕ) (i : ℕ) → case_at means tape (i + 1) ≡ unwrap_or (selected_by means (frame_at tape i)) (case_at means tape i)
 unfolding case_at
 case_more means tape i =
-    rw (add-one, last_push (λ j. case_of (means cases.Unshift (frame_at tape j))) (before i) i)
-    (unwrap_or_else (case_of (means cases.Unshift (frame_at tape i))) _ cases.Unshift)
+    rw (add-one, last_push (λ j. selected_by means (frame_at tape j)) (before i) i)
+    (unwrap_or_else (selected_by means (frame_at tape i)) _ cases.Unshift)
 
 pub rail_more : (means : Meanings) (tape : List ℕ) (i : ℕ) → rail_at means tape (i + 1) ≡ unwrap_or (rail_of (meaning_at means tape i)) (rail_at means tape i)
 unfolding rail_at

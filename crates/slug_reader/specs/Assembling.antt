@@ -1,6 +1,5 @@
 -- One step of the assembler: what a frame does to the line, as a function of what is kept.
 use Rattle.std.specs.Prelude.{◌≡◌, ℕ, List, [], ◌∷◌, ◌++◌, Option, Some, None, unwrap_or, option_to_list, true, false}
-use Rattle.code_table.specs.declared.case.Case.TheVariants as cases
 use Rattle.code_table.specs.declared.meaning.Meaning.{Meaning}
 use Rattle.widths.specs.Widths.{WidthFile}
 use Rattle.slug_reader.specs.declared.item.Item.{Item}
@@ -10,13 +9,13 @@ use Rattle.slug_reader.specs.declared.assembler.Assembler.{Assembler}
 use Rattle.slug_reader.specs.declared.assembler.Taken.{Taken}
 use Rattle.slug_reader.specs.declared.assembler.Taken.TheVariants.{Kept, Cut, Flawed}
 use Rattle.slug_reader.specs.Positions.{or_else}
-use Rattle.slug_reader.specs.Meanings.{Meanings, case_of, rail_of, quad_of, is_elevate, item_of}
+use Rattle.slug_reader.specs.Meanings.{Meanings, selected_by, rail_of, quad_of, is_elevate, item_of}
 use Rattle.slug_reader.specs.Faults.{frame_flaw}
 
 -- what is kept after a frame that means m
 pub record Keeps (means : Meanings) (widths : WidthFile) (frame : ℕ) (m : Option Meaning) (old new : Assembler) : Type 0 where
   pub fine : frame_flaw widths m ≡ None
-  pub case : new.case ≡ unwrap_or (case_of (means cases.Unshift frame)) old.case
+  pub case : new.case ≡ unwrap_or (selected_by means frame) old.case
   pub rail : new.rail ≡ unwrap_or (rail_of m) old.rail
   pub items : new.items.items ≡ old.items.items ++ option_to_list (item_of widths old.rail m)
   pub quad : new.quad ≡ or_else (quad_of m) old.quad

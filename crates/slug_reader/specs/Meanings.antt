@@ -1,5 +1,6 @@
 -- What the frames of a tape mean: the case and the rail of a position are read by looking back from it.
 use Rattle.std.specs.Prelude.{ℕ, List, Bool, true, false, Option, Some, None, unwrap_or, option_map, slice_index}
+use Rattle.code_table.specs.Tables.{case_of}
 use Rattle.code_table.specs.declared.case.Case.{Case}
 use Rattle.code_table.specs.declared.case.Case.TheVariants as cases
 use Rattle.code_table.specs.declared.meaning.Meaning.{Meaning}
@@ -16,12 +17,6 @@ use Rattle.slug_reader.specs.Positions.{before, last}
 -- what a code table says of each frame in each case
 abbrev pub Meanings : Type 0
 Meanings = Case → ℕ → Option Meaning
-
--- the case that a case code selects for the frames after it
-abbrev pub case_of : Option Meaning → Option Case
-case_of (Some meanings.Shift) = Some cases.Shift
-case_of (Some meanings.Unshift) = Some cases.Unshift
-case_of _ = None
 
 -- the rail that a rail code selects for the matrices after it
 abbrev pub rail_of : Option Meaning → Option Rail
@@ -54,10 +49,13 @@ item_of widths rail _ = None
 abbrev pub frame_at : List ℕ → ℕ → ℕ
 frame_at tape i = slice_index tape i
 
--- the case that holds at a position: that of the last case code before it, unshift where there is none.
--- A case code stands in both columns of a table, so the first says which one it is.
+-- the case that a frame selects for those after it: a table has a case code in both columns alike, so one says it
+abbrev pub selected_by : Meanings → ℕ → Option Case
+selected_by means frame = case_of (means cases.Unshift frame)
+
+-- the case that holds at a position: that of the last case code before it, unshift where there is none
 unfoldable pub case_at : Meanings → List ℕ → ℕ → Case
-case_at means tape i = unwrap_or (last (λ j. case_of (means cases.Unshift (frame_at tape j))) (before i)) cases.Unshift
+case_at means tape i = unwrap_or (last (λ j. selected_by means (frame_at tape j)) (before i)) cases.Unshift
 
 -- what the frame at a position means in the case that holds there
 unfoldable pub meaning_at : Meanings → List ℕ → ℕ → Option Meaning

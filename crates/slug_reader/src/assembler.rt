@@ -4,7 +4,7 @@ ghost use Rattle.std.specs.Prelude.{◌≡◌, ◌≤◌, ◌++◌, [], length, 
 ghost use Rattle.code_table.specs.Tables.{mean};
 ghost use Rattle.slug_reader.specs.Assembling.{Takes, line_cut};
 
-use crate::codes::{case_of, is_elevate, item_of, quad_of, rail_of};
+use crate::codes::{is_elevate, item_of, quad_of, rail_of};
 use crate::fault::Flaw;
 use crate::item::{Item, Rail};
 use crate::items::Items;
@@ -50,7 +50,7 @@ impl Assembler {
         }
     }
 
-    /// Takes in the next frame. A case code stands in both columns of a table, so it is looked up in the first.
+    /// Takes in the next frame, which is looked up once: it selects the same case whichever case holds.
     pub fn take(
         &mut self,
         table: &CodeTable,
@@ -68,7 +68,7 @@ impl Assembler {
             Ok(None) => {}
             Err(flaw) => return Ok(Taken::Flawed(flaw)),
         }
-        self.case = case_of(table.meaning(Case::Unshift, frame)).unwrap_or(self.case);
+        self.case = meaning.selects().unwrap_or(self.case);
         self.rail = rail_of(meaning).unwrap_or(self.rail);
         self.quad = quad_of(meaning).or(self.quad);
         Ok(if is_elevate(meaning) {

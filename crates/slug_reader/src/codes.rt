@@ -1,25 +1,14 @@
 //! What a meaning does to the line that is assembled.
 
-ghost use Rattle.std.specs.Prelude.{◌≡◌, Some, None, MatchResult, option_copied};
-ghost use Rattle.slug_reader.specs.Meanings.{case_of, rail_of, quad_of, is_elevate, item_of};
+ghost use Rattle.std.specs.Prelude.{◌≡◌, Some, None, MatchResult};
+ghost use Rattle.slug_reader.specs.Meanings.{rail_of, quad_of, is_elevate, item_of};
 ghost use Rattle.slug_reader.specs.Faults.{frame_flaw};
 
 use crate::fault::Flaw;
 use crate::item::{Item, Rail};
 use crate::line::Quad;
-use code_table::{Case, Meaning};
+use code_table::Meaning;
 use widths::Widths;
-
-/// The case that a case code selects.
-pub fn case_of(meaning: Option<&Meaning>) -> Option<Case>
-    ensures { result ≡ case_of (option_copied meaning.entry) }
-{
-    match meaning {
-        Some(Meaning::Shift) => Some(Case::Shift),
-        Some(Meaning::Unshift) => Some(Case::Unshift),
-        _ => None,
-    }
-}
 
 /// The rail that a rail code selects.
 pub fn rail_of(meaning: &Meaning) -> Option<Rail>

@@ -3,19 +3,36 @@
 ghost use Rattle.std.specs.Prelude.{◌≡◌};
 ghost use Rattle.code_table.specs.Tables.{mean};
 ghost use Rattle.slug_reader.specs.Lines.{line_number};
-ghost use Rattle.slug_reader.specs.Meanings.{is_elevate};
+ghost use Rattle.slug_reader.specs.Meanings.{is_elevate, selected_by};
 
-use crate::codes::{case_of, is_elevate};
+use crate::codes::is_elevate;
 use code_table::{Case, CodeTable};
 use tape_frames::Tape;
 
-/// Whether the frame sends the line to be cast, where this case holds.
-fn cuts(table: &CodeTable, case: Case, frame: u8) -> bool
-    ensures { result ≡ is_elevate (mean table.now case frame) }
+/// What a frame does to the numbers and the meanings of those after it.
+#[derive(Clone, Copy)]
+struct Effect {
+    /// The line is sent to be cast.
+    cuts: bool,
+    /// The case that it selects.
+    selects: Option<Case>,
+}
+
+/// What the frame does where this case holds.
+fn effect_of(table: &CodeTable, case: Case, frame: u8) -> Effect
+    ensures cuts { result.cuts ≡ is_elevate (mean table.now case frame) }
+    ensures selects { result.selects ≡ selected_by (mean table.now) frame }
 {
-    table
-        .meaning(case, frame)
-        .is_some_and(|meaning| is_elevate(meaning))
+    match table.meaning(case, frame) {
+        Some(meaning) => Effect {
+            cuts: is_elevate(meaning),
+            selects: meaning.selects(),
+        },
+        None => Effect {
+            cuts: false,
+            selects: None,
+        },
+    }
 }
 
 /// The number of the line that a position of a tape stands in: one more than the elevate codes before it.
@@ -29,10 +46,11 @@ pub fn line_at(table: &CodeTable, tape: &Tape, at: u32) -> u32
         if place >= at as usize {
             break;
         }
-        if cuts(table, case, *frame) {
+        let effect = effect_of(table, case, *frame);
+        if effect.cuts {
             line += 1;
         }
-        case = case_of(table.meaning(Case::Unshift, *frame)).unwrap_or(case);
+        case = effect.selects.unwrap_or(case);
     }
     line
 }

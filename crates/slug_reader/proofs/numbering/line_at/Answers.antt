@@ -5,7 +5,7 @@ use Rattle.slug_reader.specs.Meanings.{case_at}
 use Rattle.slug_reader.proofs.Looking.{case_more}
 use Rattle.slug_reader.proofs.Numbers.{counted_cut, counted_other, case_start, cut_is, line_is}
 use Rattle.slug_reader.proofs.numbering.line_at.Goals as goal
-use Rattle.slug_reader.proofs.numbering.line_at.Goals.{then-cuts, else-cuts}
+use Rattle.slug_reader.proofs.numbering.line_at.Goals.{then-effect, else-effect}
 
 pub loop-place-init : goal.loop-place-init
 loop-place-init c = record {
@@ -21,17 +21,18 @@ loop-place-preserved c =
     let i = c.loop-place.place in
     let was = c.loop-place.invariant in
     let here = cut_is means tape i c.loop-place.case was.case in
-    let case : c.unwrap_or-case.result ≡ case_at means tape (i + 1) = c.unwrap_or-case.ensures ∙ rw (c.case_of.ensures, c.meaning.ensures.value, was.case) (sym (case_more means tape i)) in
-    elim c.if-cuts.branch [
-      | then-cuts w ↦
-          let cut : is_cut means tape i ≡ true = sym here ∙ (sym c.cuts.ensures ∙ w.if-cuts.true) in
+    let effect = c.effect_of-effect.ensures in
+    let case : c.unwrap_or-case.result ≡ case_at means tape (i + 1) = c.unwrap_or-case.ensures ∙ rw (effect.selects, was.case) (sym (case_more means tape i)) in
+    elim c.if-effect.branch [
+      | then-effect w ↦
+          let cut : is_cut means tape i ≡ true = sym here ∙ (sym effect.cuts ∙ w.if-effect.true) in
           record {
             case = case;
             line = omega (arith, w.line-is, was.line, counted_cut means tape c.args.at i (omega arith) cut);
             small = omega (arith, w.line-is, was.small);
           }
-      | else-cuts w ↦
-          let kept : is_cut means tape i ≡ false = sym here ∙ (sym c.cuts.ensures ∙ w.if-cuts.false) in
+      | else-effect w ↦
+          let kept : is_cut means tape i ≡ false = sym here ∙ (sym effect.cuts ∙ w.if-effect.false) in
           record {
             case = case;
             line = omega (arith, w.line-is, was.line, counted_other means tape c.args.at i kept);
