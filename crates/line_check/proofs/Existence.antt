@@ -3,24 +3,21 @@ use Rattle.std.proofs.Common.{◌≡◌, ℕ, zero, suc, ◌+◌, ◌-◌, ◌*�
 use Rattle.std.specs.Prelude.{option_map, Result, Ok, Err}
 use Rattle.std.proofs.lemmas.Bool.{ltb-false}
 use Rattle.widths.specs.Widths.{WidthFile}
-use Rattle.slug_reader.specs.declared.fault.Stop.{Stop}
 use Rattle.slug_reader.specs.declared.item.Item.{Item}
 use Rattle.slug_reader.specs.declared.line.Line.{Line}
 use Rattle.slug_reader.specs.declared.line.Quad.{Quad}
 use Rattle.slug_reader.specs.declared.line.Quad.TheVariants as quads
 use Rattle.slug_reader.specs.Meanings.{Meanings}
 use Rattle.slug_reader.specs.Lines.{lines_before}
-use Rattle.slug_reader.specs.Faults.{first_stop, stop_place}
 use Rattle.line_check.specs.declared.slug.Slug.{Slug}
 use Rattle.line_check.specs.declared.slug.Kind.TheVariants as kinds
-use Rattle.line_check.specs.declared.fault.Cause.{Cause}
 use Rattle.line_check.specs.declared.fault.SetFault.{SetFault}
-use Rattle.line_check.specs.Slugs.{fixed_of, bands_of, kind_of, StandsAt, Fills, AreSlugs, least_width, greatest_width, looseness, misfit, item_of_piece}
-use Rattle.line_check.specs.Spreading.{pieces_of, misfit_among}
-use Rattle.line_check.specs.Sets.{cause_of, fault_at, Sets}
+use Rattle.line_check.specs.Slugs.{fixed_of, bands_of, kind_of, StandsAt, Fills, AreSlugs, least_width, greatest_width, looseness, misfit, item_of_sort}
+use Rattle.line_check.specs.Spreading.{sorts_of, misfit_among}
+use Rattle.line_check.specs.Sets.{first_fault, Sets}
 use Rattle.line_check.specs.Laws.{HasSlug, HasSetting}
 use Rattle.line_check.proofs.Spread.{items_kept, justifies, quads_line}
-use Rattle.line_check.proofs.FirstFault.{neither, mapped_none, sets_slugs, sets_misfit, sets_stop}
+use Rattle.line_check.proofs.FirstFault.{neither, mapped_none, all_fit}
 
 -- a test that chose nothing
 unchosen : {A : Type 0} (b : Bool) (x : A) (y : Option A) → cond b (Some x) y ≡ None → (b ≡ false) × (y ≡ None)
@@ -51,18 +48,18 @@ sides quads.Center blank = record { left = blank / 2; right = blank - blank / 2;
 sides quads.Right blank = record { left = blank; right = 0; whole = omega arith; stands = refl }
 
 filled : (widths : WidthFile) (line : List Item) (quad : Option Quad) → least_width widths line ≤ widths.measure → looseness widths line quad ≡ None
-    → (slug : Slug) × (map item_of_piece slug.items ≡ line) × Fills widths (fixed_of line) quad slug
+    → (slug : Slug) × (map item_of_sort slug.items ≡ line) × Fills widths (fixed_of line) quad slug
 filled widths line None least e =
     let close = ltb-false (greatest_width widths line) widths.measure (unchosen (ltb (greatest_width widths line) widths.measure) _ None e).0 in
     let share = shared (bands_of line) (widths.measure - fixed_of line) in (
-      record { items = pieces_of share.width share.wider line; kind = kinds.J; left = 0; right = 0 },
+      record { items = sorts_of share.width share.wider line; kind = kinds.J; left = 0; right = 0 },
       items_kept share.width share.wider line,
       justifies widths line share.width share.wider (widths.measure - fixed_of line) least close refl share.whole share.less,
     )
 filled widths line (Some quad) least e =
     let blank = sides quad (widths.measure - least_width widths line) in
     let whole : blank.left + blank.right + least_width widths line ≡ widths.measure = omega (arith, blank.whole, least) in (
-      record { items = pieces_of widths.band_min 0 line; kind = kind_of quad; left = blank.left; right = blank.right },
+      record { items = sorts_of widths.band_min 0 line; kind = kind_of quad; left = blank.left; right = blank.right },
       items_kept widths.band_min 0 line,
       quads_line widths line quad blank.left blank.right whole blank.stands,
     )
@@ -82,18 +79,12 @@ lines_set widths (line ∷ lines) fit =
     let rest = lines_set widths lines both.1 in
     (slug.0 ∷ rest.0, (slug.1, rest.1))
 
--- a tape sets, by how far it can be read and by the first line before that place that does not fit
-tape_sets : (means : Meanings) (widths : WidthFile) (tape : List ℕ) (stop : Option Stop) (found : Option (ℕ × Cause)) → first_stop means widths tape ≡ stop
-    → misfit_among widths (lines_before means widths tape (stop_place (length tape) stop)) ≡ found
-    → (set : Result (List Slug) SetFault) × Sets means widths tape set
-tape_sets means widths tape stop (Some found) read first =
-    (Err (fault_at means tape found.0 found.1), sets_misfit means widths tape found.0 found.1 stop read first)
-tape_sets means widths tape (Some stop) None read fit =
-    (Err (fault_at means tape stop.at (cause_of stop.flaw)), sets_stop means widths tape stop read fit)
-tape_sets means widths tape None None read fit =
-    let slugs = lines_set widths (lines_before means widths tape (length tape)) fit in
-    (Ok slugs.0, sets_slugs means widths tape slugs.0 read (rw read fit) (rw read slugs.1))
+-- a tape sets, by whether it has a fault
+tape_sets : (means : Meanings) (widths : WidthFile) (tape : List ℕ) (fault : Option SetFault) → first_fault means widths tape ≡ fault → (set : Result (List Slug) SetFault) × Sets means widths tape set
+tape_sets means widths tape (Some fault) first = (Err fault, first)
+tape_sets means widths tape None first =
+    let slugs = lines_set widths (lines_before means widths tape (length tape)) (all_fit means widths tape first) in
+    (Ok slugs.0, (first, slugs.1))
 
 pub has_setting : HasSetting
-has_setting means widths tape =
-    tape_sets means widths tape (first_stop means widths tape) (misfit_among widths (lines_before means widths tape (stop_place (length tape) (first_stop means widths tape)))) refl refl
+has_setting means widths tape = tape_sets means widths tape (first_fault means widths tape) refl

@@ -1,23 +1,22 @@
--- The first fault of a tape that is set: that of its lines before the first position that cannot be read, or that one.
-use Rattle.std.proofs.Common.{◌≡◌, ℕ, zero, suc, ◌+◌, ◌<◌, ◌≤◌, Bool, true, false, cond, List, [], ◌∷◌, ◌++◌, length, map, take, drop, get_or, Option, Some, None, refl, sym, ◌∙◌, ap, arith, inl, inr, ◌⊎◌, add-one}
-use Rattle.std.specs.Prelude.{filter, option_map, Ok}
-use Rattle.std.proofs.lemmas.Bool.{cases_lt, lt-ltb, le-ltb}
+-- The first fault of a tape: that of the first line that does not fit, or of the first frame that cannot be read.
+use Rattle.std.proofs.Common.{◌≡◌, ℕ, zero, suc, ◌+◌, ◌<◌, ◌≤◌, Bool, true, false, cond, List, [], ◌∷◌, ◌++◌, length, map, take, drop, get_or, Option, Some, None, refl, sym, ◌∙◌, ap, arith, inl, inr, add-one, append_assoc}
+use Rattle.std.specs.Prelude.{filter, option_map}
+use Rattle.std.proofs.lemmas.Bool.{cases_lt}
 use Rattle.std.proofs.lemmas.List.{map-append, take_more}
 use Rattle.std.proofs.Math.Seq.{drop-cons}
 use Rattle.std.proofs.lemmas.List.Elements.{filter-append}
 use Rattle.widths.specs.Widths.{WidthFile}
 use Rattle.slug_reader.specs.declared.fault.Flaw.{Flaw}
-use Rattle.slug_reader.specs.declared.fault.Stop.{Stop}
 use Rattle.slug_reader.specs.declared.line.Line.{Line}
 use Rattle.slug_reader.specs.Positions.{before, or_else, first}
 use Rattle.slug_reader.specs.Meanings.{Meanings}
 use Rattle.slug_reader.specs.Lines.{is_cast, line_of, lines_before}
-use Rattle.slug_reader.specs.Faults.{flaw_at, stop_of, stop_at, first_stop, stop_place, lines_read}
+use Rattle.slug_reader.specs.Faults.{flaw_at}
 use Rattle.line_check.specs.declared.slug.Slug.{Slug}
 use Rattle.line_check.specs.declared.fault.Cause.{Cause}
 use Rattle.line_check.specs.declared.fault.SetFault.{SetFault}
 use Rattle.line_check.specs.Slugs.{misfit, AreSlugs, IsSlug}
-use Rattle.line_check.specs.Sets.{cause_of, fault_at, set_fault_at, first_fault, Sets}
+use Rattle.line_check.specs.Sets.{cause_of, fault_at, set_fault_at, first_fault_before, first_fault, end_fault}
 use Rattle.line_check.specs.Spreading.{misfit_among}
 
 or_else_none : {A : Type 0} (x : Option A) → or_else x None ≡ x
@@ -56,25 +55,6 @@ first_stays f i (suc n) x some le =
       | inr less ↦ first_push f (before n) n ∙ ap (λ o. or_else o (f n)) (first_stays f i n x some less)
     ]
 
--- a first answer comes from a position before which there is none
-record FoundAt {B : Type 0} (f : ℕ → Option B) (n : ℕ) (x : B) : Type 0 where
-  at : ℕ
-  within : at < n
-  none : first f (before at) ≡ None
-  some : f at ≡ Some x
-
-either : {A : Type 0} (x y : Option A) (z : A) → or_else x y ≡ Some z → (x ≡ Some z) ⊎ ((x ≡ None) × (y ≡ Some z))
-either None y z e = inr (refl, e)
-either (Some x) y z e = inl e
-
-found_at : {B : Type 0} (f : ℕ → Option B) (n : ℕ) (x : B) → first f (before n) ≡ Some x → FoundAt f n x
-found_at f zero x e = absurd cc
-found_at f (suc n) x e =
-    elim (either (first f (before n)) (f n) x (sym (first_push f (before n) n) ∙ e)) [
-      | inl earlier ↦ let h = found_at f n x earlier in record { at = h.at; within = omega (arith, h.within); none = h.none; some = h.some }
-      | inr here ↦ record { at = n; within = omega arith; none = here.0; some = here.1 }
-    ]
-
 abbrev pub found_fault : Meanings → List ℕ → ℕ × Cause → SetFault
 found_fault means tape m = fault_at means tape m.0 m.1
 
@@ -82,7 +62,7 @@ found_fault means tape m = fault_at means tape m.0 m.1
 abbrev pub misfit_fault : Meanings → List ℕ → Option (ℕ × Cause) → Option SetFault
 misfit_fault means tape found = option_map (found_fault means tape) found
 
-misfit_append : (widths : WidthFile) (xs ys : List Line) → misfit_among widths (xs ++ ys) ≡ or_else (misfit_among widths xs) (misfit_among widths ys)
+pub misfit_append : (widths : WidthFile) (xs ys : List Line) → misfit_among widths (xs ++ ys) ≡ or_else (misfit_among widths xs) (misfit_among widths ys)
 misfit_append widths [] ys = refl
 misfit_append widths (x ∷ xs) ys =
     ap (or_else (option_map (λ cause. (x.elevate_at, cause)) (misfit widths x))) (misfit_append widths xs ys)
@@ -115,93 +95,83 @@ one_misfit : (means : Meanings) (widths : WidthFile) (tape : List ℕ) (i : ℕ)
 one_misfit means widths tape i true = two_maps means tape i (misfit widths (line_of means widths tape i))
 one_misfit means widths tape i false = refl
 
-fault_read : (means : Meanings) (widths : WidthFile) (tape : List ℕ) (i : ℕ) → i < length tape → flaw_at means widths tape i ≡ None
+-- before the first answer there is none
+pub none_before : {B : Type 0} (f : ℕ → Option B) (i : ℕ) → first f (before i) ≡ None → (j : ℕ) → j < i → f j ≡ None
+none_before f zero none j lt = absurd (omega (arith, lt))
+none_before f (suc i) none j lt =
+    let both = neither (first f (before i)) (f i) (sym (first_push f (before i) i) ∙ none) in
+    elim (cases_lt j i) [
+      | inl less ↦ none_before f i both.0 j less
+      | inr more ↦ let same : j ≡ i = omega arith in rw same both.1
+    ]
+
+-- each frame before a position can be read
+abbrev pub AreRead : Meanings → WidthFile → List ℕ → ℕ → Type 0
+AreRead means widths tape i = (j : ℕ) → j < i → flaw_at means widths tape j ≡ None
+
+fault_read : (means : Meanings) (widths : WidthFile) (tape : List ℕ) (i : ℕ) → flaw_at means widths tape i ≡ None
     → set_fault_at means widths tape i ≡ misfit_fault means tape (misfit_among widths (map (line_of means widths tape) (filter (is_cast means widths tape) (i ∷ []))))
 unfolding set_fault_at
-fault_read means widths tape i lt none =
-    rw (none, lt-ltb i (length tape) lt) (one_misfit means widths tape i (is_cast means widths tape i))
+fault_read means widths tape i none =
+    rw none (one_misfit means widths tape i (is_cast means widths tape i))
 
-unflawed : (means : Meanings) (widths : WidthFile) (tape : List ℕ) (i : ℕ) → stop_at means widths tape i ≡ None → flaw_at means widths tape i ≡ None
-unfolding stop_at
-unflawed means widths tape i e = mapped_none (stop_of i) (flaw_at means widths tape i) e
-
--- before the first position that cannot be read only lines are faulty
-pub faults_before : (means : Meanings) (widths : WidthFile) (tape : List ℕ) (i : ℕ) → i ≤ length tape → first (stop_at means widths tape) (before i) ≡ None
+-- before the first frame that cannot be read only lines are faulty
+pub faults_before : (means : Meanings) (widths : WidthFile) (tape : List ℕ) (i : ℕ) → AreRead means widths tape i
     → first (set_fault_at means widths tape) (before i) ≡ misfit_fault means tape (misfit_among widths (lines_before means widths tape i))
 unfolding lines_before
-faults_before means widths tape zero le none = refl
-faults_before means widths tape (suc i) le none =
-    let both = neither (first (stop_at means widths tape) (before i)) (stop_at means widths tape i) (sym (first_push (stop_at means widths tape) (before i) i) ∙ none) in
-    let here = fault_read means widths tape i (omega (arith, le)) (unflawed means widths tape i both.1) in
-    let rest = faults_before means widths tape i (omega (arith, le)) both.0 in
+faults_before means widths tape zero read = refl
+faults_before means widths tape (suc i) read =
+    let here = fault_read means widths tape i (read i (omega arith)) in
+    let rest = faults_before means widths tape i (λ j lt. read j (omega (arith, lt))) in
     let last = map (line_of means widths tape) (filter (is_cast means widths tape) (i ∷ [])) in
     first_push (set_fault_at means widths tape) (before i) i
     ∙ (rw (rest, here) (sym (mapped_else (found_fault means tape) (misfit_among widths (lines_before means widths tape i)) (misfit_among widths last)))
     ∙ ap (misfit_fault means tape) (sym (misfit_append widths (lines_before means widths tape i) last) ∙ ap (misfit_among widths) (sym (lines_more means widths tape i))))
 
-stop_parts : (i : ℕ) (flaw : Option Flaw) (stop : Stop) → option_map (stop_of i) flaw ≡ Some stop → (flaw ≡ Some stop.flaw) × (stop.at ≡ i)
-stop_parts i None stop e = absurd cc
-stop_parts i (Some flaw) stop e =
-    let same : stop_of i flaw ≡ stop = cc in
-    (ap (λ (s : Stop). Some s.flaw) same, sym (ap (λ (s : Stop). s.at) same))
-
-stop_is : (means : Meanings) (widths : WidthFile) (tape : List ℕ) (i : ℕ) (stop : Stop) → stop_at means widths tape i ≡ Some stop
-    → (flaw_at means widths tape i ≡ Some stop.flaw) × (stop.at ≡ i)
-unfolding stop_at
-stop_is means widths tape i stop e = stop_parts i (flaw_at means widths tape i) stop e
-
--- the end of a tape that can be read
-end_fine : (means : Meanings) (widths : WidthFile) (tape : List ℕ) → flaw_at means widths tape (length tape) ≡ None → set_fault_at means widths tape (length tape) ≡ None
-unfolding set_fault_at
-end_fine means widths tape none = rw (none, le-ltb (length tape) (length tape) (omega arith)) refl
-
--- a position that cannot be read
+-- a frame that cannot be read
 flawed : (means : Meanings) (widths : WidthFile) (tape : List ℕ) (i : ℕ) (flaw : Flaw) → flaw_at means widths tape i ≡ Some flaw
     → set_fault_at means widths tape i ≡ Some (fault_at means tape i (cause_of flaw))
 unfolding set_fault_at
 flawed means widths tape i flaw some = rw some refl
 
--- a tape that can be read, and whose lines have slugs
-pub sets_slugs : (means : Meanings) (widths : WidthFile) (tape : List ℕ) (slugs : List Slug) → first_stop means widths tape ≡ None
-    → misfit_among widths (lines_read means widths tape) ≡ None → AreSlugs widths (lines_read means widths tape) slugs → Sets means widths tape (Ok slugs)
-unfolding first_stop first_fault
-sets_slugs means widths tape slugs none fit are =
-    let both = neither (first (stop_at means widths tape) (before (length tape))) (stop_at means widths tape (length tape)) (sym (first_push (stop_at means widths tape) (before (length tape)) (length tape)) ∙ none) in
-    let fits : misfit_among widths (lines_before means widths tape (length tape)) ≡ None = rw none at fit in (
-      first_push (set_fault_at means widths tape) (before (length tape)) (length tape)
-          ∙ rw (faults_before means widths tape (length tape) (omega arith) both.0, fits, end_fine means widths tape (unflawed means widths tape (length tape) both.1)) refl,
-      rw none at are,
-    )
+none_fit : (means : Meanings) (widths : WidthFile) (tape : List ℕ) (i : ℕ) → AreRead means widths tape i → misfit_among widths (lines_before means widths tape i) ≡ None
+    → first (set_fault_at means widths tape) (before i) ≡ None
+none_fit means widths tape i read fit = faults_before means widths tape i read ∙ rw fit refl
 
--- the first line that does not fit, before any position that cannot be read
-pub sets_misfit : (means : Meanings) (widths : WidthFile) (tape : List ℕ) (at : ℕ) (cause : Cause) (stop : Option Stop) → first_stop means widths tape ≡ stop
-    → misfit_among widths (lines_before means widths tape (stop_place (length tape) stop)) ≡ Some (at, cause)
-    → first_fault means widths tape ≡ Some (fault_at means tape at cause)
-unfolding first_stop first_fault
-sets_misfit means widths tape at cause None none misfit =
-    let both = neither (first (stop_at means widths tape) (before (length tape))) (stop_at means widths tape (length tape)) (sym (first_push (stop_at means widths tape) (before (length tape)) (length tape)) ∙ none) in
-    first_stays (set_fault_at means widths tape) (length tape) (suc (length tape)) (fault_at means tape at cause)
-    (faults_before means widths tape (length tape) (omega arith) both.0 ∙ rw misfit refl) (omega arith)
-sets_misfit means widths tape at cause (Some stop) some misfit =
-    let found = found_at (stop_at means widths tape) (suc (length tape)) stop some in
-    let is = stop_is means widths tape found.at stop found.some in
-    let lines : misfit_among widths (lines_before means widths tape found.at) ≡ Some (at, cause) = rw is.1 at misfit in
-    first_stays (set_fault_at means widths tape) found.at (suc (length tape)) (fault_at means tape at cause)
-    (faults_before means widths tape found.at (omega (arith, found.within)) found.none ∙ rw lines refl) (omega (arith, found.within))
+-- the first line that does not fit, before any frame that cannot be read
+pub first_misfit : (means : Meanings) (widths : WidthFile) (tape : List ℕ) (i at : ℕ) (cause : Cause) → i ≤ length tape → AreRead means widths tape i
+    → misfit_among widths (lines_before means widths tape i) ≡ Some (at, cause) → first_fault means widths tape ≡ Some (fault_at means tape at cause)
+unfolding first_fault first_fault_before
+first_misfit means widths tape i at cause le read found =
+    let stays = first_stays (set_fault_at means widths tape) i (length tape) (fault_at means tape at cause) (faults_before means widths tape i read ∙ rw found refl) le in
+    rw stays refl
 
--- the first position that cannot be read, where the lines before it fit
-pub sets_stop : (means : Meanings) (widths : WidthFile) (tape : List ℕ) (stop : Stop) → first_stop means widths tape ≡ Some stop
-    → misfit_among widths (lines_before means widths tape stop.at) ≡ None
-    → first_fault means widths tape ≡ Some (fault_at means tape stop.at (cause_of stop.flaw))
-unfolding first_stop first_fault
-sets_stop means widths tape stop some fit =
-    let found = found_at (stop_at means widths tape) (suc (length tape)) stop some in
-    let is = stop_is means widths tape found.at stop found.some in
-    let lines : misfit_among widths (lines_before means widths tape found.at) ≡ None = rw is.1 at fit in
-    rw is.1
-    (first_at (set_fault_at means widths tape) found.at (suc (length tape)) (fault_at means tape found.at (cause_of stop.flaw))
-    (faults_before means widths tape found.at (omega (arith, found.within)) found.none ∙ rw lines refl)
-    (flawed means widths tape found.at stop.flaw is.0) found.within)
+-- the first frame that cannot be read, where the lines before it fit
+pub first_flaw : (means : Meanings) (widths : WidthFile) (tape : List ℕ) (i : ℕ) (flaw : Flaw) → i < length tape → AreRead means widths tape i
+    → misfit_among widths (lines_before means widths tape i) ≡ None → flaw_at means widths tape i ≡ Some flaw → first_fault means widths tape ≡ Some (fault_at means tape i (cause_of flaw))
+unfolding first_fault first_fault_before
+first_flaw means widths tape i flaw lt read fit some =
+    let here = first_at (set_fault_at means widths tape) i (length tape) (fault_at means tape i (cause_of flaw)) (none_fit means widths tape i read fit) (flawed means widths tape i flaw some) lt in
+    rw here refl
+
+-- the end, where all frames can be read and all lines fit
+pub first_end : (means : Meanings) (widths : WidthFile) (tape : List ℕ) → AreRead means widths tape (length tape)
+    → misfit_among widths (lines_before means widths tape (length tape)) ≡ None → first_fault means widths tape ≡ end_fault means widths tape
+unfolding first_fault first_fault_before
+first_end means widths tape read fit = rw (none_fit means widths tape (length tape) read fit) refl
+
+unfaulty : (means : Meanings) (widths : WidthFile) (tape : List ℕ) (i : ℕ) → set_fault_at means widths tape i ≡ None → flaw_at means widths tape i ≡ None
+unfolding set_fault_at
+unfaulty means widths tape i none =
+    mapped_none cause_of (flaw_at means widths tape i) (neither (option_map cause_of (flaw_at means widths tape i)) _ (mapped_none (fault_at means tape i) _ none)).0
+
+-- a tape without a fault has only lines that fit
+pub all_fit : (means : Meanings) (widths : WidthFile) (tape : List ℕ) → first_fault means widths tape ≡ None → misfit_among widths (lines_before means widths tape (length tape)) ≡ None
+unfolding first_fault first_fault_before
+all_fit means widths tape none =
+    let frames = (neither (first (set_fault_at means widths tape) (before (length tape))) (end_fault means widths tape) none).0 in
+    let read : AreRead means widths tape (length tape) = λ j lt. unfaulty means widths tape j (none_before (set_fault_at means widths tape) (length tape) frames j lt) in
+    mapped_none (found_fault means tape) (misfit_among widths (lines_before means widths tape (length tape))) (sym (faults_before means widths tape (length tape) read) ∙ frames)
 
 are_push : (widths : WidthFile) (lines : List Line) (slugs : List Slug) (line : Line) (slug : Slug) → AreSlugs widths lines slugs → IsSlug widths line slug
     → AreSlugs widths (lines ++ line ∷ []) (slugs ++ slug ∷ [])
@@ -211,10 +181,10 @@ are_push widths (l ∷ ls) [] line slug are is = absurd are
 are_push widths (l ∷ ls) (s ∷ ss) line slug are is = (are.0, are_push widths ls ss line slug are.1 is)
 
 -- one line more has its slug
-pub are_more : (widths : WidthFile) (lines : List Line) (i : ℕ) (slugs : List Slug) (line : Line) (slug : Slug) → i < length lines → line ≡ get_or lines i line
-    → AreSlugs widths (take i lines) slugs → IsSlug widths line slug → AreSlugs widths (take (i + 1) lines) (slugs ++ slug ∷ [])
-are_more widths lines i slugs line slug lt item are is =
-    rw (take_more lines i line lt, ← item) (are_push widths (take i lines) slugs line slug are is)
+pub are_more : (widths : WidthFile) (earlier lines : List Line) (i : ℕ) (slugs : List Slug) (line : Line) (slug : Slug) → i < length lines → line ≡ get_or lines i line
+    → AreSlugs widths (earlier ++ take i lines) slugs → IsSlug widths line slug → AreSlugs widths (earlier ++ take (i + 1) lines) (slugs ++ slug ∷ [])
+are_more widths earlier lines i slugs line slug lt item are is =
+    rw (take_more lines i line lt, ← item, ← append_assoc earlier (take i lines) (line ∷ [])) (are_push widths (earlier ++ take i lines) slugs line slug are is)
 
 -- a line that fits is passed over
 pub misfit_rest : (widths : WidthFile) (lines : List Line) (i : ℕ) (line : Line) → i < length lines → line ≡ get_or lines i line

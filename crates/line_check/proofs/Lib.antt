@@ -3,3 +3,4 @@ pub mod Uniqueness
 pub mod Written
 pub mod FirstFault
 pub mod Existence
+pub mod ByPieces

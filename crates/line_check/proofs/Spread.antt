@@ -10,8 +10,8 @@ use Rattle.slug_reader.specs.declared.item.Item.TheVariants as items
 use Rattle.widths.specs.Widths.{WidthFile}
 use Rattle.slug_reader.specs.declared.line.Quad.{Quad}
 use Rattle.line_check.specs.declared.slug.Kind.TheVariants as kinds
-use Rattle.line_check.specs.Slugs.{is_band, fixed_of, bands_of, item_of_piece, band_widths, IsEven, kind_of, StandsAt, Justifies, Quads, least_width, greatest_width}
-use Rattle.line_check.specs.Spreading.{pieces_of}
+use Rattle.line_check.specs.Slugs.{is_band, fixed_of, bands_of, item_of_sort, band_widths, IsEven, kind_of, StandsAt, Justifies, Quads, least_width, greatest_width}
+use Rattle.line_check.specs.Spreading.{sorts_of}
 
 -- the widths of so many bands, the first ones a unit more
 abbrev pub spread : ℕ → ℕ → ℕ → List ℕ
@@ -19,7 +19,7 @@ spread width wider zero = []
 spread width wider (suc k) = (width + min wider 1) ∷ spread width (wider - min wider 1) k
 
 -- each item is kept
-pub items_kept : (width wider : ℕ) (items : List Item) → map item_of_piece (pieces_of width wider items) ≡ items
+pub items_kept : (width wider : ℕ) (items : List Item) → map item_of_sort (sorts_of width wider items) ≡ items
 items_kept width wider [] = refl
 items_kept width wider (items.Matrix name rail w ∷ rest) = ap (λ xs. items.Matrix name rail w ∷ xs) (items_kept width wider rest)
 items_kept width wider (items.Band ∷ rest) = ap (λ xs. items.Band ∷ xs) (items_kept width (wider - min wider 1) rest)
@@ -29,7 +29,7 @@ pub bands_cons : (item : Item) (rest : List Item) → bands_of (item ∷ rest) �
 bands_cons item rest = sum_by-cons (λ x. cond (is_band x) 1 0) item rest
 
 -- the bands are spread
-pub bands_spread : (width wider : ℕ) (items : List Item) → band_widths (pieces_of width wider items) ≡ spread width wider (bands_of items)
+pub bands_spread : (width wider : ℕ) (items : List Item) → band_widths (sorts_of width wider items) ≡ spread width wider (bands_of items)
 bands_spread width wider [] = refl
 bands_spread width wider (items.Matrix name rail w ∷ rest) =
     let none : bands_of (items.Matrix name rail w ∷ rest) ≡ bands_of rest = omega (arith, bands_cons (items.Matrix name rail w) rest) in
@@ -105,7 +105,7 @@ shared_range low high width wider (suc k) rest le ge e less =
 -- what is left is shared out, and the line is justified
 pub justifies : (widths : WidthFile) (line : List Item) (width wider rest : ℕ) → least_width widths line ≤ widths.measure → widths.measure ≤ greatest_width widths line
     → rest ≡ widths.measure - fixed_of line → bands_of line * width + wider ≡ rest → (0 < bands_of line → wider < bands_of line)
-    → Justifies widths (fixed_of line) (record { items = pieces_of width wider line; kind = kinds.J; left = 0; right = 0 })
+    → Justifies widths (fixed_of line) (record { items = sorts_of width wider line; kind = kinds.J; left = 0; right = 0 })
 justifies widths line width wider rest least greatest is whole less =
     let high : rest ≤ bands_of line * widths.band_max = omega (arith, greatest, is) in
     let low : bands_of line * widths.band_min ≤ rest = omega (arith, least, is) in
@@ -122,7 +122,7 @@ justifies widths line width wider rest least greatest is whole less =
 
 -- with a quad each band has its least width
 pub quads_line : (widths : WidthFile) (line : List Item) (quad : Quad) (left right : ℕ) → left + right + least_width widths line ≡ widths.measure → StandsAt quad left right
-    → Quads widths (fixed_of line) quad (record { items = pieces_of widths.band_min 0 line; kind = kind_of quad; left = left; right = right })
+    → Quads widths (fixed_of line) quad (record { items = sorts_of widths.band_min 0 line; kind = kind_of quad; left = left; right = right })
 quads_line widths line quad left right whole stands =
     let bands = bands_spread widths.band_min 0 line in
     record {

@@ -12,12 +12,12 @@ use Rattle.slug_reader.specs.declared.line.Line.{Line}
 use Rattle.slug_reader.specs.declared.line.Quad.{Quad}
 use Rattle.slug_reader.specs.declared.line.Quad.TheVariants as quads
 use Rattle.slug_reader.specs.Lines.{lines_before}
-use Rattle.line_check.specs.declared.piece.Piece.{Piece}
-use Rattle.line_check.specs.declared.piece.Piece.TheVariants as pieces
+use Rattle.line_check.specs.declared.sort.Sort.{Sort}
+use Rattle.line_check.specs.declared.sort.Sort.TheVariants as sorts
 use Rattle.line_check.specs.declared.slug.Slug.{Slug}
 use Rattle.line_check.specs.declared.slug.Kind.{Kind}
 use Rattle.line_check.specs.declared.fault.Cause.{Cause}
-use Rattle.line_check.specs.Slugs.{fixed_width, fixed_of, bands_of, item_of_piece, piece_width, band_widths, IsEven, StandsAt, Fills, AreSlugs, least_width, greatest_width, looseness}
+use Rattle.line_check.specs.Slugs.{fixed_width, fixed_of, bands_of, item_of_sort, sort_width, band_widths, IsEven, StandsAt, Fills, AreSlugs, least_width, greatest_width, looseness}
 use Rattle.line_check.specs.Laws.{OneSlug, AddsUp, HasNoSlug, OneSetting}
 use Rattle.line_check.proofs.Spread.{sum_cons, bands_cons}
 
@@ -61,42 +61,42 @@ all_same w (x ∷ ws) (v ∷ vs) p q n =
     let same : x ≡ v = p.0 ∙ sym q.0 in
     cc
 
--- pieces of the same items with the same widths of bands
-pieces_same : (ps qs : List Piece) → map item_of_piece ps ≡ map item_of_piece qs → band_widths ps ≡ band_widths qs → ps ≡ qs
-pieces_same [] [] e f = refl
-pieces_same [] (b ∷ qs) e f = absurd cc
-pieces_same (a ∷ ps) [] e f = absurd cc
-pieces_same (pieces.Matrix n r w ∷ ps) (pieces.Matrix m s v ∷ qs) e f =
-    let tail : map item_of_piece ps ≡ map item_of_piece qs = cc in
-    let rest : ps ≡ qs = pieces_same ps qs tail f in
+-- sorts of the same items with the same widths of bands
+sorts_same : (ps qs : List Sort) → map item_of_sort ps ≡ map item_of_sort qs → band_widths ps ≡ band_widths qs → ps ≡ qs
+sorts_same [] [] e f = refl
+sorts_same [] (b ∷ qs) e f = absurd cc
+sorts_same (a ∷ ps) [] e f = absurd cc
+sorts_same (sorts.Matrix n r w ∷ ps) (sorts.Matrix m s v ∷ qs) e f =
+    let tail : map item_of_sort ps ≡ map item_of_sort qs = cc in
+    let rest : ps ≡ qs = sorts_same ps qs tail f in
     cc
-pieces_same (pieces.Matrix n r w ∷ ps) (pieces.Band v ∷ qs) e f = absurd cc
-pieces_same (pieces.Matrix n r w ∷ ps) (pieces.Space v ∷ qs) e f = absurd cc
-pieces_same (pieces.Band w ∷ ps) (pieces.Matrix m s v ∷ qs) e f = absurd cc
-pieces_same (pieces.Band w ∷ ps) (pieces.Band v ∷ qs) e f =
-    let tail : map item_of_piece ps ≡ map item_of_piece qs = cc in
+sorts_same (sorts.Matrix n r w ∷ ps) (sorts.Band v ∷ qs) e f = absurd cc
+sorts_same (sorts.Matrix n r w ∷ ps) (sorts.Space v ∷ qs) e f = absurd cc
+sorts_same (sorts.Band w ∷ ps) (sorts.Matrix m s v ∷ qs) e f = absurd cc
+sorts_same (sorts.Band w ∷ ps) (sorts.Band v ∷ qs) e f =
+    let tail : map item_of_sort ps ≡ map item_of_sort qs = cc in
     let bands : band_widths ps ≡ band_widths qs = cc in
-    let rest : ps ≡ qs = pieces_same ps qs tail bands in
+    let rest : ps ≡ qs = sorts_same ps qs tail bands in
     cc
-pieces_same (pieces.Band w ∷ ps) (pieces.Space v ∷ qs) e f = absurd cc
-pieces_same (pieces.Space w ∷ ps) (pieces.Matrix m s v ∷ qs) e f = absurd cc
-pieces_same (pieces.Space w ∷ ps) (pieces.Band v ∷ qs) e f = absurd cc
-pieces_same (pieces.Space w ∷ ps) (pieces.Space v ∷ qs) e f =
-    let tail : map item_of_piece ps ≡ map item_of_piece qs = cc in
-    let rest : ps ≡ qs = pieces_same ps qs tail f in
+sorts_same (sorts.Band w ∷ ps) (sorts.Space v ∷ qs) e f = absurd cc
+sorts_same (sorts.Space w ∷ ps) (sorts.Matrix m s v ∷ qs) e f = absurd cc
+sorts_same (sorts.Space w ∷ ps) (sorts.Band v ∷ qs) e f = absurd cc
+sorts_same (sorts.Space w ∷ ps) (sorts.Space v ∷ qs) e f =
+    let tail : map item_of_sort ps ≡ map item_of_sort qs = cc in
+    let rest : ps ≡ qs = sorts_same ps qs tail f in
     cc
 
 -- ps many widths ps bands
-length-bands : (ps : List Piece) → length (band_widths ps) ≡ bands_of (map item_of_piece ps)
+length-bands : (ps : List Sort) → length (band_widths ps) ≡ bands_of (map item_of_sort ps)
 length-bands [] = refl
-length-bands (pieces.Matrix n r w ∷ ps) = omega (arith, bands_cons (items.Matrix n r w) (map item_of_piece ps), length-bands ps)
-length-bands (pieces.Band w ∷ ps) = omega (arith, bands_cons items.Band (map item_of_piece ps), length-bands ps)
-length-bands (pieces.Space w ∷ ps) = omega (arith, bands_cons (items.Space w) (map item_of_piece ps), length-bands ps)
+length-bands (sorts.Matrix n r w ∷ ps) = omega (arith, bands_cons (items.Matrix n r w) (map item_of_sort ps), length-bands ps)
+length-bands (sorts.Band w ∷ ps) = omega (arith, bands_cons items.Band (map item_of_sort ps), length-bands ps)
+length-bands (sorts.Space w ∷ ps) = omega (arith, bands_cons (items.Space w) (map item_of_sort ps), length-bands ps)
 
-bands_count : (line : List Item) (ps : List Piece) → map item_of_piece ps ≡ line → length (band_widths ps) ≡ bands_of line
+bands_count : (line : List Item) (ps : List Sort) → map item_of_sort ps ≡ line → length (band_widths ps) ≡ bands_of line
 bands_count line ps e = length-bands ps ∙ ap bands_of e
 
-abbrev made : List Piece → Kind → ℕ → ℕ → Slug
+abbrev made : List Sort → Kind → ℕ → ℕ → Slug
 made items kind left right = record { items = items; kind = kind; left = left; right = right }
 
 slug_same : (a b : Slug) → a.items ≡ b.items → a.kind ≡ b.kind → a.left ≡ b.left → a.right ≡ b.right → a ≡ b
@@ -109,20 +109,20 @@ sides_same quads.Left l r m s p q e = (omega (arith, p, q), omega (arith, p, q, 
 sides_same quads.Center l r m s p q e = (omega (arith, p.0, p.1, q.0, q.1, e), omega (arith, p.0, p.1, q.0, q.1, e))
 sides_same quads.Right l r m s p q e = (omega (arith, p, q, e), omega (arith, p, q))
 
-filled_same : (widths : WidthFile) (line : List Item) (quad : Option Quad) (a b : Slug) → map item_of_piece a.items ≡ line → map item_of_piece b.items ≡ line
+filled_same : (widths : WidthFile) (line : List Item) (quad : Option Quad) (a b : Slug) → map item_of_sort a.items ≡ line → map item_of_sort b.items ≡ line
     → Fills widths (fixed_of line) quad a → Fills widths (fixed_of line) quad b → a ≡ b
 filled_same widths line None a b p q f g =
     let long : length (band_widths a.items) ≡ length (band_widths b.items) = bands_count line a.items p ∙ sym (bands_count line b.items q) in
     let sums : sum (band_widths a.items) ≡ sum (band_widths b.items) = omega (arith, f.full, g.full) in
     slug_same a b
-    (pieces_same a.items b.items (p ∙ sym q) (even_same (band_widths a.items) (band_widths b.items) f.even g.even long sums))
+    (sorts_same a.items b.items (p ∙ sym q) (even_same (band_widths a.items) (band_widths b.items) f.even g.even long sums))
     (f.kind ∙ sym g.kind) (f.left ∙ sym g.left) (f.right ∙ sym g.right)
 filled_same widths line (Some quad) a b p q f g =
     let long : length (band_widths a.items) ≡ length (band_widths b.items) = bands_count line a.items p ∙ sym (bands_count line b.items q) in
     let bands : band_widths a.items ≡ band_widths b.items = all_same widths.band_min (band_widths a.items) (band_widths b.items) f.bands g.bands long in
     let sums : sum (band_widths a.items) ≡ sum (band_widths b.items) = ap sum bands in
     let sides = sides_same quad a.left a.right b.left b.right f.sides g.sides (omega (arith, f.full, g.full, sums)) in
-    slug_same a b (pieces_same a.items b.items (p ∙ sym q) bands) (f.kind ∙ sym g.kind) sides.0 sides.1
+    slug_same a b (sorts_same a.items b.items (p ∙ sym q) bands) (f.kind ∙ sym g.kind) sides.0 sides.1
 
 pub one_slug : OneSlug
 one_slug widths line a b p q = filled_same widths line.items line.quad a b p.items q.items p.fills q.fills
@@ -130,15 +130,15 @@ one_slug widths line a b p q = filled_same widths line.items line.quad a b p.ite
 fixed_cons : (item : Item) (rest : List Item) → fixed_of (item ∷ rest) ≡ fixed_width item + fixed_of rest
 fixed_cons item rest = sum_by-cons fixed_width item rest
 
--- the widths of the pieces are the fixed ones and those of the bands
-pieces_sum : (ps : List Piece) → sum_by piece_width ps ≡ fixed_of (map item_of_piece ps) + sum (band_widths ps)
-pieces_sum [] = refl
-pieces_sum (pieces.Matrix n r w ∷ ps) =
-    omega (arith, sum_by-cons piece_width (pieces.Matrix n r w) ps, fixed_cons (items.Matrix n r w) (map item_of_piece ps), pieces_sum ps)
-pieces_sum (pieces.Band w ∷ ps) =
-    omega (arith, sum_by-cons piece_width (pieces.Band w) ps, fixed_cons items.Band (map item_of_piece ps), sum_cons w (band_widths ps), pieces_sum ps)
-pieces_sum (pieces.Space w ∷ ps) =
-    omega (arith, sum_by-cons piece_width (pieces.Space w) ps, fixed_cons (items.Space w) (map item_of_piece ps), pieces_sum ps)
+-- the widths of the sorts are the fixed ones and those of the bands
+sorts_sum : (ps : List Sort) → sum_by sort_width ps ≡ fixed_of (map item_of_sort ps) + sum (band_widths ps)
+sorts_sum [] = refl
+sorts_sum (sorts.Matrix n r w ∷ ps) =
+    omega (arith, sum_by-cons sort_width (sorts.Matrix n r w) ps, fixed_cons (items.Matrix n r w) (map item_of_sort ps), sorts_sum ps)
+sorts_sum (sorts.Band w ∷ ps) =
+    omega (arith, sum_by-cons sort_width (sorts.Band w) ps, fixed_cons items.Band (map item_of_sort ps), sum_cons w (band_widths ps), sorts_sum ps)
+sorts_sum (sorts.Space w ∷ ps) =
+    omega (arith, sum_by-cons sort_width (sorts.Space w) ps, fixed_cons (items.Space w) (map item_of_sort ps), sorts_sum ps)
 
 filled_sum : (widths : WidthFile) (fixed : ℕ) (quad : Option Quad) (slug : Slug) → Fills widths fixed quad slug
     → slug.left + (fixed + sum (band_widths slug.items)) + slug.right ≡ widths.measure
@@ -147,7 +147,7 @@ filled_sum widths fixed (Some quad) slug f = omega (arith, f.full)
 
 pub adds_up : AddsUp
 adds_up widths line slug p =
-    let sums : sum_by piece_width slug.items ≡ fixed_of line.items + sum (band_widths slug.items) = pieces_sum slug.items ∙ ap (λ (xs : List Item). fixed_of xs + sum (band_widths slug.items)) p.items in
+    let sums : sum_by sort_width slug.items ≡ fixed_of line.items + sum (band_widths slug.items) = sorts_sum slug.items ∙ ap (λ (xs : List Item). fixed_of xs + sum (band_widths slug.items)) p.items in
     rw sums (filled_sum widths (fixed_of line.items) line.quad slug p.fills)
 
 low_sum : (low high : ℕ) (ws : List ℕ) → AllByRecursion (λ w. (low ≤ w) × (w ≤ high)) ws → length ws * low ≤ sum ws
@@ -167,7 +167,7 @@ chosen true x y z e = inl refl
 chosen false x y z e = inr (refl, e)
 
 -- a line that is filled is not overset
-filled_least : (widths : WidthFile) (line : List Item) (quad : Option Quad) (slug : Slug) → map item_of_piece slug.items ≡ line → Fills widths (fixed_of line) quad slug
+filled_least : (widths : WidthFile) (line : List Item) (quad : Option Quad) (slug : Slug) → map item_of_sort slug.items ≡ line → Fills widths (fixed_of line) quad slug
     → least_width widths line ≤ widths.measure
 filled_least widths line None slug p f =
     let low = rw (bands_count line slug.items p) at (low_sum widths.band_min widths.band_max (band_widths slug.items) f.range) in
@@ -177,7 +177,7 @@ filled_least widths line (Some quad) slug p f =
     omega (arith, low, f.full)
 
 -- a line that is filled is not loose
-not_loose : (widths : WidthFile) (line : List Item) (quad : Option Quad) (cause : Cause) (slug : Slug) → map item_of_piece slug.items ≡ line → Fills widths (fixed_of line) quad slug
+not_loose : (widths : WidthFile) (line : List Item) (quad : Option Quad) (cause : Cause) (slug : Slug) → map item_of_sort slug.items ≡ line → Fills widths (fixed_of line) quad slug
     → looseness widths line quad ≡ Some cause → ⊥
 not_loose widths line None cause slug p f e =
     let high = rw (bands_count line slug.items p) at (high_sum widths.band_min widths.band_max (band_widths slug.items) f.range) in

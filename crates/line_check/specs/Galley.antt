@@ -1,8 +1,8 @@
 -- The text of a galley.
 use Rattle.std.specs.Prelude.{ℕ, ◌+◌, ◌-◌, List, [], ◌∷◌, ◌++◌, length, replicate, decimal, flat_map}
 use Rattle.slug_reader.specs.declared.item.Rail.TheVariants as rails
-use Rattle.line_check.specs.declared.piece.Piece.{Piece}
-use Rattle.line_check.specs.declared.piece.Piece.TheVariants as pieces
+use Rattle.line_check.specs.declared.sort.Sort.{Sort}
+use Rattle.line_check.specs.declared.sort.Sort.TheVariants as sorts
 use Rattle.line_check.specs.declared.slug.Kind.{Kind}
 use Rattle.line_check.specs.declared.slug.Kind.TheVariants as kinds
 use Rattle.line_check.specs.declared.slug.Slug.{Slug}
@@ -18,12 +18,12 @@ kind_text kinds.L = 76
 kind_text kinds.C = 67
 kind_text kinds.R = 82
 
--- a blank, and the piece: a matrix is its name, behind `^` on the upper rail; a band is `_` and a fixed space `~` with its width
-abbrev pub piece_text : Piece → List ℕ
-piece_text (pieces.Matrix name rails.Lower width) = 32 ∷ name
-piece_text (pieces.Matrix name rails.Upper width) = 32 ∷ 94 ∷ name
-piece_text (pieces.Band width) = 32 ∷ 95 ∷ decimal width
-piece_text (pieces.Space width) = 32 ∷ 126 ∷ decimal width
+-- a blank, and the sort: a matrix is its name, behind `^` on the upper rail; a band is `_` and a fixed space `~` with its width
+abbrev pub sort_text : Sort → List ℕ
+sort_text (sorts.Matrix name rails.Lower width) = 32 ∷ name
+sort_text (sorts.Matrix name rails.Upper width) = 32 ∷ 94 ∷ name
+sort_text (sorts.Band width) = 32 ∷ 95 ∷ decimal width
+sort_text (sorts.Space width) = 32 ∷ 126 ∷ decimal width
 
 -- the number of a slug, its kind, left and right, with single blanks between
 abbrev pub head_text : ℕ → Slug → List ℕ
@@ -31,7 +31,7 @@ head_text n slug = number_text n ++ 32 ∷ kind_text slug.kind ∷ 32 ∷ decima
 
 -- the line of a slug
 abbrev pub slug_text : ℕ → Slug → List ℕ
-slug_text n slug = head_text n slug ++ flat_map piece_text slug.items ++ 10 ∷ []
+slug_text n slug = head_text n slug ++ flat_map sort_text slug.items ++ 10 ∷ []
 
 -- the lines of slugs, numbered from n on
 abbrev pub galley_from : ℕ → List Slug → List ℕ

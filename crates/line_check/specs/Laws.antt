@@ -6,7 +6,7 @@ use Rattle.slug_reader.specs.Meanings.{Meanings}
 use Rattle.line_check.specs.declared.slug.Slug.{Slug}
 use Rattle.line_check.specs.declared.fault.Cause.{Cause}
 use Rattle.line_check.specs.declared.fault.SetFault.{SetFault}
-use Rattle.line_check.specs.Slugs.{IsSlug, piece_width, misfit}
+use Rattle.line_check.specs.Slugs.{IsSlug, sort_width, misfit}
 use Rattle.line_check.specs.Sets.{Sets}
 
 -- at most one slug meets the equations of a line
@@ -15,7 +15,7 @@ OneSlug = (widths : WidthFile) (line : Line) (a b : Slug) → IsSlug widths line
 
 -- left, items and right add up to the measure
 abbrev pub AddsUp : Type 0
-AddsUp = (widths : WidthFile) (line : Line) (slug : Slug) → IsSlug widths line slug → slug.left + sum_by piece_width slug.items + slug.right ≡ widths.measure
+AddsUp = (widths : WidthFile) (line : Line) (slug : Slug) → IsSlug widths line slug → slug.left + sum_by sort_width slug.items + slug.right ≡ widths.measure
 
 -- no slug meets the equations of a line that does not fit
 abbrev pub HasNoSlug : Type 0

@@ -7,8 +7,8 @@ use Rattle.slug_reader.specs.declared.item.Item.TheVariants as items
 use Rattle.slug_reader.specs.declared.line.Line.{Line}
 use Rattle.slug_reader.specs.declared.line.Quad.{Quad}
 use Rattle.slug_reader.specs.declared.line.Quad.TheVariants as quads
-use Rattle.line_check.specs.declared.piece.Piece.{Piece}
-use Rattle.line_check.specs.declared.piece.Piece.TheVariants as pieces
+use Rattle.line_check.specs.declared.sort.Sort.{Sort}
+use Rattle.line_check.specs.declared.sort.Sort.TheVariants as sorts
 use Rattle.line_check.specs.declared.slug.Kind.{Kind}
 use Rattle.line_check.specs.declared.slug.Kind.TheVariants as kinds
 use Rattle.line_check.specs.declared.slug.Slug.{Slug}
@@ -35,26 +35,26 @@ fixed_of line = sum_by fixed_width line
 abbrev pub bands_of : List Item → ℕ
 bands_of line = count_by is_band line
 
--- the item that a piece of a slug was cast from
-abbrev pub item_of_piece : Piece → Item
-item_of_piece (pieces.Matrix name rail width) = items.Matrix name rail width
-item_of_piece (pieces.Band width) = items.Band
-item_of_piece (pieces.Space width) = items.Space width
+-- the item that a sort of a slug was cast from
+abbrev pub item_of_sort : Sort → Item
+item_of_sort (sorts.Matrix name rail width) = items.Matrix name rail width
+item_of_sort (sorts.Band width) = items.Band
+item_of_sort (sorts.Space width) = items.Space width
 
--- the width of a piece
-abbrev pub piece_width : Piece → ℕ
-piece_width (pieces.Matrix name rail width) = width
-piece_width (pieces.Band width) = width
-piece_width (pieces.Space width) = width
+-- the width of a sort
+abbrev pub sort_width : Sort → ℕ
+sort_width (sorts.Matrix name rail width) = width
+sort_width (sorts.Band width) = width
+sort_width (sorts.Space width) = width
 
--- the width of a band; the other pieces are none
-abbrev pub band_width : Piece → Option ℕ
-band_width (pieces.Matrix name rail width) = None
-band_width (pieces.Band width) = Some width
-band_width (pieces.Space width) = None
+-- the width of a band; the other sorts are none
+abbrev pub band_width : Sort → Option ℕ
+band_width (sorts.Matrix name rail width) = None
+band_width (sorts.Band width) = Some width
+band_width (sorts.Space width) = None
 
 -- the widths of the bands of a slug, in order
-abbrev pub band_widths : List Piece → List ℕ
+abbrev pub band_widths : List Sort → List ℕ
 band_widths slug = filter_map band_width slug
 
 -- no width is below a later one, or more than one unit above it
@@ -97,7 +97,7 @@ Fills widths fixed (Some quad) slug = Quads widths fixed quad slug
 
 -- the slug has the items of the line in order, and fills the measure
 pub record IsSlug (widths : WidthFile) (line : Line) (slug : Slug) : Type 0 where
-  pub items : map item_of_piece slug.items ≡ line.items
+  pub items : map item_of_sort slug.items ≡ line.items
   pub fills : Fills widths (fixed_of line.items) line.quad slug
 
 -- a line with its bands at their least width

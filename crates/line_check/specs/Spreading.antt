@@ -5,22 +5,20 @@ use Rattle.slug_reader.specs.declared.item.Item.TheVariants as items
 use Rattle.slug_reader.specs.declared.line.Line.{Line}
 use Rattle.slug_reader.specs.Positions.{or_else}
 use Rattle.widths.specs.Widths.{WidthFile}
-use Rattle.line_check.specs.declared.piece.Piece.{Piece}
-use Rattle.line_check.specs.declared.piece.Piece.TheVariants as pieces
+use Rattle.line_check.specs.declared.sort.Sort.{Sort}
+use Rattle.line_check.specs.declared.sort.Sort.TheVariants as sorts
 use Rattle.line_check.specs.declared.fault.Cause.{Cause}
 use Rattle.line_check.specs.declared.fault.Cause.TheVariants as causes
 use Rattle.line_check.specs.declared.fault.LineFault.{LineFault}
 use Rattle.line_check.specs.declared.fault.LineFault.TheVariants as faults
-use Rattle.line_check.specs.declared.setting.Unset.{Unset}
-use Rattle.line_check.specs.declared.setting.Unset.TheVariants as unset
 use Rattle.line_check.specs.Slugs.{misfit}
 
--- the pieces of a line whose bands have this width, the first so many of them a unit more
-abbrev pub pieces_of : ℕ → ℕ → List Item → List Piece
-pieces_of width wider [] = []
-pieces_of width wider (items.Matrix name rail w ∷ rest) = pieces.Matrix name rail w ∷ pieces_of width wider rest
-pieces_of width wider (items.Band ∷ rest) = pieces.Band (width + min wider 1) ∷ pieces_of width (wider - min wider 1) rest
-pieces_of width wider (items.Space w ∷ rest) = pieces.Space w ∷ pieces_of width wider rest
+-- the sorts of a line whose bands have this width, the first so many of them a unit more
+abbrev pub sorts_of : ℕ → ℕ → List Item → List Sort
+sorts_of width wider [] = []
+sorts_of width wider (items.Matrix name rail w ∷ rest) = sorts.Matrix name rail w ∷ sorts_of width wider rest
+sorts_of width wider (items.Band ∷ rest) = sorts.Band (width + min wider 1) ∷ sorts_of width (wider - min wider 1) rest
+sorts_of width wider (items.Space w ∷ rest) = sorts.Space w ∷ sorts_of width wider rest
 
 -- a line fault says why the line does not fit; memory is wanted only where it does
 abbrev pub IsMisfit : Option Cause → LineFault → Type 0
@@ -32,8 +30,3 @@ IsMisfit cause faults.OutOfMemory = cause ≡ None
 abbrev pub misfit_among : WidthFile → List Line → Option (ℕ × Cause)
 misfit_among widths [] = None
 misfit_among widths (line ∷ lines) = or_else (option_map (λ cause. (line.elevate_at, cause)) (misfit widths line)) (misfit_among widths lines)
-
--- what was answered is that line, or memory ran out
-abbrev pub IsFirstMisfit : Option (ℕ × Cause) → Unset → Type 0
-IsFirstMisfit found (unset.Misfit at cause) = found ≡ Some (at, cause)
-IsFirstMisfit found unset.OutOfMemory = Unit {0}

@@ -2,11 +2,11 @@
 
 ghost use Rattle.std.specs.Prelude.{◌≡◌, ◌∷◌, [], replicate, ◌-◌, OnOk, OnErr, flat_map};
 ghost use Rattle.std.specs.Io.KnownBytes.{Appends};
-ghost use Rattle.line_check.specs.Galley.{number_text, kind_text, piece_text, head_text, slug_text, galley_from, galley_of};
+ghost use Rattle.line_check.specs.Galley.{number_text, kind_text, sort_text, head_text, slug_text, galley_from, galley_of};
 ghost use Rattle.streams.specs.Fronts.{AppendsFront};
 
-use crate::piece::Piece;
 use crate::slug::{Kind, Slug};
+use crate::sort::Sort;
 use crate::writing::put_parts;
 use itoa::Buffer;
 use slug_reader::Rail;
@@ -38,32 +38,32 @@ fn zeros(digits: usize) -> &'static [u8]
     }
 }
 
-/// Writes a blank and a piece.
-fn put_piece<W: Write>(out: &mut W, piece: &Piece) -> Result<(), WriteFault>
-    ensures ok { OnOk result (Appends (W.contents out.old) (W.contents out.new) (piece_text piece.now)) }
-    ensures err { OnErr result (AppendsFront (W.contents out.old) (W.contents out.new) (piece_text piece.now)) }
+/// Writes a blank and a sort.
+fn put_sort<W: Write>(out: &mut W, sort: &Sort) -> Result<(), WriteFault>
+    ensures ok { OnOk result (Appends (W.contents out.old) (W.contents out.new) (sort_text sort.now)) }
+    ensures err { OnErr result (AppendsFront (W.contents out.old) (W.contents out.new) (sort_text sort.now)) }
 {
     let mut digits = Buffer::new();
-    match piece {
-        Piece::Matrix { name, rail, .. } => {
+    match sort {
+        Sort::Matrix { name, rail, .. } => {
             let mark: &[u8] = match rail {
                 Rail::Lower => b" ",
                 Rail::Upper => b" ^",
             };
             put_parts(out, &[mark, name.as_bytes()])
         }
-        Piece::Band { width } => put_parts(out, &[b" _", digits.format(*width).as_bytes()]),
-        Piece::Space { width } => put_parts(out, &[b" ~", digits.format(*width).as_bytes()]),
+        Sort::Band { width } => put_parts(out, &[b" _", digits.format(*width).as_bytes()]),
+        Sort::Space { width } => put_parts(out, &[b" ~", digits.format(*width).as_bytes()]),
     }
 }
 
-/// Writes pieces, each behind a blank.
-fn put_pieces<W: Write>(out: &mut W, pieces: &[Piece]) -> Result<(), WriteFault>
-    ensures ok { OnOk result (Appends (W.contents out.old) (W.contents out.new) (flat_map piece_text pieces.now)) }
-    ensures err { OnErr result (AppendsFront (W.contents out.old) (W.contents out.new) (flat_map piece_text pieces.now)) }
+/// Writes sorts, each behind a blank.
+fn put_sorts<W: Write>(out: &mut W, sorts: &[Sort]) -> Result<(), WriteFault>
+    ensures ok { OnOk result (Appends (W.contents out.old) (W.contents out.new) (flat_map sort_text sorts.now)) }
+    ensures err { OnErr result (AppendsFront (W.contents out.old) (W.contents out.new) (flat_map sort_text sorts.now)) }
 {
-    for piece in pieces {
-        put_piece(out, piece)?;
+    for sort in sorts {
+        put_sort(out, sort)?;
     }
     Ok(())
 }
@@ -98,7 +98,7 @@ fn put_slug<W: Write>(out: &mut W, number: usize, slug: &Slug) -> Result<(), Wri
     ensures err { OnErr result (AppendsFront (W.contents out.old) (W.contents out.new) (slug_text number slug.now)) }
 {
     put_head(out, number, slug)?;
-    put_pieces(out, slug.items.as_slice())?;
+    put_sorts(out, slug.items.as_slice())?;
     put_all(out, b"\n")
 }
 

@@ -1,13 +1,14 @@
 //! Lines made into slugs.
 
 ghost use Rattle.std.specs.Prelude.{◌≡◌, ◌≤◌, ◌<◌, ◌+◌, ◌*◌, ◌-◌, length, Some, None, IfOk, IfErr, map};
+ghost use Rattle.tape_frames.specs.Frames.{most_frames};
 ghost use Rattle.line_check.specs.declared.fault.LineFault.TheVariants.{OutOfMemory};
-ghost use Rattle.line_check.specs.Slugs.{fixed_width, is_band, fixed_of, bands_of, least_width, greatest_width, kind_of, item_of_piece, misfit, looseness, StandsAt, IsSlug, Justifies, Quads};
-ghost use Rattle.line_check.specs.Spreading.{pieces_of, IsMisfit};
+ghost use Rattle.line_check.specs.Slugs.{fixed_width, is_band, fixed_of, bands_of, least_width, greatest_width, kind_of, item_of_sort, misfit, looseness, StandsAt, IsSlug, Justifies, Quads};
+ghost use Rattle.line_check.specs.Spreading.{sorts_of, IsMisfit};
 
 use crate::fault::LineFault;
-use crate::piece::{Piece, Pieces};
 use crate::slug::{Kind, Slug};
+use crate::sort::{Sort, Sorts};
 use slug_reader::{Item, Line, Quad};
 use std::alloc::{AllocError, Global};
 use widths::Widths;
@@ -25,9 +26,9 @@ fn fixed_width(item: &Item) -> u32
 
 /// The width of the matrices and fixed spaces.
 fn fixed_of(items: &[Item]) -> u32
-    requires { length items.now ≤ 4096 }
+    requires { length items.now ≤ most_frames }
     ensures value { result ≡ fixed_of items.now }
-    ensures range { result ≤ 65535 * 4096 }
+    ensures range { result ≤ 65535 * most_frames }
 {
     let mut total = 0;
     for item in items {
@@ -38,9 +39,9 @@ fn fixed_of(items: &[Item]) -> u32
 
 /// How many spacebands there are.
 fn bands_of(items: &[Item]) -> u32
-    requires { length items.now ≤ 4096 }
+    requires { length items.now ≤ most_frames }
     ensures value { result ≡ bands_of items.now }
-    ensures range { result ≤ 4096 }
+    ensures range { result ≤ most_frames }
 {
     items
         .iter()
@@ -48,16 +49,16 @@ fn bands_of(items: &[Item]) -> u32
         .count() as u32
 }
 
-/// The pieces of a line whose bands have this width, the first `wider` of them a unit more.
-fn pieces_of(alloc: Global, items: &[Item], width: u16, wider: u32) -> Result<Pieces, AllocError>
+/// The sorts of a line whose bands have this width, the first `wider` of them a unit more.
+fn sorts_of(alloc: Global, items: &[Item], width: u16, wider: u32) -> Result<Sorts, AllocError>
     requires { width < 65535 }
-    ensures { IfOk result (λ pieces. pieces ≡ pieces_of width wider items.now) }
+    ensures { IfOk result (λ sorts. sorts ≡ sorts_of width wider items.now) }
 {
-    let mut pieces = Vec::new(alloc);
+    let mut sorts = Vec::new(alloc);
     let mut wider = wider;
     for item in items {
-        let piece = match item {
-            Item::Matrix { name, rail, width } => Piece::Matrix {
+        let sort = match item {
+            Item::Matrix { name, rail, width } => Sort::Matrix {
                 name: name.copy(),
                 rail: *rail,
                 width: *width,
@@ -65,21 +66,21 @@ fn pieces_of(alloc: Global, items: &[Item], width: u16, wider: u32) -> Result<Pi
             Item::Band => {
                 let more = wider.min(1);
                 wider -= more;
-                Piece::Band {
+                Sort::Band {
                     width: width + more as u16,
                 }
             }
-            Item::Space { width } => Piece::Space { width: *width },
+            Item::Space { width } => Sort::Space { width: *width },
         };
-        pieces.push(piece)?;
+        sorts.push(sort)?;
     }
-    Ok(Pieces::new(pieces))
+    Ok(Sorts::new(sorts))
 }
 
 /// So much shared out over the bands: the width of each, and how many of the first take a unit more.
 fn share(rest: u32, bands: u32) -> (u16, u32)
     requires fits { rest ≤ bands * 999 }
-    requires bands { bands ≤ 4096 }
+    requires bands { bands ≤ most_frames }
     ensures whole { bands * result.0 + result.1 ≡ rest }
     ensures less { 0 < bands → result.1 < bands }
     ensures small { result.0 ≤ 999 }
@@ -98,10 +99,10 @@ fn justified(
     fixed: u32,
     bands: u32,
 ) -> Result<Slug, LineFault>
-    requires fixed { (fixed ≡ fixed_of items.now) × (fixed ≤ 65535 * 4096) }
-    requires bands { (bands ≡ bands_of items.now) × (bands ≤ 4096) }
+    requires fixed { (fixed ≡ fixed_of items.now) × (fixed ≤ 65535 * most_frames) }
+    requires bands { (bands ≡ bands_of items.now) × (bands ≤ most_frames) }
     requires fits { least_width widths.now items.now ≤ widths.now.measure }
-    ensures slug { IfOk result (λ slug. (looseness widths.now items.now None ≡ None) × (map item_of_piece slug.items ≡ items.now) × Justifies widths.now (fixed_of items.now) slug) }
+    ensures slug { IfOk result (λ slug. (looseness widths.now items.now None ≡ None) × (map item_of_sort slug.items ≡ items.now) × Justifies widths.now (fixed_of items.now) slug) }
     ensures fault { IfErr result (λ e. IsMisfit (looseness widths.now items.now None) e) }
 {
     let measure = u32::from(widths.measure());
@@ -112,7 +113,7 @@ fn justified(
         });
     }
     let (width, wider) = share(measure - fixed, bands);
-    let items = pieces_of(alloc, items, width, wider)?;
+    let items = sorts_of(alloc, items, width, wider)?;
     Ok(Slug {
         items,
         kind: Kind::J,
@@ -142,11 +143,11 @@ fn quadded(
     blank: u16,
 ) -> Result<Slug, LineFault>
     requires { blank + least_width widths.now items.now ≡ widths.now.measure }
-    ensures slug { IfOk result (λ slug. (map item_of_piece slug.items ≡ items.now) × Quads widths.now (fixed_of items.now) quad slug) }
+    ensures slug { IfOk result (λ slug. (map item_of_sort slug.items ≡ items.now) × Quads widths.now (fixed_of items.now) quad slug) }
     ensures memory { IfErr result (λ e. e ≡ OutOfMemory) }
 {
     let (left, right) = sides(quad, blank);
-    let items = pieces_of(alloc, items, widths.band_min(), 0)?;
+    let items = sorts_of(alloc, items, widths.band_min(), 0)?;
     Ok(Slug {
         items,
         kind: kind_of(quad),

@@ -5,15 +5,15 @@ mod fault;
 mod galleys;
 mod justifying;
 pub mod laws;
-mod piece;
 mod setting;
 mod slug;
+mod sort;
 mod writing;
 
 pub use fault::{Cause, LineFault, SetError, SetFault};
 pub use galleys::galley;
 pub use justifying::check;
-pub use piece::{Piece, Pieces};
 pub use setting::set;
 pub use slug::{Kind, Slug};
+pub use sort::{Sort, Sorts};
 pub use streams::CannotWrite as WriteFault;

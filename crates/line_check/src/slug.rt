@@ -1,6 +1,6 @@
 //! Slugs.
 
-use crate::piece::Pieces;
+use crate::sort::Sorts;
 
 /// How a slug fills its measure.
 #[derive(Clone, Copy, PartialEq, Eq)]
@@ -19,7 +19,7 @@ pub enum Kind {
 #[derive(Drop)]
 pub struct Slug {
     /// Its items, in order, each band with its width.
-    pub items: Pieces,
+    pub items: Sorts,
     pub kind: Kind,
     /// The blank before the items, in units.
     pub left: u16,

@@ -4,7 +4,7 @@ use crate::files::Job;
 use crate::slugs::{set_job, slugs_of};
 use code_table::Name;
 use fixtures::{FLOOD, HARVEST, LIGATURE};
-use line_check::{Kind, Piece, Pieces, Slug, galley};
+use line_check::{Kind, Slug, Sort, Sorts, galley};
 use slug_reader::Rail;
 use std::alloc::Global;
 
@@ -23,7 +23,7 @@ fn sets(alloc: Global, frames: &[u8], text: &str) -> bool {
 }
 
 /// Frames and their galleys.
-const GALLEYS: &[(&[u8], &str)] = &[
+pub const GALLEYS: &[(&[u8], &str)] = &[
     // justified
     (FLOOD, "0001 J 0 0 a b _4 a _4 b\n"),
     (LIGATURE, "0001 J 0 0 a b _4 a _3 fi\n"),
@@ -110,19 +110,19 @@ fn the_longest_tape(rt: HostRuntime) {
 
 /// A slug that no width file gives: the longest name on the upper rail, a band without width and the widest space.
 fn widest(alloc: Global) -> Option<Slug> {
-    let matrix = Piece::Matrix {
+    let matrix = Sort::Matrix {
         name: Name::new(b"~longest")?,
         rail: Rail::Upper,
         width: 999,
     };
-    let pieces = [
+    let sorts = [
         matrix,
-        Piece::Band { width: 0 },
-        Piece::Space { width: 65_535 },
+        Sort::Band { width: 0 },
+        Sort::Space { width: 65_535 },
     ];
-    let pieces = Vec::from_array(alloc, pieces).ok()?;
+    let sorts = Vec::from_array(alloc, sorts).ok()?;
     Some(Slug {
-        items: Pieces::new(pieces),
+        items: Sorts::new(sorts),
         kind: Kind::R,
         left: 65_535,
         right: 12,
@@ -138,6 +138,6 @@ fn widest_is(alloc: Global, text: &str) -> bool {
 }
 
 #[test]
-fn wide_pieces(rt: HostRuntime) {
+fn wide_sorts(rt: HostRuntime) {
     assert!(rt; widest_is(rt.alloc(), "0001 R 65535 12 ^~longest _0 ~65535\n"));
 }

@@ -16,6 +16,8 @@ mod inputs;
 #[cfg(test)]
 mod lines;
 #[cfg(test)]
+mod pieces;
+#[cfg(test)]
 mod random_tables;
 #[cfg(test)]
 mod random_widths;

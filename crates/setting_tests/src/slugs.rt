@@ -4,7 +4,7 @@ use crate::files::Job;
 use crate::galleys::is_galley;
 use crate::lines::lines_of;
 use fixtures::{FLOOD, LIGATURE, OVERSET};
-use line_check::{Cause, Piece, SetError, SetFault, Slug, check, set};
+use line_check::{Cause, SetError, SetFault, Slug, Sort, check, set};
 use slug_reader::Line;
 use std::alloc::Global;
 use widths::Widths;
@@ -31,7 +31,7 @@ fn has_fault(alloc: Global, ligature: bool, frames: &[u8], fault: SetFault) -> b
 }
 
 /// Whether the ligature has a width, frames, the position and the line of their fault, and what it is.
-const FAULTS: &[(bool, &[u8], u32, u32, Cause)] = &[
+pub const FAULTS: &[(bool, &[u8], u32, u32, Cause)] = &[
     (true, &[1, 2, 3, 1, 2, 4], 5, 1, Cause::Loose { under: 2 }),
     (true, &[1, 1, 1, 1, 1, 4], 5, 1, Cause::Loose { under: 5 }),
     (true, OVERSET, 7, 1, Cause::Overset { over: 1 }),
@@ -74,24 +74,24 @@ fn slug_of(alloc: Global, frames: &[u8]) -> Option<Slug> {
     }
 }
 
-/// The width of a piece.
-fn units_of(piece: &Piece) -> u16 {
-    match piece {
-        Piece::Matrix { width, .. } | Piece::Band { width } | Piece::Space { width } => *width,
+/// The width of a sort.
+fn units_of(sort: &Sort) -> u16 {
+    match sort {
+        Sort::Matrix { width, .. } | Sort::Band { width } | Sort::Space { width } => *width,
     }
 }
 
-/// Whether these are the widths of the pieces.
-fn have_widths(pieces: &[Piece], widths: &[u16]) -> bool {
-    for (piece, width) in pieces.iter().zip(widths) {
-        if units_of(piece) != *width {
+/// Whether these are the widths of the sorts.
+fn have_widths(sorts: &[Sort], widths: &[u16]) -> bool {
+    for (sort, width) in sorts.iter().zip(widths) {
+        if units_of(sort) != *width {
             return false;
         }
     }
-    pieces.len() == widths.len()
+    sorts.len() == widths.len()
 }
 
-/// Whether the slug of the one line of these frames prints so, and its pieces have these widths.
+/// Whether the slug of the one line of these frames prints so, and its sorts have these widths.
 fn casts(alloc: Global, frames: &[u8], text: &str, widths: &[u16]) -> bool {
     match slug_of(alloc, frames) {
         Some(slug) => have_widths(slug.items.as_slice(), widths) && is_galley(alloc, &[slug], text),

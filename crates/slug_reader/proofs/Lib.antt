@@ -2,3 +2,5 @@ pub mod Lists
 pub mod Looking
 pub mod Assembly
 pub mod Numbers
+pub mod Standing
+pub mod Tapes

@@ -9,7 +9,8 @@ use Rattle.slug_reader.specs.declared.assembler.Assembler.{Assembler}
 use Rattle.slug_reader.specs.declared.assembler.Taken.{Taken}
 use Rattle.slug_reader.specs.declared.assembler.Taken.TheVariants.{Kept, Cut, Flawed}
 use Rattle.slug_reader.specs.Positions.{or_else}
-use Rattle.slug_reader.specs.Meanings.{Meanings, selected_by, rail_of, quad_of, is_elevate, item_of}
+use Rattle.slug_reader.specs.Meanings.{Meanings, selected_by, rail_of, quad_of, is_elevate, item_of, case_at, rail_at}
+use Rattle.slug_reader.specs.Lines.{items_before, quad_before}
 use Rattle.slug_reader.specs.Faults.{frame_flaw}
 
 -- what is kept after a frame that means m
@@ -30,3 +31,16 @@ Takes means widths frame old new Cut = Keeps means widths frame (means old.case 
 abbrev pub line_cut : List Item → Option Quad → ℕ → Option Line
 line_cut [] quad at = None
 line_cut (item ∷ rest) quad at = Some (record { items = item ∷ rest; quad = quad; elevate_at = at })
+
+-- what is kept is what looking back from the position gives
+pub record Stands (means : Meanings) (widths : WidthFile) (tape : List ℕ) (i : ℕ) (a : Assembler) : Type 0 where
+  pub case : a.case ≡ case_at means tape i
+  pub rail : a.rail ≡ rail_at means tape i
+  pub items : a.items.items ≡ items_before means widths tape i
+  pub quad : a.quad ≡ quad_before means tape i
+
+-- a faulty frame adds no item
+abbrev pub AddsNothingFlawed : Assembler → Assembler → Taken → Type 0
+AddsNothingFlawed old new (Flawed flaw) = new.items.items ≡ old.items.items
+AddsNothingFlawed old new Kept = Unit {0}
+AddsNothingFlawed old new Cut = Unit {0}

@@ -4,3 +4,4 @@ pub mod Lines
 pub mod Faults
 pub mod Assembling
 pub mod Answers
+pub mod Pieces

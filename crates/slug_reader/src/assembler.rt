@@ -1,8 +1,9 @@
 //! The line that is being assembled.
 
-ghost use Rattle.std.specs.Prelude.{◌≡◌, ◌≤◌, ◌++◌, [], length, Some, None, IfOk, unwrap_or, option_to_list};
+ghost use Rattle.std.specs.Prelude.{◌≡◌, ◌≤◌, ◌+◌, ◌++◌, [], length, Some, None, IfOk, OnErr, unwrap_or, option_to_list};
+ghost use Rattle.tape_frames.specs.Frames.{most_frames};
 ghost use Rattle.code_table.specs.Tables.{mean};
-ghost use Rattle.slug_reader.specs.Assembling.{Takes, line_cut};
+ghost use Rattle.slug_reader.specs.Assembling.{Takes, AddsNothingFlawed, line_cut};
 
 use crate::codes::{is_elevate, item_of, quad_of, rail_of};
 use crate::fault::Flaw;
@@ -57,7 +58,11 @@ impl Assembler {
         widths: &Widths,
         frame: u8,
     ) -> Result<Taken, AllocError>
-        ensures { IfOk result (λ taken. Takes (mean table.now) widths.now frame self.old self.new taken) }
+        ensures takes { IfOk result (λ taken. Takes (mean table.now) widths.now frame self.old self.new taken) }
+        ensures above { 64 ≤ frame → mean table.now self.old.case frame ≡ None }
+        ensures few { length self.new.items.items ≤ length self.old.items.items + 1 }
+        ensures flawed { IfOk result (λ taken. AddsNothingFlawed self.old self.new taken) }
+        ensures err { OnErr result (self.new.items.items ≡ self.old.items.items) }
     {
         let meaning = match table.meaning(self.case, frame) {
             Some(meaning) => meaning,
@@ -80,7 +85,7 @@ impl Assembler {
 
     /// Sends the line to be cast at this position. There is none where it has no item.
     pub fn cut(&mut self, alloc: Global, at: u32) -> Option<Line>
-        requires { length self.old.items.items ≤ 4096 }
+        requires { length self.old.items.items ≤ most_frames }
         ensures line { result ≡ line_cut self.old.items.items self.old.quad at }
         ensures items { self.new.items.items ≡ [] }
         ensures quad { self.new.quad ≡ None }

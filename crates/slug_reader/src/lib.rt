@@ -8,11 +8,13 @@ mod item;
 mod items;
 mod line;
 mod numbering;
+mod reader;
 mod reading;
 
-pub use fault::{Flaw, ReadFault, Stop};
+pub use fault::ReadFault;
 pub use item::{Item, Rail};
 pub use items::Items;
 pub use line::{Line, Quad};
 pub use numbering::line_at;
-pub use reading::{Reading, read, read_lines};
+pub use reader::Reader;
+pub use reading::{PIECE_FRAMES, read_lines};

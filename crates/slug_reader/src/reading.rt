@@ -1,72 +1,39 @@
 //! Tapes read as lines.
 
-ghost use Rattle.std.specs.Prelude.{◌≡◌, IfOk};
+ghost use Rattle.std.specs.Prelude.{◌≡◌, ◌+◌, ℕ, List, length};
+ghost use Rattle.tape_frames.specs.Frames.{IsTape};
 ghost use Rattle.code_table.specs.Tables.{mean};
-ghost use Rattle.slug_reader.specs.Faults.{first_stop, lines_read, lines_of};
+ghost use Rattle.slug_reader.specs.Faults.{lines_of};
+ghost use Rattle.slug_reader.specs.Pieces.{IsPiece, ReadTo, ReadOn};
 ghost use Rattle.slug_reader.specs.Answers.{Reads};
 
-use crate::assembler::{Assembler, Taken};
-use crate::fault::{Flaw, ReadFault, Stop};
+use crate::fault::ReadFault;
 use crate::line::Line;
+use crate::reader::Reader;
 use code_table::CodeTable;
-use std::alloc::{AllocError, Global};
+use std::alloc::Global;
 use tape_frames::Tape;
 use widths::Widths;
 
-/// How far a tape could be read.
-#[derive(Drop)]
-pub struct Reading {
-    /// The lines with items that were cut before the first faulty position, in order.
-    pub lines: Vec<Line>,
-    /// The first faulty position, if there is one.
-    pub stop: Option<Stop>,
-}
+/// How many frames of a tape are read at a time.
+pub const PIECE_FRAMES: usize = 256;
 
-/// Reads a tape up to its first faulty position.
-pub fn read(
-    alloc: Global,
-    table: &CodeTable,
-    widths: &Widths,
-    tape: &Tape,
-) -> Result<Reading, AllocError>
-    ensures lines { IfOk result (λ r. r.lines.items ≡ lines_read (mean table.now) widths.now tape.now) }
-    ensures stop { IfOk result (λ r. r.stop ≡ first_stop (mean table.now) widths.now tape.now) }
+/// Adds the lines that one piece more of a tape cuts.
+fn read_piece(reader: &mut Reader<'_>, piece: &[u8], lines: &mut Vec<Line>) -> Result<(), ReadFault>
+    ensures by { (reader.new.table ≡ reader.old.table) × (reader.new.widths ≡ reader.old.widths) }
+    ensures read { (tape : List ℕ) (i : ℕ) → IsTape tape → IsPiece tape i piece.now → ReadTo reader.old tape i lines.old.items reader.old.fault → ReadOn reader.new tape (i + length piece.now) lines.new.items result }
 {
-    let mut lines = Vec::new(alloc);
-    let mut assembler = Assembler::new(alloc);
-    let frames = tape.frames();
-    for (at, frame) in frames.iter().enumerate() {
-        let at = at as u32;
-        match assembler.take(table, widths, *frame)? {
-            Taken::Kept => {}
-            Taken::Cut => {
-                if let Some(line) = assembler.cut(alloc, at) {
-                    lines.push(line)?;
-                }
-            }
-            Taken::Flawed(flaw) => {
-                return Ok(Reading {
-                    lines,
-                    stop: Some(Stop { at, flaw }),
-                });
-            }
-        }
+    let mut more = reader.push(piece)?;
+    match lines.append(&mut more) {
+        Ok(()) => Ok(()),
+        Err(_) => Err(ReadFault::OutOfMemory),
     }
-    let stop = if assembler.items.is_empty() {
-        None
-    } else {
-        Some(Stop {
-            at: frames.len() as u32,
-            flaw: Flaw::Unfinished,
-        })
-    };
-    Ok(Reading { lines, stop })
 }
 
 /// The lines of a tape that have items, in order.
 ///
-/// Otherwise its first faulty position: `UnknownCode` and `NoWidth` at a frame, `Unfinished` at the tape's length.
-/// `OutOfMemory` comes where the lines could not be kept.
+/// Otherwise its first fault: `UnknownCode` or `NoWidth` at a frame, or `Unfinished` at the tape's length. `TooLong`
+/// never comes. `OutOfMemory` comes where the lines could not be kept.
 pub fn read_lines(
     alloc: Global,
     table: &CodeTable,
@@ -75,12 +42,11 @@ pub fn read_lines(
 ) -> Result<Vec<Line>, ReadFault>
     ensures { Reads result (lines_of (mean table.now) widths.now tape.now) }
 {
-    let reading = match read(alloc, table, widths, tape) {
-        Ok(reading) => reading,
-        Err(_) => return Err(ReadFault::OutOfMemory),
-    };
-    match reading.stop {
-        None => Ok(reading.lines),
-        Some(stop) => Err(stop.fault()),
+    let mut reader = Reader::new(alloc, table, widths);
+    let mut lines = Vec::new(alloc);
+    for piece in tape.frames().chunks(PIECE_FRAMES) {
+        read_piece(&mut reader, piece, &mut lines)?;
     }
+    reader.finish()?;
+    Ok(lines)
 }

@@ -1,10 +1,18 @@
-use Rattle.std.proofs.Common.{◌≡◌, take, drop}
-use Rattle.line_check.specs.Slugs.{AreSlugs}
-use Rattle.line_check.specs.Spreading.{misfit_among}
+use Rattle.std.proofs.Common.{◌≡◌, ◌≤◌, ℕ, length, drop}
+use Rattle.std.specs.Slice.Iter.{chunks_rest, chunks_size}
+use Rattle.line_check.specs.Setting.{SetTo}
 use Rattle.line_check.proofs.setting.slugs_of.Given as goal
 
-abbrev pub invariant-loop-line : goal.invariant-loop-line
-invariant-loop-line l = record {
-  slugs : AreSlugs l.widths (take l.line-index l.lines) l.slugs.items;
-  rest : misfit_among l.widths (drop l.line-index l.lines) ≡ misfit_among l.widths l.lines;
+-- the tape was set to a position, from which on the rest is left
+abbrev pub invariant-loop-piece : goal.invariant-loop-piece
+invariant-loop-piece l = record {
+  next : goal.iterator-loop-piece.can_next l.piece-iterator;
+  finite : goal.iterator-loop-piece.is_finite l.piece-iterator;
+  size : chunks_size l.piece-iterator ≡ 256;
+  table : l.reader.table ≡ l.table;
+  widths : l.reader.widths ≡ l.widths;
+  place : ℕ;
+  within : place ≤ length l.tape;
+  left : drop place l.tape ≡ chunks_rest l.piece-iterator;
+  set : SetTo l.reader l.tape place l.slugs.items l.reader.fault;
 }

@@ -8,7 +8,7 @@ use std::marker::Model;
 
 /// One thing in a slug. Widths are in units.
 #[derive(Drop)]
-pub enum Piece {
+pub enum Sort {
     /// A matrix.
     Matrix { name: Name, rail: Rail, width: u16 },
     /// A spaceband, with the width that it took.
@@ -17,31 +17,31 @@ pub enum Piece {
     Space { width: u16 },
 }
 
-/// The pieces of a slug, in their order. Clauses see their list.
+/// The sorts of a slug, in their order. Clauses see their list.
 #[derive(Drop)]
-pub struct Pieces {
-    list: Vec<Piece>,
+pub struct Sorts {
+    list: Vec<Sort>,
 }
 
-impl Model for Pieces {
+impl Model for Sorts {
     ghost use Rattle.std.specs.Prelude.{List};
-    ghost use Rattle.line_check.specs.declared.piece.Piece.{Piece};
+    ghost use Rattle.line_check.specs.declared.sort.Sort.{Sort};
 
-    ghost Value = { List Piece };
+    ghost Value = { List Sort };
 
     ghost view = { λ a. a.list.items };
 }
 
-impl Pieces {
-    /// These pieces.
-    pub fn new(list: Vec<Piece>) -> Pieces
+impl Sorts {
+    /// These sorts.
+    pub fn new(list: Vec<Sort>) -> Sorts
         ensures { result ≡ list.items }
     {
-        Pieces { list }
+        Sorts { list }
     }
 
-    /// The pieces, in order.
-    pub fn as_slice(&self) -> &[Piece]
+    /// The sorts, in order.
+    pub fn as_slice(&self) -> &[Sort]
         ensures { result.now ≡ self.now }
     {
         self.list.as_slice()

@@ -1,8 +1,0 @@
-use Rattle.std.proofs.Common.{take}
-use Rattle.std.specs.Prelude.{flat_map}
-use Rattle.std.specs.Io.KnownBytes.{Appends}
-use Rattle.line_check.specs.Galley.{piece_text}
-use Rattle.line_check.proofs.galleys.put_pieces.Given as goal
-
-abbrev pub invariant-loop-piece : goal.invariant-loop-piece
-invariant-loop-piece g l = Appends (g.W.Write.contents l.initial.out) (g.W.Write.contents l.out) (flat_map piece_text (take l.piece-index l.pieces))
