@@ -1,6 +1,6 @@
 //! Lines made into slugs.
 
-ghost use Rattle.std.specs.Prelude.{◌≡◌, ◌≤◌, ◌<◌, ◌+◌, ◌*◌, ◌-◌, length, Some, None, IfOk, IfErr, map};
+ghost use Rattle.std.specs.Prelude.{◌≡◌, [], ◌∷◌, ◌≤◌, ◌<◌, ◌+◌, ◌*◌, ◌-◌, length, Some, None, IfOk, IfErr, map};
 ghost use Rattle.tape_frames.specs.Frames.{most_frames};
 ghost use Rattle.line_check.specs.declared.fault.LineFault.TheVariants.{OutOfMemory};
 ghost use Rattle.line_check.specs.Slugs.{fixed_width, is_band, fixed_of, bands_of, least_width, greatest_width, kind_of, item_of_sort, misfit, looseness, StandsAt, IsSlug, Justifies, Quads};
@@ -13,40 +13,45 @@ use slug_reader::{Item, Line, Quad};
 use std::alloc::{AllocError, Global};
 use widths::Widths;
 
-/// The width that an item has before its line is cast.
-fn fixed_width(item: &Item) -> u32
-    ensures value { result ≡ fixed_width item.now }
-    ensures range { result ≤ 65535 }
+/// What a line comes to before it is cast.
+#[derive(Clone, Copy)]
+struct Tally {
+    /// The width of its matrices and fixed spaces, in units.
+    fixed: u32,
+    /// How many spacebands it has.
+    bands: u32,
+}
+
+/// What one item comes to.
+fn tally_one(item: &Item) -> Tally
+    ensures fixed { result.fixed ≡ fixed_width item.now }
+    ensures bands { result.bands ≡ bands_of (item.now ∷ []) }
+    ensures range { (result.fixed ≤ 65535) × (result.bands ≤ 1) }
 {
     match item {
-        Item::Matrix { width, .. } | Item::Space { width } => u32::from(*width),
-        Item::Band => 0,
+        Item::Matrix { width, .. } | Item::Space { width } => Tally {
+            fixed: u32::from(*width),
+            bands: 0,
+        },
+        Item::Band => Tally { fixed: 0, bands: 1 },
     }
 }
 
-/// The width of the matrices and fixed spaces.
-fn fixed_of(items: &[Item]) -> u32
+/// What a line comes to.
+fn tally_of(items: &[Item]) -> Tally
     requires { length items.now ≤ most_frames }
-    ensures value { result ≡ fixed_of items.now }
-    ensures range { result ≤ 65535 * most_frames }
+    ensures fixed { result.fixed ≡ fixed_of items.now }
+    ensures bands { result.bands ≡ bands_of items.now }
+    ensures range { (result.fixed ≤ 65535 * most_frames) × (result.bands ≤ most_frames) }
 {
-    let mut total = 0;
+    let mut fixed = 0;
+    let mut bands = 0;
     for item in items {
-        total += fixed_width(item);
+        let one = tally_one(item);
+        fixed += one.fixed;
+        bands += one.bands;
     }
-    total
-}
-
-/// How many spacebands there are.
-fn bands_of(items: &[Item]) -> u32
-    requires { length items.now ≤ most_frames }
-    ensures value { result ≡ bands_of items.now }
-    ensures range { result ≤ most_frames }
-{
-    items
-        .iter()
-        .filter(|item| matches!(item, Item::Band))
-        .count() as u32
+    Tally { fixed, bands }
 }
 
 /// The sorts of a line whose bands have this width, the first `wider` of them a unit more.
@@ -54,7 +59,7 @@ fn sorts_of(alloc: Global, items: &[Item], width: u16, wider: u32) -> Result<Sor
     requires { width < 65535 }
     ensures { IfOk result (λ sorts. sorts ≡ sorts_of width wider items.now) }
 {
-    let mut sorts = Vec::new(alloc);
+    let mut sorts = Vec::with_capacity(alloc, items.len())?;
     let mut wider = wider;
     for item in items {
         let sort = match item {
@@ -177,8 +182,7 @@ pub fn check(alloc: Global, line: &Line, widths: &Widths) -> Result<Slug, LineFa
     ensures fault { IfErr result (λ e. IsMisfit (misfit widths.now line.now) e) }
 {
     let items = line.items.as_slice();
-    let fixed = fixed_of(items);
-    let bands = bands_of(items);
+    let Tally { fixed, bands } = tally_of(items);
     let measure = u32::from(widths.measure());
     let least = fixed + bands * u32::from(widths.band_min());
     if least > measure {

@@ -47,7 +47,7 @@ pub fn item_of(widths: &Widths, rail: Rail, meaning: &Meaning) -> Result<Option<
         (λ flaw. frame_flaw widths.now (Some meaning.now) ≡ Some flaw) }
 {
     match meaning {
-        Meaning::Matrix(name) => match widths.of(name.as_str()) {
+        Meaning::Matrix(name) => match widths.of_name(name) {
             Some(width) => Ok(Some(Item::Matrix {
                 name: name.copy(),
                 rail,

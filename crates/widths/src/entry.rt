@@ -19,15 +19,15 @@ pub struct MatrixWidth {
 }
 
 /// How the entry's name compares with this one, byte by byte.
-fn compare_names(entry: &MatrixWidth, name: &str) -> Ordering
+fn compare_names(entry: &MatrixWidth, name: &[u8]) -> Ordering
     ensures { result ≡ slice_cmp nat_cmp entry.now.name name.now }
 {
-    entry.name.as_str().cmp(name)
+    entry.name.as_bytes().cmp(name)
 }
 
 /// The width at the name among entries in byte order of their names.
 #[tactic(auto, using(crate::proofs::Places::in_range))]
-pub fn width_among(entries: &[MatrixWidth], name: &str) -> Option<u16>
+pub fn width_among(entries: &[MatrixWidth], name: &[u8]) -> Option<u16>
     requires names { IsInNameOrder entries.now }
     requires widths { AllByRecursion (λ entry. IsWidth entry.width) entries.now }
     ensures value { result ≡ width_among entries.now name.now }

@@ -11,6 +11,7 @@ use crate::entry::{MatrixWidth, width_among};
 use crate::fault::WidthFault;
 use crate::matrix::read_matrix;
 use crate::measures::{matrix_in, measures_in};
+use code_table::Name;
 use std::alloc::Global;
 use std::marker::Model;
 use toml::Table;
@@ -98,7 +99,17 @@ impl Widths {
         ensures value { result ≡ width_of self.now name.now }
         ensures range { IfSome result (λ width. IsWidth width) }
     {
-        width_among(&self.matrix, name)
+        width_among(&self.matrix, name.as_bytes())
+    }
+
+    /// The width of this matrix, 1 to 999 units; `None` where the file has none of its name.
+    #[tactic(auto, unfolding(crate::specs::Widths::width_of))]
+    pub fn of_name(&self, name: &Name) -> Option<u16>
+        ensures value { result ≡ width_of self.now name.now }
+        ensures range { IfSome result (λ width. IsWidth width) }
+    {
+        let bytes = name.as_bytes();
+        width_among(&self.matrix, bytes)
     }
 
     /// The width of a line, 1 to 65,535 units.
