@@ -17,7 +17,7 @@ use toml::value::Array;
 use toml::{Table, Value};
 
 /// How many frames there are.
-const FRAMES: usize = 64;
+pub const FRAMES: usize = 64;
 
 /// Whether there is an entry at the frame.
 fn is_placed(places: &[Option<Entry>], frame: u8) -> bool

@@ -11,7 +11,7 @@ use crate::case::Case;
 use crate::entry::Entry;
 use crate::fault::TableFault;
 use crate::meaning::Meaning;
-use crate::reading::{codes_in, read_places};
+use crate::reading::{FRAMES, codes_in, read_places};
 use std::alloc::Global;
 use std::marker::Model;
 use toml::Table;
@@ -19,7 +19,7 @@ use toml::Table;
 /// What each of the 64 frames means in each case, a case code the same in both. Clauses see the entry of each frame, in their order.
 #[derive(Drop)]
 pub struct CodeTable {
-    places: Vec<Option<Entry>>,
+    places: [Option<Entry>; FRAMES],
 }
 
 impl Model for CodeTable {
@@ -28,9 +28,9 @@ impl Model for CodeTable {
 
     ghost Value = { Places };
 
-    ghost view = { λ t. t.places.items };
+    ghost view = { λ t. t.places };
 
-    ghost invariant = { λ t. (length t.places.items ≡ 64) × AreAlike t.places.items };
+    ghost invariant = { λ t. (length t.places ≡ 64) × AreAlike t.places };
 }
 
 /// The document of a text.
@@ -59,8 +59,10 @@ impl CodeTable {
     {
         let document = document_of(alloc, text)?;
         let codes = codes_in(&document)?;
-        let places = read_places(alloc, codes)?;
-        Ok(CodeTable { places })
+        match <[Option<Entry>; FRAMES]>::try_from(read_places(alloc, codes)?) {
+            Ok(places) => Ok(CodeTable { places }),
+            Err(_) => unreachable!(),
+        }
     }
 
     /// What the frame means in the case; `None` where the table has no entry of it, and for a frame above 63.
