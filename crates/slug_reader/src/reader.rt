@@ -1,6 +1,7 @@
 //! Tapes that come in pieces.
 
-ghost use Rattle.std.specs.Prelude.{◌≡◌, ◌+◌, ◌++◌, ℕ, List, length, Some, Err, OnOk, IfErr, option_to_list};
+ghost use Rattle.std.specs.Prelude.{◌≡◌, ◌+◌, ◌++◌, ℕ, List, length, Some, Err, OnOk, IfErr, option_to_list, nat_le};
+ghost use Rattle.tape_frames.specs.Frames.{most_frames};
 ghost use Rattle.slug_reader.specs.Pieces.{StandsAt, IsPiece, Steps, Pushed, Finished, IsStopped};
 ghost use Rattle.slug_reader.specs.declared.fault.ReadFault.{ReadFault};
 
@@ -78,6 +79,13 @@ impl<'a> Reader<'a> {
         }
     }
 
+    /// Whether a tape has no frame more.
+    fn is_full(&self) -> bool
+        ensures { result ≡ nat_le most_frames self.now.taken }
+    {
+        self.taken as usize >= MAX_FRAMES
+    }
+
     /// Takes in the next frame, and adds the line that it cuts, if it has an item.
     fn take(&mut self, frame: u8, lines: &mut Vec<Line>) -> Result<(), ReadFault>
         ensures by { (self.new.table ≡ self.old.table) × (self.new.widths ≡ self.old.widths) }
@@ -85,7 +93,7 @@ impl<'a> Reader<'a> {
         ensures step { (tape : List ℕ) (i : ℕ) → StandsAt self.old tape i → Steps self.old tape i frame lines.old.items result lines.new.items self.new }
     {
         let at = self.taken;
-        if at as usize == MAX_FRAMES {
+        if self.is_full() {
             return Err(ReadFault::TooLong { at });
         }
         match self.assembler.take(self.table, self.widths, frame) {
