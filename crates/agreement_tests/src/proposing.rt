@@ -36,7 +36,7 @@ pub enum Step {
     BeginsUpTo(u32),
 }
 
-/// A proposal of a member in a circuit of so many, begun at a moment, and what happens to it; its own tape is given up at last.
+/// A proposal of a member in a circuit of so many, begun at a moment, and what happens to it.
 #[derive(Clone, Copy)]
 pub struct Story<'a> {
     pub name: &'static str,
@@ -222,25 +222,11 @@ fn begun(alloc: Global, story: &Story<'_>) -> Option<Proposal>
     Proposal::begin(alloc, seen, me, members, own, None, story.begun_at).ok()
 }
 
-/// Whether this tape is given up.
-fn is_given_up(own: Option<Tape>, frames: Option<Frames>) -> bool {
-    match (own, frames) {
-        (None, None) => true,
-        (Some(tape), Some(frames)) => tape.frames() == frames,
-        _ => false,
-    }
-}
-
-/// How many steps come to what they have to, up to the first that doesn't; 0 where another tape than the own is given up then.
+/// How many steps come to what they have to, up to the first that doesn't.
 pub fn taken_of(alloc: Global, story: &Story<'_>) -> usize {
-    let Some(mut proposal) = begun(alloc, story) else {
-        return 0;
-    };
-    let places = taken(&mut proposal, story.members, story.steps);
-    if is_given_up(proposal.into_own(), story.own) {
-        places
-    } else {
-        0
+    match begun(alloc, story) {
+        Some(mut proposal) => taken(&mut proposal, story.members, story.steps),
+        None => 0,
     }
 }
 

@@ -254,11 +254,4 @@ impl Proposal {
             }
         }
     }
-
-    /// The own tape, given up.
-    pub fn into_own(self) -> Option<Tape>
-        ensures { result ≡ self.own }
-    {
-        self.own
-    }
 }
