@@ -1,6 +1,5 @@
 -- The least number that is due: the least of the desks that are is the least that is read from the marks.
-use Rattle.std.proofs.Common.{◌≡◌, ◌≤◌, ◌<◌, ◌⊎◌, inl, inr, ℕ, refl, sym, ap, ◌∙◌, List, [], ◌∷◌, Option, Some, None, Bool, true, false, subst, arith}
-use Rattle.std.specs.Prelude.{◌==◌, nat_lt, filter, filter_map, if◌then◌else◌}
+use Rattle.std.proofs.Common.{◌≡◌, ◌≤◌, ◌<◌, ℕ, refl, sym, ap, ◌∙◌, List, [], ◌∷◌, Option, Some, None, Bool, true, false, subst, arith}
 use Rattle.std.specs.Ordering.{nat_cmp}
 use Rattle.std.proofs.Common.{Ordering, Less, Equal, Greater}
 use Rattle.std.specs.BTreeMap.{is_at}
@@ -10,117 +9,24 @@ use Rattle.std.specs.Map.{keys_of}
 use Rattle.std.proofs.lemmas.Cmp.{ranked}
 use Rattle.std.proofs.lemmas.Map.Lookups.{exact_unsigned}
 use Rattle.std.proofs.lemmas.Map.Views.{tells_apart}
-use Rattle.std.proofs.lemmas.Bool.{eqb-true, ltb-true, ltb-false}
-use Rattle.protocol.specs.Lists.{IsAmong, has, first, greater, greatest}
-use Rattle.protocol.specs.Marks.{Mark, Began, Promised, Proposed, Denied, Heard, Closed, Released, closes}
-use Rattle.protocol.specs.Proposals.{Opening, was_released, open_proposal, since_began, opening_of, begun_number, is_due_number, next_due}
+use Rattle.protocol.specs.NextDue.{IsLeast}
+use Rattle.protocol.specs.Marks.{Mark}
+use Rattle.protocol.specs.Proposals.{open_proposal, is_due_number}
 use Rattle.node_core.specs.declared.desk.Desk.{Desk}
 use Rattle.node_core.specs.Standing.{Core, StandsFor, InHandStands, desk_in, desk_at}
 use Rattle.node_core.specs.Dues.{AllStand, IsLeastPassing}
 use Rattle.node_core.proofs.Keeping.{none_open_in_hand}
 
--- the number is the least of all that pass; with no number, none passes
-abbrev pub IsLeast : (ℕ → Bool) → Option ℕ → Type 0
-IsLeast passes None = (k : ℕ) → passes k ≡ true → ⊥
-IsLeast passes (Some n) = (passes n ≡ true) × ((k : ℕ) → passes k ≡ true → n ≤ k)
-
 -- there is one least
 pub one_least : (passes : ℕ → Bool) (o r : Option ℕ) → IsLeast passes o → IsLeast passes r → o ≡ r
 one_least passes None None h l = refl
-one_least passes None (Some n) h l = absurd (h n l.0)
-one_least passes (Some m) None h l = absurd (l m h.0)
+one_least passes None (Some n) h l = let bad : true ≡ false = sym l.0 ∙ h n in absurd cc
+one_least passes (Some m) None h l = let bad : true ≡ false = sym h.0 ∙ l m in absurd cc
 one_least passes (Some m) (Some n) h l =
     let below : m ≤ n = h.1 n l.0 in
     let above : n ≤ m = l.1 m h.0 in
     let same : m ≡ n = omega arith in
     ap (λ k. Some k) same
-
--- the number is among the list's and none of the list's is less; with no number, the list is empty
-abbrev IsLeastAmong : List ℕ → Option ℕ → Type 0
-IsLeastAmong xs None = (k : ℕ) → IsAmong xs k → ⊥
-IsLeastAmong xs (Some n) = IsAmong xs n × ((k : ℕ) → IsAmong xs k → n ≤ k)
-
--- the least of a list by its first and the least of the rest
-least_of_both : (x : ℕ) (xs : List ℕ) (o : Option ℕ) → IsLeastAmong xs o → IsLeastAmong (x ∷ xs) (Some (greater (λ i j. nat_lt i j) x o))
-least_of_both x xs None h = (inl refl, λ k a. elim a as (λ _. x ≤ k) [ inl e ↦ omega arith | inr b ↦ absurd (h k b) ])
-least_of_both x xs (Some y) h = go (nat_lt x y) refl
-  where
-    go : (t : Bool) → nat_lt x y ≡ t → IsLeastAmong (x ∷ xs) (Some (if nat_lt x y then x else y))
-    go true e =
-        let below : x < y = ltb-true x y e in
-        rw e (inl refl, λ k a. elim a as (λ _. x ≤ k) [ inl f ↦ omega arith | inr b ↦ (let g : y ≤ k = h.1 k b in omega arith) ])
-    go false e =
-        let above : y ≤ x = ltb-false x y e in
-        rw e (inr h.0, λ k a. elim a as (λ _. y ≤ k) [ inl f ↦ omega arith | inr b ↦ h.1 k b ])
-
-is_least_among : (xs : List ℕ) → IsLeastAmong xs (greatest (λ i j. nat_lt i j) xs)
-is_least_among [] = λ k a. a
-is_least_among (x ∷ xs) = least_of_both x xs (greatest (λ i j. nat_lt i j) xs) (is_least_among xs)
-
--- what is among the filtered passes, and what passes is among them
-kept_passes : (passes : ℕ → Bool) (xs : List ℕ) (k : ℕ) → IsAmong (filter passes xs) k → passes k ≡ true
-kept_passes passes [] k a = absurd a
-kept_passes passes (x ∷ xs) k a = go (passes x) refl (λ b. kept_passes passes xs k b)
-  where
-    go : (t : Bool) → passes x ≡ t → (IsAmong (filter passes xs) k → passes k ≡ true) → passes k ≡ true
-    go true e rest = let b : (k ≡ x) ⊎ IsAmong (filter passes xs) k = rw e at a in elim b as (λ _. passes k ≡ true) [ inl f ↦ ap passes f ∙ e | inr c ↦ rest c ]
-    go false e rest = rest (rw e at a)
-
-passes_kept : (passes : ℕ → Bool) (xs : List ℕ) (k : ℕ) → passes k ≡ true → IsAmong xs k → IsAmong (filter passes xs) k
-passes_kept passes [] k p a = absurd a
-passes_kept passes (x ∷ xs) k p a = go (passes x) refl (λ b. passes_kept passes xs k p b)
-  where
-    go : (t : Bool) → passes x ≡ t → (IsAmong xs k → IsAmong (filter passes xs) k) → IsAmong (filter passes (x ∷ xs)) k
-    go true e rest = rw e (elim a as (λ _. (k ≡ x) ⊎ IsAmong (filter passes xs) k) [ inl f ↦ inl f | inr b ↦ inr (rest b) ])
-    go false e rest = rw e (elim a as (λ _. IsAmong (filter passes xs) k) [ inl f ↦ (let bad : true ≡ false = sym p ∙ ap passes f ∙ e in absurd cc) | inr b ↦ rest b ])
-
--- a number that is open was begun, and was not released
-first_began : (n : ℕ) (marks : List Mark) (o : Opening) → first (opening_of n) marks ≡ Some o → IsAmong (filter_map begun_number marks) n
-first_began n [] o e = absurd cc
-first_began n (Began k b own report now ∷ marks) o e = go (k == n) refl (λ f. first_began n marks o f)
-  where
-    go : (t : Bool) → (k == n) ≡ t → (first (opening_of n) marks ≡ Some o → IsAmong (filter_map begun_number marks) n) → (n ≡ k) ⊎ IsAmong (filter_map begun_number marks) n
-    go true h rest = inl (sym (eqb-true k n h))
-    go false h rest = inr (rest (rw h at e))
-first_began n (Promised k m b report ∷ marks) o e = first_began n marks o e
-first_began n (Proposed k b now ∷ marks) o e = first_began n marks o e
-first_began n (Denied k b ∷ marks) o e = first_began n marks o e
-first_began n (Heard k m b t ∷ marks) o e = first_began n marks o e
-first_began n (Closed k ∷ marks) o e = first_began n marks o e
-first_began n (Released k t ∷ marks) o e = first_began n marks o e
-
--- what is read of an open number
-record Open (n : ℕ) (marks : List Mark) : Type 0 where
-  unreleased : was_released n marks ≡ false
-  opening : Opening
-  opens : open_proposal n marks ≡ Some opening
-  began : IsAmong (filter_map begun_number marks) n
-
-open_so : (n : ℕ) (marks : List Mark) (o : Opening) → open_proposal n marks ≡ Some o → Open n marks
-open_so n marks o e = go (was_released n marks) refl (has (closes n) (since_began n marks)) refl
-  where
-    go : (r : Bool) → was_released n marks ≡ r → (c : Bool) → has (closes n) (since_began n marks) ≡ c → Open n marks
-    go true h c k = let bad : None ≡ Some o = rw h at e in absurd cc
-    go false h true k = let bad : None ≡ Some o = rw (h, k) at e in absurd cc
-    go false h false k = let f : first (opening_of n) marks ≡ Some o = rw (h, k) at e in record { unreleased = h; opening = o; opens = e; began = first_began n marks o f }
-
-due_opens : (me now n : ℕ) (marks : List Mark) → is_due_number me now marks n ≡ true → Open n marks
-due_opens me now n marks d = go (open_proposal n marks) refl
-  where
-    go : (q : Option Opening) → open_proposal n marks ≡ q → Open n marks
-    go None h = let bad : false ≡ true = rw h at d in absurd cc
-    go (Some o) h = open_so n marks o h
-
--- the next number that is due is the least that is
-pub next_is_least : (me now : ℕ) (marks : List Mark) → IsLeast (is_due_number me now marks) (next_due me now marks)
-next_is_least me now marks = go (next_due me now marks) (is_least_among (filter (is_due_number me now marks) (filter_map begun_number marks)))
-  where
-    among : (k : ℕ) → is_due_number me now marks k ≡ true → IsAmong (filter (is_due_number me now marks) (filter_map begun_number marks)) k
-    among k d = passes_kept (is_due_number me now marks) (filter_map begun_number marks) k d (due_opens me now k marks d).began
-
-    go : (o : Option ℕ) → IsLeastAmong (filter (is_due_number me now marks) (filter_map begun_number marks)) o → IsLeast (is_due_number me now marks) o
-    go None h = λ k d. h k (among k d)
-    go (Some n) h = (kept_passes (is_due_number me now marks) (filter_map begun_number marks) n h.0, λ k d. h.1 k (among k d))
 
 -- what is in hand stands for the marks
 pub all_stand : (v : Core) (marks : List Mark) → StandsFor v marks → AllStand v.desks marks
@@ -128,23 +34,25 @@ all_stand v marks h = λ n d e. subst (λ (o : Option Desk). InHandStands v.memb
 
 -- a number that is due is in hand
 due_in_hand : (v : Core) (me now n : ℕ) (marks : List Mark) → StandsFor v marks → is_due_number me now marks n ≡ true → (d : Desk) × (desk_at v n ≡ Some d)
-due_in_hand v me now n marks h due = go (desk_at v n) refl (due_opens me now n marks due)
+due_in_hand v me now n marks h due = go (desk_at v n) refl
   where
-    go : (q : Option Desk) → desk_at v n ≡ q → Open n marks → (d : Desk) × (desk_at v n ≡ Some d)
-    go None e o =
+    go : (q : Option Desk) → desk_at v n ≡ q → (d : Desk) × (desk_at v n ≡ Some d)
+    go None e =
         let closed : open_proposal n marks ≡ None = none_open_in_hand v.members n marks (subst (λ (x : Option Desk). InHandStands v.members n x marks) e (h.in_hand n)) in
-        let bad : None ≡ Some o.opening = sym closed ∙ o.opens in absurd cc
-    go (Some d) e o = (d, e)
+        let bad : false ≡ true = rw closed at due in absurd cc
+    go (Some d) e = (d, e)
 
 -- the least in hand that is due is the least of all numbers that are
 least_of_all : (v : Core) (me now : ℕ) (marks : List Mark) (o : Option ℕ) → StandsFor v marks → IsLeastPassing (is_due_number me now marks) v.desks o → IsLeast (is_due_number me now marks) o
-least_of_all v me now marks None h l = λ k due.
-    let d = due_in_hand v me now k marks h due in
-    let bad : true ≡ false = sym due ∙ l k d.0 d.1 in cc
+least_of_all v me now marks None h l = λ n. go n (is_due_number me now marks n) refl
+  where
+    go : (n : ℕ) (t : Bool) → is_due_number me now marks n ≡ t → is_due_number me now marks n ≡ false
+    go n true due = let d = due_in_hand v me now n marks h due in l n d.0 d.1
+    go n false e = e
 least_of_all v me now marks (Some n) h l = (l.0, λ k due. (let d = due_in_hand v me now k marks h due in l.1 k d.0 d.1 due))
 
-pub is_next_due : (v : Core) (me now : ℕ) (marks : List Mark) (o : Option ℕ) → StandsFor v marks → IsLeastPassing (is_due_number me now marks) v.desks o → o ≡ next_due me now marks
-is_next_due v me now marks o h l = one_least (is_due_number me now marks) o (next_due me now marks) (least_of_all v me now marks o h l) (next_is_least me now marks)
+pub is_next_due : (v : Core) (me now : ℕ) (marks : List Mark) (o next : Option ℕ) → StandsFor v marks → IsLeastPassing (is_due_number me now marks) v.desks o → IsLeast (is_due_number me now marks) next → o ≡ next
+is_next_due v me now marks o next h l least = one_least (is_due_number me now marks) o next (least_of_all v me now marks o h l) least
 
 -- the rest of what is in hand, in order, with all of it that passes
 pub record Left (passes : ℕ → Bool) (all rest : List (ℕ × Desk)) : Type 0 where

@@ -143,6 +143,7 @@ impl NodeCore {
         if self.failed {
             return None;
         }
+        protocol::laws::next_due_is_least();
         desks::least_due(&self.desks, now)
     }
 

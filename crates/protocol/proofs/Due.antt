@@ -9,6 +9,7 @@ use Rattle.protocol.specs.Marks.{Mark, Began}
 use Rattle.protocol.specs.Lists.{IsAmong}
 use Rattle.protocol.specs.Proposals.{Opening, since_began, open_proposal, moved, due_moment, is_due, is_due_number, begun_number, next_due}
 use Rattle.protocol.specs.Readings.{IsDue, LastMoved, NoneIsDue, IsLeastDue, NextDueIsLeast}
+use Rattle.protocol.specs.NextDue.{IsLeast, NextDueIsLeastNumber}
 use Rattle.protocol.proofs.Reading.{OpenAs, open_is, ReadAs, open_read, moved_is, moved_read}
 use Rattle.protocol.proofs.Places.{among_split}
 use Rattle.protocol.proofs.Looking.{filter_map_among, among_filter, filter_among, IsOrder, IsTop, greatest_top, greatest_none}
@@ -106,3 +107,14 @@ next_due_is_least m now marks = go (next_due m now marks) refl
         at_most : {i j : ℕ} → (t : Bool) → nat_lt i j ≡ t → (nat_lt i j ≡ true → ⊥) → j ≤ i
         at_most true t h = absurd (h t)
         at_most {i = i} {j = j} false t h = ltb-false i j t
+
+least_number : (m now : ℕ) (marks : List Mark) (r : Option ℕ) → MatchOption r (NoneIsDue m marks now) (λ n. IsLeastDue m marks now n) → IsLeast (is_due_number m now marks) r
+least_number m now marks None h = λ n. go n (is_due_number m now marks n) refl
+  where
+    go : (n : ℕ) (t : Bool) → is_due_number m now marks n ≡ t → is_due_number m now marks n ≡ false
+    go n true e = let d = due_number m now marks n e in absurd (h n d.0 d.1 d.2)
+    go n false e = e
+least_number m now marks (Some n) h = (is_due_read m now marks n h.ballot h.own h.is_due, λ k e. (let d = due_number m now marks k e in h.is_least k d.0 d.1 d.2))
+
+pub next_due_is_least_number : NextDueIsLeastNumber
+next_due_is_least_number m now marks = least_number m now marks (next_due m now marks) (next_due_is_least m now marks)

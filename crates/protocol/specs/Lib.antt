@@ -17,3 +17,4 @@ pub mod Tearing
 pub mod Agreement
 pub mod Fitting
 pub mod Rehearsals
+pub mod NextDue

@@ -4,6 +4,7 @@
 ghost use Rattle.protocol.specs.Acceptor.{StepsAreOfTheWhole};
 ghost use Rattle.protocol.specs.Agreement.{BallotsHaveOneTape, ChosenIsOne, HeardIsVoted, HistoriesAgree, PromisesBind, ReportsAreGreatest, RipeIsChosen, VotesAreBacked, VotesAreOffered};
 ghost use Rattle.protocol.specs.Fitting.{HistoriesFit, TurnsFit, VersionTwoReadsBoth};
+ghost use Rattle.protocol.specs.NextDue.{NextDueIsLeastNumber};
 ghost use Rattle.protocol.specs.Readings.{NextDueIsLeast};
 ghost use Rattle.protocol.specs.Rehearsals.{AddresseeIsToldFirst, LowerIsDenied, NumberIsToldFirst, NumbersAreRefused, OneMemberReleases, PacketsAreRefused, ReadingLeavesArmed, SavedVoteIsReleased, SettingWantsMemory, StoppedIsToldFirst, StoreRefusesToo, ThreeMembersRelease, TornUpgrades, TwoProposersFight, UnsavedVoteIsLost, VersionIsToldFirst, VoteOutlivesUpgrades};
 ghost use Rattle.protocol.specs.Runs.{BallotsStandApart, BeginsAbovePromise, ClosedIsForgotten, FallsDueAbove, FirstAcceptStands, FirstOfTwoReleases, GivesUp, GreaterReportIsTaken, LastRoundIsBegun, LastRoundIsSpent, LeastMemberDecides, LowerIsNacked, NumbersStandApart, OfferedAfterGivingUp, OneFindsNothing, OneReleases, PassedIsOvertaken, ReleasedIsSettled, RepeatedVoteCountsOnce, SecondOfTwoReleases, ThirdTakesOver, VoteIsReported};
@@ -28,7 +29,8 @@ pub fn numbers_are_released_once()
 
 /// What is due next is the least number that is due.
 pub fn next_due_is_least()
-    ensures { NextDueIsLeast }
+    ensures due { NextDueIsLeast }
+    ensures number { NextDueIsLeastNumber }
 {}
 
 /// The turn that is computed is one of the table.
