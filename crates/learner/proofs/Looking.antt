@@ -1,15 +1,16 @@
 -- Looking through the slots for a vote, in rising order of members.
-use Rattle.std.proofs.Common.{◌≡◌, ℕ, zero, suc, ◌+◌, ◌*◌, ◌<◌, refl, sym, ap, ◌∙◌, List, [], ◌∷◌, ◌++◌, Option, Some, None, Bool, true, false, length, take, get_or, arith}
-use Rattle.std.specs.Prelude.{find, count_by, nat_lt, IsTrue, ◌↔◌}
+use Rattle.std.proofs.Common.{◌≡◌, ℕ, zero, suc, ◌+◌, ◌*◌, ◌<◌, refl, sym, ap, ◌∙◌, List, [], ◌∷◌, ◌++◌, Option, Some, None, Bool, true, false, length, take, get_or, arith, add-one}
+use Rattle.std.proofs.Math.ListN.{get_or-map}
+use Rattle.std.specs.Prelude.{find, count_by, nat_lt, IsTrue, ◌↔◌, is_some}
 use Rattle.std.proofs.lemmas.Bool.Decides.{nat_tests}
 use Rattle.std.specs.Option.{option_or}
-use Rattle.std.proofs.lemmas.List.{take_more}
+use Rattle.std.proofs.lemmas.List.{take_more, map-append}
 use Rattle.std.proofs.lemmas.List.Elements.{filter_map-append}
 use Rattle.std.proofs.lemmas.List.Folds.{find-append}
-use Rattle.protocol.specs.Ballots.{Ballot, is_same}
+use Rattle.protocol.specs.Ballots.{Ballot, is_same, members}
 use Rattle.protocol.specs.Rows.{Vote}
 use Rattle.protocol.specs.Learner.{votes_at}
-use Rattle.learner.specs.Slots.{votes_in, is_ripe_in, ripe_in, least_in}
+use Rattle.learner.specs.Slots.{nothing_heard, votes_in, is_ripe_in, ripe_in, least_in}
 
 -- as `ripe_in`, looked for in the first i slots
 abbrev pub ripe_before : List (Option Vote) → ℕ → Option Vote
@@ -62,6 +63,19 @@ pub read : (slots : List (Option Vote)) (i : ℕ) (x o : Option Vote) → i < le
 read [] i x o l e f = absurd (omega arith)
 read (s ∷ slots) zero x o l e f = sym e ∙ f
 read (s ∷ slots) (suc i) x o l e f = read slots i x o (omega arith) e f
+
+-- a slot that has a vote is none of the slots before anything is heard
+pub not_empty : (slots : List (Option Vote)) (i : ℕ) (o : Option Vote) → get_or slots i None ≡ o → is_some o ≡ true → slots ≡ nothing_heard (length slots) → ⊥
+not_empty slots i o e some all =
+    let none : get_or slots i None ≡ None = ap (λ (xs : List (Option Vote)). get_or xs i None) all ∙ get_or-map (λ (m : ℕ). None) (members (length slots)) i 0 in
+    let bad : false ≡ true = ap (λ (x : Option Vote). is_some x) (sym none ∙ e) ∙ some in cc
+
+nothing_more : (i : ℕ) → nothing_heard i ++ None ∷ [] ≡ nothing_heard (i + 1)
+nothing_more i = rw (add-one i) (sym (map-append (λ (m : ℕ). None) (members i) (suc i ∷ [])))
+
+pub empty_more : (slots : List (Option Vote)) (i : ℕ) (o : Option Vote) → i < length slots → take i slots ≡ nothing_heard i → get_or slots i None ≡ o → is_some o ≡ false → take (i + 1) slots ≡ nothing_heard (i + 1)
+empty_more slots i None l front e none = take_more slots i None l ∙ rw (front, e) (nothing_more i)
+empty_more slots i (Some v) l front e none = let bad : true ≡ false = none in absurd cc
 
 -- a test of numbers is the test of the definition
 pub tested : (a b : ℕ) (r : Bool) → (IsTrue r ↔ (a < b)) → r ≡ nat_lt a b

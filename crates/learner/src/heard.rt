@@ -1,11 +1,11 @@
 //! Votes that were heard, in a slot for each member.
 
-ghost use Rattle.std.specs.Prelude.{◌≡◌, ◌≤◌, ◌<◌, ℕ, List, [], ◌∷◌, Option, Some, None, Bool, false, IfOk, IsOk, OnOk, OnErr, length, map, slice_get, option_map, option_copied, count_by};
+ghost use Rattle.std.specs.Prelude.{◌≡◌, ◌≤◌, ◌<◌, ℕ, List, [], ◌∷◌, Option, Some, None, Bool, false, IfOk, IsOk, OnOk, OnErr, length, map, slice_get, option_map, option_copied, count_by, MatchBool};
 ghost use Rattle.protocol.specs.Ballots.{is_below, members as all_members};
 ghost use Rattle.protocol.specs.Rows.{Vote as VoteValue};
 ghost use Rattle.protocol.specs.Marks.{Mark, Heard as HeardMark};
 ghost use Rattle.protocol.specs.Learner.{latest, ripe, votes_at};
-ghost use Rattle.learner.specs.Latest.{StandsFor, least_at};
+ghost use Rattle.learner.specs.Latest.{StandsFor, latest_votes, least_at};
 ghost use Rattle.learner.specs.Slots.{is_newer, kept, slot_of, nothing_heard, ripe_in, least_in};
 
 use arrayvec::ArrayVec;
@@ -66,6 +66,18 @@ fn is_at(slot: &Option<Vote>, ballot: Ballot) -> bool
         None => false,
         Some(vote) => vote.ballot().is_same(ballot),
     }
+}
+
+/// Whether no slot has a vote.
+fn are_empty(slots: &[Option<Vote>]) -> bool
+    ensures { MatchBool result (slots.now ≡ nothing_heard (length slots.now)) (slots.now ≡ nothing_heard (length slots.now) → ⊥) }
+{
+    for slot in slots {
+        if slot.is_some() {
+            return false;
+        }
+    }
+    true
 }
 
 /// How many slots have a vote at the ballot.
@@ -143,6 +155,13 @@ impl Heard {
             alloc,
             slots: empty_slots(members),
         }
+    }
+
+    /// Whether no vote was heard yet.
+    pub fn is_empty(&self) -> bool
+        ensures { MatchBool result (self.now ≡ latest_votes self.now.members 0 []) (self.now ≡ latest_votes self.now.members 0 [] → ⊥) }
+    {
+        are_empty(&self.slots)
     }
 
     /// Takes a member's vote in, and answers the ballot at which the latest votes of a majority now stand, if any.

@@ -1,14 +1,23 @@
 -- The acceptor's lines of the turn, from what it replies.
-use Rattle.std.proofs.Common.{◌≡◌, ℕ, refl, sym, ap, ◌∙◌, List, Option, Some, None, Bool, true, false, arith}
+use Rattle.std.proofs.Common.{◌≡◌, ℕ, refl, sym, ap, ◌∙◌, List, [], ◌∷◌, Option, Some, None, Bool, true, false, arith}
 use Rattle.std.specs.Prelude.{IsSome, is_some}
 use Rattle.std.proofs.lemmas.Bool.Decides.{nat_tests}
 use Rattle.protocol.specs.Ballots.{Ballot, is_same, is_below}
 use Rattle.protocol.specs.Rows.{Tape, Vote, Row, raised, voted}
-use Rattle.protocol.specs.Packets.{Packet, Promise, Nack}
+use Rattle.protocol.specs.Packets.{Packet, Promise, Accepted, Nack}
 use Rattle.protocol.specs.Marks.{Mark}
 use Rattle.protocol.specs.Acceptor.{Reply, Prepares, Accepts, Promises, Nacks, Votes, Votes_again, Says_nothing, reply_of, next_row, is_above, vote_is_at}
 use Rattle.protocol.specs.Turn as said
-use Rattle.protocol.specs.Turn.{answer, prepare_turn, accept_turn, vote_turn, take_vote}
+use Rattle.protocol.specs.Turn.{answer, prepare_turn, accept_turn, vote_turn, take_vote, hear, packet_to, to_others}
+use Rattle.protocol.specs.Proposals.{was_released}
+use Rattle.node_core.specs.declared.desk.Desk.{Desk}
+use Rattle.node_core.specs.declared.turn.Turn.{Turn}
+use Rattle.node_core.specs.declared.turn.Note.TheVariants as notes
+use Rattle.node_core.specs.Handling.{IsTurnAlone}
+use Rattle.node_core.specs.Seats.{Seat}
+use Rattle.node_core.specs.Standing.{Answers, IsLeft}
+use Rattle.node_core.specs.Turns.{IsSending, note_value}
+use Rattle.node_core.specs.Voting.{IsVote, IsVoting}
 use Rattle.node_core.proofs.Phases.{is_same-self}
 
 -- a promise: the row's own is none or below
@@ -107,12 +116,66 @@ module _ (k c m : ℕ) (marks : List Mark) (row : Row) (p : Packet) (t : Tape) w
             promised = ap (λ (r : Row). is_some r.promised) after_is;
           }
 
--- a Prepare adds no mark
-pub prepare_adds_none : (k m : ℕ) (marks : List Mark) (row : Row) (p : Packet) (o : Option Ballot) → (prepare_turn k m marks row p o).marks ≡ marks
-prepare_adds_none k m marks row p None = refl
+-- a Prepare adds no mark, and releases nothing
+pub prepare_adds_none : (k m : ℕ) (marks : List Mark) (row : Row) (p : Packet) (o : Option Ballot) → ((prepare_turn k m marks row p o).marks ≡ marks) × ((prepare_turn k m marks row p o).release ≡ None)
+prepare_adds_none k m marks row p None = (refl, refl)
 prepare_adds_none k m marks row p (Some a) = go (is_below a p.ballot) refl (is_same a p.ballot) refl
   where
-    go : (x : Bool) → is_below a p.ballot ≡ x → (y : Bool) → is_same a p.ballot ≡ y → (prepare_turn k m marks row p (Some a)).marks ≡ marks
-    go true e y f = rw e refl
-    go false e true f = rw (e, f) refl
-    go false e false f = rw (e, f) refl
+    go : (x : Bool) → is_below a p.ballot ≡ x → (y : Bool) → is_same a p.ballot ≡ y → ((prepare_turn k m marks row p (Some a)).marks ≡ marks) × ((prepare_turn k m marks row p (Some a)).release ≡ None)
+    go true e y f = rw e (refl, refl)
+    go false e true f = rw (e, f) (refl, refl)
+    go false e false f = rw (e, f) (refl, refl)
+
+module _ (s : Seat) (row : Row) (p : Packet) (tape : Tape) where
+  -- a Nack takes nothing in
+  pub nacked_alone : (marks : List Mark) (x : Turn) (a : Ballot) → reply_of row (Accepts p.ballot tape) ≡ Nacks a → IsSending x None (notes.Nacked a) (packet_to s.circuit s.me p.number p.ballot (Nack a) p.from ∷ []) → IsTurnAlone row marks (accept_turn s.circuit s.members s.me marks row p tape row.promised) x
+  nacked_alone marks x a reply r = rw (refusing s.circuit s.members s.me marks row p tape a reply) (record {
+    is_turn = record { row_after = rw r.row_after refl; out = r.out; release = r.release; note = rw r.noted refl };
+    takes_nothing = refl;
+    releases_nothing = r.release;
+  })
+
+  -- a vote that stands
+  pub again_votes : (x : Turn) (v : Vote) (b : Ballot) (voted : Tape) → b ≡ p.ballot → voted ≡ v.tape → row.vote ≡ Some v → reply_of row (Accepts p.ballot tape) ≡ Votes_again → IsSending x None (notes.VotedAgain b) (to_others s.circuit s.members s.me p.number p.ballot (Accepted voted)) → IsVote s row p tape x voted
+  again_votes x v b voted its same is reply r = record {
+    after = row;
+    line = λ marks. rw (r.noted, its, same) (standing s.circuit s.members s.me marks row p tape v is reply);
+    row_after = rw r.row_after refl;
+    out = r.out;
+    release = r.release;
+  }
+
+  -- a new vote
+  pub now_votes : (x : Turn) (after : Row) (b : Ballot) → b ≡ p.ballot → reply_of row (Accepts p.ballot tape) ≡ Votes → after ≡ next_row row (Accepts p.ballot tape) → IsSending x (Some after) (notes.Voted b) (to_others s.circuit s.members s.me p.number p.ballot (Accepted tape)) → IsVote s row p tape x tape
+  now_votes x after b its reply is r =
+      let v : Voting s.circuit s.members s.me [] row p tape after = voting s.circuit s.members s.me [] row p tape after reply is in
+      record {
+        after = after;
+        line = λ marks. rw (r.noted, its) (voting s.circuit s.members s.me marks row p tape after reply is).line;
+        row_after = rw r.row_after (refl, v.changes);
+        out = r.out;
+        release = r.release;
+      }
+
+  -- the turn, once the vote is heard
+  pub vote_heard :
+      (marks : List Mark) (x y : Turn) (voted : Tape) (d : Desk) (release : Option Tape) → IsVote s row p tape x voted
+      → y.row ≡ x.row → y.out.items ≡ x.out.items → y.release ≡ release → y.note ≡ x.note
+      → (release ≡ (hear s.members p.number s.me p.ballot voted marks).release) × IsLeft d release (hear s.members p.number s.me p.ballot voted marks).marks
+      → Answers row (accept_turn s.circuit s.members s.me marks row p tape row.promised) y d
+  vote_heard marks x y voted d release v saves sends releases noted h = rw (v.line marks) (record {
+    is_turn = record { row_after = rw saves v.row_after; out = sends ∙ v.out; release = releases ∙ h.0; note = ap note_value noted };
+    left = rw releases h.1;
+  })
+
+  -- of a number that was released it is not heard
+  vote_alone : (marks : List Mark) (x : Turn) (voted : Tape) → IsVote s row p tape x voted → was_released p.number marks ≡ true → IsTurnAlone row marks (accept_turn s.circuit s.members s.me marks row p tape row.promised) x
+  vote_alone marks x voted v r = rw (v.line marks, r) (record {
+    is_turn = record { row_after = v.row_after; out = v.out; release = v.release; note = refl };
+    takes_nothing = refl;
+    releases_nothing = v.release;
+  })
+
+  pub voting_alone : (marks : List Mark) (x : Turn) (o : Option Tape) → IsVoting s row p tape x o → was_released p.number marks ≡ true → IsTurnAlone row marks (accept_turn s.circuit s.members s.me marks row p tape row.promised) x
+  voting_alone marks x None h r = h marks
+  voting_alone marks x (Some voted) h r = vote_alone marks x voted h r

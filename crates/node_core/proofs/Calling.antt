@@ -1,29 +1,64 @@
 -- What the calls of a core answer.
-use Rattle.std.proofs.Common.{◌≡◌, ℕ, refl, sym, ap, ◌∙◌, List, Option, Some, None, Bool, true, false}
+use Rattle.std.proofs.Common.{◌≡◌, ℕ, refl, sym, ap, subst, ◌∙◌, List, Option, Some, None, Bool, true, false}
 use Rattle.std.specs.Prelude.{is_some, not}
 use Rattle.protocol.specs.Rows.{Tape, Row}
 use Rattle.protocol.specs.Marks.{Mark}
 use Rattle.protocol.specs.Ballots.{Ballot, next}
-use Rattle.protocol.specs.Turn.{begin}
+use Rattle.protocol.specs.Turn as said
+use Rattle.protocol.specs.Turn.{begin, due_turn, packet_turn}
+use Rattle.protocol.specs.Proposals.{open_proposal}
+use Rattle.protocol.specs.Packets.{Packet}
 use Rattle.node_core.specs.declared.event.Event.{Event}
 use Rattle.node_core.specs.declared.event.Event.TheVariants as events
-use Rattle.node_core.specs.declared.turn.Turn.{Turn}
 use Rattle.node_core.specs.declared.turn.CoreRefusal.{CoreRefusal}
 use Rattle.node_core.specs.declared.turn.CoreRefusal.TheVariants as refusals
+use Rattle.node_core.specs.Seats.{Seat}
 use Rattle.node_core.specs.Standing.{Core}
-use Rattle.node_core.specs.Memory.{MayBegin, MayTakeMemory}
-use Rattle.node_core.proofs.Stirring.{takes_in, begin_adds}
-use Rattle.node_core.specs.Calls.{Started, TookTurn, RefusesEvent, Refuses, is_memory}
+use Rattle.node_core.specs.Turns.{event_value}
+use Rattle.node_core.specs.Calls.{StartIs, TurnIs, RefusesToStart, IsRefused, RefusesEvent, Refuses, is_memory}
 
-pub offered : (old : Core) (n : ℕ) (tape : Tape) (now : ℕ) (marks : List Mark) (row : Row) (x : Turn) (new : Core) → Started old n (Some tape) now marks row x new → TookTurn old (events.Offer n tape now) marks row x new
-offered old n tape now marks row x new s =
-    let e : next row.promised old.me ≡ Some s.ballot = s.next_ballot in
-    record { free = s.free; turn = begin old.circuit old.members old.me n s.ballot (Some tape) now marks row; is_the_turn = rw e refl; took = s.took }
+-- an offer or a search that begins the next ballot
+pub offered : (s : Seat) (n j : ℕ) (tape : Tape) (now : ℕ) (marks : List Mark) (row : Row) (P : said.Turn → Type 0) → j ≡ n → StartIs s n (Some tape) now marks row P → TurnIs s (events.Offer j tape now) marks row P
+offered s n j tape now marks row P same h = subst (λ i. TurnIs s (events.Offer i tape now) marks row P) (sym same)
+    (let e : next row.promised s.me ≡ Some h.ballot = h.is_next in record { free = h.free; turn = begin s.circuit s.members s.me n h.ballot (Some tape) now marks row; is_the_turn = rw e refl; holds = h.holds })
 
-pub sought : (old : Core) (n now : ℕ) (marks : List Mark) (row : Row) (x : Turn) (new : Core) → Started old n None now marks row x new → TookTurn old (events.Seek n now) marks row x new
-sought old n now marks row x new s =
-    let e : next row.promised old.me ≡ Some s.ballot = s.next_ballot in
-    record { free = s.free; turn = begin old.circuit old.members old.me n s.ballot None now marks row; is_the_turn = rw e refl; took = s.took }
+pub sought : (s : Seat) (n j now : ℕ) (marks : List Mark) (row : Row) (P : said.Turn → Type 0) → j ≡ n → StartIs s n None now marks row P → TurnIs s (events.Seek j now) marks row P
+sought s n j now marks row P same h = subst (λ i. TurnIs s (events.Seek i now) marks row P) (sym same)
+    (let e : next row.promised s.me ≡ Some h.ballot = h.is_next in record { free = h.free; turn = begin s.circuit s.members s.me n h.ballot None now marks row; is_the_turn = rw e refl; holds = h.holds })
+
+pub came_due : (s : Seat) (n j now : ℕ) (marks : List Mark) (row : Row) (P : said.Turn → Type 0) → j ≡ n → P (due_turn s.circuit s.members s.me n now marks row (open_proposal n marks)) → TurnIs s (events.Due j now) marks row P
+came_due s n j now marks row P same h = subst (λ i. TurnIs s (events.Due i now) marks row P) (sym same) (record { free = tt; turn = due_turn s.circuit s.members s.me n now marks row (open_proposal n marks); is_the_turn = refl; holds = h })
+
+pub packet_came : (s : Seat) (p : Packet) (now : ℕ) (marks : List Mark) (row : Row) (P : said.Turn → Type 0) → P (packet_turn s.circuit s.members s.me now marks row p p.body) → TurnIs s (events.Arrived p now) marks row P
+packet_came s p now marks row P h = record { free = tt; turn = packet_turn s.circuit s.members s.me now marks row p p.body; is_the_turn = refl; holds = h }
+
+-- a turn of which P holds is one of which Q holds
+pub turn_so :
+    (s : Seat) (event : Event) (marks : List Mark) (row : Row) (P Q : said.Turn → Type 0) → TurnIs s event marks row P
+    → ((t : said.Turn) → said.turn s.circuit s.members s.me marks row (event_value event) ≡ Some t → P t → Q t) → TurnIs s event marks row Q
+turn_so s event marks row P Q h f = record { free = h.free; turn = h.turn; is_the_turn = h.is_the_turn; holds = f h.turn h.is_the_turn h.holds }
+
+-- memory may be refused to any event
+pub memory_refused : (event : Event) (same : Type 0) (stands : List Mark → Type 0) (m : ℕ) (row : Row) → IsRefused event refusals.OutOfMemory same stands m row
+memory_refused (events.Offer n tape now) same stands m row = tt
+memory_refused (events.Seek n now) same stands m row = tt
+memory_refused (events.Due n now) same stands m row = refl
+memory_refused (events.Arrived p now) same stands m row = refl
+
+-- why there is no turn, told of what stands for the same marks and stays where the other does
+module _ (A B : Type 0) (P Q : List Mark → Type 0) (stay : A → B) (stand : (marks : List Mark) → Q marks → P marks) (m : ℕ) (row : Row) where
+  pub start_refused : (e : CoreRefusal) (n : ℕ) → RefusesToStart e A P m n row → RefusesToStart e B Q m n row
+  start_refused refusals.Failed n h = h
+  start_refused refusals.AlreadyReleased n h = (stay h.0, λ marks q. h.1 marks (stand marks q))
+  start_refused refusals.AlreadyOpen n h = (stay h.0, λ marks q. h.1 marks (stand marks q))
+  start_refused refusals.RoundsSpent n h = (stay h.0, (λ marks q. h.1 marks (stand marks q)), h.2)
+  start_refused refusals.OutOfMemory n h = tt
+
+  pub refused_told : (event : Event) (e : CoreRefusal) → IsRefused event e A P m row → IsRefused event e B Q m row
+  refused_told (events.Offer n tape now) e h = start_refused e n h
+  refused_told (events.Seek n now) e h = start_refused e n h
+  refused_told (events.Due n now) e h = h
+  refused_told (events.Arrived p now) e h = h
 
 -- the core had not failed, and memory was not refused
 pub refused_so : (event : Event) (e : CoreRefusal) (old : Core) (row : Row) (new : Core) → is_memory e ≡ false → RefusesEvent event e old row new → Refuses e event old row new
@@ -55,24 +90,3 @@ memory_so refusals.AlreadyReleased b h t = let f : true ≡ false = sym t ∙ h 
 memory_so refusals.AlreadyOpen b h t = let f : true ≡ false = sym t ∙ h in absurd cc
 memory_so refusals.RoundsSpent b h t = let f : true ≡ false = sym t ∙ h in absurd cc
 memory_so refusals.OutOfMemory b h t = refl
-
--- a ballot that may begin adds a mark
-pub offer_takes : (old : Core) (n : ℕ) (tape : Tape) (now : ℕ) (marks : List Mark) (row : Row) → MayBegin old.me n marks row → MayTakeMemory old (events.Offer n tape now) marks row
-offer_takes old n tape now marks row h =
-    let e : next row.promised old.me ≡ Some h.ballot = h.is_next in
-    record {
-      free = h.free;
-      turn = begin old.circuit old.members old.me n h.ballot (Some tape) now marks row;
-      is_the_turn = rw e refl;
-      stirs = takes_in row marks (begin old.circuit old.members old.me n h.ballot (Some tape) now marks row) (begin_adds old.circuit old.members old.me n h.ballot (Some tape) now marks row);
-    }
-
-pub seek_takes : (old : Core) (n now : ℕ) (marks : List Mark) (row : Row) → MayBegin old.me n marks row → MayTakeMemory old (events.Seek n now) marks row
-seek_takes old n now marks row h =
-    let e : next row.promised old.me ≡ Some h.ballot = h.is_next in
-    record {
-      free = h.free;
-      turn = begin old.circuit old.members old.me n h.ballot None now marks row;
-      is_the_turn = rw e refl;
-      stirs = takes_in row marks (begin old.circuit old.members old.me n h.ballot None now marks row) (begin_adds old.circuit old.members old.me n h.ballot None now marks row);
-    }

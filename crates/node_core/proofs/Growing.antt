@@ -1,13 +1,15 @@
 -- Each turn adds marks of its own number alone.
-use Rattle.std.proofs.Common.{◌≡◌, ℕ, refl, ap, List, [], ◌∷◌, Option, Some, None, Bool, true, false}
+use Rattle.std.proofs.Common.{◌≡◌, ℕ, refl, ap, subst, List, [], ◌∷◌, Option, Some, None, Bool, true, false}
 use Rattle.std.specs.Prelude.{◌==◌}
-use Rattle.protocol.specs.Ballots.{Ballot, is_majority}
-use Rattle.protocol.specs.Rows.{Tape, Vote, Row, raised}
-use Rattle.protocol.specs.Packets.{Packet}
+use Rattle.protocol.specs.Ballots.{Ballot, is_majority, is_same, is_below, next}
+use Rattle.protocol.specs.Rows.{Tape, Vote, Row, raised, voted}
+use Rattle.protocol.specs.Packets.{Packet, Body, Prepare, Promise, Accept, Accepted, Nack}
 use Rattle.protocol.specs.Marks.{Mark, Began, Promised, Proposed, Denied, Heard, Closed, Released}
-use Rattle.protocol.specs.Proposals.{Opening, was_released, since_began, counted, is_counted, pick, is_due}
+use Rattle.protocol.specs.Proposals.{Opening, was_released, open_proposal, gathering_at, proposal_at, since_began, counted, is_counted, pick, is_due}
 use Rattle.protocol.specs.Learner.{ripe}
-use Rattle.protocol.specs.Turn.{hear, propose, begin, renew, next_ballot, due_turn, promise_turn, nack_turn, is_that}
+use Rattle.protocol.specs.Turn as said
+use Rattle.protocol.specs.Turn.{hear, propose, begin, start_turn, renew, next_ballot, due_turn, promise_turn, nack_turn, accept_turn, take_vote, vote_turn, packet_turn, is_that}
+use Rattle.node_core.proofs.Accepting.{prepare_adds_none}
 use Rattle.node_core.specs.Standing.{Grows, marked_number}
 
 pub stays : (n : ℕ) (marks : List Mark) → Grows n marks marks
@@ -16,7 +18,7 @@ stays n marks = record { new = []; is = refl; about = tt }
 pub adds : (n : ℕ) (before after : List Mark) (x : Mark) → marked_number x ≡ n → Grows n before after → Grows n before (x ∷ after)
 adds n before after x e g = record { new = x ∷ g.new; is = ap (λ (marks : List Mark). x ∷ marks) g.is; about = (e, g.about) }
 
-pub hears : (c n m : ℕ) (b : Ballot) (t : Tape) (before marks : List Mark) → Grows n before marks → Grows n before (hear c n m b t marks).marks
+hears : (c n m : ℕ) (b : Ballot) (t : Tape) (before marks : List Mark) → Grows n before marks → Grows n before (hear c n m b t marks).marks
 hears c n m b t before marks g = go (was_released n marks) refl (ripe c n (Heard n m b t ∷ marks)) refl
   where
     go : (x : Bool) → was_released n marks ≡ x → (y : Option Vote) → ripe c n (Heard n m b t ∷ marks) ≡ y → Grows n before (hear c n m b t marks).marks
@@ -24,11 +26,11 @@ hears c n m b t before marks g = go (was_released n marks) refl (ripe c n (Heard
     go false e None f = rw (e, f) (adds n before marks (Heard n m b t) refl g)
     go false e (Some v) f = rw (e, f) (adds n before (Heard n m b t ∷ marks) (Released n v.tape) refl (adds n before marks (Heard n m b t) refl g))
 
-pub proposes : (k c m n : ℕ) (b : Ballot) (now : ℕ) (before marks : List Mark) (row : Row) (o : Option Tape) → Grows n before marks → Grows n before (propose k c m n b now marks row o).marks
+proposes : (k c m n : ℕ) (b : Ballot) (now : ℕ) (before marks : List Mark) (row : Row) (o : Option Tape) → Grows n before marks → Grows n before (propose k c m n b now marks row o).marks
 proposes k c m n b now before marks row None g = adds n before marks (Closed n) refl g
 proposes k c m n b now before marks row (Some t) g = hears c n m b t before (Proposed n b now ∷ marks) (adds n before marks (Proposed n b now) refl g)
 
-pub begins : (k c m n : ℕ) (b : Ballot) (own : Option Tape) (now : ℕ) (marks : List Mark) (row : Row) → Grows n marks (begin k c m n b own now marks row).marks
+begins : (k c m n : ℕ) (b : Ballot) (own : Option Tape) (now : ℕ) (marks : List Mark) (row : Row) → Grows n marks (begin k c m n b own now marks row).marks
 begins k c m n b own now marks row = go (c == 1) refl
   where
     began : Grows n marks (Began n b own row.vote now ∷ marks)
@@ -42,7 +44,7 @@ renews : (k c m n now : ℕ) (p : Opening) (marks : List Mark) (row : Row) (b : 
 renews k c m n now p marks row None = adds n marks marks (Closed n) refl (stays n marks)
 renews k c m n now p marks row (Some b) = begins k c m n b p.own now marks row
 
-pub falls_due : (k c m n now : ℕ) (marks : List Mark) (row : Row) (p : Option Opening) → Grows n marks (due_turn k c m n now marks row p).marks
+falls_due : (k c m n now : ℕ) (marks : List Mark) (row : Row) (p : Option Opening) → Grows n marks (due_turn k c m n now marks row p).marks
 falls_due k c m n now marks row None = stays n marks
 falls_due k c m n now marks row (Some p) = go (is_due m n now (since_began n marks) (Some p)) refl
   where
@@ -50,7 +52,7 @@ falls_due k c m n now marks row (Some p) = go (is_due m n now (since_began n mar
     go true e = rw e (renews k c m n now p marks row (next_ballot m n marks row))
     go false e = rw e (stays n marks)
 
-pub promises : (k c m now : ℕ) (marks : List Mark) (row : Row) (p : Packet) (r : Option Vote) (o : Option Opening) → Grows p.number marks (promise_turn k c m now marks row p r o).marks
+promises : (k c m now : ℕ) (marks : List Mark) (row : Row) (p : Packet) (r : Option Vote) (o : Option Opening) → Grows p.number marks (promise_turn k c m now marks row p r o).marks
 promises k c m now marks row p r None = stays p.number marks
 promises k c m now marks row p r (Some o) = go (is_that row.promised p.ballot) refl (is_counted (counted m p.number o (since_began p.number marks)) p.from) refl (is_majority c (is_counted (counted m p.number o (Promised p.number p.from p.ballot r ∷ since_began p.number marks)))) refl
   where
@@ -63,6 +65,46 @@ promises k c m now marks row p r (Some o) = go (is_that row.promised p.ballot) r
     go true e false f false h = rw (e, f, h) counts
     go true e false f true h = rw (e, f, h) (proposes k c m p.number p.ballot now marks (Promised p.number p.from p.ballot r ∷ marks) row (pick o.own (counted m p.number o (Promised p.number p.from p.ballot r ∷ since_began p.number marks))) counts)
 
-pub denies : (marks : List Mark) (row : Row) (p : Packet) (a : Ballot) (o : Option Opening) → Grows p.number marks (nack_turn marks row p a o).marks
+denies : (marks : List Mark) (row : Row) (p : Packet) (a : Ballot) (o : Option Opening) → Grows p.number marks (nack_turn marks row p a o).marks
 denies marks row p a None = stays p.number marks
 denies marks row p a (Some o) = adds p.number marks marks (Denied p.number a) refl (stays p.number marks)
+
+accepts : (k c m : ℕ) (marks : List Mark) (row : Row) (p : Packet) (t : Tape) (o : Option Ballot) → Grows p.number marks (accept_turn k c m marks row p t o).marks
+accepts k c m marks row p t o = above o
+  where
+    votes : (w : Row) (u : Tape) (note : said.Note) → Grows p.number marks (vote_turn k c m marks w p u note).marks
+    votes w u note = hears c p.number m p.ballot u marks marks (stays p.number marks)
+
+    takes : (v : Option Vote) → Grows p.number marks (take_vote k c m marks row p t v).marks
+    takes None = votes (voted p.ballot t) t (said.Note_voted p.ballot)
+    takes (Some v) = go (is_same v.ballot p.ballot) refl
+      where
+        go : (x : Bool) → is_same v.ballot p.ballot ≡ x → Grows p.number marks (take_vote k c m marks row p t (Some v)).marks
+        go true e = rw e (votes row v.tape (said.Note_voted_again p.ballot))
+        go false e = rw e (votes (voted p.ballot t) t (said.Note_voted p.ballot))
+
+    above : (q : Option Ballot) → Grows p.number marks (accept_turn k c m marks row p t q).marks
+    above None = takes row.vote
+    above (Some a) = go (is_below p.ballot a) refl
+      where
+        go : (x : Bool) → is_below p.ballot a ≡ x → Grows p.number marks (accept_turn k c m marks row p t (Some a)).marks
+        go true e = rw e (stays p.number marks)
+        go false e = rw e (takes row.vote)
+
+receives : (k c m now : ℕ) (marks : List Mark) (row : Row) (p : Packet) (body : Body) → Grows p.number marks (packet_turn k c m now marks row p body).marks
+receives k c m now marks row p Prepare = rw (prepare_adds_none k m marks row p row.promised).0 (stays p.number marks)
+receives k c m now marks row p (Promise r) = promises k c m now marks row p r (gathering_at p.number p.ballot marks)
+receives k c m now marks row p (Accept t) = accepts k c m marks row p t row.promised
+receives k c m now marks row p (Accepted t) = hears c p.number p.from p.ballot t marks marks (stays p.number marks)
+receives k c m now marks row p (Nack a) = denies marks row p a (proposal_at p.number p.ballot marks)
+
+-- the turn of any event
+starts : (k c m n : ℕ) (own : Option Tape) (now : ℕ) (marks : List Mark) (row : Row) (o : Option Ballot) (t : said.Turn) → start_turn k c m n own now marks row o ≡ Some t → Grows n marks t.marks
+starts k c m n own now marks row None t e = absurd cc
+starts k c m n own now marks row (Some b) t e = let is : begin k c m n b own now marks row ≡ t = cc in subst (λ (u : said.Turn). Grows n marks u.marks) is (begins k c m n b own now marks row)
+
+pub grows : (k c m : ℕ) (marks : List Mark) (row : Row) (event : said.Event) (t : said.Turn) → said.turn k c m marks row event ≡ Some t → Grows (said.number_of event) marks t.marks
+grows k c m marks row (said.Offered n tape now) t e = starts k c m n (Some tape) now marks row (next row.promised m) t e
+grows k c m marks row (said.Sought n now) t e = starts k c m n None now marks row (next row.promised m) t e
+grows k c m marks row (said.Came_due n now) t e = let is : due_turn k c m n now marks row (open_proposal n marks) ≡ t = cc in subst (λ (u : said.Turn). Grows n marks u.marks) is (falls_due k c m n now marks row (open_proposal n marks))
+grows k c m marks row (said.Arrived p now) t e = let is : packet_turn k c m now marks row p p.body ≡ t = cc in subst (λ (u : said.Turn). Grows p.number marks u.marks) is (receives k c m now marks row p p.body)

@@ -1,18 +1,24 @@
 -- A core goes on to stand for the marks once what is in hand of one number was acted on.
-use Rattle.std.proofs.Common.{◌≡◌, ℕ, refl, sym, ap, subst, ◌∙◌, List, Option, Some, None, Bool, true, false}
+use Rattle.std.proofs.Common.{◌≡◌, ◌⊎◌, inl, inr, ℕ, refl, sym, ap, subst, ◌∙◌, List, [], Option, Some, None, Bool, true, false}
 use Rattle.std.specs.Prelude.{is_some, ◌==◌, if◌then◌else◌}
 use Rattle.std.proofs.lemmas.Bool.{eqb-true, eq-eqb}
 use Rattle.std.specs.Ordering.{nat_cmp}
 use Rattle.std.specs.BTreeMap.{BTreeMap, get, is_at, WritesThrough, Updates}
 use Rattle.std.proofs.lemmas.Map.Lookups.{exact_unsigned}
 use Rattle.std.proofs.lemmas.Map.Views.{tells_apart}
-use Rattle.protocol.specs.Rows.{Tape}
 use Rattle.protocol.specs.Marks.{Mark}
 use Rattle.protocol.specs.Proposals.{was_released, open_proposal, open_ballot}
-use Rattle.learner.specs.Latest.{OtherMarksPass as OtherVotesPass}
-use Rattle.proposer.specs.InHand.{OtherMarksPass as OtherProposalsPass}
+use Rattle.learner.specs.Latest.{LatestVotes, latest_votes, OtherMarksPass as OtherVotesPass}
+use Rattle.proposer.specs.InHand.{InHand, OtherMarksPass as OtherProposalsPass}
 use Rattle.node_core.specs.declared.desk.Desk.{Desk}
-use Rattle.node_core.specs.Standing.{Core, StandsFor, InHandStands, IsLeft, Grows, Moves, AreDesksOf, IsDeskOf, fresh, desk_in, desk_at, is_noted}
+use Rattle.node_core.specs.Standing.{Core, StandsFor, DeskStands, ProposalStands, InHandStands, IsLeft, Answers, Grows, Kept, Moves, Settles, AreDesksOf, IsDeskOf, fresh, desk_in, desk_at, is_noted}
+use Rattle.node_core.specs.declared.turn.Turn.{Turn}
+use Rattle.node_core.specs.Handling.{IsTurnAlone}
+use Rattle.protocol.specs.Rows.{Tape, Row}
+use Rattle.protocol.specs.Turn as said
+use Rattle.std.specs.List.{list_any}
+use Rattle.std.specs.Map.{set_value}
+use Rattle.std.proofs.lemmas.Map.Steps.{set_value_same}
 use Rattle.node_core.specs.Seats.{Seat}
 use Rattle.node_core.proofs.Passing.{other_released, other_desk}
 
@@ -41,17 +47,6 @@ module _ (votes : OtherVotesPass) (proposals : OtherProposalsPass) (n : ℕ) (ma
             subst (λ j. (is_noted w j ≡ was_released j after) × InHandStands w.members j (desk_at w j) after) is (noted, subst (λ (x : Option Desk). InHandStands w.members n x after) (sym m.here) stands)
         both k false e = other_numbers o r m k e
 
-    -- what is left of a desk that was acted on
-    pub settled : (d : Desk) → d.number ≡ n → (release : Option Tape) (r : Bool) → r ≡ is_some release → IsLeft d release after → Moves v n (if r then None else Some d) r w → StandsFor w after
-    settled d number None true e left m = absurd cc
-    settled d number None false e left m =
-        let unreleased : was_released n after ≡ false = subst (λ k. was_released k after ≡ false) number left.unreleased in
-        moved (Some d) false m (m.unnoted n (λ t. absurd cc) ∙ h.released n ∙ u ∙ sym unreleased) (number, left)
-    settled d number (Some t) true e left m =
-        let released : was_released n after ≡ true = subst (λ k. was_released k after ≡ true) number left in
-        moved None true m (m.noted refl ∙ sym released) (λ f. let bad : true ≡ false = sym released ∙ f in absurd cc)
-    settled d number (Some t) false e left m = absurd cc
-
 -- a number that is another is found elsewhere
 apart_at : (n k : ℕ) → (k ≡ n → ⊥) → is_at (nat_cmp n) k ≡ false
 apart_at n k apart = go (is_at (nat_cmp n) k) refl
@@ -69,6 +64,10 @@ pub written : (m after : BTreeMap ℕ Desk) (n : ℕ) (old d : Desk) → Some ol
 written m after n old d e w =
     let u = w.3 (subst (λ (o : Option Desk). is_some o ≡ true) e refl) in
     record { here = u.1; others = λ k apart. u.2 k (apart_at n k apart) }
+
+-- where it was left as it was, nothing changes
+pub unwritten : (m after : BTreeMap ℕ Desk) (n : ℕ) (old d : Desk) → Some old ≡ get nat_cmp m n → WritesThrough nat_cmp (nat_cmp n) m d after → d ≡ old → after.entries ≡ m.entries
+unwritten m after n old d e w same = w.0 ∙ ap (λ (x : Desk). set_value (is_at (nat_cmp n)) m.entries x) same ∙ set_value_same (is_at (nat_cmp n)) m.entries old (sym e)
 
 -- and where a desk was put in
 pub was_put : (m after : BTreeMap ℕ Desk) (n : ℕ) (d : Desk) → Updates nat_cmp m after n (Some d) → Written m after n d
@@ -92,25 +91,106 @@ written_of s m after n d h w of number = λ k x e. go k x e (n == k) refl
 pub stands_there : (c : Core) (m : BTreeMap ℕ Desk) (n : ℕ) (o : Option Desk) (marks : List Mark) → m.entries ≡ c.desks → o ≡ get nat_cmp m n → StandsFor c marks → InHandStands c.members n o marks
 stands_there c m n o marks is e h = subst (λ (x : Option Desk). InHandStands c.members n x marks) (ap (λ (es : List (ℕ × Desk)). desk_in es n) (sym is) ∙ sym e) (h.in_hand n)
 
--- the core, once what is in hand of n was acted on, and the number then settled
-pub acted_on :
-    {mid : Core} (votes : OtherVotesPass) (proposals : OtherProposalsPass) (before after : Core) (m m' : BTreeMap ℕ Desk) (n k j : ℕ) (d : Desk)
-    (marks next : List Mark) (release : Option Tape) (r : Bool)
-    → k ≡ n → j ≡ n → record mid { desks = m.entries } ≡ before → mid.desks ≡ m'.entries → Written m m' k d
-    → StandsFor before marks → was_released n marks ≡ false → Grows n marks next → d.number ≡ n → r ≡ is_some release → IsLeft d release next
-    → Moves mid j (if r then None else desk_at mid j) r after → StandsFor after next
-acted_on {mid} votes proposals before after m m' n k j d marks next release r key its view shown written h u g number e left moved =
-    let w : Written m m' n d = subst (λ i. Written m m' i d) key written in
-    let moves : Moves mid n (if r then None else desk_at mid n) r after = subst (λ i. Moves mid i (if r then None else desk_at mid i) r after) its moved in
-    settled votes proposals n marks next g (record mid { desks = m.entries }) after (subst (λ (c : Core). StandsFor c marks) (sym view) h) u d number release r e left
-    (record {
-      failed = moves.failed;
-      members = moves.members;
-      here = moves.here ∙ ap (λ (o : Option Desk). if r then None else o) (ap (λ (es : List (ℕ × Desk)). desk_in es n) shown ∙ w.here);
-      others = λ i apart. moves.others i apart ∙ ap (λ (es : List (ℕ × Desk)). desk_in es i) shown ∙ w.others i apart;
-      noted = moves.noted;
-      unnoted = moves.unnoted;
-    })
+-- with nothing in hand of a number that was not released, a new desk stands
+pub new_stands : (v : Core) (c n : ℕ) (d : Desk) (marks : List Mark) → desk_at v n ≡ None → c ≡ v.members → d ≡ fresh c n → StandsFor v marks → was_released n marks ≡ false → DeskStands d marks
+new_stands v c n d marks none of is h u =
+    subst (λ (x : Desk). DeskStands x marks) (sym (is ∙ ap (λ k. fresh k n) of)) (subst (λ (o : Option Desk). InHandStands v.members n o marks) none (h.in_hand n) u)
+
+-- there is one desk that stands and has nothing in hand
+one_desk : (d : Desk) (marks : List Mark) → DeskStands d marks → DeskStands (fresh d.heard.members d.number) marks → d ≡ fresh d.heard.members d.number
+one_desk d marks s f = go d.proposal refl
+  where
+    heard : d.heard ≡ latest_votes d.heard.members d.number []
+    heard = s.heard ∙ sym f.heard
+
+    go : (p : Option InHand) → d.proposal ≡ p → d ≡ fresh d.heard.members d.number
+    go None e =
+        ap (λ (q : LatestVotes). let x : Desk = record { number = d.number; proposal = d.proposal; heard = q } in x) heard
+        ∙ ap (λ (p : Option InHand). let x : Desk = record { number = d.number; proposal = p; heard = latest_votes d.heard.members d.number [] } in x) e
+    go (Some p) e =
+        let there = subst (λ (o : Option InHand). ProposalStands o d.number marks) e s.proposal in
+        let bad : None ≡ Some there.opening = sym f.proposal ∙ there.is_open in absurd cc
+
+-- so where something is in hand then, something was taken in
+pub new_stirs :
+    (c n : ℕ) (old d : Desk) (row : Row) (marks : List Mark) (t : said.Turn) (x : Turn) → old ≡ fresh c n → DeskStands old marks → d.number ≡ n → d.heard.members ≡ c
+    → (d ≡ fresh d.heard.members d.number → ⊥) → Answers row t x d → t.marks ≡ marks → ⊥
+new_stirs c n old d row marks t x is s number of holds a same = go x.release (subst (λ (ms : List Mark). IsLeft d x.release ms) same a.left)
+  where
+    there : DeskStands (fresh d.heard.members d.number) marks
+    there = subst (λ k. DeskStands (fresh k d.number) marks) (sym of) (subst (λ k. DeskStands (fresh c k) marks) (sym number) (subst (λ (y : Desk). DeskStands y marks) is s))
+
+    go : (o : Option Tape) → IsLeft d o marks → ⊥
+    go None left = holds (one_desk d marks left there)
+    go (Some u) left = let bad : true ≡ false = sym left ∙ there.unreleased in cc
+
+-- a desk that was acted on in place is kept
+pub in_place :
+    (circuit me members : ℕ) (failed : Bool) (released : List ℕ) (m after : BTreeMap ℕ Desk) (n : ℕ) (d : Desk) → Written m after n d → d.number ≡ n
+    → Kept (record { circuit = circuit; me = me; members = members; failed = failed; desks = m.entries; released = released }) d (record { circuit = circuit; me = me; members = members; failed = failed; desks = after.entries; released = released })
+in_place circuit me members failed released m after n d w number =
+    let there : Written m after d.number d = subst (λ i. Written m after i d) (sym number) w in
+    record { failed = refl; members = refl; released = refl; here = inl there.here; others = there.others }
+
+-- of a desk that was kept, with its number then settled
+module _ (votes : OtherVotesPass) (proposals : OtherProposalsPass) (before mid : Core) (n : ℕ) (d : Desk) (kept : Kept before d mid) (number : d.number ≡ n) where
+  moves : (o : Option Desk) (r : Bool) (after : Core) → Moves mid n o r after → Moves before n o r after
+  moves o r after m = record {
+    failed = m.failed ∙ kept.failed;
+    members = m.members ∙ kept.members;
+    here = m.here;
+    others = λ k apart. m.others k apart ∙ kept.others k (λ e. apart (e ∙ number));
+    noted = m.noted;
+    unnoted = λ k apart. m.unnoted k apart ∙ ap (λ (ks : List ℕ). list_any (is_at (nat_cmp k)) ks) kept.released;
+  }
+
+  module _ (marks next : List Mark) (h : StandsFor before marks) (u : was_released n marks ≡ false) (g : Grows n marks next) (members : d.heard.members ≡ before.members) where
+    settled : (release : Option Tape) (after : Core) → IsLeft d release next → Moves mid n (if is_some release then None else desk_at mid n) (is_some release) after → StandsFor after next
+    settled None after left m =
+        let unreleased : was_released n next ≡ false = subst (λ k. was_released k next ≡ false) number left.unreleased in
+        let whole = moves (desk_at mid n) false after m in
+        let stands = moved votes proposals n marks next g before after h u (desk_at mid n) false whole (whole.unnoted n (λ t. absurd cc) ∙ h.released n ∙ u ∙ sym unreleased) in
+        let of = members ∙ sym whole.members in
+        let here = subst (λ k. (desk_at mid k ≡ Some d) ⊎ ((desk_at mid k ≡ None) × (d ≡ fresh d.heard.members k))) number kept.here in
+        elim here as (λ _. StandsFor after next) [
+          | inl e ↦ stands (rw e (number, left))
+          | inr e ↦ stands (rw e.0 (λ _. subst (λ c. DeskStands (fresh c n) next) of (subst (λ (x : Desk). DeskStands x next) e.1 left)))
+        ]
+    settled (Some t) after left m =
+        let released : was_released n next ≡ true = subst (λ k. was_released k next ≡ true) number left in
+        moved votes proposals n marks next g before after h u None true (moves None true after m) (m.noted refl ∙ sym released) (λ f. let bad : true ≡ false = sym released ∙ f in absurd cc)
+
+    released_now : (release : Option Tape) → IsLeft d release next → is_some release ≡ true → next ≡ marks → ⊥
+    released_now None left e same = let bad : false ≡ true = e in cc
+    released_now (Some t) left e same =
+        let bad : true ≡ false = sym (subst (λ k. was_released k next ≡ true) number left) ∙ ap (was_released n) same ∙ u in cc
+
+  pub settles : (row : Row) (marks : List Mark) (t : said.Turn) (x : Turn) → StandsFor before marks → was_released n marks ≡ false → Grows n marks t.marks → d.heard.members ≡ before.members → Answers row t x d → Settles n row marks t x mid
+  settles row marks t x h u g members a = record {
+    is_turn = a.is_turn;
+    settled = λ after m. settled marks t.marks h u g members x.release after a.left m;
+    takes_in = released_now marks t.marks h u g members x.release a.left;
+  }
+
+-- a turn that takes nothing in leaves a core as it was
+pub settles_alone : (v : Core) (n : ℕ) (row : Row) (marks : List Mark) (t : said.Turn) (x : Turn) → StandsFor v marks → IsTurnAlone row marks t x → Settles n row marks t x v
+settles_alone v n row marks t x h a = record {
+  is_turn = a.is_turn;
+  settled = λ after m. stays after (subst (λ (o : Option Tape). Moves v n (if is_some o then None else desk_at v n) (is_some o) after) a.releases_nothing m);
+  takes_in = λ e. absurd (let bad : false ≡ true = ap (λ (o : Option Tape). is_some o) (sym a.releases_nothing) ∙ e in cc);
+}
+  where
+    same_at : (after : Core) → Moves v n (desk_at v n) false after → (k : ℕ) (b : Bool) → (n == k) ≡ b → desk_at after k ≡ desk_at v k
+    same_at after m k true e = let is : n ≡ k = eqb-true n k e in subst (λ j. desk_at after j ≡ desk_at v j) is m.here
+    same_at after m k false e = m.others k (λ f. (let y : (n == k) ≡ true = eq-eqb n k (sym f) in let bad : true ≡ false = sym y ∙ e in cc))
+
+    stays : (after : Core) → Moves v n (desk_at v n) false after → StandsFor after t.marks
+    stays after m =
+        subst (StandsFor after) (sym a.takes_nothing) (record {
+          unfailed = m.failed ∙ h.unfailed;
+          released = λ k. m.unnoted k (λ e. absurd cc) ∙ h.released k;
+          in_hand = λ k. (let same : desk_at after k ≡ desk_at v k = same_at after m k (n == k) refl in let of : after.members ≡ v.members = m.members in rw (same, of) (h.in_hand k));
+        })
 
 -- with nothing in hand no proposal is open
 pub none_open_in_hand : (c n : ℕ) (marks : List Mark) → InHandStands c n None marks → open_proposal n marks ≡ None

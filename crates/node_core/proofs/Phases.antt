@@ -1,6 +1,6 @@
 -- Lemmas on the lines of the turn.
 use Rattle.std.proofs.Common.{◌≡◌, ℕ, suc, refl, sym, ap, subst, ◌∙◌, List, [], ◌∷◌, Option, Some, None, Bool, true, false, Result, Ok, Err, arith}
-use Rattle.std.specs.Prelude.{IfOk, IfErr, OnOk, OnErr, ◌==◌, nat_lt, nat_le}
+use Rattle.std.specs.Prelude.{IfOk, IfErr, OnOk, OnErr, MatchResult, IsErr, ◌==◌, nat_lt, nat_le}
 use Rattle.std.proofs.lemmas.Bool.{eq-eqb}
 use Rattle.std.proofs.lemmas.Bool.Decides.{nat_tests}
 use Rattle.protocol.specs.Lists.{has}
@@ -20,6 +20,8 @@ use Rattle.node_core.specs.declared.turn.Turn.{Turn}
 use Rattle.node_core.specs.Seats.{Seat}
 use Rattle.node_core.specs.Standing.{Answers, DeskStands, Core, StandsFor, Took}
 use Rattle.node_core.specs.Turns.{note_value}
+use Rattle.node_core.specs.declared.turn.Note.TheVariants as notes
+use Rattle.node_core.specs.Handling.{IsTurnAlone}
 
 -- where the first fact gives the second, an Ok keeps it
 pub on_ok : {A E : Type 0} (r : Result A E) (P Q : A → Type 0) → IfOk r P → ((x : A) → P x → Q x) → IfOk r Q
@@ -41,6 +43,23 @@ if_err (Err e) P Q h f = f e h
 pub on_any_err : {A E : Type 0} (r : Result A E) (Q : Type 0) → Q → OnErr r Q
 on_any_err (Ok x) Q q = tt
 on_any_err (Err e) Q q = q
+
+-- where both outcomes are known, what follows from each
+pub on_match : {A E : Type 0} (r : Result A E) (P Q : A → Type 0) (F G : E → Type 0) → MatchResult r P F → ((x : A) → P x → Q x) → ((e : E) → F e → G e) → MatchResult r Q G
+on_match (Ok x) P Q F G h f g = f x h
+on_match (Err e) P Q F G h f g = g e h
+
+pub on_both : {A E : Type 0} (r : Result A E) (P Q : A → Type 0) (F : Type 0) (G : E → Type 0) → IfOk r P → OnErr r F → ((x : A) → P x → Q x) → ((e : E) → F → G e) → MatchResult r Q G
+on_both (Ok x) P Q F G h k f g = f x h
+on_both (Err e) P Q F G h k f g = g e k
+
+pub on_err : {A E : Type 0} (r : Result A E) (P : A → Type 0) (G : E → Type 0) → IsErr r → ((e : E) → G e) → MatchResult r P G
+on_err (Ok x) P G h g = let bad : false ≡ true = h in absurd cc
+on_err (Err e) P G h g = g e
+
+pub if_any_err : {A E : Type 0} (r : Result A E) (G : E → Type 0) → ((e : E) → G e) → IfErr r G
+if_any_err (Ok x) G g = tt
+if_any_err (Err e) G g = g e
 
 abbrev pub opening : Ballot → Option Tape → Option Vote → ℕ → Opening
 opening b own report now = record { ballot = b; own = own; report = report; now = now }
@@ -256,3 +275,11 @@ none_gathers n b marks e = go (has (proposes n b) (since_began n marks)) refl
 
 pub stale_nack : (marks : List Mark) (row : Row) (p : Packet) (a : Ballot) → open_proposal p.number marks ≡ None → nack_turn marks row p a (proposal_at p.number p.ballot marks) ≡ stays row marks said.Note_stale
 stale_nack marks row p a e = rw e refl
+
+-- a due moment of a number that was released
+pub idle_alone : (s : Seat) (n now : ℕ) (marks : List Mark) (row : Row) (x : Turn) → was_released n marks ≡ true → x.row ≡ None → x.out.items ≡ [] → x.release ≡ None → x.note ≡ notes.Idle → IsTurnAlone row marks (due_turn s.circuit s.members s.me n now marks row (open_proposal n marks)) x
+idle_alone s n now marks row x released saves sends releases noted = rw released (record {
+  is_turn = record { row_after = rw saves refl; out = sends; release = releases; note = rw noted refl };
+  takes_nothing = refl;
+  releases_nothing = releases;
+})

@@ -12,6 +12,7 @@ use Rattle.node_core.specs.declared.event.Event.TheVariants as events
 use Rattle.node_core.specs.declared.turn.Turn.{Turn}
 use Rattle.node_core.specs.declared.turn.CoreRefusal.{CoreRefusal}
 use Rattle.node_core.specs.declared.turn.CoreRefusal.TheVariants as refusals
+use Rattle.node_core.specs.Seats.{Seat}
 use Rattle.node_core.specs.Turns.{event_value}
 use Rattle.node_core.specs.Standing.{Core, StandsFor, Took}
 
@@ -32,20 +33,20 @@ pub record IsFree (n : ℕ) (marks : List Mark) : Type 0 where
   pub unreleased : was_released n marks ≡ false
   pub closed : open_proposal n marks ≡ None
 
--- a free number's next ballot was begun
-pub record Started (old : Core) (n : ℕ) (own : Option Tape) (now : ℕ) (marks : List Mark) (row : Row) (x : Turn) (new : Core) : Type 0 where
+-- an offer or a search of a free number begins its next ballot, by a turn of which P holds
+pub record StartIs (s : Seat) (n : ℕ) (own : Option Tape) (now : ℕ) (marks : List Mark) (row : Row) (P : said.Turn → Type 0) : Type 0 where
   pub free : IsFree n marks
   pub ballot : Ballot
-  pub next_ballot : next row.promised old.me ≡ Some ballot
-  pub took : Took row (begin old.circuit old.members old.me n ballot own now marks row) x new
+  pub is_next : next row.promised s.me ≡ Some ballot
+  pub holds : P (begin s.circuit s.members s.me n ballot own now marks row)
 
--- why an offer or a search was refused; but for want of memory the core stays as it was
-abbrev pub RefusesToStart : CoreRefusal → Core → ℕ → Row → Core → Type 0
-RefusesToStart refusals.Failed old n row new = ⊥
-RefusesToStart refusals.AlreadyReleased old n row new = (new ≡ old) × ((marks : List Mark) → StandsFor old marks → was_released n marks ≡ true)
-RefusesToStart refusals.AlreadyOpen old n row new = (new ≡ old) × ((marks : List Mark) → StandsFor old marks → (was_released n marks ≡ false) × (is_some (open_proposal n marks) ≡ true))
-RefusesToStart refusals.RoundsSpent old n row new = (new ≡ old) × ((marks : List Mark) → StandsFor old marks → IsFree n marks) × (next row.promised old.me ≡ None)
-RefusesToStart refusals.OutOfMemory old n row new = Unit {0}
+-- why member m is refused an offer or a search of n, where this stands for marks and nothing of it changes; want of memory may leave anything
+abbrev pub RefusesToStart : CoreRefusal → Type 0 → (List Mark → Type 0) → ℕ → ℕ → Row → Type 0
+RefusesToStart refusals.Failed same stands m n row = ⊥
+RefusesToStart refusals.AlreadyReleased same stands m n row = same × ((marks : List Mark) → stands marks → was_released n marks ≡ true)
+RefusesToStart refusals.AlreadyOpen same stands m n row = same × ((marks : List Mark) → stands marks → (was_released n marks ≡ false) × (is_some (open_proposal n marks) ≡ true))
+RefusesToStart refusals.RoundsSpent same stands m n row = same × ((marks : List Mark) → stands marks → IsFree n marks) × (next row.promised m ≡ None)
+RefusesToStart refusals.OutOfMemory same stands m n row = Unit {0}
 
 -- an offer or a search is of a free number
 abbrev pub IsFreeFor : Event → List Mark → Type 0
@@ -61,12 +62,23 @@ pub record TookTurn (old : Core) (event : Event) (marks : List Mark) (row : Row)
   pub is_the_turn : said.turn old.circuit old.members old.me marks row (event_value event) ≡ Some turn
   pub took : Took row turn x new
 
--- why an event was refused: all but an offer and a search are refused for want of memory alone
+-- the turn of the event is one of which P holds
+pub record TurnIs (s : Seat) (event : Event) (marks : List Mark) (row : Row) (P : said.Turn → Type 0) : Type 0 where
+  pub free : IsFreeFor event marks
+  pub turn : said.Turn
+  pub is_the_turn : said.turn s.circuit s.members s.me marks row (event_value event) ≡ Some turn
+  pub holds : P turn
+
+-- why member m is refused the event: all but an offer and a search are refused for want of memory alone
+abbrev pub IsRefused : Event → CoreRefusal → Type 0 → (List Mark → Type 0) → ℕ → Row → Type 0
+IsRefused (events.Offer number tape now) e same stands m row = RefusesToStart e same stands m number row
+IsRefused (events.Seek number now) e same stands m row = RefusesToStart e same stands m number row
+IsRefused (events.Due number now) e same stands m row = e ≡ refusals.OutOfMemory
+IsRefused (events.Arrived packet now) e same stands m row = e ≡ refusals.OutOfMemory
+
+-- why the core refused the event
 abbrev pub RefusesEvent : Event → CoreRefusal → Core → Row → Core → Type 0
-RefusesEvent (events.Offer number tape now) e old row new = RefusesToStart e old number row new
-RefusesEvent (events.Seek number now) e old row new = RefusesToStart e old number row new
-RefusesEvent (events.Due number now) e old row new = e ≡ refusals.OutOfMemory
-RefusesEvent (events.Arrived packet now) e old row new = e ≡ refusals.OutOfMemory
+RefusesEvent event e old row new = IsRefused event e (new ≡ old) (StandsFor old) old.me row
 
 -- memory was refused
 abbrev pub is_memory : CoreRefusal → Bool

@@ -4,3 +4,5 @@ pub mod Memory
 pub mod Seats
 pub mod Standing
 pub mod Turns
+pub mod Voting
+pub mod Handling

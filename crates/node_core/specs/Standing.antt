@@ -1,5 +1,5 @@
 -- What a core keeps, as one value, and the marks that it stands for.
-use Rattle.std.specs.Prelude.{◌≡◌, ℕ, List, [], ◌∷◌, ◌++◌, Option, Some, None, Bool, false, true}
+use Rattle.std.specs.Prelude.{◌≡◌, ◌⊎◌, ℕ, List, [], ◌∷◌, ◌++◌, Option, Some, None, Bool, false, true, is_some, if◌then◌else◌}
 use Rattle.std.specs.Ordering.{nat_cmp}
 use Rattle.std.specs.BTreeMap.{is_at}
 use Rattle.std.specs.Map.{lookup}
@@ -119,6 +119,14 @@ pub record IsSameSeat (old new : Core) : Type 0 where
   pub me : new.me ≡ old.me
   pub members : new.members ≡ old.members
 
+-- the core after is the one before, but that it has d in hand of d's number, or nothing where d is empty
+pub record Kept (before : Core) (d : Desk) (after : Core) : Type 0 where
+  pub failed : after.failed ≡ before.failed
+  pub members : after.members ≡ before.members
+  pub released : after.released ≡ before.released
+  pub here : (desk_at after d.number ≡ Some d) ⊎ ((desk_at after d.number ≡ None) × (d ≡ fresh d.heard.members d.number))
+  pub others : (k : ℕ) → (k ≡ d.number → ⊥) → desk_at after k ≡ desk_at before k
+
 -- the core after is the one before, but that it has d in hand of n, and has noted n as released where is_released says so
 pub record Moves (before : Core) (n : ℕ) (d : Option Desk) (is_released : Bool) (after : Core) : Type 0 where
   pub failed : after.failed ≡ before.failed
@@ -132,3 +140,10 @@ pub record Moves (before : Core) (n : ℕ) (d : Option Desk) (is_released : Bool
 pub record Took (row : Row) (t : said.Turn) (x : Turn) (v : Core) : Type 0 where
   pub is_turn : IsTurn row t x
   pub stands : StandsFor v t.marks
+
+-- the code's turn is the turn t of the definitions, and once n is settled the core stands for the marks after it;
+-- a tape that is released is taken in
+pub record Settles (n : ℕ) (row : Row) (marks : List Mark) (t : said.Turn) (x : Turn) (v : Core) : Type 0 where
+  pub is_turn : IsTurn row t x
+  pub settled : (after : Core) → Moves v n (if is_some x.release then None else desk_at v n) (is_some x.release) after → StandsFor after t.marks
+  pub takes_in : is_some x.release ≡ true → t.marks ≡ marks → ⊥

@@ -1,5 +1,5 @@
 -- What the code's events, notes and turns say, in the protocol's words.
-use Rattle.std.specs.Prelude.{◌≡◌, ◌≤◌, [], ◌∷◌, Option, Some, None, IsSome, IfSome, length}
+use Rattle.std.specs.Prelude.{◌≡◌, ◌≤◌, List, Option, Some, None, IsSome, IfSome, length}
 use Rattle.protocol.specs.Rows.{Row}
 use Rattle.protocol.specs.Packets.{Packet}
 use Rattle.protocol.specs.Turn as said
@@ -57,9 +57,9 @@ pub record IsOrderly (x : Turn) : Type 0 where
   pub promised : HasPromise x.row
   pub few : length x.out.items ≤ 28
 
--- what the code hands out is this one reply, with this row after and this note
-pub record IsReply (x : Turn) (row : Option Row) (note : Note) (reply : Packet) : Type 0 where
+-- what the code hands out is these packets, with this row after and this note
+pub record IsSending (x : Turn) (row : Option Row) (note : Note) (packets : List Packet) : Type 0 where
   pub row_after : x.row ≡ row
-  pub out : x.out.items ≡ reply ∷ []
+  pub out : x.out.items ≡ packets
   pub release : x.release ≡ None
   pub noted : x.note ≡ note

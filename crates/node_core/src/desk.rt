@@ -1,24 +1,30 @@
 //! What is in hand of one number: its proposal, if one is open, and the votes that were heard.
 
-ghost use Rattle.std.specs.Prelude.{◌≡◌, ◌≤◌, ℕ, List, [], ◌∷◌, Option, Some, None, IfOk, IfSome, OnOk, OnErr, Ok, MatchBool, true, false, if◌then◌else◌};
-ghost use Rattle.protocol.specs.Ballots.{Ballot as BallotValue, next};
+ghost use Rattle.std.specs.Prelude.{◌≡◌, ◌≤◌, List, [], ◌∷◌, Option, Some, None, IfOk, IfErr, OnErr, IsTrue, IsSome, MatchBool, true, false, if◌then◌else◌};
+ghost use Rattle.protocol.specs.Ballots.{next};
+ghost use Rattle.protocol.specs.Packets.{Accept as AcceptBody};
+ghost use Rattle.packets.specs.Rules.{keeps_rules};
 ghost use Rattle.protocol.specs.Rows.{Row as RowValue, Tape as TapeValue, raised};
 ghost use Rattle.protocol.specs.Marks.{Mark, Began, Proposed, Denied, Closed};
 ghost use Rattle.protocol.specs.Acceptor.{is_above};
 ghost use Rattle.protocol.specs.Proposals.{Opening, open_proposal, open_ballot, proposal_at, gathering_at, since_began, counted, pick, is_due_number};
-ghost use Rattle.protocol.specs.Turn.{hear, propose, begin, due_turn, promise_turn, nack_turn};
+ghost use Rattle.protocol.specs.Turn.{number_of, hear, propose, begin, due_turn, promise_turn, nack_turn, accept_turn, accepted_turn, packet_turn};
 ghost use Rattle.proposer.specs.InHand.{StandsFor as ProposalStandsFor};
 ghost use Rattle.proposer.specs.Answers.{IsNew, IsCountedAs, marks_after_promise, IsDueAnswer, IsOwnAndAbove, marks_after_due};
 ghost use Rattle.node_core.specs.Standing.{DeskStands, fresh, IsDeskOf, IsLeft, Answers};
+ghost use Rattle.node_core.specs.Calls.{IsForMember, MayCome, StartIs, RefusesToStart, IsRefused};
+ghost use Rattle.node_core.specs.Handling.{Handles, Starts, Takes};
 ghost use Rattle.node_core.specs.Memory.{IsStill};
 ghost use Rattle.node_core.specs.Seats.{Seat as SeatValue};
-ghost use Rattle.node_core.specs.Turns.{HasPromise, IsOrderly};
+ghost use Rattle.node_core.specs.Turns.{event_value, HasPromise, IsOrderly};
 
+use crate::event::Event;
 use crate::hearing;
 use crate::mail::to_others;
-use crate::rows::{copied, is_promised, raise, vote};
+use crate::rows::{copied, is_promised, raise, relent, vote};
 use crate::seat::Seat;
-use crate::turn::{Note, Turn};
+use crate::turn::{CoreRefusal, Note, Turn};
+use crate::voting::{self, Voting};
 use ballots::{Ballot, Member, Number, Row, Vote, VoteRef};
 use learner::Heard;
 use packets::{BodyRef, PacketRef};
@@ -47,6 +53,13 @@ impl Desk {
         }
     }
 
+    /// Whether nothing is in hand.
+    pub fn is_empty(&self) -> bool
+        ensures { MatchBool result (self.now ≡ fresh self.now.heard.members self.now.number) (self.now ≡ fresh self.now.heard.members self.now.number → ⊥) }
+    {
+        self.proposal.is_none() && self.heard.is_empty()
+    }
+
     /// The ballot of the open proposal.
     pub fn open_ballot(&self) -> Option<Ballot>
         ensures { (marks : List Mark) → DeskStands self.now marks → result ≡ open_ballot self.now.number marks }
@@ -68,7 +81,7 @@ impl Desk {
     }
 
     /// Hears a member's vote, and answers the tape that is then released, if any.
-    pub fn hear(
+    fn hear(
         &mut self,
         alloc: Global,
         member: Member,
@@ -193,7 +206,7 @@ impl Desk {
 
     /// Phase 1 (Lamport) of the ballot that the proposal has begun: asks the others for their promises.
     /// A member of one proposes at once.
-    pub fn begun(
+    fn begun(
         &mut self,
         alloc: Global,
         seat: Seat,
@@ -228,8 +241,8 @@ impl Desk {
         })
     }
 
-    /// Begins with a new proposal, whose ballot was just begun.
-    pub fn start(
+    /// Opens the proposal, whose first ballot was just begun.
+    fn open(
         &mut self,
         alloc: Global,
         seat: Seat,
@@ -285,7 +298,7 @@ impl Desk {
     }
 
     /// Takes a promise in; with those of a majority it proposes.
-    pub fn promise(
+    fn promise(
         &mut self,
         alloc: Global,
         seat: Seat,
@@ -334,7 +347,7 @@ impl Desk {
     }
 
     /// Takes a Nack in.
-    pub fn nack(&mut self, alloc: Global, packet: &PacketRef<'_>, promised: Ballot) -> Turn
+    fn nack(&mut self, alloc: Global, packet: &PacketRef<'_>, promised: Ballot) -> Turn
         requires { packet.now.number ≡ self.old.number }
         ensures turn { (row : RowValue) (marks : List Mark) → DeskStands self.old marks → Answers row (nack_turn marks row packet.now promised (proposal_at packet.now.number packet.now.ballot marks)) result self.new }
         ensures orderly { IsOrderly result }
@@ -371,13 +384,7 @@ impl Desk {
     }
 
     /// Sees to the proposal where its due moment has come: it begins anew, or gives up.
-    pub fn due(
-        &mut self,
-        alloc: Global,
-        seat: Seat,
-        now: u64,
-        row: &Row,
-    ) -> Result<Turn, AllocError>
+    fn due(&mut self, alloc: Global, seat: Seat, now: u64, row: &Row) -> Result<Turn, AllocError>
         requires { IsDeskOf seat self.old }
         ensures turn { IfOk result (λ x. (marks : List Mark) → DeskStands self.old marks → Answers row.now (due_turn seat.circuit seat.members seat.me self.old.number now marks row.now (open_proposal self.old.number marks)) x self.new) }
         ensures orderly { IfOk result (λ x. IsOrderly x) }
@@ -396,6 +403,171 @@ impl Desk {
             DueAnswer::Wait => Ok(Turn::quiet(alloc, Note::Idle)),
             DueAnswer::GaveUp => Ok(self.close(alloc, None, Note::GaveUp { ballot: last })),
             DueAnswer::Began { ballot } => self.begun(alloc, seat, ballot, now, row),
+        }
+    }
+
+    /// Begins the first ballot, the next above the saved promise.
+    fn begin(
+        &mut self,
+        alloc: Global,
+        seat: Seat,
+        own: Option<Tape>,
+        now: u64,
+        row: &Row,
+    ) -> Result<Turn, AllocError>
+        requires of { IsDeskOf seat self.old }
+        requires next { IsSome (next row.now.promised seat.me) }
+        ensures turn { IfOk result (λ x. (marks : List Mark) → DeskStands self.old marks → open_proposal self.old.number marks ≡ None → StartIs seat self.old.number own now marks row.now (λ t. Answers row.now t x self.new)) }
+        ensures orderly { IfOk result (λ x. IsOrderly x) }
+        ensures of { IsDeskOf seat self.new }
+        ensures number { self.new.number ≡ self.old.number }
+    {
+        let report = copied(alloc, row.vote())?;
+        let begun = Proposal::begin(
+            alloc,
+            row.promised(),
+            seat.me(),
+            seat.members(),
+            own,
+            report,
+            now,
+        );
+        match begun {
+            Err(_) => unreachable!(),
+            Ok(proposal) => self.open(alloc, seat, proposal, now, row),
+        }
+    }
+
+    /// Takes an offer or a search.
+    fn start(
+        &mut self,
+        alloc: Global,
+        seat: Seat,
+        own: Option<Tape>,
+        now: u64,
+        row: &Row,
+    ) -> Result<Turn, CoreRefusal>
+        requires { IsDeskOf seat self.old }
+        ensures turn { Starts seat self.old.number own now row.now result self.old self.new }
+        ensures orderly { IfOk result (λ x. IsOrderly x) }
+        ensures refused { IfErr result (λ e. RefusesToStart e (self.new ≡ self.old) (DeskStands self.old) seat.me self.old.number row.now) }
+        ensures of { IsDeskOf seat self.new }
+        ensures number { self.new.number ≡ self.old.number }
+    {
+        if self.open_ballot().is_some() {
+            return Err(CoreRefusal::AlreadyOpen);
+        }
+        if Ballot::next(row.promised(), seat.me()).is_none() {
+            return Err(CoreRefusal::RoundsSpent);
+        }
+        Ok(self.begin(alloc, seat, own, now, row)?)
+    }
+
+    /// Takes an Accept: the acceptor answers it, and its vote is heard.
+    fn accept(
+        &mut self,
+        alloc: Global,
+        seat: Seat,
+        packet: &PacketRef<'_>,
+        tape: TapeRef<'_>,
+        row: &Row,
+    ) -> Result<Turn, AllocError>
+        requires of { IsDeskOf seat self.old }
+        requires number { packet.now.number ≡ self.old.number }
+        requires arrived { IsForMember seat.me seat.members packet.now }
+        requires rules { IsTrue (keeps_rules packet.now) }
+        requires kind { packet.now.body ≡ AcceptBody tape }
+        ensures turn { Handles row.now (λ marks. accept_turn seat.circuit seat.members seat.me marks row.now packet.now tape.entry row.now.promised) result self.old self.new }
+        ensures orderly { IfOk result (λ x. IsOrderly x) }
+        ensures of { IsDeskOf seat self.new }
+        ensures number { self.new.number ≡ self.old.number }
+    {
+        let Voting { turn, vote } = voting::accept(alloc, seat, packet, tape, row)?;
+        match vote {
+            None => Ok(turn),
+            Some(tape) => {
+                let release = self.hear(alloc, seat.me(), packet.ballot(), tape)?;
+                Ok(Turn { release, ..turn })
+            }
+        }
+    }
+
+    /// Takes an Accepted: the sender's vote is heard.
+    fn accepted(
+        &mut self,
+        alloc: Global,
+        seat: Seat,
+        packet: &PacketRef<'_>,
+        tape: TapeRef<'_>,
+    ) -> Result<Turn, AllocError>
+        requires of { IsDeskOf seat self.old }
+        requires number { packet.now.number ≡ self.old.number }
+        requires from { packet.now.from ≤ seat.members }
+        ensures turn { (row : RowValue) → Handles row (λ marks. accepted_turn seat.members marks row packet.now tape.entry) result self.old self.new }
+        ensures orderly { IfOk result (λ x. IsOrderly x) }
+        ensures of { IsDeskOf seat self.new }
+        ensures number { self.new.number ≡ self.old.number }
+    {
+        let ballot = packet.ballot();
+        let release = self.hear(alloc, packet.from(), ballot, tape)?;
+        Ok(Turn {
+            row: None,
+            out: Vec::new(alloc),
+            release,
+            note: Note::Heard { ballot },
+        })
+    }
+
+    /// Takes a packet.
+    fn receive(
+        &mut self,
+        alloc: Global,
+        seat: Seat,
+        packet: &PacketRef<'_>,
+        now: u64,
+        row: &Row,
+    ) -> Result<Turn, AllocError>
+        requires of { IsDeskOf seat self.old }
+        requires number { packet.now.number ≡ self.old.number }
+        requires arrived { IsForMember seat.me seat.members packet.now }
+        ensures turn { Handles row.now (λ marks. packet_turn seat.circuit seat.members seat.me now marks row.now packet.now packet.now.body) result self.old self.new }
+        ensures orderly { IfOk result (λ x. IsOrderly x) }
+        ensures of { IsDeskOf seat self.new }
+        ensures number { self.new.number ≡ self.old.number }
+    {
+        match packet.body() {
+            BodyRef::Prepare => voting::prepare(alloc, seat, packet, row),
+            BodyRef::Promise { report } => {
+                self.promise(alloc, seat, packet, relent(report), now, row)
+            }
+            BodyRef::Accept { tape } => self.accept(alloc, seat, packet, tape.lend(), row),
+            BodyRef::Accepted { tape } => self.accepted(alloc, seat, packet, tape.lend()),
+            BodyRef::Nack { promised } => Ok(self.nack(alloc, packet, *promised)),
+        }
+    }
+
+    /// Takes an event of the number, where `row` is its saved row. What is refused for another cause than memory leaves all as it was.
+    pub fn take(
+        &mut self,
+        alloc: Global,
+        seat: Seat,
+        event: Event<'_>,
+        row: &Row,
+    ) -> Result<Turn, CoreRefusal>
+        requires of { IsDeskOf seat self.old }
+        requires number { number_of (event_value event) ≡ self.old.number }
+        requires arrived { MayCome seat.me seat.members event }
+        ensures turn { Takes seat event.entry row.now result self.old self.new }
+        ensures orderly { IfOk result (λ x. IsOrderly x) }
+        ensures refused { IfErr result (λ e. IsRefused event.entry e (self.new ≡ self.old) (DeskStands self.old) seat.me row.now) }
+        ensures of { IsDeskOf seat self.new }
+        ensures number { self.new.number ≡ self.old.number }
+    {
+        match event {
+            Event::Offer { tape, now, .. } => self.start(alloc, seat, Some(tape), now, row),
+            Event::Seek { now, .. } => self.start(alloc, seat, None, now, row),
+            Event::Due { now, .. } => Ok(self.due(alloc, seat, now, row)?),
+            Event::Arrived { packet, now } => Ok(self.receive(alloc, seat, &packet, now, row)?),
         }
     }
 }

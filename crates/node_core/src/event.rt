@@ -1,5 +1,9 @@
 //! What comes to a station.
 
+ghost use Rattle.std.specs.Prelude.{◌≡◌};
+ghost use Rattle.protocol.specs.Turn.{number_of};
+ghost use Rattle.node_core.specs.Turns.{event_value};
+
 use ballots::Number;
 use packets::PacketRef;
 use tape_frames::Tape;
@@ -28,4 +32,18 @@ pub enum Event<'a> {
         packet: PacketRef<'a>,
         now: u64,
     },
+}
+
+impl Event<'_> {
+    /// The number that it is about.
+    pub(crate) fn number(&self) -> Number
+        ensures { result ≡ number_of (event_value self.now) }
+    {
+        match self {
+            Event::Offer { number, .. } => *number,
+            Event::Seek { number, .. } => *number,
+            Event::Due { number, .. } => *number,
+            Event::Arrived { packet, .. } => packet.number(),
+        }
+    }
 }

@@ -9,6 +9,7 @@ mod mail;
 mod node;
 mod rows;
 mod seat;
+mod settled;
 mod turn;
 mod voting;
 

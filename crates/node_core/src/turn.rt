@@ -3,10 +3,11 @@
 ghost use Rattle.std.specs.Prelude.{◌≡◌, []};
 ghost use Rattle.node_core.specs.Calls.{is_memory};
 ghost use Rattle.node_core.specs.Turns.{IsOrderly};
+ghost use Rattle.node_core.specs.declared.turn.CoreRefusal.TheVariants.{OutOfMemory};
 
 use ballots::{Ballot, Row};
 use packets::Packet;
-use std::alloc::Global;
+use std::alloc::{AllocError, Global};
 use tape_frames::Tape;
 
 /// What a turn did.
@@ -103,5 +104,13 @@ impl CoreRefusal {
             CoreRefusal::OutOfMemory => true,
             _ => false,
         }
+    }
+}
+
+impl From<AllocError> for CoreRefusal {
+    ghost from_gives = { λ _ refusal. refusal ≡ OutOfMemory };
+
+    fn from(_refused: AllocError) -> CoreRefusal {
+        CoreRefusal::OutOfMemory
     }
 }

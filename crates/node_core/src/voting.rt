@@ -1,25 +1,35 @@
 //! The acceptor's part of a turn.
 
-ghost use Rattle.std.specs.Prelude.{◌≡◌, List, [], ◌∷◌, IfOk, OnErr, IsTrue, None};
+ghost use Rattle.std.specs.Prelude.{◌≡◌, ◌≤◌, List, [], ◌∷◌, IfOk, OnErr, IsTrue, None, length};
 ghost use Rattle.protocol.specs.Marks.{Mark};
-ghost use Rattle.protocol.specs.Packets.{Prepare};
-ghost use Rattle.protocol.specs.Turn.{packet_to, prepare_turn};
+ghost use Rattle.protocol.specs.Packets.{Prepare, Accept, Accepted};
+ghost use Rattle.protocol.specs.Turn.{packet_to, to_others, prepare_turn, accept_turn};
 ghost use Rattle.packets.specs.Bodies.{said};
 ghost use Rattle.packets.specs.Rules.{keeps_rules};
+ghost use Rattle.node_core.specs.Calls.{IsForMember};
 ghost use Rattle.node_core.specs.Memory.{IsStill};
-ghost use Rattle.node_core.specs.Turns.{IsTurn, IsReply, IsOrderly};
+ghost use Rattle.node_core.specs.Turns.{IsTurn, IsSending, IsOrderly};
+ghost use Rattle.node_core.specs.Voting.{IsVoting};
 
 use crate::mail;
 use crate::rows::{lent, raise};
 use crate::seat::Seat;
 use crate::turn::{Note, Turn};
-use acceptor::PrepareAnswer;
+use acceptor::{AcceptAnswer, PrepareAnswer};
 use ballots::Row;
 use packets::{BodyRef, PacketRef};
 use std::alloc::{AllocError, Global};
+use tape_frames::TapeRef;
+
+/// The answer to an Accept: what goes out, and the tape that it votes for, if it votes. The vote is still to be heard.
+#[derive(Drop)]
+pub(crate) struct Voting<'a> {
+    pub turn: Turn,
+    pub vote: Option<TapeRef<'a>>,
+}
 
 /// A turn that answers the sender of the packet.
-pub(crate) fn answer(
+fn answer(
     alloc: Global,
     seat: Seat,
     packet: &PacketRef<'_>,
@@ -28,7 +38,7 @@ pub(crate) fn answer(
     note: Note,
 ) -> Result<Turn, AllocError>
     requires { IsTrue (keeps_rules (packet_to seat.circuit seat.me packet.now.number packet.now.ballot (said body) packet.now.from)) }
-    ensures { IfOk result (λ x. IsReply x row note (packet_to seat.circuit seat.me packet.now.number packet.now.ballot (said body.entry) packet.now.from)) }
+    ensures { IfOk result (λ x. IsSending x row note (packet_to seat.circuit seat.me packet.now.number packet.now.ballot (said body.entry) packet.now.from ∷ [])) }
 {
     let reply = mail::packet_to(
         alloc,
@@ -40,6 +50,36 @@ pub(crate) fn answer(
     )?;
     let mut out = Vec::new(alloc);
     out.push(reply)?;
+    Ok(Turn {
+        row,
+        out,
+        release: None,
+        note,
+    })
+}
+
+/// A turn that tells the others of the own vote.
+fn tell(
+    alloc: Global,
+    seat: Seat,
+    packet: &PacketRef<'_>,
+    tape: &TapeRef<'_>,
+    row: Option<Row>,
+    note: Note,
+) -> Result<Turn, AllocError>
+    ensures turn { IfOk result (λ x. IsSending x row note (to_others seat.circuit seat.members seat.me packet.now.number packet.now.ballot (Accepted tape.now))) }
+    ensures few { IfOk result (λ x. length x.out.items ≤ 14) }
+{
+    let mut out = Vec::new(alloc);
+    let accepted = BodyRef::Accepted { tape: tape.lend() };
+    mail::to_others(
+        alloc,
+        seat,
+        packet.number(),
+        packet.ballot(),
+        &accepted,
+        &mut out,
+    )?;
     Ok(Turn {
         row,
         out,
@@ -75,6 +115,54 @@ pub(crate) fn prepare(
                 report: lent(report),
             };
             answer(alloc, seat, packet, body, after, Note::Promised { ballot })
+        }
+    }
+}
+
+/// Answers an Accept.
+pub(crate) fn accept<'a>(
+    alloc: Global,
+    seat: Seat,
+    packet: &PacketRef<'_>,
+    tape: TapeRef<'a>,
+    row: &'a Row,
+) -> Result<Voting<'a>, AllocError>
+    requires arrived { IsForMember seat.me seat.members packet.now }
+    requires rules { IsTrue (keeps_rules packet.now) }
+    requires kind { packet.now.body ≡ Accept tape }
+    ensures voting { IfOk result (λ v. IsVoting seat row.now packet.now tape.entry v.turn v.vote) }
+    ensures orderly { IfOk result (λ v. IsOrderly v.turn) }
+    ensures stirs { (marks : List Mark) → ¬ IsStill row.now marks (accept_turn seat.circuit seat.members seat.me marks row.now packet.now tape.entry row.now.promised) }
+{
+    // The sender is another member: so there is one to answer.
+    let (_from, _me) = (packet.from().get(), seat.me());
+    let ballot = packet.ballot();
+    match acceptor::accept(alloc, row, ballot, tape.lend())? {
+        AcceptAnswer::Nack { promised } => {
+            let body = BodyRef::Nack { promised };
+            let note = Note::Nacked { promised };
+            let turn = answer(alloc, seat, packet, body, None, note)?;
+            Ok(Voting { turn, vote: None })
+        }
+        AcceptAnswer::Again => match row.vote() {
+            None => unreachable!(),
+            Some(vote) => {
+                let tape = vote.tape();
+                let note = Note::VotedAgain { ballot };
+                let turn = tell(alloc, seat, packet, &tape, None, note)?;
+                Ok(Voting {
+                    turn,
+                    vote: Some(tape),
+                })
+            }
+        },
+        AcceptAnswer::Voted { row: after } => {
+            let note = Note::Voted { ballot };
+            let turn = tell(alloc, seat, packet, &tape, Some(after), note)?;
+            Ok(Voting {
+                turn,
+                vote: Some(tape),
+            })
         }
     }
 }

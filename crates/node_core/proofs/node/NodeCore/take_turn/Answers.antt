@@ -1,60 +1,33 @@
--- Each event's turn is that of the definitions.
-use Rattle.std.proofs.Common.{refl, sym, subst}
-use Rattle.protocol.specs.Proposals.{open_proposal}
-use Rattle.protocol.specs.Turn.{due_turn, packet_turn}
-use Rattle.node_core.specs.declared.event.Event.{Event}
-use Rattle.node_core.specs.Calls.{TookTurn}
-use Rattle.node_core.proofs.Phases.{on_ok, if_err}
-use Rattle.node_core.specs.Memory.{MayTakeMemory}
-use Rattle.node_core.proofs.Calling.{offered, sought, offer_takes, seek_takes}
+-- The number is settled.
+use Rattle.std.proofs.Common.{sym, subst, ◌∙◌, None}
+use Rattle.std.specs.Prelude.{if◌then◌else◌}
+use Rattle.std.proofs.lemmas.Result.{err_from_is_err_and}
+use Rattle.node_core.specs.Standing.{Moves, desk_at, seat_of}
+use Rattle.node_core.proofs.Calling.{turn_so}
+use Rattle.node_core.proofs.Phases.{if_any_err}
 use Rattle.node_core.proofs.node.NodeCore.take_turn.Goals as goal
 
-pub returns-in-Offer-clause-ok : goal.returns-in-Offer-clause-ok
-returns-in-Offer-clause-ok c =
-    on_ok c.start.result _ _ c.start.ensures.turn
-    (λ x t marks h. subst (λ (e : Event). TookTurn c.args.self.now e marks c.args.row.now x c.start.new.self) (sym c.in-Offer.is) (offered c.args.self.now c.in-Offer.number c.in-Offer.tape c.in-Offer.now marks c.args.row.now x c.start.new.self (t marks h)))
+pub returns-clause-ok : goal.returns-clause-ok
+returns-clause-ok c = λ marks h.
+    let t = c.in_ok-turn.ensures.turn marks h in
+    record {
+      free = t.free;
+      turn = t.turn;
+      is_the_turn = t.is_the_turn;
+      took = record {
+        is_turn = t.holds.is_turn;
+        stands = t.holds.settled c.settle.new.self (subst (λ r. Moves c.act.new.self c.number-number.result (if r then None else desk_at c.act.new.self c.number-number.result) r c.settle.new.self) c.is_some.ensures c.in_ok-settle.ensures.moves);
+      };
+    }
 
-pub returns-in-Seek-clause-ok : goal.returns-in-Seek-clause-ok
-returns-in-Seek-clause-ok c =
-    on_ok c.start-in-Seek.result _ _ c.start-in-Seek.ensures.turn
-    (λ x t marks h. subst (λ (e : Event). TookTurn c.args.self.now e marks c.args.row.now x c.start-in-Seek.new.self) (sym c.in-Seek.is) (sought c.args.self.now c.in-Seek.number c.in-Seek.now marks c.args.row.now x c.start-in-Seek.new.self (t marks h)))
+pub returns-in_err-settle-clause-memory : goal.returns-in_err-settle-clause-memory
+returns-in_err-settle-clause-memory c =
+    if_any_err c.from_residual-in_err-settle.result _
+    (λ _ _ marks h.
+    turn_so (seat_of c.args.self.now) c.args.event marks c.args.row.now _ _ (c.in_ok-turn.ensures.turn marks h)
+    (λ t is settles still. settles.takes_in (sym c.is_some.ensures ∙ c.in_err-settle.ensures.memory) still.takes_in))
 
-pub returns-in-Ok-clause-ok : goal.returns-in-Ok-clause-ok
-returns-in-Ok-clause-ok c = λ marks h.
-    subst (λ (e : Event). TookTurn c.args.self.now e marks c.args.row.now c.in-Ok.turn c.due.new.self) (sym c.in-Due.is)
-    (record { free = tt; turn = due_turn c.args.self.now.circuit c.args.self.now.members c.args.self.now.me c.in-Due.number c.in-Due.now marks c.args.row.now (open_proposal c.in-Due.number marks); is_the_turn = refl; took = c.in-Ok.ensures.turn marks h })
-
-pub returns-in-Ok-receive-clause-ok : goal.returns-in-Ok-receive-clause-ok
-returns-in-Ok-receive-clause-ok c = λ marks h.
-    subst (λ (e : Event). TookTurn c.args.self.now e marks c.args.row.now c.in-Ok-receive.turn c.receive.new.self) (sym c.in-Arrived.is)
-    (record {
-      free = tt;
-      turn = packet_turn c.args.self.now.circuit c.args.self.now.members c.args.self.now.me c.in-Arrived.now marks c.args.row.now c.in-Arrived.packet c.in-Arrived.packet.body;
-      is_the_turn = refl;
-      took = c.in-Ok-receive.ensures.turn marks h;
-    })
-
-pub returns-in-Offer-clause-memory : goal.returns-in-Offer-clause-memory
-returns-in-Offer-clause-memory c =
-    if_err c.start.result _ _ c.start.ensures.memory
-    (λ e may is marks h. subst (λ (y : Event). MayTakeMemory c.args.self.now y marks c.args.row.now) (sym c.in-Offer.is) (offer_takes c.args.self.now c.in-Offer.number c.in-Offer.tape c.in-Offer.now marks c.args.row.now (may is marks h)))
-
-pub returns-in-Seek-clause-memory : goal.returns-in-Seek-clause-memory
-returns-in-Seek-clause-memory c =
-    if_err c.start-in-Seek.result _ _ c.start-in-Seek.ensures.memory
-    (λ e may is marks h. subst (λ (y : Event). MayTakeMemory c.args.self.now y marks c.args.row.now) (sym c.in-Seek.is) (seek_takes c.args.self.now c.in-Seek.number c.in-Seek.now marks c.args.row.now (may is marks h)))
-
-pub returns-in-Err-clause-memory : goal.returns-in-Err-clause-memory
-returns-in-Err-clause-memory c = λ is marks h.
-    subst (λ (y : Event). MayTakeMemory c.args.self.now y marks c.args.row.now) (sym c.in-Due.is)
-    (record { free = tt; turn = due_turn c.args.self.now.circuit c.args.self.now.members c.args.self.now.me c.in-Due.number c.in-Due.now marks c.args.row.now (open_proposal c.in-Due.number marks); is_the_turn = refl; stirs = c.in-Err.ensures.memory marks h })
-
-pub returns-in-Err-receive-clause-memory : goal.returns-in-Err-receive-clause-memory
-returns-in-Err-receive-clause-memory c = λ is marks h.
-    subst (λ (y : Event). MayTakeMemory c.args.self.now y marks c.args.row.now) (sym c.in-Arrived.is)
-    (record {
-      free = tt;
-      turn = packet_turn c.args.self.now.circuit c.args.self.now.members c.args.self.now.me c.in-Arrived.now marks c.args.row.now c.in-Arrived.packet c.in-Arrived.packet.body;
-      is_the_turn = refl;
-      stirs = c.in-Err-receive.ensures.memory marks h;
-    })
+pub returns-in_err-turn-clause-memory : goal.returns-in_err-turn-clause-memory
+returns-in_err-turn-clause-memory c =
+    let p = err_from_is_err_and c.from_residual.result c.from_residual.ensures.1 in
+    rw (p.1, p.2) (λ is marks h. c.in_err-turn.ensures.turn marks h is)

@@ -1,0 +1,24 @@
+-- The vote is heard.
+use Rattle.std.proofs.Common.{◌≡◌, refl, sym, subst, Option}
+use Rattle.protocol.specs.Rows.{Tape}
+use Rattle.protocol.specs.Turn.{Hearing}
+use Rattle.node_core.specs.Standing.{IsLeft}
+use Rattle.node_core.specs.Voting.{IsVoting}
+use Rattle.node_core.proofs.Accepting.{vote_heard}
+use Rattle.node_core.proofs.Telling.{hear_told}
+use Rattle.node_core.proofs.desk.Desk.accept.Goals as goal
+
+pub returns-in_err-release-in-Some-clause-of : goal.returns-in_err-release-in-Some-clause-of
+returns-in_err-release-in-Some-clause-of c = c.hear.ensures.of c.args.seat c.requires.of
+
+pub returns-in_ok-release-in-Some-clause-of : goal.returns-in_ok-release-in-Some-clause-of
+returns-in_ok-release-in-Some-clause-of c = c.hear.ensures.of c.args.seat c.requires.of
+
+pub returns-in_ok-release-in-Some-clause-turn : goal.returns-in_ok-release-in-Some-clause-turn
+returns-in_ok-release-in-Some-clause-turn c = λ marks stands.
+    vote_heard c.args.seat c.args.row.now c.args.packet.now c.args.tape marks c.in_ok-turn.field-0.turn _ c.in-Some.tape c.hear.new.self c.in_ok-release-in-Some.release
+    (subst (λ (o : Option Tape). IsVoting c.args.seat c.args.row.now c.args.packet.now c.args.tape c.in_ok-turn.field-0.turn o) c.in-Some.is c.in_ok-turn.ensures.voting)
+    refl refl refl refl
+    (hear_told (λ (h : Hearing). (c.in_ok-release-in-Some.release ≡ h.release) × IsLeft c.hear.new.self c.in_ok-release-in-Some.release h.marks)
+    c.args.self.now.heard.members c.args.seat.members c.args.self.now.number c.args.packet.now.number c.me.result c.args.seat.me c.ballot.result c.args.packet.now.ballot c.in-Some.tape marks
+    c.requires.of.heard (sym c.requires.number) c.me.ensures.value c.ballot.ensures (c.in_ok-release-in-Some.ensures.release marks stands, c.in_ok-release-in-Some.ensures.left marks stands))

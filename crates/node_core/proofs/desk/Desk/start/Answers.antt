@@ -1,0 +1,20 @@
+-- Memory was refused to the next ballot.
+use Rattle.std.proofs.Common.{ap, ◌∙◌}
+use Rattle.std.specs.Prelude.{not}
+use Rattle.protocol.specs.Ballots.{next}
+use Rattle.node_core.proofs.Calling.{next_told, some_so}
+use Rattle.node_core.proofs.Phases.{on_err}
+use Rattle.node_core.proofs.Stirring.{takes_in, begin_adds}
+use Rattle.node_core.proofs.Telling.{closed_so}
+use Rattle.node_core.proofs.desk.Desk.start.Goals as goal
+
+pub returns-in_err-begin-clause-turn : goal.returns-in_err-begin-clause-turn
+returns-in_err-begin-clause-turn c = λ marks stands.
+    let b = some_so (next c.args.row.now.promised c.args.seat.me) (next_told c.promised.result c.args.row.now.promised c.me.result c.args.seat.me c.next.result c.is_none.result c.promised.ensures.value c.me.ensures.value c.next.ensures c.is_none.ensures ∙ ap not c.if-is_none.false) in
+    on_err c.from_residual.result _ _ c.from_residual.ensures.0
+    (λ _ _. record {
+      free = record { unreleased = stands.unreleased; closed = closed_so c.args.self.now.number marks c.is_some.result c.open_ballot.result c.is_some.ensures (c.open_ballot.ensures marks stands) c.if-is_some.false };
+      ballot = b.0;
+      is_next = b.1;
+      holds = takes_in c.args.row.now marks _ (begin_adds c.args.seat.circuit c.args.seat.members c.args.seat.me c.args.self.now.number b.0 c.args.own c.args.now marks c.args.row.now);
+    })

@@ -1,0 +1,49 @@
+-- The lines of an Accept: refused, its vote stands, or it votes.
+use Rattle.std.proofs.Common.{◌≡◌, sym, ap, ◌∙◌}
+use Rattle.protocol.specs.Ballots.{Ballot}
+use Rattle.protocol.specs.Rows.{Tape, Row}
+use Rattle.protocol.specs.Acceptor.{Reply, Accepts, Nacks, Votes, Votes_again, reply_of, next_row}
+use Rattle.acceptor.specs.declared.answer.AcceptAnswer.{AcceptAnswer}
+use Rattle.acceptor.specs.Said.{said_of_accept, row_of}
+use Rattle.node_core.proofs.Stirring.{sends, accept_sends, another}
+use Rattle.node_core.proofs.Accepting.{nacked_alone, again_votes, now_votes}
+use Rattle.node_core.proofs.voting.accept.Goals as goal
+
+reply_told : (row : Row) (b a : Ballot) (t u : Tape) (r : Reply) → b ≡ a → t ≡ u → r ≡ reply_of row (Accepts b t) → reply_of row (Accepts a u) ≡ r
+reply_told row b a t u r e f h = sym (h ∙ ap (λ (x : Ballot). reply_of row (Accepts x t)) e ∙ ap (λ (x : Tape). reply_of row (Accepts a x)) f)
+
+row_told : (row w : Row) (b a : Ballot) (t u : Tape) → b ≡ a → t ≡ u → w ≡ next_row row (Accepts b t) → w ≡ next_row row (Accepts a u)
+row_told row w b a t u e f h = h ∙ ap (λ (x : Ballot). next_row row (Accepts x t)) e ∙ ap (λ (x : Tape). next_row row (Accepts a x)) f
+
+pub returns-in_ok-turn-in-Nack-clause-voting : goal.returns-in_ok-turn-in-Nack-clause-voting
+returns-in_ok-turn-in-Nack-clause-voting c = λ marks.
+    nacked_alone c.args.seat c.args.row.now c.args.packet.now c.args.tape marks c.in_ok-turn-in-Nack.turn c.in-Nack.promised
+    (reply_told c.args.row.now c.ballot-ballot.result c.args.packet.now.ballot c.lend.result c.args.tape (Nacks c.in-Nack.promised) c.ballot-ballot.ensures c.lend.ensures (ap said_of_accept (sym c.in-Nack.is) ∙ c.in_ok-promised.ensures.reply))
+    c.in_ok-turn-in-Nack.ensures
+
+pub returns-in_ok-turn-in-Some-clause-voting : goal.returns-in_ok-turn-in-Some-clause-voting
+returns-in_ok-turn-in-Some-clause-voting c =
+    again_votes c.args.seat c.args.row.now c.args.packet.now c.args.tape c.in_ok-turn-in-Some.turn c.in-Some.vote.now c.ballot-ballot.result c.tape-tape.result c.ballot-ballot.ensures c.tape-tape.ensures (sym c.in-Some.ensures.value)
+    (reply_told c.args.row.now c.ballot-ballot.result c.args.packet.now.ballot c.lend.result c.args.tape Votes_again c.ballot-ballot.ensures c.lend.ensures (ap said_of_accept (sym c.in-Again.is) ∙ c.in_ok-promised.ensures.reply))
+    c.in_ok-turn-in-Some.ensures.turn
+
+pub returns-in_ok-turn-in-Voted-clause-voting : goal.returns-in_ok-turn-in-Voted-clause-voting
+returns-in_ok-turn-in-Voted-clause-voting c =
+    now_votes c.args.seat c.args.row.now c.args.packet.now c.args.tape c.in_ok-turn-in-Voted.turn c.in-Voted.after c.ballot-ballot.result c.ballot-ballot.ensures
+    (reply_told c.args.row.now c.ballot-ballot.result c.args.packet.now.ballot c.lend.result c.args.tape Votes c.ballot-ballot.ensures c.lend.ensures (ap said_of_accept (sym c.in-Voted.is) ∙ c.in_ok-promised.ensures.reply))
+    (row_told c.args.row.now c.in-Voted.after c.ballot-ballot.result c.args.packet.now.ballot c.lend.result c.args.tape c.ballot-ballot.ensures c.lend.ensures (ap (λ (a : AcceptAnswer). row_of a c.args.row.now) (sym c.in-Voted.is) ∙ c.in_ok-promised.ensures.row))
+    c.in_ok-turn-in-Voted.ensures.turn
+
+pub returns-in_err-turn-in-Some-clause-stirs : goal.returns-in_err-turn-in-Some-clause-stirs
+returns-in_err-turn-in-Some-clause-stirs c = λ marks.
+    sends c.args.row.now marks _
+    (accept_sends c.args.seat.circuit c.args.seat.members c.args.seat.me marks c.args.packet.now
+    (another c.args.seat.members c.args.seat.me c.args.packet.now c.requires.rules c.requires.arrived.to (rw (c.get-from.ensures.value, c.from.ensures) at c.get-from.ensures.low) c.requires.arrived.from c.me-me.ensures.member.0 c.me-me.ensures.member.1)
+    c.args.row.now c.args.tape c.args.row.now.promised)
+
+pub returns-in_ok-turn-in-Some-clause-stirs : goal.returns-in_ok-turn-in-Some-clause-stirs
+returns-in_ok-turn-in-Some-clause-stirs c = λ marks.
+    sends c.args.row.now marks _
+    (accept_sends c.args.seat.circuit c.args.seat.members c.args.seat.me marks c.args.packet.now
+    (another c.args.seat.members c.args.seat.me c.args.packet.now c.requires.rules c.requires.arrived.to (rw (c.get-from.ensures.value, c.from.ensures) at c.get-from.ensures.low) c.requires.arrived.from c.me-me.ensures.member.0 c.me-me.ensures.member.1)
+    c.args.row.now c.args.tape c.args.row.now.promised)

@@ -1,0 +1,52 @@
+-- What comes of an event: of a number that was not released, with what is in hand of it, and of one that was.
+use Rattle.std.specs.Prelude.{◌≡◌, ℕ, List, Option, None, Result, MatchResult}
+use Rattle.protocol.specs.Rows.{Tape, Row}
+use Rattle.protocol.specs.Marks.{Mark}
+use Rattle.protocol.specs.Turn as said
+use Rattle.node_core.specs.declared.desk.Desk.{Desk}
+use Rattle.node_core.specs.declared.event.Event.{Event}
+use Rattle.node_core.specs.declared.turn.Turn.{Turn}
+use Rattle.node_core.specs.declared.turn.CoreRefusal.{CoreRefusal}
+use Rattle.node_core.specs.declared.turn.CoreRefusal.TheVariants as refusals
+use Rattle.node_core.specs.Seats.{Seat}
+use Rattle.node_core.specs.Standing.{Core, StandsFor, DeskStands, Answers, Settles, seat_of}
+use Rattle.node_core.specs.Calls.{StartIs, TurnIs}
+use Rattle.node_core.specs.Memory.{IsStill, MayTakeMemory}
+use Rattle.node_core.specs.Turns.{IsTurn}
+
+-- it was taken by the turn that is read from the marks, or memory was refused to it where that turn is not still
+abbrev pub Handles : {E : Type 0} → Row → (List Mark → said.Turn) → Result Turn E → Desk → Desk → Type 0
+Handles row turn result old new = (marks : List Mark) → DeskStands old marks → MatchResult result (λ x. Answers row (turn marks) x new) (λ _. ¬ IsStill row marks (turn marks))
+
+-- the same of an offer or a search, which may be refused for another cause
+abbrev pub Starts : Seat → ℕ → Option Tape → ℕ → Row → Result Turn CoreRefusal → Desk → Desk → Type 0
+Starts s n own now row result old new =
+    (marks : List Mark) → DeskStands old marks
+    → MatchResult result (λ x. StartIs s n own now marks row (λ t. Answers row t x new)) (λ e. e ≡ refusals.OutOfMemory → StartIs s n own now marks row (λ t. ¬ IsStill row marks t))
+
+-- and of any event
+abbrev pub Takes : Seat → Event → Row → Result Turn CoreRefusal → Desk → Desk → Type 0
+Takes s event row result old new =
+    (marks : List Mark) → DeskStands old marks
+    → MatchResult result (λ x. TurnIs s event marks row (λ t. Answers row t x new)) (λ e. e ≡ refusals.OutOfMemory → TurnIs s event marks row (λ t. ¬ IsStill row marks t))
+
+-- the code's turn is the turn t of the definitions, which takes nothing in and releases nothing
+pub record IsTurnAlone (row : Row) (marks : List Mark) (t : said.Turn) (x : Turn) : Type 0 where
+  pub is_turn : IsTurn row t x
+  pub takes_nothing : t.marks ≡ marks
+  pub releases_nothing : x.release ≡ None
+
+-- a packet was answered so, or memory was refused to it where the turn is not still
+abbrev pub Answered : {E : Type 0} → Row → List Mark → said.Turn → Result Turn E → Type 0
+Answered row marks t result = MatchResult result (λ x. IsTurnAlone row marks t x) (λ _. ¬ IsStill row marks t)
+
+-- the same of any event
+abbrev pub TakesNothing : Seat → Event → Row → List Mark → Result Turn CoreRefusal → Type 0
+TakesNothing s event row marks result =
+    MatchResult result (λ x. TurnIs s event marks row (λ t. IsTurnAlone row marks t x)) (λ e. e ≡ refusals.OutOfMemory → TurnIs s event marks row (λ t. ¬ IsStill row marks t))
+
+-- the core took the event of n, but for the settling of n; or memory was refused to it
+abbrev pub Acts : ℕ → Event → Row → Result Turn CoreRefusal → Core → Core → Type 0
+Acts n event row result old new =
+    (marks : List Mark) → StandsFor old marks
+    → MatchResult result (λ x. TurnIs (seat_of old) event marks row (λ t. Settles n row marks t x new)) (λ e. e ≡ refusals.OutOfMemory → MayTakeMemory old event marks row)

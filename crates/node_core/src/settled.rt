@@ -1,0 +1,55 @@
+//! The turns of a number that was released since the start: it still answers as an acceptor, and takes nothing in.
+
+ghost use Rattle.std.specs.Prelude.{◌≡◌, ℕ, List, IfOk, IfErr, true};
+ghost use Rattle.protocol.specs.Marks.{Mark};
+ghost use Rattle.protocol.specs.Proposals.{was_released};
+ghost use Rattle.protocol.specs.Turn.{number_of, packet_turn};
+ghost use Rattle.node_core.specs.Calls.{IsForMember, MayCome, IsRefused};
+ghost use Rattle.node_core.specs.Handling.{Answered, TakesNothing};
+ghost use Rattle.node_core.specs.Turns.{event_value, IsOrderly};
+
+use crate::event::Event;
+use crate::seat::Seat;
+use crate::turn::{CoreRefusal, Note, Turn};
+use crate::voting::{self, Voting};
+use ballots::Row;
+use packets::{BodyRef, PacketRef};
+use std::alloc::{AllocError, Global};
+
+/// Answers a packet.
+fn receive(alloc: Global, seat: Seat, packet: &PacketRef<'_>, row: &Row) -> Result<Turn, AllocError>
+    requires { IsForMember seat.me seat.members packet.now }
+    ensures turn { (now : ℕ) (marks : List Mark) → was_released packet.now.number marks ≡ true → Answered row.now marks (packet_turn seat.circuit seat.members seat.me now marks row.now packet.now packet.now.body) result }
+    ensures orderly { IfOk result (λ x. IsOrderly x) }
+{
+    match packet.body() {
+        BodyRef::Prepare => voting::prepare(alloc, seat, packet, row),
+        BodyRef::Promise { .. } => Ok(Turn::quiet(alloc, Note::Stale)),
+        BodyRef::Accept { tape } => {
+            let Voting { turn, .. } = voting::accept(alloc, seat, packet, tape.lend(), row)?;
+            Ok(turn)
+        }
+        BodyRef::Accepted { .. } => Ok(Turn::quiet(alloc, Note::Settled)),
+        BodyRef::Nack { .. } => Ok(Turn::quiet(alloc, Note::Stale)),
+    }
+}
+
+/// Takes an event of the number, where `row` is its saved row. An offer or a search is refused.
+pub(crate) fn take(
+    alloc: Global,
+    seat: Seat,
+    event: &Event<'_>,
+    row: &Row,
+) -> Result<Turn, CoreRefusal>
+    requires { MayCome seat.me seat.members event.now }
+    ensures turn { (marks : List Mark) → was_released (number_of (event_value event.now)) marks ≡ true → TakesNothing seat event.now row.now marks result }
+    ensures orderly { IfOk result (λ x. IsOrderly x) }
+    ensures refused { IfErr result (λ e. IsRefused event.now e (Unit {0}) (λ marks. was_released (number_of (event_value event.now)) marks ≡ true) seat.me row.now) }
+{
+    match event {
+        Event::Offer { .. } => Err(CoreRefusal::AlreadyReleased),
+        Event::Seek { .. } => Err(CoreRefusal::AlreadyReleased),
+        Event::Due { .. } => Ok(Turn::quiet(alloc, Note::Idle)),
+        Event::Arrived { packet, .. } => Ok(receive(alloc, seat, packet, row)?),
+    }
+}
