@@ -13,9 +13,8 @@ use Rattle.node_core.specs.declared.event.Event.TheVariants as events
 use Rattle.node_core.specs.declared.turn.CoreRefusal.{CoreRefusal}
 use Rattle.node_core.specs.declared.turn.CoreRefusal.TheVariants as refusals
 use Rattle.node_core.specs.Seats.{Seat}
-use Rattle.node_core.specs.Standing.{Core}
 use Rattle.node_core.specs.Turns.{event_value}
-use Rattle.node_core.specs.Calls.{StartIs, TurnIs, RefusesToStart, IsRefused, RefusesEvent, Refuses, is_memory}
+use Rattle.node_core.specs.Calls.{StartIs, TurnIs, RefusesToStart, IsRefused, is_memory}
 
 -- an offer or a search that begins the next ballot
 pub offered : (s : Seat) (n j : ℕ) (tape : Tape) (now : ℕ) (marks : List Mark) (row : Row) (P : said.Turn → Type 0) → j ≡ n → StartIs s n (Some tape) now marks row P → TurnIs s (events.Offer j tape now) marks row P
@@ -38,13 +37,6 @@ pub turn_so :
     → ((t : said.Turn) → said.turn s.circuit s.members s.me marks row (event_value event) ≡ Some t → P t → Q t) → TurnIs s event marks row Q
 turn_so s event marks row P Q h f = record { free = h.free; turn = h.turn; is_the_turn = h.is_the_turn; holds = f h.turn h.is_the_turn h.holds }
 
--- memory may be refused to any event
-pub memory_refused : (event : Event) (same : Type 0) (stands : List Mark → Type 0) (m : ℕ) (row : Row) → IsRefused event refusals.OutOfMemory same stands m row
-memory_refused (events.Offer n tape now) same stands m row = tt
-memory_refused (events.Seek n now) same stands m row = tt
-memory_refused (events.Due n now) same stands m row = refl
-memory_refused (events.Arrived p now) same stands m row = refl
-
 -- why there is no turn, told of what stands for the same marks and stays where the other does
 module _ (A B : Type 0) (P Q : List Mark → Type 0) (stay : A → B) (stand : (marks : List Mark) → Q marks → P marks) (m : ℕ) (row : Row) where
   pub start_refused : (e : CoreRefusal) (n : ℕ) → RefusesToStart e A P m n row → RefusesToStart e B Q m n row
@@ -60,24 +52,9 @@ module _ (A B : Type 0) (P Q : List Mark → Type 0) (stay : A → B) (stand : (
   refused_told (events.Due n now) e h = h
   refused_told (events.Arrived p now) e h = h
 
--- the core had not failed, and memory was not refused
-pub refused_so : (event : Event) (e : CoreRefusal) (old : Core) (row : Row) (new : Core) → is_memory e ≡ false → RefusesEvent event e old row new → Refuses e event old row new
-refused_so (events.Offer n tape now) refusals.Failed old row new m r = absurd r
-refused_so (events.Seek n now) refusals.Failed old row new m r = absurd r
-refused_so (events.Due n now) refusals.Failed old row new m r = absurd cc
-refused_so (events.Arrived p now) refusals.Failed old row new m r = absurd cc
-refused_so event refusals.AlreadyReleased old row new m r = r
-refused_so event refusals.AlreadyOpen old row new m r = r
-refused_so event refusals.RoundsSpent old row new m r = r
-refused_so event refusals.OutOfMemory old row new m r = absurd cc
-
 -- whether there is a next ballot
 pub next_told : (p q : Option Ballot) (m n : ℕ) (o : Option Ballot) (b : Bool) → p ≡ q → m ≡ n → o ≡ next p m → is_some o ≡ not b → is_some (next q n) ≡ not b
 next_told p q m n o b e f g h = ap (λ k. is_some (next q k)) (sym f) ∙ ap (λ (x : Option Ballot). is_some (next x m)) (sym e) ∙ ap (λ (x : Option Ballot). is_some x) (sym g) ∙ h
-
-pub none_so : (o : Option Ballot) → is_some o ≡ false → o ≡ None
-none_so None e = refl
-none_so (Some b) e = let f : true ≡ false = e in absurd cc
 
 pub some_so : (o : Option Ballot) → is_some o ≡ true → (b : Ballot) × (o ≡ Some b)
 some_so None e = let f : false ≡ true = e in absurd cc

@@ -3,7 +3,7 @@ use Rattle.std.proofs.Common.{◌≡◌, ◌⊎◌, inl, inr, ℕ, refl, sym, ap
 use Rattle.std.specs.Prelude.{is_some, ◌==◌, if◌then◌else◌}
 use Rattle.std.proofs.lemmas.Bool.{eqb-true, eq-eqb}
 use Rattle.std.specs.Ordering.{nat_cmp}
-use Rattle.std.specs.BTreeMap.{BTreeMap, get, is_at, WritesThrough, Updates}
+use Rattle.std.specs.BTreeMap.{BTreeMap, get, is_at, WritesThrough}
 use Rattle.std.proofs.lemmas.Map.Lookups.{exact_unsigned}
 use Rattle.std.proofs.lemmas.Map.Views.{tells_apart}
 use Rattle.protocol.specs.Marks.{Mark}
@@ -11,7 +11,7 @@ use Rattle.protocol.specs.Proposals.{was_released, open_proposal, open_ballot}
 use Rattle.learner.specs.Latest.{LatestVotes, latest_votes, OtherMarksPass as OtherVotesPass}
 use Rattle.proposer.specs.InHand.{InHand, OtherMarksPass as OtherProposalsPass}
 use Rattle.node_core.specs.declared.desk.Desk.{Desk}
-use Rattle.node_core.specs.Standing.{Core, StandsFor, DeskStands, ProposalStands, InHandStands, IsLeft, Answers, Grows, Kept, Moves, Settles, AreDesksOf, IsDeskOf, fresh, desk_in, desk_at, is_noted}
+use Rattle.node_core.specs.Standing.{Core, StandsFor, DeskStands, ProposalStands, InHandStands, IsLeft, Answers, Grows, Kept, Moves, Settles, fresh, desk_in, desk_at, is_noted}
 use Rattle.node_core.specs.declared.turn.Turn.{Turn}
 use Rattle.node_core.specs.Handling.{IsTurnAlone}
 use Rattle.protocol.specs.Rows.{Tape, Row}
@@ -19,7 +19,6 @@ use Rattle.protocol.specs.Turn as said
 use Rattle.std.specs.List.{list_any}
 use Rattle.std.specs.Map.{set_value}
 use Rattle.std.proofs.lemmas.Map.Steps.{set_value_same}
-use Rattle.node_core.specs.Seats.{Seat}
 use Rattle.node_core.proofs.Passing.{other_released, other_desk}
 
 module _ (votes : OtherVotesPass) (proposals : OtherProposalsPass) (n : ℕ) (marks after : List Mark) (g : Grows n marks after) where
@@ -68,24 +67,6 @@ written m after n old d e w =
 -- where it was left as it was, nothing changes
 pub unwritten : (m after : BTreeMap ℕ Desk) (n : ℕ) (old d : Desk) → Some old ≡ get nat_cmp m n → WritesThrough nat_cmp (nat_cmp n) m d after → d ≡ old → after.entries ≡ m.entries
 unwritten m after n old d e w same = w.0 ∙ ap (λ (x : Desk). set_value (is_at (nat_cmp n)) m.entries x) same ∙ set_value_same (is_at (nat_cmp n)) m.entries old (sym e)
-
--- and where a desk was put in
-pub was_put : (m after : BTreeMap ℕ Desk) (n : ℕ) (d : Desk) → Updates nat_cmp m after n (Some d) → Written m after n d
-was_put m after n d u = record { here = u.1; others = λ k apart. u.2 k (apart_at n k apart) }
-
--- what is in hand goes on to be the seat's, each under its own number
-pub written_of : (s : Seat) (m after : BTreeMap ℕ Desk) (n : ℕ) (d : Desk) → AreDesksOf s m.entries → Written m after n d → IsDeskOf s d → d.number ≡ n → AreDesksOf s after.entries
-written_of s m after n d h w of number = λ k x e. go k x e (n == k) refl
-  where
-    go : (k : ℕ) (x : Desk) → get nat_cmp after k ≡ Some x → (t : Bool) → (n == k) ≡ t → IsDeskOf s x × (x.number ≡ k)
-    go k x e true t =
-        let is : n ≡ k = eqb-true n k t in
-        let f : Some d ≡ Some x = sym (subst (λ j. get nat_cmp after j ≡ Some d) is w.here) ∙ e in
-        let same : d ≡ x = cc in
-        subst (λ (y : Desk). IsDeskOf s y × (y.number ≡ k)) same (of, number ∙ is)
-    go k x e false t =
-        let apart : k ≡ n → ⊥ = λ f. (let y : (n == k) ≡ true = eq-eqb n k (sym f) in let bad : true ≡ false = sym y ∙ t in absurd cc) in
-        h k x (sym (w.others k apart) ∙ e)
 
 -- what stands in hand, as the core shows it
 pub stands_there : (c : Core) (m : BTreeMap ℕ Desk) (n : ℕ) (o : Option Desk) (marks : List Mark) → m.entries ≡ c.desks → o ≡ get nat_cmp m n → StandsFor c marks → InHandStands c.members n o marks

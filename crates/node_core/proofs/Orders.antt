@@ -1,5 +1,5 @@
 -- How many packets a turn sends, and that a row which it changes has a promise.
-use Rattle.std.proofs.Common.{◌≡◌, ◌≤◌, ap, List, [], ◌∷◌, Option, length, arith}
+use Rattle.std.proofs.Common.{◌≡◌, ap, [], ◌∷◌, Option, length, arith}
 use Rattle.protocol.specs.Rows.{Row}
 use Rattle.protocol.specs.Packets.{Packet}
 use Rattle.node_core.specs.declared.turn.Turn.{Turn}
@@ -11,7 +11,3 @@ pub replied : (x : Turn) (row : Option Row) (note : Note) (reply : Packet) → H
 replied x row note reply h r =
     let one : length x.out.items ≡ 1 = ap length r.out in
     record { promised = rw r.row_after h; few = omega arith }
-
--- and what the others are told is no more than 14
-pub told_others : (x : Turn) (row : Option Row) (note : Note) (packets : List Packet) → HasPromise row → IsSending x row note packets → length x.out.items ≤ 14 → IsOrderly x
-told_others x row note packets h r few = record { promised = rw r.row_after h; few = omega arith }

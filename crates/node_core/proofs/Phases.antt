@@ -1,14 +1,14 @@
 -- Lemmas on the lines of the turn.
-use Rattle.std.proofs.Common.{◌≡◌, ℕ, suc, refl, sym, ap, subst, ◌∙◌, List, [], ◌∷◌, Option, Some, None, Bool, true, false, Result, Ok, Err, arith}
-use Rattle.std.specs.Prelude.{IfOk, IfErr, OnOk, OnErr, MatchResult, IsErr, ◌==◌, nat_lt, nat_le}
+use Rattle.std.proofs.Common.{◌≡◌, ◌≤◌, ◌<◌, ℕ, suc, refl, sym, ap, subst, ◌∙◌, List, [], ◌∷◌, Option, Some, None, Bool, true, false, Result, Ok, Err, arith}
+use Rattle.std.specs.Prelude.{IfOk, IfErr, OnErr, MatchResult, IsErr, ◌==◌, nat_lt, nat_le}
 use Rattle.std.proofs.lemmas.Bool.{eq-eqb}
 use Rattle.std.proofs.lemmas.Bool.Decides.{nat_tests}
 use Rattle.protocol.specs.Lists.{has}
 use Rattle.protocol.specs.Ballots.{Ballot, is_same, is_below, next, last_round}
 use Rattle.protocol.specs.Rows.{Tape, Vote, Row, raised}
 use Rattle.protocol.specs.Acceptor.{is_above}
-use Rattle.protocol.specs.Marks.{Mark, Began, Promised, Closed, proposes}
-use Rattle.protocol.specs.Proposals.{Opening, was_released, open_proposal, gathering_at, proposal_at, since_began, where_at, counted, is_counted, pick, begun, denied, is_due, opening_ballot}
+use Rattle.protocol.specs.Marks.{Mark, Began, Promised, Closed, proposes, releases}
+use Rattle.protocol.specs.Proposals.{Opening, was_released, open_proposal, gathering_at, since_began, where_at, counted, is_counted, pick, begun, denied, is_due, is_due_number, due_moment, opening_ballot}
 use Rattle.protocol.specs.Packets.{Packet}
 use Rattle.protocol.specs.Turn as said
 use Rattle.protocol.specs.Turn.{greater_ballot, next_ballot, is_promised, is_that, stays, promise_turn, propose, due_turn, nack_turn, begin}
@@ -18,7 +18,9 @@ use Rattle.proposer.specs.declared.answer.Counted.TheVariants as kinds
 use Rattle.node_core.specs.declared.desk.Desk.{Desk}
 use Rattle.node_core.specs.declared.turn.Turn.{Turn}
 use Rattle.node_core.specs.Seats.{Seat}
-use Rattle.node_core.specs.Standing.{Answers, DeskStands, Core, StandsFor, Took}
+use Rattle.learner.specs.Latest.{hears, OtherMarksPass as OtherVotesPass}
+use Rattle.proposer.specs.InHand.{InHand, StandsFor as ProposalStandsFor}
+use Rattle.node_core.specs.Standing.{Answers, DeskStands, ProposalStands}
 use Rattle.node_core.specs.Turns.{note_value}
 use Rattle.node_core.specs.declared.turn.Note.TheVariants as notes
 use Rattle.node_core.specs.Handling.{IsTurnAlone}
@@ -27,14 +29,6 @@ use Rattle.node_core.specs.Handling.{IsTurnAlone}
 pub on_ok : {A E : Type 0} (r : Result A E) (P Q : A → Type 0) → IfOk r P → ((x : A) → P x → Q x) → IfOk r Q
 on_ok (Ok x) P Q h f = f x h
 on_ok (Err e) P Q h f = tt
-
-pub when_ok : {A E : Type 0} (r : Result A E) (P Q : Type 0) → OnOk r P → (P → Q) → OnOk r Q
-when_ok (Ok x) P Q h f = f h
-when_ok (Err e) P Q h f = tt
-
-pub when_err : {A E : Type 0} (r : Result A E) (P Q : Type 0) → OnErr r P → (P → Q) → OnErr r Q
-when_err (Ok x) P Q h f = tt
-when_err (Err e) P Q h f = f h
 
 pub if_err : {A E : Type 0} (r : Result A E) (P Q : E → Type 0) → IfErr r P → ((e : E) → P e → Q e) → IfErr r Q
 if_err (Ok x) P Q h f = tt
@@ -56,6 +50,10 @@ on_both (Err e) P Q F G h k f g = g e k
 pub on_err : {A E : Type 0} (r : Result A E) (P : A → Type 0) (G : E → Type 0) → IsErr r → ((e : E) → G e) → MatchResult r P G
 on_err (Ok x) P G h g = let bad : false ≡ true = h in absurd cc
 on_err (Err e) P G h g = g e
+
+pub on_ok_or : {A E : Type 0} (r : Result A E) (P Q : A → Type 0) (G : E → Type 0) → IfOk r P → ((x : A) → P x → Q x) → ((e : E) → G e) → MatchResult r Q G
+on_ok_or (Ok x) P Q G h f g = f x h
+on_ok_or (Err e) P Q G h f g = g e
 
 pub if_any_err : {A E : Type 0} (r : Result A E) (G : E → Type 0) → ((e : E) → G e) → IfErr r G
 if_any_err (Ok x) G g = tt
@@ -96,15 +94,6 @@ gathers_open n b marks o e = go (has (proposes n b) (since_began n marks)) refl
 -- a row that is promised to b stays where its promise is raised to b
 pub raised_same : (row : Row) (b : Ballot) → row.promised ≡ Some b → raised row b ≡ row
 raised_same row b e = ap (λ (p : Option Ballot). let r : Row = record { promised = p; vote = row.vote } in r) (sym e)
-
--- the next ballot is its owner's
-pub next_owner : (seen : Option Ballot) (m : ℕ) (b : Ballot) → next seen m ≡ Some b → b.owner ≡ m
-next_owner None m b e = let f : record { round = 1; owner = m } ≡ b = cc in ap (λ (a : Ballot). a.owner) (sym f)
-next_owner (Some a) m b e = go (nat_lt a.round last_round) refl
-  where
-    go : (t : Bool) → nat_lt a.round last_round ≡ t → b.owner ≡ m
-    go true h = let f : Some (record { round = suc a.round; owner = m }) ≡ Some b = rw h at e in let g : record { round = suc a.round; owner = m } ≡ b = cc in ap (λ (x : Ballot). x.owner) (sym g)
-    go false h = let f : None ≡ Some b = rw h at e in absurd cc
 
 -- and above what was seen
 pub next_above : (seen : Option Ballot) (m : ℕ) (b : Ballot) → next seen m ≡ Some b → is_above seen b ≡ false
@@ -193,10 +182,13 @@ module _ (k c m now : ℕ) (marks : List Mark) (row : Row) (p : Packet) (r : Opt
         rw (completes_so h.0 h.1)
         (subst (λ (w : Row). Answers row (propose k c m p.number p.ballot now (Promised p.number p.from p.ballot r ∷ marks) w (pick h.0.opening.own (counted m p.number h.0.opening (Promised p.number p.from p.ballot r ∷ since_began p.number marks)))) x d) (raised_same row p.ballot promised) answer)
 
--- what became of a promise, told of the packet
-pub counted_as : (kind : Counted) (c m : ℕ) (n j : ℕ) (b a : Ballot) (from k : ℕ) (r : Option Vote) (marks : List Mark) → n ≡ j → b ≡ a → from ≡ k → IsCountedAs kind c m n b from r marks → IsCountedAs kind c m j a k r marks
-counted_as kind c m n j b a from k r marks e f g h =
-    subst (λ i. IsCountedAs kind c m j a i r marks) g (subst (λ (x : Ballot). IsCountedAs kind c m j x from r marks) f (subst (λ i. IsCountedAs kind c m i b from r marks) e h))
+-- what became of a promise, told of the packet and the seat
+pub counted_as :
+    (kind : Counted) (c d m l n j : ℕ) (b a : Ballot) (from k : ℕ) (r : Option Vote) (marks : List Mark) → c ≡ d → m ≡ l → n ≡ j → b ≡ a → from ≡ k
+    → IsCountedAs kind c m n b from r marks → IsCountedAs kind d l j a k r marks
+counted_as kind c d m l n j b a from k r marks x y e f g h =
+    subst (λ i. IsCountedAs kind i l j a k r marks) x (subst (λ i. IsCountedAs kind c i j a k r marks) y
+    (subst (λ i. IsCountedAs kind c m j a i r marks) g (subst (λ (z : Ballot). IsCountedAs kind c m j z from r marks) f (subst (λ i. IsCountedAs kind c m i b from r marks) e h))))
 
 -- where the number is open
 pub none_at : (n : ℕ) (marks : List Mark) → None ≡ opening_ballot (open_proposal n marks) → open_proposal n marks ≡ None
@@ -206,23 +198,8 @@ none_at n marks e = go (open_proposal n marks) refl
     go None h = h
     go (Some o) h = let f : None ≡ Some o.ballot = rw h at e in absurd cc
 
-pub some_at : (n : ℕ) (marks : List Mark) (b : Ballot) → Some b ≡ opening_ballot (open_proposal n marks) → was_released n marks ≡ false
-some_at n marks b e = go (was_released n marks) refl
-  where
-    go : (x : Bool) → was_released n marks ≡ x → was_released n marks ≡ false
-    go true h = let f : Some b ≡ None = rw h at e in absurd cc
-    go false h = h
-
--- a turn of the core that saves, sends and releases nothing
-pub took_nothing : (row : Row) (marks : List Mark) (note : said.Note) (x : Turn) (v : Core) → x.row ≡ None → x.out.items ≡ [] → x.release ≡ None → note_value x.note ≡ note → StandsFor v marks → Took row (stays row marks note) x v
-took_nothing row marks note x v saves sends releases noted stands =
-    record { is_turn = record { row_after = rw saves refl; out = sends; release = releases; note = noted }; stands = stands }
-
 -- the lines of a due moment
 module _ (k c m n now : ℕ) (marks : List Mark) (row : Row) where
-  pub none_open : open_proposal n marks ≡ None → due_turn k c m n now marks row (open_proposal n marks) ≡ stays row marks said.Note_idle
-  none_open e = rw e refl
-
   pub not_due : (o : Opening) → open_proposal n marks ≡ Some o → is_due m n now (since_began n marks) (Some o) ≡ false → due_turn k c m n now marks row (open_proposal n marks) ≡ stays row marks said.Note_idle
   not_due o e f = rw (e, f) refl
 
@@ -265,17 +242,6 @@ told s now row x d e b n a marks is_n is_a h above stands o opens at =
     (subst (λ (y : Ballot). Answers row (propose s.circuit s.members s.me e.number y now marks (raised row y) (pick o.own (counted s.me e.number o (since_began e.number marks)))) x d) is_a
     (h o (subst (λ (y : Ballot). is_above row.promised y ≡ false) (sym is_a) above) stands (subst (λ j. open_proposal j marks ≡ Some o) (sym is_n) opens) (at ∙ sym is_a)))
 
--- where nothing is open, nothing gathers, and a Nack is stale
-pub none_gathers : (n : ℕ) (b : Ballot) (marks : List Mark) → open_proposal n marks ≡ None → gathering_at n b marks ≡ None
-none_gathers n b marks e = go (has (proposes n b) (since_began n marks)) refl
-  where
-    go : (t : Bool) → has (proposes n b) (since_began n marks) ≡ t → gathering_at n b marks ≡ None
-    go true h = rw h refl
-    go false h = rw (h, e) refl
-
-pub stale_nack : (marks : List Mark) (row : Row) (p : Packet) (a : Ballot) → open_proposal p.number marks ≡ None → nack_turn marks row p a (proposal_at p.number p.ballot marks) ≡ stays row marks said.Note_stale
-stale_nack marks row p a e = rw e refl
-
 -- a due moment of a number that was released
 pub idle_alone : (s : Seat) (n now : ℕ) (marks : List Mark) (row : Row) (x : Turn) → was_released n marks ≡ true → x.row ≡ None → x.out.items ≡ [] → x.release ≡ None → x.note ≡ notes.Idle → IsTurnAlone row marks (due_turn s.circuit s.members s.me n now marks row (open_proposal n marks)) x
 idle_alone s n now marks row x released saves sends releases noted = rw released (record {
@@ -283,3 +249,40 @@ idle_alone s n now marks row x released saves sends releases noted = rw released
   takes_nothing = refl;
   releases_nothing = releases;
 })
+
+-- where one more mark comes that hears and releases nothing, and the proposal in hand stands for it
+pub one_more : (votes : OtherVotesPass) (d : Desk) (q : InHand) (x : Mark) (marks : List Mark) → hears d.number x ≡ false → releases d.number x ≡ false → DeskStands d marks → ProposalStandsFor q d.number (x ∷ marks) → DeskStands (record d { proposal = Some q }) (x ∷ marks)
+one_more votes d q x marks unheard unreleased s p = record { unreleased = rw unreleased s.unreleased; proposal = p; heard = votes d.heard d.number x marks unheard s.heard }
+
+pub still : (d : Desk) (q : InHand) (marks : List Mark) → DeskStands d marks → ProposalStandsFor q d.number marks → DeskStands (record d { proposal = Some q }) marks
+still d q marks s p = record { unreleased = s.unreleased; proposal = p; heard = s.heard }
+
+pub promised_told : (n j m k : ℕ) (b a : Ballot) (r : Option Vote) → n ≡ j → m ≡ k → b ≡ a → Promised n m b r ≡ Promised j k a r
+promised_told n j m k b a r e f g = ap (λ i. Promised i m b r) e ∙ ap (λ i. Promised j i b r) f ∙ ap (λ (x : Ballot). Promised j k x r) g
+
+-- what is read of a proposal in hand
+pub proposal_stands : (d : Desk) (q : InHand) (marks : List Mark) → d.proposal ≡ Some q → DeskStands d marks → ProposalStandsFor q d.number marks
+proposal_stands d q marks is s = subst (λ (o : Option InHand). ProposalStands o d.number marks) is s.proposal
+
+pub none_stands : (d : Desk) (marks : List Mark) → d.proposal ≡ None → DeskStands d marks → open_proposal d.number marks ≡ None
+none_stands d marks is s = subst (λ (o : Option InHand). ProposalStands o d.number marks) is s.proposal
+
+-- where nothing is open, nothing gathers
+pub none_gathers : (n : ℕ) (b : Ballot) (marks : List Mark) → open_proposal n marks ≡ None → gathering_at n b marks ≡ None
+none_gathers n b marks e = go (has (proposes n b) (since_began n marks)) refl
+  where
+    go : (t : Bool) → has (proposes n b) (since_began n marks) ≡ t → gathering_at n b marks ≡ None
+    go true h = rw h refl
+    go false h = rw (h, e) refl
+
+-- whether a proposal in hand is due
+pub due_so : (d : Desk) (q : InHand) (m now moment : ℕ) (marks : List Mark) (p : ProposalStandsFor q d.number marks) → q.me ≡ m → moment ≡ due_moment q.me d.number p.opening (since_began d.number marks) → moment ≤ now → is_due_number m now marks d.number ≡ true
+due_so d q m now moment marks p of is h =
+    let e : open_proposal d.number marks ≡ Some p.opening = p.is_open in
+    let f : moment ≡ due_moment m d.number p.opening (since_began d.number marks) = is ∙ ap (λ i. due_moment i d.number p.opening (since_began d.number marks)) of in
+    rw (e, ← f) (grind (arith, nat_tests))
+
+pub waits_so : (d : Desk) (q : InHand) (m now moment : ℕ) (marks : List Mark) (p : ProposalStandsFor q d.number marks) → q.me ≡ m → moment ≡ due_moment q.me d.number p.opening (since_began d.number marks) → now < moment → is_due m d.number now (since_began d.number marks) (Some p.opening) ≡ false
+waits_so d q m now moment marks p of is h =
+    let f : moment ≡ due_moment m d.number p.opening (since_began d.number marks) = is ∙ ap (λ i. due_moment i d.number p.opening (since_began d.number marks)) of in
+    rw (← f) (grind (arith, nat_tests))

@@ -1,6 +1,6 @@
 -- Turns that are not still: they take something in, or send something.
 use Rattle.std.proofs.Common.{◌≡◌, ◌≤◌, ◌<◌, ◌+◌, ℕ, refl, sym, ap, subst, ◌∙◌, List, [], ◌∷◌, Option, Some, None, Bool, true, false, length, arith}
-use Rattle.std.specs.Prelude.{◌==◌, ◌&&◌, not, is_some}
+use Rattle.std.specs.Prelude.{◌==◌, ◌&&◌, not}
 use Rattle.std.proofs.lemmas.Bool.{eq-eqb, and_parts, not-true}
 use Rattle.std.proofs.lemmas.Bool.Decides.{nat_tests}
 use Rattle.std.proofs.lemmas.List.{length-map}
@@ -15,8 +15,6 @@ use Rattle.protocol.specs.Turn as said
 use Rattle.protocol.specs.Turn.{others, hear, propose, begin, renew, next_ballot, due_turn, promise_turn, prepare_turn, accept_turn, accepted_turn, vote_turn, take_vote, packet_to, to_others}
 use Rattle.packets.specs.Rules.{keeps_rules, may_send, kind_of, may_say}
 use Rattle.proposer.specs.Answers.{IsNew, completes}
-use Rattle.node_core.specs.declared.desk.Desk.{Desk}
-use Rattle.node_core.specs.Standing.{IsLeft}
 use Rattle.node_core.specs.Memory.{IsStill}
 use Rattle.node_core.proofs.Phases.{counts_so, completes_so}
 use Rattle.node_core.proofs.Sending.{others_few}
@@ -140,12 +138,3 @@ module _ (k c m : ℕ) (marks : List Mark) (p : Packet) (some : 0 < length (othe
       go : (x : Bool) → is_below p.ballot a ≡ x → 0 < length (accept_turn k c m marks row p t (Some a)).out
       go true e = rw e (omega arith)
       go false e = rw e (take_sends row t row.vote)
-
--- where nothing is taken in no number is released
-pub unsettled :
-    (row : Row) (marks : List Mark) (t : said.Turn) (d : Desk) (release : Option Tape) (r : Bool) (n : ℕ)
-    → d.number ≡ n → r ≡ is_some release → IsLeft d release t.marks → was_released n marks ≡ false → r ≡ true → IsStill row marks t → ⊥
-unsettled row marks t d None r n number e left unreleased is s = let bad : true ≡ false = sym is ∙ e in cc
-unsettled row marks t d (Some x) r n number e left unreleased is s =
-    let released : was_released n marks ≡ true = ap (λ j. was_released j marks) (sym number) ∙ ap (was_released d.number) (sym s.takes_in) ∙ left in
-    let bad : true ≡ false = sym released ∙ unreleased in cc

@@ -1,21 +1,12 @@
 -- What is read from marks, told of equal numbers.
-use Rattle.std.proofs.Common.{sym, ◌≡◌, ℕ, refl, subst, ◌∙◌, List, Option, Some, None, Bool, true, false}
+use Rattle.std.proofs.Common.{sym, ◌≡◌, ℕ, subst, ◌∙◌, List, Option, Some, None, Bool, true, false}
 use Rattle.std.specs.Prelude.{is_some}
 use Rattle.protocol.specs.Ballots.{Ballot}
 use Rattle.protocol.specs.Rows.{Tape}
 use Rattle.protocol.specs.Marks.{Mark}
-use Rattle.protocol.specs.Proposals.{Opening, was_released, open_proposal, open_ballot, opening_ballot}
+use Rattle.protocol.specs.Proposals.{open_proposal, open_ballot}
 use Rattle.protocol.specs.Turn.{Hearing, hear}
-use Rattle.node_core.proofs.Phases.{none_at, some_at}
-
-is_open : (p : Option Opening) (b : Ballot) → Some b ≡ opening_ballot p → is_some p ≡ true
-is_open None b e = absurd cc
-is_open (Some o) b e = refl
-
--- whether a number is open, by its ballot
-pub open_so : (n : ℕ) (marks : List Mark) (b : Bool) (o : Option Ballot) → b ≡ is_some o → o ≡ open_ballot n marks → b ≡ true → (was_released n marks ≡ false) × (is_some (open_proposal n marks) ≡ true)
-open_so n marks b None e f g = let bad : true ≡ false = sym g ∙ e in absurd cc
-open_so n marks b (Some a) e f g = (some_at n marks a f, is_open (open_proposal n marks) a f)
+use Rattle.node_core.proofs.Phases.{none_at}
 
 pub closed_so : (n : ℕ) (marks : List Mark) (b : Bool) (o : Option Ballot) → b ≡ is_some o → o ≡ open_ballot n marks → b ≡ false → open_proposal n marks ≡ None
 closed_so n marks b None e f g = none_at n marks f

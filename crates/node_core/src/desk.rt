@@ -264,40 +264,7 @@ impl Desk {
         self.begun(alloc, seat, ballot, now, row)
     }
 
-    /// Whether the proposal gathers promises at this ballot.
-    fn gathers_at(&self, ballot: Ballot) -> bool
-        ensures { (marks : List Mark) → DeskStands self.now marks → MatchBool result ((p : Opening) × (gathering_at self.now.number ballot marks ≡ Some p)) (gathering_at self.now.number ballot marks ≡ None) }
-    {
-        match &self.proposal {
-            None => false,
-            Some(proposal) => proposal.gathers_at(ballot),
-        }
-    }
-
-    /// Hands a member's promise to the proposal.
-    fn count(
-        &mut self,
-        seat: Seat,
-        from: Member,
-        ballot: Ballot,
-        report: Option<VoteRef<'_>>,
-    ) -> Result<Counted, AllocError>
-        requires of { IsDeskOf seat self.old }
-        requires from { from ≤ seat.members }
-        ensures kind { IfOk result (λ kind. (marks : List Mark) → DeskStands self.old marks → IsCountedAs kind seat.members seat.me self.old.number ballot from report.entry marks) }
-        ensures stands { IfOk result (λ kind. (marks : List Mark) → DeskStands self.old marks → DeskStands self.new (marks_after_promise kind self.old.number from ballot report.entry marks)) }
-        ensures memory { OnErr result ((marks : List Mark) → DeskStands self.old marks → IsNew seat.me self.old.number ballot from marks) }
-        ensures of { IsDeskOf seat self.new }
-        ensures number { self.new.number ≡ self.old.number }
-    {
-        learner::laws::other_marks_pass();
-        match &mut self.proposal {
-            None => Ok(Counted::Stale),
-            Some(proposal) => proposal.promise(from, ballot, report),
-        }
-    }
-
-    /// Takes a promise in; with those of a majority it proposes.
+    /// Takes a Promise: with those of a majority it proposes.
     fn promise(
         &mut self,
         alloc: Global,
@@ -311,42 +278,33 @@ impl Desk {
         requires number { packet.now.number ≡ self.old.number }
         requires from { packet.now.from ≤ seat.members }
         requires owner { packet.now.ballot.owner ≡ seat.me }
-        ensures turn { IfOk result (λ x. (marks : List Mark) → DeskStands self.old marks → Answers row.now (promise_turn seat.circuit seat.members seat.me now marks row.now packet.now report.entry (gathering_at packet.now.number packet.now.ballot marks)) x self.new) }
+        ensures turn { Handles row.now (λ marks. promise_turn seat.circuit seat.members seat.me now marks row.now packet.now report.entry (gathering_at packet.now.number packet.now.ballot marks)) result self.old self.new }
         ensures orderly { IfOk result (λ x. IsOrderly x) }
-        ensures memory { OnErr result ((marks : List Mark) → DeskStands self.old marks → ¬ IsStill row.now marks (promise_turn seat.circuit seat.members seat.me now marks row.now packet.now report.entry (gathering_at packet.now.number packet.now.ballot marks))) }
         ensures of { IsDeskOf seat self.new }
         ensures number { self.new.number ≡ self.old.number }
     {
-        let ballot = packet.ballot();
-        if !self.gathers_at(ballot) {
-            return Ok(Turn::quiet(alloc, Note::Stale));
-        }
-        if !is_promised(row, ballot) {
-            return Ok(Turn::quiet(alloc, Note::Overtaken { ballot }));
-        }
-        match self.count(seat, packet.from(), ballot, report)? {
-            Counted::Stale => Ok(Turn::quiet(alloc, Note::Stale)),
-            Counted::Repeated => Ok(Turn::quiet(alloc, Note::Repeated)),
-            Counted::More => Ok(Turn::quiet(alloc, Note::Counted { ballot })),
-            Counted::Quorum => self.propose(alloc, seat, ballot, now, row),
-        }
-    }
-
-    /// Hands a Nack to the proposal; `false` where the proposal is not at its ballot.
-    fn deny(&mut self, ballot: Ballot, promised: Ballot) -> bool
-        ensures kept { (marks : List Mark) → DeskStands self.old marks → MatchBool result ((p : Opening) × (proposal_at self.old.number ballot marks ≡ Some p)) (proposal_at self.old.number ballot marks ≡ None) }
-        ensures stands { (marks : List Mark) → DeskStands self.old marks → DeskStands self.new (if result then Denied self.old.number promised ∷ marks else marks) }
-        ensures of { (s : SeatValue) → IsDeskOf s self.old → IsDeskOf s self.new }
-        ensures number { self.new.number ≡ self.old.number }
-    {
         learner::laws::other_marks_pass();
+        let ballot = packet.ballot();
         match &mut self.proposal {
-            None => false,
-            Some(proposal) => proposal.nack(ballot, promised),
+            None => Ok(Turn::quiet(alloc, Note::Stale)),
+            Some(proposal) => {
+                if !proposal.gathers_at(ballot) {
+                    return Ok(Turn::quiet(alloc, Note::Stale));
+                }
+                if !is_promised(row, ballot) {
+                    return Ok(Turn::quiet(alloc, Note::Overtaken { ballot }));
+                }
+                match proposal.promise(packet.from(), ballot, report)? {
+                    Counted::Stale => Ok(Turn::quiet(alloc, Note::Stale)),
+                    Counted::Repeated => Ok(Turn::quiet(alloc, Note::Repeated)),
+                    Counted::More => Ok(Turn::quiet(alloc, Note::Counted { ballot })),
+                    Counted::Quorum => self.propose(alloc, seat, ballot, now, row),
+                }
+            }
         }
     }
 
-    /// Takes a Nack in.
+    /// Takes a Nack.
     fn nack(&mut self, alloc: Global, packet: &PacketRef<'_>, promised: Ballot) -> Turn
         requires { packet.now.number ≡ self.old.number }
         ensures turn { (row : RowValue) (marks : List Mark) → DeskStands self.old marks → Answers row (nack_turn marks row packet.now promised (proposal_at packet.now.number packet.now.ballot marks)) result self.new }
@@ -354,55 +312,45 @@ impl Desk {
         ensures of { (s : SeatValue) → IsDeskOf s self.old → IsDeskOf s self.new }
         ensures number { self.new.number ≡ self.old.number }
     {
-        if self.deny(packet.ballot(), promised) {
-            Turn::quiet(alloc, Note::Denied { promised })
-        } else {
-            Turn::quiet(alloc, Note::Stale)
-        }
-    }
-
-    /// What the proposal does at this moment.
-    fn renew(
-        &mut self,
-        seat: Seat,
-        promised: Option<Ballot>,
-        report: Option<Vote>,
-        now: u64,
-    ) -> Result<DueAnswer, AllocError>
-        requires { IsDeskOf seat self.old }
-        ensures answer { IfOk result (λ answer. (marks : List Mark) (o : Opening) (row : RowValue) → DeskStands self.old marks → open_proposal self.old.number marks ≡ Some o → row.promised ≡ promised → IsDueAnswer answer seat.me self.old.number now o marks row) }
-        ensures stands { IfOk result (λ answer. (marks : List Mark) (o : Opening) → DeskStands self.old marks → open_proposal self.old.number marks ≡ Some o → DeskStands self.new (marks_after_due answer self.old.number o.own report now marks)) }
-        ensures ballot { IfOk result (λ answer. IsOwnAndAbove answer seat.me promised) }
-        ensures of { IsDeskOf seat self.new }
-        ensures number { self.new.number ≡ self.old.number }
-    {
         learner::laws::other_marks_pass();
         match &mut self.proposal {
-            None => Ok(DueAnswer::Wait),
-            Some(proposal) => proposal.due(promised, report, now),
+            None => Turn::quiet(alloc, Note::Stale),
+            Some(proposal) => {
+                if proposal.nack(packet.ballot(), promised) {
+                    Turn::quiet(alloc, Note::Denied { promised })
+                } else {
+                    Turn::quiet(alloc, Note::Stale)
+                }
+            }
         }
     }
 
     /// Sees to the proposal where its due moment has come: it begins anew, or gives up.
     fn due(&mut self, alloc: Global, seat: Seat, now: u64, row: &Row) -> Result<Turn, AllocError>
         requires { IsDeskOf seat self.old }
-        ensures turn { IfOk result (λ x. (marks : List Mark) → DeskStands self.old marks → Answers row.now (due_turn seat.circuit seat.members seat.me self.old.number now marks row.now (open_proposal self.old.number marks)) x self.new) }
+        ensures turn { Handles row.now (λ marks. due_turn seat.circuit seat.members seat.me self.old.number now marks row.now (open_proposal self.old.number marks)) result self.old self.new }
         ensures orderly { IfOk result (λ x. IsOrderly x) }
-        ensures memory { OnErr result ((marks : List Mark) → DeskStands self.old marks → is_due_number seat.me now marks self.old.number ≡ true) }
         ensures of { IsDeskOf seat self.new }
         ensures number { self.new.number ≡ self.old.number }
     {
-        let Some(last) = self.open_ballot() else {
-            return Ok(Turn::quiet(alloc, Note::Idle));
-        };
-        if !self.is_due(now) {
-            return Ok(Turn::quiet(alloc, Note::Idle));
-        }
-        let report = copied(alloc, row.vote())?;
-        match self.renew(seat, row.promised(), report, now)? {
-            DueAnswer::Wait => Ok(Turn::quiet(alloc, Note::Idle)),
-            DueAnswer::GaveUp => Ok(self.close(alloc, None, Note::GaveUp { ballot: last })),
-            DueAnswer::Began { ballot } => self.begun(alloc, seat, ballot, now, row),
+        learner::laws::other_marks_pass();
+        match &mut self.proposal {
+            None => Ok(Turn::quiet(alloc, Note::Idle)),
+            Some(proposal) => {
+                let moment = proposal.due_moment();
+                if now < moment {
+                    return Ok(Turn::quiet(alloc, Note::Idle));
+                }
+                let last = proposal.ballot();
+                let report = copied(alloc, row.vote())?;
+                match proposal.due(row.promised(), report, now)? {
+                    DueAnswer::Wait => Ok(Turn::quiet(alloc, Note::Idle)),
+                    DueAnswer::GaveUp => {
+                        Ok(self.close(alloc, None, Note::GaveUp { ballot: last }))
+                    }
+                    DueAnswer::Began { ballot } => self.begun(alloc, seat, ballot, now, row),
+                }
+            }
         }
     }
 

@@ -147,12 +147,12 @@ pub(crate) fn accept<'a>(
         AcceptAnswer::Again => match row.vote() {
             None => unreachable!(),
             Some(vote) => {
-                let tape = vote.tape();
+                let voted = vote.tape();
                 let note = Note::VotedAgain { ballot };
-                let turn = tell(alloc, seat, packet, &tape, None, note)?;
+                let turn = tell(alloc, seat, packet, &voted, None, note)?;
                 Ok(Voting {
                     turn,
-                    vote: Some(tape),
+                    vote: Some(voted),
                 })
             }
         },

@@ -23,7 +23,7 @@ returns-in_ok-turn-in-Nack-clause-voting c = λ marks.
 
 pub returns-in_ok-turn-in-Some-clause-voting : goal.returns-in_ok-turn-in-Some-clause-voting
 returns-in_ok-turn-in-Some-clause-voting c =
-    again_votes c.args.seat c.args.row.now c.args.packet.now c.args.tape c.in_ok-turn-in-Some.turn c.in-Some.vote.now c.ballot-ballot.result c.tape-tape.result c.ballot-ballot.ensures c.tape-tape.ensures (sym c.in-Some.ensures.value)
+    again_votes c.args.seat c.args.row.now c.args.packet.now c.args.tape c.in_ok-turn-in-Some.turn c.in-Some.vote.now c.ballot-ballot.result c.tape-voted.result c.ballot-ballot.ensures c.tape-voted.ensures (sym c.in-Some.ensures.value)
     (reply_told c.args.row.now c.ballot-ballot.result c.args.packet.now.ballot c.lend.result c.args.tape Votes_again c.ballot-ballot.ensures c.lend.ensures (ap said_of_accept (sym c.in-Again.is) ∙ c.in_ok-promised.ensures.reply))
     c.in_ok-turn-in-Some.ensures.turn
 

@@ -1,58 +1,64 @@
 -- The lines of the due moment: idle, given up, or begun anew.
-use Rattle.std.proofs.Common.{◌≡◌, false, refl, sym, subst, ◌∙◌, ◌∷◌}
+use Rattle.std.proofs.Common.{refl, sym, ap, subst, ◌∙◌, ◌∷◌, Option}
+use Rattle.protocol.specs.Rows.{Tape, Vote}
 use Rattle.protocol.specs.Marks.{Began, Closed}
 use Rattle.protocol.specs.Turn as said
-use Rattle.protocol.specs.Turn.{due_turn, stays, begin}
-use Rattle.node_core.specs.Standing.{Answers, DeskStands}
-use Rattle.node_core.proofs.Phases.{on_ok, on_any_err, stays_so, not_due, gives_up, renews, renews_above, ballot_open}
-use Rattle.protocol.specs.Proposals.{is_due_number}
+use Rattle.proposer.specs.InHand.{StandsFor as ProposalStandsFor}
+use Rattle.proposer.specs.Answers.{IsDueAnswer}
+use Rattle.proposer.specs.declared.answer.DueAnswer.TheVariants as answers
+use Rattle.node_core.specs.Turns.{note_value}
+use Rattle.node_core.proofs.Phases.{on_ok_or, on_err, stays_so, not_due, gives_up, renews, renews_above, due_so, one_more, still, proposal_stands}
+use Rattle.node_core.proofs.Stirring.{takes_in, due_adds}
 use Rattle.node_core.proofs.desk.Desk.due.Goals as goal
+
+pub returns-in_err-report-in-Some-clause-turn : goal.returns-in_err-report-in-Some-clause-turn
+returns-in_err-report-in-Some-clause-turn c = λ marks stands.
+    let p = proposal_stands c.args.self.now c.in-Some.proposal marks c.in-Some.is stands in
+    let of = rw c.in-Some.is at c.requires.proposal in
+    on_err c.from_residual.result _ _ c.from_residual.ensures.0
+    (λ _.
+    takes_in c.args.row.now marks _
+    (due_adds c.args.seat.circuit c.args.seat.members c.args.seat.me c.args.self.now.number c.args.now marks c.args.row.now
+    (due_so c.args.self.now c.in-Some.proposal c.args.seat.me c.args.now c.due_moment-moment.result marks p of.0 (c.due_moment-moment.ensures.moment c.args.self.now.number marks p.opening p p.is_open) c.if-now-moment.false)))
 
 pub returns-in-Wait-clause-turn : goal.returns-in-Wait-clause-turn
 returns-in-Wait-clause-turn c = λ marks stands.
-    let o = ballot_open c.args.self.now.number marks c.in-Some.last (sym (c.in-Some.ensures marks stands)) in
-    let answer = rw c.in-Wait.is at (c.in_ok-renew.ensures.answer marks o.0 c.args.row.now stands o.1 (sym c.promised.ensures.value)) in
-    let left = rw c.in-Wait.is at (c.in_ok-renew.ensures.stands marks o.0 stands o.1) in
-    rw (not_due c.args.seat.circuit c.args.seat.members c.args.seat.me c.args.self.now.number c.args.now marks c.args.row.now o.0 o.1 answer)
-    (stays_so c.args.row.now marks said.Note_idle c.quiet-in-Wait.result c.renew.new.self c.quiet-in-Wait.ensures.row c.quiet-in-Wait.ensures.out c.quiet-in-Wait.ensures.release (rw c.quiet-in-Wait.ensures.note refl) left)
+    let p = proposal_stands c.args.self.now c.in-Some.proposal marks c.in-Some.is stands in
+    let of = rw c.in-Some.is at c.requires.proposal in
+    let answer = subst (λ m. IsDueAnswer answers.Wait m c.args.self.now.number c.args.now p.opening marks c.args.row.now) of.0 (rw c.in-Wait.is at (c.in_ok-due-in-Some.ensures.answer c.args.self.now.number marks p.opening c.args.row.now p p.is_open (sym c.promised.ensures.value))) in
+    rw (not_due c.args.seat.circuit c.args.seat.members c.args.seat.me c.args.self.now.number c.args.now marks c.args.row.now p.opening p.is_open answer)
+    (stays_so c.args.row.now marks said.Note_idle c.quiet-in-Wait.result _ c.quiet-in-Wait.ensures.row c.quiet-in-Wait.ensures.out c.quiet-in-Wait.ensures.release (rw c.quiet-in-Wait.ensures.note refl)
+    (still c.args.self.now c.due.new.self marks stands (rw c.in-Wait.is at (c.in_ok-due-in-Some.ensures.stands c.args.self.now.number marks p))))
 
 pub returns-in-GaveUp-clause-turn : goal.returns-in-GaveUp-clause-turn
 returns-in-GaveUp-clause-turn c = λ marks stands.
-    let o = ballot_open c.args.self.now.number marks c.in-Some.last (sym (c.in-Some.ensures marks stands)) in
-    let answer = rw c.in-GaveUp.is at (c.in_ok-renew.ensures.answer marks o.0 c.args.row.now stands o.1 (sym c.promised.ensures.value)) in
-    let left : DeskStands c.renew.new.self marks = rw c.in-GaveUp.is at (c.in_ok-renew.ensures.stands marks o.0 stands o.1) in
-    rw (gives_up c.args.seat.circuit c.args.seat.members c.args.seat.me c.args.self.now.number c.args.now marks c.args.row.now o.0 o.1 answer.0 answer.1)
-    (stays_so c.args.row.now (Closed c.args.self.now.number ∷ marks) (said.Note_gave_up o.0.ballot) c.close.result c.close.new.self c.close.ensures.row c.close.ensures.out c.close.ensures.release (rw (c.close.ensures.note, o.2) refl) (rw c.renew.ensures.number at (c.close.ensures.stands marks left)))
+    let p = proposal_stands c.args.self.now c.in-Some.proposal marks c.in-Some.is stands in
+    let of = rw c.in-Some.is at c.requires.proposal in
+    let answer = subst (λ m. IsDueAnswer answers.GaveUp m c.args.self.now.number c.args.now p.opening marks c.args.row.now) of.0 (rw c.in-GaveUp.is at (c.in_ok-due-in-Some.ensures.answer c.args.self.now.number marks p.opening c.args.row.now p p.is_open (sym c.promised.ensures.value))) in
+    rw (gives_up c.args.seat.circuit c.args.seat.members c.args.seat.me c.args.self.now.number c.args.now marks c.args.row.now p.opening p.is_open answer.0 answer.1)
+    (stays_so c.args.row.now (Closed c.args.self.now.number ∷ marks) (said.Note_gave_up p.opening.ballot) c.close.result c.close.new.self c.close.ensures.row c.close.ensures.out c.close.ensures.release (ap note_value c.close.ensures.note ∙ ap said.Note_gave_up (c.ballot-last.ensures.value ∙ p.its_ballot))
+    (c.close.ensures.stands marks (still c.args.self.now c.due.new.self marks stands (rw c.in-GaveUp.is at (c.in_ok-due-in-Some.ensures.stands c.args.self.now.number marks p)))))
 
 pub returns-in-GaveUp-clause-of : goal.returns-in-GaveUp-clause-of
-returns-in-GaveUp-clause-of c = c.close.ensures.of c.args.seat c.renew.ensures.of
+returns-in-GaveUp-clause-of c =
+    let of = rw c.in-Some.is at c.requires.proposal in
+    c.close.ensures.of c.args.seat (record { proposal = (c.due.ensures.circuit.me ∙ of.0, c.due.ensures.circuit.members ∙ of.1); heard = c.requires.heard })
 
 pub returns-in-Began-clause-turn : goal.returns-in-Began-clause-turn
-returns-in-Began-clause-turn c =
-    on_ok c.begun.result _ _ c.begun.ensures.turn
-    (λ x h marks stands.
-    let o = ballot_open c.args.self.now.number marks c.in-Some.last (sym (c.in-Some.ensures marks stands)) in
-    let answer = rw c.in-Began.is at (c.in_ok-renew.ensures.answer marks o.0 c.args.row.now stands o.1 (sym c.promised.ensures.value)) in
-    let report : c.in_ok-report.report ≡ c.args.row.now.vote = c.in_ok-report.ensures ∙ c.vote.ensures.value in
-    let left : DeskStands c.renew.new.self (Began c.args.self.now.number c.in-Began.ballot o.0.own c.args.row.now.vote c.args.now ∷ marks) = rw (c.in-Began.is, report) at (c.in_ok-renew.ensures.stands marks o.0 stands o.1) in
-    let left_there : DeskStands c.renew.new.self (Began c.renew.new.self.number c.in-Began.ballot o.0.own c.args.row.now.vote c.args.now ∷ marks) = subst (λ k. DeskStands c.renew.new.self (Began k c.in-Began.ballot o.0.own c.args.row.now.vote c.args.now ∷ marks)) (sym c.renew.ensures.number) left in
-    let turn : Answers c.args.row.now (begin c.args.seat.circuit c.args.seat.members c.args.seat.me c.renew.new.self.number c.in-Began.ballot o.0.own c.args.now marks c.args.row.now) x c.begun.new.self = h marks o.0.own (renews_above c.args.seat.circuit c.args.seat.members c.args.seat.me c.args.self.now.number c.args.now marks c.args.row.now c.in-Began.ballot answer.1) left_there in
-    rw (renews c.args.seat.circuit c.args.seat.members c.args.seat.me c.args.self.now.number c.args.now marks c.args.row.now o.0 c.in-Began.ballot o.1 answer.0 answer.1)
-    (subst (λ k. Answers c.args.row.now (begin c.args.seat.circuit c.args.seat.members c.args.seat.me k c.in-Began.ballot o.0.own c.args.now marks c.args.row.now) x c.begun.new.self) c.renew.ensures.number turn))
-
-pub returns-then-not-is_due-clause-turn : goal.returns-then-not-is_due-clause-turn
-returns-then-not-is_due-clause-turn c = λ marks stands.
-    let o = ballot_open c.args.self.now.number marks c.in-Some.last (sym (c.in-Some.ensures marks stands)) in
-    let idle : is_due_number c.args.seat.me c.args.now marks c.args.self.now.number ≡ false = sym (c.is_due.ensures c.args.seat marks c.requires stands) ∙ c.if-not-is_due.true in
-    let waits = rw o.1 at idle in
-    rw (not_due c.args.seat.circuit c.args.seat.members c.args.seat.me c.args.self.now.number c.args.now marks c.args.row.now o.0 o.1 waits)
-    (stays_so c.args.row.now marks said.Note_idle c.quiet-then-not-is_due.result c.args.self.now c.quiet-then-not-is_due.ensures.row c.quiet-then-not-is_due.ensures.out c.quiet-then-not-is_due.ensures.release (rw c.quiet-then-not-is_due.ensures.note refl) stands)
-
-pub returns-in_err-report-clause-memory : goal.returns-in_err-report-clause-memory
-returns-in_err-report-clause-memory c = on_any_err c.from_residual.result _ (λ marks stands. sym (c.is_due.ensures c.args.seat marks c.requires stands) ∙ c.if-not-is_due.false)
-
-pub returns-in_err-renew-clause-memory : goal.returns-in_err-renew-clause-memory
-returns-in_err-renew-clause-memory c = on_any_err c.from_residual-in_err-renew.result _ (λ marks stands. sym (c.is_due.ensures c.args.seat marks c.requires stands) ∙ c.if-not-is_due.false)
-
-pub returns-in-Began-clause-memory : goal.returns-in-Began-clause-memory
-returns-in-Began-clause-memory c = on_any_err c.begun.result _ (λ marks stands. sym (c.is_due.ensures c.args.seat marks c.requires stands) ∙ c.if-not-is_due.false)
+returns-in-Began-clause-turn c = λ marks stands.
+    let p = proposal_stands c.args.self.now c.in-Some.proposal marks c.in-Some.is stands in
+    let of = rw c.in-Some.is at c.requires.proposal in
+    let n = c.args.self.now.number in
+    let b = c.in-Began.ballot in
+    let answer = subst (λ m. IsDueAnswer (answers.Began b) m n c.args.now p.opening marks c.args.row.now) of.0 (rw c.in-Began.is at (c.in_ok-due-in-Some.ensures.answer n marks p.opening c.args.row.now p p.is_open (sym c.promised.ensures.value))) in
+    let begun = subst (λ (o : Option Tape). ProposalStandsFor c.due.new.self n (Began n b o c.args.row.now.vote c.args.now ∷ marks)) p.its_own
+    (subst (λ (r : Option Vote). ProposalStandsFor c.due.new.self n (Began n b c.in-Some.proposal.own r c.args.now ∷ marks)) (c.in_ok-report-in-Some.ensures ∙ c.vote.ensures.value) (rw c.in-Began.is at (c.in_ok-due-in-Some.ensures.stands n marks p))) in
+    on_ok_or c.begun.result _ _ _ c.begun.ensures.turn
+    (λ x h.
+    rw (renews c.args.seat.circuit c.args.seat.members c.args.seat.me n c.args.now marks c.args.row.now p.opening b p.is_open answer.0 answer.1)
+    (h marks p.opening.own (renews_above c.args.seat.circuit c.args.seat.members c.args.seat.me n c.args.now marks c.args.row.now b answer.1)
+    (one_more c.other_marks_pass.ensures c.args.self.now c.due.new.self (Began n b p.opening.own c.args.row.now.vote c.args.now) marks refl refl stands begun)))
+    (λ _.
+    takes_in c.args.row.now marks _
+    (due_adds c.args.seat.circuit c.args.seat.members c.args.seat.me n c.args.now marks c.args.row.now
+    (due_so c.args.self.now c.in-Some.proposal c.args.seat.me c.args.now c.due_moment-moment.result marks p of.0 (c.due_moment-moment.ensures.moment n marks p.opening p p.is_open) c.if-now-moment.false)))

@@ -16,7 +16,6 @@ use Rattle.node_core.specs.Standing.{Answers}
 use Rattle.node_core.specs.Turns.{event_value}
 use Rattle.node_core.proofs.Calling.{offered, sought, came_due, packet_came}
 use Rattle.node_core.proofs.Phases.{on_match, on_err}
-use Rattle.node_core.proofs.Stirring.{takes_in, due_adds}
 use Rattle.node_core.proofs.desk.Desk.take.Goals as goal
 
 abbrev Taken : Seat → Event → List Mark → Row → Desk → Result Turn CoreRefusal → Type 0
@@ -54,7 +53,7 @@ returns-in_err-due-in-Due-clause-turn c = λ marks stands.
     (λ _ _.
     subst (λ (y : Event). TurnIs c.args.seat y marks c.args.row.now (λ t. IsStill c.args.row.now marks t → ⊥)) (sym c.in-Due.is)
     (came_due c.args.seat c.args.self.now.number c.in-Due.number c.in-Due.now marks c.args.row.now (λ t. IsStill c.args.row.now marks t → ⊥) same
-    (takes_in c.args.row.now marks _ (due_adds c.args.seat.circuit c.args.seat.members c.args.seat.me c.args.self.now.number c.in-Due.now marks c.args.row.now (c.in_err-due-in-Due.ensures.memory marks stands)))))
+    (c.in_err-due-in-Due.ensures.turn marks stands)))
 
 pub returns-in_err-receive-in-Arrived-clause-turn : goal.returns-in_err-receive-in-Arrived-clause-turn
 returns-in_err-receive-in-Arrived-clause-turn c = λ marks stands.
