@@ -13,11 +13,10 @@ use Rattle.protocol.specs.Proposals.{was_released}
 use Rattle.node_core.specs.declared.desk.Desk.{Desk}
 use Rattle.node_core.specs.declared.turn.Turn.{Turn}
 use Rattle.node_core.specs.declared.turn.Note.TheVariants as notes
-use Rattle.node_core.specs.Handling.{IsTurnAlone}
+use Rattle.node_core.specs.Handling.{IsTurnAlone, IsVote, IsVoting}
 use Rattle.node_core.specs.Seats.{Seat}
 use Rattle.node_core.specs.Standing.{Answers, IsLeft}
 use Rattle.node_core.specs.Turns.{IsSending, note_value}
-use Rattle.node_core.specs.Voting.{IsVote, IsVoting}
 use Rattle.node_core.proofs.Phases.{is_same-self}
 
 -- a promise: the row's own is none or below

@@ -13,8 +13,7 @@ use Rattle.protocol.specs.NextDue.{IsLeast}
 use Rattle.protocol.specs.Marks.{Mark}
 use Rattle.protocol.specs.Proposals.{open_proposal, is_due_number}
 use Rattle.node_core.specs.declared.desk.Desk.{Desk}
-use Rattle.node_core.specs.Standing.{Core, StandsFor, InHandStands, desk_in, desk_at}
-use Rattle.node_core.specs.Dues.{AllStand, IsLeastPassing}
+use Rattle.node_core.specs.Standing.{Core, StandsFor, InHandStands, desk_in, desk_at, AllStand, IsLeastPassing}
 use Rattle.node_core.proofs.Keeping.{none_open_in_hand}
 
 -- there is one least

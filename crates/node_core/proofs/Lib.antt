@@ -3,9 +3,7 @@ pub mod Phases
 pub mod Passing
 pub mod Growing
 pub mod Accepting
-pub mod Telling
 pub mod Calling
-pub mod Orders
 pub mod Stirring
 pub mod Keeping
 pub mod Dueing

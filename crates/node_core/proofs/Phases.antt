@@ -1,6 +1,6 @@
 -- Lemmas on the lines of the turn.
-use Rattle.std.proofs.Common.{◌≡◌, ◌≤◌, ◌<◌, ℕ, suc, refl, sym, ap, subst, ◌∙◌, List, [], ◌∷◌, Option, Some, None, Bool, true, false, Result, Ok, Err, arith}
-use Rattle.std.specs.Prelude.{IfOk, IfErr, OnErr, MatchResult, IsErr, ◌==◌, nat_lt, nat_le}
+use Rattle.std.proofs.Common.{◌≡◌, ◌≤◌, ℕ, suc, refl, sym, ap, subst, ◌∙◌, List, [], ◌∷◌, Option, Some, None, Bool, true, false, Result, Ok, Err, arith, length}
+use Rattle.std.specs.Prelude.{IfOk, IfErr, OnErr, MatchResult, IsErr, ◌==◌, nat_lt, nat_le, is_some}
 use Rattle.std.proofs.lemmas.Bool.{eq-eqb}
 use Rattle.std.proofs.lemmas.Bool.Decides.{nat_tests}
 use Rattle.protocol.specs.Lists.{has}
@@ -8,10 +8,10 @@ use Rattle.protocol.specs.Ballots.{Ballot, is_same, is_below, next, last_round}
 use Rattle.protocol.specs.Rows.{Tape, Vote, Row, raised}
 use Rattle.protocol.specs.Acceptor.{is_above}
 use Rattle.protocol.specs.Marks.{Mark, Began, Promised, Closed, proposes, releases}
-use Rattle.protocol.specs.Proposals.{Opening, was_released, open_proposal, gathering_at, since_began, where_at, counted, is_counted, pick, begun, denied, is_due, is_due_number, due_moment, opening_ballot}
+use Rattle.protocol.specs.Proposals.{Opening, was_released, open_proposal, gathering_at, since_began, where_at, counted, is_counted, pick, begun, denied, is_due, is_due_number, due_moment, opening_ballot, open_ballot}
 use Rattle.protocol.specs.Packets.{Packet}
 use Rattle.protocol.specs.Turn as said
-use Rattle.protocol.specs.Turn.{greater_ballot, next_ballot, is_promised, is_that, stays, promise_turn, propose, due_turn, nack_turn, begin}
+use Rattle.protocol.specs.Turn.{greater_ballot, next_ballot, is_promised, is_that, stays, promise_turn, propose, due_turn, nack_turn, begin, Hearing, hear}
 use Rattle.proposer.specs.Answers.{IsNew, IsRepeated, completes, IsCountedAs}
 use Rattle.proposer.specs.declared.answer.Counted.{Counted}
 use Rattle.proposer.specs.declared.answer.Counted.TheVariants as kinds
@@ -21,9 +21,10 @@ use Rattle.node_core.specs.Seats.{Seat}
 use Rattle.learner.specs.Latest.{hears, OtherMarksPass as OtherVotesPass}
 use Rattle.proposer.specs.InHand.{InHand, StandsFor as ProposalStandsFor}
 use Rattle.node_core.specs.Standing.{Answers, DeskStands, ProposalStands}
-use Rattle.node_core.specs.Turns.{note_value}
+use Rattle.node_core.specs.Turns.{note_value, HasPromise, IsOrderly, IsSending}
 use Rattle.node_core.specs.declared.turn.Note.TheVariants as notes
 use Rattle.node_core.specs.Handling.{IsTurnAlone}
+use Rattle.node_core.specs.declared.turn.Note.{Note}
 
 -- where the first fact gives the second, an Ok keeps it
 pub on_ok : {A E : Type 0} (r : Result A E) (P Q : A → Type 0) → IfOk r P → ((x : A) → P x → Q x) → IfOk r Q
@@ -216,14 +217,6 @@ module _ (k c m n now : ℕ) (marks : List Mark) (row : Row) where
       go true h = let f : None ≡ Some b = rw h at g in absurd cc
       go false h = not_below_greater row.promised (denied n marks) b (next_above (greater_ballot row.promised (denied n marks)) m b (rw h at g))
 
--- a ballot at which a number is open
-pub ballot_open : (n : ℕ) (marks : List Mark) (b : Ballot) → opening_ballot (open_proposal n marks) ≡ Some b → (o : Opening) × (open_proposal n marks ≡ Some o) × (o.ballot ≡ b)
-ballot_open n marks b e = go (open_proposal n marks) refl
-  where
-    go : (q : Option Opening) → open_proposal n marks ≡ q → (o : Opening) × (open_proposal n marks ≡ Some o) × (o.ballot ≡ b)
-    go None h = let f : None ≡ Some b = rw h at e in absurd cc
-    go (Some o) h = let f : Some o.ballot ≡ Some b = rw h at e in (o, h, cc)
-
 not_below_itself : (a : Ballot) → is_below a a ≡ false
 not_below_itself a = grind (arith, nat_tests)
 
@@ -282,7 +275,22 @@ due_so d q m now moment marks p of is h =
     let f : moment ≡ due_moment m d.number p.opening (since_began d.number marks) = is ∙ ap (λ i. due_moment i d.number p.opening (since_began d.number marks)) of in
     rw (e, ← f) (grind (arith, nat_tests))
 
-pub waits_so : (d : Desk) (q : InHand) (m now moment : ℕ) (marks : List Mark) (p : ProposalStandsFor q d.number marks) → q.me ≡ m → moment ≡ due_moment q.me d.number p.opening (since_began d.number marks) → now < moment → is_due m d.number now (since_began d.number marks) (Some p.opening) ≡ false
-waits_so d q m now moment marks p of is h =
-    let f : moment ≡ due_moment m d.number p.opening (since_began d.number marks) = is ∙ ap (λ i. due_moment i d.number p.opening (since_began d.number marks)) of in
-    rw (← f) (grind (arith, nat_tests))
+pub closed_so : (n : ℕ) (marks : List Mark) (b : Bool) (o : Option Ballot) → b ≡ is_some o → o ≡ open_ballot n marks → b ≡ false → open_proposal n marks ≡ None
+closed_so n marks b None e f g = none_at n marks f
+closed_so n marks b (Some a) e f g = let bad : true ≡ false = sym e ∙ g in absurd cc
+
+-- what is heard, told of equal numbers, ballots and members
+pub hear_told :
+    (P : Hearing → Type 0) (c e j n k m : ℕ) (b a : Ballot) (t : Tape) (marks : List Mark) → c ≡ e → j ≡ n → k ≡ m → b ≡ a
+    → P (hear c j k b t marks) → P (hear e n m a t marks)
+hear_told P c e j n k m b a t marks f g h i p =
+    subst (λ (x : Ballot). P (hear e n m x t marks)) i
+    (subst (λ l. P (hear e n l b t marks)) h
+    (subst (λ l. P (hear e l k b t marks)) g
+    (subst (λ l. P (hear l j k b t marks)) f p)))
+
+-- a reply is one packet
+pub replied : (x : Turn) (row : Option Row) (note : Note) (reply : Packet) → HasPromise row → IsSending x row note (reply ∷ []) → IsOrderly x
+replied x row note reply h r =
+    let one : length x.out.items ≡ 1 = ap length r.out in
+    record { promised = rw r.row_after h; few = omega arith }

@@ -15,7 +15,7 @@ use Rattle.protocol.specs.Turn as said
 use Rattle.protocol.specs.Turn.{others, hear, propose, begin, renew, next_ballot, due_turn, promise_turn, prepare_turn, accept_turn, accepted_turn, vote_turn, take_vote, packet_to, to_others}
 use Rattle.packets.specs.Rules.{keeps_rules, may_send, kind_of, may_say}
 use Rattle.proposer.specs.Answers.{IsNew, completes}
-use Rattle.node_core.specs.Memory.{IsStill}
+use Rattle.node_core.specs.Calls.{IsStill}
 use Rattle.node_core.proofs.Phases.{counts_so, completes_so}
 use Rattle.node_core.proofs.Sending.{others_few}
 

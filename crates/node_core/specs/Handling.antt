@@ -1,5 +1,5 @@
 -- What comes of an event: of a number that was not released, with what is in hand of it, and of one that was.
-use Rattle.std.specs.Prelude.{◌≡◌, ℕ, List, Option, None, Result, MatchResult}
+use Rattle.std.specs.Prelude.{◌≡◌, ℕ, List, Option, None, Result, MatchResult, Some}
 use Rattle.protocol.specs.Rows.{Tape, Row}
 use Rattle.protocol.specs.Marks.{Mark}
 use Rattle.protocol.specs.Turn as said
@@ -10,9 +10,10 @@ use Rattle.node_core.specs.declared.turn.CoreRefusal.{CoreRefusal}
 use Rattle.node_core.specs.declared.turn.CoreRefusal.TheVariants as refusals
 use Rattle.node_core.specs.Seats.{Seat}
 use Rattle.node_core.specs.Standing.{Core, StandsFor, DeskStands, Answers, Settles, seat_of}
-use Rattle.node_core.specs.Calls.{StartIs, TurnIs}
-use Rattle.node_core.specs.Memory.{IsStill, MayTakeMemory}
-use Rattle.node_core.specs.Turns.{IsTurn}
+use Rattle.node_core.specs.Calls.{StartIs, TurnIs, IsStill, MayTakeMemory}
+use Rattle.node_core.specs.Turns.{IsTurn, IsRowAfter, note_value}
+use Rattle.protocol.specs.Packets.{Packet, Accepted}
+use Rattle.protocol.specs.Turn.{accept_turn, vote_turn, to_others}
 
 -- it was taken by the turn that is read from the marks, or memory was refused to it where that turn is not still
 abbrev pub Handles : {E : Type 0} → Row → (List Mark → said.Turn) → Result Turn E → Desk → Desk → Type 0
@@ -50,3 +51,16 @@ abbrev pub Acts : ℕ → Event → Row → Result Turn CoreRefusal → Core →
 Acts n event row result old new =
     (marks : List Mark) → StandsFor old marks
     → MatchResult result (λ x. TurnIs (seat_of old) event marks row (λ t. Settles n row marks t x new)) (λ e. e ≡ refusals.OutOfMemory → MayTakeMemory old event marks row)
+
+-- what the code hands out is a vote for this tape
+pub record IsVote (s : Seat) (row : Row) (p : Packet) (tape : Tape) (x : Turn) (voted : Tape) : Type 0 where
+  pub after : Row
+  pub line : (marks : List Mark) → accept_turn s.circuit s.members s.me marks row p tape row.promised ≡ vote_turn s.circuit s.members s.me marks after p voted (note_value x.note)
+  pub row_after : IsRowAfter row after x.row
+  pub out : x.out.items ≡ to_others s.circuit s.members s.me p.number p.ballot (Accepted voted)
+  pub release : x.release ≡ None
+
+-- an Accept is voted for, with this tape, or refused
+abbrev pub IsVoting : Seat → Row → Packet → Tape → Turn → Option Tape → Type 0
+IsVoting s row p tape x None = (marks : List Mark) → IsTurnAlone row marks (accept_turn s.circuit s.members s.me marks row p tape row.promised) x
+IsVoting s row p tape x (Some voted) = IsVote s row p tape x voted

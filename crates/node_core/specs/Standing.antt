@@ -1,5 +1,5 @@
 -- What a core keeps, as one value, and the marks that it stands for.
-use Rattle.std.specs.Prelude.{◌≡◌, ◌⊎◌, ℕ, List, [], ◌∷◌, ◌++◌, Option, Some, None, Bool, false, true, is_some, if◌then◌else◌}
+use Rattle.std.specs.Prelude.{◌≡◌, ◌⊎◌, ℕ, List, [], ◌∷◌, ◌++◌, Option, Some, None, Bool, false, true, is_some, if◌then◌else◌, ◌≤◌}
 use Rattle.std.specs.Ordering.{nat_cmp}
 use Rattle.std.specs.BTreeMap.{is_at}
 use Rattle.std.specs.Map.{lookup}
@@ -147,3 +147,12 @@ pub record Settles (n : ℕ) (row : Row) (marks : List Mark) (t : said.Turn) (x 
   pub is_turn : IsTurn row t x
   pub settled : (after : Core) → Moves v n (if is_some x.release then None else desk_at v n) (is_some x.release) after → StandsFor after t.marks
   pub takes_in : is_some x.release ≡ true → t.marks ≡ marks → ⊥
+
+-- all that is in hand stands for the marks, under its number
+abbrev pub AllStand : List (ℕ × Desk) → List Mark → Type 0
+AllStand desks marks = (n : ℕ) (d : Desk) → desk_in desks n ≡ Some d → (d.number ≡ n) × DeskStands d marks
+
+-- the number passes, and no number in hand that passes is less; with no number, none passes
+abbrev pub IsLeastPassing : (ℕ → Bool) → List (ℕ × Desk) → Option ℕ → Type 0
+IsLeastPassing passes desks None = (k : ℕ) (d : Desk) → desk_in desks k ≡ Some d → passes k ≡ false
+IsLeastPassing passes desks (Some n) = (passes n ≡ true) × ((k : ℕ) (d : Desk) → desk_in desks k ≡ Some d → passes k ≡ true → n ≤ k)

@@ -1,36 +1,56 @@
 //! What is in hand of one number: its proposal, if one is open, and the votes that were heard.
 
-ghost use Rattle.std.specs.Prelude.{◌≡◌, ◌≤◌, List, [], ◌∷◌, Option, Some, None, IfOk, IfErr, OnErr, IsTrue, IsSome, MatchBool, true, false, if◌then◌else◌};
+ghost use Rattle.std.specs.Prelude.{◌≡◌, ◌≤◌, ℕ, List, [], ◌∷◌, Option, Some, None, IfOk, IfErr, OnOk, IsTrue, IsSome, MatchBool, true, false, option_map};
 ghost use Rattle.protocol.specs.Ballots.{next};
 ghost use Rattle.protocol.specs.Packets.{Accept as AcceptBody};
 ghost use Rattle.packets.specs.Rules.{keeps_rules};
-ghost use Rattle.protocol.specs.Rows.{Row as RowValue, Tape as TapeValue, raised};
-ghost use Rattle.protocol.specs.Marks.{Mark, Began, Proposed, Denied, Closed};
+ghost use Rattle.protocol.specs.Rows.{Row as RowValue, Tape as TapeValue, Vote as VoteValue, raised};
+ghost use Rattle.protocol.specs.Marks.{Mark, Began, Proposed, Closed, Heard as HeardMark};
 ghost use Rattle.protocol.specs.Acceptor.{is_above};
 ghost use Rattle.protocol.specs.Proposals.{Opening, open_proposal, open_ballot, proposal_at, gathering_at, since_began, counted, pick, is_due_number};
 ghost use Rattle.protocol.specs.Turn.{number_of, hear, propose, begin, due_turn, promise_turn, nack_turn, accept_turn, accepted_turn, packet_turn};
-ghost use Rattle.proposer.specs.InHand.{StandsFor as ProposalStandsFor};
-ghost use Rattle.proposer.specs.Answers.{IsNew, IsCountedAs, marks_after_promise, IsDueAnswer, IsOwnAndAbove, marks_after_due};
+ghost use Rattle.protocol.specs.Learner.{ripe};
+ghost use Rattle.learner.specs.Latest.{StandsFor};
 ghost use Rattle.node_core.specs.Standing.{DeskStands, fresh, IsDeskOf, IsLeft, Answers};
 ghost use Rattle.node_core.specs.Calls.{IsForMember, MayCome, StartIs, RefusesToStart, IsRefused};
 ghost use Rattle.node_core.specs.Handling.{Handles, Starts, Takes};
-ghost use Rattle.node_core.specs.Memory.{IsStill};
 ghost use Rattle.node_core.specs.Seats.{Seat as SeatValue};
 ghost use Rattle.node_core.specs.Turns.{event_value, HasPromise, IsOrderly};
 
 use crate::event::Event;
-use crate::hearing;
 use crate::mail::to_others;
 use crate::rows::{copied, is_promised, raise, relent, vote};
 use crate::seat::Seat;
 use crate::turn::{CoreRefusal, Note, Turn};
 use crate::voting::{self, Voting};
-use ballots::{Ballot, Member, Number, Row, Vote, VoteRef};
+use ballots::{Ballot, Member, Number, Row, VoteRef};
 use learner::Heard;
 use packets::{BodyRef, PacketRef};
 use proposer::{Counted, DueAnswer, Proposal};
 use std::alloc::{AllocError, Global};
 use tape_frames::{Tape, TapeRef};
+
+/// Hears a member's vote, and answers the tape of the least member at whose ballot a majority's votes now stand, if any.
+fn hear_vote(
+    alloc: Global,
+    heard: &mut Heard,
+    member: Member,
+    ballot: Ballot,
+    tape: TapeRef<'_>,
+) -> Result<Option<Tape>, AllocError>
+    requires { member ≤ heard.old.members }
+    ensures ripe { IfOk result (λ release. (n : ℕ) (marks : List Mark) → StandsFor heard.old n marks → release ≡ option_map (λ (v : VoteValue). v.tape) (ripe heard.old.members n (HeardMark n member ballot tape.entry ∷ marks))) }
+    ensures stands { OnOk result ((n : ℕ) (marks : List Mark) → StandsFor heard.old n marks → StandsFor heard.new n (HeardMark n member ballot tape.entry ∷ marks)) }
+    ensures members { heard.new.members ≡ heard.old.members }
+{
+    let Some(chosen) = heard.hear(member, ballot, tape)? else {
+        return Ok(None);
+    };
+    match heard.tape_at(chosen) {
+        None => Ok(None),
+        Some(tape) => Ok(Some(tape.copy(alloc)?)),
+    }
+}
 
 /// One number's open proposal and heard votes. The number was not released.
 #[derive(Drop)]
@@ -96,7 +116,7 @@ impl Desk {
     {
         // A vote that is heard changes nothing of the proposal.
         proposer::laws::other_marks_pass();
-        hearing::hear(alloc, &mut self.heard, member, ballot, tape)
+        hear_vote(alloc, &mut self.heard, member, ballot, tape)
     }
 
     /// The tape that the proposal picks, copied.
@@ -241,29 +261,6 @@ impl Desk {
         })
     }
 
-    /// Opens the proposal, whose first ballot was just begun.
-    fn open(
-        &mut self,
-        alloc: Global,
-        seat: Seat,
-        proposal: Proposal,
-        now: u64,
-        row: &Row,
-    ) -> Result<Turn, AllocError>
-        requires of { IsDeskOf seat self.old }
-        requires proposal { (proposal.me ≡ seat.me) × (proposal.members ≡ seat.members) }
-        requires owner { proposal.ballot.owner ≡ seat.me }
-        ensures turn { IfOk result (λ x. (marks : List Mark) (own : Option TapeValue) → is_above row.now.promised proposal.ballot ≡ false → DeskStands self.old marks → ProposalStandsFor proposal self.old.number (Began self.old.number proposal.ballot own row.now.vote now ∷ marks) → Answers row.now (begin seat.circuit seat.members seat.me self.old.number proposal.ballot own now marks row.now) x self.new) }
-        ensures orderly { IfOk result (λ x. IsOrderly x) }
-        ensures of { IsDeskOf seat self.new }
-        ensures number { self.new.number ≡ self.old.number }
-    {
-        learner::laws::other_marks_pass();
-        let ballot = proposal.ballot();
-        self.proposal = Some(proposal);
-        self.begun(alloc, seat, ballot, now, row)
-    }
-
     /// Takes a Promise: with those of a majority it proposes.
     fn promise(
         &mut self,
@@ -370,6 +367,7 @@ impl Desk {
         ensures of { IsDeskOf seat self.new }
         ensures number { self.new.number ≡ self.old.number }
     {
+        learner::laws::other_marks_pass();
         let report = copied(alloc, row.vote())?;
         let begun = Proposal::begin(
             alloc,
@@ -382,7 +380,11 @@ impl Desk {
         );
         match begun {
             Err(_) => unreachable!(),
-            Ok(proposal) => self.open(alloc, seat, proposal, now, row),
+            Ok(proposal) => {
+                let ballot = proposal.ballot();
+                self.proposal = Some(proposal);
+                self.begun(alloc, seat, ballot, now, row)
+            }
         }
     }
 

@@ -6,9 +6,8 @@ ghost use Rattle.std.specs.BTreeMap.{get, Updates};
 ghost use Rattle.std.specs.BTreeSet as sorted;
 ghost use Rattle.protocol.specs.Marks.{Mark};
 ghost use Rattle.protocol.specs.Proposals.{is_due_number};
-ghost use Rattle.node_core.specs.Dues.{AllStand, IsLeastPassing};
+ghost use Rattle.node_core.specs.Standing.{AllStand, IsLeastPassing, AreDesksOf};
 ghost use Rattle.node_core.specs.Seats.{Seat as SeatValue};
-ghost use Rattle.node_core.specs.Standing.{AreDesksOf};
 
 use crate::desk::Desk;
 use ballots::Number;

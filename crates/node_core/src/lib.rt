@@ -4,7 +4,6 @@
 mod desk;
 mod desks;
 mod event;
-mod hearing;
 mod mail;
 mod node;
 mod rows;

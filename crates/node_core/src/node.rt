@@ -4,9 +4,8 @@ ghost use Rattle.std.specs.Prelude.{◌≡◌, ◌≤◌, List, [], None, Err, I
 ghost use Rattle.protocol.specs.Marks.{Mark};
 ghost use Rattle.protocol.specs.Proposals.{was_released, open_ballot, next_due};
 ghost use Rattle.protocol.specs.Turn.{number_of};
-ghost use Rattle.node_core.specs.Calls.{MayCome, TookTurn, RefusesEvent, Refuses};
+ghost use Rattle.node_core.specs.Calls.{MayCome, TookTurn, RefusesEvent, Refuses, MayTakeMemory};
 ghost use Rattle.node_core.specs.Handling.{Acts};
-ghost use Rattle.node_core.specs.Memory.{MayTakeMemory};
 ghost use Rattle.node_core.specs.Standing.{StandsFor, Kept, Moves, IsDeskOf, IsSameSeat, seat_of, desk_at, fresh};
 ghost use Rattle.node_core.specs.Turns.{event_value, IsOrderly};
 

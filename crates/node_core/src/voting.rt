@@ -6,10 +6,9 @@ ghost use Rattle.protocol.specs.Packets.{Prepare, Accept, Accepted};
 ghost use Rattle.protocol.specs.Turn.{packet_to, to_others, prepare_turn, accept_turn};
 ghost use Rattle.packets.specs.Bodies.{said};
 ghost use Rattle.packets.specs.Rules.{keeps_rules};
-ghost use Rattle.node_core.specs.Calls.{IsForMember};
-ghost use Rattle.node_core.specs.Memory.{IsStill};
+ghost use Rattle.node_core.specs.Calls.{IsForMember, IsStill};
 ghost use Rattle.node_core.specs.Turns.{IsTurn, IsSending, IsOrderly};
-ghost use Rattle.node_core.specs.Voting.{IsVoting};
+ghost use Rattle.node_core.specs.Handling.{IsVoting};
 
 use crate::mail;
 use crate::rows::{lent, raise};

@@ -1,7 +1,7 @@
 -- The first that is due is the least: what is in hand is in order.
 use Rattle.std.proofs.Common.{◌≡◌, sym, ap, subst, ◌∙◌, Some, true, false}
 use Rattle.protocol.specs.Proposals.{is_due_number}
-use Rattle.node_core.specs.Dues.{IsLeastPassing}
+use Rattle.node_core.specs.Standing.{IsLeastPassing}
 use Rattle.node_core.proofs.Dueing.{all_left, there, less_left, least_left, none_left}
 use Rattle.node_core.proofs.desks.least_due.Goals as goal
 

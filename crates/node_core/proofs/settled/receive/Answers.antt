@@ -6,7 +6,7 @@ use Rattle.protocol.specs.Packets.{Body}
 use Rattle.protocol.specs.Turn.{packet_turn, accept_turn}
 use Rattle.packets.specs.Bodies.{said}
 use Rattle.node_core.specs.Handling.{IsTurnAlone}
-use Rattle.node_core.specs.Memory.{IsStill}
+use Rattle.node_core.specs.Calls.{IsStill}
 use Rattle.node_core.proofs.Phases.{on_both}
 use Rattle.node_core.proofs.Accepting.{prepare_adds_none, voting_alone}
 use Rattle.node_core.proofs.settled.receive.Goals as goal

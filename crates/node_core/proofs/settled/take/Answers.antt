@@ -3,9 +3,8 @@ use Rattle.std.proofs.Common.{◌≡◌, sym, subst, refl, true}
 use Rattle.protocol.specs.Proposals.{was_released}
 use Rattle.protocol.specs.Turn.{number_of}
 use Rattle.node_core.specs.declared.event.Event.{Event}
-use Rattle.node_core.specs.Calls.{TurnIs}
+use Rattle.node_core.specs.Calls.{TurnIs, IsStill}
 use Rattle.node_core.specs.Handling.{IsTurnAlone}
-use Rattle.node_core.specs.Memory.{IsStill}
 use Rattle.node_core.specs.Turns.{event_value}
 use Rattle.node_core.proofs.Calling.{came_due, packet_came}
 use Rattle.node_core.proofs.Phases.{on_err, idle_alone}

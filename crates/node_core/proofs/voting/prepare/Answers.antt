@@ -4,9 +4,8 @@ use Rattle.protocol.specs.Rows.{Vote}
 use Rattle.protocol.specs.Packets.{Promise}
 use Rattle.protocol.specs.Acceptor.{Nacks, Promises, Says_nothing}
 use Rattle.protocol.specs.Turn.{packet_to}
-use Rattle.node_core.proofs.Phases.{on_ok, on_any_err}
+use Rattle.node_core.proofs.Phases.{on_ok, on_any_err, replied}
 use Rattle.node_core.proofs.Accepting.{promising}
-use Rattle.node_core.proofs.Orders.{replied}
 use Rattle.node_core.proofs.Stirring.{sends, prepare_sends}
 use Rattle.node_core.proofs.voting.prepare.Goals as goal
 

@@ -3,9 +3,9 @@ use Rattle.std.proofs.Common.{◌≡◌, refl, sym, subst, Option}
 use Rattle.protocol.specs.Rows.{Tape}
 use Rattle.protocol.specs.Turn.{Hearing}
 use Rattle.node_core.specs.Standing.{IsLeft}
-use Rattle.node_core.specs.Voting.{IsVoting}
+use Rattle.node_core.specs.Handling.{IsVoting}
 use Rattle.node_core.proofs.Accepting.{vote_heard}
-use Rattle.node_core.proofs.Telling.{hear_told}
+use Rattle.node_core.proofs.Phases.{hear_told}
 use Rattle.node_core.proofs.desk.Desk.accept.Goals as goal
 
 pub returns-in_err-release-in-Some-clause-of : goal.returns-in_err-release-in-Some-clause-of

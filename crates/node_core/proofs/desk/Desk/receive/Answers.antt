@@ -5,7 +5,7 @@ use Rattle.protocol.specs.Rows.{Tape}
 use Rattle.protocol.specs.Packets.{Body}
 use Rattle.protocol.specs.Turn.{packet_turn, accepted_turn}
 use Rattle.packets.specs.Bodies.{said}
-use Rattle.node_core.specs.Memory.{IsStill}
+use Rattle.node_core.specs.Calls.{IsStill}
 use Rattle.node_core.specs.Standing.{Answers}
 use Rattle.node_core.proofs.Phases.{on_both}
 use Rattle.node_core.proofs.Accepting.{prepare_adds_none}

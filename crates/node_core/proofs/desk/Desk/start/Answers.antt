@@ -3,9 +3,8 @@ use Rattle.std.proofs.Common.{ap, ◌∙◌}
 use Rattle.std.specs.Prelude.{not}
 use Rattle.protocol.specs.Ballots.{next}
 use Rattle.node_core.proofs.Calling.{next_told, some_so}
-use Rattle.node_core.proofs.Phases.{on_err}
+use Rattle.node_core.proofs.Phases.{on_err, closed_so}
 use Rattle.node_core.proofs.Stirring.{takes_in, begin_adds}
-use Rattle.node_core.proofs.Telling.{closed_so}
 use Rattle.node_core.proofs.desk.Desk.start.Goals as goal
 
 pub returns-in_err-begin-clause-turn : goal.returns-in_err-begin-clause-turn

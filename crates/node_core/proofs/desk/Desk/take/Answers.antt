@@ -9,8 +9,7 @@ use Rattle.node_core.specs.declared.event.Event.{Event}
 use Rattle.node_core.specs.declared.turn.Turn.{Turn}
 use Rattle.node_core.specs.declared.turn.CoreRefusal.{CoreRefusal}
 use Rattle.node_core.specs.declared.turn.CoreRefusal.TheVariants as refusals
-use Rattle.node_core.specs.Calls.{TurnIs}
-use Rattle.node_core.specs.Memory.{IsStill}
+use Rattle.node_core.specs.Calls.{TurnIs, IsStill}
 use Rattle.node_core.specs.Seats.{Seat}
 use Rattle.node_core.specs.Standing.{Answers}
 use Rattle.node_core.specs.Turns.{event_value}

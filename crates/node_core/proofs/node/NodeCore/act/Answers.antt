@@ -4,8 +4,7 @@ use Rattle.std.specs.Ordering.{nat_cmp}
 use Rattle.std.specs.BTreeMap.{get}
 use Rattle.protocol.specs.Proposals.{was_released}
 use Rattle.node_core.specs.declared.desk.Desk.{Desk}
-use Rattle.node_core.specs.Calls.{TurnIs, IsRefused}
-use Rattle.node_core.specs.Memory.{IsStill}
+use Rattle.node_core.specs.Calls.{TurnIs, IsRefused, IsStill}
 use Rattle.node_core.specs.Seats.{Seat}
 use Rattle.node_core.specs.Standing.{Core, StandsFor, DeskStands, Grows, Kept, Settles, seat_of}
 use Rattle.node_core.specs.Turns.{event_value}

@@ -5,8 +5,7 @@ use Rattle.protocol.specs.Marks.{Mark}
 use Rattle.protocol.specs.Proposals.{was_released}
 use Rattle.protocol.specs.Turn.{number_of}
 use Rattle.node_core.specs.declared.desk.Desk.{Desk}
-use Rattle.node_core.specs.Calls.{TurnIs, IsRefused}
-use Rattle.node_core.specs.Memory.{IsStill}
+use Rattle.node_core.specs.Calls.{TurnIs, IsRefused, IsStill}
 use Rattle.node_core.specs.Seats.{Seat}
 use Rattle.node_core.specs.Standing.{Core, StandsFor, DeskStands, Grows, Settles, seat_of}
 use Rattle.node_core.specs.Turns.{event_value}

@@ -2,8 +2,7 @@
 use Rattle.std.proofs.Common.{ℕ, List, sym, ap, subst}
 use Rattle.protocol.specs.Proposals.{is_due_number, next_due}
 use Rattle.node_core.specs.declared.desk.Desk.{Desk}
-use Rattle.node_core.specs.Dues.{AllStand, IsLeastPassing}
-use Rattle.node_core.specs.Standing.{Core}
+use Rattle.node_core.specs.Standing.{AllStand, IsLeastPassing, Core}
 use Rattle.node_core.proofs.Dueing.{all_stand, is_next_due}
 use Rattle.node_core.proofs.node.NodeCore.next_due.Goals as goal
 
