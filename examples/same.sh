@@ -1,6 +1,6 @@
 #!/usr/bin/env bash
 # The tests have the files and the tapes of the examples as constants, in the crate fixtures: this tells whether they are the same.
-# Then, where the program is built, each example of the README is run, and has to print what stands there, byte for byte.
+# Then, where the program is built, each example of the pages is run, and has to print what stands there, byte for byte.
 set -eu
 cd "$(dirname "$0")"
 python3 - <<'END'
@@ -42,7 +42,7 @@ END
 
 circuitd=$PWD/../crates/circuitd/out/circuitd
 if [ ! -x "$circuitd" ]; then
-    echo "The program is not built, so the README's examples were not run: examples/first_circuit.sh builds it."
+    echo "The program is not built, so the pages' examples were not run: examples/first_circuit.sh builds it."
     exit 0
 fi
 python3 - "$circuitd" <<'END'
@@ -53,12 +53,14 @@ import subprocess
 import sys
 import tempfile
 
-with open("../README.md", encoding="utf-8") as file:
-    readme = file.read()
+# the pages that have examples
+PAGES = ["README.md", "docs/SETTING.md"]
 
 
-def differing_in(work):
-    """What the program prints otherwise than the README, each example in its order, in an empty folder."""
+def differing_in(page, work):
+    """What the program prints otherwise than a page, each example in its order, in an empty folder."""
+    with open(os.path.join("..", page), encoding="utf-8") as file:
+        text = file.read()
     files = [name for name in os.listdir(".") if name.endswith((".toml", ".tape", ".script"))]
     os.makedirs(os.path.join(work, "examples"))
     for name in files:
@@ -68,7 +70,7 @@ def differing_in(work):
     path = os.path.join(work, "bin") + os.pathsep + os.environ["PATH"]
     differing = []
     # an example is a block whose first line is a command
-    for block in re.findall(r"^```\n(\$ .*?)^```$", readme, re.DOTALL | re.MULTILINE):
+    for block in re.findall(r"^```\n(\$ .*?)^```$", text, re.DOTALL | re.MULTILINE):
         commands, told, goes_on = [], "", False
         for line in block.splitlines(keepends=True):
             if goes_on or line.startswith("$ "):
@@ -85,18 +87,23 @@ def differing_in(work):
             text=True,
         )
         if run.stdout != told:
-            differing.append("The README says otherwise than the program. This\n" + "".join(commands) + "prints\n" + run.stdout)
+            differing.append(f"{page} says otherwise than the program. This\n" + "".join(commands) + "prints\n" + run.stdout)
     return differing
 
 
 # On a busy machine a promise may come after the moment at which its ballot is begun anew, and then a row has a
 # greater ballot. So what differs is run again, three times in all.
-for _ in range(3):
-    with tempfile.TemporaryDirectory() as work:
-        differing = differing_in(work)
-    if not differing:
-        break
+def differing_at_last(page):
+    for _ in range(3):
+        with tempfile.TemporaryDirectory() as work:
+            differing = differing_in(page, work)
+        if not differing:
+            break
+    return differing
+
+
+differing = [text for page in PAGES for text in differing_at_last(page)]
 if differing:
     sys.exit("".join(differing))
-print("The program prints what the README says.")
+print("The program prints what the README and the pages say.")
 END
