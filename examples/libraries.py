@@ -37,6 +37,11 @@ def below(lower, name):
     return found
 
 
+def longest_above(lower, name):
+    """How many crates, one above the other, wait for this one."""
+    return 1 + max((longest_above(lower, n) for n in lower if name in lower[n]), default=0)
+
+
 def built_at(crate):
     return os.path.join(TOP, "crates", crate, "out")
 
@@ -77,7 +82,9 @@ def main():
     with futures.ThreadPoolExecutor(workers) as pool:
         while left or running:
             waiting = set(left) | set(running.values())
-            for name in [n for n in left if not waiting & set(below(lower, n))]:
+            ready = [n for n in left if not waiting & set(below(lower, n))]
+            ready.sort(key=lambda n: -longest_above(lower, n))
+            for name in ready[: workers - len(running)]:
                 left.remove(name)
                 running[pool.submit(build, below(lower, name) + [name])] = name
             ended, _ = futures.wait(running, timeout=1, return_when=futures.FIRST_COMPLETED)
