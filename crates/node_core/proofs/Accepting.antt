@@ -12,11 +12,12 @@ use Rattle.protocol.specs.Turn.{answer, prepare_turn, accept_turn, vote_turn, ta
 use Rattle.protocol.specs.Proposals.{was_released}
 use Rattle.node_core.specs.declared.desk.Desk.{Desk}
 use Rattle.node_core.specs.declared.turn.Turn.{Turn}
+use Rattle.node_core.specs.declared.turn.Note.{Note}
 use Rattle.node_core.specs.declared.turn.Note.TheVariants as notes
 use Rattle.node_core.specs.Handling.{IsTurnAlone, IsVote, IsVoting}
 use Rattle.node_core.specs.Seats.{Seat}
 use Rattle.node_core.specs.Standing.{Answers, IsLeft}
-use Rattle.node_core.specs.Turns.{IsSending, note_value}
+use Rattle.node_core.specs.Turns.{IsSending, IsOrderly, Stirs, is_quiet, note_value}
 use Rattle.node_core.proofs.Phases.{is_same-self}
 
 -- a promise: the row's own is none or below
@@ -166,6 +167,14 @@ module _ (s : Seat) (row : Row) (p : Packet) (tape : Tape) where
     is_turn = record { row_after = rw saves v.row_after; out = sends ∙ v.out; release = releases ∙ h.0; note = ap note_value noted };
     left = rw releases h.1;
   })
+
+  -- it is as orderly as before
+  pub vote_orderly :
+      (x y : Turn) (voted : Tape) → IsVote s row p tape x voted → ((marks : List Mark) → Stirs (accept_turn s.circuit s.members s.me marks row p tape row.promised))
+      → y.row ≡ x.row → y.out.items ≡ x.out.items → y.note ≡ x.note → IsOrderly x → IsOrderly y
+  vote_orderly x y voted v stirs saves sends noted o =
+      let loud : is_quiet (note_value x.note) ≡ false = ap (λ (t : said.Turn). is_quiet t.note) (sym (v.line [])) ∙ stirs [] in
+      record { promised = rw saves o.promised; few = rw sends o.few; quiet = λ q. (let bad : true ≡ false = sym q ∙ ap (λ (n : Note). is_quiet (note_value n)) noted ∙ loud in absurd cc) }
 
   -- of a number that was released it is not heard
   vote_alone : (marks : List Mark) (x : Turn) (voted : Tape) → IsVote s row p tape x voted → was_released p.number marks ≡ true → IsTurnAlone row marks (accept_turn s.circuit s.members s.me marks row p tape row.promised) x

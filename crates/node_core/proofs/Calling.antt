@@ -10,10 +10,11 @@ use Rattle.protocol.specs.Proposals.{open_proposal}
 use Rattle.protocol.specs.Packets.{Packet}
 use Rattle.node_core.specs.declared.event.Event.{Event}
 use Rattle.node_core.specs.declared.event.Event.TheVariants as events
+use Rattle.node_core.specs.declared.turn.Turn.{Turn}
 use Rattle.node_core.specs.declared.turn.CoreRefusal.{CoreRefusal}
 use Rattle.node_core.specs.declared.turn.CoreRefusal.TheVariants as refusals
 use Rattle.node_core.specs.Seats.{Seat}
-use Rattle.node_core.specs.Turns.{event_value}
+use Rattle.node_core.specs.Turns.{event_value, note_value, is_quiet, Stirs, IsTurn, HandsNothing}
 use Rattle.node_core.specs.Calls.{StartIs, TurnIs, RefusesToStart, IsRefused, is_memory}
 
 -- an offer or a search that begins the next ballot
@@ -36,6 +37,14 @@ pub turn_so :
     (s : Seat) (event : Event) (marks : List Mark) (row : Row) (P Q : said.Turn → Type 0) → TurnIs s event marks row P
     → ((t : said.Turn) → said.turn s.circuit s.members s.me marks row (event_value event) ≡ Some t → P t → Q t) → TurnIs s event marks row Q
 turn_so s event marks row P Q h f = record { free = h.free; turn = h.turn; is_the_turn = h.is_the_turn; holds = f h.turn h.is_the_turn h.holds }
+
+-- a turn that releases a tape is not quiet
+pub released_stirs : (row : Row) (t : said.Turn) (x : Turn) → IsTurn row t x → (is_quiet (note_value x.note) ≡ true → HandsNothing x) → is_some x.release ≡ true → Stirs t
+released_stirs row t x is quiet released = subst (λ (note : said.Note). is_quiet note ≡ false) is.note (go (is_quiet (note_value x.note)) refl)
+  where
+    go : (q : Bool) → is_quiet (note_value x.note) ≡ q → is_quiet (note_value x.note) ≡ false
+    go true e = let bad : false ≡ true = ap (λ (o : Option Tape). is_some o) (sym (quiet e).releases) ∙ released in absurd cc
+    go false e = e
 
 -- why there is no turn, told of what stands for the same marks and stays where the other does
 module _ (A B : Type 0) (P Q : List Mark → Type 0) (stay : A → B) (stand : (marks : List Mark) → Q marks → P marks) (m : ℕ) (row : Row) where

@@ -14,6 +14,7 @@ use Rattle.node_core.specs.declared.desk.Desk.{Desk}
 use Rattle.node_core.specs.Standing.{Core, StandsFor, DeskStands, ProposalStands, InHandStands, IsLeft, Answers, Grows, Kept, Moves, Settles, fresh, desk_in, desk_at, is_noted}
 use Rattle.node_core.specs.declared.turn.Turn.{Turn}
 use Rattle.node_core.specs.Handling.{IsTurnAlone}
+use Rattle.node_core.specs.Turns.{Stirs, is_quiet}
 use Rattle.protocol.specs.Rows.{Tape, Row}
 use Rattle.protocol.specs.Turn as said
 use Rattle.std.specs.List.{list_any}
@@ -77,6 +78,10 @@ pub new_stands : (v : Core) (c n : ℕ) (d : Desk) (marks : List Mark) → desk_
 new_stands v c n d marks none of is h u =
     subst (λ (x : Desk). DeskStands x marks) (sym (is ∙ ap (λ k. fresh k n) of)) (subst (λ (o : Option Desk). InHandStands v.members n o marks) none (h.in_hand n) u)
 
+-- no proposal is open at a desk where nothing is in hand
+pub fresh_closed : (c n : ℕ) (d : Desk) (marks : List Mark) → d ≡ fresh c n → DeskStands d marks → open_proposal n marks ≡ None
+fresh_closed c n d marks is s = (subst (λ (x : Desk). DeskStands x marks) is s).proposal
+
 -- there is one desk that stands and has nothing in hand
 one_desk : (d : Desk) (marks : List Mark) → DeskStands d marks → DeskStands (fresh d.heard.members d.number) marks → d ≡ fresh d.heard.members d.number
 one_desk d marks s f = go d.proposal refl
@@ -92,11 +97,11 @@ one_desk d marks s f = go d.proposal refl
         let there = subst (λ (o : Option InHand). ProposalStands o d.number marks) e s.proposal in
         let bad : None ≡ Some there.opening = sym f.proposal ∙ there.is_open in absurd cc
 
--- so where something is in hand then, something was taken in
+-- so where something is in hand then, and a quiet turn takes nothing in, the turn is not quiet
 pub new_stirs :
     (c n : ℕ) (old d : Desk) (row : Row) (marks : List Mark) (t : said.Turn) (x : Turn) → old ≡ fresh c n → DeskStands old marks → d.number ≡ n → d.heard.members ≡ c
-    → (d ≡ fresh d.heard.members d.number → ⊥) → Answers row t x d → t.marks ≡ marks → ⊥
-new_stirs c n old d row marks t x is s number of holds a same = go x.release (subst (λ (ms : List Mark). IsLeft d x.release ms) same a.left)
+    → (d ≡ fresh d.heard.members d.number → ⊥) → (is_quiet t.note ≡ true → t.marks ≡ marks) → Answers row t x d → Stirs t
+new_stirs c n old d row marks t x is s number of holds keeps a = quiet (is_quiet t.note) refl
   where
     there : DeskStands (fresh d.heard.members d.number) marks
     there = subst (λ k. DeskStands (fresh k d.number) marks) (sym of) (subst (λ k. DeskStands (fresh c k) marks) (sym number) (subst (λ (y : Desk). DeskStands y marks) is s))
@@ -104,6 +109,10 @@ new_stirs c n old d row marks t x is s number of holds a same = go x.release (su
     go : (o : Option Tape) → IsLeft d o marks → ⊥
     go None left = holds (one_desk d marks left there)
     go (Some u) left = let bad : true ≡ false = sym left ∙ there.unreleased in cc
+
+    quiet : (q : Bool) → is_quiet t.note ≡ q → is_quiet t.note ≡ false
+    quiet true e = absurd (go x.release (subst (λ (ms : List Mark). IsLeft d x.release ms) (keeps e) a.left))
+    quiet false e = e
 
 -- a desk that was acted on in place is kept
 pub in_place :
@@ -141,24 +150,17 @@ module _ (votes : OtherVotesPass) (proposals : OtherProposalsPass) (before mid :
         let released : was_released n next ≡ true = subst (λ k. was_released k next ≡ true) number left in
         moved votes proposals n marks next g before after h u None true (moves None true after m) (m.noted refl ∙ sym released) (λ f. let bad : true ≡ false = sym released ∙ f in absurd cc)
 
-    released_now : (release : Option Tape) → IsLeft d release next → is_some release ≡ true → next ≡ marks → ⊥
-    released_now None left e same = let bad : false ≡ true = e in cc
-    released_now (Some t) left e same =
-        let bad : true ≡ false = sym (subst (λ k. was_released k next ≡ true) number left) ∙ ap (was_released n) same ∙ u in cc
-
-  pub settles : (row : Row) (marks : List Mark) (t : said.Turn) (x : Turn) → StandsFor before marks → was_released n marks ≡ false → Grows n marks t.marks → d.heard.members ≡ before.members → Answers row t x d → Settles n row marks t x mid
+  pub settles : (row : Row) (marks : List Mark) (t : said.Turn) (x : Turn) → StandsFor before marks → was_released n marks ≡ false → Grows n marks t.marks → d.heard.members ≡ before.members → Answers row t x d → Settles n row t x mid
   settles row marks t x h u g members a = record {
     is_turn = a.is_turn;
     settled = λ after m. settled marks t.marks h u g members x.release after a.left m;
-    takes_in = released_now marks t.marks h u g members x.release a.left;
   }
 
 -- a turn that takes nothing in leaves a core as it was
-pub settles_alone : (v : Core) (n : ℕ) (row : Row) (marks : List Mark) (t : said.Turn) (x : Turn) → StandsFor v marks → IsTurnAlone row marks t x → Settles n row marks t x v
+pub settles_alone : (v : Core) (n : ℕ) (row : Row) (marks : List Mark) (t : said.Turn) (x : Turn) → StandsFor v marks → IsTurnAlone row marks t x → Settles n row t x v
 settles_alone v n row marks t x h a = record {
   is_turn = a.is_turn;
   settled = λ after m. stays after (subst (λ (o : Option Tape). Moves v n (if is_some o then None else desk_at v n) (is_some o) after) a.releases_nothing m);
-  takes_in = λ e. absurd (let bad : false ≡ true = ap (λ (o : Option Tape). is_some o) (sym a.releases_nothing) ∙ e in cc);
 }
   where
     same_at : (after : Core) → Moves v n (desk_at v n) false after → (k : ℕ) (b : Bool) → (n == k) ≡ b → desk_at after k ≡ desk_at v k

@@ -21,7 +21,7 @@ use Rattle.node_core.specs.Seats.{Seat}
 use Rattle.learner.specs.Latest.{hears, OtherMarksPass as OtherVotesPass}
 use Rattle.proposer.specs.InHand.{InHand, StandsFor as ProposalStandsFor}
 use Rattle.node_core.specs.Standing.{Answers, DeskStands, ProposalStands}
-use Rattle.node_core.specs.Turns.{note_value, HasPromise, IsOrderly, IsSending}
+use Rattle.node_core.specs.Turns.{note_value, is_quiet, HasPromise, IsOrderly, IsSending}
 use Rattle.node_core.specs.declared.turn.Note.TheVariants as notes
 use Rattle.node_core.specs.Handling.{IsTurnAlone}
 use Rattle.node_core.specs.declared.turn.Note.{Note}
@@ -290,7 +290,7 @@ hear_told P c e j n k m b a t marks f g h i p =
     (subst (λ l. P (hear l j k b t marks)) f p)))
 
 -- a reply is one packet
-pub replied : (x : Turn) (row : Option Row) (note : Note) (reply : Packet) → HasPromise row → IsSending x row note (reply ∷ []) → IsOrderly x
-replied x row note reply h r =
+pub replied : (x : Turn) (row : Option Row) (note : Note) (reply : Packet) → HasPromise row → is_quiet (note_value note) ≡ false → IsSending x row note (reply ∷ []) → IsOrderly x
+replied x row note reply h stirs r =
     let one : length x.out.items ≡ 1 = ap length r.out in
-    record { promised = rw r.row_after h; few = omega arith }
+    record { promised = rw r.row_after h; few = omega arith; quiet = λ q. (let bad : true ≡ false = sym q ∙ ap (λ (y : Note). is_quiet (note_value y)) r.noted ∙ stirs in absurd cc) }

@@ -1,5 +1,5 @@
 -- What a call of the core answers, and what is left of it.
-use Rattle.std.specs.Prelude.{◌≡◌, ◌≤◌, ℕ, List, Option, Some, None, Bool, true, false, is_some, []}
+use Rattle.std.specs.Prelude.{◌≡◌, ◌≤◌, ℕ, List, Option, Some, None, Bool, true, false, is_some}
 use Rattle.protocol.specs.Ballots.{Ballot, next}
 use Rattle.protocol.specs.Rows.{Tape, Row}
 use Rattle.protocol.specs.Packets.{Packet}
@@ -13,7 +13,7 @@ use Rattle.node_core.specs.declared.turn.Turn.{Turn}
 use Rattle.node_core.specs.declared.turn.CoreRefusal.{CoreRefusal}
 use Rattle.node_core.specs.declared.turn.CoreRefusal.TheVariants as refusals
 use Rattle.node_core.specs.Seats.{Seat}
-use Rattle.node_core.specs.Turns.{event_value}
+use Rattle.node_core.specs.Turns.{event_value, Stirs}
 use Rattle.node_core.specs.Standing.{Core, StandsFor, Took, seat_of}
 
 -- the packet is for member me, from a member of the circuit of c members
@@ -96,12 +96,6 @@ Refuses refusals.AlreadyOpen event old row new = RefusesEvent event refusals.Alr
 Refuses refusals.RoundsSpent event old row new = RefusesEvent event refusals.RoundsSpent old row new
 Refuses refusals.OutOfMemory event old row new = new.failed ≡ true
 
--- the turn saves nothing, takes nothing in and sends nothing
-pub record IsStill (row : Row) (marks : List Mark) (t : said.Turn) : Type 0 where
-  pub saves : t.row ≡ row
-  pub takes_in : t.marks ≡ marks
-  pub sends : t.out ≡ []
-
--- the event is not refused for another cause, and its turn is not still
+-- the event is not refused for another cause, and its turn is not quiet
 abbrev pub MayTakeMemory : Core → Event → List Mark → Row → Type 0
-MayTakeMemory old event marks row = TurnIs (seat_of old) event marks row (λ t. ¬ IsStill row marks t)
+MayTakeMemory old event marks row = TurnIs (seat_of old) event marks row Stirs

@@ -10,26 +10,26 @@ use Rattle.node_core.specs.declared.turn.CoreRefusal.{CoreRefusal}
 use Rattle.node_core.specs.declared.turn.CoreRefusal.TheVariants as refusals
 use Rattle.node_core.specs.Seats.{Seat}
 use Rattle.node_core.specs.Standing.{Core, StandsFor, DeskStands, Answers, Settles, seat_of}
-use Rattle.node_core.specs.Calls.{StartIs, TurnIs, IsStill, MayTakeMemory}
-use Rattle.node_core.specs.Turns.{IsTurn, IsRowAfter, note_value}
+use Rattle.node_core.specs.Calls.{StartIs, TurnIs, MayTakeMemory}
+use Rattle.node_core.specs.Turns.{IsTurn, IsRowAfter, note_value, Stirs}
 use Rattle.protocol.specs.Packets.{Packet, Accepted}
 use Rattle.protocol.specs.Turn.{accept_turn, vote_turn, to_others}
 
--- it was taken by the turn that is read from the marks, or memory was refused to it where that turn is not still
+-- it was taken by the turn that is read from the marks, or memory was refused to it where that turn is not quiet
 abbrev pub Handles : {E : Type 0} → Row → (List Mark → said.Turn) → Result Turn E → Desk → Desk → Type 0
-Handles row turn result old new = (marks : List Mark) → DeskStands old marks → MatchResult result (λ x. Answers row (turn marks) x new) (λ _. ¬ IsStill row marks (turn marks))
+Handles row turn result old new = (marks : List Mark) → DeskStands old marks → MatchResult result (λ x. Answers row (turn marks) x new) (λ _. Stirs (turn marks))
 
 -- the same of an offer or a search, which may be refused for another cause
 abbrev pub Starts : Seat → ℕ → Option Tape → ℕ → Row → Result Turn CoreRefusal → Desk → Desk → Type 0
 Starts s n own now row result old new =
     (marks : List Mark) → DeskStands old marks
-    → MatchResult result (λ x. StartIs s n own now marks row (λ t. Answers row t x new)) (λ e. e ≡ refusals.OutOfMemory → StartIs s n own now marks row (λ t. ¬ IsStill row marks t))
+    → MatchResult result (λ x. StartIs s n own now marks row (λ t. Answers row t x new)) (λ e. e ≡ refusals.OutOfMemory → StartIs s n own now marks row Stirs)
 
 -- and of any event
 abbrev pub Takes : Seat → Event → Row → Result Turn CoreRefusal → Desk → Desk → Type 0
 Takes s event row result old new =
     (marks : List Mark) → DeskStands old marks
-    → MatchResult result (λ x. TurnIs s event marks row (λ t. Answers row t x new)) (λ e. e ≡ refusals.OutOfMemory → TurnIs s event marks row (λ t. ¬ IsStill row marks t))
+    → MatchResult result (λ x. TurnIs s event marks row (λ t. Answers row t x new)) (λ e. e ≡ refusals.OutOfMemory → TurnIs s event marks row Stirs)
 
 -- the code's turn is the turn t of the definitions, which takes nothing in and releases nothing
 pub record IsTurnAlone (row : Row) (marks : List Mark) (t : said.Turn) (x : Turn) : Type 0 where
@@ -37,20 +37,20 @@ pub record IsTurnAlone (row : Row) (marks : List Mark) (t : said.Turn) (x : Turn
   pub takes_nothing : t.marks ≡ marks
   pub releases_nothing : x.release ≡ None
 
--- a packet was answered so, or memory was refused to it where the turn is not still
+-- a packet was answered so, or memory was refused to it where the turn is not quiet
 abbrev pub Answered : {E : Type 0} → Row → List Mark → said.Turn → Result Turn E → Type 0
-Answered row marks t result = MatchResult result (λ x. IsTurnAlone row marks t x) (λ _. ¬ IsStill row marks t)
+Answered row marks t result = MatchResult result (λ x. IsTurnAlone row marks t x) (λ _. Stirs t)
 
 -- the same of any event
 abbrev pub TakesNothing : Seat → Event → Row → List Mark → Result Turn CoreRefusal → Type 0
 TakesNothing s event row marks result =
-    MatchResult result (λ x. TurnIs s event marks row (λ t. IsTurnAlone row marks t x)) (λ e. e ≡ refusals.OutOfMemory → TurnIs s event marks row (λ t. ¬ IsStill row marks t))
+    MatchResult result (λ x. TurnIs s event marks row (λ t. IsTurnAlone row marks t x)) (λ e. e ≡ refusals.OutOfMemory → TurnIs s event marks row Stirs)
 
 -- the core took the event of n, but for the settling of n; or memory was refused to it
 abbrev pub Acts : ℕ → Event → Row → Result Turn CoreRefusal → Core → Core → Type 0
 Acts n event row result old new =
     (marks : List Mark) → StandsFor old marks
-    → MatchResult result (λ x. TurnIs (seat_of old) event marks row (λ t. Settles n row marks t x new)) (λ e. e ≡ refusals.OutOfMemory → MayTakeMemory old event marks row)
+    → MatchResult result (λ x. TurnIs (seat_of old) event marks row (λ t. Settles n row t x new)) (λ e. e ≡ refusals.OutOfMemory → MayTakeMemory old event marks row)
 
 -- what the code hands out is a vote for this tape
 pub record IsVote (s : Seat) (row : Row) (p : Packet) (tape : Tape) (x : Turn) (voted : Tape) : Type 0 where

@@ -141,12 +141,10 @@ pub record Took (row : Row) (t : said.Turn) (x : Turn) (v : Core) : Type 0 where
   pub is_turn : IsTurn row t x
   pub stands : StandsFor v t.marks
 
--- the code's turn is the turn t of the definitions, and once n is settled the core stands for the marks after it;
--- a tape that is released is taken in
-pub record Settles (n : ℕ) (row : Row) (marks : List Mark) (t : said.Turn) (x : Turn) (v : Core) : Type 0 where
+-- the code's turn is the turn t of the definitions, and once n is settled the core stands for the marks after it
+pub record Settles (n : ℕ) (row : Row) (t : said.Turn) (x : Turn) (v : Core) : Type 0 where
   pub is_turn : IsTurn row t x
   pub settled : (after : Core) → Moves v n (if is_some x.release then None else desk_at v n) (is_some x.release) after → StandsFor after t.marks
-  pub takes_in : is_some x.release ≡ true → t.marks ≡ marks → ⊥
 
 -- all that is in hand stands for the marks, under its number
 abbrev pub AllStand : List (ℕ × Desk) → List Mark → Type 0

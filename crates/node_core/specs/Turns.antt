@@ -1,5 +1,5 @@
 -- What the code's events, notes and turns say, in the protocol's words.
-use Rattle.std.specs.Prelude.{◌≡◌, ◌≤◌, List, Option, Some, None, IsSome, IfSome, length}
+use Rattle.std.specs.Prelude.{◌≡◌, ◌≤◌, List, [], Bool, true, false, Option, Some, None, IsSome, IfSome, length}
 use Rattle.protocol.specs.Rows.{Row}
 use Rattle.protocol.specs.Packets.{Packet}
 use Rattle.protocol.specs.Turn as said
@@ -36,6 +36,21 @@ note_value (notes.Denied p) = said.Note_denied p
 note_value notes.Settled = said.Note_settled
 note_value (notes.Heard b) = said.Note_heard b
 
+-- a turn with this note finds that nothing is to be done, but that a Nack may be kept: it saves, sends and releases nothing
+abbrev pub is_quiet : said.Note → Bool
+is_quiet said.Note_silent = true
+is_quiet said.Note_stale = true
+is_quiet said.Note_repeated = true
+is_quiet (said.Note_overtaken b) = true
+is_quiet (said.Note_denied p) = true
+is_quiet said.Note_settled = true
+is_quiet said.Note_idle = true
+is_quiet _ = false
+
+-- the turn is not quiet
+abbrev pub Stirs : said.Turn → Type 0
+Stirs t = is_quiet t.note ≡ false
+
 -- the row after a turn: it is given where it differs from the row before, and only there
 abbrev pub IsRowAfter : Row → Row → Option Row → Type 0
 IsRowAfter before after None = after ≡ before
@@ -52,10 +67,17 @@ pub record IsTurn (row : Row) (t : said.Turn) (x : Turn) : Type 0 where
 abbrev pub HasPromise : Option Row → Type 0
 HasPromise row = IfSome row (λ r. IsSome r.promised)
 
--- the row that it changes has a promise, and no more than two packets go out to each of 14 others
+-- it saves, sends and releases nothing
+pub record HandsNothing (x : Turn) : Type 0 where
+  pub saves : x.row ≡ None
+  pub sends : x.out.items ≡ []
+  pub releases : x.release ≡ None
+
+-- the row that it changes has a promise, no more than two packets go out to each of 14 others, and a quiet turn hands out nothing
 pub record IsOrderly (x : Turn) : Type 0 where
   pub promised : HasPromise x.row
   pub few : length x.out.items ≤ 28
+  pub quiet : is_quiet (note_value x.note) ≡ true → HandsNothing x
 
 -- what the code hands out is these packets, with this row after and this note
 pub record IsSending (x : Turn) (row : Option Row) (note : Note) (packets : List Packet) : Type 0 where

@@ -15,7 +15,7 @@ ghost use Rattle.node_core.specs.Standing.{DeskStands, fresh, IsDeskOf, IsLeft, 
 ghost use Rattle.node_core.specs.Calls.{IsForMember, MayCome, StartIs, RefusesToStart, IsRefused};
 ghost use Rattle.node_core.specs.Handling.{Handles, Starts, Takes};
 ghost use Rattle.node_core.specs.Seats.{Seat as SeatValue};
-ghost use Rattle.node_core.specs.Turns.{event_value, HasPromise, IsOrderly};
+ghost use Rattle.node_core.specs.Turns.{event_value, note_value, is_quiet, HasPromise, IsOrderly};
 
 use crate::event::Event;
 use crate::mail::to_others;
@@ -205,6 +205,7 @@ impl Desk {
 
     /// Closes the proposal.
     fn close(&mut self, alloc: Global, row: Option<Row>, note: Note) -> Turn
+        requires { is_quiet (note_value note) ≡ false }
         ensures row { result.row ≡ row }
         ensures out { result.out.items ≡ [] }
         ensures release { result.release ≡ None }

@@ -7,7 +7,7 @@ ghost use Rattle.protocol.specs.Turn.{number_of};
 ghost use Rattle.node_core.specs.Calls.{MayCome, TookTurn, RefusesEvent, Refuses, MayTakeMemory};
 ghost use Rattle.node_core.specs.Handling.{Acts};
 ghost use Rattle.node_core.specs.Standing.{StandsFor, Kept, Moves, IsDeskOf, IsSameSeat, seat_of, desk_at, fresh};
-ghost use Rattle.node_core.specs.Turns.{event_value, IsOrderly};
+ghost use Rattle.node_core.specs.Turns.{event_value, note_value, is_quiet, HandsNothing, IsOrderly};
 
 use crate::desk::Desk;
 use crate::event::Event;
@@ -233,13 +233,15 @@ impl NodeCore {
     /// `Failed` where memory was refused before and the core was not cleared since. To an offer or a search:
     /// `AlreadyReleased` and `AlreadyOpen` for a number that is, and `RoundsSpent` where there is no ballot above
     /// the row's promise. These change nothing. `OutOfMemory` leaves the core failed, and comes only where none of these
-    /// does and the turn saves, takes in or sends something.
+    /// does and the turn is not quiet: one that is `Silent`, `Stale`, `Repeated`, `Overtaken`, `Denied`, `Settled` or `Idle`
+    /// takes no memory.
     /// A packet that comes has to be for this member, from a member of its circuit.
     pub fn handle(&mut self, event: Event<'_>, row: &Row) -> Result<Turn, CoreRefusal>
         requires arrived { MayCome self.old.me self.old.members event }
         ensures ok { IfOk result (λ x. (marks : List Mark) → StandsFor self.old marks → TookTurn self.old event.entry marks row.now x self.new) }
         ensures promised { IfOk result (λ x. IfSome x.row (λ r. IsSome r.promised)) }
         ensures few { IfOk result (λ x. length x.out.items ≤ 28) }
+        ensures quiet { IfOk result (λ x. is_quiet (note_value x.note) ≡ true → HandsNothing x) }
         ensures refused { IfErr result (λ e. Refuses e event.entry self.old row.now self.new) }
         ensures memory { IfErr result (λ e. e ≡ CoreRefusal.OutOfMemory → (marks : List Mark) → StandsFor self.old marks → MayTakeMemory self.old event.entry marks row.now) }
         ensures failed { self.old.failed ≡ true → result ≡ Err CoreRefusal.Failed }

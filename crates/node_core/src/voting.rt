@@ -6,8 +6,8 @@ ghost use Rattle.protocol.specs.Packets.{Prepare, Accept, Accepted};
 ghost use Rattle.protocol.specs.Turn.{packet_to, to_others, prepare_turn, accept_turn};
 ghost use Rattle.packets.specs.Bodies.{said};
 ghost use Rattle.packets.specs.Rules.{keeps_rules};
-ghost use Rattle.node_core.specs.Calls.{IsForMember, IsStill};
-ghost use Rattle.node_core.specs.Turns.{IsTurn, IsSending, IsOrderly};
+ghost use Rattle.node_core.specs.Calls.{IsForMember};
+ghost use Rattle.node_core.specs.Turns.{IsTurn, IsSending, IsOrderly, Stirs};
 ghost use Rattle.node_core.specs.Handling.{IsVoting};
 
 use crate::mail;
@@ -99,7 +99,7 @@ pub(crate) fn prepare(
     requires kind { packet.now.body ≡ Prepare }
     ensures turn { IfOk result (λ x. (marks : List Mark) → IsTurn row.now (prepare_turn seat.circuit seat.me marks row.now packet.now row.now.promised) x) }
     ensures orderly { IfOk result (λ x. IsOrderly x) }
-    ensures memory { OnErr result ((marks : List Mark) → ¬ IsStill row.now marks (prepare_turn seat.circuit seat.me marks row.now packet.now row.now.promised)) }
+    ensures memory { OnErr result ((marks : List Mark) → Stirs (prepare_turn seat.circuit seat.me marks row.now packet.now row.now.promised)) }
 {
     let ballot = packet.ballot();
     match acceptor::prepare(row, ballot) {
@@ -131,7 +131,7 @@ pub(crate) fn accept<'a>(
     requires kind { packet.now.body ≡ Accept tape }
     ensures voting { IfOk result (λ v. IsVoting seat row.now packet.now tape.entry v.turn v.vote) }
     ensures orderly { IfOk result (λ v. IsOrderly v.turn) }
-    ensures stirs { (marks : List Mark) → ¬ IsStill row.now marks (accept_turn seat.circuit seat.members seat.me marks row.now packet.now tape.entry row.now.promised) }
+    ensures stirs { (marks : List Mark) → Stirs (accept_turn seat.circuit seat.members seat.me marks row.now packet.now tape.entry row.now.promised) }
 {
     // The sender is another member: so there is one to answer.
     let (_from, _me) = (packet.from().get(), seat.me());

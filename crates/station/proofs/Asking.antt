@@ -1,14 +1,16 @@
 -- From the checks of a call to its step.
-use Rattle.std.proofs.Common.{◌≡◌, ◌≤◌, ℕ, inl, inr, refl, sym, ap, subst, ◌∙◌, List, [], Option, Some, None, Bool, true, false, length}
-use Rattle.std.specs.Prelude.{Result, Ok, Err, IsErr, IsErrAnd, not, is_some, if◌then◌else◌}
+use Rattle.std.proofs.Common.{◌≡◌, ◌≤◌, ℕ, inl, inr, refl, sym, ap, subst, ◌∙◌, List, [], ◌∷◌, Option, Some, None, Bool, true, false, length}
+use Rattle.std.specs.Prelude.{◌==◌, Result, Ok, Err, IsErr, IsErrAnd, not, is_some, if◌then◌else◌}
 use Rattle.std.proofs.lemmas.Bool.{le-leb}
 use Rattle.protocol.specs.Lists.{or_else}
 use Rattle.protocol.specs.Packets.{Packet}
 use Rattle.protocol.specs.Versions.{One, fits}
-use Rattle.protocol.specs.Marks.{Mark}
-use Rattle.protocol.specs.Ballots.{Ballot}
-use Rattle.protocol.specs.Proposals.{Opening, was_released, open_proposal, opening_ballot, open_ballot, next_due}
-use Rattle.protocol.specs.Turn.{Event, Offered, Sought, Came_due, Arrived}
+use Rattle.protocol.specs.Marks.{Mark, Began}
+use Rattle.protocol.specs.Rows.{Tape, Row, raised}
+use Rattle.protocol.specs.Ballots.{Ballot, next}
+use Rattle.protocol.specs.Proposals.{Opening, pick, was_released, open_proposal, opening_ballot, open_ballot, next_due}
+use Rattle.protocol.specs.Turn.{Event, Offered, Sought, Came_due, Arrived, propose, begin, start_turn}
+use Rattle.protocol.specs.Turn as said
 use Rattle.protocol.specs.Refusals as refusals
 use Rattle.tape_frames.specs.Frames.{IsTape}
 use Rattle.code_table.specs.Tables.{mean}
@@ -23,7 +25,8 @@ use Rattle.station.specs.declared.refusal.StepRefusal.{StepRefusal}
 use Rattle.station.specs.declared.refusal.StepRefusal.TheVariants.{Stopped, BadDatagram, WrongCircuit, NotForMe, Stranger, BadNumber, AlreadyReleased, AlreadyOpen, TapeFaulty, RoundsSpent, Store, OutOfMemory}
 use Rattle.station.specs.Refusing.{Refusal, IsRefusal}
 use Rattle.station.specs.Stations.{Sight, setup_of, unless_faulty, IsFixed}
-use Rattle.station.specs.Steps.{Ends, Asks, AsksEarly, TornByMemory, Steps}
+use Rattle.station.specs.Steps.{turn_of, Ends, Asks, AsksEarly, TornByMemory, Steps}
+use Rattle.node_core.specs.Turns.{Stirs}
 
 none_first : {A : Type 0} (o p : Option A) → or_else o p ≡ None → o ≡ None
 none_first None p h = refl
@@ -191,14 +194,33 @@ received s marks bytes now k c m p q goes read circuit members me h same =
       event = ap (λ (r : Result Packet PacketFault). refusals.arrival r now) read ∙ (λ i. Some (Arrived (sym same i) now));
     }
 
+-- what is offered or sought begins a ballot: its turn is not quiet
+propose_stirs : (k c m n : ℕ) (b : Ballot) (now : ℕ) (marks : List Mark) (row : Row) (o : Option Tape) → Stirs (propose k c m n b now marks row o)
+propose_stirs k c m n b now marks row None = refl
+propose_stirs k c m n b now marks row (Some t) = refl
+
+begin_stirs : (k c m n : ℕ) (b : Ballot) (own : Option Tape) (now : ℕ) (marks : List Mark) (row : Row) → Stirs (begin k c m n b own now marks row)
+begin_stirs k c m n b own now marks row = go (c == 1) refl
+  where
+    go : (x : Bool) → (c == 1) ≡ x → Stirs (begin k c m n b own now marks row)
+    go true e = rw e (propose_stirs k c m n b now (Began n b own row.vote now ∷ marks) (raised row b) (pick own (record { member = m; report = row.vote } ∷ [])))
+    go false e = rw e refl
+
+start_stirs : (k c m n : ℕ) (own : Option Tape) (now : ℕ) (marks : List Mark) (row : Row) (o : Option Ballot) (t : said.Turn) → start_turn k c m n own now marks row o ≡ Some t → Stirs t
+start_stirs k c m n own now marks row None t e = absurd cc
+start_stirs k c m n own now marks row (Some b) t e = let is : begin k c m n b own now marks row ≡ t = cc in subst Stirs is (begin_stirs k c m n b own now marks row)
+
+pub offer_stirs : {R : Type 0} (x : Sight R) (s : Station R) (marks : List Mark) (n : ℕ) (tape : List ℕ) (now : ℕ) (t : said.Turn) → turn_of x s marks (Offered n tape now) ≡ Some t → Stirs t
+offer_stirs x s marks n tape now t e = start_stirs s.core.circuit s.core.members s.core.me n (Some tape) now marks (x.saved s.rows n) (next (x.saved s.rows n).promised s.core.me) t e
+
 -- memory was refused before the store was asked
 pub torn_early :
     {R : Type 0} (x : Sight R) (call : refusals.Call) (e : Event) (old new : Station R) (marks : List Mark) (q : StepRefusal)
-    → q ≡ OutOfMemory → AsksEarly old marks call e → IsFixed old new → new ≡ record old { core = new.core; stopped = true } → StandsFor new.core []
+    → q ≡ OutOfMemory → AsksEarly old marks call e → ((t : said.Turn) → turn_of x old marks e ≡ Some t → Stirs t) → IsFixed old new → new ≡ record old { core = new.core; stopped = true } → StandsFor new.core []
     → Steps x call old new marks (Err q)
-torn_early {R = R} x call e old new marks q same asks fixed is none =
-    let torn : TornByMemory x old new =
-    record { fixed = fixed; stops = ap (λ (t : Station R). t.stopped) is; stands_for = none; rows = inl (ap (λ (t : Station R). t.rows) is) } in
+torn_early {R = R} x call e old new marks q same asks stirs fixed is none =
+    let torn : TornByMemory x e old new marks =
+    record { stirs = stirs; fixed = fixed; stops = ap (λ (t : Station R). t.stopped) is; stands_for = none; rows = inl (ap (λ (t : Station R). t.rows) is) } in
     subst (λ (r : StepRefusal). Steps x call old new marks (Err r)) (sym same) (e, asks, torn)
 
 -- a call that is refused for its first reason

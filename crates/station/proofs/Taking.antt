@@ -10,8 +10,10 @@ use Rattle.protocol.specs.Turn as said
 use Rattle.saved_rows.specs.Saved.{Saved, SameRows, WithRow, with_row}
 use Rattle.saved_rows.specs.declared.fault.RowsFault.{RowsFault}
 use Rattle.node_core.specs.Standing.{Core, StandsFor}
-use Rattle.node_core.specs.Turns.{note_value, IsTurn, IsRowAfter}
+use Rattle.node_core.specs.Turns.{event_value, note_value, is_quiet, Stirs, HandsNothing, IsTurn, IsRowAfter}
+use Rattle.node_core.specs.declared.event.Event.{Event}
 use Rattle.node_core.specs.declared.turn.Turn.{Turn}
+use Rattle.node_core.specs.Calls.{MayTakeMemory}
 use Rattle.station.specs.declared.answer.Answer.{Answer}
 use Rattle.station.specs.declared.station.Station.{Station}
 use Rattle.station.specs.declared.refusal.StepRefusal.{StepRefusal}
@@ -32,6 +34,17 @@ with_row-self rows n k = go (k == n) refl
 with_row-same : (rows others : Saved) (n : ℕ) (row : Row) → SameRows rows others → (k : ℕ) → with_row others n row k ≡ with_row rows n row k
 with_row-same rows others n row same k = λ i. with_row (λ j. same j i) n row k
 
+some_is : {t u : said.Turn} → Some t ≡ Some u → t ≡ u
+some_is e = cc
+
+-- the turn that memory was refused to, at the row that was read
+pub refused_stirs :
+    {R : Type 0} (x : Sight R) (event : Event) (s : Station R) (marks : List Mark) (row : Row) (n : ℕ) → said.number_of (event_value event) ≡ n → row ≡ x.saved s.rows n
+    → MayTakeMemory s.core event marks row → (t : said.Turn) → turn_of x s marks (event_value event) ≡ Some t → Stirs t
+refused_stirs x event s marks row n number is h t e =
+    let here = subst (λ (r : Row). said.turn s.core.circuit s.core.members s.core.me marks r (event_value event) ≡ Some h.turn) (is ∙ ap (x.saved s.rows) (sym number)) h.is_the_turn in
+    subst Stirs (some_is (sym here ∙ e)) h.holds
+
 -- what is known of a station whose core took a turn of the row that was read
 pub record Taking {R : Type 0} (x : Sight R) (e : said.Event) (old : Station R) (marks : List Mark) (mid : R) (core : Core) (move : Turn) (row : Row) (n : ℕ) : Type 0 where
   pub number : said.number_of e ≡ n
@@ -42,6 +55,7 @@ pub record Taking {R : Type 0} (x : Sight R) (e : said.Event) (old : Station R) 
   pub taken : said.Turn
   pub is_turn : said.turn old.core.circuit old.core.members old.core.me marks row e ≡ Some taken
   pub gives : IsTurn row taken move
+  pub quiet : is_quiet (note_value move.note) ≡ true → HandsNothing move
   pub stands : StandsFor core taken.marks
   pub circuit : core.circuit ≡ old.core.circuit
   pub members : core.members ≡ old.core.members
@@ -111,6 +125,14 @@ module _ {R : Type 0} (x : Sight R) (e : said.Event) (old : Station R) (marks : 
     };
   }
 
+  -- where something is handed out, the turn is not quiet
+  it_stirs : (HandsNothing move → ⊥) → (t : said.Turn) → turn_of x old marks e ≡ Some t → Stirs t
+  it_stirs hands t is = let same : k.taken ≡ t = some_is (sym is_saved_turn ∙ is) in subst Stirs same (subst (λ (note : said.Note). is_quiet note ≡ false) k.gives.note (go (is_quiet (note_value move.note)) refl))
+    where
+      go : (q : Bool) → is_quiet (note_value move.note) ≡ q → is_quiet (note_value move.note) ≡ false
+      go true h = absurd (hands (k.quiet h))
+      go false h = h
+
   -- the station that stopped with this refusal
   torn :
       (after : Station R) (r : StepRefusal) → IsFixed old after → after.stopped ≡ true → StandsFor after.core [] → after.rows ≡ new
@@ -118,7 +140,7 @@ module _ {R : Type 0} (x : Sight R) (e : said.Event) (old : Station R) (marks : 
   torn after (Store fault) fixed stops none rows s =
       record { fixed = fixed; stops = stops; stands_for = none; at = inr (subst (λ (q : R). AtSave x e old marks q fault) (sym rows) (balked move.row fault k.gives.row_after s)) }
   torn after OutOfMemory fixed stops none rows s =
-      record { fixed = fixed; stops = stops; stands_for = none; rows = inr (subst (λ (q : R). WasRead x old.rows q) (sym (rows ∙ s)) k.read) }
+      record { fixed = fixed; stops = stops; stands_for = none; rows = inr (subst (λ (q : R). WasRead x old.rows q) (sym (rows ∙ s.0)) k.read); stirs = it_stirs s.1 }
   torn after Stopped fixed stops none rows s = absurd s
   torn after (BadDatagram fault) fixed stops none rows s = absurd s
   torn after WrongCircuit fixed stops none rows s = absurd s

@@ -14,6 +14,7 @@ use Rattle.widths.specs.Widths.{WidthFile}
 use Rattle.line_check.specs.Sets.{Sets}
 use Rattle.line_check.specs.declared.fault.SetFault.{SetFault}
 use Rattle.line_check.specs.declared.slug.Slug.{Slug}
+use Rattle.node_core.specs.Turns.{HandsNothing}
 use Rattle.node_core.specs.declared.turn.Turn.{Turn}
 use Rattle.station.specs.declared.answer.Answer.{Answer}
 use Rattle.station.specs.declared.answer.Release.{Release}
@@ -49,10 +50,10 @@ RowBalked x n None fault old new = ⊥
 RowBalked x n (Some row) fault old new =
     x.tells old new n row × (x.is_open new → x.is_open old) × ((¬ x.is_open new) ⊎ IsEither (x.saved old) n row (x.saved new)) × x.blames old new fault
 
--- what is handed out was ready before the row was saved
+-- what is handed out was ready before the row was saved; that takes memory only where something is handed out
 abbrev pub Saves : {R : Type 0} → Sight R → Places → WidthFile → ℕ → Turn → R → R → Result Answer StepRefusal → Type 0
 Saves x table widths n turn old new (Ok a) =
     RowSaved x n turn.row old new × AllZip Carries turn.out.items a.out.items × IsReleased table widths n turn.release a.release × (a.note ≡ turn.note)
 Saves x table widths n turn old new (Err (Store fault)) = RowBalked x n turn.row fault old new
-Saves x table widths n turn old new (Err OutOfMemory) = new ≡ old
+Saves x table widths n turn old new (Err OutOfMemory) = (new ≡ old) × ¬ HandsNothing turn
 Saves x table widths n turn old new (Err _) = ⊥

@@ -9,7 +9,7 @@ use Rattle.protocol.specs.Refusals.{Call, refusal, early_refusal, event_of}
 use Rattle.saved_rows.specs.Saved.{SameRows, WithRow, IsEither}
 use Rattle.saved_rows.specs.declared.fault.RowsFault.{RowsFault}
 use Rattle.node_core.specs.Standing.{StandsFor}
-use Rattle.node_core.specs.Turns.{note_value}
+use Rattle.node_core.specs.Turns.{note_value, Stirs}
 use Rattle.station.specs.declared.answer.Answer.{Answer}
 use Rattle.station.specs.declared.station.Station.{Station}
 use Rattle.station.specs.declared.refusal.StepRefusal.{StepRefusal}
@@ -74,12 +74,13 @@ pub record TornByStore {R : Type 0} (x : Sight R) (e : Event) (old new : Station
   pub stands_for : StandsFor new.core []
   pub at : (WasRead x old.rows new.rows × x.blames old.rows new.rows fault) ⊎ AtSave x e old marks new.rows fault
 
--- memory was refused before any save: the station stops and forgets what it took in
-pub record TornByMemory {R : Type 0} (x : Sight R) (old new : Station R) : Type 0 where
+-- memory was refused before any save, to a turn that is not quiet: the station stops and forgets what it took in
+pub record TornByMemory {R : Type 0} (x : Sight R) (e : Event) (old new : Station R) (marks : List Mark) : Type 0 where
   pub fixed : IsFixed old new
   pub stops : new.stopped ≡ true
   pub stands_for : StandsFor new.core []
   pub rows : (new.rows ≡ old.rows) ⊎ WasRead x old.rows new.rows
+  pub stirs : (t : Turn) → turn_of x old marks e ≡ Some t → Stirs t
 
 -- no ballot is left: only the row was read
 pub record Spent {R : Type 0} (x : Sight R) (e : Event) (old new : Station R) (marks : List Mark) : Type 0 where
@@ -99,7 +100,7 @@ IsFree marks (Arrived p now) = Unit {0}
 abbrev pub Ends : {R : Type 0} → Sight R → Event → Station R → Station R → List Mark → Result Answer StepRefusal → Type 0
 Ends x e old new marks (Ok a) = Done x e old new marks a
 Ends x e old new marks (Err (Store fault)) = TornByStore x e old new marks fault
-Ends x e old new marks (Err OutOfMemory) = TornByMemory x old new
+Ends x e old new marks (Err OutOfMemory) = TornByMemory x e old new marks
 Ends x e old new marks (Err RoundsSpent) = Spent x e old new marks
 Ends x e old new marks (Err _) = ⊥
 
@@ -130,7 +131,7 @@ Refuses old new marks call r = IsRefusal (refusal (setup_of old) old.stopped mar
 abbrev pub Steps : {R : Type 0} → Sight R → Call → Station R → Station R → List Mark → Result Answer StepRefusal → Type 0
 Steps x call old new marks (Ok a) = Idles old new marks call a ⊎ ((e : Event) × Asks old marks call e × Done x e old new marks a)
 Steps x call old new marks (Err (Store fault)) = (e : Event) × Asks old marks call e × TornByStore x e old new marks fault
-Steps x call old new marks (Err OutOfMemory) = (e : Event) × AsksEarly old marks call e × TornByMemory x old new
+Steps x call old new marks (Err OutOfMemory) = (e : Event) × AsksEarly old marks call e × TornByMemory x e old new marks
 Steps x call old new marks (Err RoundsSpent) = (e : Event) × Asks old marks call e × Spent x e old new marks
 Steps x call old new marks (Err Stopped) = Refuses old new marks call Stopped
 Steps x call old new marks (Err (BadDatagram fault)) = Refuses old new marks call (BadDatagram fault)

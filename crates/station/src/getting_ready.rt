@@ -1,6 +1,6 @@
 //! What a turn hands out is made ready, and then its row is saved.
 
-ghost use Rattle.std.specs.Prelude.{◌≡◌, ◌≤◌, IfOk, IfErr, IfSome, true, length};
+ghost use Rattle.std.specs.Prelude.{◌≡◌, ◌≤◌, [], None, IfOk, IfErr, OnErr, IfSome, true, length};
 ghost use Rattle.std.specs.List.{AllZip};
 ghost use Rattle.saved_rows.specs.Saved.{HasPromise, Rises};
 ghost use Rattle.station.specs.Stations.{sight};
@@ -31,11 +31,15 @@ fn spell(alloc: Global, packet: &Packet) -> Result<Datagram, AllocError>
     Ok(Datagram::new(lent.to(), bytes))
 }
 
-/// The datagrams of packets, in order.
+/// The datagrams of packets, in order. No memory is taken where there is none.
 fn spell_all(alloc: Global, packets: &[Packet]) -> Result<Vec<Datagram>, AllocError>
     ensures carry { IfOk result (λ v. AllZip Carries packets.now v.items) }
     ensures many { IfOk result (λ v. length v.items ≡ length packets.now) }
+    ensures memory { OnErr result (packets.now ≡ [] → ⊥) }
 {
+    if packets.is_empty() {
+        return Ok(Vec::new(alloc));
+    }
     let mut out = Vec::with_capacity(alloc, packets.len())?;
     for packet in packets {
         out.push(spell(alloc, packet)?)?;
@@ -43,7 +47,7 @@ fn spell_all(alloc: Global, packets: &[Packet]) -> Result<Vec<Datagram>, AllocEr
     Ok(out)
 }
 
-/// A released tape, set by the code table and the widths.
+/// A released tape, set by the code table and the widths. No memory is taken where there is none.
 fn release(
     alloc: Global,
     table: &CodeTable,
@@ -51,7 +55,8 @@ fn release(
     number: Number,
     tape: Option<Tape>,
 ) -> Result<Option<Release>, AllocError>
-    ensures { IfOk result (IsReleased table.now widths.now number tape) }
+    ensures released { IfOk result (IsReleased table.now widths.now number tape) }
+    ensures memory { OnErr result (tape ≡ None → ⊥) }
 {
     let Some(tape) = tape else {
         return Ok(None);

@@ -335,7 +335,7 @@ module _ {R : Type 0} (x : Sight R) (refusals : R → ℕ) (z : StationCircuit) 
       ap (λ (r : Balky R). x.saved r.rows j) same ∙ (old.rows (subst (λ (r : Balky R). x.is_open r.rows) same here) j ∙ sym (with_at-self (w.rows m) n j))
 
   pub memory_comes :
-      (step : circuit.Step) (call : Call) (e : Event) → Sends step call → AsksEarly s (w.marks m) call e → TornByMemory (balky_sight x refusals) s s'
+      (step : circuit.Step) (call : Call) (e : Event) → Sends step call → AsksEarly s (w.marks m) call e → TornByMemory (balky_sight x refusals) e s s' (w.marks m)
       → v'.sent.items ≡ v.sent.items → v'.offers.items ≡ offers_with v.offers.items m e → v'.releases.items ≡ v.releases.items → Comes step circuit.Torn_by_memory
   memory_comes step call e task asks d sent offers releases = elim d.rows [
     | inl same ↦ torn_to step call e circuit.Torn_by_memory (w.rows m (number_of e)) task asks.event

@@ -6,7 +6,7 @@ use Rattle.protocol.specs.Packets.{Body}
 use Rattle.protocol.specs.Turn.{packet_turn, accept_turn}
 use Rattle.packets.specs.Bodies.{said}
 use Rattle.node_core.specs.Handling.{IsTurnAlone}
-use Rattle.node_core.specs.Calls.{IsStill}
+use Rattle.node_core.specs.Turns.{Stirs}
 use Rattle.node_core.proofs.Phases.{on_both}
 use Rattle.node_core.proofs.Accepting.{prepare_adds_none, voting_alone}
 use Rattle.node_core.proofs.settled.receive.Goals as goal
@@ -15,7 +15,7 @@ pub returns-in-Prepare-clause-turn : goal.returns-in-Prepare-clause-turn
 returns-in-Prepare-clause-turn c = λ now marks released.
     let turn = λ (y : Body). packet_turn c.args.seat.circuit c.args.seat.members c.args.seat.me now marks c.args.row.now c.args.packet.now y in
     let quiet = prepare_adds_none c.args.seat.circuit c.args.seat.me marks c.args.row.now c.args.packet.now c.args.row.now.promised in
-    subst (λ (y : Body). MatchResult c.prepare.result (λ x. IsTurnAlone c.args.row.now marks (turn y) x) (λ _. IsStill c.args.row.now marks (turn y) → ⊥)) (sym (ap said c.in-Prepare.is) ∙ c.body.ensures.body)
+    subst (λ (y : Body). MatchResult c.prepare.result (λ x. IsTurnAlone c.args.row.now marks (turn y) x) (λ _. Stirs (turn y))) (sym (ap said c.in-Prepare.is) ∙ c.body.ensures.body)
     (on_both c.prepare.result _ _ _ _ c.prepare.ensures.turn c.prepare.ensures.memory
     (λ x t. record { is_turn = t marks; takes_nothing = quiet.0; releases_nothing = (t marks).release ∙ quiet.1 })
     (λ _ stirs. stirs marks))

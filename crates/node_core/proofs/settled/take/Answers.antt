@@ -3,9 +3,9 @@ use Rattle.std.proofs.Common.{◌≡◌, sym, subst, refl, true}
 use Rattle.protocol.specs.Proposals.{was_released}
 use Rattle.protocol.specs.Turn.{number_of}
 use Rattle.node_core.specs.declared.event.Event.{Event}
-use Rattle.node_core.specs.Calls.{TurnIs, IsStill}
+use Rattle.node_core.specs.Calls.{TurnIs}
 use Rattle.node_core.specs.Handling.{IsTurnAlone}
-use Rattle.node_core.specs.Turns.{event_value}
+use Rattle.node_core.specs.Turns.{event_value, Stirs}
 use Rattle.node_core.proofs.Calling.{came_due, packet_came}
 use Rattle.node_core.proofs.Phases.{on_err, idle_alone}
 use Rattle.node_core.proofs.settled.take.Goals as goal
@@ -27,6 +27,6 @@ pub returns-in_err-receive-in-Arrived-clause-turn : goal.returns-in_err-receive-
 returns-in_err-receive-in-Arrived-clause-turn c = λ marks released.
     on_err c.from_residual.result _ _ c.from_residual.ensures.0
     (λ _ _.
-    subst (λ (y : Event). TurnIs c.args.seat y marks c.args.row.now (λ t. IsStill c.args.row.now marks t → ⊥)) (sym c.in-Arrived.is)
-    (packet_came c.args.seat c.in-Arrived.packet c.in-Arrived.now marks c.args.row.now (λ t. IsStill c.args.row.now marks t → ⊥)
+    subst (λ (y : Event). TurnIs c.args.seat y marks c.args.row.now Stirs) (sym c.in-Arrived.is)
+    (packet_came c.args.seat c.in-Arrived.packet c.in-Arrived.now marks c.args.row.now Stirs
     (c.in_err-receive-in-Arrived.ensures.turn c.in-Arrived.now marks (subst (λ (y : Event). was_released (number_of (event_value y)) marks ≡ true) c.in-Arrived.is released))))

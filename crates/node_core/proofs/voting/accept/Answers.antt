@@ -5,7 +5,7 @@ use Rattle.protocol.specs.Rows.{Tape, Row}
 use Rattle.protocol.specs.Acceptor.{Reply, Accepts, Nacks, Votes, Votes_again, reply_of, next_row}
 use Rattle.acceptor.specs.declared.answer.AcceptAnswer.{AcceptAnswer}
 use Rattle.acceptor.specs.Said.{said_of_accept, row_of}
-use Rattle.node_core.proofs.Stirring.{sends, accept_sends, another}
+use Rattle.node_core.proofs.Stirring.{accept_stirs}
 use Rattle.node_core.proofs.Accepting.{nacked_alone, again_votes, now_votes}
 use Rattle.node_core.proofs.voting.accept.Goals as goal
 
@@ -35,15 +35,7 @@ returns-in_ok-turn-in-Voted-clause-voting c =
     c.in_ok-turn-in-Voted.ensures.turn
 
 pub returns-in_err-turn-in-Some-clause-stirs : goal.returns-in_err-turn-in-Some-clause-stirs
-returns-in_err-turn-in-Some-clause-stirs c = λ marks.
-    sends c.args.row.now marks _
-    (accept_sends c.args.seat.circuit c.args.seat.members c.args.seat.me marks c.args.packet.now
-    (another c.args.seat.members c.args.seat.me c.args.packet.now c.requires.rules c.requires.arrived.to (rw (c.get-from.ensures.value, c.from.ensures) at c.get-from.ensures.low) c.requires.arrived.from c.me-me.ensures.member.0 c.me-me.ensures.member.1)
-    c.args.row.now c.args.tape c.args.row.now.promised)
+returns-in_err-turn-in-Some-clause-stirs c = λ marks. accept_stirs c.args.seat.circuit c.args.seat.members c.args.seat.me marks c.args.row.now c.args.packet.now c.args.tape c.args.row.now.promised
 
 pub returns-in_ok-turn-in-Some-clause-stirs : goal.returns-in_ok-turn-in-Some-clause-stirs
-returns-in_ok-turn-in-Some-clause-stirs c = λ marks.
-    sends c.args.row.now marks _
-    (accept_sends c.args.seat.circuit c.args.seat.members c.args.seat.me marks c.args.packet.now
-    (another c.args.seat.members c.args.seat.me c.args.packet.now c.requires.rules c.requires.arrived.to (rw (c.get-from.ensures.value, c.from.ensures) at c.get-from.ensures.low) c.requires.arrived.from c.me-me.ensures.member.0 c.me-me.ensures.member.1)
-    c.args.row.now c.args.tape c.args.row.now.promised)
+returns-in_ok-turn-in-Some-clause-stirs c = λ marks. accept_stirs c.args.seat.circuit c.args.seat.members c.args.seat.me marks c.args.row.now c.args.packet.now c.args.tape c.args.row.now.promised

@@ -6,7 +6,7 @@ use Rattle.protocol.specs.Acceptor.{Nacks, Promises, Says_nothing}
 use Rattle.protocol.specs.Turn.{packet_to}
 use Rattle.node_core.proofs.Phases.{on_ok, on_any_err, replied}
 use Rattle.node_core.proofs.Accepting.{promising}
-use Rattle.node_core.proofs.Stirring.{sends, prepare_sends}
+use Rattle.node_core.proofs.Stirring.{prepare_stirs}
 use Rattle.node_core.proofs.voting.prepare.Goals as goal
 
 pub returns-in_ok-after-in-Promise-clause-turn : goal.returns-in_ok-after-in-Promise-clause-turn
@@ -23,22 +23,22 @@ returns-in_ok-after-in-Promise-clause-turn c =
     }))
 
 pub returns-in_ok-after-in-Promise-clause-orderly : goal.returns-in_ok-after-in-Promise-clause-orderly
-returns-in_ok-after-in-Promise-clause-orderly c = on_ok c.answer-in-Promise.result _ _ c.answer-in-Promise.ensures (λ x r. replied x _ _ _ c.in_ok-after-in-Promise.ensures.promised r)
+returns-in_ok-after-in-Promise-clause-orderly c = on_ok c.answer-in-Promise.result _ _ c.answer-in-Promise.ensures (λ x r. replied x _ _ _ c.in_ok-after-in-Promise.ensures.promised refl r)
 
 pub returns-in-Nack-clause-orderly : goal.returns-in-Nack-clause-orderly
-returns-in-Nack-clause-orderly c = on_ok c.answer.result _ _ c.answer.ensures (λ x r. replied x _ _ _ tt r)
+returns-in-Nack-clause-orderly c = on_ok c.answer.result _ _ c.answer.ensures (λ x r. replied x _ _ _ tt refl r)
 
 pub returns-in-Nack-clause-memory : goal.returns-in-Nack-clause-memory
 returns-in-Nack-clause-memory c =
     let reply = rw c.ballot-ballot.ensures at (sym c.in-Nack.ensures.reply) in
-    on_any_err c.answer.result _ (λ marks. sends c.args.row.now marks _ (prepare_sends c.args.seat.circuit c.args.seat.me marks c.args.row.now c.args.packet.now (λ e. let f : Nacks c.in-Nack.promised ≡ Says_nothing = sym reply ∙ e in cc)))
+    on_any_err c.answer.result _ (λ marks. prepare_stirs c.args.seat.circuit c.args.seat.me marks c.args.row.now c.args.packet.now (λ e. let f : Nacks c.in-Nack.promised ≡ Says_nothing = sym reply ∙ e in cc))
 
 pub returns-in_err-after-in-Promise-clause-memory : goal.returns-in_err-after-in-Promise-clause-memory
 returns-in_err-after-in-Promise-clause-memory c =
     let reply = rw c.ballot-ballot.ensures at (sym c.in-Promise.ensures.reply) in
-    on_any_err c.from_residual.result _ (λ marks. sends c.args.row.now marks _ (prepare_sends c.args.seat.circuit c.args.seat.me marks c.args.row.now c.args.packet.now (λ e. let f : Promises (option_copied c.in-Promise.report) ≡ Says_nothing = sym reply ∙ e in cc)))
+    on_any_err c.from_residual.result _ (λ marks. prepare_stirs c.args.seat.circuit c.args.seat.me marks c.args.row.now c.args.packet.now (λ e. let f : Promises (option_copied c.in-Promise.report) ≡ Says_nothing = sym reply ∙ e in cc))
 
 pub returns-in_ok-after-in-Promise-clause-memory : goal.returns-in_ok-after-in-Promise-clause-memory
 returns-in_ok-after-in-Promise-clause-memory c =
     let reply = rw c.ballot-ballot.ensures at (sym c.in-Promise.ensures.reply) in
-    on_any_err c.answer-in-Promise.result _ (λ marks. sends c.args.row.now marks _ (prepare_sends c.args.seat.circuit c.args.seat.me marks c.args.row.now c.args.packet.now (λ e. let f : Promises (option_copied c.in-Promise.report) ≡ Says_nothing = sym reply ∙ e in cc)))
+    on_any_err c.answer-in-Promise.result _ (λ marks. prepare_stirs c.args.seat.circuit c.args.seat.me marks c.args.row.now c.args.packet.now (λ e. let f : Promises (option_copied c.in-Promise.report) ≡ Says_nothing = sym reply ∙ e in cc))

@@ -4,7 +4,7 @@ use Rattle.protocol.specs.Rows.{Tape}
 use Rattle.protocol.specs.Turn.{Hearing}
 use Rattle.node_core.specs.Standing.{IsLeft}
 use Rattle.node_core.specs.Handling.{IsVoting}
-use Rattle.node_core.proofs.Accepting.{vote_heard}
+use Rattle.node_core.proofs.Accepting.{vote_heard, vote_orderly}
 use Rattle.node_core.proofs.Phases.{hear_told}
 use Rattle.node_core.proofs.desk.Desk.accept.Goals as goal
 
@@ -22,3 +22,9 @@ returns-in_ok-release-in-Some-clause-turn c = λ marks stands.
     (hear_told (λ (h : Hearing). (c.in_ok-release-in-Some.release ≡ h.release) × IsLeft c.hear.new.self c.in_ok-release-in-Some.release h.marks)
     c.args.self.now.heard.members c.args.seat.members c.args.self.now.number c.args.packet.now.number c.me.result c.args.seat.me c.ballot.result c.args.packet.now.ballot c.in-Some.tape marks
     c.requires.of.heard (sym c.requires.number) c.me.ensures.value c.ballot.ensures (c.in_ok-release-in-Some.ensures.release marks stands, c.in_ok-release-in-Some.ensures.left marks stands))
+
+pub returns-in_ok-release-in-Some-clause-orderly : goal.returns-in_ok-release-in-Some-clause-orderly
+returns-in_ok-release-in-Some-clause-orderly c =
+    vote_orderly c.args.seat c.args.row.now c.args.packet.now c.args.tape c.in_ok-turn.field-0.turn _ c.in-Some.tape
+    (subst (λ (o : Option Tape). IsVoting c.args.seat c.args.row.now c.args.packet.now c.args.tape c.in_ok-turn.field-0.turn o) c.in-Some.is c.in_ok-turn.ensures.voting)
+    c.in_ok-turn.ensures.stirs refl refl refl c.in_ok-turn.ensures.orderly

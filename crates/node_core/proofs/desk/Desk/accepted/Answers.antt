@@ -2,7 +2,7 @@
 use Rattle.std.proofs.Common.{ap, ◌∙◌}
 use Rattle.protocol.specs.Proposals.{was_released}
 use Rattle.node_core.proofs.Phases.{on_err}
-use Rattle.node_core.proofs.Stirring.{takes_in, hear_adds}
+use Rattle.node_core.proofs.Stirring.{accepted_stirs}
 use Rattle.node_core.proofs.desk.Desk.accepted.Goals as goal
 
 pub returns-in_err-release-clause-of : goal.returns-in_err-release-clause-of
@@ -14,4 +14,4 @@ returns-clause-of c = c.hear.ensures.of c.args.seat c.requires.of
 pub returns-in_err-release-clause-turn : goal.returns-in_err-release-clause-turn
 returns-in_err-release-clause-turn c = λ row marks stands.
     on_err c.from_residual.result _ _ c.from_residual.ensures.0
-    (λ _. takes_in row marks _ (hear_adds c.args.seat.members c.args.packet.now.number c.args.packet.now.from c.args.packet.now.ballot c.args.tape marks (ap (λ n. was_released n marks) c.requires.number ∙ stands.unreleased)))
+    (λ _. accepted_stirs c.args.seat.members marks row c.args.packet.now c.args.tape (ap (λ n. was_released n marks) c.requires.number ∙ stands.unreleased))

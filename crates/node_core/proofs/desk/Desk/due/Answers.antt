@@ -8,7 +8,7 @@ use Rattle.proposer.specs.Answers.{IsDueAnswer}
 use Rattle.proposer.specs.declared.answer.DueAnswer.TheVariants as answers
 use Rattle.node_core.specs.Turns.{note_value}
 use Rattle.node_core.proofs.Phases.{on_ok_or, on_err, stays_so, not_due, gives_up, renews, renews_above, due_so, one_more, still, proposal_stands}
-use Rattle.node_core.proofs.Stirring.{takes_in, due_adds}
+use Rattle.node_core.proofs.Stirring.{due_stirs}
 use Rattle.node_core.proofs.desk.Desk.due.Goals as goal
 
 pub returns-in_err-report-in-Some-clause-turn : goal.returns-in_err-report-in-Some-clause-turn
@@ -17,9 +17,8 @@ returns-in_err-report-in-Some-clause-turn c = λ marks stands.
     let of = rw c.in-Some.is at c.requires.proposal in
     on_err c.from_residual.result _ _ c.from_residual.ensures.0
     (λ _.
-    takes_in c.args.row.now marks _
-    (due_adds c.args.seat.circuit c.args.seat.members c.args.seat.me c.args.self.now.number c.args.now marks c.args.row.now
-    (due_so c.args.self.now c.in-Some.proposal c.args.seat.me c.args.now c.due_moment-moment.result marks p of.0 (c.due_moment-moment.ensures.moment c.args.self.now.number marks p.opening p p.is_open) c.if-now-moment.false)))
+    due_stirs c.args.seat.circuit c.args.seat.members c.args.seat.me c.args.self.now.number c.args.now marks c.args.row.now
+    (due_so c.args.self.now c.in-Some.proposal c.args.seat.me c.args.now c.due_moment-moment.result marks p of.0 (c.due_moment-moment.ensures.moment c.args.self.now.number marks p.opening p p.is_open) c.if-now-moment.false))
 
 pub returns-in-Wait-clause-turn : goal.returns-in-Wait-clause-turn
 returns-in-Wait-clause-turn c = λ marks stands.
@@ -59,6 +58,5 @@ returns-in-Began-clause-turn c = λ marks stands.
     (h marks p.opening.own (renews_above c.args.seat.circuit c.args.seat.members c.args.seat.me n c.args.now marks c.args.row.now b answer.1)
     (one_more c.other_marks_pass.ensures c.args.self.now c.due.new.self (Began n b p.opening.own c.args.row.now.vote c.args.now) marks refl refl stands begun)))
     (λ _.
-    takes_in c.args.row.now marks _
-    (due_adds c.args.seat.circuit c.args.seat.members c.args.seat.me n c.args.now marks c.args.row.now
-    (due_so c.args.self.now c.in-Some.proposal c.args.seat.me c.args.now c.due_moment-moment.result marks p of.0 (c.due_moment-moment.ensures.moment n marks p.opening p p.is_open) c.if-now-moment.false)))
+    due_stirs c.args.seat.circuit c.args.seat.members c.args.seat.me n c.args.now marks c.args.row.now
+    (due_so c.args.self.now c.in-Some.proposal c.args.seat.me c.args.now c.due_moment-moment.result marks p of.0 (c.due_moment-moment.ensures.moment n marks p.opening p p.is_open) c.if-now-moment.false))

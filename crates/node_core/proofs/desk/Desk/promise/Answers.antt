@@ -8,7 +8,7 @@ use Rattle.proposer.specs.declared.answer.Counted.TheVariants as kinds
 use Rattle.node_core.specs.declared.desk.Desk.{Desk}
 use Rattle.node_core.specs.Standing.{DeskStands}
 use Rattle.node_core.proofs.Phases.{on_ok_or, on_err, stays_so, not_gathering, none_gathers, overtaken, repeated, counts_as, completes_as, counted_as, promised_not_above, told, one_more, still, promised_told, proposal_stands, none_stands}
-use Rattle.node_core.proofs.Stirring.{takes_in, promise_adds, is_new_told}
+use Rattle.node_core.proofs.Stirring.{promise_stirs, is_new_told}
 use Rattle.node_core.proofs.desk.Desk.promise.Goals as goal
 
 pub returns-in-None-clause-turn : goal.returns-in-None-clause-turn
@@ -83,7 +83,7 @@ returns-in-Quorum-clause-turn c = λ marks stands.
     completes_as c.args.seat.circuit c.args.seat.members c.args.seat.me c.args.now marks c.args.row.now c.args.packet.now c.args.report promised x c.propose.new.self kind
     (told c.args.seat c.args.now c.args.row.now x c.propose.new.self desk c.ballot-ballot.result c.args.packet.now.number c.args.packet.now.ballot (Promised c.args.packet.now.number c.args.packet.now.from c.args.packet.now.ballot c.args.report ∷ marks) (sym c.requires.number) c.ballot-ballot.ensures
     (h (Promised c.args.packet.now.number c.args.packet.now.from c.args.packet.now.ballot c.args.report ∷ marks)) (promised_not_above c.args.row.now.promised c.args.packet.now.ballot promised) left))
-    (λ _. takes_in c.args.row.now marks _ (promise_adds c.args.seat.circuit c.args.seat.members c.args.seat.me c.args.now marks c.args.row.now c.args.packet.now c.args.report promised kind.0))
+    (λ _. promise_stirs c.args.seat.circuit c.args.seat.members c.args.seat.me c.args.now marks c.args.row.now c.args.packet.now c.args.report promised kind.0)
 
 pub returns-in_err-promise-in-Some-clause-turn : goal.returns-in_err-promise-in-Some-clause-turn
 returns-in_err-promise-in-Some-clause-turn c = λ marks stands.
@@ -92,7 +92,6 @@ returns-in_err-promise-in-Some-clause-turn c = λ marks stands.
     let promised : c.args.row.now.promised ≡ Some c.args.packet.now.ballot = c.if-not-is_promised.ensures.0 refl ∙ ap Some c.ballot-ballot.ensures in
     on_err c.from_residual.result _ _ c.from_residual.ensures.0
     (λ _.
-    takes_in c.args.row.now marks _
-    (promise_adds c.args.seat.circuit c.args.seat.members c.args.seat.me c.args.now marks c.args.row.now c.args.packet.now c.args.report promised
+    promise_stirs c.args.seat.circuit c.args.seat.members c.args.seat.me c.args.now marks c.args.row.now c.args.packet.now c.args.report promised
     (is_new_told c.args.seat.me c.args.self.now.number c.args.packet.now.number c.ballot-ballot.result c.args.packet.now.ballot c.from.result c.args.packet.now.from marks (sym c.requires.number) c.ballot-ballot.ensures c.from.ensures
-    (subst (λ m. IsNew m c.args.self.now.number c.ballot-ballot.result c.from.result marks) of.0 (c.in_err-promise-in-Some.ensures.err_where_new c.args.self.now.number marks p)))))
+    (subst (λ m. IsNew m c.args.self.now.number c.ballot-ballot.result c.from.result marks) of.0 (c.in_err-promise-in-Some.ensures.err_where_new c.args.self.now.number marks p))))

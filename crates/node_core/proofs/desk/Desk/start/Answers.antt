@@ -4,7 +4,7 @@ use Rattle.std.specs.Prelude.{not}
 use Rattle.protocol.specs.Ballots.{next}
 use Rattle.node_core.proofs.Calling.{next_told, some_so}
 use Rattle.node_core.proofs.Phases.{on_err, closed_so}
-use Rattle.node_core.proofs.Stirring.{takes_in, begin_adds}
+use Rattle.node_core.proofs.Stirring.{begin_stirs}
 use Rattle.node_core.proofs.desk.Desk.start.Goals as goal
 
 pub returns-in_err-begin-clause-turn : goal.returns-in_err-begin-clause-turn
@@ -15,5 +15,5 @@ returns-in_err-begin-clause-turn c = λ marks stands.
       free = record { unreleased = stands.unreleased; closed = closed_so c.args.self.now.number marks c.is_some.result c.open_ballot.result c.is_some.ensures (c.open_ballot.ensures marks stands) c.if-is_some.false };
       ballot = b.0;
       is_next = b.1;
-      holds = takes_in c.args.row.now marks _ (begin_adds c.args.seat.circuit c.args.seat.members c.args.seat.me c.args.self.now.number b.0 c.args.own c.args.now marks c.args.row.now);
+      holds = begin_stirs c.args.seat.circuit c.args.seat.members c.args.seat.me c.args.self.now.number b.0 c.args.own c.args.now marks c.args.row.now;
     })

@@ -9,16 +9,16 @@ use Rattle.node_core.specs.declared.event.Event.{Event}
 use Rattle.node_core.specs.declared.turn.Turn.{Turn}
 use Rattle.node_core.specs.declared.turn.CoreRefusal.{CoreRefusal}
 use Rattle.node_core.specs.declared.turn.CoreRefusal.TheVariants as refusals
-use Rattle.node_core.specs.Calls.{TurnIs, IsStill}
+use Rattle.node_core.specs.Calls.{TurnIs}
 use Rattle.node_core.specs.Seats.{Seat}
 use Rattle.node_core.specs.Standing.{Answers}
-use Rattle.node_core.specs.Turns.{event_value}
+use Rattle.node_core.specs.Turns.{event_value, Stirs}
 use Rattle.node_core.proofs.Calling.{offered, sought, came_due, packet_came}
 use Rattle.node_core.proofs.Phases.{on_match, on_err}
 use Rattle.node_core.proofs.desk.Desk.take.Goals as goal
 
 abbrev Taken : Seat → Event → List Mark → Row → Desk → Result Turn CoreRefusal → Type 0
-Taken s event marks row d r = MatchResult r (λ x. TurnIs s event marks row (λ t. Answers row t x d)) (λ e. e ≡ refusals.OutOfMemory → TurnIs s event marks row (λ t. IsStill row marks t → ⊥))
+Taken s event marks row d r = MatchResult r (λ x. TurnIs s event marks row (λ t. Answers row t x d)) (λ e. e ≡ refusals.OutOfMemory → TurnIs s event marks row Stirs)
 
 its_number : (event other : Event) (n : ℕ) → event ≡ other → number_of (event_value event) ≡ n → number_of (event_value other) ≡ n
 its_number event other n is number = sym (ap (λ (e : Event). number_of (event_value e)) is) ∙ number
@@ -50,13 +50,13 @@ returns-in_err-due-in-Due-clause-turn c = λ marks stands.
     let same = its_number c.args.event _ c.args.self.now.number c.in-Due.is c.requires.number in
     on_err c.from_residual.result _ _ c.from_residual.ensures.0
     (λ _ _.
-    subst (λ (y : Event). TurnIs c.args.seat y marks c.args.row.now (λ t. IsStill c.args.row.now marks t → ⊥)) (sym c.in-Due.is)
-    (came_due c.args.seat c.args.self.now.number c.in-Due.number c.in-Due.now marks c.args.row.now (λ t. IsStill c.args.row.now marks t → ⊥) same
+    subst (λ (y : Event). TurnIs c.args.seat y marks c.args.row.now Stirs) (sym c.in-Due.is)
+    (came_due c.args.seat c.args.self.now.number c.in-Due.number c.in-Due.now marks c.args.row.now Stirs same
     (c.in_err-due-in-Due.ensures.turn marks stands)))
 
 pub returns-in_err-receive-in-Arrived-clause-turn : goal.returns-in_err-receive-in-Arrived-clause-turn
 returns-in_err-receive-in-Arrived-clause-turn c = λ marks stands.
     on_err c.from_residual-in_err-receive-in-Arrived.result _ _ c.from_residual-in_err-receive-in-Arrived.ensures.0
     (λ _ _.
-    subst (λ (y : Event). TurnIs c.args.seat y marks c.args.row.now (λ t. IsStill c.args.row.now marks t → ⊥)) (sym c.in-Arrived.is)
-    (packet_came c.args.seat c.in-Arrived.packet c.in-Arrived.now marks c.args.row.now (λ t. IsStill c.args.row.now marks t → ⊥) (c.in_err-receive-in-Arrived.ensures.turn marks stands)))
+    subst (λ (y : Event). TurnIs c.args.seat y marks c.args.row.now Stirs) (sym c.in-Arrived.is)
+    (packet_came c.args.seat c.in-Arrived.packet c.in-Arrived.now marks c.args.row.now Stirs (c.in_err-receive-in-Arrived.ensures.turn marks stands)))

@@ -4,10 +4,10 @@ use Rattle.std.specs.Ordering.{nat_cmp}
 use Rattle.std.specs.BTreeMap.{get}
 use Rattle.protocol.specs.Proposals.{was_released}
 use Rattle.node_core.specs.declared.desk.Desk.{Desk}
-use Rattle.node_core.specs.Calls.{TurnIs, IsRefused, IsStill}
+use Rattle.node_core.specs.Calls.{TurnIs, IsRefused}
 use Rattle.node_core.specs.Seats.{Seat}
 use Rattle.node_core.specs.Standing.{Core, StandsFor, DeskStands, Grows, Kept, Settles, seat_of}
-use Rattle.node_core.specs.Turns.{event_value}
+use Rattle.node_core.specs.Turns.{event_value, Stirs}
 use Rattle.node_core.proofs.Calling.{turn_so, refused_told}
 use Rattle.node_core.proofs.Growing.{grows}
 use Rattle.node_core.proofs.Keeping.{stands_there, Written, written, unwritten, in_place, settles}
@@ -25,14 +25,14 @@ returns-in-Some-clause-turn c = λ marks h.
     (in_place c.self.inside.seat.circuit c.self.inside.seat.me c.self.inside.seat.members c.self.inside.failed c.self.inside.released.keys c.self.inside.desks m c.args.number c.take.new.self there number) in
     on_match c.take.result _ _ _ _ (c.take.ensures.turn marks s.1)
     (λ x t.
-    subst (λ (z : Seat). TurnIs z c.args.event marks c.args.row.now (λ u. Settles c.args.number c.args.row.now marks u x after)) (ap seat_of c.self.view_is)
+    subst (λ (z : Seat). TurnIs z c.args.event marks c.args.row.now (λ u. Settles c.args.number c.args.row.now u x after)) (ap seat_of c.self.view_is)
     (turn_so c.self.inside.seat c.args.event marks c.args.row.now _ _ t
     (λ u is a.
     settles c.other_marks_pass.ensures c.other_marks_pass-2.ensures c.args.self.now after c.args.number c.take.new.self kept number c.args.row.now marks u x h
     (ap (λ n. was_released n marks) (sym s.0) ∙ s.1.unreleased)
     (subst (λ n. Grows n marks u.marks) c.requires.number (grows c.self.inside.seat.circuit c.self.inside.seat.members c.self.inside.seat.me marks c.args.row.now (event_value c.args.event) u is))
     (c.take.ensures.of.heard ∙ ap (λ (v : Core). v.members) c.self.view_is) a)))
-    (λ e t is. subst (λ (z : Seat). TurnIs z c.args.event marks c.args.row.now (λ u. IsStill c.args.row.now marks u → ⊥)) (ap seat_of c.self.view_is) (t is))
+    (λ e t is. subst (λ (z : Seat). TurnIs z c.args.event marks c.args.row.now Stirs) (ap seat_of c.self.view_is) (t is))
 
 pub returns-in-Some-clause-refused : goal.returns-in-Some-clause-refused
 returns-in-Some-clause-refused c =

@@ -1,17 +1,18 @@
 -- A released number's turn takes nothing in; of another what is then in hand is kept.
-use Rattle.std.proofs.Common.{◌≡◌, refl, sym, ap, subst, ◌∙◌, List, true, false}
+use Rattle.std.proofs.Common.{◌≡◌, refl, sym, ap, subst, ◌∙◌, List, None, true, false}
 use Rattle.std.proofs.lemmas.Result.{err_from_is_err_and}
 use Rattle.protocol.specs.Marks.{Mark}
-use Rattle.protocol.specs.Proposals.{was_released}
+use Rattle.protocol.specs.Proposals.{was_released, open_proposal}
 use Rattle.protocol.specs.Turn.{number_of}
 use Rattle.node_core.specs.declared.desk.Desk.{Desk}
-use Rattle.node_core.specs.Calls.{TurnIs, IsRefused, IsStill}
+use Rattle.node_core.specs.Calls.{TurnIs, IsRefused}
 use Rattle.node_core.specs.Seats.{Seat}
 use Rattle.node_core.specs.Standing.{Core, StandsFor, DeskStands, Grows, Settles, seat_of}
-use Rattle.node_core.specs.Turns.{event_value}
+use Rattle.node_core.specs.Turns.{event_value, Stirs}
 use Rattle.node_core.proofs.Calling.{turn_so, refused_told}
 use Rattle.node_core.proofs.Growing.{grows}
-use Rattle.node_core.proofs.Keeping.{new_stands, new_stirs, settles, settles_alone}
+use Rattle.node_core.proofs.Keeping.{new_stands, new_stirs, fresh_closed, settles, settles_alone}
+use Rattle.node_core.proofs.Stirring.{quiet_keeps}
 use Rattle.node_core.proofs.Phases.{on_match, on_err, if_err}
 use Rattle.node_core.proofs.node.NodeCore.act_anew.Goals as goal
 
@@ -20,9 +21,9 @@ returns-then-released-clause-turn c = λ marks h.
     let released : was_released (number_of (event_value c.args.event)) marks ≡ true = ap (λ n. was_released n marks) c.requires.number ∙ sym (c.if-released.ensures.value marks h) in
     on_match c.take.result _ _ _ _ (c.take.ensures.turn marks released)
     (λ x t.
-    subst (λ (s : Seat). TurnIs s c.args.event marks c.args.row.now (λ u. Settles c.args.number c.args.row.now marks u x c.args.self.now)) (ap seat_of c.self.view_is)
+    subst (λ (s : Seat). TurnIs s c.args.event marks c.args.row.now (λ u. Settles c.args.number c.args.row.now u x c.args.self.now)) (ap seat_of c.self.view_is)
     (turn_so c.self.inside.seat c.args.event marks c.args.row.now _ _ t (λ u is a. settles_alone c.args.self.now c.args.number c.args.row.now marks u x h a)))
-    (λ e t is. subst (λ (s : Seat). TurnIs s c.args.event marks c.args.row.now (λ u. IsStill c.args.row.now marks u → ⊥)) (ap seat_of c.self.view_is) (t is))
+    (λ e t is. subst (λ (s : Seat). TurnIs s c.args.event marks c.args.row.now Stirs) (ap seat_of c.self.view_is) (t is))
 
 pub returns-then-released-clause-refused : goal.returns-then-released-clause-refused
 returns-then-released-clause-refused c =
@@ -36,7 +37,7 @@ pub returns-in_err-turn-clause-turn : goal.returns-in_err-turn-clause-turn
 returns-in_err-turn-clause-turn c = λ marks h.
     let stands = new_stands c.args.self.now c.self.inside.seat.members c.args.number c.new-desk.result marks c.requires.nothing (ap (λ (v : Core). v.members) c.self.view_is) c.new-desk.ensures.desk h (sym (c.if-released.ensures.value marks h)) in
     let p = err_from_is_err_and c.from_residual.result c.from_residual.ensures.1 in
-    rw (p.1, p.2) (λ is. subst (λ (s : Seat). TurnIs s c.args.event marks c.args.row.now (λ u. IsStill c.args.row.now marks u → ⊥)) (ap seat_of c.self.view_is) (c.in_err-turn.ensures.turn marks stands is))
+    rw (p.1, p.2) (λ is. subst (λ (s : Seat). TurnIs s c.args.event marks c.args.row.now Stirs) (ap seat_of c.self.view_is) (c.in_err-turn.ensures.turn marks stands is))
 
 pub returns-in_err-turn-clause-refused : goal.returns-in_err-turn-clause-refused
 returns-in_err-turn-clause-refused c =
@@ -51,17 +52,19 @@ returns-in_err-keep-clause-turn c = λ marks h.
     let stands = new_stands c.args.self.now c.self.inside.seat.members c.args.number c.new-desk.result marks c.requires.nothing (ap (λ (v : Core). v.members) c.self.view_is) c.new-desk.ensures.desk h (sym (c.if-released.ensures.value marks h)) in
     on_err c.from_residual-in_err-keep.result _ _ c.from_residual-in_err-keep.ensures.0
     (λ _ _.
-    subst (λ (s : Seat). TurnIs s c.args.event marks c.args.row.now (λ u. IsStill c.args.row.now marks u → ⊥)) (ap seat_of c.self.view_is)
+    subst (λ (s : Seat). TurnIs s c.args.event marks c.args.row.now Stirs) (ap seat_of c.self.view_is)
     (turn_so c.self.inside.seat c.args.event marks c.args.row.now _ _ (c.in_ok-turn.ensures.turn marks stands)
-    (λ t is a still.
+    (λ t is a.
     new_stirs c.self.inside.seat.members c.args.number c.new-desk.result c.take-2.new.self c.args.row.now marks t c.in_ok-turn.turn c.new-desk.ensures.desk stands
-    (c.take-2.ensures.number ∙ ap (λ (d : Desk). d.number) c.new-desk.ensures.desk) c.take-2.ensures.of.heard c.in_err-keep.ensures.memory a still.takes_in)))
+    (c.take-2.ensures.number ∙ ap (λ (d : Desk). d.number) c.new-desk.ensures.desk) c.take-2.ensures.of.heard c.in_err-keep.ensures.memory
+    (quiet_keeps c.self.inside.seat.circuit c.self.inside.seat.members c.self.inside.seat.me marks c.args.row.now (event_value c.args.event) t is
+    (subst (λ n. open_proposal n marks ≡ None) (sym c.requires.number) (fresh_closed c.self.inside.seat.members c.args.number c.new-desk.result marks c.new-desk.ensures.desk stands))) a)))
 
 pub returns-clause-turn : goal.returns-clause-turn
 returns-clause-turn c = λ marks h.
     let unreleased : was_released c.args.number marks ≡ false = sym (c.if-released.ensures.value marks h) in
     let stands = new_stands c.args.self.now c.self.inside.seat.members c.args.number c.new-desk.result marks c.requires.nothing (ap (λ (v : Core). v.members) c.self.view_is) c.new-desk.ensures.desk h unreleased in
-    subst (λ (s : Seat). TurnIs s c.args.event marks c.args.row.now (λ u. Settles c.args.number c.args.row.now marks u c.in_ok-turn.turn c.keep.new.self)) (ap seat_of c.self.view_is)
+    subst (λ (s : Seat). TurnIs s c.args.event marks c.args.row.now (λ u. Settles c.args.number c.args.row.now u c.in_ok-turn.turn c.keep.new.self)) (ap seat_of c.self.view_is)
     (turn_so c.self.inside.seat c.args.event marks c.args.row.now _ _ (c.in_ok-turn.ensures.turn marks stands)
     (λ t is a.
     settles c.other_marks_pass.ensures c.other_marks_pass-2.ensures c.args.self.now c.keep.new.self c.args.number c.take-2.new.self c.in_ok-keep.ensures.kept

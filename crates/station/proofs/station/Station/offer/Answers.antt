@@ -3,7 +3,7 @@ use Rattle.std.proofs.Common.{◌∙◌}
 use Rattle.protocol.specs.Turn.{Offered}
 use Rattle.protocol.specs.Refusals.{Offering}
 use Rattle.station.specs.Stations.{sight}
-use Rattle.station.proofs.Asking.{stepped, offered, offered_early, free_at, torn_early, refused_early, refused_faulty, refused_number, handed_on}
+use Rattle.station.proofs.Asking.{stepped, offered, offered_early, free_at, offer_stirs, torn_early, refused_early, refused_faulty, refused_number, handed_on}
 use Rattle.station.proofs.station.Station.offer.Goals as goal
 
 pub returns-in_err-number-clause-steps : goal.returns-in_err-number-clause-steps
@@ -23,7 +23,7 @@ returns-in-Err-clause-steps g c = λ kept marks stands.
     let x = sight g.R.Rows in
     let h = c.in_ok-number.ensures.checks marks stands in
     torn_early x (Offering c.args.number c.args.tape.now c.args.now) (Offered c.args.number c.args.tape.now c.args.now) c.args.self.now c.stop.new.self marks c.stop.result c.stop.ensures.same
-    (offered_early c.args.self.now marks c.args.number c.args.tape.now c.args.now c.if-self.false c.fits_version_one.ensures h) c.stop.ensures.fixed c.stop.ensures.stopped c.stop.ensures.stands
+    (offered_early c.args.self.now marks c.args.number c.args.tape.now c.args.now c.if-self.false c.fits_version_one.ensures h) (offer_stirs x c.args.self.now marks c.args.number c.args.tape.now c.args.now) c.stop.ensures.fixed c.stop.ensures.stopped c.stop.ensures.stands
 
 pub returns-in-Ok-clause-steps : goal.returns-in-Ok-clause-steps
 returns-in-Ok-clause-steps g c = λ kept marks stands.
@@ -39,4 +39,4 @@ returns-in-Err-copy-clause-steps g c = λ kept marks stands.
     let x = sight g.R.Rows in
     let h = c.in_ok-number.ensures.checks marks stands in
     torn_early x (Offering c.args.number c.args.tape.now c.args.now) (Offered c.args.number c.args.tape.now c.args.now) c.args.self.now c.stop-in-Err-copy.new.self marks c.stop-in-Err-copy.result c.stop-in-Err-copy.ensures.same
-    (offered_early c.args.self.now marks c.args.number c.args.tape.now c.args.now c.if-self.false c.fits_version_one.ensures h) c.stop-in-Err-copy.ensures.fixed c.stop-in-Err-copy.ensures.stopped c.stop-in-Err-copy.ensures.stands
+    (offered_early c.args.self.now marks c.args.number c.args.tape.now c.args.now c.if-self.false c.fits_version_one.ensures h) (offer_stirs x c.args.self.now marks c.args.number c.args.tape.now c.args.now) c.stop-in-Err-copy.ensures.fixed c.stop-in-Err-copy.ensures.stopped c.stop-in-Err-copy.ensures.stands
