@@ -9,7 +9,7 @@ use Rattle.protocol.specs.Marks.{Mark}
 use Rattle.protocol.specs.Turn as said
 use Rattle.saved_rows.specs.Saved.{Saved, SameRows, WithRow, with_row}
 use Rattle.saved_rows.specs.declared.fault.RowsFault.{RowsFault}
-use Rattle.node_core.specs.Standing.{Core, StandsFor}
+use Rattle.node_core.specs.Standing.{Core, StandsFor, IsSameSeat}
 use Rattle.node_core.specs.Turns.{event_value, note_value, is_quiet, Stirs, HandsNothing, IsTurn, IsRowAfter}
 use Rattle.node_core.specs.declared.event.Event.{Event}
 use Rattle.node_core.specs.declared.turn.Turn.{Turn}
@@ -44,6 +44,20 @@ pub refused_stirs :
 refused_stirs x event s marks row n number is h t e =
     let here = subst (λ (r : Row). said.turn s.core.circuit s.core.members s.core.me marks r (event_value event) ≡ Some h.turn) (is ∙ ap (x.saved s.rows) (sym number)) h.is_the_turn in
     subst Stirs (some_is (sym here ∙ e)) h.holds
+
+-- a station whose core wanted memory
+pub wanted :
+    {R : Type 0} (x : Sight R) (event : Event) (old after : Station R) (marks : List Mark) (mid : R) (core : Core) (row : Row) (n : ℕ) (q : StepRefusal)
+    → q ≡ OutOfMemory → IsSameSeat old.core core → IsFixed (record old { rows = mid; core = core }) after → after ≡ record old { rows = mid; core = after.core; stopped = true } → StandsFor after.core []
+    → WasRead x old.rows mid → said.number_of (event_value event) ≡ n → row ≡ x.saved old.rows n → MayTakeMemory old.core event marks row → Ends x (event_value event) old after marks (Err q)
+wanted {R = R} x event old after marks mid core row n q same seat f is none read number its_row h =
+    subst (λ (t : StepRefusal). Ends x (event_value event) old after marks (Err t)) (sym same) (record {
+      fixed = record { circuit = f.circuit ∙ seat.circuit; members = f.members ∙ seat.members; me = f.me ∙ seat.me; table = f.table; widths = f.widths };
+      stops = ap (λ (t : Station R). t.stopped) is;
+      stands_for = none;
+      rows = inr (subst (λ (r : R). WasRead x old.rows r) (sym (ap (λ (t : Station R). t.rows) is)) read);
+      stirs = refused_stirs x event old marks row n number its_row h;
+    })
 
 -- what is known of a station whose core took a turn of the row that was read
 pub record Taking {R : Type 0} (x : Sight R) (e : said.Event) (old : Station R) (marks : List Mark) (mid : R) (core : Core) (move : Turn) (row : Row) (n : ℕ) : Type 0 where

@@ -2,7 +2,7 @@
 use Rattle.std.proofs.Common.{rules, refl}
 use Rattle.node_core.specs.Turns.{event_value}
 use Rattle.station.specs.Stations.{sight}
-use Rattle.station.proofs.Taking.{Taking, done, ended}
+use Rattle.station.proofs.Taking.{Taking, done, ended, wanted}
 use Rattle.station.proofs.station.Station.take.Goals as goal
 
 pub returns-in-Ok-save-clause-takes : goal.returns-in-Ok-save-clause-takes
@@ -49,3 +49,11 @@ returns-in-Ok-handle-clause-takes g c = λ kept marks stands free.
     ended x (event_value c.args.event) c.args.self.now marks c.get.new.self c.save.new.rows c.handle.new.self c.in-Ok-handle.turn c.in-Ok.row c.args.number k
     (record c.args.self.now { core = c.handle.new.self; rows = c.save.new.rows }) c.stop-in-Err-save.new.self c.in-Err-save.refusal c.stop-in-Err-save.result refl
     c.stop-in-Err-save.ensures.fixed c.stop-in-Err-save.ensures.stopped c.stop-in-Err-save.ensures.same c.stop-in-Err-save.ensures.stands (c.in-Err-save.ensures.saves here)
+
+pub returns-clause-takes : goal.returns-clause-takes
+returns-clause-takes g c = λ kept marks stands free.
+    let x = sight g.R.Rows in
+    let here : g.R.Rows.kept c.get.new.self = rw c.stop-in-Err-OutOfMemory.ensures.stopped at kept in
+    wanted x c.args.event c.args.self.now c.stop-in-Err-OutOfMemory.new.self marks c.get.new.self c.handle.new.self c.in-Ok.row c.args.number c.stop-in-Err-OutOfMemory.result
+    c.stop-in-Err-OutOfMemory.ensures.same c.handle.ensures.seat c.stop-in-Err-OutOfMemory.ensures.fixed c.stop-in-Err-OutOfMemory.ensures.stopped c.stop-in-Err-OutOfMemory.ensures.stands
+    (search rules) c.requires.number (search rules) (c.in-Err-OutOfMemory.ensures.memory c.in-Err-OutOfMemory.field-0-is marks stands)
