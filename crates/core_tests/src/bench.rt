@@ -77,7 +77,7 @@ pub fn answer(alloc: Global, bench: &mut Bench, step: &Step) -> Option<Result<bo
     match turn_of(alloc, bench, step)? {
         Err(refusal) => Some(Err(refusal)),
         Ok(turn) => {
-            let is_so = is_turn_of(alloc, &turn, bench.core.me(), step);
+            let is_so = is_turn_of(alloc, &turn, &bench.row, bench.core.me(), step);
             save(&mut bench.row, turn.row);
             Some(Ok(is_so))
         }

@@ -3,8 +3,8 @@
 use crate::events::packet_of;
 use crate::steps::{At, Did, Frames, NONE, Says, Step, Voted};
 use ballots::{Ballot, Member, Number, Row, Vote};
-use node_core::{Note, Turn};
-use packets::{Packet, PacketRef, encode};
+use node_core::{Note, Outgoing, Turn};
+use packets::{PacketRef, encode};
 use std::alloc::Global;
 use tape_frames::Tape;
 
@@ -62,21 +62,27 @@ fn going(from: Member, step: &Step, to: u8, says: Says) -> Option<PacketRef<'sta
 }
 
 /// Whether this packet is the one that has to go out.
-fn goes(alloc: Global, packet: &Packet, from: Member, step: &Step, to: u8, says: Says) -> bool {
-    match going(from, step, to, says) {
-        Some(other) => are_one(alloc, &packet.lend(), &other),
-        None => false,
+fn goes(
+    alloc: Global,
+    packet: Option<PacketRef<'_>>,
+    from: Member,
+    step: &Step,
+    (to, says): (u8, Says),
+) -> bool {
+    match (packet, going(from, step, to, says)) {
+        (Some(packet), Some(other)) => are_one(alloc, &packet, &other),
+        _ => false,
     }
 }
 
 /// Whether the packets of the step go out from this member.
-fn go_out(alloc: Global, out: &[Packet], from: Member, step: &Step) -> bool {
-    for (packet, (to, says)) in out.iter().zip(step.out) {
-        if !goes(alloc, packet, from, step, *to, *says) {
+fn go_out(alloc: Global, out: &Outgoing<'_>, from: Member, step: &Step) -> bool {
+    for (place, going) in step.out.iter().enumerate() {
+        if !goes(alloc, out.get(place), from, step, *going) {
             return false;
         }
     }
-    out.len() == step.out.len()
+    out.len() == step.out.len() && out.get(out.len()).is_none()
 }
 
 /// Whether this is the vote, or there is none.
@@ -110,10 +116,10 @@ fn is_released(release: &Option<Tape>, releases: Option<Frames>) -> bool {
     }
 }
 
-/// Whether the turn of this member is that of the step.
-pub fn is_turn_of(alloc: Global, turn: &Turn, me: Member, step: &Step) -> bool {
+/// Whether the turn of this member, at the row before it, is that of the step.
+pub fn is_turn_of(alloc: Global, turn: &Turn, before: &Row, me: Member, step: &Step) -> bool {
     is_noted(turn.note, step.did)
-        && go_out(alloc, turn.out.as_slice(), me, step)
+        && go_out(alloc, &turn.out(before), me, step)
         && is_saved(&turn.row, step.saves)
         && is_released(&turn.release, step.releases)
 }

@@ -1,9 +1,9 @@
 -- The acceptor's lines of the turn, from what it replies.
 use Rattle.std.proofs.Common.{◌≡◌, ℕ, refl, sym, ap, ◌∙◌, List, [], ◌∷◌, Option, Some, None, Bool, true, false, arith}
-use Rattle.std.specs.Prelude.{IsSome, is_some}
+use Rattle.std.specs.Prelude.{IsSome, is_some, unwrap_or}
 use Rattle.std.proofs.lemmas.Bool.Decides.{nat_tests}
 use Rattle.protocol.specs.Ballots.{Ballot, is_same, is_below}
-use Rattle.protocol.specs.Rows.{Tape, Vote, Row, raised, voted}
+use Rattle.protocol.specs.Rows.{Tape, Vote, Row, vote_for, raised, voted}
 use Rattle.protocol.specs.Packets.{Packet, Promise, Accepted, Nack}
 use Rattle.protocol.specs.Marks.{Mark}
 use Rattle.protocol.specs.Acceptor.{Reply, Prepares, Accepts, Promises, Nacks, Votes, Votes_again, Says_nothing, reply_of, next_row, is_above, vote_is_at}
@@ -12,12 +12,16 @@ use Rattle.protocol.specs.Turn.{answer, prepare_turn, accept_turn, vote_turn, ta
 use Rattle.protocol.specs.Proposals.{was_released}
 use Rattle.node_core.specs.declared.desk.Desk.{Desk}
 use Rattle.node_core.specs.declared.turn.Turn.{Turn}
+use Rattle.node_core.specs.declared.mail.Letter.TheVariants as letters
 use Rattle.node_core.specs.declared.turn.Note.{Note}
 use Rattle.node_core.specs.declared.turn.Note.TheVariants as notes
 use Rattle.node_core.specs.Handling.{IsTurnAlone, IsVote, IsVoting}
 use Rattle.node_core.specs.Seats.{Seat}
 use Rattle.node_core.specs.Standing.{Answers, IsLeft}
-use Rattle.node_core.specs.Turns.{IsSending, IsOrderly, Stirs, is_quiet, note_value}
+use Rattle.node_core.specs.Turns.{IsSending, IsOrderly, IsRowAfter, Stirs, is_quiet, note_value, sent}
+use Rattle.node_core.specs.Mails.{vote_below}
+use Rattle.node_core.proofs.Sending.{row_is, whole_report}
+use Rattle.acceptor.specs.Said.{may_report}
 use Rattle.node_core.proofs.Phases.{is_same-self}
 
 -- a promise: the row's own is none or below
@@ -43,6 +47,15 @@ promising k m marks row p r e = go row.promised refl
     go : (q : Option Ballot) → row.promised ≡ q → Promising k m marks row p r
     go None h = let f : Promises row.vote ≡ Promises r = rw h at e in record { line = rw h refl; above = rw h refl; report = cc }
     go (Some a) h = below a h (is_below p.ballot a) refl (is_same a p.ballot) refl
+
+-- what a promise sends
+pub promise_sent :
+    (s : Seat) (row : Row) (p : Packet) (x : Turn) (to : ℕ) (after : Option Row) → x.row ≡ after → x.mail ≡ Some (record { seat = s; number = p.number; ballot = p.ballot; letter = letters.Promise to })
+    → to ≡ p.from → IsRowAfter row (raised row p.ballot) after → may_report row.vote p.ballot ≡ true → sent row x ≡ packet_to s.circuit s.me p.number p.ballot (Promise row.vote) p.from ∷ []
+promise_sent s row p x to after saves sends is h may =
+    let same : unwrap_or after row ≡ raised row p.ballot = row_is row (raised row p.ballot) after h in
+    let whole : vote_below p.ballot row.vote ≡ row.vote = whole_report row.vote p.ballot may in
+    rw (sends, saves, is, same, whole) refl
 
 module _ (k c m : ℕ) (marks : List Mark) (row : Row) (p : Packet) (t : Tape) where
   -- a Nack
@@ -92,6 +105,7 @@ module _ (k c m : ℕ) (marks : List Mark) (row : Row) (p : Packet) (t : Tape) w
     pub line : accept_turn k c m marks row p t row.promised ≡ vote_turn k c m marks after p t (said.Note_voted p.ballot)
     pub changes : ¬ (after ≡ row)
     pub promised : IsSome after.promised
+    pub votes : after.vote ≡ Some (vote_for p.ballot t)
 
   pub voting : (after : Row) → reply_of row (Accepts p.ballot t) ≡ Votes → after ≡ next_row row (Accepts p.ballot t) → Voting after
   voting after e is = go (vote_is_at row.vote p.ballot) refl
@@ -114,6 +128,7 @@ module _ (k c m : ℕ) (marks : List Mark) (row : Row) (p : Packet) (t : Tape) w
                 let f : vote_is_at row.vote p.ballot ≡ true = ap (λ (r : Row). vote_is_at r.vote p.ballot) (sym same ∙ after_is) ∙ is_same-self p.ballot in
                 let g : true ≡ false = sym f ∙ u in cc;
             promised = ap (λ (r : Row). is_some r.promised) after_is;
+            votes = ap (λ (r : Row). r.vote) after_is;
           }
 
 -- a Prepare adds no mark, and releases nothing
@@ -128,50 +143,50 @@ prepare_adds_none k m marks row p (Some a) = go (is_below a p.ballot) refl (is_s
 
 module _ (s : Seat) (row : Row) (p : Packet) (tape : Tape) where
   -- a Nack takes nothing in
-  pub nacked_alone : (marks : List Mark) (x : Turn) (a : Ballot) → reply_of row (Accepts p.ballot tape) ≡ Nacks a → IsSending x None (notes.Nacked a) (packet_to s.circuit s.me p.number p.ballot (Nack a) p.from ∷ []) → IsTurnAlone row marks (accept_turn s.circuit s.members s.me marks row p tape row.promised) x
+  pub nacked_alone : (marks : List Mark) (x : Turn) (a : Ballot) → reply_of row (Accepts p.ballot tape) ≡ Nacks a → IsSending x None (notes.Nacked a) (record { seat = s; number = p.number; ballot = p.ballot; letter = letters.Nack p.from a }) → IsTurnAlone row marks (accept_turn s.circuit s.members s.me marks row p tape row.promised) x
   nacked_alone marks x a reply r = rw (refusing s.circuit s.members s.me marks row p tape a reply) (record {
-    is_turn = record { row_after = rw r.row_after refl; out = r.out; release = r.release; note = rw r.noted refl };
+    is_turn = record { row_after = rw r.row_after refl; out = rw r.out refl; release = r.release; note = rw r.noted refl };
     takes_nothing = refl;
     releases_nothing = r.release;
   })
 
   -- a vote that stands
-  pub again_votes : (x : Turn) (v : Vote) (b : Ballot) (voted : Tape) → b ≡ p.ballot → voted ≡ v.tape → row.vote ≡ Some v → reply_of row (Accepts p.ballot tape) ≡ Votes_again → IsSending x None (notes.VotedAgain b) (to_others s.circuit s.members s.me p.number p.ballot (Accepted voted)) → IsVote s row p tape x voted
+  pub again_votes : (x : Turn) (v : Vote) (b : Ballot) (voted : Tape) → b ≡ p.ballot → voted ≡ v.tape → row.vote ≡ Some v → reply_of row (Accepts p.ballot tape) ≡ Votes_again → IsSending x None (notes.VotedAgain b) (record { seat = s; number = p.number; ballot = p.ballot; letter = letters.Vote }) → IsVote s row p tape x voted
   again_votes x v b voted its same is reply r = record {
     after = row;
     line = λ marks. rw (r.noted, its, same) (standing s.circuit s.members s.me marks row p tape v is reply);
     row_after = rw r.row_after refl;
-    out = r.out;
+    out = rw (r.out, r.row_after, is, same) refl;
     release = r.release;
   }
 
   -- a new vote
-  pub now_votes : (x : Turn) (after : Row) (b : Ballot) → b ≡ p.ballot → reply_of row (Accepts p.ballot tape) ≡ Votes → after ≡ next_row row (Accepts p.ballot tape) → IsSending x (Some after) (notes.Voted b) (to_others s.circuit s.members s.me p.number p.ballot (Accepted tape)) → IsVote s row p tape x tape
+  pub now_votes : (x : Turn) (after : Row) (b : Ballot) → b ≡ p.ballot → reply_of row (Accepts p.ballot tape) ≡ Votes → after ≡ next_row row (Accepts p.ballot tape) → IsSending x (Some after) (notes.Voted b) (record { seat = s; number = p.number; ballot = p.ballot; letter = letters.Vote }) → IsVote s row p tape x tape
   now_votes x after b its reply is r =
       let v : Voting s.circuit s.members s.me [] row p tape after = voting s.circuit s.members s.me [] row p tape after reply is in
       record {
         after = after;
         line = λ marks. rw (r.noted, its) (voting s.circuit s.members s.me marks row p tape after reply is).line;
         row_after = rw r.row_after (refl, v.changes);
-        out = r.out;
+        out = rw (r.out, r.row_after, v.votes) refl;
         release = r.release;
       }
 
   -- the turn, once the vote is heard
   pub vote_heard :
       (marks : List Mark) (x y : Turn) (voted : Tape) (d : Desk) (release : Option Tape) → IsVote s row p tape x voted
-      → y.row ≡ x.row → y.out.items ≡ x.out.items → y.release ≡ release → y.note ≡ x.note
+      → y.row ≡ x.row → y.mail ≡ x.mail → y.release ≡ release → y.note ≡ x.note
       → (release ≡ (hear s.members p.number s.me p.ballot voted marks).release) × IsLeft d release (hear s.members p.number s.me p.ballot voted marks).marks
       → Answers row (accept_turn s.circuit s.members s.me marks row p tape row.promised) y d
   vote_heard marks x y voted d release v saves sends releases noted h = rw (v.line marks) (record {
-    is_turn = record { row_after = rw saves v.row_after; out = sends ∙ v.out; release = releases ∙ h.0; note = ap note_value noted };
+    is_turn = record { row_after = rw saves v.row_after; out = rw (saves, sends) v.out; release = releases ∙ h.0; note = ap note_value noted };
     left = rw releases h.1;
   })
 
   -- it is as orderly as before
   pub vote_orderly :
       (x y : Turn) (voted : Tape) → IsVote s row p tape x voted → ((marks : List Mark) → Stirs (accept_turn s.circuit s.members s.me marks row p tape row.promised))
-      → y.row ≡ x.row → y.out.items ≡ x.out.items → y.note ≡ x.note → IsOrderly x → IsOrderly y
+      → y.row ≡ x.row → y.mail ≡ x.mail → y.note ≡ x.note → IsOrderly x → IsOrderly y
   vote_orderly x y voted v stirs saves sends noted o =
       let loud : is_quiet (note_value x.note) ≡ false = ap (λ (t : said.Turn). is_quiet t.note) (sym (v.line [])) ∙ stirs [] in
       record { promised = rw saves o.promised; few = rw sends o.few; quiet = λ q. (let bad : true ≡ false = sym q ∙ ap (λ (n : Note). is_quiet (note_value n)) noted ∙ loud in absurd cc) }

@@ -21,6 +21,7 @@ use Rattle.node_core.specs.Seats.{Seat}
 use Rattle.learner.specs.Latest.{hears, OtherMarksPass as OtherVotesPass}
 use Rattle.proposer.specs.InHand.{InHand, StandsFor as ProposalStandsFor}
 use Rattle.node_core.specs.Standing.{Answers, DeskStands, ProposalStands}
+use Rattle.node_core.specs.Mails.{Mail, IsFew}
 use Rattle.node_core.specs.Turns.{note_value, is_quiet, HasPromise, IsOrderly, IsSending}
 use Rattle.node_core.specs.declared.turn.Note.TheVariants as notes
 use Rattle.node_core.specs.Handling.{IsTurnAlone}
@@ -122,9 +123,9 @@ not_below_greater (Some p) (Some q) b h = go (is_below p q) refl
     go false e = rw e at h
 
 -- a turn that saves, sends and releases nothing
-pub stays_so : (row : Row) (marks : List Mark) (note : said.Note) (x : Turn) (d : Desk) → x.row ≡ None → x.out.items ≡ [] → x.release ≡ None → note_value x.note ≡ note → DeskStands d marks → Answers row (stays row marks note) x d
+pub stays_so : (row : Row) (marks : List Mark) (note : said.Note) (x : Turn) (d : Desk) → x.row ≡ None → x.mail ≡ None → x.release ≡ None → note_value x.note ≡ note → DeskStands d marks → Answers row (stays row marks note) x d
 stays_so row marks note x d saves sends releases noted stands =
-    record { is_turn = record { row_after = rw saves refl; out = sends; release = releases; note = noted }; left = rw releases stands }
+    record { is_turn = record { row_after = rw saves refl; out = rw sends refl; release = releases; note = noted }; left = rw releases stands }
 
 not_that : (p : Option Ballot) (b : Ballot) → (p ≡ Some b → ⊥) → is_that p b ≡ false
 not_that None b o = refl
@@ -236,9 +237,9 @@ told s now row x d e b n a marks is_n is_a h above stands o opens at =
     (h o (subst (λ (y : Ballot). is_above row.promised y ≡ false) (sym is_a) above) stands (subst (λ j. open_proposal j marks ≡ Some o) (sym is_n) opens) (at ∙ sym is_a)))
 
 -- a due moment of a number that was released
-pub idle_alone : (s : Seat) (n now : ℕ) (marks : List Mark) (row : Row) (x : Turn) → was_released n marks ≡ true → x.row ≡ None → x.out.items ≡ [] → x.release ≡ None → x.note ≡ notes.Idle → IsTurnAlone row marks (due_turn s.circuit s.members s.me n now marks row (open_proposal n marks)) x
+pub idle_alone : (s : Seat) (n now : ℕ) (marks : List Mark) (row : Row) (x : Turn) → was_released n marks ≡ true → x.row ≡ None → x.mail ≡ None → x.release ≡ None → x.note ≡ notes.Idle → IsTurnAlone row marks (due_turn s.circuit s.members s.me n now marks row (open_proposal n marks)) x
 idle_alone s n now marks row x released saves sends releases noted = rw released (record {
-  is_turn = record { row_after = rw saves refl; out = sends; release = releases; note = rw noted refl };
+  is_turn = record { row_after = rw saves refl; out = rw sends refl; release = releases; note = rw noted refl };
   takes_nothing = refl;
   releases_nothing = releases;
 })
@@ -289,8 +290,7 @@ hear_told P c e j n k m b a t marks f g h i p =
     (subst (λ l. P (hear e l k b t marks)) g
     (subst (λ l. P (hear l j k b t marks)) f p)))
 
--- a reply is one packet
-pub replied : (x : Turn) (row : Option Row) (note : Note) (reply : Packet) → HasPromise row → is_quiet (note_value note) ≡ false → IsSending x row note (reply ∷ []) → IsOrderly x
-replied x row note reply h stirs r =
-    let one : length x.out.items ≡ 1 = ap length r.out in
-    record { promised = rw r.row_after h; few = omega arith; quiet = λ q. (let bad : true ≡ false = sym q ∙ ap (λ (y : Note). is_quiet (note_value y)) r.noted ∙ stirs in absurd cc) }
+-- a turn that sends is orderly where its note is not a quiet one
+pub sends_orderly : (x : Turn) (row : Option Row) (note : Note) (mail : Mail) → HasPromise row → is_quiet (note_value note) ≡ false → IsFew x.mail → IsSending x row note mail → IsOrderly x
+sends_orderly x row note mail h stirs few r =
+    record { promised = rw r.row_after h; few = few; quiet = λ q. (let bad : true ≡ false = sym q ∙ ap (λ (y : Note). is_quiet (note_value y)) r.noted ∙ stirs in absurd cc) }

@@ -11,7 +11,7 @@ use Rattle.node_core.specs.declared.turn.CoreRefusal.TheVariants as refusals
 use Rattle.node_core.specs.Seats.{Seat}
 use Rattle.node_core.specs.Standing.{Core, StandsFor, DeskStands, Answers, Settles, seat_of}
 use Rattle.node_core.specs.Calls.{StartIs, TurnIs, MayTakeMemory}
-use Rattle.node_core.specs.Turns.{IsTurn, IsRowAfter, note_value, Stirs}
+use Rattle.node_core.specs.Turns.{IsTurn, IsRowAfter, note_value, Stirs, sent}
 use Rattle.protocol.specs.Packets.{Packet, Accepted}
 use Rattle.protocol.specs.Turn.{accept_turn, vote_turn, to_others}
 
@@ -57,7 +57,7 @@ pub record IsVote (s : Seat) (row : Row) (p : Packet) (tape : Tape) (x : Turn) (
   pub after : Row
   pub line : (marks : List Mark) → accept_turn s.circuit s.members s.me marks row p tape row.promised ≡ vote_turn s.circuit s.members s.me marks after p voted (note_value x.note)
   pub row_after : IsRowAfter row after x.row
-  pub out : x.out.items ≡ to_others s.circuit s.members s.me p.number p.ballot (Accepted voted)
+  pub out : sent row x ≡ to_others s.circuit s.members s.me p.number p.ballot (Accepted voted)
   pub release : x.release ≡ None
 
 -- an Accept is voted for, with this tape, or refused

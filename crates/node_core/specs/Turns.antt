@@ -1,5 +1,5 @@
 -- What the code's events, notes and turns say, in the protocol's words.
-use Rattle.std.specs.Prelude.{◌≡◌, ◌≤◌, List, [], Bool, true, false, Option, Some, None, IsSome, IfSome, length}
+use Rattle.std.specs.Prelude.{◌≡◌, List, Bool, true, false, Option, Some, None, IsSome, IfSome, unwrap_or}
 use Rattle.protocol.specs.Rows.{Row}
 use Rattle.protocol.specs.Packets.{Packet}
 use Rattle.protocol.specs.Turn as said
@@ -8,6 +8,7 @@ use Rattle.node_core.specs.declared.event.Event.TheVariants as events
 use Rattle.node_core.specs.declared.turn.Note.{Note}
 use Rattle.node_core.specs.declared.turn.Note.TheVariants as notes
 use Rattle.node_core.specs.declared.turn.Turn.{Turn}
+use Rattle.node_core.specs.Mails.{Mail, mail_sends, IsFew}
 
 -- what comes to the station
 abbrev pub event_value : Event → said.Event
@@ -56,10 +57,14 @@ abbrev pub IsRowAfter : Row → Row → Option Row → Type 0
 IsRowAfter before after None = after ≡ before
 IsRowAfter before after (Some row) = (after ≡ row) × ¬ (row ≡ before)
 
+-- the packets that go out with a turn that was taken at this row
+abbrev pub sent : Row → Turn → List Packet
+sent row x = mail_sends x.mail (unwrap_or x.row row).vote
+
 -- what the code hands out is the turn t of the definitions, from this row
 pub record IsTurn (row : Row) (t : said.Turn) (x : Turn) : Type 0 where
   pub row_after : IsRowAfter row t.row x.row
-  pub out : x.out.items ≡ t.out
+  pub out : sent row x ≡ t.out
   pub release : x.release ≡ t.release
   pub note : note_value x.note ≡ t.note
 
@@ -70,18 +75,18 @@ HasPromise row = IfSome row (λ r. IsSome r.promised)
 -- it saves, sends and releases nothing
 pub record HandsNothing (x : Turn) : Type 0 where
   pub saves : x.row ≡ None
-  pub sends : x.out.items ≡ []
+  pub sends : x.mail ≡ None
   pub releases : x.release ≡ None
 
--- the row that it changes has a promise, no more than two packets go out to each of 14 others, and a quiet turn hands out nothing
+-- the row that it changes has a promise, two packets go out to each of 14 others at most, and a quiet turn hands out nothing
 pub record IsOrderly (x : Turn) : Type 0 where
   pub promised : HasPromise x.row
-  pub few : length x.out.items ≤ 28
+  pub few : IsFew x.mail
   pub quiet : is_quiet (note_value x.note) ≡ true → HandsNothing x
 
--- what the code hands out is these packets, with this row after and this note
-pub record IsSending (x : Turn) (row : Option Row) (note : Note) (packets : List Packet) : Type 0 where
+-- what the code hands out is this mail, with this row after and this note
+pub record IsSending (x : Turn) (row : Option Row) (note : Note) (mail : Mail) : Type 0 where
   pub row_after : x.row ≡ row
-  pub out : x.out.items ≡ packets
+  pub out : x.mail ≡ Some mail
   pub release : x.release ≡ None
   pub noted : x.note ≡ note

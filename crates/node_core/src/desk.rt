@@ -18,7 +18,7 @@ ghost use Rattle.node_core.specs.Seats.{Seat as SeatValue};
 ghost use Rattle.node_core.specs.Turns.{event_value, note_value, is_quiet, HasPromise, IsOrderly};
 
 use crate::event::Event;
-use crate::mail::to_others;
+use crate::mail::{Letter, Mail};
 use crate::rows::{copied, is_promised, raise, relent, vote};
 use crate::seat::Seat;
 use crate::turn::{CoreRefusal, Note, Turn};
@@ -162,17 +162,11 @@ impl Desk {
         ensures of { IsDeskOf seat self.new }
         ensures number { self.new.number ≡ self.old.number }
     {
-        let me = seat.me();
-        let mut out = Vec::new(alloc);
-        let accept = BodyRef::Accept { tape: tape.lend() };
-        to_others(alloc, seat, self.number, ballot, &accept, &mut out)?;
-        let accepted = BodyRef::Accepted { tape: tape.lend() };
-        to_others(alloc, seat, self.number, ballot, &accepted, &mut out)?;
         self.proposed(now);
-        let release = self.hear(alloc, me, ballot, tape.lend())?;
+        let release = self.hear(alloc, seat.me(), ballot, tape.lend())?;
         Ok(Turn {
             row: vote(row, ballot, tape),
-            out,
+            mail: Some(Mail::new(seat, self.number, ballot, Letter::Proposal)),
             release,
             note: Note::Proposed { ballot },
         })
@@ -198,16 +192,16 @@ impl Desk {
             Some(tape) => self.propose_tape(alloc, seat, ballot, tape, now, row),
             None => {
                 let row = raise(alloc, row, ballot)?;
-                Ok(self.close(alloc, row, Note::Nothing { ballot }))
+                Ok(self.close(row, Note::Nothing { ballot }))
             }
         }
     }
 
     /// Closes the proposal.
-    fn close(&mut self, alloc: Global, row: Option<Row>, note: Note) -> Turn
+    fn close(&mut self, row: Option<Row>, note: Note) -> Turn
         requires { is_quiet (note_value note) ≡ false }
         ensures row { result.row ≡ row }
-        ensures out { result.out.items ≡ [] }
+        ensures mail { result.mail ≡ None }
         ensures release { result.release ≡ None }
         ensures note { result.note ≡ note }
         ensures orderly { HasPromise row → IsOrderly result }
@@ -219,7 +213,7 @@ impl Desk {
         self.proposal = None;
         Turn {
             row,
-            out: Vec::new(alloc),
+            mail: None,
             release: None,
             note,
         }
@@ -245,18 +239,9 @@ impl Desk {
         if seat.members() == 1 {
             return self.propose(alloc, seat, ballot, now, row);
         }
-        let mut out = Vec::new(alloc);
-        to_others(
-            alloc,
-            seat,
-            self.number,
-            ballot,
-            &BodyRef::Prepare,
-            &mut out,
-        )?;
         Ok(Turn {
             row: raise(alloc, row, ballot)?,
-            out,
+            mail: Some(Mail::new(seat, self.number, ballot, Letter::Prepare)),
             release: None,
             note: Note::Began { ballot },
         })
@@ -284,18 +269,18 @@ impl Desk {
         learner::laws::other_marks_pass();
         let ballot = packet.ballot();
         match &mut self.proposal {
-            None => Ok(Turn::quiet(alloc, Note::Stale)),
+            None => Ok(Turn::quiet(Note::Stale)),
             Some(proposal) => {
                 if !proposal.gathers_at(ballot) {
-                    return Ok(Turn::quiet(alloc, Note::Stale));
+                    return Ok(Turn::quiet(Note::Stale));
                 }
                 if !is_promised(row, ballot) {
-                    return Ok(Turn::quiet(alloc, Note::Overtaken { ballot }));
+                    return Ok(Turn::quiet(Note::Overtaken { ballot }));
                 }
                 match proposal.promise(packet.from(), ballot, report)? {
-                    Counted::Stale => Ok(Turn::quiet(alloc, Note::Stale)),
-                    Counted::Repeated => Ok(Turn::quiet(alloc, Note::Repeated)),
-                    Counted::More => Ok(Turn::quiet(alloc, Note::Counted { ballot })),
+                    Counted::Stale => Ok(Turn::quiet(Note::Stale)),
+                    Counted::Repeated => Ok(Turn::quiet(Note::Repeated)),
+                    Counted::More => Ok(Turn::quiet(Note::Counted { ballot })),
                     Counted::Quorum => self.propose(alloc, seat, ballot, now, row),
                 }
             }
@@ -303,7 +288,7 @@ impl Desk {
     }
 
     /// Takes a Nack.
-    fn nack(&mut self, alloc: Global, packet: &PacketRef<'_>, promised: Ballot) -> Turn
+    fn nack(&mut self, packet: &PacketRef<'_>, promised: Ballot) -> Turn
         requires { packet.now.number ≡ self.old.number }
         ensures turn { (row : RowValue) (marks : List Mark) → DeskStands self.old marks → Answers row (nack_turn marks row packet.now promised (proposal_at packet.now.number packet.now.ballot marks)) result self.new }
         ensures orderly { IsOrderly result }
@@ -312,12 +297,12 @@ impl Desk {
     {
         learner::laws::other_marks_pass();
         match &mut self.proposal {
-            None => Turn::quiet(alloc, Note::Stale),
+            None => Turn::quiet(Note::Stale),
             Some(proposal) => {
                 if proposal.nack(packet.ballot(), promised) {
-                    Turn::quiet(alloc, Note::Denied { promised })
+                    Turn::quiet(Note::Denied { promised })
                 } else {
-                    Turn::quiet(alloc, Note::Stale)
+                    Turn::quiet(Note::Stale)
                 }
             }
         }
@@ -333,18 +318,18 @@ impl Desk {
     {
         learner::laws::other_marks_pass();
         match &mut self.proposal {
-            None => Ok(Turn::quiet(alloc, Note::Idle)),
+            None => Ok(Turn::quiet(Note::Idle)),
             Some(proposal) => {
                 let moment = proposal.due_moment();
                 if now < moment {
-                    return Ok(Turn::quiet(alloc, Note::Idle));
+                    return Ok(Turn::quiet(Note::Idle));
                 }
                 let last = proposal.ballot();
                 let report = copied(alloc, row.vote())?;
                 match proposal.due(row.promised(), report, now)? {
-                    DueAnswer::Wait => Ok(Turn::quiet(alloc, Note::Idle)),
+                    DueAnswer::Wait => Ok(Turn::quiet(Note::Idle)),
                     DueAnswer::GaveUp => {
-                        Ok(self.close(alloc, None, Note::GaveUp { ballot: last }))
+                        Ok(self.close(None, Note::GaveUp { ballot: last }))
                     }
                     DueAnswer::Began { ballot } => self.begun(alloc, seat, ballot, now, row),
                 }
@@ -463,7 +448,7 @@ impl Desk {
         let release = self.hear(alloc, packet.from(), ballot, tape)?;
         Ok(Turn {
             row: None,
-            out: Vec::new(alloc),
+            mail: None,
             release,
             note: Note::Heard { ballot },
         })
@@ -493,7 +478,7 @@ impl Desk {
             }
             BodyRef::Accept { tape } => self.accept(alloc, seat, packet, tape.lend(), row),
             BodyRef::Accepted { tape } => self.accepted(alloc, seat, packet, tape.lend()),
-            BodyRef::Nack { promised } => Ok(self.nack(alloc, packet, *promised)),
+            BodyRef::Nack { promised } => Ok(self.nack(packet, *promised)),
         }
     }
 

@@ -13,5 +13,6 @@ mod turn;
 mod voting;
 
 pub use event::Event;
+pub use mail::{Mail, Outgoing};
 pub use node::NodeCore;
 pub use turn::{CoreRefusal, Note, Turn};

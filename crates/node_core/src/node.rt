@@ -7,7 +7,7 @@ ghost use Rattle.protocol.specs.Turn.{number_of};
 ghost use Rattle.node_core.specs.Calls.{MayCome, TookTurn, RefusesEvent, Refuses, MayTakeMemory};
 ghost use Rattle.node_core.specs.Handling.{Acts};
 ghost use Rattle.node_core.specs.Standing.{StandsFor, Kept, Moves, IsDeskOf, IsSameSeat, seat_of, desk_at, fresh};
-ghost use Rattle.node_core.specs.Turns.{event_value, note_value, is_quiet, HandsNothing, IsOrderly};
+ghost use Rattle.node_core.specs.Turns.{event_value, note_value, is_quiet, HandsNothing, IsOrderly, sent};
 
 use crate::desk::Desk;
 use crate::event::Event;
@@ -240,7 +240,7 @@ impl NodeCore {
         requires arrived { MayCome self.old.me self.old.members event }
         ensures ok { IfOk result (λ x. (marks : List Mark) → StandsFor self.old marks → TookTurn self.old event.entry marks row.now x self.new) }
         ensures promised { IfOk result (λ x. IfSome x.row (λ r. IsSome r.promised)) }
-        ensures few { IfOk result (λ x. length x.out.items ≤ 28) }
+        ensures few { IfOk result (λ x. length (sent row.now x) ≤ 28) }
         ensures quiet { IfOk result (λ x. is_quiet (note_value x.note) ≡ true → HandsNothing x) }
         ensures refused { IfErr result (λ e. Refuses e event.entry self.old row.now self.new) }
         ensures memory { IfErr result (λ e. e ≡ CoreRefusal.OutOfMemory → (marks : List Mark) → StandsFor self.old marks → MayTakeMemory self.old event.entry marks row.now) }

@@ -24,13 +24,13 @@ fn receive(alloc: Global, seat: Seat, packet: &PacketRef<'_>, row: &Row) -> Resu
 {
     match packet.body() {
         BodyRef::Prepare => voting::prepare(alloc, seat, packet, row),
-        BodyRef::Promise { .. } => Ok(Turn::quiet(alloc, Note::Stale)),
+        BodyRef::Promise { .. } => Ok(Turn::quiet(Note::Stale)),
         BodyRef::Accept { tape } => {
             let Voting { turn, .. } = voting::accept(alloc, seat, packet, tape.lend(), row)?;
             Ok(turn)
         }
-        BodyRef::Accepted { .. } => Ok(Turn::quiet(alloc, Note::Settled)),
-        BodyRef::Nack { .. } => Ok(Turn::quiet(alloc, Note::Stale)),
+        BodyRef::Accepted { .. } => Ok(Turn::quiet(Note::Settled)),
+        BodyRef::Nack { .. } => Ok(Turn::quiet(Note::Stale)),
     }
 }
 
@@ -49,7 +49,7 @@ pub(crate) fn take(
     match event {
         Event::Offer { .. } => Err(CoreRefusal::AlreadyReleased),
         Event::Seek { .. } => Err(CoreRefusal::AlreadyReleased),
-        Event::Due { .. } => Ok(Turn::quiet(alloc, Note::Idle)),
+        Event::Due { .. } => Ok(Turn::quiet(Note::Idle)),
         Event::Arrived { packet, .. } => Ok(receive(alloc, seat, packet, row)?),
     }
 }

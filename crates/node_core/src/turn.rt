@@ -1,13 +1,13 @@
 //! What a turn hands out, and why there is none.
 
-ghost use Rattle.std.specs.Prelude.{◌≡◌, []};
+ghost use Rattle.std.specs.Prelude.{◌≡◌, None};
 ghost use Rattle.node_core.specs.Calls.{is_memory};
-ghost use Rattle.node_core.specs.Turns.{IsOrderly};
+ghost use Rattle.node_core.specs.Turns.{IsOrderly, sent};
 ghost use Rattle.node_core.specs.declared.turn.CoreRefusal.TheVariants.{OutOfMemory};
 
+use crate::mail::{Mail, Outgoing};
 use ballots::{Ballot, Row};
-use packets::Packet;
-use std::alloc::{AllocError, Global};
+use std::alloc::AllocError;
 use tape_frames::Tape;
 
 /// What a turn did.
@@ -54,8 +54,8 @@ pub enum Note {
 pub struct Turn {
     /// The number's row after it, where it changes: it has to be saved before anything is handed out.
     pub row: Option<Row>,
-    /// The packets that go out, in this order.
-    pub out: Vec<Packet>,
+    /// What goes out, beside the tapes of the row.
+    pub mail: Option<Mail>,
     /// The tape that is released.
     pub release: Option<Tape>,
     /// What the turn did.
@@ -63,17 +63,25 @@ pub struct Turn {
 }
 
 impl Turn {
+    /// The packets that go out, in order, where the turn was taken at the row `before`. Their tapes are lent.
+    pub fn out<'a>(&'a self, before: &'a Row) -> Outgoing<'a>
+        ensures { result ≡ sent before.now self.now }
+    {
+        let row = self.row.as_ref().unwrap_or(before);
+        Outgoing::new(self.mail, row.vote())
+    }
+
     /// A turn that saves, sends and releases nothing.
-    pub(crate) fn quiet(alloc: Global, note: Note) -> Turn
+    pub(crate) fn quiet(note: Note) -> Turn
         ensures row { result.row ≡ None }
-        ensures out { result.out.items ≡ [] }
+        ensures mail { result.mail ≡ None }
         ensures release { result.release ≡ None }
         ensures note { result.note ≡ note }
         ensures orderly { IsOrderly result }
     {
         Turn {
             row: None,
-            out: Vec::new(alloc),
+            mail: None,
             release: None,
             note,
         }

@@ -7,16 +7,17 @@ ghost use Rattle.protocol.specs.Turn.{packet_to, to_others, prepare_turn, accept
 ghost use Rattle.packets.specs.Bodies.{said};
 ghost use Rattle.packets.specs.Rules.{keeps_rules};
 ghost use Rattle.node_core.specs.Calls.{IsForMember};
+ghost use Rattle.node_core.specs.Mails.{MayGo, IsFew};
 ghost use Rattle.node_core.specs.Turns.{IsTurn, IsSending, IsOrderly, Stirs};
 ghost use Rattle.node_core.specs.Handling.{IsVoting};
 
-use crate::mail;
-use crate::rows::{lent, raise};
+use crate::mail::{Letter, Mail};
+use crate::rows::raise;
 use crate::seat::Seat;
 use crate::turn::{Note, Turn};
 use acceptor::{AcceptAnswer, PrepareAnswer};
 use ballots::Row;
-use packets::{BodyRef, PacketRef};
+use packets::PacketRef;
 use std::alloc::{AllocError, Global};
 use tape_frames::TapeRef;
 
@@ -27,64 +28,25 @@ pub(crate) struct Voting<'a> {
     pub vote: Option<TapeRef<'a>>,
 }
 
-/// A turn that answers the sender of the packet.
-fn answer(
-    alloc: Global,
+/// A turn that sends this letter about the packet's ballot, and releases nothing.
+fn send(
     seat: Seat,
     packet: &PacketRef<'_>,
-    body: BodyRef<'_>,
+    letter: Letter,
     row: Option<Row>,
     note: Note,
-) -> Result<Turn, AllocError>
-    requires { IsTrue (keeps_rules (packet_to seat.circuit seat.me packet.now.number packet.now.ballot (said body) packet.now.from)) }
-    ensures { IfOk result (λ x. IsSending x row note (packet_to seat.circuit seat.me packet.now.number packet.now.ballot (said body.entry) packet.now.from ∷ [])) }
+) -> Turn
+    requires { MayGo seat packet.now.number packet.now.ballot letter }
+    ensures turn { IsSending result row note (record { seat = seat; number = packet.now.number; ballot = packet.now.ballot; letter = letter }) }
+    ensures few { IsFew result.mail }
 {
-    let reply = mail::packet_to(
-        alloc,
-        seat,
-        packet.from(),
-        packet.number(),
-        packet.ballot(),
-        body,
-    )?;
-    let mut out = Vec::new(alloc);
-    out.push(reply)?;
-    Ok(Turn {
+    let mail = Mail::new(seat, packet.number(), packet.ballot(), letter);
+    Turn {
         row,
-        out,
+        mail: Some(mail),
         release: None,
         note,
-    })
-}
-
-/// A turn that tells the others of the own vote.
-fn tell(
-    alloc: Global,
-    seat: Seat,
-    packet: &PacketRef<'_>,
-    tape: &TapeRef<'_>,
-    row: Option<Row>,
-    note: Note,
-) -> Result<Turn, AllocError>
-    ensures turn { IfOk result (λ x. IsSending x row note (to_others seat.circuit seat.members seat.me packet.now.number packet.now.ballot (Accepted tape.now))) }
-    ensures few { IfOk result (λ x. length x.out.items ≤ 14) }
-{
-    let mut out = Vec::new(alloc);
-    let accepted = BodyRef::Accepted { tape: tape.lend() };
-    mail::to_others(
-        alloc,
-        seat,
-        packet.number(),
-        packet.ballot(),
-        &accepted,
-        &mut out,
-    )?;
-    Ok(Turn {
-        row,
-        out,
-        release: None,
-        note,
-    })
+    }
 }
 
 /// Answers a Prepare.
@@ -104,16 +66,16 @@ pub(crate) fn prepare(
     let ballot = packet.ballot();
     match acceptor::prepare(row, ballot) {
         PrepareAnswer::Nack { promised } => {
-            let body = BodyRef::Nack { promised };
-            answer(alloc, seat, packet, body, None, Note::Nacked { promised })
+            let to = packet.from();
+            let letter = Letter::Nack { to, promised };
+            Ok(send(seat, packet, letter, None, Note::Nacked { promised }))
         }
-        PrepareAnswer::Silent => Ok(Turn::quiet(alloc, Note::Silent)),
-        PrepareAnswer::Promise { report } => {
+        PrepareAnswer::Silent => Ok(Turn::quiet(Note::Silent)),
+        PrepareAnswer::Promise { report: _report } => {
             let after = raise(alloc, row, ballot)?;
-            let body = BodyRef::Promise {
-                report: lent(report),
-            };
-            answer(alloc, seat, packet, body, after, Note::Promised { ballot })
+            let to = packet.from();
+            let letter = Letter::Promise { to };
+            Ok(send(seat, packet, letter, after, Note::Promised { ballot }))
         }
     }
 }
@@ -138,26 +100,25 @@ pub(crate) fn accept<'a>(
     let ballot = packet.ballot();
     match acceptor::accept(alloc, row, ballot, tape.lend())? {
         AcceptAnswer::Nack { promised } => {
-            let body = BodyRef::Nack { promised };
+            let to = packet.from();
             let note = Note::Nacked { promised };
-            let turn = answer(alloc, seat, packet, body, None, note)?;
+            let turn = send(seat, packet, Letter::Nack { to, promised }, None, note);
             Ok(Voting { turn, vote: None })
         }
         AcceptAnswer::Again => match row.vote() {
             None => unreachable!(),
             Some(vote) => {
-                let voted = vote.tape();
                 let note = Note::VotedAgain { ballot };
-                let turn = tell(alloc, seat, packet, &voted, None, note)?;
+                let turn = send(seat, packet, Letter::Vote, None, note);
                 Ok(Voting {
                     turn,
-                    vote: Some(voted),
+                    vote: Some(vote.tape()),
                 })
             }
         },
         AcceptAnswer::Voted { row: after } => {
             let note = Note::Voted { ballot };
-            let turn = tell(alloc, seat, packet, &tape, Some(after), note)?;
+            let turn = send(seat, packet, Letter::Vote, Some(after), note);
             Ok(Voting {
                 turn,
                 vote: Some(tape),

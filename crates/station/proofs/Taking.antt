@@ -79,8 +79,8 @@ module _ {R : Type 0} (x : Sight R) (e : said.Event) (old : Station R) (marks : 
   is_its_row : row ≡ x.saved old.rows (said.number_of e)
   is_its_row = k.is_row ∙ ap (x.saved old.rows) (sym k.number)
 
-  its_save : (r : Result Answer StepRefusal) → Saves x old.table old.widths n move mid new r → Saves x old.table old.widths (said.number_of e) move mid new r
-  its_save r s = subst (λ (i : ℕ). Saves x old.table old.widths i move mid new r) (sym k.number) s
+  its_save : (r : Result Answer StepRefusal) → Saves x old.table old.widths n row move mid new r → Saves x old.table old.widths (said.number_of e) row move mid new r
+  its_save r s = subst (λ (i : ℕ). Saves x old.table old.widths i row move mid new r) (sym k.number) s
 
   is_saved_turn : turn_of x old marks e ≡ Some k.taken
   is_saved_turn = subst (λ (r : Row). said.turn old.core.circuit old.core.members old.core.me marks r e ≡ Some k.taken) is_its_row k.is_turn
@@ -102,9 +102,9 @@ module _ {R : Type 0} (x : Sight R) (e : said.Event) (old : Station R) (marks : 
     inr (record { mid = mid; read = k.read; passes = s.0 }),
   )
 
-  pub done : (a : Answer) → Saves x old.table old.widths n move mid new (Ok a) → Done x e old (record old { rows = new; core = core }) marks a
+  pub done : (a : Answer) → Saves x old.table old.widths n row move mid new (Ok a) → Done x e old (record old { rows = new; core = core }) marks a
   done a given =
-      let s : Saves x old.table old.widths (said.number_of e) move mid new (Ok a) = its_save (Ok a) given in
+      let s : Saves x old.table old.widths (said.number_of e) row move mid new (Ok a) = its_save (Ok a) given in
       let rows = saves_row move.row k.gives.row_after s.0 in
       record {
         taken = k.taken;
@@ -150,7 +150,7 @@ module _ {R : Type 0} (x : Sight R) (e : said.Event) (old : Station R) (marks : 
   -- the station that stopped with this refusal
   torn :
       (after : Station R) (r : StepRefusal) → IsFixed old after → after.stopped ≡ true → StandsFor after.core [] → after.rows ≡ new
-      → Saves x old.table old.widths (said.number_of e) move mid new (Err r) → Ends x e old after marks (Err r)
+      → Saves x old.table old.widths (said.number_of e) row move mid new (Err r) → Ends x e old after marks (Err r)
   torn after (Store fault) fixed stops none rows s =
       record { fixed = fixed; stops = stops; stands_for = none; at = inr (subst (λ (q : R). AtSave x e old marks q fault) (sym rows) (balked move.row fault k.gives.row_after s)) }
   torn after OutOfMemory fixed stops none rows s =
@@ -170,7 +170,7 @@ module _ {R : Type 0} (x : Sight R) (e : said.Event) (old : Station R) (marks : 
   pub ended :
       (before after : Station R) (r q : StepRefusal) → before ≡ record old { rows = new; core = core } → IsFixed before after
       → after ≡ record before { core = after.core; stopped = true } → q ≡ r → StandsFor after.core []
-      → Saves x old.table old.widths n move mid new (Err r) → Ends x e old after marks (Err q)
+      → Saves x old.table old.widths n row move mid new (Err r) → Ends x e old after marks (Err q)
   ended before after r q was fixed is same none s =
       let f : IsFixed (record old { rows = new; core = core }) after = subst (λ (t : Station R). IsFixed t after) was fixed in
       subst (λ (t : StepRefusal). Ends x e old after marks (Err t)) (sym same)

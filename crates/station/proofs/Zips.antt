@@ -1,7 +1,7 @@
 -- Two lists, place by place.
-use Rattle.std.proofs.Common.{◌≡◌, ◌<◌, ◌≤◌, ◌+◌, ℕ, List, [], ◌∷◌, ◌++◌, length, take, get_or, sym, ap, subst, ◌∙◌, arith}
+use Rattle.std.proofs.Common.{◌≡◌, ◌<◌, ◌≤◌, ◌+◌, ℕ, List, [], ◌∷◌, ◌++◌, length, take, get_or, sym, ap, subst, ◌∙◌}
 use Rattle.std.specs.List.{AllZip}
-use Rattle.std.proofs.lemmas.List.{take_more, length-take-le}
+use Rattle.std.proofs.lemmas.List.{take_more, take_all}
 use Rattle.std.proofs.lemmas.Slice.Zip.{AllZip-long}
 
 push : {A B : Type 0} (R : A → B → Type 0) (xs : List A) (ys : List B) (x : A) (y : B) → AllZip R xs ys → R x y → AllZip R (xs ++ x ∷ []) (ys ++ y ∷ [])
@@ -17,11 +17,9 @@ pub more :
 more R xs ys i x y lt is h r =
     subst (λ l. AllZip R l (ys ++ y ∷ [])) (ap (λ z. take i xs ++ z ∷ []) is ∙ sym (take_more xs i x lt)) (push R (take i xs) ys x y h r)
 
--- at the end both are as long
-pub as_long :
-    {A B : Type 0} (R : A → B → Type 0) (xs : List A) (ys : List B) (i : ℕ) → i ≤ length xs → length xs ≤ i → AllZip R (take i xs) ys → length ys ≡ length xs
-as_long R xs ys i le ge h =
-    let a : length ys ≡ length (take i xs) = AllZip-long R (take i xs) ys h in
-    let b : length (take i xs) ≡ i = length-take-le i xs le in
-    let c : i ≡ length xs = omega arith in
-    a ∙ (b ∙ c)
+-- at the end all is spelled, and both are as long
+pub whole : {A B : Type 0} (R : A → B → Type 0) (xs : List A) (ys : List B) (i : ℕ) → length xs ≤ i → AllZip R (take i xs) ys → AllZip R xs ys
+whole R xs ys i past h = subst (λ l. AllZip R l ys) (take_all i xs past) h
+
+pub as_long : {A B : Type 0} (R : A → B → Type 0) (xs : List A) (ys : List B) (i : ℕ) → length xs ≤ i → AllZip R (take i xs) ys → length ys ≡ length xs
+as_long R xs ys i past h = AllZip-long R xs ys (whole R xs ys i past h)

@@ -14,10 +14,11 @@ use Rattle.widths.specs.Widths.{WidthFile}
 use Rattle.line_check.specs.Sets.{Sets}
 use Rattle.line_check.specs.declared.fault.SetFault.{SetFault}
 use Rattle.line_check.specs.declared.slug.Slug.{Slug}
-use Rattle.node_core.specs.Turns.{HandsNothing}
+use Rattle.node_core.specs.Turns.{HandsNothing, sent}
 use Rattle.node_core.specs.declared.turn.Turn.{Turn}
 use Rattle.station.specs.declared.answer.Answer.{Answer}
 use Rattle.station.specs.declared.answer.Release.{Release}
+use Rattle.station.specs.declared.setting.Checked.{Checked}
 use Rattle.station.specs.declared.refusal.StepRefusal.{StepRefusal}
 use Rattle.station.specs.declared.refusal.StepRefusal.TheVariants.{Store, OutOfMemory}
 use Rattle.station.specs.Stations.{Sight}
@@ -30,6 +31,11 @@ Carries p d = (d.to ≡ p.to) × (packet_at d.bytes ≡ Ok p)
 abbrev pub slugs_of : Result (Vec Slug Global) SetFault → Result (List Slug) SetFault
 slugs_of (Ok slugs) = Ok slugs.items
 slugs_of (Err fault) = Err fault
+
+-- a tape that was set before gave these slugs
+abbrev pub WasChecked : Places → WidthFile → Option Checked → Type 0
+WasChecked table widths None = Unit {0}
+WasChecked table widths (Some c) = Sets (mean table) widths c.tape.now (Ok c.slugs.items)
 
 -- what is handed out of a released tape: its number, the tape, and what the code table and the widths make of it
 abbrev pub IsReleased : Places → WidthFile → ℕ → Option Tape → Option Release → Type 0
@@ -50,10 +56,10 @@ RowBalked x n None fault old new = ⊥
 RowBalked x n (Some row) fault old new =
     x.tells old new n row × (x.is_open new → x.is_open old) × ((¬ x.is_open new) ⊎ IsEither (x.saved old) n row (x.saved new)) × x.blames old new fault
 
--- what is handed out was ready before the row was saved; that takes memory only where something is handed out
-abbrev pub Saves : {R : Type 0} → Sight R → Places → WidthFile → ℕ → Turn → R → R → Result Answer StepRefusal → Type 0
-Saves x table widths n turn old new (Ok a) =
-    RowSaved x n turn.row old new × AllZip Carries turn.out.items a.out.items × IsReleased table widths n turn.release a.release × (a.note ≡ turn.note)
-Saves x table widths n turn old new (Err (Store fault)) = RowBalked x n turn.row fault old new
-Saves x table widths n turn old new (Err OutOfMemory) = (new ≡ old) × ¬ HandsNothing turn
-Saves x table widths n turn old new (Err _) = ⊥
+-- what is handed out, of a turn that was taken at this row, was ready before the row was saved; that takes memory only where something is handed out
+abbrev pub Saves : {R : Type 0} → Sight R → Places → WidthFile → ℕ → Row → Turn → R → R → Result Answer StepRefusal → Type 0
+Saves x table widths n row turn old new (Ok a) =
+    RowSaved x n turn.row old new × AllZip Carries (sent row turn) a.out.items × IsReleased table widths n turn.release a.release × (a.note ≡ turn.note)
+Saves x table widths n row turn old new (Err (Store fault)) = RowBalked x n turn.row fault old new
+Saves x table widths n row turn old new (Err OutOfMemory) = (new ≡ old) × ¬ HandsNothing turn
+Saves x table widths n row turn old new (Err _) = ⊥

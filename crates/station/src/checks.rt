@@ -1,23 +1,17 @@
-//! Whether a packet is one for this station, and whether a tape can be spelled and sets here.
+//! Whether a packet is one for this station, and whether a tape can be spelled.
 
-ghost use Rattle.std.specs.Prelude.{◌≡◌, ◌≤◌, OnOk, IfOk, IfErr, true, false};
+ghost use Rattle.std.specs.Prelude.{◌≡◌, ◌≤◌, OnOk, IfErr, true, false};
 ghost use Rattle.node_core.specs.Calls.{IsForMember};
 ghost use Rattle.protocol.specs.Refusals.{names_stranger, is_of_stranger};
 ghost use Rattle.protocol.specs.Versions.{One, fits};
 ghost use Rattle.packets.specs.Bodies.{said};
-ghost use Rattle.code_table.specs.Tables.{mean};
-ghost use Rattle.line_check.specs.Sets.{first_fault};
 ghost use Rattle.station.specs.Refusing.{ChecksPacket};
 ghost use Rattle.station.specs.Steps.{tears};
 
 use crate::refusal::StepRefusal;
 use ballots::Member;
-use code_table::CodeTable;
-use line_check::{SetError, SetFault, set};
 use packets::{BodyRef, PacketRef};
-use std::alloc::{AllocError, Global};
 use tape_frames::Tape;
-use widths::Widths;
 
 fn names_stranger(members: u8, body: &BodyRef<'_>) -> bool
     ensures { result ≡ names_stranger members (said body.now) }
@@ -68,20 +62,4 @@ pub(crate) fn fits_version_one(tape: &Tape)
     ensures { fits One tape.now ≡ true }
 {
     let _ = tape.frames();
-}
-
-/// The fault of a tape by this code table and these widths; `None` where it sets.
-pub(crate) fn fault_of(
-    alloc: Global,
-    table: &CodeTable,
-    widths: &Widths,
-    tape: &Tape,
-) -> Result<Option<SetFault>, AllocError>
-    ensures { IfOk result (λ fault. first_fault (mean table.now) widths.now tape.now ≡ fault) }
-{
-    match set(alloc, table, widths, tape) {
-        Ok(_) => Ok(None),
-        Err(SetError::Fault(fault)) => Ok(Some(fault)),
-        Err(SetError::OutOfMemory) => Err(AllocError),
-    }
 }

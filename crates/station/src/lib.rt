@@ -6,6 +6,7 @@ mod checks;
 mod datagram;
 mod getting_ready;
 mod refusal;
+mod setting;
 mod station;
 mod steps;
 

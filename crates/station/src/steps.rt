@@ -8,14 +8,16 @@ ghost use Rattle.saved_rows.specs.Saved.{Rises};
 ghost use Rattle.node_core.specs.Standing.{StandsFor};
 ghost use Rattle.node_core.specs.Calls.{MayCome};
 ghost use Rattle.node_core.specs.Turns.{event_value};
+ghost use Rattle.station.specs.Readiness.{WasChecked};
 ghost use Rattle.station.specs.Refusing.{ChecksNumber};
 ghost use Rattle.station.specs.Stations.{sight, IsFixed};
 ghost use Rattle.station.specs.Steps.{Ends, IsFree, Steps, OnStore, IfStore, IsBlamed, tears, stopped_after};
 
 use crate::answer::Answer;
-use crate::checks::{check_packet, fault_of, fits_version_one};
+use crate::checks::{check_packet, fits_version_one};
 use crate::getting_ready::save;
 use crate::refusal::StepRefusal;
+use crate::setting::{Checked, setting};
 use crate::station::Station;
 use ballots::Number;
 use node_core::{CoreRefusal, Event};
@@ -44,13 +46,14 @@ impl<R: Rows> Station<R> {
         }
         let number = self.check_number(number)?;
         fits_version_one(tape);
-        match fault_of(self.alloc, &self.table, &self.widths, tape) {
-            Ok(None) => {}
-            Ok(Some(fault)) => return Err(StepRefusal::TapeFaulty(fault)),
+        let slugs = match setting(self.alloc, &self.table, &self.widths, tape) {
+            Ok(Ok(slugs)) => slugs,
+            Ok(Err(fault)) => return Err(StepRefusal::TapeFaulty(fault)),
             Err(_) => return Err(self.stop(StepRefusal::OutOfMemory)),
-        }
+        };
+        let checked = Checked { tape, slugs };
         match tape.copy(self.alloc) {
-            Ok(tape) => self.take(number, Event::Offer { number, tape, now }),
+            Ok(tape) => self.take(number, Event::Offer { number, tape, now }, Some(checked)),
             Err(_) => Err(self.stop(StepRefusal::OutOfMemory)),
         }
     }
@@ -74,7 +77,7 @@ impl<R: Rows> Station<R> {
             return Err(StepRefusal::Stopped);
         }
         let number = self.check_number(number)?;
-        self.take(number, Event::Seek { number, now })
+        self.take(number, Event::Seek { number, now }, None)
     }
 
     /// Sees to the least number that is due at a moment in milliseconds. Where none is due, the note is
@@ -97,7 +100,7 @@ impl<R: Rows> Station<R> {
         }
         match self.core.next_due(now) {
             None => Ok(Answer::idle(self.alloc)),
-            Some(number) => self.take(number, Event::Due { number, now }),
+            Some(number) => self.take(number, Event::Due { number, now }, None),
         }
     }
 
@@ -126,7 +129,7 @@ impl<R: Rows> Station<R> {
         let (circuit, members, me) = (self.core.circuit(), self.core.members(), self.core.me());
         check_packet(circuit, members, me, &packet)?;
         let number = packet.number();
-        self.take(number, Event::Arrived { packet, now })
+        self.take(number, Event::Arrived { packet, now }, None)
     }
 
     /// The number, where it is one that can be asked for.
@@ -150,11 +153,18 @@ impl<R: Rows> Station<R> {
     }
 
     /// Takes the turn of an event at its number's saved row, and saves the row before anything is handed out.
+    /// A tape that was checked is not set again.
     #[tactic(auto, using(crate::proofs::Refused::spent_stays, crate::proofs::Refused::spent_none, crate::proofs::Refused::not_released, crate::proofs::Refused::not_open))]
-    fn take(&mut self, number: Number, event: Event<'_>) -> Result<Answer, StepRefusal>
+    fn take(
+        &mut self,
+        number: Number,
+        event: Event<'_>,
+        checked: Option<Checked<'_>>,
+    ) -> Result<Answer, StepRefusal>
         requires goes { self.old.stopped ≡ false }
         requires number { number_of (event_value event) ≡ number }
         requires arrived { MayCome self.old.core.me self.old.core.members event }
+        requires checked { WasChecked self.old.table self.old.widths checked }
         ensures takes { R.kept self.new.rows → (marks : List Mark) → StandsFor self.old.core marks → IsFree marks (event_value event.entry)
             → Ends (sight R.Rows) (event_value event.entry) self.old self.new marks result }
         ensures was_kept { R.kept self.new.rows → R.kept self.old.rows }
@@ -175,7 +185,9 @@ impl<R: Rows> Station<R> {
                 &self.table,
                 &self.widths,
                 number,
+                &row,
                 turn,
+                checked,
             ) {
                 Ok(answer) => Ok(answer),
                 Err(refusal) => Err(self.stop(refusal)),

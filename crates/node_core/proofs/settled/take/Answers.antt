@@ -15,7 +15,7 @@ returns-in-Due-clause-turn c = λ marks released.
     subst (λ (y : Event). TurnIs c.args.seat y marks c.args.row.now (λ t. IsTurnAlone c.args.row.now marks t c.quiet.result)) (sym c.in-Due.is)
     (came_due c.args.seat c.in-Due.number c.in-Due.number c.in-Due.now marks c.args.row.now (λ t. IsTurnAlone c.args.row.now marks t c.quiet.result) refl
     (idle_alone c.args.seat c.in-Due.number c.in-Due.now marks c.args.row.now c.quiet.result (subst (λ (y : Event). was_released (number_of (event_value y)) marks ≡ true) c.in-Due.is released)
-    c.quiet.ensures.row c.quiet.ensures.out c.quiet.ensures.release c.quiet.ensures.note))
+    c.quiet.ensures.row c.quiet.ensures.mail c.quiet.ensures.release c.quiet.ensures.note))
 
 pub returns-in_ok-receive-in-Arrived-clause-turn : goal.returns-in_ok-receive-in-Arrived-clause-turn
 returns-in_ok-receive-in-Arrived-clause-turn c = λ marks released.

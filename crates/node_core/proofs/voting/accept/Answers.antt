@@ -15,27 +15,24 @@ reply_told row b a t u r e f h = sym (h ∙ ap (λ (x : Ballot). reply_of row (A
 row_told : (row w : Row) (b a : Ballot) (t u : Tape) → b ≡ a → t ≡ u → w ≡ next_row row (Accepts b t) → w ≡ next_row row (Accepts a u)
 row_told row w b a t u e f h = h ∙ ap (λ (x : Ballot). next_row row (Accepts x t)) e ∙ ap (λ (x : Tape). next_row row (Accepts a x)) f
 
-pub returns-in_ok-turn-in-Nack-clause-voting : goal.returns-in_ok-turn-in-Nack-clause-voting
-returns-in_ok-turn-in-Nack-clause-voting c = λ marks.
-    nacked_alone c.args.seat c.args.row.now c.args.packet.now c.args.tape marks c.in_ok-turn-in-Nack.turn c.in-Nack.promised
+pub returns-in-Nack-clause-voting : goal.returns-in-Nack-clause-voting
+returns-in-Nack-clause-voting c = λ marks.
+    nacked_alone c.args.seat c.args.row.now c.args.packet.now c.args.tape marks c.send-turn.result c.in-Nack.promised
     (reply_told c.args.row.now c.ballot-ballot.result c.args.packet.now.ballot c.lend.result c.args.tape (Nacks c.in-Nack.promised) c.ballot-ballot.ensures c.lend.ensures (ap said_of_accept (sym c.in-Nack.is) ∙ c.in_ok-promised.ensures.reply))
-    c.in_ok-turn-in-Nack.ensures
+    (rw c.from-to.ensures at c.send-turn.ensures.turn)
 
-pub returns-in_ok-turn-in-Some-clause-voting : goal.returns-in_ok-turn-in-Some-clause-voting
-returns-in_ok-turn-in-Some-clause-voting c =
-    again_votes c.args.seat c.args.row.now c.args.packet.now c.args.tape c.in_ok-turn-in-Some.turn c.in-Some.vote.now c.ballot-ballot.result c.tape-voted.result c.ballot-ballot.ensures c.tape-voted.ensures (sym c.in-Some.ensures.value)
+pub returns-in-Some-clause-voting : goal.returns-in-Some-clause-voting
+returns-in-Some-clause-voting c =
+    again_votes c.args.seat c.args.row.now c.args.packet.now c.args.tape c.send-turn-in-Some.result c.in-Some.vote.now c.ballot-ballot.result c.tape.result c.ballot-ballot.ensures c.tape.ensures (sym c.in-Some.ensures.value)
     (reply_told c.args.row.now c.ballot-ballot.result c.args.packet.now.ballot c.lend.result c.args.tape Votes_again c.ballot-ballot.ensures c.lend.ensures (ap said_of_accept (sym c.in-Again.is) ∙ c.in_ok-promised.ensures.reply))
-    c.in_ok-turn-in-Some.ensures.turn
+    c.send-turn-in-Some.ensures.turn
 
-pub returns-in_ok-turn-in-Voted-clause-voting : goal.returns-in_ok-turn-in-Voted-clause-voting
-returns-in_ok-turn-in-Voted-clause-voting c =
-    now_votes c.args.seat c.args.row.now c.args.packet.now c.args.tape c.in_ok-turn-in-Voted.turn c.in-Voted.after c.ballot-ballot.result c.ballot-ballot.ensures
+pub returns-in-Voted-clause-voting : goal.returns-in-Voted-clause-voting
+returns-in-Voted-clause-voting c =
+    now_votes c.args.seat c.args.row.now c.args.packet.now c.args.tape c.send-turn-in-Voted.result c.in-Voted.after c.ballot-ballot.result c.ballot-ballot.ensures
     (reply_told c.args.row.now c.ballot-ballot.result c.args.packet.now.ballot c.lend.result c.args.tape Votes c.ballot-ballot.ensures c.lend.ensures (ap said_of_accept (sym c.in-Voted.is) ∙ c.in_ok-promised.ensures.reply))
     (row_told c.args.row.now c.in-Voted.after c.ballot-ballot.result c.args.packet.now.ballot c.lend.result c.args.tape c.ballot-ballot.ensures c.lend.ensures (ap (λ (a : AcceptAnswer). row_of a c.args.row.now) (sym c.in-Voted.is) ∙ c.in_ok-promised.ensures.row))
-    c.in_ok-turn-in-Voted.ensures.turn
+    c.send-turn-in-Voted.ensures.turn
 
-pub returns-in_err-turn-in-Some-clause-stirs : goal.returns-in_err-turn-in-Some-clause-stirs
-returns-in_err-turn-in-Some-clause-stirs c = λ marks. accept_stirs c.args.seat.circuit c.args.seat.members c.args.seat.me marks c.args.row.now c.args.packet.now c.args.tape c.args.row.now.promised
-
-pub returns-in_ok-turn-in-Some-clause-stirs : goal.returns-in_ok-turn-in-Some-clause-stirs
-returns-in_ok-turn-in-Some-clause-stirs c = λ marks. accept_stirs c.args.seat.circuit c.args.seat.members c.args.seat.me marks c.args.row.now c.args.packet.now c.args.tape c.args.row.now.promised
+pub returns-in-Some-clause-stirs : goal.returns-in-Some-clause-stirs
+returns-in-Some-clause-stirs c = λ marks. accept_stirs c.args.seat.circuit c.args.seat.members c.args.seat.me marks c.args.row.now c.args.packet.now c.args.tape c.args.row.now.promised

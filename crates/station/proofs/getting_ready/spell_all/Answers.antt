@@ -1,13 +1,23 @@
 -- One packet more.
-use Rattle.std.proofs.Common.{arith}
+use Rattle.std.proofs.Common.{◌≡◌, Some, sym, ◌∙◌, length, arith}
+use Rattle.std.specs.Prelude.{slice_get}
+use Rattle.std.proofs.lemmas.Option.{slice_get_within, get_or_from_slice_get}
 use Rattle.station.specs.Readiness.{Carries}
-use Rattle.station.proofs.Zips.{more, as_long}
+use Rattle.station.proofs.Zips.{more, whole, as_long}
 use Rattle.station.proofs.getting_ready.spell_all.Goals as goal
 
-pub loop-packet-preserved : goal.loop-packet-preserved
-loop-packet-preserved c =
-    rw c.in_ok-push.ensures.items (more Carries c.args.packets.now c.loop-packet.out.items c.loop-packet.packet-index c.packet-item.result c.in_ok-spell.field-0 c.loop-packet-test.true c.packet-item.is c.loop-packet.invariant c.in_ok-spell.ensures)
+pub loop-place-preserved : goal.loop-place-preserved
+loop-place-preserved c =
+    let there : slice_get c.args.packets.now c.loop-place.place ≡ Some c.in-Some.packet = sym c.get.ensures ∙ c.in-Some.is in
+    rw c.in_ok-push.ensures.items (more Carries c.args.packets.now c.loop-place.out.items c.loop-place.place c.in-Some.packet c.in_ok-spell.field-0 (slice_get_within c.args.packets.now c.loop-place.place c.in-Some.packet there)
+    (sym (get_or_from_slice_get c.args.packets.now c.loop-place.place c.in-Some.packet c.in-Some.packet there)) c.loop-place.invariant c.in_ok-spell.ensures)
+
+pub returns-clause-carry : goal.returns-clause-carry
+returns-clause-carry c =
+    let many : c.len-count.result ≡ length c.args.packets.now = c.len-count.ensures in
+    whole Carries c.args.packets.now c.loop-place.out.items c.loop-place.place (omega arith) c.loop-place.invariant
 
 pub returns-clause-many : goal.returns-clause-many
 returns-clause-many c =
-    as_long Carries c.args.packets.now c.loop-packet.out.items c.loop-packet.packet-index (omega (arith, c.loop-packet.auto.packet-index-end)) (omega (arith, c.loop-packet-test.false)) c.loop-packet.invariant
+    let many : c.len-count.result ≡ length c.args.packets.now = c.len-count.ensures in
+    as_long Carries c.args.packets.now c.loop-place.out.items c.loop-place.place (omega arith) c.loop-place.invariant

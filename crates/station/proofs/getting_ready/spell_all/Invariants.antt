@@ -4,5 +4,5 @@ use Rattle.std.specs.List.{AllZip}
 use Rattle.station.specs.Readiness.{Carries}
 use Rattle.station.proofs.getting_ready.spell_all.Given as goal
 
-abbrev pub invariant-loop-packet : goal.invariant-loop-packet
-invariant-loop-packet l = AllZip Carries (take l.packet-index l.packets) l.out.items
+abbrev pub invariant-loop-place : goal.invariant-loop-place
+invariant-loop-place l = AllZip Carries (take l.place l.packets) l.out.items

@@ -26,7 +26,7 @@ returns-in-Wait-clause-turn c = λ marks stands.
     let of = rw c.in-Some.is at c.requires.proposal in
     let answer = subst (λ m. IsDueAnswer answers.Wait m c.args.self.now.number c.args.now p.opening marks c.args.row.now) of.0 (rw c.in-Wait.is at (c.in_ok-due-in-Some.ensures.answer c.args.self.now.number marks p.opening c.args.row.now p p.is_open (sym c.promised.ensures.value))) in
     rw (not_due c.args.seat.circuit c.args.seat.members c.args.seat.me c.args.self.now.number c.args.now marks c.args.row.now p.opening p.is_open answer)
-    (stays_so c.args.row.now marks said.Note_idle c.quiet-in-Wait.result _ c.quiet-in-Wait.ensures.row c.quiet-in-Wait.ensures.out c.quiet-in-Wait.ensures.release (rw c.quiet-in-Wait.ensures.note refl)
+    (stays_so c.args.row.now marks said.Note_idle c.quiet-in-Wait.result _ c.quiet-in-Wait.ensures.row c.quiet-in-Wait.ensures.mail c.quiet-in-Wait.ensures.release (rw c.quiet-in-Wait.ensures.note refl)
     (still c.args.self.now c.due.new.self marks stands (rw c.in-Wait.is at (c.in_ok-due-in-Some.ensures.stands c.args.self.now.number marks p))))
 
 pub returns-in-GaveUp-clause-turn : goal.returns-in-GaveUp-clause-turn
@@ -35,7 +35,7 @@ returns-in-GaveUp-clause-turn c = λ marks stands.
     let of = rw c.in-Some.is at c.requires.proposal in
     let answer = subst (λ m. IsDueAnswer answers.GaveUp m c.args.self.now.number c.args.now p.opening marks c.args.row.now) of.0 (rw c.in-GaveUp.is at (c.in_ok-due-in-Some.ensures.answer c.args.self.now.number marks p.opening c.args.row.now p p.is_open (sym c.promised.ensures.value))) in
     rw (gives_up c.args.seat.circuit c.args.seat.members c.args.seat.me c.args.self.now.number c.args.now marks c.args.row.now p.opening p.is_open answer.0 answer.1)
-    (stays_so c.args.row.now (Closed c.args.self.now.number ∷ marks) (said.Note_gave_up p.opening.ballot) c.close.result c.close.new.self c.close.ensures.row c.close.ensures.out c.close.ensures.release (ap note_value c.close.ensures.note ∙ ap said.Note_gave_up (c.ballot-last.ensures.value ∙ p.its_ballot))
+    (stays_so c.args.row.now (Closed c.args.self.now.number ∷ marks) (said.Note_gave_up p.opening.ballot) c.close.result c.close.new.self c.close.ensures.row c.close.ensures.mail c.close.ensures.release (ap note_value c.close.ensures.note ∙ ap said.Note_gave_up (c.ballot-last.ensures.value ∙ p.its_ballot))
     (c.close.ensures.stands marks (still c.args.self.now c.due.new.self marks stands (rw c.in-GaveUp.is at (c.in_ok-due-in-Some.ensures.stands c.args.self.now.number marks p)))))
 
 pub returns-in-GaveUp-clause-of : goal.returns-in-GaveUp-clause-of

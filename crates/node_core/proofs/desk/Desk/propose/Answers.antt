@@ -15,7 +15,7 @@ returns-in-Some-clause-turn c =
 pub returns-in_ok-row-in-None-clause-turn : goal.returns-in_ok-row-in-None-clause-turn
 returns-in_ok-row-in-None-clause-turn c = λ marks o above stands opens at.
     let chosen : pick o.own (counted c.args.seat.me c.args.self.now.number o (since_began c.args.self.now.number marks)) ≡ None = sym (c.in_ok-tape.ensures c.args.seat marks o c.requires.of stands opens) ∙ c.in-None.is in
-    rw chosen (record { is_turn = record { row_after = rw c.close.ensures.row (c.in_ok-row-in-None.ensures.row above); out = c.close.ensures.out; release = c.close.ensures.release; note = rw c.close.ensures.note refl }; left = rw c.close.ensures.release (c.close.ensures.stands marks stands) })
+    rw chosen (record { is_turn = record { row_after = rw c.close.ensures.row (c.in_ok-row-in-None.ensures.row above); out = rw c.close.ensures.mail refl; release = c.close.ensures.release; note = rw c.close.ensures.note refl }; left = rw c.close.ensures.release (c.close.ensures.stands marks stands) })
 
 pub returns-in_ok-row-in-None-clause-of : goal.returns-in_ok-row-in-None-clause-of
 returns-in_ok-row-in-None-clause-of c = c.close.ensures.of c.args.seat c.requires.of

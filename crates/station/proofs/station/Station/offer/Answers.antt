@@ -12,11 +12,11 @@ returns-in_err-number-clause-steps g c = λ kept marks stands.
     handed_on x (Offering c.args.number c.args.tape.now c.args.now) c.args.self.now marks c.from_residual.result _ c.from_residual.ensures
     (refused_early x (Offering c.args.number c.args.tape.now c.args.now) c.args.self.now marks _ c.if-self.false (refused_number c.args.self.now marks c.args.number c.args.tape.now c.args.now _ (c.in_err-number.ensures.checks marks stands)))
 
-pub returns-in-Ok-Some-clause-steps : goal.returns-in-Ok-Some-clause-steps
-returns-in-Ok-Some-clause-steps g c = λ kept marks stands.
+pub returns-in-Ok-Err-clause-steps : goal.returns-in-Ok-Err-clause-steps
+returns-in-Ok-Err-clause-steps g c = λ kept marks stands.
     let x = sight g.R.Rows in
-    refused_faulty x c.args.self.now marks c.args.number c.args.tape.now c.args.now c.in-Ok-Some.fault c.if-self.false c.fits_version_one.ensures
-    (c.in_ok-number.ensures.checks marks stands) (c.in-Ok-Some.ensures ∙ c.in-Ok-Some.field-0-is)
+    refused_faulty x c.args.self.now marks c.args.number c.args.tape.now c.args.now c.in-Ok-Err.fault c.if-self.false c.fits_version_one.ensures
+    (c.in_ok-number.ensures.checks marks stands) (rw c.in-Ok-Err.field-0-is at c.in-Ok-Err.ensures)
 
 pub returns-in-Err-clause-steps : goal.returns-in-Err-clause-steps
 returns-in-Err-clause-steps g c = λ kept marks stands.
@@ -31,7 +31,7 @@ returns-in-Ok-clause-steps g c = λ kept marks stands.
     let h = c.in_ok-number.ensures.checks marks stands in
     stepped x (Offering c.args.number c.args.tape.now c.args.now) (Offered c.in_ok-number.number c.in-Ok.tape c.args.now) c.args.self.now c.take.new.self marks c.take.result
     (offered c.args.self.now marks c.args.number c.in_ok-number.number c.args.tape.now c.in-Ok.tape c.args.now c.if-self.false c.fits_version_one.ensures h
-    (c.in-Ok-None.ensures ∙ c.in-Ok-None.field-0-is) c.in_ok-number.ensures.value c.in-Ok.ensures)
+    (rw c.in-Ok-Ok.field-0-is at c.in-Ok-Ok.ensures).0 c.in_ok-number.ensures.value c.in-Ok.ensures)
     (c.take.ensures.takes kept marks stands (free_at c.args.number c.in_ok-number.number marks c.in_ok-number.ensures.value h))
 
 pub returns-in-Err-copy-clause-steps : goal.returns-in-Err-copy-clause-steps
