@@ -13,29 +13,29 @@ use Rattle.node_core.specs.declared.event.Event.TheVariants as events
 use Rattle.node_core.specs.declared.turn.Turn.{Turn}
 use Rattle.node_core.specs.declared.turn.CoreRefusal.{CoreRefusal}
 use Rattle.node_core.specs.declared.turn.CoreRefusal.TheVariants as refusals
-use Rattle.node_core.specs.Seats.{Seat}
+use Rattle.protocol.specs.Seats.{Seat}
 use Rattle.node_core.specs.Turns.{event_value, note_value, is_quiet, Stirs, IsTurn, HandsNothing}
 use Rattle.node_core.specs.Calls.{StartIs, TurnIs, RefusesToStart, IsRefused, is_memory}
 
 -- an offer or a search that begins the next ballot
 pub offered : (s : Seat) (n j : ℕ) (tape : Tape) (now : ℕ) (marks : List Mark) (row : Row) (P : said.Turn → Type 0) → j ≡ n → StartIs s n (Some tape) now marks row P → TurnIs s (events.Offer j tape now) marks row P
 offered s n j tape now marks row P same h = subst (λ i. TurnIs s (events.Offer i tape now) marks row P) (sym same)
-    (let e : next row.promised s.me ≡ Some h.ballot = h.is_next in record { free = h.free; turn = begin s.circuit s.members s.me n h.ballot (Some tape) now marks row; is_the_turn = rw e refl; holds = h.holds })
+    (let e : next row.promised s.me ≡ Some h.ballot = h.is_next in record { free = h.free; turn = begin s n h.ballot (Some tape) now marks row; is_the_turn = rw e refl; holds = h.holds })
 
 pub sought : (s : Seat) (n j now : ℕ) (marks : List Mark) (row : Row) (P : said.Turn → Type 0) → j ≡ n → StartIs s n None now marks row P → TurnIs s (events.Seek j now) marks row P
 sought s n j now marks row P same h = subst (λ i. TurnIs s (events.Seek i now) marks row P) (sym same)
-    (let e : next row.promised s.me ≡ Some h.ballot = h.is_next in record { free = h.free; turn = begin s.circuit s.members s.me n h.ballot None now marks row; is_the_turn = rw e refl; holds = h.holds })
+    (let e : next row.promised s.me ≡ Some h.ballot = h.is_next in record { free = h.free; turn = begin s n h.ballot None now marks row; is_the_turn = rw e refl; holds = h.holds })
 
-pub came_due : (s : Seat) (n j now : ℕ) (marks : List Mark) (row : Row) (P : said.Turn → Type 0) → j ≡ n → P (due_turn s.circuit s.members s.me n now marks row (open_proposal n marks)) → TurnIs s (events.Due j now) marks row P
-came_due s n j now marks row P same h = subst (λ i. TurnIs s (events.Due i now) marks row P) (sym same) (record { free = tt; turn = due_turn s.circuit s.members s.me n now marks row (open_proposal n marks); is_the_turn = refl; holds = h })
+pub came_due : (s : Seat) (n j now : ℕ) (marks : List Mark) (row : Row) (P : said.Turn → Type 0) → j ≡ n → P (due_turn s n now marks row (open_proposal n marks)) → TurnIs s (events.Due j now) marks row P
+came_due s n j now marks row P same h = subst (λ i. TurnIs s (events.Due i now) marks row P) (sym same) (record { free = tt; turn = due_turn s n now marks row (open_proposal n marks); is_the_turn = refl; holds = h })
 
-pub packet_came : (s : Seat) (p : Packet) (now : ℕ) (marks : List Mark) (row : Row) (P : said.Turn → Type 0) → P (packet_turn s.circuit s.members s.me now marks row p p.body) → TurnIs s (events.Arrived p now) marks row P
-packet_came s p now marks row P h = record { free = tt; turn = packet_turn s.circuit s.members s.me now marks row p p.body; is_the_turn = refl; holds = h }
+pub packet_came : (s : Seat) (p : Packet) (now : ℕ) (marks : List Mark) (row : Row) (P : said.Turn → Type 0) → P (packet_turn s now marks row p p.body) → TurnIs s (events.Arrived p now) marks row P
+packet_came s p now marks row P h = record { free = tt; turn = packet_turn s now marks row p p.body; is_the_turn = refl; holds = h }
 
 -- a turn of which P holds is one of which Q holds
 pub turn_so :
     (s : Seat) (event : Event) (marks : List Mark) (row : Row) (P Q : said.Turn → Type 0) → TurnIs s event marks row P
-    → ((t : said.Turn) → said.turn s.circuit s.members s.me marks row (event_value event) ≡ Some t → P t → Q t) → TurnIs s event marks row Q
+    → ((t : said.Turn) → said.turn s marks row (event_value event) ≡ Some t → P t → Q t) → TurnIs s event marks row Q
 turn_so s event marks row P Q h f = record { free = h.free; turn = h.turn; is_the_turn = h.is_the_turn; holds = f h.turn h.is_the_turn h.holds }
 
 -- a turn that releases a tape is not quiet

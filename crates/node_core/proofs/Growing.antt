@@ -1,6 +1,7 @@
 -- Each turn adds marks of its own number alone.
 use Rattle.std.proofs.Common.{◌≡◌, ℕ, refl, ap, subst, List, [], ◌∷◌, Option, Some, None, Bool, true, false}
 use Rattle.std.specs.Prelude.{◌==◌}
+use Rattle.protocol.specs.Seats.{Seat}
 use Rattle.protocol.specs.Ballots.{Ballot, is_majority, is_same, is_below, next}
 use Rattle.protocol.specs.Rows.{Tape, Vote, Row, raised, voted}
 use Rattle.protocol.specs.Packets.{Packet, Body, Prepare, Promise, Accept, Accepted, Nack}
@@ -26,85 +27,85 @@ hears c n m b t before marks g = go (was_released n marks) refl (ripe c n (Heard
     go false e None f = rw (e, f) (adds n before marks (Heard n m b t) refl g)
     go false e (Some v) f = rw (e, f) (adds n before (Heard n m b t ∷ marks) (Released n v.tape) refl (adds n before marks (Heard n m b t) refl g))
 
-proposes : (k c m n : ℕ) (b : Ballot) (now : ℕ) (before marks : List Mark) (row : Row) (o : Option Tape) → Grows n before marks → Grows n before (propose k c m n b now marks row o).marks
-proposes k c m n b now before marks row None g = adds n before marks (Closed n) refl g
-proposes k c m n b now before marks row (Some t) g = hears c n m b t before (Proposed n b now ∷ marks) (adds n before marks (Proposed n b now) refl g)
+proposes : (s : Seat) (n : ℕ) (b : Ballot) (now : ℕ) (before marks : List Mark) (row : Row) (o : Option Tape) → Grows n before marks → Grows n before (propose s n b now marks row o).marks
+proposes s n b now before marks row None g = adds n before marks (Closed n) refl g
+proposes s n b now before marks row (Some t) g = hears s.members n s.me b t before (Proposed n b now ∷ marks) (adds n before marks (Proposed n b now) refl g)
 
-begins : (k c m n : ℕ) (b : Ballot) (own : Option Tape) (now : ℕ) (marks : List Mark) (row : Row) → Grows n marks (begin k c m n b own now marks row).marks
-begins k c m n b own now marks row = go (c == 1) refl
+begins : (s : Seat) (n : ℕ) (b : Ballot) (own : Option Tape) (now : ℕ) (marks : List Mark) (row : Row) → Grows n marks (begin s n b own now marks row).marks
+begins s n b own now marks row = go (s.members == 1) refl
   where
     began : Grows n marks (Began n b own row.vote now ∷ marks)
     began = adds n marks marks (Began n b own row.vote now) refl (stays n marks)
 
-    go : (x : Bool) → (c == 1) ≡ x → Grows n marks (begin k c m n b own now marks row).marks
-    go true e = rw e (proposes k c m n b now marks (Began n b own row.vote now ∷ marks) (raised row b) (pick own (record { member = m; report = row.vote } ∷ [])) began)
+    go : (x : Bool) → (s.members == 1) ≡ x → Grows n marks (begin s n b own now marks row).marks
+    go true e = rw e (proposes s n b now marks (Began n b own row.vote now ∷ marks) (raised row b) (pick own (record { member = s.me; report = row.vote } ∷ [])) began)
     go false e = rw e began
 
-renews : (k c m n now : ℕ) (p : Opening) (marks : List Mark) (row : Row) (b : Option Ballot) → Grows n marks (renew k c m n now p marks row b).marks
-renews k c m n now p marks row None = adds n marks marks (Closed n) refl (stays n marks)
-renews k c m n now p marks row (Some b) = begins k c m n b p.own now marks row
+renews : (s : Seat) (n now : ℕ) (p : Opening) (marks : List Mark) (row : Row) (b : Option Ballot) → Grows n marks (renew s n now p marks row b).marks
+renews s n now p marks row None = adds n marks marks (Closed n) refl (stays n marks)
+renews s n now p marks row (Some b) = begins s n b p.own now marks row
 
-falls_due : (k c m n now : ℕ) (marks : List Mark) (row : Row) (p : Option Opening) → Grows n marks (due_turn k c m n now marks row p).marks
-falls_due k c m n now marks row None = stays n marks
-falls_due k c m n now marks row (Some p) = go (is_due m n now (since_began n marks) (Some p)) refl
+falls_due : (s : Seat) (n now : ℕ) (marks : List Mark) (row : Row) (p : Option Opening) → Grows n marks (due_turn s n now marks row p).marks
+falls_due s n now marks row None = stays n marks
+falls_due s n now marks row (Some p) = go (is_due s.me n now (since_began n marks) (Some p)) refl
   where
-    go : (x : Bool) → is_due m n now (since_began n marks) (Some p) ≡ x → Grows n marks (due_turn k c m n now marks row (Some p)).marks
-    go true e = rw e (renews k c m n now p marks row (next_ballot m n marks row))
+    go : (x : Bool) → is_due s.me n now (since_began n marks) (Some p) ≡ x → Grows n marks (due_turn s n now marks row (Some p)).marks
+    go true e = rw e (renews s n now p marks row (next_ballot s.me n marks row))
     go false e = rw e (stays n marks)
 
-promises : (k c m now : ℕ) (marks : List Mark) (row : Row) (p : Packet) (r : Option Vote) (o : Option Opening) → Grows p.number marks (promise_turn k c m now marks row p r o).marks
-promises k c m now marks row p r None = stays p.number marks
-promises k c m now marks row p r (Some o) = go (is_that row.promised p.ballot) refl (is_counted (counted m p.number o (since_began p.number marks)) p.from) refl (is_majority c (is_counted (counted m p.number o (Promised p.number p.from p.ballot r ∷ since_began p.number marks)))) refl
+promises : (s : Seat) (now : ℕ) (marks : List Mark) (row : Row) (p : Packet) (r : Option Vote) (o : Option Opening) → Grows p.number marks (promise_turn s now marks row p r o).marks
+promises s now marks row p r None = stays p.number marks
+promises s now marks row p r (Some o) = go (is_that row.promised p.ballot) refl (is_counted (counted s.me p.number o (since_began p.number marks)) p.from) refl (is_majority s.members (is_counted (counted s.me p.number o (Promised p.number p.from p.ballot r ∷ since_began p.number marks)))) refl
   where
     counts : Grows p.number marks (Promised p.number p.from p.ballot r ∷ marks)
     counts = adds p.number marks marks (Promised p.number p.from p.ballot r) refl (stays p.number marks)
 
-    go : (x : Bool) → is_that row.promised p.ballot ≡ x → (y : Bool) → is_counted (counted m p.number o (since_began p.number marks)) p.from ≡ y → (z : Bool) → is_majority c (is_counted (counted m p.number o (Promised p.number p.from p.ballot r ∷ since_began p.number marks))) ≡ z → Grows p.number marks (promise_turn k c m now marks row p r (Some o)).marks
+    go : (x : Bool) → is_that row.promised p.ballot ≡ x → (y : Bool) → is_counted (counted s.me p.number o (since_began p.number marks)) p.from ≡ y → (z : Bool) → is_majority s.members (is_counted (counted s.me p.number o (Promised p.number p.from p.ballot r ∷ since_began p.number marks))) ≡ z → Grows p.number marks (promise_turn s now marks row p r (Some o)).marks
     go false e y f z h = rw e (stays p.number marks)
     go true e true f z h = rw (e, f) (stays p.number marks)
     go true e false f false h = rw (e, f, h) counts
-    go true e false f true h = rw (e, f, h) (proposes k c m p.number p.ballot now marks (Promised p.number p.from p.ballot r ∷ marks) row (pick o.own (counted m p.number o (Promised p.number p.from p.ballot r ∷ since_began p.number marks))) counts)
+    go true e false f true h = rw (e, f, h) (proposes s p.number p.ballot now marks (Promised p.number p.from p.ballot r ∷ marks) row (pick o.own (counted s.me p.number o (Promised p.number p.from p.ballot r ∷ since_began p.number marks))) counts)
 
 denies : (marks : List Mark) (row : Row) (p : Packet) (a : Ballot) (o : Option Opening) → Grows p.number marks (nack_turn marks row p a o).marks
 denies marks row p a None = stays p.number marks
 denies marks row p a (Some o) = adds p.number marks marks (Denied p.number a) refl (stays p.number marks)
 
-accepts : (k c m : ℕ) (marks : List Mark) (row : Row) (p : Packet) (t : Tape) (o : Option Ballot) → Grows p.number marks (accept_turn k c m marks row p t o).marks
-accepts k c m marks row p t o = above o
+accepts : (s : Seat) (marks : List Mark) (row : Row) (p : Packet) (t : Tape) (o : Option Ballot) → Grows p.number marks (accept_turn s marks row p t o).marks
+accepts s marks row p t o = above o
   where
-    votes : (w : Row) (u : Tape) (note : said.Note) → Grows p.number marks (vote_turn k c m marks w p u note).marks
-    votes w u note = hears c p.number m p.ballot u marks marks (stays p.number marks)
+    votes : (w : Row) (u : Tape) (note : said.Note) → Grows p.number marks (vote_turn s marks w p u note).marks
+    votes w u note = hears s.members p.number s.me p.ballot u marks marks (stays p.number marks)
 
-    takes : (v : Option Vote) → Grows p.number marks (take_vote k c m marks row p t v).marks
+    takes : (v : Option Vote) → Grows p.number marks (take_vote s marks row p t v).marks
     takes None = votes (voted p.ballot t) t (said.Note_voted p.ballot)
     takes (Some v) = go (is_same v.ballot p.ballot) refl
       where
-        go : (x : Bool) → is_same v.ballot p.ballot ≡ x → Grows p.number marks (take_vote k c m marks row p t (Some v)).marks
+        go : (x : Bool) → is_same v.ballot p.ballot ≡ x → Grows p.number marks (take_vote s marks row p t (Some v)).marks
         go true e = rw e (votes row v.tape (said.Note_voted_again p.ballot))
         go false e = rw e (votes (voted p.ballot t) t (said.Note_voted p.ballot))
 
-    above : (q : Option Ballot) → Grows p.number marks (accept_turn k c m marks row p t q).marks
+    above : (q : Option Ballot) → Grows p.number marks (accept_turn s marks row p t q).marks
     above None = takes row.vote
     above (Some a) = go (is_below p.ballot a) refl
       where
-        go : (x : Bool) → is_below p.ballot a ≡ x → Grows p.number marks (accept_turn k c m marks row p t (Some a)).marks
+        go : (x : Bool) → is_below p.ballot a ≡ x → Grows p.number marks (accept_turn s marks row p t (Some a)).marks
         go true e = rw e (stays p.number marks)
         go false e = rw e (takes row.vote)
 
-receives : (k c m now : ℕ) (marks : List Mark) (row : Row) (p : Packet) (body : Body) → Grows p.number marks (packet_turn k c m now marks row p body).marks
-receives k c m now marks row p Prepare = rw (prepare_adds_none k m marks row p row.promised).0 (stays p.number marks)
-receives k c m now marks row p (Promise r) = promises k c m now marks row p r (gathering_at p.number p.ballot marks)
-receives k c m now marks row p (Accept t) = accepts k c m marks row p t row.promised
-receives k c m now marks row p (Accepted t) = hears c p.number p.from p.ballot t marks marks (stays p.number marks)
-receives k c m now marks row p (Nack a) = denies marks row p a (proposal_at p.number p.ballot marks)
+receives : (s : Seat) (now : ℕ) (marks : List Mark) (row : Row) (p : Packet) (body : Body) → Grows p.number marks (packet_turn s now marks row p body).marks
+receives s now marks row p Prepare = rw (prepare_adds_none s marks row p row.promised).0 (stays p.number marks)
+receives s now marks row p (Promise r) = promises s now marks row p r (gathering_at p.number p.ballot marks)
+receives s now marks row p (Accept t) = accepts s marks row p t row.promised
+receives s now marks row p (Accepted t) = hears s.members p.number p.from p.ballot t marks marks (stays p.number marks)
+receives s now marks row p (Nack a) = denies marks row p a (proposal_at p.number p.ballot marks)
 
 -- the turn of any event
-starts : (k c m n : ℕ) (own : Option Tape) (now : ℕ) (marks : List Mark) (row : Row) (o : Option Ballot) (t : said.Turn) → start_turn k c m n own now marks row o ≡ Some t → Grows n marks t.marks
-starts k c m n own now marks row None t e = absurd cc
-starts k c m n own now marks row (Some b) t e = let is : begin k c m n b own now marks row ≡ t = cc in subst (λ (u : said.Turn). Grows n marks u.marks) is (begins k c m n b own now marks row)
+starts : (s : Seat) (n : ℕ) (own : Option Tape) (now : ℕ) (marks : List Mark) (row : Row) (o : Option Ballot) (t : said.Turn) → start_turn s n own now marks row o ≡ Some t → Grows n marks t.marks
+starts s n own now marks row None t e = absurd cc
+starts s n own now marks row (Some b) t e = let is : begin s n b own now marks row ≡ t = cc in subst (λ (u : said.Turn). Grows n marks u.marks) is (begins s n b own now marks row)
 
-pub grows : (k c m : ℕ) (marks : List Mark) (row : Row) (event : said.Event) (t : said.Turn) → said.turn k c m marks row event ≡ Some t → Grows (said.number_of event) marks t.marks
-grows k c m marks row (said.Offered n tape now) t e = starts k c m n (Some tape) now marks row (next row.promised m) t e
-grows k c m marks row (said.Sought n now) t e = starts k c m n None now marks row (next row.promised m) t e
-grows k c m marks row (said.Came_due n now) t e = let is : due_turn k c m n now marks row (open_proposal n marks) ≡ t = cc in subst (λ (u : said.Turn). Grows n marks u.marks) is (falls_due k c m n now marks row (open_proposal n marks))
-grows k c m marks row (said.Arrived p now) t e = let is : packet_turn k c m now marks row p p.body ≡ t = cc in subst (λ (u : said.Turn). Grows p.number marks u.marks) is (receives k c m now marks row p p.body)
+pub grows : (s : Seat) (marks : List Mark) (row : Row) (event : said.Event) (t : said.Turn) → said.turn s marks row event ≡ Some t → Grows (said.number_of event) marks t.marks
+grows s marks row (said.Offered n tape now) t e = starts s n (Some tape) now marks row (next row.promised s.me) t e
+grows s marks row (said.Sought n now) t e = starts s n None now marks row (next row.promised s.me) t e
+grows s marks row (said.Came_due n now) t e = let is : due_turn s n now marks row (open_proposal n marks) ≡ t = cc in subst (λ (u : said.Turn). Grows n marks u.marks) is (falls_due s n now marks row (open_proposal n marks))
+grows s marks row (said.Arrived p now) t e = let is : packet_turn s now marks row p p.body ≡ t = cc in subst (λ (u : said.Turn). Grows p.number marks u.marks) is (receives s now marks row p p.body)

@@ -17,7 +17,7 @@ use Rattle.proposer.specs.declared.answer.Counted.{Counted}
 use Rattle.proposer.specs.declared.answer.Counted.TheVariants as kinds
 use Rattle.node_core.specs.declared.desk.Desk.{Desk}
 use Rattle.node_core.specs.declared.turn.Turn.{Turn}
-use Rattle.node_core.specs.Seats.{Seat}
+use Rattle.protocol.specs.Seats.{Seat}
 use Rattle.learner.specs.Latest.{hears, OtherMarksPass as OtherVotesPass}
 use Rattle.proposer.specs.InHand.{InHand, StandsFor as ProposalStandsFor}
 use Rattle.node_core.specs.Standing.{Answers, DeskStands, ProposalStands}
@@ -136,53 +136,53 @@ not_that (Some a) b o = go (is_same a b) refl
     go false h = h
 
 -- the lines of a promise
-module _ (k c m now : ℕ) (marks : List Mark) (row : Row) (p : Packet) (r : Option Vote) where
-  pub not_gathering : gathering_at p.number p.ballot marks ≡ None → promise_turn k c m now marks row p r (gathering_at p.number p.ballot marks) ≡ stays row marks said.Note_stale
+module _ (s : Seat) (now : ℕ) (marks : List Mark) (row : Row) (p : Packet) (r : Option Vote) where
+  pub not_gathering : gathering_at p.number p.ballot marks ≡ None → promise_turn s now marks row p r (gathering_at p.number p.ballot marks) ≡ stays row marks said.Note_stale
   not_gathering e = rw e refl
 
-  pub overtaken : (o : Opening) → gathering_at p.number p.ballot marks ≡ Some o → (row.promised ≡ Some p.ballot → ⊥) → promise_turn k c m now marks row p r (gathering_at p.number p.ballot marks) ≡ stays row marks (said.Note_overtaken p.ballot)
+  pub overtaken : (o : Opening) → gathering_at p.number p.ballot marks ≡ Some o → (row.promised ≡ Some p.ballot → ⊥) → promise_turn s now marks row p r (gathering_at p.number p.ballot marks) ≡ stays row marks (said.Note_overtaken p.ballot)
   overtaken o e passed = let f : is_that row.promised p.ballot ≡ false = not_that row.promised p.ballot passed in rw (e, f) refl
 
   module _ (promised : row.promised ≡ Some p.ballot) where
     at_it : is_that row.promised p.ballot ≡ true
     at_it = ap (λ (a : Option Ballot). is_that a p.ballot) promised ∙ is_same-self p.ballot
 
-    pub repeated : IsRepeated m p.number p.ballot p.from marks → promise_turn k c m now marks row p r (gathering_at p.number p.ballot marks) ≡ stays row marks said.Note_repeated
+    pub repeated : IsRepeated s.me p.number p.ballot p.from marks → promise_turn s now marks row p r (gathering_at p.number p.ballot marks) ≡ stays row marks said.Note_repeated
     repeated h =
         let e : gathering_at p.number p.ballot marks ≡ Some h.opening = h.gathers in
         let t : is_that row.promised p.ballot ≡ true = at_it in
-        let f : is_counted (counted m p.number h.opening (since_began p.number marks)) p.from ≡ true = h.is_repeated in
+        let f : is_counted (counted s.me p.number h.opening (since_began p.number marks)) p.from ≡ true = h.is_repeated in
         rw (e, t, f) refl
 
-    pub counts_so : (h : IsNew m p.number p.ballot p.from marks) → completes c m p.number p.ballot p.from r marks h.opening ≡ false → promise_turn k c m now marks row p r (gathering_at p.number p.ballot marks) ≡ stays row (Promised p.number p.from p.ballot r ∷ marks) (said.Note_counted p.ballot)
+    pub counts_so : (h : IsNew s.me p.number p.ballot p.from marks) → completes s.members s.me p.number p.ballot p.from r marks h.opening ≡ false → promise_turn s now marks row p r (gathering_at p.number p.ballot marks) ≡ stays row (Promised p.number p.from p.ballot r ∷ marks) (said.Note_counted p.ballot)
     counts_so h few =
         let e : gathering_at p.number p.ballot marks ≡ Some h.opening = h.gathers in
         let t : is_that row.promised p.ballot ≡ true = at_it in
-        let f : is_counted (counted m p.number h.opening (since_began p.number marks)) p.from ≡ false = h.is_new in
+        let f : is_counted (counted s.me p.number h.opening (since_began p.number marks)) p.from ≡ false = h.is_new in
         rw (e, t, f, few) refl
 
     -- the same from what became of the promise
-    pub counts_as : IsCountedAs kinds.More c m p.number p.ballot p.from r marks → promise_turn k c m now marks row p r (gathering_at p.number p.ballot marks) ≡ stays row (Promised p.number p.from p.ballot r ∷ marks) (said.Note_counted p.ballot)
+    pub counts_as : IsCountedAs kinds.More s.members s.me p.number p.ballot p.from r marks → promise_turn s now marks row p r (gathering_at p.number p.ballot marks) ≡ stays row (Promised p.number p.from p.ballot r ∷ marks) (said.Note_counted p.ballot)
     counts_as h = counts_so h.0 h.1
 
-    pub completes_so : (h : IsNew m p.number p.ballot p.from marks) → completes c m p.number p.ballot p.from r marks h.opening ≡ true
-        → promise_turn k c m now marks row p r (gathering_at p.number p.ballot marks)
-        ≡ propose k c m p.number p.ballot now (Promised p.number p.from p.ballot r ∷ marks) row (pick h.opening.own (counted m p.number h.opening (Promised p.number p.from p.ballot r ∷ since_began p.number marks)))
+    pub completes_so : (h : IsNew s.me p.number p.ballot p.from marks) → completes s.members s.me p.number p.ballot p.from r marks h.opening ≡ true
+        → promise_turn s now marks row p r (gathering_at p.number p.ballot marks)
+        ≡ propose s p.number p.ballot now (Promised p.number p.from p.ballot r ∷ marks) row (pick h.opening.own (counted s.me p.number h.opening (Promised p.number p.from p.ballot r ∷ since_began p.number marks)))
     completes_so h many =
         let e : gathering_at p.number p.ballot marks ≡ Some h.opening = h.gathers in
         let t : is_that row.promised p.ballot ≡ true = at_it in
-        let f : is_counted (counted m p.number h.opening (since_began p.number marks)) p.from ≡ false = h.is_new in
+        let f : is_counted (counted s.me p.number h.opening (since_began p.number marks)) p.from ≡ false = h.is_new in
         rw (e, t, f, many) refl
 
     pub completes_as :
-        (x : Turn) (d : Desk) → IsCountedAs kinds.Quorum c m p.number p.ballot p.from r marks
-        → ((o : Opening) → open_proposal p.number marks ≡ Some o → o.ballot ≡ p.ballot → Answers row (propose k c m p.number p.ballot now (Promised p.number p.from p.ballot r ∷ marks) (raised row p.ballot) (pick o.own (counted m p.number o (Promised p.number p.from p.ballot r ∷ since_began p.number marks)))) x d)
-        → Answers row (promise_turn k c m now marks row p r (gathering_at p.number p.ballot marks)) x d
+        (x : Turn) (d : Desk) → IsCountedAs kinds.Quorum s.members s.me p.number p.ballot p.from r marks
+        → ((o : Opening) → open_proposal p.number marks ≡ Some o → o.ballot ≡ p.ballot → Answers row (propose s p.number p.ballot now (Promised p.number p.from p.ballot r ∷ marks) (raised row p.ballot) (pick o.own (counted s.me p.number o (Promised p.number p.from p.ballot r ∷ since_began p.number marks)))) x d)
+        → Answers row (promise_turn s now marks row p r (gathering_at p.number p.ballot marks)) x d
     completes_as x d h turn =
         let opens = gathers_open p.number p.ballot marks h.0.opening h.0.gathers in
         let answer = turn h.0.opening opens.0 opens.1 in
         rw (completes_so h.0 h.1)
-        (subst (λ (w : Row). Answers row (propose k c m p.number p.ballot now (Promised p.number p.from p.ballot r ∷ marks) w (pick h.0.opening.own (counted m p.number h.0.opening (Promised p.number p.from p.ballot r ∷ since_began p.number marks)))) x d) (raised_same row p.ballot promised) answer)
+        (subst (λ (w : Row). Answers row (propose s p.number p.ballot now (Promised p.number p.from p.ballot r ∷ marks) w (pick h.0.opening.own (counted s.me p.number h.0.opening (Promised p.number p.from p.ballot r ∷ since_began p.number marks)))) x d) (raised_same row p.ballot promised) answer)
 
 -- what became of a promise, told of the packet and the seat
 pub counted_as :
@@ -201,22 +201,22 @@ none_at n marks e = go (open_proposal n marks) refl
     go (Some o) h = let f : None ≡ Some o.ballot = rw h at e in absurd cc
 
 -- the lines of a due moment
-module _ (k c m n now : ℕ) (marks : List Mark) (row : Row) where
-  pub not_due : (o : Opening) → open_proposal n marks ≡ Some o → is_due m n now (since_began n marks) (Some o) ≡ false → due_turn k c m n now marks row (open_proposal n marks) ≡ stays row marks said.Note_idle
+module _ (s : Seat) (n now : ℕ) (marks : List Mark) (row : Row) where
+  pub not_due : (o : Opening) → open_proposal n marks ≡ Some o → is_due s.me n now (since_began n marks) (Some o) ≡ false → due_turn s n now marks row (open_proposal n marks) ≡ stays row marks said.Note_idle
   not_due o e f = rw (e, f) refl
 
-  pub gives_up : (o : Opening) → open_proposal n marks ≡ Some o → is_due m n now (since_began n marks) (Some o) ≡ true → next_ballot m n marks row ≡ None → due_turn k c m n now marks row (open_proposal n marks) ≡ stays row (Closed n ∷ marks) (said.Note_gave_up o.ballot)
+  pub gives_up : (o : Opening) → open_proposal n marks ≡ Some o → is_due s.me n now (since_began n marks) (Some o) ≡ true → next_ballot s.me n marks row ≡ None → due_turn s n now marks row (open_proposal n marks) ≡ stays row (Closed n ∷ marks) (said.Note_gave_up o.ballot)
   gives_up o e f g = rw (e, f, g) refl
 
-  pub renews : (o : Opening) (b : Ballot) → open_proposal n marks ≡ Some o → is_due m n now (since_began n marks) (Some o) ≡ true → next_ballot m n marks row ≡ Some b → due_turn k c m n now marks row (open_proposal n marks) ≡ begin k c m n b o.own now marks row
+  pub renews : (o : Opening) (b : Ballot) → open_proposal n marks ≡ Some o → is_due s.me n now (since_began n marks) (Some o) ≡ true → next_ballot s.me n marks row ≡ Some b → due_turn s n now marks row (open_proposal n marks) ≡ begin s n b o.own now marks row
   renews o b e f g = rw (e, f, g) refl
 
-  pub renews_above : (b : Ballot) → next_ballot m n marks row ≡ Some b → is_above row.promised b ≡ false
+  pub renews_above : (b : Ballot) → next_ballot s.me n marks row ≡ Some b → is_above row.promised b ≡ false
   renews_above b g = go (nat_le 32 (begun n marks)) refl
     where
       go : (t : Bool) → nat_le 32 (begun n marks) ≡ t → is_above row.promised b ≡ false
       go true h = let f : None ≡ Some b = rw h at g in absurd cc
-      go false h = not_below_greater row.promised (denied n marks) b (next_above (greater_ballot row.promised (denied n marks)) m b (rw h at g))
+      go false h = not_below_greater row.promised (denied n marks) b (next_above (greater_ballot row.promised (denied n marks)) s.me b (rw h at g))
 
 not_below_itself : (a : Ballot) → is_below a a ≡ false
 not_below_itself a = grind (arith, nat_tests)
@@ -228,16 +228,16 @@ promised_not_above p b e = ap (λ (a : Option Ballot). is_above a b) e ∙ not_b
 -- a proposing desk's answer, told of another's number and ballot that are equal to its own
 pub told :
     (s : Seat) (now : ℕ) (row : Row) (x : Turn) (d e : Desk) (b : Ballot) (n : ℕ) (a : Ballot) (marks : List Mark) → e.number ≡ n → b ≡ a
-    → ((o : Opening) → is_above row.promised b ≡ false → DeskStands e marks → open_proposal e.number marks ≡ Some o → o.ballot ≡ b → Answers row (propose s.circuit s.members s.me e.number b now marks (raised row b) (pick o.own (counted s.me e.number o (since_began e.number marks)))) x d)
+    → ((o : Opening) → is_above row.promised b ≡ false → DeskStands e marks → open_proposal e.number marks ≡ Some o → o.ballot ≡ b → Answers row (propose s e.number b now marks (raised row b) (pick o.own (counted s.me e.number o (since_began e.number marks)))) x d)
     → is_above row.promised a ≡ false → DeskStands e marks
-    → (o : Opening) → open_proposal n marks ≡ Some o → o.ballot ≡ a → Answers row (propose s.circuit s.members s.me n a now marks (raised row a) (pick o.own (counted s.me n o (since_began n marks)))) x d
+    → (o : Opening) → open_proposal n marks ≡ Some o → o.ballot ≡ a → Answers row (propose s n a now marks (raised row a) (pick o.own (counted s.me n o (since_began n marks)))) x d
 told s now row x d e b n a marks is_n is_a h above stands o opens at =
-    subst (λ j. Answers row (propose s.circuit s.members s.me j a now marks (raised row a) (pick o.own (counted s.me j o (since_began j marks)))) x d) is_n
-    (subst (λ (y : Ballot). Answers row (propose s.circuit s.members s.me e.number y now marks (raised row y) (pick o.own (counted s.me e.number o (since_began e.number marks)))) x d) is_a
+    subst (λ j. Answers row (propose s j a now marks (raised row a) (pick o.own (counted s.me j o (since_began j marks)))) x d) is_n
+    (subst (λ (y : Ballot). Answers row (propose s e.number y now marks (raised row y) (pick o.own (counted s.me e.number o (since_began e.number marks)))) x d) is_a
     (h o (subst (λ (y : Ballot). is_above row.promised y ≡ false) (sym is_a) above) stands (subst (λ j. open_proposal j marks ≡ Some o) (sym is_n) opens) (at ∙ sym is_a)))
 
 -- a due moment of a number that was released
-pub idle_alone : (s : Seat) (n now : ℕ) (marks : List Mark) (row : Row) (x : Turn) → was_released n marks ≡ true → x.row ≡ None → x.mail ≡ None → x.release ≡ None → x.note ≡ notes.Idle → IsTurnAlone row marks (due_turn s.circuit s.members s.me n now marks row (open_proposal n marks)) x
+pub idle_alone : (s : Seat) (n now : ℕ) (marks : List Mark) (row : Row) (x : Turn) → was_released n marks ≡ true → x.row ≡ None → x.mail ≡ None → x.release ≡ None → x.note ≡ notes.Idle → IsTurnAlone row marks (due_turn s n now marks row (open_proposal n marks)) x
 idle_alone s n now marks row x released saves sends releases noted = rw released (record {
   is_turn = record { row_after = rw saves refl; out = rw sends refl; release = releases; note = rw noted refl };
   takes_nothing = refl;

@@ -2,6 +2,7 @@
 use Rattle.std.proofs.Common.{◌≡◌, ℕ, refl, sym, ap, subst, ◌∙◌, List, [], ◌∷◌, Option, Some, None, Bool, true, false, arith}
 use Rattle.std.specs.Prelude.{◌==◌}
 use Rattle.std.proofs.lemmas.Bool.Decides.{nat_tests}
+use Rattle.protocol.specs.Seats.{Seat}
 use Rattle.protocol.specs.Ballots.{Ballot, is_same, is_below, next}
 use Rattle.protocol.specs.Rows.{Tape, Vote, Row, raised}
 use Rattle.protocol.specs.Packets.{Packet, Body, Prepare, Promise, Accept, Accepted, Nack}
@@ -16,42 +17,42 @@ use Rattle.node_core.proofs.Phases.{counts_so, completes_so, none_gathers}
 use Rattle.node_core.proofs.Accepting.{prepare_adds_none}
 
 -- a turn that proposes, or closes the proposal
-propose_stirs : (k c m n : ℕ) (b : Ballot) (now : ℕ) (marks : List Mark) (row : Row) (o : Option Tape) → Stirs (propose k c m n b now marks row o)
-propose_stirs k c m n b now marks row None = refl
-propose_stirs k c m n b now marks row (Some t) = refl
+propose_stirs : (s : Seat) (n : ℕ) (b : Ballot) (now : ℕ) (marks : List Mark) (row : Row) (o : Option Tape) → Stirs (propose s n b now marks row o)
+propose_stirs s n b now marks row None = refl
+propose_stirs s n b now marks row (Some t) = refl
 
-pub begin_stirs : (k c m n : ℕ) (b : Ballot) (own : Option Tape) (now : ℕ) (marks : List Mark) (row : Row) → Stirs (begin k c m n b own now marks row)
-begin_stirs k c m n b own now marks row = go (c == 1) refl
+pub begin_stirs : (s : Seat) (n : ℕ) (b : Ballot) (own : Option Tape) (now : ℕ) (marks : List Mark) (row : Row) → Stirs (begin s n b own now marks row)
+begin_stirs s n b own now marks row = go (s.members == 1) refl
   where
-    go : (x : Bool) → (c == 1) ≡ x → Stirs (begin k c m n b own now marks row)
-    go true e = rw e (propose_stirs k c m n b now (Began n b own row.vote now ∷ marks) (raised row b) (pick own (record { member = m; report = row.vote } ∷ [])))
+    go : (x : Bool) → (s.members == 1) ≡ x → Stirs (begin s n b own now marks row)
+    go true e = rw e (propose_stirs s n b now (Began n b own row.vote now ∷ marks) (raised row b) (pick own (record { member = s.me; report = row.vote } ∷ [])))
     go false e = rw e refl
 
-renew_stirs : (k c m n now : ℕ) (p : Opening) (marks : List Mark) (row : Row) (b : Option Ballot) → Stirs (renew k c m n now p marks row b)
-renew_stirs k c m n now p marks row None = refl
-renew_stirs k c m n now p marks row (Some b) = begin_stirs k c m n b p.own now marks row
+renew_stirs : (s : Seat) (n now : ℕ) (p : Opening) (marks : List Mark) (row : Row) (b : Option Ballot) → Stirs (renew s n now p marks row b)
+renew_stirs s n now p marks row None = refl
+renew_stirs s n now p marks row (Some b) = begin_stirs s n b p.own now marks row
 
 -- a proposal that is due begins anew, or is closed
-pub due_stirs : (k c m n now : ℕ) (marks : List Mark) (row : Row) → is_due_number m now marks n ≡ true → Stirs (due_turn k c m n now marks row (open_proposal n marks))
-due_stirs k c m n now marks row d = go (open_proposal n marks) refl
+pub due_stirs : (s : Seat) (n now : ℕ) (marks : List Mark) (row : Row) → is_due_number s.me now marks n ≡ true → Stirs (due_turn s n now marks row (open_proposal n marks))
+due_stirs s n now marks row d = go (open_proposal n marks) refl
   where
-    go : (q : Option Opening) → open_proposal n marks ≡ q → Stirs (due_turn k c m n now marks row (open_proposal n marks))
+    go : (q : Option Opening) → open_proposal n marks ≡ q → Stirs (due_turn s n now marks row (open_proposal n marks))
     go None h = let bad : false ≡ true = rw h at d in absurd cc
     go (Some p) h =
-        let t : is_due m n now (since_began n marks) (Some p) ≡ true = rw h at d in
-        rw (h, t) (renew_stirs k c m n now p marks row (next_ballot m n marks row))
+        let t : is_due s.me n now (since_began n marks) (Some p) ≡ true = rw h at d in
+        rw (h, t) (renew_stirs s n now p marks row (next_ballot s.me n marks row))
 
 -- a promise that is new is counted
 pub promise_stirs :
-    (k c m now : ℕ) (marks : List Mark) (row : Row) (p : Packet) (r : Option Vote) → row.promised ≡ Some p.ballot → IsNew m p.number p.ballot p.from marks
-    → Stirs (promise_turn k c m now marks row p r (gathering_at p.number p.ballot marks))
-promise_stirs k c m now marks row p r promised h = go (completes c m p.number p.ballot p.from r marks h.opening) refl
+    (s : Seat) (now : ℕ) (marks : List Mark) (row : Row) (p : Packet) (r : Option Vote) → row.promised ≡ Some p.ballot → IsNew s.me p.number p.ballot p.from marks
+    → Stirs (promise_turn s now marks row p r (gathering_at p.number p.ballot marks))
+promise_stirs s now marks row p r promised h = go (completes s.members s.me p.number p.ballot p.from r marks h.opening) refl
   where
-    go : (x : Bool) → completes c m p.number p.ballot p.from r marks h.opening ≡ x → Stirs (promise_turn k c m now marks row p r (gathering_at p.number p.ballot marks))
-    go false few = rw (counts_so k c m now marks row p r promised h few) refl
+    go : (x : Bool) → completes s.members s.me p.number p.ballot p.from r marks h.opening ≡ x → Stirs (promise_turn s now marks row p r (gathering_at p.number p.ballot marks))
+    go false few = rw (counts_so s now marks row p r promised h few) refl
     go true many =
-        rw (completes_so k c m now marks row p r promised h many)
-        (propose_stirs k c m p.number p.ballot now (Promised p.number p.from p.ballot r ∷ marks) row (pick h.opening.own (counted m p.number h.opening (Promised p.number p.from p.ballot r ∷ since_began p.number marks))))
+        rw (completes_so s now marks row p r promised h many)
+        (propose_stirs s p.number p.ballot now (Promised p.number p.from p.ballot r ∷ marks) row (pick h.opening.own (counted s.me p.number h.opening (Promised p.number p.from p.ballot r ∷ since_began p.number marks))))
 
 pub is_new_told : (m n j : ℕ) (b a : Ballot) (from k : ℕ) (marks : List Mark) → n ≡ j → b ≡ a → from ≡ k → IsNew m n b from marks → IsNew m j a k marks
 is_new_told m n j b a from k marks e f g h = subst (λ i. IsNew m j a i marks) g (subst (λ (x : Ballot). IsNew m j x from marks) f (subst (λ i. IsNew m i b from marks) e h))
@@ -60,69 +61,69 @@ not_below_same : (a b : Ballot) → is_same a b ≡ true → is_below b a ≡ fa
 not_below_same a b h = grind (arith, nat_tests)
 
 -- a Prepare is answered, unless it is promised already
-pub prepare_stirs : (k m : ℕ) (marks : List Mark) (row : Row) (p : Packet) → (reply_of row (Prepares p.ballot) ≡ Says_nothing → ⊥) → Stirs (prepare_turn k m marks row p row.promised)
-prepare_stirs k m marks row p speaks = go row.promised refl
+pub prepare_stirs : (s : Seat) (marks : List Mark) (row : Row) (p : Packet) → (reply_of row (Prepares p.ballot) ≡ Says_nothing → ⊥) → Stirs (prepare_turn s marks row p row.promised)
+prepare_stirs s marks row p speaks = go row.promised refl
   where
-    below : (a : Ballot) → row.promised ≡ Some a → (x : Bool) → is_below a p.ballot ≡ x → (y : Bool) → is_same a p.ballot ≡ y → Stirs (prepare_turn k m marks row p row.promised)
+    below : (a : Ballot) → row.promised ≡ Some a → (x : Bool) → is_below a p.ballot ≡ x → (y : Bool) → is_same a p.ballot ≡ y → Stirs (prepare_turn s marks row p row.promised)
     below a h true e y f = rw (h, e) refl
     below a h false e true f =
         let g : is_below p.ballot a ≡ false = not_below_same a p.ballot f in
         absurd (speaks (rw (h, g, f) refl))
     below a h false e false f = rw (h, e, f) refl
 
-    go : (q : Option Ballot) → row.promised ≡ q → Stirs (prepare_turn k m marks row p row.promised)
+    go : (q : Option Ballot) → row.promised ≡ q → Stirs (prepare_turn s marks row p row.promised)
     go None h = rw h refl
     go (Some a) h = below a h (is_below a p.ballot) refl (is_same a p.ballot) refl
 
 -- an Accept is answered
-pub accept_stirs : (k c m : ℕ) (marks : List Mark) (row : Row) (p : Packet) (t : Tape) (q : Option Ballot) → Stirs (accept_turn k c m marks row p t q)
-accept_stirs k c m marks row p t q = above q
+pub accept_stirs : (s : Seat) (marks : List Mark) (row : Row) (p : Packet) (t : Tape) (q : Option Ballot) → Stirs (accept_turn s marks row p t q)
+accept_stirs s marks row p t q = above q
   where
-    takes : (v : Option Vote) → Stirs (take_vote k c m marks row p t v)
+    takes : (v : Option Vote) → Stirs (take_vote s marks row p t v)
     takes None = refl
     takes (Some v) = go (is_same v.ballot p.ballot) refl
       where
-        go : (x : Bool) → is_same v.ballot p.ballot ≡ x → Stirs (take_vote k c m marks row p t (Some v))
+        go : (x : Bool) → is_same v.ballot p.ballot ≡ x → Stirs (take_vote s marks row p t (Some v))
         go true e = rw e refl
         go false e = rw e refl
 
-    above : (o : Option Ballot) → Stirs (accept_turn k c m marks row p t o)
+    above : (o : Option Ballot) → Stirs (accept_turn s marks row p t o)
     above None = takes row.vote
     above (Some a) = go (is_below p.ballot a) refl
       where
-        go : (x : Bool) → is_below p.ballot a ≡ x → Stirs (accept_turn k c m marks row p t (Some a))
+        go : (x : Bool) → is_below p.ballot a ≡ x → Stirs (accept_turn s marks row p t (Some a))
         go true e = rw e refl
         go false e = rw e (takes row.vote)
 
 -- a vote is heard where its number was not released
-pub accepted_stirs : (c : ℕ) (marks : List Mark) (row : Row) (p : Packet) (t : Tape) → was_released p.number marks ≡ false → Stirs (accepted_turn c marks row p t)
-accepted_stirs c marks row p t u = rw u refl
+pub accepted_stirs : (s : Seat) (marks : List Mark) (row : Row) (p : Packet) (t : Tape) → was_released p.number marks ≡ false → Stirs (accepted_turn s marks row p t)
+accepted_stirs s marks row p t u = rw u refl
 
 -- where no proposal is open, a quiet turn takes nothing in
-module _ (k c m : ℕ) (marks : List Mark) (row : Row) where
+module _ (s : Seat) (marks : List Mark) (row : Row) where
   abbrev Keeps : said.Turn → Type 0
   Keeps t = is_quiet t.note ≡ true → t.marks ≡ marks
 
   stirred : (t : said.Turn) → Stirs t → Keeps t
-  stirred t s q = let bad : true ≡ false = sym q ∙ s in absurd cc
+  stirred t h q = let bad : true ≡ false = sym q ∙ h in absurd cc
 
-  started : (n : ℕ) (own : Option Tape) (now : ℕ) (o : Option Ballot) (t : said.Turn) → start_turn k c m n own now marks row o ≡ Some t → Keeps t
+  started : (n : ℕ) (own : Option Tape) (now : ℕ) (o : Option Ballot) (t : said.Turn) → start_turn s n own now marks row o ≡ Some t → Keeps t
   started n own now None t e = absurd cc
-  started n own now (Some b) t e = let is : begin k c m n b own now marks row ≡ t = cc in subst Keeps is (stirred (begin k c m n b own now marks row) (begin_stirs k c m n b own now marks row))
+  started n own now (Some b) t e = let is : begin s n b own now marks row ≡ t = cc in subst Keeps is (stirred (begin s n b own now marks row) (begin_stirs s n b own now marks row))
 
-  received : (p : Packet) (now : ℕ) (body : Body) → open_proposal p.number marks ≡ None → Keeps (packet_turn k c m now marks row p body)
-  received p now Prepare h q = (prepare_adds_none k m marks row p row.promised).0
+  received : (p : Packet) (now : ℕ) (body : Body) → open_proposal p.number marks ≡ None → Keeps (packet_turn s now marks row p body)
+  received p now Prepare h q = (prepare_adds_none s marks row p row.promised).0
   received p now (Promise r) h q = let none : gathering_at p.number p.ballot marks ≡ None = none_gathers p.number p.ballot marks h in rw none refl
-  received p now (Accept t) h q = stirred (accept_turn k c m marks row p t row.promised) (accept_stirs k c m marks row p t row.promised) q
+  received p now (Accept t) h q = stirred (accept_turn s marks row p t row.promised) (accept_stirs s marks row p t row.promised) q
   received p now (Accepted t) h q = go (was_released p.number marks) refl q
     where
-      go : (x : Bool) → was_released p.number marks ≡ x → Keeps (accepted_turn c marks row p t)
+      go : (x : Bool) → was_released p.number marks ≡ x → Keeps (accepted_turn s marks row p t)
       go true e q = rw e refl
-      go false e q = stirred (accepted_turn c marks row p t) (accepted_stirs c marks row p t e) q
+      go false e q = stirred (accepted_turn s marks row p t) (accepted_stirs s marks row p t e) q
   received p now (Nack a) h q = rw h refl
 
-  pub quiet_keeps : (event : said.Event) (t : said.Turn) → said.turn k c m marks row event ≡ Some t → open_proposal (said.number_of event) marks ≡ None → is_quiet t.note ≡ true → t.marks ≡ marks
-  quiet_keeps (said.Offered n tape now) t e h q = started n (Some tape) now (next row.promised m) t e q
-  quiet_keeps (said.Sought n now) t e h q = started n None now (next row.promised m) t e q
-  quiet_keeps (said.Came_due n now) t e h q = let is : due_turn k c m n now marks row (open_proposal n marks) ≡ t = cc in subst Keeps is (λ _. rw h refl) q
-  quiet_keeps (said.Arrived p now) t e h q = let is : packet_turn k c m now marks row p p.body ≡ t = cc in subst Keeps is (received p now p.body h) q
+  pub quiet_keeps : (event : said.Event) (t : said.Turn) → said.turn s marks row event ≡ Some t → open_proposal (said.number_of event) marks ≡ None → is_quiet t.note ≡ true → t.marks ≡ marks
+  quiet_keeps (said.Offered n tape now) t e h q = started n (Some tape) now (next row.promised s.me) t e q
+  quiet_keeps (said.Sought n now) t e h q = started n None now (next row.promised s.me) t e q
+  quiet_keeps (said.Came_due n now) t e h q = let is : due_turn s n now marks row (open_proposal n marks) ≡ t = cc in subst Keeps is (λ _. rw h refl) q
+  quiet_keeps (said.Arrived p now) t e h q = let is : packet_turn s now marks row p p.body ≡ t = cc in subst Keeps is (received p now p.body h) q

@@ -12,7 +12,7 @@ use Rattle.node_core.specs.declared.event.Event.TheVariants as events
 use Rattle.node_core.specs.declared.turn.Turn.{Turn}
 use Rattle.node_core.specs.declared.turn.CoreRefusal.{CoreRefusal}
 use Rattle.node_core.specs.declared.turn.CoreRefusal.TheVariants as refusals
-use Rattle.node_core.specs.Seats.{Seat}
+use Rattle.protocol.specs.Seats.{Seat}
 use Rattle.node_core.specs.Turns.{event_value, Stirs}
 use Rattle.node_core.specs.Standing.{Core, StandsFor, Took, seat_of}
 
@@ -38,7 +38,7 @@ pub record StartIs (s : Seat) (n : ℕ) (own : Option Tape) (now : ℕ) (marks :
   pub free : IsFree n marks
   pub ballot : Ballot
   pub is_next : next row.promised s.me ≡ Some ballot
-  pub holds : P (begin s.circuit s.members s.me n ballot own now marks row)
+  pub holds : P (begin s n ballot own now marks row)
 
 -- why member m is refused an offer or a search of n, where this stands for marks and nothing of it changes; want of memory may leave anything
 abbrev pub RefusesToStart : CoreRefusal → Type 0 → (List Mark → Type 0) → ℕ → ℕ → Row → Type 0
@@ -59,14 +59,14 @@ IsFreeFor (events.Arrived packet now) marks = Unit {0}
 pub record TookTurn (old : Core) (event : Event) (marks : List Mark) (row : Row) (x : Turn) (new : Core) : Type 0 where
   pub free : IsFreeFor event marks
   pub turn : said.Turn
-  pub is_the_turn : said.turn old.circuit old.members old.me marks row (event_value event) ≡ Some turn
+  pub is_the_turn : said.turn (seat_of old) marks row (event_value event) ≡ Some turn
   pub took : Took row turn x new
 
 -- the turn of the event is one of which P holds
 pub record TurnIs (s : Seat) (event : Event) (marks : List Mark) (row : Row) (P : said.Turn → Type 0) : Type 0 where
   pub free : IsFreeFor event marks
   pub turn : said.Turn
-  pub is_the_turn : said.turn s.circuit s.members s.me marks row (event_value event) ≡ Some turn
+  pub is_the_turn : said.turn s marks row (event_value event) ≡ Some turn
   pub holds : P turn
 
 -- why member m is refused the event: all but an offer and a search are refused for want of memory alone

@@ -8,7 +8,7 @@ use Rattle.node_core.specs.declared.event.Event.{Event}
 use Rattle.node_core.specs.declared.turn.Turn.{Turn}
 use Rattle.node_core.specs.declared.turn.CoreRefusal.{CoreRefusal}
 use Rattle.node_core.specs.declared.turn.CoreRefusal.TheVariants as refusals
-use Rattle.node_core.specs.Seats.{Seat}
+use Rattle.protocol.specs.Seats.{Seat}
 use Rattle.node_core.specs.Standing.{Core, StandsFor, DeskStands, Answers, Settles, seat_of}
 use Rattle.node_core.specs.Calls.{StartIs, TurnIs, MayTakeMemory}
 use Rattle.node_core.specs.Turns.{IsTurn, IsRowAfter, note_value, Stirs, sent}
@@ -55,12 +55,12 @@ Acts n event row result old new =
 -- what the code hands out is a vote for this tape
 pub record IsVote (s : Seat) (row : Row) (p : Packet) (tape : Tape) (x : Turn) (voted : Tape) : Type 0 where
   pub after : Row
-  pub line : (marks : List Mark) → accept_turn s.circuit s.members s.me marks row p tape row.promised ≡ vote_turn s.circuit s.members s.me marks after p voted (note_value x.note)
+  pub line : (marks : List Mark) → accept_turn s marks row p tape row.promised ≡ vote_turn s marks after p voted (note_value x.note)
   pub row_after : IsRowAfter row after x.row
-  pub out : sent row x ≡ to_others s.circuit s.members s.me p.number p.ballot (Accepted voted)
+  pub out : sent row x ≡ to_others s p.number p.ballot (Accepted voted)
   pub release : x.release ≡ None
 
 -- an Accept is voted for, with this tape, or refused
 abbrev pub IsVoting : Seat → Row → Packet → Tape → Turn → Option Tape → Type 0
-IsVoting s row p tape x None = (marks : List Mark) → IsTurnAlone row marks (accept_turn s.circuit s.members s.me marks row p tape row.promised) x
+IsVoting s row p tape x None = (marks : List Mark) → IsTurnAlone row marks (accept_turn s marks row p tape row.promised) x
 IsVoting s row p tape x (Some voted) = IsVote s row p tape x voted

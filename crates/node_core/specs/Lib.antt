@@ -1,5 +1,4 @@
 pub mod Calls
-pub mod Seats
 pub mod Mails
 pub mod Standing
 pub mod Turns

@@ -5,7 +5,7 @@ use Rattle.protocol.specs.Rows.{Tape, Vote}
 use Rattle.protocol.specs.Packets.{Packet, Prepare, Promise, Accept, Accepted, Nack}
 use Rattle.protocol.specs.Turn.{packet_to, to_others}
 use Rattle.packets.specs.Rules.{keeps_rules}
-use Rattle.node_core.specs.Seats.{Seat}
+use Rattle.protocol.specs.Seats.{Seat}
 use Rattle.node_core.specs.declared.mail.Letter.{Letter}
 use Rattle.node_core.specs.declared.mail.Letter.TheVariants as letters
 
@@ -28,11 +28,11 @@ of_tape packets (Some v) = packets v.tape
 
 -- what goes out, where this is the vote of the row after the turn
 abbrev pub letter_sends : Seat → ℕ → Ballot → Option Vote → Letter → List Packet
-letter_sends s n b vote letters.Prepare = to_others s.circuit s.members s.me n b Prepare
-letter_sends s n b vote letters.Proposal = of_tape (λ tape. to_others s.circuit s.members s.me n b (Accept tape) ++ to_others s.circuit s.members s.me n b (Accepted tape)) vote
-letter_sends s n b vote letters.Vote = of_tape (λ tape. to_others s.circuit s.members s.me n b (Accepted tape)) vote
-letter_sends s n b vote (letters.Promise to) = packet_to s.circuit s.me n b (Promise (vote_below b vote)) to ∷ []
-letter_sends s n b vote (letters.Nack to promised) = packet_to s.circuit s.me n b (Nack promised) to ∷ []
+letter_sends s n b vote letters.Prepare = to_others s n b Prepare
+letter_sends s n b vote letters.Proposal = of_tape (λ tape. to_others s n b (Accept tape) ++ to_others s n b (Accepted tape)) vote
+letter_sends s n b vote letters.Vote = of_tape (λ tape. to_others s n b (Accepted tape)) vote
+letter_sends s n b vote (letters.Promise to) = packet_to s n b (Promise (vote_below b vote)) to ∷ []
+letter_sends s n b vote (letters.Nack to promised) = packet_to s n b (Nack promised) to ∷ []
 
 abbrev pub mail_sends : Option Mail → Option Vote → List Packet
 mail_sends None vote = []
@@ -43,8 +43,8 @@ abbrev pub MayGo : Seat → ℕ → Ballot → Letter → Type 0
 MayGo s n b letters.Prepare = b.owner ≡ s.me
 MayGo s n b letters.Proposal = b.owner ≡ s.me
 MayGo s n b letters.Vote = Unit {0}
-MayGo s n b (letters.Promise to) = IsTrue (keeps_rules (packet_to s.circuit s.me n b (Promise None) to))
-MayGo s n b (letters.Nack to promised) = IsTrue (keeps_rules (packet_to s.circuit s.me n b (Nack promised) to))
+MayGo s n b (letters.Promise to) = IsTrue (keeps_rules (packet_to s n b (Promise None) to))
+MayGo s n b (letters.Nack to promised) = IsTrue (keeps_rules (packet_to s n b (Nack promised) to))
 
 -- two packets go out to each of 14 others at most
 abbrev pub IsFew : Option Mail → Type 0

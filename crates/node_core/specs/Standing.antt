@@ -12,7 +12,7 @@ use Rattle.protocol.specs.Rows.{Tape, Row}
 use Rattle.protocol.specs.Turn as said
 use Rattle.node_core.specs.declared.desk.Desk.{Desk}
 use Rattle.node_core.specs.declared.turn.Turn.{Turn}
-use Rattle.node_core.specs.Seats.{Seat}
+use Rattle.protocol.specs.Seats.{Seat}
 use Rattle.node_core.specs.Turns.{IsTurn}
 
 -- a core: its circuit's number, which member it is, of how many, whether memory was refused to it,

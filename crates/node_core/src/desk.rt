@@ -14,7 +14,7 @@ ghost use Rattle.learner.specs.Latest.{StandsFor};
 ghost use Rattle.node_core.specs.Standing.{DeskStands, fresh, IsDeskOf, IsLeft, Answers};
 ghost use Rattle.node_core.specs.Calls.{IsForMember, MayCome, StartIs, RefusesToStart, IsRefused};
 ghost use Rattle.node_core.specs.Handling.{Handles, Starts, Takes};
-ghost use Rattle.node_core.specs.Seats.{Seat as SeatValue};
+ghost use Rattle.protocol.specs.Seats.{Seat as SeatValue};
 ghost use Rattle.node_core.specs.Turns.{event_value, note_value, is_quiet, HasPromise, IsOrderly};
 
 use crate::event::Event;
@@ -157,7 +157,7 @@ impl Desk {
     ) -> Result<Turn, AllocError>
         requires of { IsDeskOf seat self.old }
         requires owner { ballot.owner ≡ seat.me }
-        ensures turn { IfOk result (λ x. (marks : List Mark) (o : Opening) (before : RowValue) → DeskStands self.old marks → open_proposal self.old.number marks ≡ Some o → o.ballot ≡ ballot → Answers row.now (propose seat.circuit seat.members seat.me self.old.number ballot now marks before (Some tape)) x self.new) }
+        ensures turn { IfOk result (λ x. (marks : List Mark) (o : Opening) (before : RowValue) → DeskStands self.old marks → open_proposal self.old.number marks ≡ Some o → o.ballot ≡ ballot → Answers row.now (propose seat self.old.number ballot now marks before (Some tape)) x self.new) }
         ensures orderly { IfOk result (λ x. IsOrderly x) }
         ensures of { IsDeskOf seat self.new }
         ensures number { self.new.number ≡ self.old.number }
@@ -183,7 +183,7 @@ impl Desk {
     ) -> Result<Turn, AllocError>
         requires of { IsDeskOf seat self.old }
         requires owner { ballot.owner ≡ seat.me }
-        ensures turn { IfOk result (λ x. (marks : List Mark) (o : Opening) → is_above row.now.promised ballot ≡ false → DeskStands self.old marks → open_proposal self.old.number marks ≡ Some o → o.ballot ≡ ballot → Answers row.now (propose seat.circuit seat.members seat.me self.old.number ballot now marks (raised row.now ballot) (pick o.own (counted seat.me self.old.number o (since_began self.old.number marks)))) x self.new) }
+        ensures turn { IfOk result (λ x. (marks : List Mark) (o : Opening) → is_above row.now.promised ballot ≡ false → DeskStands self.old marks → open_proposal self.old.number marks ≡ Some o → o.ballot ≡ ballot → Answers row.now (propose seat self.old.number ballot now marks (raised row.now ballot) (pick o.own (counted seat.me self.old.number o (since_began self.old.number marks)))) x self.new) }
         ensures orderly { IfOk result (λ x. IsOrderly x) }
         ensures of { IsDeskOf seat self.new }
         ensures number { self.new.number ≡ self.old.number }
@@ -231,7 +231,7 @@ impl Desk {
     ) -> Result<Turn, AllocError>
         requires of { IsDeskOf seat self.old }
         requires owner { ballot.owner ≡ seat.me }
-        ensures turn { IfOk result (λ x. (marks : List Mark) (own : Option TapeValue) → is_above row.now.promised ballot ≡ false → DeskStands self.old (Began self.old.number ballot own row.now.vote now ∷ marks) → Answers row.now (begin seat.circuit seat.members seat.me self.old.number ballot own now marks row.now) x self.new) }
+        ensures turn { IfOk result (λ x. (marks : List Mark) (own : Option TapeValue) → is_above row.now.promised ballot ≡ false → DeskStands self.old (Began self.old.number ballot own row.now.vote now ∷ marks) → Answers row.now (begin seat self.old.number ballot own now marks row.now) x self.new) }
         ensures orderly { IfOk result (λ x. IsOrderly x) }
         ensures of { IsDeskOf seat self.new }
         ensures number { self.new.number ≡ self.old.number }
@@ -261,7 +261,7 @@ impl Desk {
         requires number { packet.now.number ≡ self.old.number }
         requires from { packet.now.from ≤ seat.members }
         requires owner { packet.now.ballot.owner ≡ seat.me }
-        ensures turn { Handles row.now (λ marks. promise_turn seat.circuit seat.members seat.me now marks row.now packet.now report.entry (gathering_at packet.now.number packet.now.ballot marks)) result self.old self.new }
+        ensures turn { Handles row.now (λ marks. promise_turn seat now marks row.now packet.now report.entry (gathering_at packet.now.number packet.now.ballot marks)) result self.old self.new }
         ensures orderly { IfOk result (λ x. IsOrderly x) }
         ensures of { IsDeskOf seat self.new }
         ensures number { self.new.number ≡ self.old.number }
@@ -311,7 +311,7 @@ impl Desk {
     /// Sees to the proposal where its due moment has come: it begins anew, or gives up.
     fn due(&mut self, alloc: Global, seat: Seat, now: u64, row: &Row) -> Result<Turn, AllocError>
         requires { IsDeskOf seat self.old }
-        ensures turn { Handles row.now (λ marks. due_turn seat.circuit seat.members seat.me self.old.number now marks row.now (open_proposal self.old.number marks)) result self.old self.new }
+        ensures turn { Handles row.now (λ marks. due_turn seat self.old.number now marks row.now (open_proposal self.old.number marks)) result self.old self.new }
         ensures orderly { IfOk result (λ x. IsOrderly x) }
         ensures of { IsDeskOf seat self.new }
         ensures number { self.new.number ≡ self.old.number }
@@ -328,9 +328,7 @@ impl Desk {
                 let report = copied(alloc, row.vote())?;
                 match proposal.due(row.promised(), report, now)? {
                     DueAnswer::Wait => Ok(Turn::quiet(Note::Idle)),
-                    DueAnswer::GaveUp => {
-                        Ok(self.close(None, Note::GaveUp { ballot: last }))
-                    }
+                    DueAnswer::GaveUp => { Ok(self.close(None, Note::GaveUp { ballot: last })) }
                     DueAnswer::Began { ballot } => self.begun(alloc, seat, ballot, now, row),
                 }
             }
@@ -413,7 +411,7 @@ impl Desk {
         requires arrived { IsForMember seat.me seat.members packet.now }
         requires rules { IsTrue (keeps_rules packet.now) }
         requires kind { packet.now.body ≡ AcceptBody tape }
-        ensures turn { Handles row.now (λ marks. accept_turn seat.circuit seat.members seat.me marks row.now packet.now tape.entry row.now.promised) result self.old self.new }
+        ensures turn { Handles row.now (λ marks. accept_turn seat marks row.now packet.now tape.entry row.now.promised) result self.old self.new }
         ensures orderly { IfOk result (λ x. IsOrderly x) }
         ensures of { IsDeskOf seat self.new }
         ensures number { self.new.number ≡ self.old.number }
@@ -439,7 +437,7 @@ impl Desk {
         requires of { IsDeskOf seat self.old }
         requires number { packet.now.number ≡ self.old.number }
         requires from { packet.now.from ≤ seat.members }
-        ensures turn { (row : RowValue) → Handles row (λ marks. accepted_turn seat.members marks row packet.now tape.entry) result self.old self.new }
+        ensures turn { (row : RowValue) → Handles row (λ marks. accepted_turn seat marks row packet.now tape.entry) result self.old self.new }
         ensures orderly { IfOk result (λ x. IsOrderly x) }
         ensures of { IsDeskOf seat self.new }
         ensures number { self.new.number ≡ self.old.number }
@@ -466,7 +464,7 @@ impl Desk {
         requires of { IsDeskOf seat self.old }
         requires number { packet.now.number ≡ self.old.number }
         requires arrived { IsForMember seat.me seat.members packet.now }
-        ensures turn { Handles row.now (λ marks. packet_turn seat.circuit seat.members seat.me now marks row.now packet.now packet.now.body) result self.old self.new }
+        ensures turn { Handles row.now (λ marks. packet_turn seat now marks row.now packet.now packet.now.body) result self.old self.new }
         ensures orderly { IfOk result (λ x. IsOrderly x) }
         ensures of { IsDeskOf seat self.new }
         ensures number { self.new.number ≡ self.old.number }

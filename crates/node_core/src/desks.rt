@@ -7,7 +7,7 @@ ghost use Rattle.std.specs.BTreeSet as sorted;
 ghost use Rattle.protocol.specs.Marks.{Mark};
 ghost use Rattle.protocol.specs.Proposals.{is_due_number};
 ghost use Rattle.node_core.specs.Standing.{AllStand, IsLeastPassing, AreDesksOf};
-ghost use Rattle.node_core.specs.Seats.{Seat as SeatValue};
+ghost use Rattle.protocol.specs.Seats.{Seat as SeatValue};
 
 use crate::desk::Desk;
 use ballots::Number;

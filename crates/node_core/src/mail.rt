@@ -116,10 +116,17 @@ impl Mail {
 
     /// The packet to a member.
     fn packet_to<'a>(&self, to: Member, body: BodyRef<'a>) -> PacketRef<'a>
-        requires { IsTrue (keeps_rules (packet_to self.now.seat.circuit self.now.seat.me self.now.number self.now.ballot (said body) to)) }
-        ensures { result ≡ packet_to self.now.seat.circuit self.now.seat.me self.now.number self.now.ballot (said body.entry) to }
+        requires { IsTrue (keeps_rules (packet_to self.now.seat self.now.number self.now.ballot (said body) to)) }
+        ensures { result ≡ packet_to self.now.seat self.now.number self.now.ballot (said body.entry) to }
     {
-        match PacketRef::new(self.seat.circuit(), self.me(), to, self.number, self.ballot, body) {
+        match PacketRef::new(
+            self.seat.circuit(),
+            self.me(),
+            to,
+            self.number,
+            self.ballot,
+            body,
+        ) {
             Some(packet) => packet,
             None => unreachable!(),
         }
@@ -127,7 +134,7 @@ impl Mail {
 
     /// How many others there are, 14 at most.
     fn others(&self) -> usize
-        ensures many { result ≡ length (others self.now.seat.members self.now.seat.me) }
+        ensures many { result ≡ length (others self.now.seat) }
         ensures count { result + 1 ≡ self.now.seat.members }
         ensures few { result ≤ 14 }
     {
@@ -138,7 +145,7 @@ impl Mail {
     /// The other at this place, in rising order of members.
     fn other(&self, place: usize) -> Member
         requires { place + 1 < self.now.seat.members }
-        ensures value { slice_get (others self.now.seat.members self.now.seat.me) place ≡ Some result }
+        ensures value { slice_get (others self.now.seat) place ≡ Some result }
         ensures apart { self.now.seat.me ≡ result → ⊥ }
     {
         let me = self.me().get();
@@ -153,7 +160,7 @@ impl Mail {
     fn to_other<'a>(&self, place: usize, body: BodyRef<'a>) -> Option<PacketRef<'a>>
         requires sender { (to : ℕ) → IsTrue (may_send (kind_of (said body)) self.now.ballot.owner self.now.seat.me to) }
         requires says { IsTrue (may_say (said body) self.now.ballot) }
-        ensures { result ≡ slice_get (to_others self.now.seat.circuit self.now.seat.members self.now.seat.me self.now.number self.now.ballot (said body.entry)) place }
+        ensures { result ≡ slice_get (to_others self.now.seat self.now.number self.now.ballot (said body.entry)) place }
     {
         if place >= self.others() {
             return None;
@@ -163,8 +170,8 @@ impl Mail {
 
     /// The packet at this place, where there is only one.
     fn reply<'a>(&self, place: usize, to: Member, body: BodyRef<'a>) -> Option<PacketRef<'a>>
-        requires { IsTrue (keeps_rules (packet_to self.now.seat.circuit self.now.seat.me self.now.number self.now.ballot (said body) to)) }
-        ensures { result ≡ slice_get (packet_to self.now.seat.circuit self.now.seat.me self.now.number self.now.ballot (said body.entry) to ∷ []) place }
+        requires { IsTrue (keeps_rules (packet_to self.now.seat self.now.number self.now.ballot (said body) to)) }
+        ensures { result ≡ slice_get (packet_to self.now.seat self.now.number self.now.ballot (said body.entry) to ∷ []) place }
     {
         if place > 0 {
             return None;
@@ -175,7 +182,7 @@ impl Mail {
     /// The packet at this place of those that propose the tape, and then tell of the vote for it.
     fn proposal<'a>(&self, place: usize, tape: TapeRef<'a>) -> Option<PacketRef<'a>>
         requires { self.now.ballot.owner ≡ self.now.seat.me }
-        ensures { result ≡ slice_get (to_others self.now.seat.circuit self.now.seat.members self.now.seat.me self.now.number self.now.ballot (Accept tape.entry) ++ to_others self.now.seat.circuit self.now.seat.members self.now.seat.me self.now.number self.now.ballot (Accepted tape.entry)) place }
+        ensures { result ≡ slice_get (to_others self.now.seat self.now.number self.now.ballot (Accept tape.entry) ++ to_others self.now.seat self.now.number self.now.ballot (Accepted tape.entry)) place }
     {
         let others = self.others();
         if place < others {

@@ -15,7 +15,7 @@ pub(crate) struct Seat {
 
 impl Model for Seat {
     ghost use Rattle.std.specs.Prelude.{◌≤◌};
-    ghost use Rattle.node_core.specs.Seats.{Seat as SeatValue};
+    ghost use Rattle.protocol.specs.Seats.{Seat as SeatValue};
 
     ghost Value = { SeatValue };
 

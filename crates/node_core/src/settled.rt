@@ -19,7 +19,7 @@ use std::alloc::{AllocError, Global};
 /// Answers a packet.
 fn receive(alloc: Global, seat: Seat, packet: &PacketRef<'_>, row: &Row) -> Result<Turn, AllocError>
     requires { IsForMember seat.me seat.members packet.now }
-    ensures turn { (now : ℕ) (marks : List Mark) → was_released packet.now.number marks ≡ true → Answered row.now marks (packet_turn seat.circuit seat.members seat.me now marks row.now packet.now packet.now.body) result }
+    ensures turn { (now : ℕ) (marks : List Mark) → was_released packet.now.number marks ≡ true → Answered row.now marks (packet_turn seat now marks row.now packet.now packet.now.body) result }
     ensures orderly { IfOk result (λ x. IsOrderly x) }
 {
     match packet.body() {

@@ -29,13 +29,7 @@ pub(crate) struct Voting<'a> {
 }
 
 /// A turn that sends this letter about the packet's ballot, and releases nothing.
-fn send(
-    seat: Seat,
-    packet: &PacketRef<'_>,
-    letter: Letter,
-    row: Option<Row>,
-    note: Note,
-) -> Turn
+fn send(seat: Seat, packet: &PacketRef<'_>, letter: Letter, row: Option<Row>, note: Note) -> Turn
     requires { MayGo seat packet.now.number packet.now.ballot letter }
     ensures turn { IsSending result row note (record { seat = seat; number = packet.now.number; ballot = packet.now.ballot; letter = letter }) }
     ensures few { IsFew result.mail }
@@ -59,9 +53,9 @@ pub(crate) fn prepare(
     requires to { packet.now.to ≡ seat.me }
     requires rules { IsTrue (keeps_rules packet.now) }
     requires kind { packet.now.body ≡ Prepare }
-    ensures turn { IfOk result (λ x. (marks : List Mark) → IsTurn row.now (prepare_turn seat.circuit seat.me marks row.now packet.now row.now.promised) x) }
+    ensures turn { IfOk result (λ x. (marks : List Mark) → IsTurn row.now (prepare_turn seat marks row.now packet.now row.now.promised) x) }
     ensures orderly { IfOk result (λ x. IsOrderly x) }
-    ensures memory { OnErr result ((marks : List Mark) → Stirs (prepare_turn seat.circuit seat.me marks row.now packet.now row.now.promised)) }
+    ensures memory { OnErr result ((marks : List Mark) → Stirs (prepare_turn seat marks row.now packet.now row.now.promised)) }
 {
     let ballot = packet.ballot();
     match acceptor::prepare(row, ballot) {
@@ -93,7 +87,7 @@ pub(crate) fn accept<'a>(
     requires kind { packet.now.body ≡ Accept tape }
     ensures voting { IfOk result (λ v. IsVoting seat row.now packet.now tape.entry v.turn v.vote) }
     ensures orderly { IfOk result (λ v. IsOrderly v.turn) }
-    ensures stirs { (marks : List Mark) → Stirs (accept_turn seat.circuit seat.members seat.me marks row.now packet.now tape.entry row.now.promised) }
+    ensures stirs { (marks : List Mark) → Stirs (accept_turn seat marks row.now packet.now tape.entry row.now.promised) }
 {
     // The sender is another member: so there is one to answer.
     let (_from, _me) = (packet.from().get(), seat.me());

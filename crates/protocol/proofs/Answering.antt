@@ -1,6 +1,7 @@
 -- A station answers as an acceptor does.
 use Rattle.std.proofs.Common.{◌≡◌, ℕ, List, Option, Some, None, Bool, true, false, refl, ap, arith}
 use Rattle.std.proofs.lemmas.Bool.Decides.{nat_tests}
+use Rattle.protocol.specs.Seats.{Seat}
 use Rattle.protocol.specs.Ballots.{Ballot, is_below, is_same}
 use Rattle.protocol.specs.Rows.{Tape, Vote}
 use Rattle.protocol.specs.Packets.{Packet}
@@ -22,18 +23,18 @@ same_below a b e = grind (arith, nat_tests)
 above : (a b : Ballot) → is_below a b ≡ false → is_same a b ≡ false → is_below b a ≡ true
 above a b e f = grind (arith, nat_tests)
 
-abbrev Is : ℕ → ℕ → ℕ → Option Ballot → Option Vote → Packet → Request → Turn → Type 0
-Is k c m o v p r t = IsAcceptors k c m (record { promised = o; vote = v }) p r t
+abbrev Is : Seat → Option Ballot → Option Vote → Packet → Request → Turn → Type 0
+Is seat o v p r t = IsAcceptors seat (record { promised = o; vote = v }) p r t
 
 prepared :
-    (k c m : ℕ) (marks : List Mark) (o : Option Ballot) (v : Option Vote) (p : Packet)
-    → Is k c m o v p (Prepares p.ballot) (prepare_turn k m marks (record { promised = o; vote = v }) p o)
-prepared k c m marks None v p = (refl, refl, refl)
-prepared k c m marks (Some a) v p = go (is_below a p.ballot) refl (is_same a p.ballot) refl
+    (seat : Seat) (marks : List Mark) (o : Option Ballot) (v : Option Vote) (p : Packet)
+    → Is seat o v p (Prepares p.ballot) (prepare_turn seat marks (record { promised = o; vote = v }) p o)
+prepared seat marks None v p = (refl, refl, refl)
+prepared seat marks (Some a) v p = go (is_below a p.ballot) refl (is_same a p.ballot) refl
   where
     go :
         (s : Bool) → is_below a p.ballot ≡ s → (t : Bool) → is_same a p.ballot ≡ t
-        → Is k c m (Some a) v p (Prepares p.ballot) (prepare_turn k m marks (record { promised = Some a; vote = v }) p (Some a))
+        → Is seat (Some a) v p (Prepares p.ballot) (prepare_turn seat marks (record { promised = Some a; vote = v }) p (Some a))
     go true e t f = let g = not_below a p.ballot e in let h = not_same a p.ballot e in rw (e, g, h) (refl, refl, refl)
     go false e true f =
         let g = same_below a p.ballot f in
@@ -42,31 +43,31 @@ prepared k c m marks (Some a) v p = go (is_below a p.ballot) refl (is_same a p.b
     go false e false f = let g = above a p.ballot e f in rw (e, f, g) (refl, refl, refl)
 
 voted_at :
-    (k c m : ℕ) (marks : List Mark) (o : Option Ballot) (v : Option Vote) (p : Packet) (tape : Tape)
-    → Is k c m o v p (Accepts p.ballot tape) (accept_turn k c m marks (record { promised = o; vote = v }) p tape o)
-voted_at k c m marks None None p tape = (refl, refl, refl)
-voted_at k c m marks None (Some v) p tape = go (is_same v.ballot p.ballot) refl
+    (seat : Seat) (marks : List Mark) (o : Option Ballot) (v : Option Vote) (p : Packet) (tape : Tape)
+    → Is seat o v p (Accepts p.ballot tape) (accept_turn seat marks (record { promised = o; vote = v }) p tape o)
+voted_at seat marks None None p tape = (refl, refl, refl)
+voted_at seat marks None (Some v) p tape = go (is_same v.ballot p.ballot) refl
   where
     go :
         (s : Bool) → is_same v.ballot p.ballot ≡ s
-        → Is k c m None (Some v) p (Accepts p.ballot tape) (accept_turn k c m marks (record { promised = None; vote = Some v }) p tape None)
+        → Is seat None (Some v) p (Accepts p.ballot tape) (accept_turn seat marks (record { promised = None; vote = Some v }) p tape None)
     go true e = rw e (refl, refl, refl)
     go false e = rw e (refl, refl, refl)
-voted_at k c m marks (Some a) v p tape = go (is_below p.ballot a) refl v
+voted_at seat marks (Some a) v p tape = go (is_below p.ballot a) refl v
   where
     go :
         (s : Bool) → is_below p.ballot a ≡ s → (v : Option Vote)
-        → Is k c m (Some a) v p (Accepts p.ballot tape) (accept_turn k c m marks (record { promised = Some a; vote = v }) p tape (Some a))
+        → Is seat (Some a) v p (Accepts p.ballot tape) (accept_turn seat marks (record { promised = Some a; vote = v }) p tape (Some a))
     go true e v = rw e (refl, refl, refl)
     go false e None = rw e (refl, refl, refl)
     go false e (Some v) = at (is_same v.ballot p.ballot) refl
       where
         at :
             (t : Bool) → is_same v.ballot p.ballot ≡ t
-            → Is k c m (Some a) (Some v) p (Accepts p.ballot tape) (accept_turn k c m marks (record { promised = Some a; vote = Some v }) p tape (Some a))
+            → Is seat (Some a) (Some v) p (Accepts p.ballot tape) (accept_turn seat marks (record { promised = Some a; vote = Some v }) p tape (Some a))
         at true f = rw (e, f) (refl, refl, refl)
         at false f = rw (e, f) (refl, refl, refl)
 
 pub turns_are_an_acceptors : TurnsAreAnAcceptors
-turns_are_an_acceptors k c m now marks row p =
-    (prepared k c m marks row.promised row.vote p, λ tape. voted_at k c m marks row.promised row.vote p tape)
+turns_are_an_acceptors seat now marks row p =
+    (prepared seat marks row.promised row.vote p, λ tape. voted_at seat marks row.promised row.vote p tape)

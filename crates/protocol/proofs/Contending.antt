@@ -2,6 +2,7 @@
 use Rattle.std.proofs.Common.{◌≡◌, inl, refl, arith, [], ◌∷◌, Some, None, true, false}
 use Rattle.std.specs.Prelude.{◌==◌}
 use Rattle.std.proofs.lemmas.Bool.{eq-eqb}
+use Rattle.protocol.specs.Seats.{sits}
 use Rattle.protocol.specs.Ballots.{IsMember}
 use Rattle.protocol.specs.Rows.{blank, raised, vote_for}
 use Rattle.protocol.specs.Packets.{Packet, Prepare, Promise, Accept, Accepted, Nack}
@@ -48,20 +49,20 @@ denies_the_lower {D = D} {G = G} {F = F} k reads version_of sets says v spell x 
     let second : IsMember 3 2 = (omega arith, omega arith) in
     let third : IsMember 3 3 = (omega arith, omega arith) in
     let h1 : History z _ = goes_on (begins z v) (Offers 3 12 x 0) (Done (Note_began (ballot 1 3)))
-    (is_done 3 (Offering 12 x 0) (Offered 12 x 0) _ (d (packet_to k 3 12 (ballot 1 3) Prepare 1) ∷ d (packet_to k 3 12 (ballot 1 3) Prepare 2) ∷ []) refl third (rw (fx, sx) refl) refl refl ((refl, r1), ((refl, r2), tt)) (inl refl) refl (same _)) in
+    (is_done 3 (Offering 12 x 0) (Offered 12 x 0) _ (d (packet_to (sits k 3 3) 12 (ballot 1 3) Prepare 1) ∷ d (packet_to (sits k 3 3) 12 (ballot 1 3) Prepare 2) ∷ []) refl third (rw (fx, sx) refl) refl refl ((refl, r1), ((refl, r2), tt)) (inl refl) refl (same _)) in
     let h2 : History z _ = goes_on h1 (Delivers 2 0) (Done (Note_promised (ballot 1 3)))
-    (is_done 2 (Receiving _ 0) (Arrived (packet_to k 3 12 (ballot 1 3) Prepare 2) 0) _ (d (packet_to k 2 12 (ballot 1 3) (Promise None) 3) ∷ []) refl second (rw (g2, e) refl) (rw g2 refl) refl ((refl, r3), tt) (inl refl) refl (same _)) in
+    (is_done 2 (Receiving _ 0) (Arrived (packet_to (sits k 3 3) 12 (ballot 1 3) Prepare 2) 0) _ (d (packet_to (sits k 2 3) 12 (ballot 1 3) (Promise None) 3) ∷ []) refl second (rw (g2, e) refl) (rw g2 refl) refl ((refl, r3), tt) (inl refl) refl (same _)) in
     let h3 : History z _ = goes_on h2 (Offers 1 12 y 0) (Done (Note_began (ballot 1 1)))
-    (is_done 1 (Offering 12 y 0) (Offered 12 y 0) _ (d (packet_to k 1 12 (ballot 1 1) Prepare 2) ∷ d (packet_to k 1 12 (ballot 1 1) Prepare 3) ∷ []) refl first (rw (fy, sy) refl) refl refl ((refl, r4), ((refl, r5), tt)) (inl refl) refl (same _)) in
+    (is_done 1 (Offering 12 y 0) (Offered 12 y 0) _ (d (packet_to (sits k 1 3) 12 (ballot 1 1) Prepare 2) ∷ d (packet_to (sits k 1 3) 12 (ballot 1 1) Prepare 3) ∷ []) refl first (rw (fy, sy) refl) refl refl ((refl, r4), ((refl, r5), tt)) (inl refl) refl (same _)) in
     let h4 : History z _ = goes_on h3 (Delivers 4 0) (Done (Note_nacked (ballot 1 3)))
-    (is_done 2 (Receiving _ 0) (Arrived (packet_to k 1 12 (ballot 1 1) Prepare 2) 0) _ (d (packet_to k 2 12 (ballot 1 1) (Nack (ballot 1 3)) 1) ∷ []) refl second (rw (g4, e) refl) (rw g4 refl) refl ((refl, r6), tt) (inl refl) refl (same _)) in
+    (is_done 2 (Receiving _ 0) (Arrived (packet_to (sits k 1 3) 12 (ballot 1 1) Prepare 2) 0) _ (d (packet_to (sits k 2 3) 12 (ballot 1 1) (Nack (ballot 1 3)) 1) ∷ []) refl second (rw (g4, e) refl) (rw g4 refl) refl ((refl, r6), tt) (inl refl) refl (same _)) in
     let h5 : History z _ = goes_on h4 (Delivers 6 0) (Done (Note_denied (ballot 1 3)))
-    (is_done 1 (Receiving _ 0) (Arrived (packet_to k 2 12 (ballot 1 1) (Nack (ballot 1 3)) 1) 0) _ ([]) refl first (rw (g6, e) refl) (rw g6 refl) refl tt (inl refl) refl (same _)) in
+    (is_done 1 (Receiving _ 0) (Arrived (packet_to (sits k 2 3) 12 (ballot 1 1) (Nack (ballot 1 3)) 1) 0) _ ([]) refl first (rw (g6, e) refl) (rw g6 refl) refl tt (inl refl) refl (same _)) in
     let h6 : History z _ = goes_on h5 (Delivers 2 0) (Done Note_silent)
-    (is_done 2 (Receiving _ 0) (Arrived (packet_to k 3 12 (ballot 1 3) Prepare 2) 0) _ ([]) refl second (rw (g2, e) refl) (rw g2 refl) refl tt (inl refl) refl (same _)) in
+    (is_done 2 (Receiving _ 0) (Arrived (packet_to (sits k 3 3) 12 (ballot 1 3) Prepare 2) 0) _ ([]) refl second (rw (g2, e) refl) (rw g2 refl) refl tt (inl refl) refl (same _)) in
     let h7 : History z _ = goes_on h6 (Falls_due 1 289) (Done Note_idle) (is_idle 1 (Falling_due 289) refl first refl refl refl (same _)) in
     let h8 : History z _ = goes_on h7 (Falls_due 1 290) (Done (Note_began (ballot 2 1)))
-    (is_done 1 (Falling_due 290) (Came_due 12 290) _ (d (packet_to k 1 12 (ballot 2 1) Prepare 2) ∷ d (packet_to k 1 12 (ballot 2 1) Prepare 3) ∷ []) refl first refl refl refl ((refl, r7), ((refl, r8), tt)) (inl refl) refl (same _)) in
+    (is_done 1 (Falling_due 290) (Came_due 12 290) _ (d (packet_to (sits k 1 3) 12 (ballot 2 1) Prepare 2) ∷ d (packet_to (sits k 1 3) 12 (ballot 2 1) Prepare 3) ∷ []) refl first refl refl refl ((refl, r7), ((refl, r8), tt)) (inl refl) refl (same _)) in
     (_, h8, λ m. refl, refl, refl, refl)
 
 pub lower_is_denied : {D G F : Type 0} → LowerIsDenied D G F
@@ -84,23 +85,23 @@ fights_for_one {D = D} {G = G} {F = F} k reads version_of sets says v spell x y 
     let second : IsMember 3 2 = (omega arith, omega arith) in
     let third : IsMember 3 3 = (omega arith, omega arith) in
     let h1 : History z _ = goes_on (begins z v) (Offers 1 12 x 0) (Done (Note_began (ballot 1 1)))
-    (is_done 1 (Offering 12 x 0) (Offered 12 x 0) _ (d (packet_to k 1 12 (ballot 1 1) Prepare 2) ∷ d (packet_to k 1 12 (ballot 1 1) Prepare 3) ∷ []) refl first (rw (fx, sx) refl) refl refl ((refl, r1), ((refl, r2), tt)) (inl refl) refl (same _)) in
+    (is_done 1 (Offering 12 x 0) (Offered 12 x 0) _ (d (packet_to (sits k 1 3) 12 (ballot 1 1) Prepare 2) ∷ d (packet_to (sits k 1 3) 12 (ballot 1 1) Prepare 3) ∷ []) refl first (rw (fx, sx) refl) refl refl ((refl, r1), ((refl, r2), tt)) (inl refl) refl (same _)) in
     let h2 : History z _ = goes_on h1 (Delivers 1 0) (Done (Note_promised (ballot 1 1)))
-    (is_done 2 (Receiving _ 0) (Arrived (packet_to k 1 12 (ballot 1 1) Prepare 2) 0) _ (d (packet_to k 2 12 (ballot 1 1) (Promise None) 1) ∷ []) refl second (rw (g1, e) refl) (rw g1 refl) refl ((refl, r3), tt) (inl refl) refl (same _)) in
+    (is_done 2 (Receiving _ 0) (Arrived (packet_to (sits k 1 3) 12 (ballot 1 1) Prepare 2) 0) _ (d (packet_to (sits k 2 3) 12 (ballot 1 1) (Promise None) 1) ∷ []) refl second (rw (g1, e) refl) (rw g1 refl) refl ((refl, r3), tt) (inl refl) refl (same _)) in
     let h3 : History z _ = goes_on h2 (Delivers 3 0) (Done (Note_proposed (ballot 1 1)))
-    (is_done 1 (Receiving _ 0) (Arrived (packet_to k 2 12 (ballot 1 1) (Promise None) 1) 0) _ (d (packet_to k 1 12 (ballot 1 1) (Accept x) 2) ∷ d (packet_to k 1 12 (ballot 1 1) (Accept x) 3) ∷ d (packet_to k 1 12 (ballot 1 1) (Accepted x) 2) ∷ d (packet_to k 1 12 (ballot 1 1) (Accepted x) 3) ∷ []) refl first (rw (g3, e) refl) (rw g3 refl) refl ((refl, r4), ((refl, r5), ((refl, r6), ((refl, r7), tt)))) (inl refl) refl (same _)) in
+    (is_done 1 (Receiving _ 0) (Arrived (packet_to (sits k 2 3) 12 (ballot 1 1) (Promise None) 1) 0) _ (d (packet_to (sits k 1 3) 12 (ballot 1 1) (Accept x) 2) ∷ d (packet_to (sits k 1 3) 12 (ballot 1 1) (Accept x) 3) ∷ d (packet_to (sits k 1 3) 12 (ballot 1 1) (Accepted x) 2) ∷ d (packet_to (sits k 1 3) 12 (ballot 1 1) (Accepted x) 3) ∷ []) refl first (rw (g3, e) refl) (rw g3 refl) refl ((refl, r4), ((refl, r5), ((refl, r6), ((refl, r7), tt)))) (inl refl) refl (same _)) in
     let h4 : History z _ = goes_on h3 (Delivers 4 0) (Done (Note_voted (ballot 1 1)))
-    (is_done 2 (Receiving _ 0) (Arrived (packet_to k 1 12 (ballot 1 1) (Accept x) 2) 0) _ (d (packet_to k 2 12 (ballot 1 1) (Accepted x) 1) ∷ d (packet_to k 2 12 (ballot 1 1) (Accepted x) 3) ∷ []) refl second (rw (g4, e) refl) (rw g4 refl) refl ((refl, r8), ((refl, r9), tt)) (inl refl) refl (same _)) in
+    (is_done 2 (Receiving _ 0) (Arrived (packet_to (sits k 1 3) 12 (ballot 1 1) (Accept x) 2) 0) _ (d (packet_to (sits k 2 3) 12 (ballot 1 1) (Accepted x) 1) ∷ d (packet_to (sits k 2 3) 12 (ballot 1 1) (Accepted x) 3) ∷ []) refl second (rw (g4, e) refl) (rw g4 refl) refl ((refl, r8), ((refl, r9), tt)) (inl refl) refl (same _)) in
     let h5 : History z _ = goes_on h4 (Offers 3 12 y 0) (Done (Note_began (ballot 1 3)))
-    (is_done 3 (Offering 12 y 0) (Offered 12 y 0) _ (d (packet_to k 3 12 (ballot 1 3) Prepare 1) ∷ d (packet_to k 3 12 (ballot 1 3) Prepare 2) ∷ []) refl third (rw (fy, sy) refl) refl refl ((refl, r10), ((refl, r11), tt)) (inl refl) refl (same _)) in
+    (is_done 3 (Offering 12 y 0) (Offered 12 y 0) _ (d (packet_to (sits k 3 3) 12 (ballot 1 3) Prepare 1) ∷ d (packet_to (sits k 3 3) 12 (ballot 1 3) Prepare 2) ∷ []) refl third (rw (fy, sy) refl) refl refl ((refl, r10), ((refl, r11), tt)) (inl refl) refl (same _)) in
     let h6 : History z _ = goes_on h5 (Delivers 11 0) (Done (Note_promised (ballot 1 3)))
-    (is_done 2 (Receiving _ 0) (Arrived (packet_to k 3 12 (ballot 1 3) Prepare 2) 0) _ (d (packet_to k 2 12 (ballot 1 3) (Promise (Some (vote_for (ballot 1 1) x))) 3) ∷ []) refl second (rw (g11, e) refl) (rw g11 refl) refl ((refl, r12), tt) (inl refl) refl (same _)) in
+    (is_done 2 (Receiving _ 0) (Arrived (packet_to (sits k 3 3) 12 (ballot 1 3) Prepare 2) 0) _ (d (packet_to (sits k 2 3) 12 (ballot 1 3) (Promise (Some (vote_for (ballot 1 1) x))) 3) ∷ []) refl second (rw (g11, e) refl) (rw g11 refl) refl ((refl, r12), tt) (inl refl) refl (same _)) in
     let h7 : History z _ = goes_on h6 (Delivers 12 0) (Done (Note_proposed (ballot 1 3)))
-    (is_done 3 (Receiving _ 0) (Arrived (packet_to k 2 12 (ballot 1 3) (Promise (Some (vote_for (ballot 1 1) x))) 3) 0) _ (d (packet_to k 3 12 (ballot 1 3) (Accept x) 1) ∷ d (packet_to k 3 12 (ballot 1 3) (Accept x) 2) ∷ d (packet_to k 3 12 (ballot 1 3) (Accepted x) 1) ∷ d (packet_to k 3 12 (ballot 1 3) (Accepted x) 2) ∷ []) refl third (rw (g12, e) refl) (rw g12 refl) refl ((refl, r13), ((refl, r14), ((refl, r15), ((refl, r16), tt)))) (inl refl) refl (same _)) in
+    (is_done 3 (Receiving _ 0) (Arrived (packet_to (sits k 2 3) 12 (ballot 1 3) (Promise (Some (vote_for (ballot 1 1) x))) 3) 0) _ (d (packet_to (sits k 3 3) 12 (ballot 1 3) (Accept x) 1) ∷ d (packet_to (sits k 3 3) 12 (ballot 1 3) (Accept x) 2) ∷ d (packet_to (sits k 3 3) 12 (ballot 1 3) (Accepted x) 1) ∷ d (packet_to (sits k 3 3) 12 (ballot 1 3) (Accepted x) 2) ∷ []) refl third (rw (g12, e) refl) (rw g12 refl) refl ((refl, r13), ((refl, r14), ((refl, r15), ((refl, r16), tt)))) (inl refl) refl (same _)) in
     let h8 : History z _ = goes_on h7 (Delivers 14 0) (Done (Note_voted (ballot 1 3)))
-    (is_done 2 (Receiving _ 0) (Arrived (packet_to k 3 12 (ballot 1 3) (Accept x) 2) 0) _ (d (packet_to k 2 12 (ballot 1 3) (Accepted x) 1) ∷ d (packet_to k 2 12 (ballot 1 3) (Accepted x) 3) ∷ []) refl second (rw (g14, e) refl) (rw g14 refl) refl ((refl, r17), ((refl, r18), tt)) (inl refl) refl (same _)) in
+    (is_done 2 (Receiving _ 0) (Arrived (packet_to (sits k 3 3) 12 (ballot 1 3) (Accept x) 2) 0) _ (d (packet_to (sits k 2 3) 12 (ballot 1 3) (Accepted x) 1) ∷ d (packet_to (sits k 2 3) 12 (ballot 1 3) (Accepted x) 3) ∷ []) refl second (rw (g14, e) refl) (rw g14 refl) refl ((refl, r17), ((refl, r18), tt)) (inl refl) refl (same _)) in
     let h9 : History z _ = goes_on h8 (Delivers 18 0) (Done (Note_heard (ballot 1 3)))
-    (is_done 3 (Receiving _ 0) (Arrived (packet_to k 2 12 (ballot 1 3) (Accepted x) 3) 0) _ ([]) refl third (rw (g18, e) refl) (rw g18 refl) refl tt (inl refl) refl (same _)) in
+    (is_done 3 (Receiving _ 0) (Arrived (packet_to (sits k 2 3) 12 (ballot 1 3) (Accepted x) 3) 0) _ ([]) refl third (rw (g18, e) refl) (rw g18 refl) refl tt (inl refl) refl (same _)) in
     (_, h9, λ m. refl, refl, refl, refl, refl)
 
 pub two_proposers_fight : {D G F : Type 0} → TwoProposersFight D G F

@@ -2,6 +2,7 @@
 use Rattle.std.proofs.Common.{◌≡◌, ℕ, inl, inr, sym, subst, List, [], ◌∷◌, Option, Some, None}
 use Rattle.std.specs.Prelude.{IfSome}
 use Rattle.protocol.specs.Lists.{IsAmong}
+use Rattle.protocol.specs.Seats.{Seat}
 use Rattle.protocol.specs.Ballots.{Ballot}
 use Rattle.protocol.specs.Rows.{Tape, Vote, Row}
 use Rattle.protocol.specs.Versions.{Version}
@@ -35,8 +36,8 @@ module _ (v : Version) where
   stays_fit e r h = subst (λ (t : Turn). TurnFits v t) (sym e) (record { row = r; marks = h; out = λ p i. absurd i; release = tt })
 
   -- the packet to each of the others fits
-  others_fit : (k c m n : ℕ) (b : Ballot) (body : Body) → BodyFits v body → (p : Packet) → IsAmong (to_others k c m n b body) p → BodyFits v p.body
-  others_fit k c m n b body f p i = let y = among-map (packet_to k m n b body) (others c m) p i in subst (λ (q : Packet). BodyFits v q.body) (sym y.1) f
+  others_fit : (seat : Seat) (n : ℕ) (b : Ballot) (body : Body) → BodyFits v body → (p : Packet) → IsAmong (to_others seat n b body) p → BodyFits v p.body
+  others_fit seat n b body f p i = let y = among-map (packet_to seat n b body) (others seat) p i in subst (λ (q : Packet). BodyFits v q.body) (sym y.1) f
 
   one_fits : {q : Packet} → BodyFits v q.body → (p : Packet) → IsAmong (q ∷ []) p → BodyFits v p.body
   one_fits f p (inl e) = subst (λ (x : Packet). BodyFits v x.body) (sym e) f
@@ -64,24 +65,24 @@ module _ (v : Version) where
       by (inr i) = fs.each (Promised n k b (Some u)) i
 
   proposes_fit :
-      {k c m n : ℕ} {b : Ballot} {now : ℕ} {own : Option Tape} {report : Option Vote} {since : List Mark} {row : Row} {marks : List Mark} {t : Turn}
-      → Proposes k c m n b now own report since row marks t → IfSome own (Fits v) → VoteFits v report → MarksFit v since → VoteFits v row.vote → MarksFit v marks → TurnFits v t
+      {seat : Seat} {n : ℕ} {b : Ballot} {now : ℕ} {own : Option Tape} {report : Option Vote} {since : List Mark} {row : Row} {marks : List Mark} {t : Turn}
+      → Proposes seat n b now own report since row marks t → IfSome own (Fits v) → VoteFits v report → MarksFit v since → VoteFits v row.vote → MarksFit v marks → TurnFits v t
   proposes_fit {n = n} (nothing picks e) fo fr fs r h = stays_fit e r (and_mark (Closed n) tt h)
-  proposes_fit {k = k} {c = c} {m = m} {n = n} {b = b} {now = now} (proposes tape release after picks hearing e) fo fr fs r h =
+  proposes_fit {seat = seat} {n = n} {b = b} {now = now} (proposes tape release after picks hearing e) fo fr fs r h =
       let f : Fits v tape = picks_fit picks fo fr fs in
       let x = hears_fit hearing (and_mark (Proposed n b now) tt h) f in
       subst (λ (t : Turn). TurnFits v t) (sym e) (record {
         row = f;
         marks = x.0;
-        out = λ p i. elim (among-append (to_others k c m n b (Accept tape)) (to_others k c m n b (Accepted tape)) p i) [ inl y ↦ others_fit k c m n b (Accept tape) f p y | inr y ↦ others_fit k c m n b (Accepted tape) f p y ];
+        out = λ p i. elim (among-append (to_others seat n b (Accept tape)) (to_others seat n b (Accepted tape)) p i) [ inl y ↦ others_fit seat n b (Accept tape) f p y | inr y ↦ others_fit seat n b (Accepted tape) f p y ];
         release = x.1;
       })
 
   begins_fit :
-      {k c m n : ℕ} {b : Ballot} {own : Option Tape} {now : ℕ} {row : Row} {marks : List Mark} {t : Turn}
-      → Begins k c m n b own now row marks t → IfSome own (Fits v) → VoteFits v row.vote → MarksFit v marks → TurnFits v t
-  begins_fit {k = k} {c = c} {m = m} {n = n} {b = b} {own = own} {now = now} {row = row} (asks l e) fo r h =
-      subst (λ (t : Turn). TurnFits v t) (sym e) (record { row = r; marks = and_mark (Began n b own row.vote now) (fo, r) h; out = others_fit k c m n b Prepare tt; release = tt })
+      {seat : Seat} {n : ℕ} {b : Ballot} {own : Option Tape} {now : ℕ} {row : Row} {marks : List Mark} {t : Turn}
+      → Begins seat n b own now row marks t → IfSome own (Fits v) → VoteFits v row.vote → MarksFit v marks → TurnFits v t
+  begins_fit {seat = seat} {n = n} {b = b} {own = own} {now = now} {row = row} (asks l e) fo r h =
+      subst (λ (t : Turn). TurnFits v t) (sym e) (record { row = r; marks = and_mark (Began n b own row.vote now) (fo, r) h; out = others_fit seat n b Prepare tt; release = tt })
   begins_fit {n = n} {b = b} {own = own} {now = now} {row = row} (alone e proposing) fo r h =
       proposes_fit proposing fo r (record { each = λ x i. absurd i }) r (and_mark (Began n b own row.vote now) (fo, r) h)
 
@@ -93,14 +94,14 @@ module _ (v : Version) where
     record { each = λ x i. h.each x (subst (λ (l : List Mark). IsAmong l x) (sym o.began) (among_left since (Began n b own report o.now ∷ o.before) x i)) },
   )
 
-  due_fits : {k c m n now : ℕ} {marks : List Mark} {row : Row} {t : Turn} → DueTurn k c m n now marks row t → VoteFits v row.vote → MarksFit v marks → TurnFits v t
+  due_fits : {seat : Seat} {n now : ℕ} {marks : List Mark} {row : Row} {t : Turn} → DueTurn seat n now marks row t → VoteFits v row.vote → MarksFit v marks → TurnFits v t
   due_fits (is_idle i e) r h = stays_fit e r h
   due_fits {n = n} (gives_up b own denied seen due g g' l e) r h = stays_fit e r (and_mark (Closed n) tt h)
   due_fits (begins_anew b own denied seen a due g g' l e begins) r h = begins_fit begins (open_fits due.is_open h).0.0 r h
 
   promise_fits :
-      {k c m now : ℕ} {marks : List Mark} {row : Row} {p : Packet} {report : Option Vote} {t : Turn}
-      → PromiseTurn k c m now marks row p report t → VoteFits v row.vote → MarksFit v marks → VoteFits v report → TurnFits v t
+      {seat : Seat} {now : ℕ} {marks : List Mark} {row : Row} {p : Packet} {report : Option Vote} {t : Turn}
+      → PromiseTurn seat now marks row p report t → VoteFits v row.vote → MarksFit v marks → VoteFits v report → TurnFits v t
   promise_fits (table.PromiseTurn.is_stale i e) r h f = stays_fit e r h
   promise_fits (is_overtaken own mine since g i e) r h f = stays_fit e r h
   promise_fits (is_repeated own mine since s g i k e) r h f = stays_fit e r h
@@ -111,34 +112,34 @@ module _ (v : Version) where
       proposes_fit proposing o.0.0 o.0.1 (and_mark x f o.1) r (and_mark x f h)
 
   answer_fits :
-      (k c m now : ℕ) (marks : List Mark) (row : Row) (p : Packet) (body : Body) (t : Turn)
-      → AnswerTurn k c m now marks row p body t → VoteFits v row.vote → MarksFit v marks → BodyFits v body → TurnFits v t
-  answer_fits k c m now marks row p Prepare t (promises free e) r h f = subst (λ (t : Turn). TurnFits v t) (sym e) (record { row = r; marks = h; out = one_fits r; release = tt })
-  answer_fits k c m now marks row p Prepare t (is_silent same e) r h f = stays_fit e r h
-  answer_fits k c m now marks row p Prepare t (table.PrepareTurn.nacks a is up e) r h f = subst (λ (t : Turn). TurnFits v t) (sym e) (record { row = r; marks = h; out = one_fits tt; release = tt })
-  answer_fits k c m now marks row p (Promise report) t taken r h f = promise_fits taken r h f
-  answer_fits k c m now marks row p (Accept tape) t (table.AcceptTurn.nacks a is up e) r h f = subst (λ (t : Turn). TurnFits v t) (sym e) (record { row = r; marks = h; out = one_fits tt; release = tt })
-  answer_fits k c m now marks row p (Accept tape) t (votes_again own release after free at_it hearing e) r h f =
+      (seat : Seat) (now : ℕ) (marks : List Mark) (row : Row) (p : Packet) (body : Body) (t : Turn)
+      → AnswerTurn seat now marks row p body t → VoteFits v row.vote → MarksFit v marks → BodyFits v body → TurnFits v t
+  answer_fits seat now marks row p Prepare t (promises free e) r h f = subst (λ (t : Turn). TurnFits v t) (sym e) (record { row = r; marks = h; out = one_fits r; release = tt })
+  answer_fits seat now marks row p Prepare t (is_silent same e) r h f = stays_fit e r h
+  answer_fits seat now marks row p Prepare t (table.PrepareTurn.nacks a is up e) r h f = subst (λ (t : Turn). TurnFits v t) (sym e) (record { row = r; marks = h; out = one_fits tt; release = tt })
+  answer_fits seat now marks row p (Promise report) t taken r h f = promise_fits taken r h f
+  answer_fits seat now marks row p (Accept tape) t (table.AcceptTurn.nacks a is up e) r h f = subst (λ (t : Turn). TurnFits v t) (sym e) (record { row = r; marks = h; out = one_fits tt; release = tt })
+  answer_fits seat now marks row p (Accept tape) t (votes_again own release after free at_it hearing e) r h f =
       let fo : Fits v own = subst (λ (o : Option Vote). VoteFits v o) at_it r in
       let x = hears_fit hearing h fo in
-      subst (λ (t : Turn). TurnFits v t) (sym e) (record { row = r; marks = x.0; out = others_fit k c m p.number p.ballot (Accepted own) fo; release = x.1 })
-  answer_fits k c m now marks row p (Accept tape) t (votes release after free unvoted hearing e) r h f =
+      subst (λ (t : Turn). TurnFits v t) (sym e) (record { row = r; marks = x.0; out = others_fit seat p.number p.ballot (Accepted own) fo; release = x.1 })
+  answer_fits seat now marks row p (Accept tape) t (votes release after free unvoted hearing e) r h f =
       let x = hears_fit hearing h f in
-      subst (λ (t : Turn). TurnFits v t) (sym e) (record { row = f; marks = x.0; out = others_fit k c m p.number p.ballot (Accepted tape) f; release = x.1 })
-  answer_fits k c m now marks row p (Accepted tape) t (settles i e) r h f = stays_fit e r h
-  answer_fits k c m now marks row p (Accepted tape) t (hears release after i hearing e) r h f =
+      subst (λ (t : Turn). TurnFits v t) (sym e) (record { row = f; marks = x.0; out = others_fit seat p.number p.ballot (Accepted tape) f; release = x.1 })
+  answer_fits seat now marks row p (Accepted tape) t (settles i e) r h f = stays_fit e r h
+  answer_fits seat now marks row p (Accepted tape) t (hears release after i hearing e) r h f =
       let x = hears_fit hearing h f in
       subst (λ (t : Turn). TurnFits v t) (sym e) (record { row = r; marks = x.0; out = λ p i. absurd i; release = x.1 })
-  answer_fits k c m now marks row p (Nack a) t (table.NackTurn.is_stale i e) r h f = stays_fit e r h
-  answer_fits k c m now marks row p (Nack a) t (is_denied own mine since o e) r h f = stays_fit e r (and_mark (Denied p.number a) tt h)
+  answer_fits seat now marks row p (Nack a) t (table.NackTurn.is_stale i e) r h f = stays_fit e r h
+  answer_fits seat now marks row p (Nack a) t (is_denied own mine since o e) r h f = stays_fit e r (and_mark (Denied p.number a) tt h)
 
   turn_fits :
-      (k c m : ℕ) (marks : List Mark) (row : Row) (e : Event) (t : Turn)
-      → IsTurn k c m marks row e t → VoteFits v row.vote → MarksFit v marks → EventFits v e → TurnFits v t
-  turn_fits k c m marks row (Offered n tape now) t (starts b i begins) r h f = begins_fit begins f r h
-  turn_fits k c m marks row (Sought n now) t (starts b i begins) r h f = begins_fit begins tt r h
-  turn_fits k c m marks row (Came_due n now) t taken r h f = due_fits taken r h
-  turn_fits k c m marks row (Arrived p now) t taken r h f = answer_fits k c m now marks row p p.body t taken r h f
+      (seat : Seat) (marks : List Mark) (row : Row) (e : Event) (t : Turn)
+      → IsTurn seat marks row e t → VoteFits v row.vote → MarksFit v marks → EventFits v e → TurnFits v t
+  turn_fits seat marks row (Offered n tape now) t (starts b i begins) r h f = begins_fit begins f r h
+  turn_fits seat marks row (Sought n now) t (starts b i begins) r h f = begins_fit begins tt r h
+  turn_fits seat marks row (Came_due n now) t taken r h f = due_fits taken r h
+  turn_fits seat marks row (Arrived p now) t taken r h f = answer_fits seat now marks row p p.body t taken r h f
 
 pub turns_fit : TurnsFit
-turns_fit v k c m marks row e t member is h r f = turn_fits v k c m marks row e t (is_turn k c m marks row e t member is) r h f
+turns_fit v seat marks row e t member is h r f = turn_fits v seat marks row e t (is_turn seat marks row e t member is) r h f

@@ -10,7 +10,7 @@ use Rattle.protocol.specs.Marks.{Mark}
 use Rattle.protocol.specs.Proposals.{next_due}
 use Rattle.protocol.specs.Turn.{Turn, turn, Event, Offered, Sought, Came_due, Arrived, number_of}
 use Rattle.protocol.specs.Refusals.{Call, Offering, Seeking, Falling_due, Receiving, Refusal, Stopped, wire_refusal, number_refusal, call_refusal, early_refusal, due_event, arrival, event_of}
-use Rattle.protocol.specs.Circuit.{Circuit, hears, setup_of, State, IsSameState, fresh, Outcome, with_at, saved, MayLeave, Leaves, store_before_save, memory_before_save, at_save, StepsTo, is_refused, is_idle, is_spent, is_done, is_torn, restarts, upgrades, upgrade_is_torn, is_armed, History, starts, goes_on}
+use Rattle.protocol.specs.Circuit.{Circuit, hears, setup_of, seat_at, State, IsSameState, fresh, Outcome, with_at, saved, MayLeave, Leaves, store_before_save, memory_before_save, at_save, StepsTo, is_refused, is_idle, is_spent, is_done, is_torn, restarts, upgrades, upgrade_is_torn, is_armed, History, starts, goes_on}
 use Rattle.protocol.specs.Circuit as circuit
 use Rattle.protocol.specs.Fitting.{Fits, VoteFits, MarksFit, BodyFits, EventFits, TurnFits, SpellsWhatFits, MembersFit, HistoriesFit}
 use Rattle.protocol.proofs.Places.{with_at_cases, with_at-self, with_at-same, saved_cases, saved-self}
@@ -130,9 +130,9 @@ module _ {D G F : Type 0} (z : Circuit D G F) (spells : SpellsWhatFits z) where
       (w : State G F) → MembersFit w → (m : ℕ) (call : Call) (e : Event) (t : Turn) → IsMember z.count m
       → early_refusal (setup_of z (w.version m) m) (w.is_stopped m) (w.marks m) call ≡ None
       → event_of (setup_of z (w.version m) m) (w.marks m) call ≡ Some e
-      → turn z.number z.count m (w.marks m) (w.rows m (number_of e)) e ≡ Some t → TurnFits (w.version m) t
+      → turn (seat_at z m) (w.marks m) (w.rows m (number_of e)) e ≡ Some t → TurnFits (w.version m) t
   taken_fits w h m call e t member un event is =
-      turns_fit (w.version m) z.number z.count m (w.marks m) (w.rows m (number_of e)) e t member is (h.marks m) (h.rows m (number_of e))
+      turns_fit (w.version m) (seat_at z m) (w.marks m) (w.rows m (number_of e)) e t member is (h.marks m) (h.rows m (number_of e))
       (event_fits (w.version m) m (w.is_stopped m) (w.marks m) call e un event)
 
   step_fits : (w : State G F) (s : circuit.Step) (o : Outcome D F) (after : State G F) → MembersFit w → StepsTo z w s o after → MembersFit after

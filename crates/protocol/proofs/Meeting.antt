@@ -2,6 +2,7 @@
 use Rattle.std.proofs.Common.{◌≡◌, ℕ, ◌≤◌, inl, inr, refl, sym, ap, subst, ◌∙◌, arith, List, [], ◌∷◌, Option, Some, None, Bool, true, false}
 use Rattle.std.specs.Prelude.{◌==◌, nat_le, if◌then◌else◌, MatchOption}
 use Rattle.std.proofs.lemmas.Bool.{eqb-true, eqb-false, leb-true, leb-false}
+use Rattle.protocol.specs.Seats.{Seat}
 use Rattle.protocol.specs.Ballots.{Ballot, IsBelow, IsMember, IsNoneOrAtMost, IsNoneOrBelow, next, is_same, is_below, is_majority}
 use Rattle.protocol.specs.Rows.{Tape, Vote, Row, raised}
 use Rattle.protocol.specs.Packets.{Packet, Body, Prepare, Promise, Accept, Accepted, Nack}
@@ -35,23 +36,23 @@ hear_is c n k b t marks = go (was_released n marks) refl
 -- propose and begin
 
 pub propose_is :
-    (circuit c m n : ℕ) (b : Ballot) (now : ℕ) (own : Option Tape) (report : Option Vote) (since : List Mark) (row : Row) (marks : List Mark) (r : Option Tape)
-    → Picks m n b own report since r → Proposes circuit c m n b now own report since row marks (propose circuit c m n b now marks row r)
-propose_is circuit c m n b now own report since row marks None h = nothing h refl
-propose_is circuit c m n b now own report since row marks (Some tape) h = proposes tape (hear c n m b tape (Proposed n b now ∷ marks)).release (hear c n m b tape (Proposed n b now ∷ marks)).marks h (hear_is c n m b tape (Proposed n b now ∷ marks)) refl
+    (seat : Seat) (n : ℕ) (b : Ballot) (now : ℕ) (own : Option Tape) (report : Option Vote) (since : List Mark) (row : Row) (marks : List Mark) (r : Option Tape)
+    → Picks seat.me n b own report since r → Proposes seat n b now own report since row marks (propose seat n b now marks row r)
+propose_is seat n b now own report since row marks None h = nothing h refl
+propose_is seat n b now own report since row marks (Some tape) h = proposes tape (hear seat.members n seat.me b tape (Proposed n b now ∷ marks)).release (hear seat.members n seat.me b tape (Proposed n b now ∷ marks)).marks h (hear_is seat.members n seat.me b tape (Proposed n b now ∷ marks)) refl
 
-pub begin_is : (circuit c m n : ℕ) (b : Ballot) (own : Option Tape) (now : ℕ) (row : Row) (marks : List Mark) → 1 ≤ c → Begins circuit c m n b own now row marks (begin circuit c m n b own now marks row)
-begin_is circuit c m n b own now row marks l = go (c == 1) refl
+pub begin_is : (seat : Seat) (n : ℕ) (b : Ballot) (own : Option Tape) (now : ℕ) (row : Row) (marks : List Mark) → 1 ≤ seat.members → Begins seat n b own now row marks (begin seat n b own now marks row)
+begin_is seat n b own now row marks l = go (seat.members == 1) refl
   where
-    go : (s : Bool) → (c == 1) ≡ s → Begins circuit c m n b own now row marks (begin circuit c m n b own now marks row)
+    go : (s : Bool) → (seat.members == 1) ≡ s → Begins seat n b own now row marks (begin seat n b own now marks row)
     go true e =
-        rw e (alone (eqb-true c 1 e) (propose_is circuit c m n b now own row.vote [] (raised row b) (Began n b own row.vote now ∷ marks) (pick own (record { member = m; report = row.vote } ∷ []))
-        (pick_is m n b (record { ballot = b; own = own; report = row.vote; now = now }) [] refl)))
-    go false e = let h : c ≡ 1 → ⊥ = eqb-false c 1 e in rw e (asks (omega arith) refl)
+        rw e (alone (eqb-true seat.members 1 e) (propose_is seat n b now own row.vote [] (raised row b) (Began n b own row.vote now ∷ marks) (pick own (record { member = seat.me; report = row.vote } ∷ []))
+        (pick_is seat.me n b (record { ballot = b; own = own; report = row.vote; now = now }) [] refl)))
+    go false e = let h : seat.members ≡ 1 → ⊥ = eqb-false seat.members 1 e in rw e (asks (omega arith) refl)
 
-pub start_is : (circuit c m n : ℕ) (own : Option Tape) (now : ℕ) (marks : List Mark) (row : Row) → 1 ≤ c → (r : Option Ballot) → next row.promised m ≡ r → MatchOption (start_turn circuit c m n own now marks row r) (r ≡ None) (λ t. StartTurn circuit c m n own now marks row t)
-start_is circuit c m n own now marks row l None e = refl
-start_is circuit c m n own now marks row l (Some b) e = starts b e (begin_is circuit c m n b own now row marks l)
+pub start_is : (seat : Seat) (n : ℕ) (own : Option Tape) (now : ℕ) (marks : List Mark) (row : Row) → 1 ≤ seat.members → (r : Option Ballot) → next row.promised seat.me ≡ r → MatchOption (start_turn seat n own now marks row r) (r ≡ None) (λ t. StartTurn seat n own now marks row t)
+start_is seat n own now marks row l None e = refl
+start_is seat n own now marks row l (Some b) e = starts b e (begin_is seat n b own now row marks l)
 
 -- due
 
@@ -65,22 +66,22 @@ greater_is (Some p) (Some q) = go (is_below p q) refl
     go true e = rw e (inr (refl, below_weaken p q (is_below-true p q e)))
     go false e = rw e (inl (refl, is_below-false p q e))
 
-pub due_is : (circuit c m n now : ℕ) (marks : List Mark) (row : Row) → 1 ≤ c → DueTurn circuit c m n now marks row (due_turn circuit c m n now marks row (open_proposal n marks))
-due_is circuit c m n now marks row l = go (open_proposal n marks) refl
+pub due_is : (seat : Seat) (n now : ℕ) (marks : List Mark) (row : Row) → 1 ≤ seat.members → DueTurn seat n now marks row (due_turn seat n now marks row (open_proposal n marks))
+due_is seat n now marks row l = go (open_proposal n marks) refl
   where
-    anew : (p : Opening) → IsDue m marks now n p.ballot p.own → (s : Bool) → nat_le 32 (begun n marks) ≡ s → (r : Option Ballot) → next (greater_ballot row.promised (denied n marks)) m ≡ r → DueTurn circuit c m n now marks row (renew circuit c m n now p marks row (if s then None else r))
+    anew : (p : Opening) → IsDue seat.me marks now n p.ballot p.own → (s : Bool) → nat_le 32 (begun n marks) ≡ s → (r : Option Ballot) → next (greater_ballot row.promised (denied n marks)) seat.me ≡ r → DueTurn seat n now marks row (renew seat n now p marks row (if s then None else r))
     anew p d true e r f = gives_up p.ballot p.own (denied n marks) (greater_ballot row.promised (denied n marks)) d (denied_is n marks) (greater_is row.promised (denied n marks)) (inl (leb-true 32 (begun n marks) e)) refl
     anew p d false e None f = gives_up p.ballot p.own (denied n marks) (greater_ballot row.promised (denied n marks)) d (denied_is n marks) (greater_is row.promised (denied n marks)) (inr f) refl
     anew p d false e (Some b) f =
-        begins_anew p.ballot p.own (denied n marks) (greater_ballot row.promised (denied n marks)) b d (denied_is n marks) (greater_is row.promised (denied n marks)) (leb-false 32 (begun n marks) e) f (begin_is circuit c m n b p.own now row marks l)
+        begins_anew p.ballot p.own (denied n marks) (greater_ballot row.promised (denied n marks)) b d (denied_is n marks) (greater_is row.promised (denied n marks)) (leb-false 32 (begun n marks) e) f (begin_is seat n b p.own now row marks l)
 
-    go : (r : Option Opening) → open_proposal n marks ≡ r → DueTurn circuit c m n now marks row (due_turn circuit c m n now marks row r)
-    go None e = is_idle (none_due m n now marks e) refl
-    go (Some p) e = come (nat_le (due_moment m n p (since_began n marks)) now) refl
+    go : (r : Option Opening) → open_proposal n marks ≡ r → DueTurn seat n now marks row (due_turn seat n now marks row r)
+    go None e = is_idle (none_due seat.me n now marks e) refl
+    go (Some p) e = come (nat_le (due_moment seat.me n p (since_began n marks)) now) refl
       where
-        come : (s : Bool) → nat_le (due_moment m n p (since_began n marks)) now ≡ s → DueTurn circuit c m n now marks row (due_turn circuit c m n now marks row (Some p))
-        come true f = rw f (anew p (due_as m n now marks p (open_is n marks p e) f) (nat_le 32 (begun n marks)) refl (next (greater_ballot row.promised (denied n marks)) m) refl)
-        come false f = rw f (is_idle (not_due m n now marks p e f) refl)
+        come : (s : Bool) → nat_le (due_moment seat.me n p (since_began n marks)) now ≡ s → DueTurn seat n now marks row (due_turn seat n now marks row (Some p))
+        come true f = rw f (anew p (due_as seat.me n now marks p (open_is n marks p e) f) (nat_le 32 (begun n marks)) refl (next (greater_ballot row.promised (denied n marks)) seat.me) refl)
+        come false f = rw f (is_idle (not_due seat.me n now marks p e f) refl)
 
 -- packets
 
@@ -93,19 +94,19 @@ above_is a b e f = elim (at_most_cases b a (is_below-false a b e)) [
     true_false : true ≡ false → ⊥
     true_false e = cc
 
-pub prepare_is : (circuit m : ℕ) (marks : List Mark) (row : Row) (p : Packet) (r : Option Ballot) → row.promised ≡ r → PrepareTurn circuit m marks row p (prepare_turn circuit m marks row p r)
-prepare_is circuit m marks row p None e = promises (subst (λ (r : Option Ballot). IsNoneOrBelow r p.ballot) (sym e) tt) refl
-prepare_is circuit m marks row p (Some a) e = go (is_below a p.ballot) refl (is_same a p.ballot) refl
+pub prepare_is : (seat : Seat) (marks : List Mark) (row : Row) (p : Packet) (r : Option Ballot) → row.promised ≡ r → PrepareTurn seat marks row p (prepare_turn seat marks row p r)
+prepare_is seat marks row p None e = promises (subst (λ (r : Option Ballot). IsNoneOrBelow r p.ballot) (sym e) tt) refl
+prepare_is seat marks row p (Some a) e = go (is_below a p.ballot) refl (is_same a p.ballot) refl
   where
-    go : (s : Bool) → is_below a p.ballot ≡ s → (t : Bool) → is_same a p.ballot ≡ t → PrepareTurn circuit m marks row p (prepare_turn circuit m marks row p (Some a))
+    go : (s : Bool) → is_below a p.ballot ≡ s → (t : Bool) → is_same a p.ballot ≡ t → PrepareTurn seat marks row p (prepare_turn seat marks row p (Some a))
     go true f t g = rw f (promises (subst (λ (r : Option Ballot). IsNoneOrBelow r p.ballot) (sym e) (is_below-true a p.ballot f)) refl)
     go false f true g = rw (f, g) (is_silent (e ∙ ap Some (is_same-true a p.ballot g)) refl)
     go false f false g = rw (f, g) (table.PrepareTurn.nacks a e (above_is a p.ballot f g) refl)
 
-pub vote_is : (circuit c m : ℕ) (marks : List Mark) (row : Row) (p : Packet) (tape : Tape) → IsNoneOrAtMost row.promised p.ballot → (r : Option Vote) → row.vote ≡ r → AcceptTurn circuit c m marks row p tape (take_vote circuit c m marks row p tape r)
-vote_is circuit c m marks row p tape l None e =
-    votes (hear c p.number m p.ballot tape marks).release (hear c p.number m p.ballot tape marks).marks l (λ own h. some_none (sym h ∙ e)) (hear_is c p.number m p.ballot tape marks) refl
-vote_is circuit c m marks row p tape l (Some v) e = go (is_same v.ballot p.ballot) refl
+pub vote_is : (seat : Seat) (marks : List Mark) (row : Row) (p : Packet) (tape : Tape) → IsNoneOrAtMost row.promised p.ballot → (r : Option Vote) → row.vote ≡ r → AcceptTurn seat marks row p tape (take_vote seat marks row p tape r)
+vote_is seat marks row p tape l None e =
+    votes (hear seat.members p.number seat.me p.ballot tape marks).release (hear seat.members p.number seat.me p.ballot tape marks).marks l (λ own h. some_none (sym h ∙ e)) (hear_is seat.members p.number seat.me p.ballot tape marks) refl
+vote_is seat marks row p tape l (Some v) e = go (is_same v.ballot p.ballot) refl
   where
     other : is_same v.ballot p.ballot ≡ false → (own : Tape) → ¬ VotedAt row p.ballot own
     other f own h = false_true (sym f ∙ is_same-self v.ballot p.ballot (ap (λ (x : Vote). x.ballot) same))
@@ -119,27 +120,27 @@ vote_is circuit c m marks row p tape l (Some v) e = go (is_same v.ballot p.ballo
         same : v ≡ record { ballot = p.ballot; tape = own }
         same = some_same (sym e ∙ h)
 
-    go : (s : Bool) → is_same v.ballot p.ballot ≡ s → AcceptTurn circuit c m marks row p tape (take_vote circuit c m marks row p tape (Some v))
+    go : (s : Bool) → is_same v.ballot p.ballot ≡ s → AcceptTurn seat marks row p tape (take_vote seat marks row p tape (Some v))
     go true f =
         let g : v.ballot ≡ p.ballot = is_same-true v.ballot p.ballot f in
-        rw f (votes_again v.tape (hear c p.number m p.ballot v.tape marks).release (hear c p.number m p.ballot v.tape marks).marks l (e ∙ ap (λ (b : Ballot). Some (record { ballot = b; tape = v.tape })) g) (hear_is c p.number m p.ballot v.tape marks) refl)
-    go false f = rw f (votes (hear c p.number m p.ballot tape marks).release (hear c p.number m p.ballot tape marks).marks l (other f) (hear_is c p.number m p.ballot tape marks) refl)
+        rw f (votes_again v.tape (hear seat.members p.number seat.me p.ballot v.tape marks).release (hear seat.members p.number seat.me p.ballot v.tape marks).marks l (e ∙ ap (λ (b : Ballot). Some (record { ballot = b; tape = v.tape })) g) (hear_is seat.members p.number seat.me p.ballot v.tape marks) refl)
+    go false f = rw f (votes (hear seat.members p.number seat.me p.ballot tape marks).release (hear seat.members p.number seat.me p.ballot tape marks).marks l (other f) (hear_is seat.members p.number seat.me p.ballot tape marks) refl)
 
-pub accept_is : (circuit c m : ℕ) (marks : List Mark) (row : Row) (p : Packet) (tape : Tape) (r : Option Ballot) → row.promised ≡ r → AcceptTurn circuit c m marks row p tape (accept_turn circuit c m marks row p tape r)
-accept_is circuit c m marks row p tape None e = vote_is circuit c m marks row p tape (subst (λ (r : Option Ballot). IsNoneOrAtMost r p.ballot) (sym e) tt) row.vote refl
-accept_is circuit c m marks row p tape (Some a) e = go (is_below p.ballot a) refl
+pub accept_is : (seat : Seat) (marks : List Mark) (row : Row) (p : Packet) (tape : Tape) (r : Option Ballot) → row.promised ≡ r → AcceptTurn seat marks row p tape (accept_turn seat marks row p tape r)
+accept_is seat marks row p tape None e = vote_is seat marks row p tape (subst (λ (r : Option Ballot). IsNoneOrAtMost r p.ballot) (sym e) tt) row.vote refl
+accept_is seat marks row p tape (Some a) e = go (is_below p.ballot a) refl
   where
-    go : (s : Bool) → is_below p.ballot a ≡ s → AcceptTurn circuit c m marks row p tape (accept_turn circuit c m marks row p tape (Some a))
+    go : (s : Bool) → is_below p.ballot a ≡ s → AcceptTurn seat marks row p tape (accept_turn seat marks row p tape (Some a))
     go true f = rw f (table.AcceptTurn.nacks a e (is_below-true p.ballot a f) refl)
-    go false f = rw f (vote_is circuit c m marks row p tape (subst (λ (r : Option Ballot). IsNoneOrAtMost r p.ballot) (sym e) (is_below-false p.ballot a f)) row.vote refl)
+    go false f = rw f (vote_is seat marks row p tape (subst (λ (r : Option Ballot). IsNoneOrAtMost r p.ballot) (sym e) (is_below-false p.ballot a f)) row.vote refl)
 
-pub accepted_is : (c : ℕ) (marks : List Mark) (row : Row) (p : Packet) (tape : Tape) → AcceptedTurn c marks row p tape (accepted_turn c marks row p tape)
-accepted_is c marks row p tape = go (was_released p.number marks) refl
+pub accepted_is : (seat : Seat) (marks : List Mark) (row : Row) (p : Packet) (tape : Tape) → AcceptedTurn seat marks row p tape (accepted_turn seat marks row p tape)
+accepted_is seat marks row p tape = go (was_released p.number marks) refl
   where
-    go : (s : Bool) → was_released p.number marks ≡ s → AcceptedTurn c marks row p tape (accepted_turn c marks row p tape)
+    go : (s : Bool) → was_released p.number marks ≡ s → AcceptedTurn seat marks row p tape (accepted_turn seat marks row p tape)
     go true e = settles (released_is p.number marks e) (rw e refl)
     go false e =
-        hears (hear c p.number p.from p.ballot tape marks).release (hear c p.number p.from p.ballot tape marks).marks (unreleased_is p.number marks e) (hear_is c p.number p.from p.ballot tape marks) (rw e refl)
+        hears (hear seat.members p.number p.from p.ballot tape marks).release (hear seat.members p.number p.from p.ballot tape marks).marks (unreleased_is p.number marks e) (hear_is seat.members p.number p.from p.ballot tape marks) (rw e refl)
 
 pub nack_is : (marks : List Mark) (row : Row) (p : Packet) (a : Ballot) (r : Option Opening) → proposal_at p.number p.ballot marks ≡ r → NackTurn marks row p a (nack_turn marks row p a r)
 nack_is marks row p a None e = table.NackTurn.is_stale (proposal_none p.number p.ballot marks e) refl
@@ -164,9 +165,9 @@ not_that (Some a) b e f = false_true (sym e ∙ is_same-self a b (some_same f))
     some_same : {A : Type 0} {x y : A} → Some x ≡ Some y → x ≡ y
     some_same e = cc
 
-pub promise_is : (circuit c m now : ℕ) (marks : List Mark) (row : Row) (p : Packet) (r : Option Vote) (o : Option Opening) → gathering_at p.number p.ballot marks ≡ o → PromiseTurn circuit c m now marks row p r (promise_turn circuit c m now marks row p r o)
-promise_is circuit c m now marks row p r None e = table.PromiseTurn.is_stale (gathering_none p.number p.ballot marks e) refl
-promise_is circuit c m now marks row p r (Some o) e = here (gathering_is p.number p.ballot marks o e)
+pub promise_is : (seat : Seat) (now : ℕ) (marks : List Mark) (row : Row) (p : Packet) (r : Option Vote) (o : Option Opening) → gathering_at p.number p.ballot marks ≡ o → PromiseTurn seat now marks row p r (promise_turn seat now marks row p r o)
+promise_is seat now marks row p r None e = table.PromiseTurn.is_stale (gathering_none p.number p.ballot marks e) refl
+promise_is seat now marks row p r (Some o) e = here (gathering_is p.number p.ballot marks o e)
   where
     since : List Mark
     since = since_began p.number marks
@@ -177,46 +178,46 @@ promise_is circuit c m now marks row p r (Some o) e = here (gathering_is p.numbe
     false_true : false ≡ true → ⊥
     false_true e = cc
 
-    here : (o.ballot ≡ p.ballot) × Gathers marks p.number p.ballot o.own o.report (since_began p.number marks) → PromiseTurn circuit c m now marks row p r (promise_turn circuit c m now marks row p r (Some o))
-    here (f, g) = go (is_promised row p.ballot) refl (is_counted (counted m p.number o (since_began p.number marks)) p.from) refl
-        (is_majority c (is_counted (counted m p.number o (Promised p.number p.from p.ballot r ∷ since_began p.number marks)))) refl
+    here : (o.ballot ≡ p.ballot) × Gathers marks p.number p.ballot o.own o.report (since_began p.number marks) → PromiseTurn seat now marks row p r (promise_turn seat now marks row p r (Some o))
+    here (f, g) = go (is_promised row p.ballot) refl (is_counted (counted seat.me p.number o (since_began p.number marks)) p.from) refl
+        (is_majority seat.members (is_counted (counted seat.me p.number o (Promised p.number p.from p.ballot r ∷ since_began p.number marks)))) refl
       where
-        fresh : is_counted (counted m p.number o (since_began p.number marks)) p.from ≡ false → (s : Option Vote) → ¬ IsCounted m p.number p.ballot o.report (since_began p.number marks) p.from s
-        fresh h s i = false_true (sym h ∙ one-is_counted m p.number p.ballot o (since_began p.number marks) p.from s f i)
+        fresh : is_counted (counted seat.me p.number o (since_began p.number marks)) p.from ≡ false → (s : Option Vote) → ¬ IsCounted seat.me p.number p.ballot o.report (since_began p.number marks) p.from s
+        fresh h s i = false_true (sym h ∙ one-is_counted seat.me p.number p.ballot o (since_began p.number marks) p.from s f i)
 
         go :
-            (x : Bool) → is_promised row p.ballot ≡ x → (y : Bool) → is_counted (counted m p.number o (since_began p.number marks)) p.from ≡ y
-            → (z : Bool) → is_majority c (is_counted (counted m p.number o (Promised p.number p.from p.ballot r ∷ since_began p.number marks))) ≡ z
-            → PromiseTurn circuit c m now marks row p r (promise_turn circuit c m now marks row p r (Some o))
+            (x : Bool) → is_promised row p.ballot ≡ x → (y : Bool) → is_counted (counted seat.me p.number o (since_began p.number marks)) p.from ≡ y
+            → (z : Bool) → is_majority seat.members (is_counted (counted seat.me p.number o (Promised p.number p.from p.ballot r ∷ since_began p.number marks))) ≡ z
+            → PromiseTurn seat now marks row p r (promise_turn seat now marks row p r (Some o))
         go false h y i z j = rw h (is_overtaken o.own o.report (since_began p.number marks) g (not_that row.promised p.ballot h) refl)
         go true h true i z j =
-            let (s, k) = is_counted-one m p.number p.ballot o (since_began p.number marks) p.from f i in
+            let (s, k) = is_counted-one seat.me p.number p.ballot o (since_began p.number marks) p.from f i in
             rw (h, i) (is_repeated o.own o.report (since_began p.number marks) s g (that_is row.promised p.ballot h) k refl)
         go true h false i true j =
             rw (h, i, j) (completes o.own o.report (since_began p.number marks) g (that_is row.promised p.ballot h) (fresh i)
-            (majority_of c (is_counted (counted m p.number o (Promised p.number p.from p.ballot r ∷ since_began p.number marks))) (λ k. (s : Option Vote) × IsCounted m p.number p.ballot o.report (Promised p.number p.from p.ballot r ∷ since_began p.number marks) k s)
-            (λ k u t. is_counted-one m p.number p.ballot o (Promised p.number p.from p.ballot r ∷ since_began p.number marks) k f t) j)
-            (propose_is circuit c m p.number p.ballot now o.own o.report (Promised p.number p.from p.ballot r ∷ since_began p.number marks) row (Promised p.number p.from p.ballot r ∷ marks)
-            (pick o.own (counted m p.number o (Promised p.number p.from p.ballot r ∷ since_began p.number marks))) (pick_is m p.number p.ballot o (Promised p.number p.from p.ballot r ∷ since_began p.number marks) f)))
+            (majority_of seat.members (is_counted (counted seat.me p.number o (Promised p.number p.from p.ballot r ∷ since_began p.number marks))) (λ k. (s : Option Vote) × IsCounted seat.me p.number p.ballot o.report (Promised p.number p.from p.ballot r ∷ since_began p.number marks) k s)
+            (λ k u t. is_counted-one seat.me p.number p.ballot o (Promised p.number p.from p.ballot r ∷ since_began p.number marks) k f t) j)
+            (propose_is seat p.number p.ballot now o.own o.report (Promised p.number p.from p.ballot r ∷ since_began p.number marks) row (Promised p.number p.from p.ballot r ∷ marks)
+            (pick o.own (counted seat.me p.number o (Promised p.number p.from p.ballot r ∷ since_began p.number marks))) (pick_is seat.me p.number p.ballot o (Promised p.number p.from p.ballot r ∷ since_began p.number marks) f)))
         go true h false i false j =
             rw (h, i, j) (counts o.own o.report (since_began p.number marks) g (that_is row.promised p.ballot h) (fresh i)
-            (no_majority_of c (is_counted (counted m p.number o (Promised p.number p.from p.ballot r ∷ since_began p.number marks))) (λ k. (s : Option Vote) × IsCounted m p.number p.ballot o.report (Promised p.number p.from p.ballot r ∷ since_began p.number marks) k s)
-            (λ k u (s, t). one-is_counted m p.number p.ballot o (Promised p.number p.from p.ballot r ∷ since_began p.number marks) k s f t) j)
+            (no_majority_of seat.members (is_counted (counted seat.me p.number o (Promised p.number p.from p.ballot r ∷ since_began p.number marks))) (λ k. (s : Option Vote) × IsCounted seat.me p.number p.ballot o.report (Promised p.number p.from p.ballot r ∷ since_began p.number marks) k s)
+            (λ k u (s, t). one-is_counted seat.me p.number p.ballot o (Promised p.number p.from p.ballot r ∷ since_began p.number marks) k s f t) j)
             refl)
 
-pub packet_is : (circuit c m now : ℕ) (marks : List Mark) (row : Row) (p : Packet) (body : Body) → AnswerTurn circuit c m now marks row p body (packet_turn circuit c m now marks row p body)
-packet_is circuit c m now marks row p Prepare = prepare_is circuit m marks row p row.promised refl
-packet_is circuit c m now marks row p (Promise r) = promise_is circuit c m now marks row p r (gathering_at p.number p.ballot marks) refl
-packet_is circuit c m now marks row p (Accept tape) = accept_is circuit c m marks row p tape row.promised refl
-packet_is circuit c m now marks row p (Accepted tape) = accepted_is c marks row p tape
-packet_is circuit c m now marks row p (Nack a) = nack_is marks row p a (proposal_at p.number p.ballot marks) refl
+pub packet_is : (seat : Seat) (now : ℕ) (marks : List Mark) (row : Row) (p : Packet) (body : Body) → AnswerTurn seat now marks row p body (packet_turn seat now marks row p body)
+packet_is seat now marks row p Prepare = prepare_is seat marks row p row.promised refl
+packet_is seat now marks row p (Promise r) = promise_is seat now marks row p r (gathering_at p.number p.ballot marks) refl
+packet_is seat now marks row p (Accept tape) = accept_is seat marks row p tape row.promised refl
+packet_is seat now marks row p (Accepted tape) = accepted_is seat marks row p tape
+packet_is seat now marks row p (Nack a) = nack_is marks row p a (proposal_at p.number p.ballot marks) refl
 
 pub turns_are_of_the_table : TurnsAreOfTheTable
-turns_are_of_the_table circuit c m marks row (Offered n tape now) i = start_is circuit c m n (Some tape) now marks row (let l : 1 ≤ c = omega (arith, i.0, i.1) in l) (next row.promised m) refl
-turns_are_of_the_table circuit c m marks row (Sought n now) i = start_is circuit c m n None now marks row (let l : 1 ≤ c = omega (arith, i.0, i.1) in l) (next row.promised m) refl
-turns_are_of_the_table circuit c m marks row (Came_due n now) i = due_is circuit c m n now marks row (let l : 1 ≤ c = omega (arith, i.0, i.1) in l)
-turns_are_of_the_table circuit c m marks row (Arrived p now) i = packet_is circuit c m now marks row p p.body
+turns_are_of_the_table seat marks row (Offered n tape now) i = start_is seat n (Some tape) now marks row (let l : 1 ≤ seat.members = omega (arith, i.0, i.1) in l) (next row.promised seat.me) refl
+turns_are_of_the_table seat marks row (Sought n now) i = start_is seat n None now marks row (let l : 1 ≤ seat.members = omega (arith, i.0, i.1) in l) (next row.promised seat.me) refl
+turns_are_of_the_table seat marks row (Came_due n now) i = due_is seat n now marks row (let l : 1 ≤ seat.members = omega (arith, i.0, i.1) in l)
+turns_are_of_the_table seat marks row (Arrived p now) i = packet_is seat now marks row p p.body
 
 -- what the function gives is a turn
-pub is_turn : (circuit c m : ℕ) (marks : List Mark) (row : Row) (e : Event) (t : Turn) → IsMember c m → turn circuit c m marks row e ≡ Some t → IsTurn circuit c m marks row e t
-is_turn circuit c m marks row e t i f = subst (λ (o : Option Turn). MatchOption o (IsSpent m row e) (λ u. IsTurn circuit c m marks row e u)) f (turns_are_of_the_table circuit c m marks row e i)
+pub is_turn : (seat : Seat) (marks : List Mark) (row : Row) (e : Event) (t : Turn) → IsMember seat.members seat.me → turn seat marks row e ≡ Some t → IsTurn seat marks row e t
+is_turn seat marks row e t i f = subst (λ (o : Option Turn). MatchOption o (IsSpent seat.me row e) (λ u. IsTurn seat marks row e u)) f (turns_are_of_the_table seat marks row e i)

@@ -1,5 +1,6 @@
 -- What was released is not released again.
 use Rattle.std.proofs.Common.{◌≡◌, ℕ, inl, inr, refl, sym, subst, ◌∙◌, List, ◌∷◌, Option, Some, None}
+use Rattle.protocol.specs.Seats.{Seat}
 use Rattle.protocol.specs.Ballots.{Ballot}
 use Rattle.protocol.specs.Rows.{Tape, Vote, Row}
 use Rattle.protocol.specs.Packets.{Packet, Body, Prepare, Promise, Accept, Accepted, Nack}
@@ -59,46 +60,46 @@ hears_once {n = n} {j = j} {b = b} {t = t} {marks = marks} (releases a u i ripe 
     }
 
 proposes_once :
-    {k c m n : ℕ} {b : Ballot} {now : ℕ} {own : Option Tape} {report : Option Vote} {since : List Mark} {row : Row} {marks : List Mark} {t : Turn}
-    → Proposes k c m n b now own report since row marks t → ReleasesOnce marks n t
+    {seat : Seat} {n : ℕ} {b : Ballot} {now : ℕ} {own : Option Tape} {report : Option Vote} {since : List Mark} {row : Row} {marks : List Mark} {t : Turn}
+    → Proposes seat n b now own report since row marks t → ReleasesOnce marks n t
 proposes_once {n = n} (nothing picks e) = by_turn _ e (one_more n (Closed n))
 proposes_once {n = n} {b = b} {now = now} (proposes tape release after picks hearing e) = by_turn _ e (behind (Proposed n b now) (hears_once hearing))
 
 begins_once :
-    {k c m n : ℕ} {b : Ballot} {own : Option Tape} {now : ℕ} {row : Row} {marks : List Mark} {t : Turn} → Begins k c m n b own now row marks t → ReleasesOnce marks n t
+    {seat : Seat} {n : ℕ} {b : Ballot} {own : Option Tape} {now : ℕ} {row : Row} {marks : List Mark} {t : Turn} → Begins seat n b own now row marks t → ReleasesOnce marks n t
 begins_once {n = n} {b = b} {own = own} {now = now} {row = row} (asks l e) = by_turn _ e (one_more n (Began n b own row.vote now))
 begins_once {n = n} {b = b} {own = own} {now = now} {row = row} (alone e proposing) = turn_behind (Began n b own row.vote now) (proposes_once proposing)
 
-due_once : {k c m n now : ℕ} {marks : List Mark} {row : Row} {t : Turn} → DueTurn k c m n now marks row t → ReleasesOnce marks n t
+due_once : {seat : Seat} {n now : ℕ} {marks : List Mark} {row : Row} {t : Turn} → DueTurn seat n now marks row t → ReleasesOnce marks n t
 due_once {n = n} (is_idle i e) = by_turn _ e (same_marks n)
 due_once {n = n} (gives_up b own denied seen due g g' l e) = by_turn _ e (one_more n (Closed n))
 due_once (begins_anew b own denied seen a due g g' l e begins) = begins_once begins
 
-promise_once : {k c m now : ℕ} {marks : List Mark} {row : Row} {p : Packet} {report : Option Vote} {t : Turn} → PromiseTurn k c m now marks row p report t → ReleasesOnce marks p.number t
+promise_once : {seat : Seat} {now : ℕ} {marks : List Mark} {row : Row} {p : Packet} {report : Option Vote} {t : Turn} → PromiseTurn seat now marks row p report t → ReleasesOnce marks p.number t
 promise_once {p = p} (table.PromiseTurn.is_stale i e) = by_turn _ e (same_marks p.number)
 promise_once {p = p} (is_overtaken own mine since g i e) = by_turn _ e (same_marks p.number)
 promise_once {p = p} (is_repeated own mine since s g i k e) = by_turn _ e (same_marks p.number)
 promise_once {p = p} {report = report} (counts own mine since g i k few e) = by_turn _ e (one_more p.number (Promised p.number p.from p.ballot report))
 promise_once {p = p} {report = report} (completes own mine since g i k many proposing) = turn_behind (Promised p.number p.from p.ballot report) (proposes_once proposing)
 
-answer_once : (k c m now : ℕ) (marks : List Mark) (row : Row) (p : Packet) (body : Body) (t : Turn) → AnswerTurn k c m now marks row p body t → ReleasesOnce marks p.number t
-answer_once k c m now marks row p Prepare t (promises free e) = by_turn _ e (same_marks p.number)
-answer_once k c m now marks row p Prepare t (is_silent same e) = by_turn _ e (same_marks p.number)
-answer_once k c m now marks row p Prepare t (table.PrepareTurn.nacks a is up e) = by_turn _ e (same_marks p.number)
-answer_once k c m now marks row p (Promise report) t taken = promise_once taken
-answer_once k c m now marks row p (Accept tape) t (table.AcceptTurn.nacks a is up e) = by_turn _ e (same_marks p.number)
-answer_once k c m now marks row p (Accept tape) t (votes_again own release after free at_it hearing e) = by_turn _ e (hears_once hearing)
-answer_once k c m now marks row p (Accept tape) t (votes release after free unvoted hearing e) = by_turn _ e (hears_once hearing)
-answer_once k c m now marks row p (Accepted tape) t (settles i e) = by_turn _ e (same_marks p.number)
-answer_once k c m now marks row p (Accepted tape) t (hears release after i hearing e) = by_turn _ e (hears_once hearing)
-answer_once k c m now marks row p (Nack a) t (table.NackTurn.is_stale i e) = by_turn _ e (same_marks p.number)
-answer_once k c m now marks row p (Nack a) t (is_denied own mine since o e) = by_turn _ e (one_more p.number (Denied p.number a))
+answer_once : (seat : Seat) (now : ℕ) (marks : List Mark) (row : Row) (p : Packet) (body : Body) (t : Turn) → AnswerTurn seat now marks row p body t → ReleasesOnce marks p.number t
+answer_once seat now marks row p Prepare t (promises free e) = by_turn _ e (same_marks p.number)
+answer_once seat now marks row p Prepare t (is_silent same e) = by_turn _ e (same_marks p.number)
+answer_once seat now marks row p Prepare t (table.PrepareTurn.nacks a is up e) = by_turn _ e (same_marks p.number)
+answer_once seat now marks row p (Promise report) t taken = promise_once taken
+answer_once seat now marks row p (Accept tape) t (table.AcceptTurn.nacks a is up e) = by_turn _ e (same_marks p.number)
+answer_once seat now marks row p (Accept tape) t (votes_again own release after free at_it hearing e) = by_turn _ e (hears_once hearing)
+answer_once seat now marks row p (Accept tape) t (votes release after free unvoted hearing e) = by_turn _ e (hears_once hearing)
+answer_once seat now marks row p (Accepted tape) t (settles i e) = by_turn _ e (same_marks p.number)
+answer_once seat now marks row p (Accepted tape) t (hears release after i hearing e) = by_turn _ e (hears_once hearing)
+answer_once seat now marks row p (Nack a) t (table.NackTurn.is_stale i e) = by_turn _ e (same_marks p.number)
+answer_once seat now marks row p (Nack a) t (is_denied own mine since o e) = by_turn _ e (one_more p.number (Denied p.number a))
 
-turn_once : (k c m : ℕ) (marks : List Mark) (row : Row) (e : Event) (t : Turn) → IsTurn k c m marks row e t → ReleasesOnce marks (number_of e) t
-turn_once k c m marks row (Offered n tape now) t (starts b i begins) = begins_once begins
-turn_once k c m marks row (Sought n now) t (starts b i begins) = begins_once begins
-turn_once k c m marks row (Came_due n now) t taken = due_once taken
-turn_once k c m marks row (Arrived p now) t taken = answer_once k c m now marks row p p.body t taken
+turn_once : (seat : Seat) (marks : List Mark) (row : Row) (e : Event) (t : Turn) → IsTurn seat marks row e t → ReleasesOnce marks (number_of e) t
+turn_once seat marks row (Offered n tape now) t (starts b i begins) = begins_once begins
+turn_once seat marks row (Sought n now) t (starts b i begins) = begins_once begins
+turn_once seat marks row (Came_due n now) t taken = due_once taken
+turn_once seat marks row (Arrived p now) t taken = answer_once seat now marks row p p.body t taken
 
 pub numbers_are_released_once : NumbersAreReleasedOnce
-numbers_are_released_once k c m marks row e t member is = turn_once k c m marks row e t (is_turn k c m marks row e t member is)
+numbers_are_released_once seat marks row e t member is = turn_once seat marks row e t (is_turn seat marks row e t member is)

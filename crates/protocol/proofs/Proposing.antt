@@ -23,12 +23,12 @@ pub record TurnSound (z : Setting) (V : Votes) (t : Turn) : Type 1 where
   pub grows : (k j : ℕ) (b : Ballot) (u : Tape) → V k j b u → votes k j b u
   pub held : (k j : ℕ) (b : Ballot) (u : Tape) → votes k j b u → V k j b u ⊎ VotedAt (rows_with z t.row k j) b u
   pub out : (p : Packet) → IsAmong t.out p → PacketHolds votes (rows_with z t.row) p
-  pub release : (u : Tape) → t.release ≡ Some u → (a : Ballot) × Majority z.count (λ m. votes m z.number a u)
+  pub release : (u : Tape) → t.release ≡ Some u → (a : Ballot) × Majority z.seat.members (λ m. votes m z.number a u)
 
 -- a turn without a vote
 pub quiet :
     {z : Setting} {V : Votes} (t : Turn) → At z V t.row t.marks → ((p : Packet) → IsAmong t.out p → PacketHolds V (rows_with z t.row) p)
-    → ((u : Tape) → t.release ≡ Some u → (a : Ballot) × Majority z.count (λ m. V m z.number a u)) → TurnSound z V t
+    → ((u : Tape) → t.release ≡ Some u → (a : Ballot) × Majority z.seat.members (λ m. V m z.number a u)) → TurnSound z V t
 quiet {V = V} t h out release = record { votes = V; stands = h; grows = λ k j b u v. v; held = λ k j b u v. inl v; out = out; release = release }
 
 -- a turn that changes no more than the marks
@@ -47,20 +47,20 @@ opened g = record { now = g.is_open.now; before = g.is_open.before; began = g.is
 
 began_holds :
     {z : Setting} {V : Votes} {row : Row} {ms : List Mark} {n : ℕ} {b : Ballot} {own : Option Tape} {report : Option Vote} {since : List Mark}
-    → At z V row ms → (o : Opened ms n b own report since) → MarkHolds V (rows_with z row) z.offers z.me (Began n b own report o.now)
+    → At z V row ms → (o : Opened ms n b own report since) → MarkHolds V (rows_with z row) z.offers z.seat.me (Began n b own report o.now)
 began_holds {ms = ms} {n = n} {b = b} {own = own} {report = report} {since = since} h o =
     marks_hold (Began n b own report o.now) h (among_split ms since o.before (Began n b own report o.now) o.began)
 
 pub opened_unvoted :
     {z : Setting} {V : Votes} {row : Row} {ms : List Mark} {n : ℕ} {b : Ballot} {own : Option Tape} {report : Option Vote} {since : List Mark}
-    → At z V row ms → Opened ms n b own report since → NoVote V z.me n b
+    → At z V row ms → Opened ms n b own report since → NoVote V z.seat.me n b
 opened_unvoted {z = z} {ms = ms} {n = n} {b = b} {own = own} {report = report} {since = since} h o =
-    (h.sound.gathering z.me).unvoted n b own report o.now since o.before (with_at-same z.marks z.me ms ∙ o.began) o.unproposed
+    (h.sound.gathering z.seat.me).unvoted n b own report o.now since o.before (with_at-same z.marks z.seat.me ms ∙ o.began) o.unproposed
 
 -- what each counted member promised
 counted_holds :
     {z : Setting} {V : Votes} {row : Row} {ms : List Mark} {n : ℕ} {b : Ballot} {own : Option Tape} {report : Option Vote} {since : List Mark}
-    → At z V row ms → Opened ms n b own report since → (k : ℕ) (r : Option Vote) → IsCounted z.me n b report since k r → PromiseHolds V (rows_with z row) k n b r
+    → At z V row ms → Opened ms n b own report since → (k : ℕ) (r : Option Vote) → IsCounted z.seat.me n b report since k r → PromiseHolds V (rows_with z row) k n b r
 counted_holds {z = z} h o k r (inl (e, f)) = rw (e, f) ((began_holds h o).1)
 counted_holds {ms = ms} {n = n} {b = b} {own = own} {report = report} {since = since} h o k r (inr i) =
     marks_hold (Promised n k b r) h (subst (λ (l : List Mark). IsAmong l (Promised n k b r)) (sym o.began) (among_left since (Began n b own report o.now ∷ o.before) (Promised n k b r) i))
@@ -97,16 +97,16 @@ backs_from {z = z} {V = V} {row = row} n b g a t j l (Some u) h v low up p top =
 pick_safe :
     {z : Setting} {V : Votes} {row : Row} {ms : List Mark} {n : ℕ} {b : Ballot} {own : Option Tape} {report : Option Vote} {since : List Mark} (t : Tape)
     → At z V row ms → Opened ms n b own report since
-    → Majority z.count (λ k. (r : Option Vote) × IsCounted z.me n b report since k r)
-    → Picks z.me n b own report since (Some t)
-    → IsSafe z.count V (rows_with z row) n b t × IsOffered z.offers n t
+    → Majority z.seat.members (λ k. (r : Option Vote) × IsCounted z.seat.me n b report since k r)
+    → Picks z.seat.me n b own report since (Some t)
+    → IsSafe z.seat.members V (rows_with z row) n b t × IsOffered z.offers n t
 pick_safe {z = z} {V = V} {row = row} {n = n} {b = b} {own = own} {report = report} {since = since} t h o many (the_own none is) =
     (record { backed = λ a up. weaker (λ m i k. inr ((λ u w. lacks m k.0 k.1 a u up w), above m k.0 k.1 a up)) many }, (began_holds h o).2 t (sym is))
   where
-    lacks : (m : ℕ) (r : Option Vote) → IsCounted z.me n b report since m r → (a : Ballot) (u : Tape) → IsBelow a b → V m n a u → ⊥
-    lacks m r k a u up w = let x = (counted_holds h o m r k).greatest a u w up in none m x.0 (subst (λ (y : Option Vote). IsCounted z.me n b report since m y) x.1 k)
+    lacks : (m : ℕ) (r : Option Vote) → IsCounted z.seat.me n b report since m r → (a : Ballot) (u : Tape) → IsBelow a b → V m n a u → ⊥
+    lacks m r k a u up w = let x = (counted_holds h o m r k).greatest a u w up in none m x.0 (subst (λ (y : Option Vote). IsCounted z.seat.me n b report since m y) x.1 k)
 
-    above : (m : ℕ) (r : Option Vote) → IsCounted z.me n b report since m r → (a : Ballot) → IsBelow a b → IsPromisedAbove (rows_with z row m n) a
+    above : (m : ℕ) (r : Option Vote) → IsCounted z.seat.me n b report since m r → (a : Ballot) → IsBelow a b → IsPromisedAbove (rows_with z row m n) a
     above m r k a up = let p = (counted_holds h o m r k).promised in record { at = p.at; is = p.is; passes = below_at_most a b p.at up p.reaches }
 pick_safe {z = z} {V = V} {row = row} {n = n} {b = b} {own = own} {report = report} {since = since} t h o many (the_reported k v counted top is) =
     (record { backed = λ a up. safe a up (compare_ballots a v.ballot) }, h.sound.offered k n v.ballot t chief)
@@ -117,13 +117,13 @@ pick_safe {z = z} {V = V} {row = row} {n = n} {b = b} {own = own} {report = repo
     chief : V k n v.ballot t
     chief = subst (λ (x : Tape). V k n v.ballot x) (sym (some_inj is)) chief_holds.0
 
-    greatest : (j : ℕ) (u : Vote) → IsCounted z.me n b report since j (Some u) → IsAtMost u.ballot v.ballot
+    greatest : (j : ℕ) (u : Vote) → IsCounted z.seat.me n b report since j (Some u) → IsAtMost u.ballot v.ballot
     greatest j u i = elim (top j u i) [ inl less ↦ below_weaken u.ballot v.ballot less | inr same ↦ subst (λ (x : Ballot). IsAtMost u.ballot x) same.0 (at_most_refl u.ballot) ]
 
-    from : (a : Ballot) → IsAtMost v.ballot a → IsBelow a b → Majority z.count (Backs V (rows_with z row) n a t)
-    from a low up = weaker (λ m i q. backs_from n b v.ballot a t m k q.0 h chief low up (counted_holds h o m q.0 q.1) (λ u e. greatest m u (subst (λ (y : Option Vote). IsCounted z.me n b report since m y) e q.1))) many
+    from : (a : Ballot) → IsAtMost v.ballot a → IsBelow a b → Majority z.seat.members (Backs V (rows_with z row) n a t)
+    from a low up = weaker (λ m i q. backs_from n b v.ballot a t m k q.0 h chief low up (counted_holds h o m q.0 q.1) (λ u e. greatest m u (subst (λ (y : Option Vote). IsCounted z.seat.me n b report since m y) e q.1))) many
 
-    safe : (a : Ballot) → IsBelow a b → IsBelow a v.ballot ⊎ ((a ≡ v.ballot) ⊎ IsBelow v.ballot a) → Majority z.count (Backs V (rows_with z row) n a t)
+    safe : (a : Ballot) → IsBelow a b → IsBelow a v.ballot ⊎ ((a ≡ v.ballot) ⊎ IsBelow v.ballot a) → Majority z.seat.members (Backs V (rows_with z row) n a t)
     safe a up (inl less) = (h.sound.safe k n v.ballot t chief).backed a less
     safe a up (inr (inl same)) = from a (subst (λ (x : Ballot). IsAtMost x a) same (at_most_refl a)) up
     safe a up (inr (inr more)) = from a (below_weaken v.ballot a more) up
@@ -131,8 +131,8 @@ pick_safe {z = z} {V = V} {row = row} {n = n} {b = b} {own = own} {report = repo
 pub propose_sound :
     {z : Setting} {V : Votes} {row : Row} {ms : List Mark} {b : Ballot} {own : Option Tape} {report : Option Vote} {since : List Mark} (now : ℕ) (t : Turn)
     → At z V row ms → row.promised ≡ Some b → Opened ms z.number b own report since
-    → Majority z.count (λ k. (r : Option Vote) × IsCounted z.me z.number b report since k r)
-    → Proposes z.circuit z.count z.me z.number b now own report since row ms t
+    → Majority z.seat.members (λ k. (r : Option Vote) × IsCounted z.seat.me z.number b report since k r)
+    → Proposes z.seat z.number b now own report since row ms t
     → TurnSound z V t
 propose_sound {z = z} {V = V} now t h promised o many (nothing picks is) =
     subst (λ (x : Turn). TurnSound z V x) (sym is) (silent (stays _ _ _) refl refl (at_mark (Closed z.number) h tt (λ n a w r i e. cc)))
@@ -147,19 +147,19 @@ propose_sound {z = z} {V = V} {row = row} {ms = ms} {b = b} now t h promised o m
     })
   where
     W : Votes
-    W = WithVote V z.me z.number b tape
+    W = WithVote V z.seat.me z.number b tape
 
-    no_vote : NoVote V z.me z.number b
+    no_vote : NoVote V z.seat.me z.number b
     no_vote = opened_unvoted h o
 
-    owner : b.owner ≡ z.me
+    owner : b.owner ≡ z.seat.me
     owner = (began_holds h o).0
 
     proposed : At z V row (Proposed z.number b now ∷ ms)
     proposed = at_mark (Proposed z.number b now) h tt (λ k a w r i e. cc)
 
-    ups : (k j : ℕ) → (rows_with z (voted b tape) k j ≡ rows_with z row k j) ⊎ (k ≡ z.me) × (j ≡ z.number) × (rows_with z (voted b tape) k j ≡ voted b tape)
-    ups k j = elim (saved_cases z.rows z.me z.number row (voted b tape) k j) [ inl e ↦ inl e | inr e ↦ inr (e.0, e.1, e.3) ]
+    ups : (k j : ℕ) → (rows_with z (voted b tape) k j ≡ rows_with z row k j) ⊎ (k ≡ z.seat.me) × (j ≡ z.number) × (rows_with z (voted b tape) k j ≡ voted b tape)
+    ups k j = elim (saved_cases z.rows z.seat.me z.number row (voted b tape) k j) [ inl e ↦ inl e | inr e ↦ inr (e.0, e.1, e.3) ]
 
     unopened :
         (own' : Option Tape) (report' : Option Vote) (now' : ℕ) (since' before' : List Mark)
@@ -167,29 +167,29 @@ propose_sound {z = z} {V = V} {row = row} {ms = ms} {b = b} now t h promised o m
     unopened own' report' now' [] before' e np = let same : Proposed z.number b now ≡ Began z.number b own' report' now' = heads e in cc
     unopened own' report' now' (y ∷ since') before' e np = np now (inl (heads e))
 
-    is_vote : IsVote V (rows_with z row) (with_at z.marks z.me (Proposed z.number b now ∷ ms)) z.me z.number b tape
+    is_vote : IsVote V (rows_with z row) (with_at z.marks z.seat.me (Proposed z.number b now ∷ ms)) z.seat.me z.number b tape
     is_vote = record {
-      free = subst (λ (x : Row). IsNoneOrAtMost x.promised b) (sym (saved-same z.rows z.me z.number row)) (subst (λ (x : Option Ballot). IsNoneOrAtMost x b) (sym promised) (at_most_refl b));
-      unvoted = λ u e. no_vote u (row_kept (record { ballot = b; tape = u }) h (ap (λ x. x.vote) (sym (saved-same z.rows z.me z.number row)) ∙ e));
+      free = subst (λ (x : Row). IsNoneOrAtMost x.promised b) (sym (saved-same z.rows z.seat.me z.number row)) (subst (λ (x : Option Ballot). IsNoneOrAtMost x b) (sym promised) (at_most_refl b));
+      unvoted = λ u e. no_vote u (row_kept (record { ballot = b; tape = u }) h (ap (λ x. x.vote) (sym (saved-same z.rows z.seat.me z.number row)) ∙ e));
       owned = new owner refl refl refl;
-      unopened = λ own' report' now' since' before' e. unopened own' report' now' since' before' (sym (with_at-same z.marks z.me (Proposed z.number b now ∷ ms)) ∙ e);
+      unopened = λ own' report' now' since' before' e. unopened own' report' now' since' before' (sym (with_at-same z.marks z.seat.me (Proposed z.number b now ∷ ms)) ∙ e);
     }
 
-    safe : IsSafe z.count V (rows_with z row) z.number b tape × IsOffered z.offers z.number tape
+    safe : IsSafe z.seat.members V (rows_with z row) z.number b tape × IsOffered z.offers z.number tape
     safe = pick_safe tape h o many picks
 
     has_voted : At z W (voted b tape) (Proposed z.number b now ∷ ms)
-    has_voted = record { sound = vote proposed.sound (rows_with z (voted b tape)) z.me z.number b tape (saved-same z.rows z.me z.number (voted b tape)) ups is_vote safe.0 safe.1 }
+    has_voted = record { sound = vote proposed.sound (rows_with z (voted b tape)) z.seat.me z.number b tape (saved-same z.rows z.seat.me z.number (voted b tape)) ups is_vote safe.0 safe.1 }
 
-    heard : At z W (voted b tape) after × ((u : Tape) → release ≡ Some u → (a : Ballot) × Majority z.count (λ m. W m z.number a u))
-    heard = at_hear z.me b tape release after has_voted (new refl refl refl refl) hears
+    heard : At z W (voted b tape) after × ((u : Tape) → release ≡ Some u → (a : Ballot) × Majority z.seat.members (λ m. W m z.number a u))
+    heard = at_hear z.seat.me b tape release after has_voted (new refl refl refl refl) hears
 
     helds : (k j : ℕ) (a : Ballot) (u : Tape) → W k j a u → V k j a u ⊎ VotedAt (rows_with z (voted b tape) k j) a u
     helds k j a u (old v) = inl v
-    helds k j a u (new e f g i) = inr (rw (e, f, g, i) (ap (λ x. x.vote) (saved-same z.rows z.me z.number (voted b tape))))
+    helds k j a u (new e f g i) = inr (rw (e, f, g, i) (ap (λ x. x.vote) (saved-same z.rows z.seat.me z.number (voted b tape))))
 
-    outs : (p : Packet) → IsAmong (to_others z.circuit z.count z.me z.number b (Accept tape) ++ to_others z.circuit z.count z.me z.number b (Accepted tape)) p → PacketHolds W (rows_with z (voted b tape)) p
-    outs p i = elim (among-append (to_others z.circuit z.count z.me z.number b (Accept tape)) (to_others z.circuit z.count z.me z.number b (Accepted tape)) p i) [
-      | inl x ↦ (let y = among-map (packet_to z.circuit z.me z.number b (Accept tape)) (others z.count z.me) p x in subst (λ (q : Packet). PacketHolds W (rows_with z (voted b tape)) q) (sym y.1) (new owner refl refl refl))
-      | inr x ↦ (let y = among-map (packet_to z.circuit z.me z.number b (Accepted tape)) (others z.count z.me) p x in subst (λ (q : Packet). PacketHolds W (rows_with z (voted b tape)) q) (sym y.1) (new refl refl refl refl))
+    outs : (p : Packet) → IsAmong (to_others z.seat z.number b (Accept tape) ++ to_others z.seat z.number b (Accepted tape)) p → PacketHolds W (rows_with z (voted b tape)) p
+    outs p i = elim (among-append (to_others z.seat z.number b (Accept tape)) (to_others z.seat z.number b (Accepted tape)) p i) [
+      | inl x ↦ (let y = among-map (packet_to z.seat z.number b (Accept tape)) (others z.seat) p x in subst (λ (q : Packet). PacketHolds W (rows_with z (voted b tape)) q) (sym y.1) (new owner refl refl refl))
+      | inr x ↦ (let y = among-map (packet_to z.seat z.number b (Accepted tape)) (others z.seat) p x in subst (λ (q : Packet). PacketHolds W (rows_with z (voted b tape)) q) (sym y.1) (new refl refl refl refl))
     ]

@@ -3,6 +3,7 @@ use Rattle.std.proofs.Common.{◌≡◌, ℕ, inl, refl, ap, sym, subst, arith, 
 use Rattle.std.specs.Prelude.{◌==◌, map, Result, Ok}
 use Rattle.std.specs.List.{AllZip}
 use Rattle.std.proofs.lemmas.Bool.{eq-eqb}
+use Rattle.protocol.specs.Seats.{sits}
 use Rattle.protocol.specs.Ballots.{IsMember}
 use Rattle.protocol.specs.Rows.{Tape, Row, blank, voted}
 use Rattle.protocol.specs.Versions.{Version, fits}
@@ -101,21 +102,21 @@ are_released_by_three {D = D} {G = G} {F = F} k reads version_of sets says v spe
     let two : IsMember 3 2 = (omega arith, omega arith) in
     let three : IsMember 3 3 = (omega arith, omega arith) in
     let h0 : History z _ = goes_on (begins z v) (Offers 1 12 tape 0) (Done (Note_began (ballot 1 1)))
-    (is_done 1 (Offering 12 tape 0) (Offered 12 tape 0) _ (datagram_of spell (packet_to k 1 12 (ballot 1 1) Prepare 2) ∷ datagram_of spell (packet_to k 1 12 (ballot 1 1) Prepare 3) ∷ []) refl one (rw (fit, s) refl) refl refl ((refl, r1), ((refl, r2), tt)) (inl refl) refl (same _)) in
+    (is_done 1 (Offering 12 tape 0) (Offered 12 tape 0) _ (datagram_of spell (packet_to (sits k 1 3) 12 (ballot 1 1) Prepare 2) ∷ datagram_of spell (packet_to (sits k 1 3) 12 (ballot 1 1) Prepare 3) ∷ []) refl one (rw (fit, s) refl) refl refl ((refl, r1), ((refl, r2), tt)) (inl refl) refl (same _)) in
     let h1 : History z _ = goes_on h0 (Delivers 1 0) (Done (Note_promised (ballot 1 1)))
-    (is_done 2 (Receiving _ 0) (Arrived (packet_to k 1 12 (ballot 1 1) Prepare 2) 0) _ (datagram_of spell (packet_to k 2 12 (ballot 1 1) (Promise None) 1) ∷ []) refl two (rw (g1, e) refl) (rw g1 refl) refl ((refl, r3), tt) (inl refl) refl (same _)) in
+    (is_done 2 (Receiving _ 0) (Arrived (packet_to (sits k 1 3) 12 (ballot 1 1) Prepare 2) 0) _ (datagram_of spell (packet_to (sits k 2 3) 12 (ballot 1 1) (Promise None) 1) ∷ []) refl two (rw (g1, e) refl) (rw g1 refl) refl ((refl, r3), tt) (inl refl) refl (same _)) in
     let h2 : History z _ = goes_on h1 (Delivers 3 0) (Done (Note_proposed (ballot 1 1)))
-    (is_done 1 (Receiving _ 0) (Arrived (packet_to k 2 12 (ballot 1 1) (Promise None) 1) 0) _ (datagram_of spell (packet_to k 1 12 (ballot 1 1) (Accept tape) 2) ∷ datagram_of spell (packet_to k 1 12 (ballot 1 1) (Accept tape) 3) ∷ datagram_of spell (packet_to k 1 12 (ballot 1 1) (Accepted tape) 2) ∷ datagram_of spell (packet_to k 1 12 (ballot 1 1) (Accepted tape) 3) ∷ []) refl one (rw (g3, e) refl) (rw g3 refl) refl ((refl, r4), ((refl, r5), ((refl, r6), ((refl, r7), tt)))) (inl refl) refl (same _)) in
+    (is_done 1 (Receiving _ 0) (Arrived (packet_to (sits k 2 3) 12 (ballot 1 1) (Promise None) 1) 0) _ (datagram_of spell (packet_to (sits k 1 3) 12 (ballot 1 1) (Accept tape) 2) ∷ datagram_of spell (packet_to (sits k 1 3) 12 (ballot 1 1) (Accept tape) 3) ∷ datagram_of spell (packet_to (sits k 1 3) 12 (ballot 1 1) (Accepted tape) 2) ∷ datagram_of spell (packet_to (sits k 1 3) 12 (ballot 1 1) (Accepted tape) 3) ∷ []) refl one (rw (g3, e) refl) (rw g3 refl) refl ((refl, r4), ((refl, r5), ((refl, r6), ((refl, r7), tt)))) (inl refl) refl (same _)) in
     let h3 : History z _ = goes_on h2 (Delivers 6 0) (Done (Note_heard (ballot 1 1)))
-    (is_done 2 (Receiving _ 0) (Arrived (packet_to k 1 12 (ballot 1 1) (Accepted tape) 2) 0) _ [] refl two (rw (g6, e) refl) (rw g6 refl) refl tt (inl refl) refl (same _)) in
+    (is_done 2 (Receiving _ 0) (Arrived (packet_to (sits k 1 3) 12 (ballot 1 1) (Accepted tape) 2) 0) _ [] refl two (rw (g6, e) refl) (rw g6 refl) refl tt (inl refl) refl (same _)) in
     let h4 : History z _ = goes_on h3 (Delivers 4 0) (Done (Note_voted (ballot 1 1)))
-    (is_done 2 (Receiving _ 0) (Arrived (packet_to k 1 12 (ballot 1 1) (Accept tape) 2) 0) _ (datagram_of spell (packet_to k 2 12 (ballot 1 1) (Accepted tape) 1) ∷ datagram_of spell (packet_to k 2 12 (ballot 1 1) (Accepted tape) 3) ∷ []) refl two (rw (g4, e) refl) (rw g4 refl) refl ((refl, r8), ((refl, r9), tt)) (inl refl) refl (same _)) in
+    (is_done 2 (Receiving _ 0) (Arrived (packet_to (sits k 1 3) 12 (ballot 1 1) (Accept tape) 2) 0) _ (datagram_of spell (packet_to (sits k 2 3) 12 (ballot 1 1) (Accepted tape) 1) ∷ datagram_of spell (packet_to (sits k 2 3) 12 (ballot 1 1) (Accepted tape) 3) ∷ []) refl two (rw (g4, e) refl) (rw g4 refl) refl ((refl, r8), ((refl, r9), tt)) (inl refl) refl (same _)) in
     let h5 : History z _ = goes_on h4 (Delivers 8 0) (Done (Note_heard (ballot 1 1)))
-    (is_done 1 (Receiving _ 0) (Arrived (packet_to k 2 12 (ballot 1 1) (Accepted tape) 1) 0) _ [] refl one (rw (g8, e) refl) (rw g8 refl) refl tt (inl refl) refl (same _)) in
+    (is_done 1 (Receiving _ 0) (Arrived (packet_to (sits k 2 3) 12 (ballot 1 1) (Accepted tape) 1) 0) _ [] refl one (rw (g8, e) refl) (rw g8 refl) refl tt (inl refl) refl (same _)) in
     let h6 : History z _ = goes_on h5 (Delivers 9 0) (Done (Note_heard (ballot 1 1)))
-    (is_done 3 (Receiving _ 0) (Arrived (packet_to k 2 12 (ballot 1 1) (Accepted tape) 3) 0) _ [] refl three (rw (g9, e) refl) (rw g9 refl) refl tt (inl refl) refl (same _)) in
+    (is_done 3 (Receiving _ 0) (Arrived (packet_to (sits k 2 3) 12 (ballot 1 1) (Accepted tape) 3) 0) _ [] refl three (rw (g9, e) refl) (rw g9 refl) refl tt (inl refl) refl (same _)) in
     let h7 : History z _ = goes_on h6 (Delivers 7 0) (Done (Note_heard (ballot 1 1)))
-    (is_done 3 (Receiving _ 0) (Arrived (packet_to k 1 12 (ballot 1 1) (Accepted tape) 3) 0) _ [] refl three (rw (g7, e) refl) (rw g7 refl) refl tt (inl refl) refl (same _)) in
+    (is_done 3 (Receiving _ 0) (Arrived (packet_to (sits k 1 3) 12 (ballot 1 1) (Accepted tape) 3) 0) _ [] refl three (rw (g7, e) refl) (rw g7 refl) refl tt (inl refl) refl (same _)) in
     (_, h7, λ m. refl, refl, refl, refl)
 
 pub three_members_release : {D G F : Type 0} → ThreeMembersRelease D G F

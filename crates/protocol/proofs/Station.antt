@@ -1,5 +1,6 @@
 -- The moves of one station for one number.
 use Rattle.std.proofs.Common.{◌≡◌, ℕ, ◌⊎◌, inl, inr, sym, ap, subst, ◌∙◌, List, [], ◌∷◌, Option, Some}
+use Rattle.protocol.specs.Seats.{Seat}
 use Rattle.protocol.specs.Ballots.{Ballot, IsAtMost, IsNoneOrBelow, IsNoneOrAtMost, Majority}
 use Rattle.protocol.specs.Rows.{Tape, Vote, Row, raised}
 use Rattle.protocol.specs.Packets.{Packet}
@@ -16,42 +17,40 @@ use Rattle.protocol.proofs.Places.{with_at_cases, with_at-same, with_at-self, sa
 
 -- where a station stands: the circuit before the step, the member and the number
 pub record Setting : Type 1 where
-  pub circuit : ℕ
-  pub count : ℕ
+  pub seat : Seat
   pub rows : Rows
   pub marks : ℕ → List Mark
-  pub me : ℕ
   pub number : ℕ
   pub sent : List Packet
   pub offers : List Offer
   pub releases : Releases
 
 abbrev pub rows_with : Setting → Row → Rows
-rows_with z row = saved z.rows z.me z.number row
+rows_with z row = saved z.rows z.seat.me z.number row
 
 pub record At (z : Setting) (V : Votes) (row : Row) (ms : List Mark) : Type 0 where
-  pub sound : Sound z.count V (rows_with z row) (with_at z.marks z.me ms) z.sent z.offers z.releases
+  pub sound : Sound z.seat.members V (rows_with z row) (with_at z.marks z.seat.me ms) z.sent z.offers z.releases
 
-pub at_start : (z : Setting) (V : Votes) → Sound z.count V z.rows z.marks z.sent z.offers z.releases → At z V (z.rows z.me z.number) (z.marks z.me)
-at_start z V s = record { sound = mark (raise s (rows_with z (z.rows z.me z.number)) (λ k j. inl (saved-self z.rows z.me z.number k j))) (with_at z.marks z.me (z.marks z.me)) (λ k. inl (with_at-self z.marks z.me k)) }
+pub at_start : (z : Setting) (V : Votes) → Sound z.seat.members V z.rows z.marks z.sent z.offers z.releases → At z V (z.rows z.seat.me z.number) (z.marks z.seat.me)
+at_start z V s = record { sound = mark (raise s (rows_with z (z.rows z.seat.me z.number)) (λ k j. inl (saved-self z.rows z.seat.me z.number k j))) (with_at z.marks z.seat.me (z.marks z.seat.me)) (λ k. inl (with_at-self z.marks z.seat.me k)) }
 
 pub at_raise : {z : Setting} {V : Votes} {row : Row} {ms : List Mark} (b : Ballot) → At z V row ms → IsNoneOrAtMost row.promised b → At z V (raised row b) ms
 at_raise {z = z} {V = V} {row = row} b h free = record { sound = raise h.sound (rows_with z (raised row b)) ups }
   where
     ups : (k j : ℕ) → (rows_with z (raised row b) k j ≡ rows_with z row k j) ⊎ IsRaised (rows_with z row k j) (rows_with z (raised row b) k j)
-    ups k j = elim (saved_cases z.rows z.me z.number row (raised row b) k j) [
+    ups k j = elim (saved_cases z.rows z.seat.me z.number row (raised row b) k j) [
       | inl e ↦ inl e
       | inr e ↦ inr (record { to = b; free = subst (λ (x : Row). IsNoneOrAtMost x.promised b) (sym e.2) free; is = e.3 ∙ ap (λ x. raised x b) (sym e.2) })
     ]
 
 pub at_mark :
-    {z : Setting} {V : Votes} {row : Row} {ms : List Mark} (x : Mark) → At z V row ms → MarkHolds V (rows_with z row) z.offers z.me x
-    → ((n : ℕ) (b : Ballot) (own : Option Tape) (report : Option Vote) (now : ℕ) → x ≡ Began n b own report now → NoVote V z.me n b)
+    {z : Setting} {V : Votes} {row : Row} {ms : List Mark} (x : Mark) → At z V row ms → MarkHolds V (rows_with z row) z.offers z.seat.me x
+    → ((n : ℕ) (b : Ballot) (own : Option Tape) (report : Option Vote) (now : ℕ) → x ≡ Began n b own report now → NoVote V z.seat.me n b)
     → At z V row (x ∷ ms)
-at_mark {z = z} {V = V} {row = row} {ms = ms} x h holds unvoted = record { sound = mark h.sound (with_at z.marks z.me (x ∷ ms)) change }
+at_mark {z = z} {V = V} {row = row} {ms = ms} x h holds unvoted = record { sound = mark h.sound (with_at z.marks z.seat.me (x ∷ ms)) change }
   where
-    change : (k : ℕ) → (with_at z.marks z.me (x ∷ ms) k ≡ with_at z.marks z.me ms k) ⊎ ((with_at z.marks z.me (x ∷ ms) k ≡ []) ⊎ IsMarked V (rows_with z row) z.offers k (with_at z.marks z.me ms k) (with_at z.marks z.me (x ∷ ms) k))
-    change k = elim (with_at_cases z.marks z.me ms (x ∷ ms) k) [
+    change : (k : ℕ) → (with_at z.marks z.seat.me (x ∷ ms) k ≡ with_at z.marks z.seat.me ms k) ⊎ ((with_at z.marks z.seat.me (x ∷ ms) k ≡ []) ⊎ IsMarked V (rows_with z row) z.offers k (with_at z.marks z.seat.me ms k) (with_at z.marks z.seat.me (x ∷ ms) k))
+    change k = elim (with_at_cases z.marks z.seat.me ms (x ∷ ms) k) [
       | inl e ↦ inl e
       | inr e ↦ inr (inr (record {
         mark = x;
@@ -63,52 +62,52 @@ at_mark {z = z} {V = V} {row = row} {ms = ms} x h holds unvoted = record { sound
 
 -- what the station's own row says
 
-pub row_kept : {z : Setting} {V : Votes} {row : Row} {ms : List Mark} (v : Vote) → At z V row ms → row.vote ≡ Some v → V z.me z.number v.ballot v.tape
-row_kept {z = z} {row = row} v h e = h.sound.kept z.me z.number v (ap (λ x. x.vote) (saved-same z.rows z.me z.number row) ∙ e)
+pub row_kept : {z : Setting} {V : Votes} {row : Row} {ms : List Mark} (v : Vote) → At z V row ms → row.vote ≡ Some v → V z.seat.me z.number v.ballot v.tape
+row_kept {z = z} {row = row} v h e = h.sound.kept z.seat.me z.number v (ap (λ x. x.vote) (saved-same z.rows z.seat.me z.number row) ∙ e)
 
 pub row_valid : {z : Setting} {V : Votes} {row : Row} {ms : List Mark} (v : Vote) → At z V row ms → row.vote ≡ Some v → IsPromisedTo row v.ballot
 row_valid {z = z} {row = row} v h e =
-    subst (λ (x : Row). IsPromisedTo x v.ballot) (saved-same z.rows z.me z.number row) (h.sound.valid z.me z.number v (ap (λ x. x.vote) (saved-same z.rows z.me z.number row) ∙ e))
+    subst (λ (x : Row). IsPromisedTo x v.ballot) (saved-same z.rows z.seat.me z.number row) (h.sound.valid z.seat.me z.number v (ap (λ x. x.vote) (saved-same z.rows z.seat.me z.number row) ∙ e))
 
-pub row_last : {z : Setting} {V : Votes} {row : Row} {ms : List Mark} (b : Ballot) (t : Tape) → At z V row ms → V z.me z.number b t → (v : Vote) × (row.vote ≡ Some v) × IsAtMost b v.ballot
-row_last {z = z} {row = row} b t h v = let l = h.sound.last z.me z.number b t v in (l.0, sym (ap (λ x. x.vote) (saved-same z.rows z.me z.number row)) ∙ l.1, l.2)
+pub row_last : {z : Setting} {V : Votes} {row : Row} {ms : List Mark} (b : Ballot) (t : Tape) → At z V row ms → V z.seat.me z.number b t → (v : Vote) × (row.vote ≡ Some v) × IsAtMost b v.ballot
+row_last {z = z} {row = row} b t h v = let l = h.sound.last z.seat.me z.number b t v in (l.0, sym (ap (λ x. x.vote) (saved-same z.rows z.seat.me z.number row)) ∙ l.1, l.2)
 
-pub marks_hold : {z : Setting} {V : Votes} {row : Row} {ms : List Mark} (x : Mark) → At z V row ms → IsAmong ms x → MarkHolds V (rows_with z row) z.offers z.me x
-marks_hold {z = z} {ms = ms} x h i = h.sound.marked z.me x (subst (λ (l : List Mark). IsAmong l x) (sym (with_at-same z.marks z.me ms)) i)
+pub marks_hold : {z : Setting} {V : Votes} {row : Row} {ms : List Mark} (x : Mark) → At z V row ms → IsAmong ms x → MarkHolds V (rows_with z row) z.offers z.seat.me x
+marks_hold {z = z} {ms = ms} x h i = h.sound.marked z.seat.me x (subst (λ (l : List Mark). IsAmong l x) (sym (with_at-same z.marks z.seat.me ms)) i)
 
 pub gather_unvoted :
     {z : Setting} {V : Votes} {row : Row} {ms : List Mark} {n : ℕ} {b : Ballot} {own : Option Tape} {report : Option Vote} {since : List Mark}
-    → At z V row ms → Gathers ms n b own report since → NoVote V z.me n b
+    → At z V row ms → Gathers ms n b own report since → NoVote V z.seat.me n b
 gather_unvoted {z = z} {ms = ms} {n = n} {b = b} {own = own} {report = report} {since = since} h g =
-    (h.sound.gathering z.me).unvoted n b own report g.is_open.now since g.is_open.before (with_at-same z.marks z.me ms ∙ g.is_open.began) g.unproposed
+    (h.sound.gathering z.seat.me).unvoted n b own report g.is_open.now since g.is_open.before (with_at-same z.marks z.seat.me ms ∙ g.is_open.began) g.unproposed
 
 -- all votes of one number and ballot carry one tape
 pub one_tape : {z : Setting} {V : Votes} {row : Row} {ms : List Mark} (k j n : ℕ) (b : Ballot) (t u : Tape) → At z V row ms → V k n b t → V j n b u → t ≡ u
 one_tape k j n b t u h v w = h.sound.one b.owner n b t u (h.sound.owned k n b t v) (h.sound.owned j n b u w)
 
 -- a ballot above the promise has no vote of ours
-pub unvoted_above : {z : Setting} {V : Votes} {row : Row} {ms : List Mark} (b : Ballot) → At z V row ms → IsNoneOrBelow row.promised b → NoVote V z.me z.number b
+pub unvoted_above : {z : Setting} {V : Votes} {row : Row} {ms : List Mark} (b : Ballot) → At z V row ms → IsNoneOrBelow row.promised b → NoVote V z.seat.me z.number b
 unvoted_above {row = row} b h free t v =
     let l = row_last b t h v in
     let p = row_valid l.0 h l.1 in
     not_both p.at b (known_below row.promised p.at b free p.is) (at_most_trans b l.0.ballot p.at l.2 p.reaches)
 
 -- a promise of ours at b, with the row's vote as its report
-pub promise_now : {z : Setting} {V : Votes} {row : Row} {ms : List Mark} (b : Ballot) → At z V row ms → IsNoneOrBelow row.promised b → PromiseHolds V (rows_with z (raised row b)) z.me z.number b row.vote
+pub promise_now : {z : Setting} {V : Votes} {row : Row} {ms : List Mark} (b : Ballot) → At z V row ms → IsNoneOrBelow row.promised b → PromiseHolds V (rows_with z (raised row b)) z.seat.me z.number b row.vote
 promise_now {z = z} {row = row} b h free = record {
-  promised = record { at = b; is = ap (λ x. x.promised) (saved-same z.rows z.me z.number (raised row b)); reaches = at_most_refl b };
+  promised = record { at = b; is = ap (λ x. x.promised) (saved-same z.rows z.seat.me z.number (raised row b)); reaches = at_most_refl b };
   reported = λ v e. let p = row_valid v h e in (row_kept v h e, at_most_below v.ballot p.at b p.reaches (known_below row.promised p.at b free p.is));
   greatest = λ a t v l. row_last a t h v;
 }
 
 pub at_begin :
-    {z : Setting} {V : Votes} {row : Row} {ms : List Mark} (b : Ballot) (own : Option Tape) (now : ℕ) → At z V row ms → IsNoneOrBelow row.promised b → b.owner ≡ z.me
+    {z : Setting} {V : Votes} {row : Row} {ms : List Mark} (b : Ballot) (own : Option Tape) (now : ℕ) → At z V row ms → IsNoneOrBelow row.promised b → b.owner ≡ z.seat.me
     → ((t : Tape) → own ≡ Some t → IsOffered z.offers z.number t)
     → At z V (raised row b) (Began z.number b own row.vote now ∷ ms)
 at_begin {z = z} {V = V} {row = row} b own now h free owner offered =
     at_mark (Began z.number b own row.vote now) (at_raise b h (below_to_at_most row.promised b free)) (owner, promise_now b h free, offered) unvoted
   where
-    unvoted : (n : ℕ) (a : Ballot) (o : Option Tape) (r : Option Vote) (i : ℕ) → Began z.number b own row.vote now ≡ Began n a o r i → NoVote V z.me n a
+    unvoted : (n : ℕ) (a : Ballot) (o : Option Tape) (r : Option Vote) (i : ℕ) → Began z.number b own row.vote now ≡ Began n a o r i → NoVote V z.seat.me n a
     unvoted n a o r i e =
         let en : z.number ≡ n = cc in
         let eb : b ≡ a = cc in
@@ -118,8 +117,8 @@ at_begin {z = z} {V = V} {row = row} b own now h free owner offered =
 
 pub at_hear :
     {z : Setting} {V : Votes} {row : Row} {ms : List Mark} (k : ℕ) (b : Ballot) (t : Tape) (release : Option Tape) (after : List Mark)
-    → At z V row ms → V k z.number b t → Hears z.count z.number k b t ms release after
-    → At z V row after × ((u : Tape) → release ≡ Some u → (a : Ballot) × Majority z.count (λ m. V m z.number a u))
+    → At z V row ms → V k z.number b t → Hears z.seat.members z.number k b t ms release after
+    → At z V row after × ((u : Tape) → release ≡ Some u → (a : Ballot) × Majority z.seat.members (λ m. V m z.number a u))
 at_hear {z = z} {V = V} {row = row} {ms = ms} k b t release after h v hears = (stands, chosen)
   where
     with_heard : At z V row (Heard z.number k b t ∷ ms)
@@ -138,14 +137,14 @@ at_hear {z = z} {V = V} {row = row} {ms = ms} k b t release after h v hears = (s
     latest_held : (m : ℕ) (a : Ballot) (u : Tape) → Latest (Heard z.number k b t ∷ ms) z.number m a u → V m z.number a u
     latest_held m a u l = marks_hold (Heard z.number m a u) with_heard (among_split (Heard z.number k b t ∷ ms) l.after l.before (Heard z.number m a u) l.heard)
 
-    ripe_chosen : (a : Ballot) (u : Tape) → Ripe z.count (Heard z.number k b t ∷ ms) z.number a u → Majority z.count (λ m. V m z.number a u)
+    ripe_chosen : (a : Ballot) (u : Tape) → Ripe z.seat.members (Heard z.number k b t ∷ ms) z.number a u → Majority z.seat.members (λ m. V m z.number a u)
     ripe_chosen a u ripe =
         let least : V ripe.least z.number a u = latest_held ripe.least a u ripe.is_latest in
         weaker (λ m i w. subst (λ (x : Tape). V m z.number a x) (one_tape m ripe.least z.number a w.0 u with_heard (latest_held m a w.0 w.1) least) (latest_held m a w.0 w.1)) ripe.many
 
-    chosen : (u : Tape) → release ≡ Some u → (a : Ballot) × Majority z.count (λ m. V m z.number a u)
+    chosen : (u : Tape) → release ≡ Some u → (a : Ballot) × Majority z.seat.members (λ m. V m z.number a u)
     chosen u e = elim hears [
       | was_settled i f g ↦ cc
       | waits i j f g ↦ cc
-      | releases a w i j f g ↦ let same : w ≡ u = some_inj (sym f ∙ e) in (a, subst (λ (x : Tape). Majority z.count (λ m. V m z.number a x)) same (ripe_chosen a w j))
+      | releases a w i j f g ↦ let same : w ≡ u = some_inj (sym f ∙ e) in (a, subst (λ (x : Tape). Majority z.seat.members (λ m. V m z.number a x)) same (ripe_chosen a w j))
     ]

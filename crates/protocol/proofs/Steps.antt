@@ -12,7 +12,7 @@ use Rattle.protocol.specs.Proposals.{next_due}
 use Rattle.protocol.specs.Turn.{Turn, Event, Offered, Sought, Came_due, Arrived, number_of}
 use Rattle.protocol.specs.Table.{VotedAt, IsTurn}
 use Rattle.protocol.specs.Refusals.{Call, Offering, Seeking, Falling_due, Receiving, due_event, arrival, event_of}
-use Rattle.protocol.specs.Circuit.{Circuit, hears, setup_of, Datagram, Offer, Release, State, IsSameState, fresh, Step, Offers, Seeks, Falls_due, Delivers, Restarts, Upgrades, Balks, Outcome, with_at, saved, Carries, datagram_at, Task, delivery, task_of, offers_with, releases_with, MayLeave, Leaves, store_before_save, memory_before_save, at_save, StepsTo, is_refused, is_idle, is_spent, is_done, is_torn, restarts, upgrades, upgrade_is_torn, is_armed, History, starts, goes_on}
+use Rattle.protocol.specs.Circuit.{Circuit, hears, setup_of, Datagram, Offer, Release, seat_at, State, IsSameState, fresh, Step, Offers, Seeks, Falls_due, Delivers, Restarts, Upgrades, Balks, Outcome, with_at, saved, Carries, datagram_at, Task, delivery, task_of, offers_with, releases_with, MayLeave, Leaves, store_before_save, memory_before_save, at_save, StepsTo, is_refused, is_idle, is_spent, is_done, is_torn, restarts, upgrades, upgrade_is_torn, is_armed, History, starts, goes_on}
 use Rattle.protocol.specs.Agreement.{HoldsVote, WasVoted}
 use Rattle.protocol.proofs.Meeting.{is_turn}
 use Rattle.protocol.proofs.Sound.{Votes, Releases, Rows, PacketHolds, Sound}
@@ -188,7 +188,7 @@ arrived_sent z w s m (Receiving bytes i) p now ps e task event =
 
 -- the state with the station's row and marks
 setting : {D G F : Type 0} → Circuit D G F → State G F → List Packet → ℕ → Event → Setting
-setting z w packets m e = record { circuit = z.number; count = z.count; rows = w.rows; marks = w.marks; me = m; number = number_of e; sent = packets; offers = offers_with w.offers m e; releases = released_in w.releases }
+setting z w packets m e = record { seat = seat_at z m; rows = w.rows; marks = w.marks; number = number_of e; sent = packets; offers = offers_with w.offers m e; releases = released_in w.releases }
 
 event_holds :
     {D G F : Type 0} (z : Circuit D G F) (V : Votes) (w : State G F) (s : Step) (m : ℕ) (call : Call) (e : Event) (rows : Rows) (packets : List Packet) → AllZip (Goes z) packets w.sent
@@ -207,7 +207,7 @@ start_at {z = z} {V = V} w m e h = at_start (setting z w h.packets m e) V (offer
 turns :
     {D G F : Type 0} {z : Circuit D G F} {V : Votes} (w : State G F) (s : Step) (m : ℕ) (call : Call) (e : Event) (t : Turn) → (h : SoundState z V w) → IsMember z.count m
     → task_of w.sent s ≡ Some (record { member = m; call = call }) → event_of (setup_of z (w.version m) m) (w.marks m) call ≡ Some e
-    → IsTurn z.number z.count m (w.marks m) (w.rows m (number_of e)) e t → TurnSound (setting z w h.packets m e) V t
+    → IsTurn (seat_at z m) (w.marks m) (w.rows m (number_of e)) e t → TurnSound (setting z w h.packets m e) V t
 unfolding setting
 turns {z = z} {V = V} w s m call e t h member task event turn =
     turn_sound (setting z w h.packets m e) e t (start_at w m e h) member (event_holds z V w s m call e (rows_with (setting z w h.packets m e) (w.rows m (number_of e))) h.packets h.spelled task event (start_at w m e h).sound.packets) turn
@@ -298,7 +298,7 @@ torn_sound {D = D} {G = G} {F = F} {z = z} {V = V} W w s m call e o row armed af
         (mark (start_at w m e h).sound (with_at w.marks m []) (λ k. elim (with_at_cases w.marks m (w.marks m) [] k) [ inl x ↦ inl x | inr x ↦ inr (inl x.2) ])))
 
     -- the row after
-    new_row : (t : Turn) → IsTurn z.number z.count m (w.marks m) (w.rows m (number_of e)) e t → row ≡ t.row → SoundState z W end
+    new_row : (t : Turn) → IsTurn (seat_at z m) (w.marks m) (w.rows m (number_of e)) e t → row ≡ t.row → SoundState z W end
     new_row t turn same =
         let ts : TurnSound (setting z w h.packets m e) V t = turns w s m call e t h member task event turn in
         let saved_it : Sound z.count ts.votes (saved w.rows m (number_of e) t.row) (with_at w.marks m []) h.packets (offers_with w.offers m e) (released_in w.releases) =
@@ -309,7 +309,7 @@ torn_sound {D = D} {G = G} {F = F} {z = z} {V = V} W w s m call e o row armed af
         (subst (λ (r : Row). (k j : ℕ) (b : Ballot) (u : Tape) → ts.votes k j b u → V k j b u ⊎ VotedAt (saved w.rows m (number_of e) r k j) b u) (sym same) ts.held)
         h.set
 
-    may : (armed' : Option Bool) (t : Turn) → IsTurn z.number z.count m (w.marks m) (w.rows m (number_of e)) e t → MayLeave armed' o (w.rows m (number_of e)) t.row row → SoundState z W end
+    may : (armed' : Option Bool) (t : Turn) → IsTurn (seat_at z m) (w.marks m) (w.rows m (number_of e)) e t → MayLeave armed' o (w.rows m (number_of e)) t.row row → SoundState z W end
     may (Some false) t turn x = old_row x.1
     may (Some true) t turn x = elim x [ inl y ↦ new_row t turn y.1 | inr y ↦ elim y.1 [ inl q ↦ old_row q | inr q ↦ new_row t turn q ] ]
     may None t turn x = elim x.1 [ inl y ↦ old_row y | inr y ↦ new_row t turn y ]
@@ -317,7 +317,7 @@ torn_sound {D = D} {G = G} {F = F} {z = z} {V = V} W w s m call e o row armed af
     by : Leaves z w m call e o row armed → SoundState z W end
     by (store_before_save how unrefused same stays) = old_row same
     by (memory_before_save how unrefused same stays) = old_row same
-    by (at_save t unrefused turn changes x disarmed) = may (w.armed m) t (is_turn z.number z.count m (w.marks m) (w.rows m (number_of e)) e t member turn) x
+    by (at_save t unrefused turn changes x disarmed) = may (w.armed m) t (is_turn (seat_at z m) (w.marks m) (w.rows m (number_of e)) e t member turn) x
 
 -- nothing changed
 stays_sound : {D G F : Type 0} {z : Circuit D G F} {V : Votes} (W : Votes) (w after : State G F) → SoundState z V w → IsSameState after w → Follows V W after → SoundState z W after
@@ -331,7 +331,7 @@ step_sound W w s o after h (is_refused m call r task member refused how is) f = 
 step_sound W w s o after h (is_idle m call task member unrefused event how is) f = stays_sound W w after h is f
 step_sound W w s o after h (is_spent m call e task member unrefused event turn how is) f = stays_sound W w after h is f
 step_sound {z = z} W w s o after h (is_done m call e t out task member unrefused event turn carried armed how is) f =
-    done_sound W w m e t out after h (turns w s m call e t h member task event (is_turn z.number z.count m (w.marks m) (w.rows m (number_of e)) e t member turn)) (all_go z (w.version m) t.out out carried) (same_state is) f
+    done_sound W w m e t out after h (turns w s m call e t h member task event (is_turn (seat_at z m) (w.marks m) (w.rows m (number_of e)) e t member turn)) (all_go z (w.version m) t.out out carried) (same_state is) f
 step_sound W w s o after h (is_torn m call e row armed task member event leaves is) f =
     torn_sound W w s m call e o row armed after h member task event leaves (same_state is) f
 step_sound {G = G} {F = F} {z = z} {V = V} W w s o after h (restarts m member is_restart how is) f =

@@ -49,34 +49,34 @@ one_of_one c m n b report e i = record {
 
 begin_sound :
     {z : Setting} {V : Votes} {row : Row} {ms : List Mark} (b : Ballot) (own : Option Tape) (now : ℕ) (t : Turn)
-    → At z V row ms → IsMember z.count z.me → IsNoneOrBelow row.promised b → b.owner ≡ z.me
+    → At z V row ms → IsMember z.seat.members z.seat.me → IsNoneOrBelow row.promised b → b.owner ≡ z.seat.me
     → ((u : Tape) → own ≡ Some u → IsOffered z.offers z.number u)
-    → Begins z.circuit z.count z.me z.number b own now row ms t → TurnSound z V t
+    → Begins z.seat z.number b own now row ms t → TurnSound z V t
 begin_sound {z = z} {V = V} {row = row} b own now t h member free owner offered (asks l e) =
     subst (λ (x : Turn). TurnSound z V x) (sym e) (quiet _ (at_begin b own now h free owner offered) out (λ u f. cc))
   where
-    out : (p : Packet) → IsAmong (to_others z.circuit z.count z.me z.number b Prepare) p → PacketHolds V (rows_with z (raised row b)) p
-    out p i = let y = among-map (packet_to z.circuit z.me z.number b Prepare) (others z.count z.me) p i in subst (λ (q : Packet). PacketHolds V (rows_with z (raised row b)) q) (sym y.1) tt
+    out : (p : Packet) → IsAmong (to_others z.seat z.number b Prepare) p → PacketHolds V (rows_with z (raised row b)) p
+    out p i = let y = among-map (packet_to z.seat z.number b Prepare) (others z.seat) p i in subst (λ (q : Packet). PacketHolds V (rows_with z (raised row b)) q) (sym y.1) tt
 begin_sound {z = z} {V = V} {row = row} {ms = ms} b own now t h member free owner offered (alone e proposing) =
     propose_sound now t (at_begin b own now h free owner offered) refl
     (record { now = now; before = ms; began = refl; unproposed = λ i x. x })
-    (one_of_one z.count z.me z.number b row.vote e member) proposing
+    (one_of_one z.seat.members z.seat.me z.number b row.vote e member) proposing
 
 start_sound :
     {z : Setting} {V : Votes} {row : Row} {ms : List Mark} (own : Option Tape) (now : ℕ) (t : Turn)
-    → At z V row ms → IsMember z.count z.me → ((u : Tape) → own ≡ Some u → IsOffered z.offers z.number u)
-    → StartTurn z.circuit z.count z.me z.number own now ms row t → TurnSound z V t
+    → At z V row ms → IsMember z.seat.members z.seat.me → ((u : Tape) → own ≡ Some u → IsOffered z.offers z.number u)
+    → StartTurn z.seat z.number own now ms row t → TurnSound z V t
 start_sound {z = z} {row = row} own now t h member offered (starts b e begins) =
-    let up = next_above row.promised z.me b e in begin_sound b own now t h member up.0 up.1 offered begins
+    let up = next_above row.promised z.seat.me b e in begin_sound b own now t h member up.0 up.1 offered begins
 
 due_sound :
     {z : Setting} {V : Votes} {row : Row} {ms : List Mark} (now : ℕ) (t : Turn)
-    → At z V row ms → IsMember z.count z.me → DueTurn z.circuit z.count z.me z.number now ms row t → TurnSound z V t
+    → At z V row ms → IsMember z.seat.members z.seat.me → DueTurn z.seat z.number now ms row t → TurnSound z V t
 due_sound {z = z} {V = V} now t h member (is_idle i e) = subst (λ (x : Turn). TurnSound z V x) (sym e) (silent (stays _ _ _) refl refl h)
 due_sound {z = z} {V = V} now t h member (gives_up b own denied seen due d g l e) =
     subst (λ (x : Turn). TurnSound z V x) (sym e) (silent (stays _ _ _) refl refl (at_mark (Closed z.number) h tt (λ n a w r i f. cc)))
 due_sound {z = z} {V = V} {row = row} {ms = ms} now t h member (begins_anew b own denied seen a due d g l e begins) =
-    let up = next_above seen z.me a e in
+    let up = next_above seen z.seat.me a e in
     begin_sound a own now t h member (greater_below row.promised denied seen a g up.0) up.1 offered begins
   where
     offered : (u : Tape) → own ≡ Some u → IsOffered z.offers z.number u
@@ -88,7 +88,7 @@ one_packet V rows q p h (inr e) = absurd e
 
 prepare_sound :
     (z : Setting) {V : Votes} {row : Row} {ms : List Mark} (p : Packet) (t : Turn)
-    → At (here z p.number) V row ms → PrepareTurn z.circuit z.me ms row p t → TurnSound (here z p.number) V t
+    → At (here z p.number) V row ms → PrepareTurn z.seat ms row p t → TurnSound (here z p.number) V t
 prepare_sound z {V = V} {row = row} p t h (promises free e) =
     subst (λ (x : Turn). TurnSound (here z p.number) V x) (sym e)
     (quiet _ (at_raise p.ballot h (below_to_at_most row.promised p.ballot free)) (λ q i. one_packet V (rows_with (here z p.number) (raised row p.ballot)) _ q (promise_now p.ballot h free) i) (λ u f. cc))
@@ -99,26 +99,26 @@ prepare_sound z {V = V} {row = row} p t h (table.PrepareTurn.nacks a is up e) =
 accept_sound :
     (z : Setting) {V : Votes} {row : Row} {ms : List Mark} (p : Packet) (tape : Tape) (t : Turn)
     → At (here z p.number) V row ms → V p.ballot.owner p.number p.ballot tape
-    → AcceptTurn z.circuit z.count z.me ms row p tape t → TurnSound (here z p.number) V t
+    → AcceptTurn z.seat ms row p tape t → TurnSound (here z p.number) V t
 accept_sound z {V = V} {row = row} p tape t h ours (table.AcceptTurn.nacks a is up e) =
     subst (λ (x : Turn). TurnSound (here z p.number) V x) (sym e) (quiet _ h (λ q i. one_packet V (rows_with (here z p.number) row) _ q tt i) (λ u f. cc))
 accept_sound z {V = V} {row = row} p tape t h ours (votes_again own release after free at_it hearing e) =
     subst (λ (x : Turn). TurnSound (here z p.number) V x) (sym e) (quiet _ heard.0 out heard.1)
   where
-    held : V z.me p.number p.ballot own
+    held : V z.seat.me p.number p.ballot own
     held = row_kept (record { ballot = p.ballot; tape = own }) h at_it
 
-    heard : At (here z p.number) V row after × ((u : Tape) → release ≡ Some u → (a : Ballot) × Majority z.count (λ m. V m p.number a u))
-    heard = at_hear z.me p.ballot own release after h held hearing
+    heard : At (here z p.number) V row after × ((u : Tape) → release ≡ Some u → (a : Ballot) × Majority z.seat.members (λ m. V m p.number a u))
+    heard = at_hear z.seat.me p.ballot own release after h held hearing
 
-    out : (q : Packet) → IsAmong (to_others z.circuit z.count z.me p.number p.ballot (Accepted own)) q → PacketHolds V (rows_with (here z p.number) row) q
-    out q i = let y = among-map (packet_to z.circuit z.me p.number p.ballot (Accepted own)) (others z.count z.me) q i in subst (λ (x : Packet). PacketHolds V (rows_with (here z p.number) row) x) (sym y.1) held
+    out : (q : Packet) → IsAmong (to_others z.seat p.number p.ballot (Accepted own)) q → PacketHolds V (rows_with (here z p.number) row) q
+    out q i = let y = among-map (packet_to z.seat p.number p.ballot (Accepted own)) (others z.seat) q i in subst (λ (x : Packet). PacketHolds V (rows_with (here z p.number) row) x) (sym y.1) held
 accept_sound z {V = V} {row = row} {ms = ms} p tape t h ours (votes release after free unvoted hearing e) =
     subst (λ (x : Turn). TurnSound (here z p.number) V x) (sym e)
     (record { votes = W; stands = heard.0; grows = λ k j a u v. old v; held = helds; out = out; release = heard.1 })
   where
     W : Votes
-    W = WithVote V z.me p.number p.ballot tape
+    W = WithVote V z.seat.me p.number p.ballot tape
 
     before : Rows
     before = rows_with (here z p.number) row
@@ -126,41 +126,41 @@ accept_sound z {V = V} {row = row} {ms = ms} p tape t h ours (votes release afte
     rows : Rows
     rows = rows_with (here z p.number) (voted p.ballot tape)
 
-    ups : (k j : ℕ) → (rows k j ≡ before k j) ⊎ (k ≡ z.me) × (j ≡ p.number) × (rows k j ≡ voted p.ballot tape)
-    ups k j = elim (saved_cases z.rows z.me p.number row (voted p.ballot tape) k j) [ inl f ↦ inl f | inr f ↦ inr (f.0, f.1, f.3) ]
+    ups : (k j : ℕ) → (rows k j ≡ before k j) ⊎ (k ≡ z.seat.me) × (j ≡ p.number) × (rows k j ≡ voted p.ballot tape)
+    ups k j = elim (saved_cases z.rows z.seat.me p.number row (voted p.ballot tape) k j) [ inl f ↦ inl f | inr f ↦ inr (f.0, f.1, f.3) ]
 
     unopened :
         (own : Option Tape) (report : Option Vote) (now : ℕ) (since past : List Mark)
-        → with_at z.marks z.me ms z.me ≡ since ++ Began p.number p.ballot own report now ∷ past → ¬ NotProposed since p.number p.ballot
+        → with_at z.marks z.seat.me ms z.seat.me ≡ since ++ Began p.number p.ballot own report now ∷ past → ¬ NotProposed since p.number p.ballot
     unopened own report now since past f np =
-        let owner : p.ballot.owner ≡ z.me = (marks_hold (Began p.number p.ballot own report now) h (among_split ms since past (Began p.number p.ballot own report now) (sym (with_at-same z.marks z.me ms) ∙ f))).0 in
-        (h.sound.gathering z.me).unvoted p.number p.ballot own report now since past f np tape (subst (λ (x : ℕ). V x p.number p.ballot tape) owner ours)
+        let owner : p.ballot.owner ≡ z.seat.me = (marks_hold (Began p.number p.ballot own report now) h (among_split ms since past (Began p.number p.ballot own report now) (sym (with_at-same z.marks z.seat.me ms) ∙ f))).0 in
+        (h.sound.gathering z.seat.me).unvoted p.number p.ballot own report now since past f np tape (subst (λ (x : ℕ). V x p.number p.ballot tape) owner ours)
 
-    is_vote : IsVote V before (with_at z.marks z.me ms) z.me p.number p.ballot tape
+    is_vote : IsVote V before (with_at z.marks z.seat.me ms) z.seat.me p.number p.ballot tape
     is_vote = record {
-      free = subst (λ (x : Row). IsNoneOrAtMost x.promised p.ballot) (sym (saved-same z.rows z.me p.number row)) free;
-      unvoted = λ u f. unvoted u (ap (λ x. x.vote) (sym (saved-same z.rows z.me p.number row)) ∙ f);
+      free = subst (λ (x : Row). IsNoneOrAtMost x.promised p.ballot) (sym (saved-same z.rows z.seat.me p.number row)) free;
+      unvoted = λ u f. unvoted u (ap (λ x. x.vote) (sym (saved-same z.rows z.seat.me p.number row)) ∙ f);
       owned = old ours;
       unopened = unopened;
     }
 
     has_voted : At (here z p.number) W (voted p.ballot tape) ms
-    has_voted = record { sound = vote h.sound rows z.me p.number p.ballot tape (saved-same z.rows z.me p.number (voted p.ballot tape)) ups is_vote (h.sound.safe p.ballot.owner p.number p.ballot tape ours) (h.sound.offered p.ballot.owner p.number p.ballot tape ours) }
+    has_voted = record { sound = vote h.sound rows z.seat.me p.number p.ballot tape (saved-same z.rows z.seat.me p.number (voted p.ballot tape)) ups is_vote (h.sound.safe p.ballot.owner p.number p.ballot tape ours) (h.sound.offered p.ballot.owner p.number p.ballot tape ours) }
 
-    heard : At (here z p.number) W (voted p.ballot tape) after × ((u : Tape) → release ≡ Some u → (a : Ballot) × Majority z.count (λ m. W m p.number a u))
-    heard = at_hear z.me p.ballot tape release after has_voted (new refl refl refl refl) hearing
+    heard : At (here z p.number) W (voted p.ballot tape) after × ((u : Tape) → release ≡ Some u → (a : Ballot) × Majority z.seat.members (λ m. W m p.number a u))
+    heard = at_hear z.seat.me p.ballot tape release after has_voted (new refl refl refl refl) hearing
 
     helds : (k j : ℕ) (a : Ballot) (u : Tape) → W k j a u → V k j a u ⊎ VotedAt (rows k j) a u
     helds k j a u (old v) = inl v
-    helds k j a u (new f g i l) = inr (rw (f, g, i, l) (ap (λ x. x.vote) (saved-same z.rows z.me p.number (voted p.ballot tape))))
+    helds k j a u (new f g i l) = inr (rw (f, g, i, l) (ap (λ x. x.vote) (saved-same z.rows z.seat.me p.number (voted p.ballot tape))))
 
-    out : (q : Packet) → IsAmong (to_others z.circuit z.count z.me p.number p.ballot (Accepted tape)) q → PacketHolds W rows q
-    out q i = let y = among-map (packet_to z.circuit z.me p.number p.ballot (Accepted tape)) (others z.count z.me) q i in subst (λ (x : Packet). PacketHolds W rows x) (sym y.1) (new refl refl refl refl)
+    out : (q : Packet) → IsAmong (to_others z.seat p.number p.ballot (Accepted tape)) q → PacketHolds W rows q
+    out q i = let y = among-map (packet_to z.seat p.number p.ballot (Accepted tape)) (others z.seat) q i in subst (λ (x : Packet). PacketHolds W rows x) (sym y.1) (new refl refl refl refl)
 
 promise_sound :
     (z : Setting) {V : Votes} {row : Row} {ms : List Mark} (now : ℕ) (p : Packet) (r : Option Vote) (t : Turn)
     → At (here z p.number) V row ms → PromiseHolds V (rows_with (here z p.number) row) p.from p.number p.ballot r
-    → PromiseTurn z.circuit z.count z.me now ms row p r t → TurnSound (here z p.number) V t
+    → PromiseTurn z.seat now ms row p r t → TurnSound (here z p.number) V t
 promise_sound z {V = V} now p r t h kept (table.PromiseTurn.is_stale i e) = subst (λ (x : Turn). TurnSound (here z p.number) V x) (sym e) (silent (stays _ _ _) refl refl h)
 promise_sound z {V = V} now p r t h kept (is_overtaken own report since g i e) = subst (λ (x : Turn). TurnSound (here z p.number) V x) (sym e) (silent (stays _ _ _) refl refl h)
 promise_sound z {V = V} now p r t h kept (is_repeated own report since s g i k e) = subst (λ (x : Turn). TurnSound (here z p.number) V x) (sym e) (silent (stays _ _ _) refl refl h)
@@ -187,7 +187,7 @@ nack_sound z {V = V} p a t h (is_denied own report since g e) =
 accepted_sound :
     (z : Setting) {V : Votes} {row : Row} {ms : List Mark} (p : Packet) (tape : Tape) (t : Turn)
     → At (here z p.number) V row ms → V p.from p.number p.ballot tape
-    → AcceptedTurn z.count ms row p tape t → TurnSound (here z p.number) V t
+    → AcceptedTurn z.seat ms row p tape t → TurnSound (here z p.number) V t
 accepted_sound z {V = V} p tape t h ours (settles released e) = subst (λ (x : Turn). TurnSound (here z p.number) V x) (sym e) (silent (stays _ _ _) refl refl h)
 accepted_sound z {V = V} p tape t h ours (hears release after unreleased hearing e) =
     let heard = at_hear p.from p.ballot tape release after h ours hearing in
@@ -196,7 +196,7 @@ accepted_sound z {V = V} p tape t h ours (hears release after unreleased hearing
 answer_sound :
     (z : Setting) {V : Votes} {row : Row} {ms : List Mark} (now : ℕ) (p : Packet) (body : Body) (t : Turn)
     → At (here z p.number) V row ms → BodyHolds V (rows_with (here z p.number) row) p.from p.number p.ballot body
-    → AnswerTurn z.circuit z.count z.me now ms row p body t → TurnSound (here z p.number) V t
+    → AnswerTurn z.seat now ms row p body t → TurnSound (here z p.number) V t
 answer_sound z now p Prepare t h holds turn = prepare_sound z p t h turn
 answer_sound z now p (Promise r) t h holds turn = promise_sound z now p r t h holds turn
 answer_sound z now p (Accept tape) t h holds turn = accept_sound z p tape t h holds turn
@@ -212,8 +212,8 @@ EventHolds V rows offers (Arrived p now) = PacketHolds V rows p
 
 pub turn_sound :
     (z : Setting) {V : Votes} {row : Row} {ms : List Mark} (e : Event) (t : Turn)
-    → At (here z (number_of e)) V row ms → IsMember z.count z.me → EventHolds V (rows_with (here z (number_of e)) row) z.offers e
-    → IsTurn z.circuit z.count z.me ms row e t → TurnSound (here z (number_of e)) V t
+    → At (here z (number_of e)) V row ms → IsMember z.seat.members z.seat.me → EventHolds V (rows_with (here z (number_of e)) row) z.offers e
+    → IsTurn z.seat ms row e t → TurnSound (here z (number_of e)) V t
 turn_sound z (Offered n tape now) t h member holds turn =
     start_sound (Some tape) now t h member (λ u f. subst (λ (x : Tape). IsOffered z.offers n x) (some_inj f) holds) turn
 turn_sound z (Sought n now) t h member holds turn = start_sound None now t h member (λ u f. let no : None ≡ Some u = f in cc) turn

@@ -3,6 +3,7 @@ use Rattle.std.proofs.Common.{◌≡◌, ℕ, inl, refl, arith, List, [], ◌∷
 use Rattle.std.specs.Prelude.{◌==◌, map, Ok, Err}
 use Rattle.std.specs.List.{AllZip}
 use Rattle.std.proofs.lemmas.Bool.{eq-eqb}
+use Rattle.protocol.specs.Seats.{sits}
 use Rattle.protocol.specs.Ballots.{IsMember}
 use Rattle.protocol.specs.Rows.{Tape, vote_for}
 use Rattle.protocol.specs.Versions.{Version, One, Two, fits}
@@ -53,7 +54,7 @@ IsFound {D = D} {G = G} {F = F} z =
     (spell : Version → Packet → List ℕ) (tape own : Tape) (slugs : G) (fault : D) → fits One tape ≡ true → z.sets 1 tape ≡ Ok slugs → z.sets 3 own ≡ Ok slugs
     → AllZip (Carries z One) (packets_of_three z.number tape) (map (datagram_of (spell One)) (packets_of_three z.number tape))
     → AllZip (Carries z Two) (packets_after z.number tape) (map (datagram_of (spell Two)) (packets_after z.number tape))
-    → z.reads One (spell Two (packet_to z.number 3 12 (ballot 1 3) Prepare 1)) ≡ Err fault
+    → z.reads One (spell Two (packet_to (sits z.number 3 3) 12 (ballot 1 3) Prepare 1)) ≡ Err fault
     → (w : State G F) × (h : History z w) × ((m : ℕ) → started_at h m ≡ One) × (w.releases ≡ release_by z 3 tape ∷ [])
     × (steps_of h
     ≡ record { step = Offers 1 12 tape 0; outcome = Done (Note_began (ballot 1 1)) }
@@ -86,28 +87,28 @@ is_found {D = D} {G = G} {F = F} k reads version_of sets says spell tape own slu
     let two : IsMember 3 2 = (omega arith, omega arith) in
     let three : IsMember 3 3 = (omega arith, omega arith) in
     let h0 : History z _ = goes_on (begins z One) (Offers 1 12 tape 0) (Done (Note_began (ballot 1 1)))
-    (is_done 1 (Offering 12 tape 0) (Offered 12 tape 0) _ (d One (packet_to k 1 12 (ballot 1 1) Prepare 2) ∷ d One (packet_to k 1 12 (ballot 1 1) Prepare 3) ∷ []) refl one (rw (fit, s) refl) refl refl ((refl, r1), ((refl, r2), tt)) (inl refl) refl (same _)) in
+    (is_done 1 (Offering 12 tape 0) (Offered 12 tape 0) _ (d One (packet_to (sits k 1 3) 12 (ballot 1 1) Prepare 2) ∷ d One (packet_to (sits k 1 3) 12 (ballot 1 1) Prepare 3) ∷ []) refl one (rw (fit, s) refl) refl refl ((refl, r1), ((refl, r2), tt)) (inl refl) refl (same _)) in
     let h1 : History z _ = goes_on h0 (Delivers 1 0) (Done (Note_promised (ballot 1 1)))
-    (is_done 2 (Receiving _ 0) (Arrived (packet_to k 1 12 (ballot 1 1) Prepare 2) 0) _ (d One (packet_to k 2 12 (ballot 1 1) (Promise None) 1) ∷ []) refl two (rw (r1, e) refl) (rw r1 refl) refl ((refl, r3), tt) (inl refl) refl (same _)) in
+    (is_done 2 (Receiving _ 0) (Arrived (packet_to (sits k 1 3) 12 (ballot 1 1) Prepare 2) 0) _ (d One (packet_to (sits k 2 3) 12 (ballot 1 1) (Promise None) 1) ∷ []) refl two (rw (r1, e) refl) (rw r1 refl) refl ((refl, r3), tt) (inl refl) refl (same _)) in
     let h2 : History z _ = goes_on h1 (Delivers 3 0) (Done (Note_proposed (ballot 1 1)))
-    (is_done 1 (Receiving _ 0) (Arrived (packet_to k 2 12 (ballot 1 1) (Promise None) 1) 0) _ (d One (packet_to k 1 12 (ballot 1 1) (Accept tape) 2) ∷ d One (packet_to k 1 12 (ballot 1 1) (Accept tape) 3) ∷ d One (packet_to k 1 12 (ballot 1 1) (Accepted tape) 2) ∷ d One (packet_to k 1 12 (ballot 1 1) (Accepted tape) 3) ∷ []) refl one (rw (r3, e) refl) (rw r3 refl) refl ((refl, r4), ((refl, r5), ((refl, r6), ((refl, r7), tt)))) (inl refl) refl (same _)) in
+    (is_done 1 (Receiving _ 0) (Arrived (packet_to (sits k 2 3) 12 (ballot 1 1) (Promise None) 1) 0) _ (d One (packet_to (sits k 1 3) 12 (ballot 1 1) (Accept tape) 2) ∷ d One (packet_to (sits k 1 3) 12 (ballot 1 1) (Accept tape) 3) ∷ d One (packet_to (sits k 1 3) 12 (ballot 1 1) (Accepted tape) 2) ∷ d One (packet_to (sits k 1 3) 12 (ballot 1 1) (Accepted tape) 3) ∷ []) refl one (rw (r3, e) refl) (rw r3 refl) refl ((refl, r4), ((refl, r5), ((refl, r6), ((refl, r7), tt)))) (inl refl) refl (same _)) in
     let h3 : History z _ = goes_on h2 (Delivers 4 0) (Done (Note_voted (ballot 1 1)))
-    (is_done 2 (Receiving _ 0) (Arrived (packet_to k 1 12 (ballot 1 1) (Accept tape) 2) 0) _ (d One (packet_to k 2 12 (ballot 1 1) (Accepted tape) 1) ∷ d One (packet_to k 2 12 (ballot 1 1) (Accepted tape) 3) ∷ []) refl two (rw (r4, e) refl) (rw r4 refl) refl ((refl, r8), ((refl, r9), tt)) (inl refl) refl (same _)) in
+    (is_done 2 (Receiving _ 0) (Arrived (packet_to (sits k 1 3) 12 (ballot 1 1) (Accept tape) 2) 0) _ (d One (packet_to (sits k 2 3) 12 (ballot 1 1) (Accepted tape) 1) ∷ d One (packet_to (sits k 2 3) 12 (ballot 1 1) (Accepted tape) 3) ∷ []) refl two (rw (r4, e) refl) (rw r4 refl) refl ((refl, r8), ((refl, r9), tt)) (inl refl) refl (same _)) in
     let h4 : History z _ = goes_on h3 (Upgrades 2) Upgraded (upgrades 2 two refl refl refl (same _)) in
     let h5 : History z _ = goes_on h4 (Upgrades 3) Upgraded (upgrades 3 three refl refl refl (same _)) in
     let heard : History z _ = goes_on h5 (Delivers 9 0) (Done (Note_heard (ballot 1 1)))
-    (is_done 3 (Receiving _ 0) (Arrived (packet_to k 2 12 (ballot 1 1) (Accepted tape) 3) 0) _ [] refl three (rw (g9, e) refl) (rw g9 refl) refl tt (inl refl) refl (same _)) in
+    (is_done 3 (Receiving _ 0) (Arrived (packet_to (sits k 2 3) 12 (ballot 1 1) (Accepted tape) 3) 0) _ [] refl three (rw (g9, e) refl) (rw g9 refl) refl tt (inl refl) refl (same _)) in
     let h6 : History z _ = goes_on heard (Offers 3 12 own 0) (Done (Note_began (ballot 1 3)))
-    (is_done 3 (Offering 12 own 0) (Offered 12 own 0) _ (d Two (packet_to k 3 12 (ballot 1 3) Prepare 1) ∷ d Two (packet_to k 3 12 (ballot 1 3) Prepare 2) ∷ []) refl three (rw so refl) refl refl ((refl, r10), ((refl, r11), tt)) (inl refl) refl (same _)) in
+    (is_done 3 (Offering 12 own 0) (Offered 12 own 0) _ (d Two (packet_to (sits k 3 3) 12 (ballot 1 3) Prepare 1) ∷ d Two (packet_to (sits k 3 3) 12 (ballot 1 3) Prepare 2) ∷ []) refl three (rw so refl) refl refl ((refl, r10), ((refl, r11), tt)) (inl refl) refl (same _)) in
     let h7 : History z _ = goes_on h6 (Delivers 10 0) (Refused (Bad_datagram fault)) (is_refused 1 (Receiving _ 0) (Bad_datagram fault) refl one (rw bad refl) refl (same _)) in
     let h8 : History z _ = goes_on h7 (Delivers 11 0) (Done (Note_promised (ballot 1 3)))
-    (is_done 2 (Receiving _ 0) (Arrived (packet_to k 3 12 (ballot 1 3) Prepare 2) 0) _ (d Two (packet_to k 2 12 (ballot 1 3) (Promise (Some (vote_for (ballot 1 1) tape))) 3) ∷ []) refl two (rw (g11, e) refl) (rw g11 refl) refl ((refl, r12), tt) (inl refl) refl (same _)) in
+    (is_done 2 (Receiving _ 0) (Arrived (packet_to (sits k 3 3) 12 (ballot 1 3) Prepare 2) 0) _ (d Two (packet_to (sits k 2 3) 12 (ballot 1 3) (Promise (Some (vote_for (ballot 1 1) tape))) 3) ∷ []) refl two (rw (g11, e) refl) (rw g11 refl) refl ((refl, r12), tt) (inl refl) refl (same _)) in
     let h9 : History z _ = goes_on h8 (Delivers 12 0) (Done (Note_proposed (ballot 1 3)))
-    (is_done 3 (Receiving _ 0) (Arrived (packet_to k 2 12 (ballot 1 3) (Promise (Some (vote_for (ballot 1 1) tape))) 3) 0) _ (d Two (packet_to k 3 12 (ballot 1 3) (Accept tape) 1) ∷ d Two (packet_to k 3 12 (ballot 1 3) (Accept tape) 2) ∷ d Two (packet_to k 3 12 (ballot 1 3) (Accepted tape) 1) ∷ d Two (packet_to k 3 12 (ballot 1 3) (Accepted tape) 2) ∷ []) refl three (rw (g12, e) refl) (rw g12 refl) refl ((refl, r13), ((refl, r14), ((refl, r15), ((refl, r16), tt)))) (inl refl) refl (same _)) in
+    (is_done 3 (Receiving _ 0) (Arrived (packet_to (sits k 2 3) 12 (ballot 1 3) (Promise (Some (vote_for (ballot 1 1) tape))) 3) 0) _ (d Two (packet_to (sits k 3 3) 12 (ballot 1 3) (Accept tape) 1) ∷ d Two (packet_to (sits k 3 3) 12 (ballot 1 3) (Accept tape) 2) ∷ d Two (packet_to (sits k 3 3) 12 (ballot 1 3) (Accepted tape) 1) ∷ d Two (packet_to (sits k 3 3) 12 (ballot 1 3) (Accepted tape) 2) ∷ []) refl three (rw (g12, e) refl) (rw g12 refl) refl ((refl, r13), ((refl, r14), ((refl, r15), ((refl, r16), tt)))) (inl refl) refl (same _)) in
     let h10 : History z _ = goes_on h9 (Delivers 14 0) (Done (Note_voted (ballot 1 3)))
-    (is_done 2 (Receiving _ 0) (Arrived (packet_to k 3 12 (ballot 1 3) (Accept tape) 2) 0) _ (d Two (packet_to k 2 12 (ballot 1 3) (Accepted tape) 1) ∷ d Two (packet_to k 2 12 (ballot 1 3) (Accepted tape) 3) ∷ []) refl two (rw (g14, e) refl) (rw g14 refl) refl ((refl, r17), ((refl, r18), tt)) (inl refl) refl (same _)) in
+    (is_done 2 (Receiving _ 0) (Arrived (packet_to (sits k 3 3) 12 (ballot 1 3) (Accept tape) 2) 0) _ (d Two (packet_to (sits k 2 3) 12 (ballot 1 3) (Accepted tape) 1) ∷ d Two (packet_to (sits k 2 3) 12 (ballot 1 3) (Accepted tape) 3) ∷ []) refl two (rw (g14, e) refl) (rw g14 refl) refl ((refl, r17), ((refl, r18), tt)) (inl refl) refl (same _)) in
     let h11 : History z _ = goes_on h10 (Delivers 18 0) (Done (Note_heard (ballot 1 3)))
-    (is_done 3 (Receiving _ 0) (Arrived (packet_to k 2 12 (ballot 1 3) (Accepted tape) 3) 0) _ [] refl three (rw (g18, e) refl) (rw g18 refl) refl tt (inl refl) refl (same _)) in
+    (is_done 3 (Receiving _ 0) (Arrived (packet_to (sits k 2 3) 12 (ballot 1 3) (Accepted tape) 3) 0) _ [] refl three (rw (g18, e) refl) (rw g18 refl) refl tt (inl refl) refl (same _)) in
     (_, h11, λ m. refl, refl, refl)
 
 pub vote_outlives_upgrades : {D G F : Type 0} → VoteOutlivesUpgrades D G F

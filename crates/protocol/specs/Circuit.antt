@@ -1,6 +1,7 @@
 -- A circuit: all its stations and the network between them; the steps that it takes, and its histories.
 use Rattle.std.specs.Prelude.{◌≡◌, ℕ, ◌⊎◌, ◌-◌, List, [], ◌∷◌, ◌++◌, Option, Some, None, Result, Ok, Bool, true, false, ◌==◌, ◌&&◌, nat_le, slice_get, if◌then◌else◌}
 use Rattle.std.specs.List.{AllZip}
+use Rattle.protocol.specs.Seats.{Seat, sits}
 use Rattle.protocol.specs.Ballots.{IsMember}
 use Rattle.protocol.specs.Rows.{Tape, Row, blank}
 use Rattle.protocol.specs.Packets.{Packet}
@@ -26,9 +27,13 @@ abbrev pub hears : {D G F : Type 0} → Circuit D G F → Version → List ℕ �
 hears z One bytes = z.reads One bytes
 hears z Two bytes = z.reads (z.version_of bytes) bytes
 
+-- where member m sits
+abbrev pub seat_at : {D G F : Type 0} → Circuit D G F → ℕ → Seat
+seat_at z m = sits z.number m z.count
+
 -- how member m's station is set up at this version
 abbrev pub setup_of : {D G F : Type 0} → Circuit D G F → Version → ℕ → Setup D G F
-setup_of z v m = record { circuit = z.number; count = z.count; me = m; reads = hears z v; fits = fits v; sets = z.sets m }
+setup_of z v m = record { seat = seat_at z m; reads = hears z v; fits = fits v; sets = z.sets m }
 
 -- bytes on their way to a member
 pub record Datagram : Type 0 where
@@ -165,7 +170,7 @@ pub data Leaves {D G F : Type 0} (z : Circuit D G F) (w : State G F) (m : ℕ) (
       → row ≡ w.rows m (number_of e) → armed ≡ w.armed m → Leaves z w m call e o row armed
   at_save :
       (t : Turn) → refusal (setup_of z (w.version m) m) (w.is_stopped m) (w.marks m) call ≡ None
-      → turn z.number z.count m (w.marks m) (w.rows m (number_of e)) e ≡ Some t → ¬ (t.row ≡ w.rows m (number_of e))
+      → turn (seat_at z m) (w.marks m) (w.rows m (number_of e)) e ≡ Some t → ¬ (t.row ≡ w.rows m (number_of e))
       → MayLeave (w.armed m) o (w.rows m (number_of e)) t.row row → armed ≡ None → Leaves z w m call e o row armed
 
 -- a step of a circuit, how it ends and where it leads
@@ -186,14 +191,14 @@ pub data StepsTo {D G F : Type 0} (z : Circuit D G F) (w : State G F) (s : Step)
       (m : ℕ) (call : Call) (e : Event) → task_of w.sent s ≡ Some (record { member = m; call = call }) → IsMember z.count m
       → refusal (setup_of z (w.version m) m) (w.is_stopped m) (w.marks m) call ≡ None
       → event_of (setup_of z (w.version m) m) (w.marks m) call ≡ Some e
-      → turn z.number z.count m (w.marks m) (w.rows m (number_of e)) e ≡ None
+      → turn (seat_at z m) (w.marks m) (w.rows m (number_of e)) e ≡ None
       → o ≡ Refused Rounds_spent → IsSameState after w → StepsTo z w s o after
   -- the turn is taken: the row is saved, the marks grow, and what goes out, an offer and a release are added
   is_done :
       (m : ℕ) (call : Call) (e : Event) (t : Turn) (out : List Datagram) → task_of w.sent s ≡ Some (record { member = m; call = call }) → IsMember z.count m
       → refusal (setup_of z (w.version m) m) (w.is_stopped m) (w.marks m) call ≡ None
       → event_of (setup_of z (w.version m) m) (w.marks m) call ≡ Some e
-      → turn z.number z.count m (w.marks m) (w.rows m (number_of e)) e ≡ Some t
+      → turn (seat_at z m) (w.marks m) (w.rows m (number_of e)) e ≡ Some t
       → AllZip (Carries z (w.version m)) t.out out
       → (w.armed m ≡ None) ⊎ (t.row ≡ w.rows m (number_of e))
       → o ≡ Done t.note

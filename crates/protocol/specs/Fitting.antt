@@ -2,6 +2,7 @@
 -- what a turn saves, keeps in mind, sends and releases fits a version where what the turn was given does.
 use Rattle.std.specs.Prelude.{◌≡◌, ℕ, List, Option, Some, Ok, true, IfSome}
 use Rattle.protocol.specs.Lists.{IsAmong}
+use Rattle.protocol.specs.Seats.{Seat}
 use Rattle.protocol.specs.Ballots.{IsMember}
 use Rattle.protocol.specs.Rows.{Tape, Vote, Row}
 use Rattle.protocol.specs.Versions.{Version, Two, fits}
@@ -61,7 +62,7 @@ pub record TurnFits (v : Version) (t : Turn) : Type 0 where
 -- a turn makes no tape up: where marks, row and event fit a version, the turn does
 abbrev pub TurnsFit : Type 0
 TurnsFit =
-    (v : Version) (k c m : ℕ) (marks : List Mark) (row : Row) (e : Event) (t : Turn) → IsMember c m → turn k c m marks row e ≡ Some t
+    (v : Version) (s : Seat) (marks : List Mark) (row : Row) (e : Event) (t : Turn) → IsMember s.members s.me → turn s marks row e ≡ Some t
     → MarksFit v marks → VoteFits v row.vote → EventFits v e → TurnFits v t
 
 -- the tape of each packet that is spelled in a version fits the version

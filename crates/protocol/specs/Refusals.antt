@@ -1,19 +1,18 @@
 -- What a station is asked, and when it refuses: the first refusal that holds, in the order of the checks.
 use Rattle.std.specs.Prelude.{ℕ, List, Option, Some, None, Result, Ok, Err, Bool, false, ◌==◌, ◌&&◌, ◌||◌, not, nat_lt, nat_le, is_some, if◌then◌else◌}
 use Rattle.protocol.specs.Lists.{or_else}
+use Rattle.protocol.specs.Seats.{Seat}
 use Rattle.protocol.specs.Rows.{Tape}
 use Rattle.protocol.specs.Packets.{Packet, Body, Prepare, Promise, Accept, Accepted, Nack}
 use Rattle.protocol.specs.Marks.{Mark}
 use Rattle.protocol.specs.Proposals.{was_released, open_proposal, next_due}
 use Rattle.protocol.specs.Turn.{Event, Offered, Sought, Came_due, Arrived}
 
--- how a station is set up: its circuit's number, the member count, which member it is,
+-- how a station is set up: where it sits,
 -- which packet it reads in bytes or why it reads none, whether its version has a spelling for a tape,
 -- and what its table and widths make of a tape
 pub record Setup (D G F : Type 0) : Type 0 where
-  pub circuit : ℕ
-  pub count : ℕ
-  pub me : ℕ
+  pub seat : Seat
   pub reads : List ℕ → Result Packet D
   pub fits : Tape → Bool
   pub sets : Tape → Result G F
@@ -48,18 +47,18 @@ names_stranger c (Nack p) = nat_lt c p.owner
 abbrev pub is_of_stranger : ℕ → Packet → Bool
 is_of_stranger c p = nat_lt c p.from || nat_lt c p.ballot.owner || names_stranger c p.body
 
--- why member me of the c of circuit k refuses a packet
-abbrev pub packet_refusal : {D F : Type 0} → ℕ → ℕ → ℕ → Packet → Option (Refusal D F)
-packet_refusal k c me p =
-    if not (p.circuit == k) then Some Wrong_circuit
-    else if not (p.to == me) then Some Not_for_me
-    else if is_of_stranger c p then Some Stranger
+-- why the station of this seat refuses a packet
+abbrev pub packet_refusal : {D F : Type 0} → Seat → Packet → Option (Refusal D F)
+packet_refusal s p =
+    if not (p.circuit == s.circuit) then Some Wrong_circuit
+    else if not (p.to == s.me) then Some Not_for_me
+    else if is_of_stranger s.members p then Some Stranger
     else None
 
 -- why it refuses what was read in bytes
-abbrev pub reading_refusal : {D F : Type 0} → ℕ → ℕ → ℕ → Result Packet D → Option (Refusal D F)
-reading_refusal k c me (Err fault) = Some (Bad_datagram fault)
-reading_refusal k c me (Ok p) = packet_refusal k c me p
+abbrev pub reading_refusal : {D F : Type 0} → Seat → Result Packet D → Option (Refusal D F)
+reading_refusal s (Err fault) = Some (Bad_datagram fault)
+reading_refusal s (Ok p) = packet_refusal s p
 
 -- numbers of tapes are 1 to 999,999
 abbrev pub is_number : ℕ → Bool
@@ -82,7 +81,7 @@ abbrev pub call_refusal : {D G F : Type 0} → Setup D G F → List Mark → Cal
 call_refusal s marks (Offering n tape now) = or_else (number_refusal n marks) (wire_refusal (s.fits tape))
 call_refusal s marks (Seeking n now) = number_refusal n marks
 call_refusal s marks (Falling_due now) = None
-call_refusal s marks (Receiving bytes now) = reading_refusal s.circuit s.count s.me (s.reads bytes)
+call_refusal s marks (Receiving bytes now) = reading_refusal s.seat (s.reads bytes)
 
 -- the first refusal that holds before an offered tape is set: a station that is stopped refuses each call
 abbrev pub early_refusal : {D G F : Type 0} → Setup D G F → Bool → List Mark → Call → Option (Refusal D F)
@@ -118,5 +117,5 @@ arrival (Ok p) now = Some (Arrived p now)
 abbrev pub event_of : {D G F : Type 0} → Setup D G F → List Mark → Call → Option Event
 event_of s marks (Offering n tape now) = Some (Offered n tape now)
 event_of s marks (Seeking n now) = Some (Sought n now)
-event_of s marks (Falling_due now) = due_event (next_due s.me now marks) now
+event_of s marks (Falling_due now) = due_event (next_due s.seat.me now marks) now
 event_of s marks (Receiving bytes now) = arrival (s.reads bytes) now

@@ -1,6 +1,7 @@
 -- Worked examples of refusals and of histories, of number 12: the definitions are not empty.
 use Rattle.std.specs.Prelude.{◌≡◌, ℕ, List, [], ◌∷◌, ◌++◌, Some, None, Ok, Err, Bool, true, false, map}
 use Rattle.std.specs.List.{AllZip}
+use Rattle.protocol.specs.Seats.{sits}
 use Rattle.protocol.specs.Rows.{Tape, vote_for}
 use Rattle.protocol.specs.Packets.{Packet, Prepare, Promise, Accept, Accepted, Nack}
 use Rattle.protocol.specs.Turn.{Offered, Note_began, Note_nothing, Note_promised, Note_silent, Note_nacked, Note_denied, Note_idle, Note_proposed, Note_heard, Note_voted, packet_to}
@@ -11,14 +12,14 @@ use Rattle.protocol.specs.Circuit.{Circuit, Carries, Datagram, Offer, Release, S
 
 -- a member of 3 refuses packets of another circuit, for another, and of strangers: the sender, the owner of the ballot, of a reported vote, of a Nack's promise
 pub record PacketsAreRefused (D F : Type 0) : Type 0 where
-  pub circuit : packet_refusal {D = D} {F = F} 7 3 2 (packet_to 8 1 12 (ballot 1 1) Prepare 2) ≡ Some Wrong_circuit
-  pub addressee : packet_refusal {D = D} {F = F} 7 3 2 (packet_to 7 1 12 (ballot 1 1) Prepare 3) ≡ Some Not_for_me
-  pub sender : packet_refusal {D = D} {F = F} 7 3 2 (packet_to 7 4 12 (ballot 1 2) (Promise None) 2) ≡ Some Stranger
-  pub owner : packet_refusal {D = D} {F = F} 7 3 2 (packet_to 7 1 12 (ballot 1 4) (Accepted (1 ∷ [])) 2) ≡ Some Stranger
-  pub reported : packet_refusal {D = D} {F = F} 7 3 2 (packet_to 7 1 12 (ballot 2 2) (Promise (Some (vote_for (ballot 1 4) (1 ∷ [])))) 2) ≡ Some Stranger
-  pub denied : packet_refusal {D = D} {F = F} 7 3 2 (packet_to 7 1 12 (ballot 1 2) (Nack (ballot 1 4)) 2) ≡ Some Stranger
-  pub first : packet_refusal {D = D} {F = F} 7 3 2 (packet_to 8 4 12 (ballot 1 4) Prepare 3) ≡ Some Wrong_circuit
-  pub none : packet_refusal {D = D} {F = F} 7 3 2 (packet_to 7 3 12 (ballot 1 3) Prepare 2) ≡ None
+  pub circuit : packet_refusal {D = D} {F = F} (sits 7 2 3) (packet_to (sits 8 1 3) 12 (ballot 1 1) Prepare 2) ≡ Some Wrong_circuit
+  pub addressee : packet_refusal {D = D} {F = F} (sits 7 2 3) (packet_to (sits 7 1 3) 12 (ballot 1 1) Prepare 3) ≡ Some Not_for_me
+  pub sender : packet_refusal {D = D} {F = F} (sits 7 2 3) (packet_to (sits 7 4 3) 12 (ballot 1 2) (Promise None) 2) ≡ Some Stranger
+  pub owner : packet_refusal {D = D} {F = F} (sits 7 2 3) (packet_to (sits 7 1 3) 12 (ballot 1 4) (Accepted (1 ∷ [])) 2) ≡ Some Stranger
+  pub reported : packet_refusal {D = D} {F = F} (sits 7 2 3) (packet_to (sits 7 1 3) 12 (ballot 2 2) (Promise (Some (vote_for (ballot 1 4) (1 ∷ [])))) 2) ≡ Some Stranger
+  pub denied : packet_refusal {D = D} {F = F} (sits 7 2 3) (packet_to (sits 7 1 3) 12 (ballot 1 2) (Nack (ballot 1 4)) 2) ≡ Some Stranger
+  pub first : packet_refusal {D = D} {F = F} (sits 7 2 3) (packet_to (sits 8 4 3) 12 (ballot 1 4) Prepare 3) ≡ Some Wrong_circuit
+  pub none : packet_refusal {D = D} {F = F} (sits 7 2 3) (packet_to (sits 7 3 3) 12 (ballot 1 3) Prepare 2) ≡ None
 
 -- numbers out of range, a number that was released and one that is open are refused to an offer or a search
 pub record NumbersAreRefused (D F : Type 0) : Type 0 where
@@ -26,13 +27,13 @@ pub record NumbersAreRefused (D F : Type 0) : Type 0 where
   pub least : number_refusal {D = D} {F = F} 1 [] ≡ None
   pub most : number_refusal {D = D} {F = F} 999999 [] ≡ None
   pub high : number_refusal {D = D} {F = F} 1000000 [] ≡ Some Bad_number
-  pub released : (tape : Tape) → number_refusal {D = D} {F = F} 12 (run_of 7 1 1 (Offered 12 tape 0 ∷ [])).marks ≡ Some Already_released
-  pub open_one : (tape : Tape) → number_refusal {D = D} {F = F} 12 (run_of 7 3 1 (Offered 12 tape 0 ∷ [])).marks ≡ Some Already_open
-  pub other : (tape : Tape) → number_refusal {D = D} {F = F} 13 (run_of 7 3 1 (Offered 12 tape 0 ∷ [])).marks ≡ None
+  pub released : (tape : Tape) → number_refusal {D = D} {F = F} 12 (run_of (sits 7 1 1) (Offered 12 tape 0 ∷ [])).marks ≡ Some Already_released
+  pub open_one : (tape : Tape) → number_refusal {D = D} {F = F} 12 (run_of (sits 7 1 3) (Offered 12 tape 0 ∷ [])).marks ≡ Some Already_open
+  pub other : (tape : Tape) → number_refusal {D = D} {F = F} 13 (run_of (sits 7 1 3) (Offered 12 tape 0 ∷ [])).marks ≡ None
 
 -- 2 of 3 to which no bytes spell a packet and at which no tape sets; its version has a spelling for each tape, or for none
 abbrev pub faulty_setup : {D G F : Type 0} → D → F → Bool → Setup D G F
-faulty_setup d f fits = record { circuit = 7; count = 3; me = 2; reads = λ bytes. Err d; fits = λ tape. fits; sets = λ tape. Err f }
+faulty_setup d f fits = record { seat = sits 7 2 3; reads = λ bytes. Err d; fits = λ tape. fits; sets = λ tape. Err f }
 
 -- a station that is stopped says so, whatever else is wrong: bytes that it can't read, a tape that doesn't set
 abbrev pub StoppedIsToldFirst : (D G F : Type 0) → Type 0
@@ -45,14 +46,14 @@ StoppedIsToldFirst D G F =
 
 -- a stranger's packet for another member is one for another member
 abbrev pub AddresseeIsToldFirst : (D F : Type 0) → Type 0
-AddresseeIsToldFirst D F = packet_refusal {D = D} {F = F} 7 3 2 (packet_to 7 4 12 (ballot 1 4) Prepare 3) ≡ Some Not_for_me
+AddresseeIsToldFirst D F = packet_refusal {D = D} {F = F} (sits 7 2 3) (packet_to (sits 7 4 3) 12 (ballot 1 4) Prepare 3) ≡ Some Not_for_me
 
 -- a number out of range, and one that is open, is told before what is wrong with the tape
 abbrev pub NumberIsToldFirst : (D G F : Type 0) → Type 0
 NumberIsToldFirst D G F =
     (d : D) (f : F) (tape : Tape)
     → (refusal {G = G} (faulty_setup d f true) false [] (Offering 0 tape 0) ≡ Some Bad_number)
-    × (refusal {G = G} (faulty_setup d f false) false (run_of 7 3 2 (Offered 12 tape 0 ∷ [])).marks (Offering 12 tape 0) ≡ Some Already_open)
+    × (refusal {G = G} (faulty_setup d f false) false (run_of (sits 7 2 3) (Offered 12 tape 0 ∷ [])).marks (Offering 12 tape 0) ≡ Some Already_open)
 
 -- that a version has no spelling for a tape is told before the tape's own fault
 abbrev pub VersionIsToldFirst : (D G F : Type 0) → Type 0
@@ -100,11 +101,11 @@ SavedVoteIsReleased D G F =
 -- what goes out as 1 of 3 is offered a tape and 2 promises and votes
 abbrev pub packets_of_three : ℕ → Tape → List Packet
 packets_of_three k tape =
-    packet_to k 1 12 (ballot 1 1) Prepare 2 ∷ packet_to k 1 12 (ballot 1 1) Prepare 3
-    ∷ packet_to k 2 12 (ballot 1 1) (Promise None) 1
-    ∷ packet_to k 1 12 (ballot 1 1) (Accept tape) 2 ∷ packet_to k 1 12 (ballot 1 1) (Accept tape) 3
-    ∷ packet_to k 1 12 (ballot 1 1) (Accepted tape) 2 ∷ packet_to k 1 12 (ballot 1 1) (Accepted tape) 3
-    ∷ packet_to k 2 12 (ballot 1 1) (Accepted tape) 1 ∷ packet_to k 2 12 (ballot 1 1) (Accepted tape) 3 ∷ []
+    packet_to (sits k 1 3) 12 (ballot 1 1) Prepare 2 ∷ packet_to (sits k 1 3) 12 (ballot 1 1) Prepare 3
+    ∷ packet_to (sits k 2 3) 12 (ballot 1 1) (Promise None) 1
+    ∷ packet_to (sits k 1 3) 12 (ballot 1 1) (Accept tape) 2 ∷ packet_to (sits k 1 3) 12 (ballot 1 1) (Accept tape) 3
+    ∷ packet_to (sits k 1 3) 12 (ballot 1 1) (Accepted tape) 2 ∷ packet_to (sits k 1 3) 12 (ballot 1 1) (Accepted tape) 3
+    ∷ packet_to (sits k 2 3) 12 (ballot 1 1) (Accepted tape) 1 ∷ packet_to (sits k 2 3) 12 (ballot 1 1) (Accepted tape) 3 ∷ []
 
 -- the packet, spelled and on its way
 abbrev pub datagram_of : (Packet → List ℕ) → Packet → Datagram
@@ -150,11 +151,11 @@ TornUpgrades D G F =
 -- and 3 proposes the tape of that vote
 abbrev pub packets_after : ℕ → Tape → List Packet
 packets_after k tape =
-    packet_to k 3 12 (ballot 1 3) Prepare 1 ∷ packet_to k 3 12 (ballot 1 3) Prepare 2
-    ∷ packet_to k 2 12 (ballot 1 3) (Promise (Some (vote_for (ballot 1 1) tape))) 3
-    ∷ packet_to k 3 12 (ballot 1 3) (Accept tape) 1 ∷ packet_to k 3 12 (ballot 1 3) (Accept tape) 2
-    ∷ packet_to k 3 12 (ballot 1 3) (Accepted tape) 1 ∷ packet_to k 3 12 (ballot 1 3) (Accepted tape) 2
-    ∷ packet_to k 2 12 (ballot 1 3) (Accepted tape) 1 ∷ packet_to k 2 12 (ballot 1 3) (Accepted tape) 3 ∷ []
+    packet_to (sits k 3 3) 12 (ballot 1 3) Prepare 1 ∷ packet_to (sits k 3 3) 12 (ballot 1 3) Prepare 2
+    ∷ packet_to (sits k 2 3) 12 (ballot 1 3) (Promise (Some (vote_for (ballot 1 1) tape))) 3
+    ∷ packet_to (sits k 3 3) 12 (ballot 1 3) (Accept tape) 1 ∷ packet_to (sits k 3 3) 12 (ballot 1 3) (Accept tape) 2
+    ∷ packet_to (sits k 3 3) 12 (ballot 1 3) (Accepted tape) 1 ∷ packet_to (sits k 3 3) 12 (ballot 1 3) (Accepted tape) 2
+    ∷ packet_to (sits k 2 3) 12 (ballot 1 3) (Accepted tape) 1 ∷ packet_to (sits k 2 3) 12 (ballot 1 3) (Accepted tape) 3 ∷ []
 
 -- 2 and 3 of three go over after 1 and 2 voted for a tape at version 1. 3 hears a vote that was sent at version 1,
 -- is offered a tape of its own, finds the vote of 2, and releases the tape of that vote;
@@ -165,7 +166,7 @@ VoteOutlivesUpgrades D G F =
     → z.count ≡ 3 → fits One tape ≡ true → z.sets 1 tape ≡ Ok slugs → z.sets 3 own ≡ Ok slugs
     → AllZip (Carries z One) (packets_of_three z.number tape) (map (datagram_of (spell One)) (packets_of_three z.number tape))
     → AllZip (Carries z Two) (packets_after z.number tape) (map (datagram_of (spell Two)) (packets_after z.number tape))
-    → z.reads One (spell Two (packet_to z.number 3 12 (ballot 1 3) Prepare 1)) ≡ Err fault
+    → z.reads One (spell Two (packet_to (sits z.number 3 3) 12 (ballot 1 3) Prepare 1)) ≡ Err fault
     → (w : State G F) × (h : History z w) × ((m : ℕ) → started_at h m ≡ One) × (w.releases ≡ release_by z 3 tape ∷ [])
     × (steps_of h
     ≡ record { step = Offers 1 12 tape 0; outcome = Done (Note_began (ballot 1 1)) }
@@ -264,11 +265,11 @@ StoreRefusesToo D G F = (z : Circuit D G F) → z.count ≡ 1 → SaveIsRefusedT
 -- what goes out as 3 of 3 asks for 1.3 and 2 promises it, as 1 asks for 1.1 and 2 denies it, and as 1 asks anew
 abbrev pub packets_denied : ℕ → List Packet
 packets_denied k =
-    packet_to k 3 12 (ballot 1 3) Prepare 1 ∷ packet_to k 3 12 (ballot 1 3) Prepare 2
-    ∷ packet_to k 2 12 (ballot 1 3) (Promise None) 3
-    ∷ packet_to k 1 12 (ballot 1 1) Prepare 2 ∷ packet_to k 1 12 (ballot 1 1) Prepare 3
-    ∷ packet_to k 2 12 (ballot 1 1) (Nack (ballot 1 3)) 1
-    ∷ packet_to k 1 12 (ballot 2 1) Prepare 2 ∷ packet_to k 1 12 (ballot 2 1) Prepare 3 ∷ []
+    packet_to (sits k 3 3) 12 (ballot 1 3) Prepare 1 ∷ packet_to (sits k 3 3) 12 (ballot 1 3) Prepare 2
+    ∷ packet_to (sits k 2 3) 12 (ballot 1 3) (Promise None) 3
+    ∷ packet_to (sits k 1 3) 12 (ballot 1 1) Prepare 2 ∷ packet_to (sits k 1 3) 12 (ballot 1 1) Prepare 3
+    ∷ packet_to (sits k 2 3) 12 (ballot 1 1) (Nack (ballot 1 3)) 1
+    ∷ packet_to (sits k 1 3) 12 (ballot 2 1) Prepare 2 ∷ packet_to (sits k 1 3) 12 (ballot 2 1) Prepare 3 ∷ []
 
 -- 2 of three promises 3 the ballot 1.3 and denies 1 the ballot 1.1; the Prepare of 3 that comes once more it leaves unanswered.
 -- 1 is not due at 289, and at 290 it begins 2.1, above the Nack. Nobody votes, so nothing is released

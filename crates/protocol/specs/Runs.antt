@@ -1,6 +1,7 @@
 -- One station's turns, one after another, and worked examples of them: each holds by computing the turns.
--- The examples are of number 12 in circuit 7; c of m stands for a circuit of c members and its station m.
+-- The examples are of number 12 in circuit 7; m of c stands for station m in a circuit of c members.
 use Rattle.std.specs.Prelude.{◌≡◌, ℕ, zero, suc, ◌*◌, List, [], ◌∷◌, ◌++◌, Option, Some, None, ◌==◌, map, if◌then◌else◌}
+use Rattle.protocol.specs.Seats.{Seat, sits}
 use Rattle.protocol.specs.Ballots.{Ballot}
 use Rattle.protocol.specs.Rows.{Tape, Row, vote_for, raised, blank}
 use Rattle.protocol.specs.Packets.{Packet, Body, Prepare, Promise, Accept, Accepted, Nack}
@@ -26,17 +27,17 @@ went_on r None = r
 went_on r (Some t) = record { marks = t.marks; row = t.row; shown = r.shown ++ record { note = t.note; out = t.out; release = t.release } ∷ [] }
 
 -- the run after these events too, the first first
-abbrev pub ran_on : ℕ → ℕ → ℕ → Run → List Event → Run
-ran_on k c m r [] = r
-ran_on k c m r (e ∷ es) = ran_on k c m (went_on r (turn k c m r.marks r.row e)) es
+abbrev pub ran_on : Seat → Run → List Event → Run
+ran_on seat r [] = r
+ran_on seat r (e ∷ es) = ran_on seat (went_on r (turn seat r.marks r.row e)) es
 
 -- the run of a station that starts with this row
-abbrev pub run_from : ℕ → ℕ → ℕ → Row → List Event → Run
-run_from k c m row es = ran_on k c m (record { marks = []; row = row; shown = [] }) es
+abbrev pub run_from : Seat → Row → List Event → Run
+run_from seat row es = ran_on seat (record { marks = []; row = row; shown = [] }) es
 
 -- the run of a station that starts with a blank row
-abbrev pub run_of : ℕ → ℕ → ℕ → List Event → Run
-run_of k c m es = run_from k c m blank es
+abbrev pub run_of : Seat → List Event → Run
+run_of seat es = run_from seat blank es
 
 -- the notes of a run, the first first
 abbrev pub notes_of : Run → List Note
@@ -52,7 +53,7 @@ ballot round owner = record { round = round; owner = owner }
 
 -- a packet for 12 from a member to another
 abbrev pub sends : ℕ → Ballot → Body → ℕ → Packet
-sends from b body to = packet_to 7 from 12 b body to
+sends from b body to = record { circuit = 7; from = from; to = to; number = 12; ballot = b; body = body }
 
 -- it arrives at the moment 0
 abbrev pub gets : ℕ → Ballot → Body → ℕ → Event
@@ -66,20 +67,20 @@ shows note out = record { note = note; out = out; release = None }
 abbrev pub OneReleases : Type 0
 OneReleases =
     (tape : Tape)
-    → (run_of 7 1 1 (Offered 12 tape 0 ∷ [])).shown
+    → (run_of (sits 7 1 1) (Offered 12 tape 0 ∷ [])).shown
     ≡ record { note = Note_proposed (ballot 1 1); out = []; release = Some tape } ∷ []
 
 -- 1 of 1 that seeks a tape of which nobody voted closes its proposal
 abbrev pub OneFindsNothing : Type 0
 OneFindsNothing =
-    (run_of 7 1 1 (Sought 12 0 ∷ Came_due 12 1000 ∷ [])).shown
+    (run_of (sits 7 1 1) (Sought 12 0 ∷ Came_due 12 1000 ∷ [])).shown
     ≡ shows (Note_nothing (ballot 1 1)) [] ∷ shows Note_idle [] ∷ []
 
 -- 1 of 2, which is offered a tape, releases it once 2 has promised and voted
 abbrev pub FirstOfTwoReleases : Type 0
 FirstOfTwoReleases =
     (tape : Tape)
-    → (run_of 7 2 1 (Offered 12 tape 0 ∷ gets 2 (ballot 1 1) (Promise None) 1 ∷ gets 2 (ballot 1 1) (Accepted tape) 1 ∷ [])).shown
+    → (run_of (sits 7 1 2) (Offered 12 tape 0 ∷ gets 2 (ballot 1 1) (Promise None) 1 ∷ gets 2 (ballot 1 1) (Accepted tape) 1 ∷ [])).shown
     ≡ shows (Note_began (ballot 1 1)) (sends 1 (ballot 1 1) Prepare 2 ∷ [])
     ∷ shows (Note_proposed (ballot 1 1)) (sends 1 (ballot 1 1) (Accept tape) 2 ∷ sends 1 (ballot 1 1) (Accepted tape) 2 ∷ [])
     ∷ record { note = Note_heard (ballot 1 1); out = []; release = Some tape } ∷ []
@@ -88,7 +89,7 @@ FirstOfTwoReleases =
 abbrev pub SecondOfTwoReleases : Type 0
 SecondOfTwoReleases =
     (tape : Tape)
-    → (run_of 7 2 2 (gets 1 (ballot 1 1) Prepare 2 ∷ gets 1 (ballot 1 1) (Accepted tape) 2 ∷ gets 1 (ballot 1 1) (Accept tape) 2 ∷ [])).shown
+    → (run_of (sits 7 2 2) (gets 1 (ballot 1 1) Prepare 2 ∷ gets 1 (ballot 1 1) (Accepted tape) 2 ∷ gets 1 (ballot 1 1) (Accept tape) 2 ∷ [])).shown
     ≡ shows (Note_promised (ballot 1 1)) (sends 2 (ballot 1 1) (Promise None) 1 ∷ [])
     ∷ shows (Note_heard (ballot 1 1)) []
     ∷ record { note = Note_voted (ballot 1 1); out = sends 2 (ballot 1 1) (Accepted tape) 1 ∷ []; release = Some tape } ∷ []
@@ -97,7 +98,7 @@ SecondOfTwoReleases =
 abbrev pub ThirdTakesOver : Type 0
 ThirdTakesOver =
     (own tape : Tape)
-    → (run_of 7 3 3 (Offered 12 own 0 ∷ gets 2 (ballot 1 3) (Promise (Some (vote_for (ballot 1 1) tape))) 3 ∷ gets 2 (ballot 1 3) (Accepted tape) 3 ∷ [])).shown
+    → (run_of (sits 7 3 3) (Offered 12 own 0 ∷ gets 2 (ballot 1 3) (Promise (Some (vote_for (ballot 1 1) tape))) 3 ∷ gets 2 (ballot 1 3) (Accepted tape) 3 ∷ [])).shown
     ≡ shows (Note_began (ballot 1 3)) (sends 3 (ballot 1 3) Prepare 1 ∷ sends 3 (ballot 1 3) Prepare 2 ∷ [])
     ∷ shows (Note_proposed (ballot 1 3))
     (sends 3 (ballot 1 3) (Accept tape) 1 ∷ sends 3 (ballot 1 3) (Accept tape) 2
@@ -108,27 +109,27 @@ ThirdTakesOver =
 abbrev pub GreaterReportIsTaken : Type 0
 GreaterReportIsTaken =
     (own x y : Tape)
-    → ((run_of 7 5 3 (Offered 12 own 0 ∷ gets 1 (ballot 1 3) (Promise (Some (vote_for (ballot 1 1) x))) 3 ∷ gets 2 (ballot 1 3) (Promise (Some (vote_for (ballot 1 2) y))) 3 ∷ [])).row.vote
+    → ((run_of (sits 7 3 5) (Offered 12 own 0 ∷ gets 1 (ballot 1 3) (Promise (Some (vote_for (ballot 1 1) x))) 3 ∷ gets 2 (ballot 1 3) (Promise (Some (vote_for (ballot 1 2) y))) 3 ∷ [])).row.vote
     ≡ Some (vote_for (ballot 1 3) y))
-    × ((run_of 7 5 3 (Offered 12 own 0 ∷ gets 2 (ballot 1 3) (Promise (Some (vote_for (ballot 1 2) y))) 3 ∷ gets 1 (ballot 1 3) (Promise (Some (vote_for (ballot 1 1) x))) 3 ∷ [])).row.vote
+    × ((run_of (sits 7 3 5) (Offered 12 own 0 ∷ gets 2 (ballot 1 3) (Promise (Some (vote_for (ballot 1 2) y))) 3 ∷ gets 1 (ballot 1 3) (Promise (Some (vote_for (ballot 1 1) x))) 3 ∷ [])).row.vote
     ≡ Some (vote_for (ballot 1 3) y))
 
 -- of reports at one ballot 3 of 5 takes that of the least member, and of votes heard at one ballot its tape
 abbrev pub LeastMemberDecides : Type 0
 LeastMemberDecides =
     (own x y : Tape)
-    → ((run_of 7 5 3 (Offered 12 own 0 ∷ gets 1 (ballot 1 3) (Promise (Some (vote_for (ballot 1 1) x))) 3 ∷ gets 2 (ballot 1 3) (Promise (Some (vote_for (ballot 1 1) y))) 3 ∷ [])).row.vote
+    → ((run_of (sits 7 3 5) (Offered 12 own 0 ∷ gets 1 (ballot 1 3) (Promise (Some (vote_for (ballot 1 1) x))) 3 ∷ gets 2 (ballot 1 3) (Promise (Some (vote_for (ballot 1 1) y))) 3 ∷ [])).row.vote
     ≡ Some (vote_for (ballot 1 3) x))
-    × ((run_of 7 5 3 (Offered 12 own 0 ∷ gets 2 (ballot 1 3) (Promise (Some (vote_for (ballot 1 1) y))) 3 ∷ gets 1 (ballot 1 3) (Promise (Some (vote_for (ballot 1 1) x))) 3 ∷ [])).row.vote
+    × ((run_of (sits 7 3 5) (Offered 12 own 0 ∷ gets 2 (ballot 1 3) (Promise (Some (vote_for (ballot 1 1) y))) 3 ∷ gets 1 (ballot 1 3) (Promise (Some (vote_for (ballot 1 1) x))) 3 ∷ [])).row.vote
     ≡ Some (vote_for (ballot 1 3) x))
-    × (releases_of (run_of 7 3 3 (gets 2 (ballot 1 1) (Accepted y) 3 ∷ gets 1 (ballot 1 1) (Accepted x) 3 ∷ [])) ≡ None ∷ Some x ∷ [])
-    × (releases_of (run_of 7 3 3 (gets 1 (ballot 1 1) (Accepted x) 3 ∷ gets 2 (ballot 1 1) (Accepted y) 3 ∷ [])) ≡ None ∷ Some x ∷ [])
+    × (releases_of (run_of (sits 7 3 3) (gets 2 (ballot 1 1) (Accepted y) 3 ∷ gets 1 (ballot 1 1) (Accepted x) 3 ∷ [])) ≡ None ∷ Some x ∷ [])
+    × (releases_of (run_of (sits 7 3 3) (gets 1 (ballot 1 1) (Accepted x) 3 ∷ gets 2 (ballot 1 1) (Accepted y) 3 ∷ [])) ≡ None ∷ Some x ∷ [])
 
 -- 2 of 3 that voted at 1.1 reports that vote as it promises 1.3
 abbrev pub VoteIsReported : Type 0
 VoteIsReported =
     (tape : Tape)
-    → (run_of 7 3 2 (gets 1 (ballot 1 1) (Accept tape) 2 ∷ gets 3 (ballot 1 3) Prepare 2 ∷ [])).shown
+    → (run_of (sits 7 2 3) (gets 1 (ballot 1 1) (Accept tape) 2 ∷ gets 3 (ballot 1 3) Prepare 2 ∷ [])).shown
     ≡ shows (Note_voted (ballot 1 1)) (sends 2 (ballot 1 1) (Accepted tape) 1 ∷ sends 2 (ballot 1 1) (Accepted tape) 3 ∷ [])
     ∷ shows (Note_promised (ballot 1 3)) (sends 2 (ballot 1 3) (Promise (Some (vote_for (ballot 1 1) tape))) 3 ∷ []) ∷ []
 
@@ -136,15 +137,15 @@ VoteIsReported =
 abbrev pub PassedIsOvertaken : Type 0
 PassedIsOvertaken =
     (tape : Tape)
-    → (notes_of (run_of 7 3 1 (Offered 12 tape 0 ∷ gets 3 (ballot 1 3) Prepare 1 ∷ gets 2 (ballot 1 1) (Promise None) 1 ∷ []))
+    → (notes_of (run_of (sits 7 1 3) (Offered 12 tape 0 ∷ gets 3 (ballot 1 3) Prepare 1 ∷ gets 2 (ballot 1 1) (Promise None) 1 ∷ []))
     ≡ Note_began (ballot 1 1) ∷ Note_promised (ballot 1 3) ∷ Note_overtaken (ballot 1 1) ∷ [])
-    × (open_ballot 12 (run_of 7 3 1 (Offered 12 tape 0 ∷ gets 3 (ballot 1 3) Prepare 1 ∷ gets 2 (ballot 1 1) (Promise None) 1 ∷ [])).marks ≡ Some (ballot 1 1))
+    × (open_ballot 12 (run_of (sits 7 1 3) (Offered 12 tape 0 ∷ gets 3 (ballot 1 3) Prepare 1 ∷ gets 2 (ballot 1 1) (Promise None) 1 ∷ [])).marks ≡ Some (ballot 1 1))
 
 -- 2 of 3 that promised 1.3 answers a Prepare and an Accept of 1.1 with a Nack, and a Prepare of 1.3 again with nothing
 abbrev pub LowerIsNacked : Type 0
 LowerIsNacked =
     (tape : Tape)
-    → (run_of 7 3 2 (gets 3 (ballot 1 3) Prepare 2 ∷ gets 1 (ballot 1 1) Prepare 2 ∷ gets 1 (ballot 1 1) (Accept tape) 2 ∷ gets 3 (ballot 1 3) Prepare 2 ∷ [])).shown
+    → (run_of (sits 7 2 3) (gets 3 (ballot 1 3) Prepare 2 ∷ gets 1 (ballot 1 1) Prepare 2 ∷ gets 1 (ballot 1 1) (Accept tape) 2 ∷ gets 3 (ballot 1 3) Prepare 2 ∷ [])).shown
     ≡ shows (Note_promised (ballot 1 3)) (sends 2 (ballot 1 3) (Promise None) 3 ∷ [])
     ∷ shows (Note_nacked (ballot 1 3)) (sends 2 (ballot 1 1) (Nack (ballot 1 3)) 1 ∷ [])
     ∷ shows (Note_nacked (ballot 1 3)) (sends 2 (ballot 1 1) (Nack (ballot 1 3)) 1 ∷ [])
@@ -154,39 +155,39 @@ LowerIsNacked =
 abbrev pub FallsDueAbove : Type 0
 FallsDueAbove =
     (tape : Tape)
-    → notes_of (run_of 7 3 1 (Offered 12 tape 0 ∷ gets 2 (ballot 1 1) (Nack (ballot 6 2)) 1 ∷ Came_due 12 289 ∷ Came_due 12 290 ∷ []))
+    → notes_of (run_of (sits 7 1 3) (Offered 12 tape 0 ∷ gets 2 (ballot 1 1) (Nack (ballot 6 2)) 1 ∷ Came_due 12 289 ∷ Came_due 12 290 ∷ []))
     ≡ Note_began (ballot 1 1) ∷ Note_denied (ballot 6 2) ∷ Note_idle ∷ Note_began (ballot 7 1) ∷ []
 
 -- 1 of 3 that starts with a promise of 1.1 begins above it
 abbrev pub BeginsAbovePromise : Type 0
 BeginsAbovePromise =
     (tape : Tape)
-    → (run_from 7 3 1 (raised blank (ballot 1 1)) (Offered 12 tape 0 ∷ [])).shown
+    → (run_from (sits 7 1 3) (raised blank (ballot 1 1)) (Offered 12 tape 0 ∷ [])).shown
     ≡ shows (Note_began (ballot 2 1)) (sends 1 (ballot 2 1) Prepare 2 ∷ sends 1 (ballot 2 1) Prepare 3 ∷ []) ∷ []
 
 -- 1 of 3 that promised the last round has no turn for an offer
 abbrev pub LastRoundIsSpent : Type 0
-LastRoundIsSpent = (tape : Tape) → turn 7 3 1 [] (raised blank (ballot 4294967295 2)) (Offered 12 tape 0) ≡ None
+LastRoundIsSpent = (tape : Tape) → turn (sits 7 1 3) [] (raised blank (ballot 4294967295 2)) (Offered 12 tape 0) ≡ None
 
 -- votes of two ballots aren't added up at 3 of 3, and a later vote of a lesser ballot changes nothing
 abbrev pub BallotsStandApart : Type 0
 BallotsStandApart =
     (x y : Tape)
-    → releases_of (run_of 7 3 3 (gets 2 (ballot 1 1) (Accepted x) 3 ∷ gets 1 (ballot 1 2) (Accepted y) 3 ∷ gets 1 (ballot 1 1) (Accepted x) 3 ∷ gets 2 (ballot 1 2) (Accepted y) 3 ∷ []))
+    → releases_of (run_of (sits 7 3 3) (gets 2 (ballot 1 1) (Accepted x) 3 ∷ gets 1 (ballot 1 2) (Accepted y) 3 ∷ gets 1 (ballot 1 1) (Accepted x) 3 ∷ gets 2 (ballot 1 2) (Accepted y) 3 ∷ []))
     ≡ None ∷ None ∷ None ∷ Some y ∷ []
 
 -- one member's vote that comes three times counts once at 3 of 3
 abbrev pub RepeatedVoteCountsOnce : Type 0
 RepeatedVoteCountsOnce =
     (tape : Tape)
-    → (run_of 7 3 3 (gets 1 (ballot 1 1) (Accepted tape) 3 ∷ gets 1 (ballot 1 1) (Accepted tape) 3 ∷ gets 1 (ballot 1 1) (Accepted tape) 3 ∷ [])).shown
+    → (run_of (sits 7 3 3) (gets 1 (ballot 1 1) (Accepted tape) 3 ∷ gets 1 (ballot 1 1) (Accepted tape) 3 ∷ gets 1 (ballot 1 1) (Accepted tape) 3 ∷ [])).shown
     ≡ shows (Note_heard (ballot 1 1)) [] ∷ shows (Note_heard (ballot 1 1)) [] ∷ shows (Note_heard (ballot 1 1)) [] ∷ []
 
 -- of two Accepts at one ballot the first stands at 2 of 3, and is what it votes again
 abbrev pub FirstAcceptStands : Type 0
 FirstAcceptStands =
     (x y : Tape)
-    → (run_of 7 3 2 (gets 1 (ballot 1 1) (Accept x) 2 ∷ gets 1 (ballot 1 1) (Accept y) 2 ∷ [])).shown
+    → (run_of (sits 7 2 3) (gets 1 (ballot 1 1) (Accept x) 2 ∷ gets 1 (ballot 1 1) (Accept y) 2 ∷ [])).shown
     ≡ shows (Note_voted (ballot 1 1)) (sends 2 (ballot 1 1) (Accepted x) 1 ∷ sends 2 (ballot 1 1) (Accepted x) 3 ∷ [])
     ∷ shows (Note_voted_again (ballot 1 1)) (sends 2 (ballot 1 1) (Accepted x) 1 ∷ sends 2 (ballot 1 1) (Accepted x) 3 ∷ []) ∷ []
 
@@ -194,7 +195,7 @@ FirstAcceptStands =
 abbrev pub ReleasedIsSettled : Type 0
 ReleasedIsSettled =
     (tape : Tape)
-    → notes_of (run_of 7 3 3 (gets 1 (ballot 1 1) (Accepted tape) 3 ∷ gets 2 (ballot 1 1) (Accepted tape) 3 ∷ gets 1 (ballot 1 1) (Accepted tape) 3 ∷ []))
+    → notes_of (run_of (sits 7 3 3) (gets 1 (ballot 1 1) (Accepted tape) 3 ∷ gets 2 (ballot 1 1) (Accepted tape) 3 ∷ gets 1 (ballot 1 1) (Accepted tape) 3 ∷ []))
     ≡ Note_heard (ballot 1 1) ∷ Note_heard (ballot 1 1) ∷ Note_settled ∷ []
 
 -- the due moments 290, 580 and on, this many
@@ -210,9 +211,9 @@ begins_at n = shows (Note_began (ballot n 1)) (sends 1 (ballot n 1) Prepare 2 �
 abbrev pub GivesUp : Type 0
 GivesUp =
     (tape : Tape)
-    → ((run_of 7 2 1 (Offered 12 tape 0 ∷ dues 32)).shown ≡ (run_of 7 2 1 (Offered 12 tape 0 ∷ dues 31)).shown ++ shows (Note_gave_up (ballot 32 1)) [] ∷ [])
-    × ((run_of 7 2 1 (Offered 12 tape 0 ∷ dues 31)).shown ≡ (run_of 7 2 1 (Offered 12 tape 0 ∷ dues 30)).shown ++ begins_at 32 ∷ [])
-    × (open_ballot 12 (run_of 7 2 1 (Offered 12 tape 0 ∷ dues 32)).marks ≡ None)
+    → ((run_of (sits 7 1 2) (Offered 12 tape 0 ∷ dues 32)).shown ≡ (run_of (sits 7 1 2) (Offered 12 tape 0 ∷ dues 31)).shown ++ shows (Note_gave_up (ballot 32 1)) [] ∷ [])
+    × ((run_of (sits 7 1 2) (Offered 12 tape 0 ∷ dues 31)).shown ≡ (run_of (sits 7 1 2) (Offered 12 tape 0 ∷ dues 30)).shown ++ begins_at 32 ∷ [])
+    × (open_ballot 12 (run_of (sits 7 1 2) (Offered 12 tape 0 ∷ dues 32)).marks ≡ None)
 
 -- where a station stands with the rows of all its numbers, and what it has shown so far, the first first
 pub record Station : Type 0 where
@@ -230,20 +231,20 @@ took n s None = s
 took n s (Some t) = record { marks = t.marks; rows = row_at n t.row s.rows; shown = s.shown ++ record { note = t.note; out = t.out; release = t.release } ∷ [] }
 
 -- the station after these events too, the first first, each about a number of its own
-abbrev pub takes_on : ℕ → ℕ → ℕ → Station → List Event → Station
-takes_on k c m s [] = s
-takes_on k c m s (e ∷ es) = takes_on k c m (took (number_of e) s (turn k c m s.marks (s.rows (number_of e)) e)) es
+abbrev pub takes_on : Seat → Station → List Event → Station
+takes_on seat s [] = s
+takes_on seat s (e ∷ es) = takes_on seat (took (number_of e) s (turn seat s.marks (s.rows (number_of e)) e)) es
 
 -- the notes of a station that starts with blank rows, the first first
-abbrev pub notes_over : ℕ → ℕ → ℕ → List Event → List Note
-notes_over k c m es = map (λ (s : Shown). s.note) (takes_on k c m (record { marks = []; rows = λ n. blank; shown = [] }) es).shown
+abbrev pub notes_over : Seat → List Event → List Note
+notes_over seat es = map (λ (s : Shown). s.note) (takes_on seat (record { marks = []; rows = λ n. blank; shown = [] }) es).shown
 
 -- a search of 1 of 3 is denied by 6.2 and then finds nothing, which closes it. The offer after it begins anew:
 -- at its due moment it is denied by nothing, so it goes on above the row's own promise of 2.1 and not above 6.2
 abbrev pub ClosedIsForgotten : Type 0
 ClosedIsForgotten =
     (tape : Tape)
-    → notes_of (run_of 7 3 1 (Sought 12 0 ∷ gets 2 (ballot 1 1) (Nack (ballot 6 2)) 1 ∷ gets 3 (ballot 1 1) (Promise None) 1 ∷ Offered 12 tape 0 ∷ Came_due 12 290 ∷ []))
+    → notes_of (run_of (sits 7 1 3) (Sought 12 0 ∷ gets 2 (ballot 1 1) (Nack (ballot 6 2)) 1 ∷ gets 3 (ballot 1 1) (Promise None) 1 ∷ Offered 12 tape 0 ∷ Came_due 12 290 ∷ []))
     ≡ Note_began (ballot 1 1) ∷ Note_denied (ballot 6 2) ∷ Note_nothing (ballot 1 1) ∷ Note_began (ballot 2 1) ∷ Note_began (ballot 3 1) ∷ []
 
 -- 1 of 3 seeks 13 while it offers a tape for 12. As 13 is closed, 12 stays open and denied by 6.2, so it goes on above 6.2;
@@ -251,11 +252,11 @@ ClosedIsForgotten =
 abbrev pub NumbersStandApart : Type 0
 NumbersStandApart =
     (x y : Tape)
-    → notes_over 7 3 1 (
+    → notes_over (sits 7 1 3) (
     Sought 13 0 ∷ Offered 12 x 0 ∷ gets 2 (ballot 1 1) (Nack (ballot 6 2)) 1
-    ∷ Arrived (packet_to 7 2 13 (ballot 1 1) (Promise None) 1) 0 ∷ Came_due 13 290 ∷ Came_due 12 290
-    ∷ Arrived (packet_to 7 2 13 (ballot 1 2) (Accepted y) 1) 300 ∷ Arrived (packet_to 7 3 13 (ballot 1 2) (Accepted y) 1) 300
-    ∷ Arrived (packet_to 7 3 13 (ballot 1 2) (Accepted y) 1) 300 ∷ Came_due 12 580 ∷ []
+    ∷ Arrived (packet_to (sits 7 2 3) 13 (ballot 1 1) (Promise None) 1) 0 ∷ Came_due 13 290 ∷ Came_due 12 290
+    ∷ Arrived (packet_to (sits 7 2 3) 13 (ballot 1 2) (Accepted y) 1) 300 ∷ Arrived (packet_to (sits 7 3 3) 13 (ballot 1 2) (Accepted y) 1) 300
+    ∷ Arrived (packet_to (sits 7 3 3) 13 (ballot 1 2) (Accepted y) 1) 300 ∷ Came_due 12 580 ∷ []
     )
     ≡ Note_began (ballot 1 1) ∷ Note_began (ballot 1 1) ∷ Note_denied (ballot 6 2)
     ∷ Note_nothing (ballot 1 1) ∷ Note_idle ∷ Note_began (ballot 7 1)
@@ -265,15 +266,15 @@ NumbersStandApart =
 abbrev pub OfferedAfterGivingUp : Type 0
 OfferedAfterGivingUp =
     (tape : Tape)
-    → notes_of (run_of 7 2 1 ((Offered 12 tape 0 ∷ dues 32) ++ Offered 12 tape 9280 ∷ Came_due 12 9570 ∷ []))
-    ≡ notes_of (run_of 7 2 1 (Offered 12 tape 0 ∷ dues 32)) ++ Note_began (ballot 33 1) ∷ Note_began (ballot 34 1) ∷ []
+    → notes_of (run_of (sits 7 1 2) ((Offered 12 tape 0 ∷ dues 32) ++ Offered 12 tape 9280 ∷ Came_due 12 9570 ∷ []))
+    ≡ notes_of (run_of (sits 7 1 2) (Offered 12 tape 0 ∷ dues 32)) ++ Note_began (ballot 33 1) ∷ Note_began (ballot 34 1) ∷ []
 
 -- 1 of 3 that promised the last round but one begins the last, gives up as that falls due, and has no turn for an offer then;
 -- one that is denied by the last round gives up at once
 abbrev pub LastRoundIsBegun : Type 0
 LastRoundIsBegun =
     (tape : Tape)
-    → (notes_of (run_from 7 3 1 (raised blank (ballot 4294967294 2)) (Offered 12 tape 0 ∷ Came_due 12 290 ∷ Offered 12 tape 300 ∷ []))
+    → (notes_of (run_from (sits 7 1 3) (raised blank (ballot 4294967294 2)) (Offered 12 tape 0 ∷ Came_due 12 290 ∷ Offered 12 tape 300 ∷ []))
     ≡ Note_began (ballot 4294967295 1) ∷ Note_gave_up (ballot 4294967295 1) ∷ [])
-    × (notes_of (run_of 7 3 1 (Offered 12 tape 0 ∷ gets 2 (ballot 1 1) (Nack (ballot 4294967295 2)) 1 ∷ Came_due 12 290 ∷ []))
+    × (notes_of (run_of (sits 7 1 3) (Offered 12 tape 0 ∷ gets 2 (ballot 1 1) (Nack (ballot 4294967295 2)) 1 ∷ Came_due 12 290 ∷ []))
     ≡ Note_began (ballot 1 1) ∷ Note_denied (ballot 4294967295 2) ∷ Note_gave_up (ballot 1 1) ∷ [])

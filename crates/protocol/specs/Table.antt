@@ -1,6 +1,7 @@
 -- The table of a station's turn, one constructor a line: which turns it may take at an event.
 -- The turn that is computed is one of them; agreement is proved from this table.
 use Rattle.std.specs.Prelude.{◌≡◌, ℕ, ◌<◌, ◌≤◌, ◌⊎◌, List, [], ◌∷◌, ◌++◌, Option, Some, None, MatchOption}
+use Rattle.protocol.specs.Seats.{Seat}
 use Rattle.protocol.specs.Ballots.{Ballot, IsBelow, IsNoneOrBelow, IsNoneOrAtMost, IsMember, next, Majority}
 use Rattle.protocol.specs.Rows.{Tape, Vote, vote_for, Row, raised, voted}
 use Rattle.protocol.specs.Packets.{Packet, Body, Prepare, Promise, Accept, Accepted, Nack}
@@ -20,31 +21,31 @@ pub data Hears (c n j : ℕ) (b : Ballot) (t : Tape) (marks : List Mark) (releas
       (a : Ballot) (u : Tape) → ¬ IsReleased marks n → Ripe c (Heard n j b t ∷ marks) n a u
       → release ≡ Some u → after ≡ Released n u ∷ Heard n j b t ∷ marks → Hears c n j b t marks release after
 
--- station m proposes at b, with what its proposal has: its own tape, its own report and what came since it began
-pub data Proposes (k c m n : ℕ) (b : Ballot) (now : ℕ) (own : Option Tape) (report : Option Vote) (since : List Mark) (row : Row) (marks : List Mark) (t : Turn) : Type 0 where
+-- the station proposes at b, with what its proposal has: its own tape, its own report and what came since it began
+pub data Proposes (s : Seat) (n : ℕ) (b : Ballot) (now : ℕ) (own : Option Tape) (report : Option Vote) (since : List Mark) (row : Row) (marks : List Mark) (t : Turn) : Type 0 where
   nothing :
-      Picks m n b own report since None
-      → t ≡ stays row (Closed n ∷ marks) (Note_nothing b) → Proposes k c m n b now own report since row marks t
+      Picks s.me n b own report since None
+      → t ≡ stays row (Closed n ∷ marks) (Note_nothing b) → Proposes s n b now own report since row marks t
   proposes :
       (tape : Tape) (release : Option Tape) (after : List Mark)
-      → Picks m n b own report since (Some tape)
-      → Hears c n m b tape (Proposed n b now ∷ marks) release after
-      → t ≡ record { row = voted b tape; marks = after; out = to_others k c m n b (Accept tape) ++ to_others k c m n b (Accepted tape); release = release; note = Note_proposed b }
-      → Proposes k c m n b now own report since row marks t
+      → Picks s.me n b own report since (Some tape)
+      → Hears s.members n s.me b tape (Proposed n b now ∷ marks) release after
+      → t ≡ record { row = voted b tape; marks = after; out = to_others s n b (Accept tape) ++ to_others s n b (Accepted tape); release = release; note = Note_proposed b }
+      → Proposes s n b now own report since row marks t
 
--- station m begins ballot b
-pub data Begins (k c m n : ℕ) (b : Ballot) (own : Option Tape) (now : ℕ) (row : Row) (marks : List Mark) (t : Turn) : Type 0 where
+-- the station begins ballot b
+pub data Begins (s : Seat) (n : ℕ) (b : Ballot) (own : Option Tape) (now : ℕ) (row : Row) (marks : List Mark) (t : Turn) : Type 0 where
   asks :
-      1 < c
-      → t ≡ record { row = raised row b; marks = Began n b own row.vote now ∷ marks; out = to_others k c m n b Prepare; release = None; note = Note_began b }
-      → Begins k c m n b own now row marks t
+      1 < s.members
+      → t ≡ record { row = raised row b; marks = Began n b own row.vote now ∷ marks; out = to_others s n b Prepare; release = None; note = Note_began b }
+      → Begins s n b own now row marks t
   alone :
-      c ≡ 1 → Proposes k c m n b now own row.vote [] (raised row b) (Began n b own row.vote now ∷ marks) t
-      → Begins k c m n b own now row marks t
+      s.members ≡ 1 → Proposes s n b now own row.vote [] (raised row b) (Began n b own row.vote now ∷ marks) t
+      → Begins s n b own now row marks t
 
 -- an offer or a search
-pub data StartTurn (k c m n : ℕ) (own : Option Tape) (now : ℕ) (marks : List Mark) (row : Row) (t : Turn) : Type 0 where
-  starts : (b : Ballot) → next row.promised m ≡ Some b → Begins k c m n b own now row marks t → StartTurn k c m n own now marks row t
+pub data StartTurn (s : Seat) (n : ℕ) (own : Option Tape) (now : ℕ) (marks : List Mark) (row : Row) (t : Turn) : Type 0 where
+  starts : (b : Ballot) → next row.promised s.me ≡ Some b → Begins s n b own now row marks t → StartTurn s n own now marks row t
 
 -- the greater of two ballots that may be none
 abbrev pub IsGreater : Option Ballot → Option Ballot → Option Ballot → Type 0
@@ -52,79 +53,79 @@ IsGreater p q None = (p ≡ None) × (q ≡ None)
 IsGreater p q (Some s) = (p ≡ Some s) × IsNoneOrAtMost q s ⊎ (q ≡ Some s) × IsNoneOrAtMost p s
 
 -- the due moment of n
-pub data DueTurn (k c m n now : ℕ) (marks : List Mark) (row : Row) (t : Turn) : Type 0 where
+pub data DueTurn (s : Seat) (n now : ℕ) (marks : List Mark) (row : Row) (t : Turn) : Type 0 where
   is_idle :
-      ((b : Ballot) (own : Option Tape) → ¬ IsDue m marks now n b own)
-      → t ≡ stays row marks Note_idle → DueTurn k c m n now marks row t
+      ((b : Ballot) (own : Option Tape) → ¬ IsDue s.me marks now n b own)
+      → t ≡ stays row marks Note_idle → DueTurn s n now marks row t
   gives_up :
-      (b : Ballot) (own : Option Tape) (denied seen : Option Ballot) → IsDue m marks now n b own
+      (b : Ballot) (own : Option Tape) (denied seen : Option Ballot) → IsDue s.me marks now n b own
       → GreatestDenied marks n denied → IsGreater row.promised denied seen
-      → (32 ≤ begun n marks) ⊎ (next seen m ≡ None)
-      → t ≡ stays row (Closed n ∷ marks) (Note_gave_up b) → DueTurn k c m n now marks row t
+      → (32 ≤ begun n marks) ⊎ (next seen s.me ≡ None)
+      → t ≡ stays row (Closed n ∷ marks) (Note_gave_up b) → DueTurn s n now marks row t
   begins_anew :
-      (b : Ballot) (own : Option Tape) (denied seen : Option Ballot) (a : Ballot) → IsDue m marks now n b own
+      (b : Ballot) (own : Option Tape) (denied seen : Option Ballot) (a : Ballot) → IsDue s.me marks now n b own
       → GreatestDenied marks n denied → IsGreater row.promised denied seen
-      → begun n marks < 32 → next seen m ≡ Some a
-      → Begins k c m n a own now row marks t → DueTurn k c m n now marks row t
+      → begun n marks < 32 → next seen s.me ≡ Some a
+      → Begins s n a own now row marks t → DueTurn s n now marks row t
 
 -- a Prepare
-pub data PrepareTurn (k m : ℕ) (marks : List Mark) (row : Row) (p : Packet) (t : Turn) : Type 0 where
+pub data PrepareTurn (s : Seat) (marks : List Mark) (row : Row) (p : Packet) (t : Turn) : Type 0 where
   promises :
       IsNoneOrBelow row.promised p.ballot
-      → t ≡ record { row = raised row p.ballot; marks = marks; out = packet_to k m p.number p.ballot (Promise row.vote) p.from ∷ []; release = None; note = Note_promised p.ballot }
-      → PrepareTurn k m marks row p t
-  is_silent : row.promised ≡ Some p.ballot → t ≡ stays row marks Note_silent → PrepareTurn k m marks row p t
+      → t ≡ record { row = raised row p.ballot; marks = marks; out = packet_to s p.number p.ballot (Promise row.vote) p.from ∷ []; release = None; note = Note_promised p.ballot }
+      → PrepareTurn s marks row p t
+  is_silent : row.promised ≡ Some p.ballot → t ≡ stays row marks Note_silent → PrepareTurn s marks row p t
   nacks :
       (a : Ballot) → row.promised ≡ Some a → IsBelow p.ballot a
-      → t ≡ record { row = row; marks = marks; out = packet_to k m p.number p.ballot (Nack a) p.from ∷ []; release = None; note = Note_nacked a }
-      → PrepareTurn k m marks row p t
+      → t ≡ record { row = row; marks = marks; out = packet_to s p.number p.ballot (Nack a) p.from ∷ []; release = None; note = Note_nacked a }
+      → PrepareTurn s marks row p t
 
 -- the row has a vote for the tape at b
 abbrev pub VotedAt : Row → Ballot → Tape → Type 0
 VotedAt row b tape = row.vote ≡ Some (vote_for b tape)
 
 -- an Accept
-pub data AcceptTurn (k c m : ℕ) (marks : List Mark) (row : Row) (p : Packet) (tape : Tape) (t : Turn) : Type 0 where
+pub data AcceptTurn (s : Seat) (marks : List Mark) (row : Row) (p : Packet) (tape : Tape) (t : Turn) : Type 0 where
   nacks :
       (a : Ballot) → row.promised ≡ Some a → IsBelow p.ballot a
-      → t ≡ record { row = row; marks = marks; out = packet_to k m p.number p.ballot (Nack a) p.from ∷ []; release = None; note = Note_nacked a }
-      → AcceptTurn k c m marks row p tape t
+      → t ≡ record { row = row; marks = marks; out = packet_to s p.number p.ballot (Nack a) p.from ∷ []; release = None; note = Note_nacked a }
+      → AcceptTurn s marks row p tape t
   votes_again :
       (own : Tape) (release : Option Tape) (after : List Mark)
       → IsNoneOrAtMost row.promised p.ballot → VotedAt row p.ballot own
-      → Hears c p.number m p.ballot own marks release after
-      → t ≡ record { row = row; marks = after; out = to_others k c m p.number p.ballot (Accepted own); release = release; note = Note_voted_again p.ballot }
-      → AcceptTurn k c m marks row p tape t
+      → Hears s.members p.number s.me p.ballot own marks release after
+      → t ≡ record { row = row; marks = after; out = to_others s p.number p.ballot (Accepted own); release = release; note = Note_voted_again p.ballot }
+      → AcceptTurn s marks row p tape t
   votes :
       (release : Option Tape) (after : List Mark)
       → IsNoneOrAtMost row.promised p.ballot → ((own : Tape) → ¬ VotedAt row p.ballot own)
-      → Hears c p.number m p.ballot tape marks release after
-      → t ≡ record { row = voted p.ballot tape; marks = after; out = to_others k c m p.number p.ballot (Accepted tape); release = release; note = Note_voted p.ballot }
-      → AcceptTurn k c m marks row p tape t
+      → Hears s.members p.number s.me p.ballot tape marks release after
+      → t ≡ record { row = voted p.ballot tape; marks = after; out = to_others s p.number p.ballot (Accepted tape); release = release; note = Note_voted p.ballot }
+      → AcceptTurn s marks row p tape t
 
 -- a Promise
-pub data PromiseTurn (k c m : ℕ) (now : ℕ) (marks : List Mark) (row : Row) (p : Packet) (r : Option Vote) (t : Turn) : Type 0 where
+pub data PromiseTurn (s : Seat) (now : ℕ) (marks : List Mark) (row : Row) (p : Packet) (r : Option Vote) (t : Turn) : Type 0 where
   is_stale :
       ((own : Option Tape) (report : Option Vote) (since : List Mark) → ¬ Gathers marks p.number p.ballot own report since)
-      → t ≡ stays row marks Note_stale → PromiseTurn k c m now marks row p r t
+      → t ≡ stays row marks Note_stale → PromiseTurn s now marks row p r t
   is_overtaken :
       (own : Option Tape) (report : Option Vote) (since : List Mark) → Gathers marks p.number p.ballot own report since
       → ¬ (row.promised ≡ Some p.ballot)
-      → t ≡ stays row marks (Note_overtaken p.ballot) → PromiseTurn k c m now marks row p r t
+      → t ≡ stays row marks (Note_overtaken p.ballot) → PromiseTurn s now marks row p r t
   is_repeated :
-      (own : Option Tape) (report : Option Vote) (since : List Mark) (s : Option Vote) → Gathers marks p.number p.ballot own report since
-      → row.promised ≡ Some p.ballot → IsCounted m p.number p.ballot report since p.from s
-      → t ≡ stays row marks Note_repeated → PromiseTurn k c m now marks row p r t
+      (own : Option Tape) (report : Option Vote) (since : List Mark) (v : Option Vote) → Gathers marks p.number p.ballot own report since
+      → row.promised ≡ Some p.ballot → IsCounted s.me p.number p.ballot report since p.from v
+      → t ≡ stays row marks Note_repeated → PromiseTurn s now marks row p r t
   counts :
       (own : Option Tape) (report : Option Vote) (since : List Mark) → Gathers marks p.number p.ballot own report since
-      → row.promised ≡ Some p.ballot → ((s : Option Vote) → ¬ IsCounted m p.number p.ballot report since p.from s)
-      → ¬ Majority c (λ j. (s : Option Vote) × IsCounted m p.number p.ballot report (Promised p.number p.from p.ballot r ∷ since) j s)
-      → t ≡ stays row (Promised p.number p.from p.ballot r ∷ marks) (Note_counted p.ballot) → PromiseTurn k c m now marks row p r t
+      → row.promised ≡ Some p.ballot → ((v : Option Vote) → ¬ IsCounted s.me p.number p.ballot report since p.from v)
+      → ¬ Majority s.members (λ j. (v : Option Vote) × IsCounted s.me p.number p.ballot report (Promised p.number p.from p.ballot r ∷ since) j v)
+      → t ≡ stays row (Promised p.number p.from p.ballot r ∷ marks) (Note_counted p.ballot) → PromiseTurn s now marks row p r t
   completes :
       (own : Option Tape) (report : Option Vote) (since : List Mark) → Gathers marks p.number p.ballot own report since
-      → row.promised ≡ Some p.ballot → ((s : Option Vote) → ¬ IsCounted m p.number p.ballot report since p.from s)
-      → Majority c (λ j. (s : Option Vote) × IsCounted m p.number p.ballot report (Promised p.number p.from p.ballot r ∷ since) j s)
-      → Proposes k c m p.number p.ballot now own report (Promised p.number p.from p.ballot r ∷ since) row (Promised p.number p.from p.ballot r ∷ marks) t → PromiseTurn k c m now marks row p r t
+      → row.promised ≡ Some p.ballot → ((v : Option Vote) → ¬ IsCounted s.me p.number p.ballot report since p.from v)
+      → Majority s.members (λ j. (v : Option Vote) × IsCounted s.me p.number p.ballot report (Promised p.number p.from p.ballot r ∷ since) j v)
+      → Proposes s p.number p.ballot now own report (Promised p.number p.from p.ballot r ∷ since) row (Promised p.number p.from p.ballot r ∷ marks) t → PromiseTurn s now marks row p r t
 
 -- a Nack
 pub data NackTurn (marks : List Mark) (row : Row) (p : Packet) (a : Ballot) (t : Turn) : Type 0 where
@@ -136,28 +137,28 @@ pub data NackTurn (marks : List Mark) (row : Row) (p : Packet) (a : Ballot) (t :
       → t ≡ stays row (Denied p.number a ∷ marks) (Note_denied a) → NackTurn marks row p a t
 
 -- an Accepted
-pub data AcceptedTurn (c : ℕ) (marks : List Mark) (row : Row) (p : Packet) (tape : Tape) (t : Turn) : Type 0 where
-  settles : IsReleased marks p.number → t ≡ stays row marks Note_settled → AcceptedTurn c marks row p tape t
+pub data AcceptedTurn (s : Seat) (marks : List Mark) (row : Row) (p : Packet) (tape : Tape) (t : Turn) : Type 0 where
+  settles : IsReleased marks p.number → t ≡ stays row marks Note_settled → AcceptedTurn s marks row p tape t
   hears :
       (release : Option Tape) (after : List Mark) → ¬ IsReleased marks p.number
-      → Hears c p.number p.from p.ballot tape marks release after
+      → Hears s.members p.number p.from p.ballot tape marks release after
       → t ≡ record { row = row; marks = after; out = []; release = release; note = Note_heard p.ballot }
-      → AcceptedTurn c marks row p tape t
+      → AcceptedTurn s marks row p tape t
 
 -- a packet, by its body
-abbrev pub AnswerTurn : ℕ → ℕ → ℕ → ℕ → List Mark → Row → Packet → Body → Turn → Type 0
-AnswerTurn k c m now marks row p Prepare t = PrepareTurn k m marks row p t
-AnswerTurn k c m now marks row p (Promise r) t = PromiseTurn k c m now marks row p r t
-AnswerTurn k c m now marks row p (Accept tape) t = AcceptTurn k c m marks row p tape t
-AnswerTurn k c m now marks row p (Accepted tape) t = AcceptedTurn c marks row p tape t
-AnswerTurn k c m now marks row p (Nack a) t = NackTurn marks row p a t
+abbrev pub AnswerTurn : Seat → ℕ → List Mark → Row → Packet → Body → Turn → Type 0
+AnswerTurn s now marks row p Prepare t = PrepareTurn s marks row p t
+AnswerTurn s now marks row p (Promise r) t = PromiseTurn s now marks row p r t
+AnswerTurn s now marks row p (Accept tape) t = AcceptTurn s marks row p tape t
+AnswerTurn s now marks row p (Accepted tape) t = AcceptedTurn s marks row p tape t
+AnswerTurn s now marks row p (Nack a) t = NackTurn marks row p a t
 
--- station m of the c of circuit k, with these marks and this row of the event's number, takes turn t
-abbrev pub IsTurn : ℕ → ℕ → ℕ → List Mark → Row → Event → Turn → Type 0
-IsTurn k c m marks row (Offered n tape now) t = StartTurn k c m n (Some tape) now marks row t
-IsTurn k c m marks row (Sought n now) t = StartTurn k c m n None now marks row t
-IsTurn k c m marks row (Came_due n now) t = DueTurn k c m n now marks row t
-IsTurn k c m marks row (Arrived p now) t = AnswerTurn k c m now marks row p p.body t
+-- the station of this seat, with these marks and this row of the event's number, takes turn t
+abbrev pub IsTurn : Seat → List Mark → Row → Event → Turn → Type 0
+IsTurn s marks row (Offered n tape now) t = StartTurn s n (Some tape) now marks row t
+IsTurn s marks row (Sought n now) t = StartTurn s n None now marks row t
+IsTurn s marks row (Came_due n now) t = DueTurn s n now marks row t
+IsTurn s marks row (Arrived p now) t = AnswerTurn s now marks row p p.body t
 
 -- an offer or a search to which no ballot is left
 abbrev pub IsSpent : ℕ → Row → Event → Type 0
@@ -169,8 +170,8 @@ IsSpent m row (Arrived p now) = ⊥
 -- the turn that is computed is one that the table has, and there is none only where no ballot is left
 abbrev pub TurnsAreOfTheTable : Type 0
 TurnsAreOfTheTable =
-    (k c m : ℕ) (marks : List Mark) (row : Row) (e : Event) → IsMember c m
-    → MatchOption (turn k c m marks row e) (IsSpent m row e) (λ t. IsTurn k c m marks row e t)
+    (s : Seat) (marks : List Mark) (row : Row) (e : Event) → IsMember s.members s.me
+    → MatchOption (turn s marks row e) (IsSpent s.me row e) (λ t. IsTurn s marks row e t)
 
 -- the note on an acceptor's reply to a request at b
 abbrev pub note_on : Ballot → Reply → Note
@@ -181,30 +182,30 @@ note_on b Votes = Note_voted b
 note_on b Votes_again = Note_voted_again b
 
 -- a vote's tape, to all others
-abbrev pub tells_vote : ℕ → ℕ → ℕ → Packet → Option Vote → List Packet
-tells_vote k c m p None = []
-tells_vote k c m p (Some v) = to_others k c m p.number p.ballot (Accepted v.tape)
+abbrev pub tells_vote : Seat → Packet → Option Vote → List Packet
+tells_vote s p None = []
+tells_vote s p (Some v) = to_others s p.number p.ballot (Accepted v.tape)
 
 -- what goes out on an acceptor's reply to the request in p, with the vote of its row after it: to the sender the report in a Promise,
 -- or the promise that stands in the way in a Nack; to all others the tape that the row has a vote for
-abbrev pub out_on : ℕ → ℕ → ℕ → Packet → Option Vote → Reply → List Packet
-out_on k c m p vote (Promises report) = packet_to k m p.number p.ballot (Promise report) p.from ∷ []
-out_on k c m p vote (Nacks a) = packet_to k m p.number p.ballot (Nack a) p.from ∷ []
-out_on k c m p vote Says_nothing = []
-out_on k c m p vote Votes = tells_vote k c m p vote
-out_on k c m p vote Votes_again = tells_vote k c m p vote
+abbrev pub out_on : Seat → Packet → Option Vote → Reply → List Packet
+out_on s p vote (Promises report) = packet_to s p.number p.ballot (Promise report) p.from ∷ []
+out_on s p vote (Nacks a) = packet_to s p.number p.ballot (Nack a) p.from ∷ []
+out_on s p vote Says_nothing = []
+out_on s p vote Votes = tells_vote s p vote
+out_on s p vote Votes_again = tells_vote s p vote
 
 -- the turn on the request in p is what an acceptor with this row does: in the row that it leaves, in its note, and in what goes out
-abbrev pub IsAcceptors : ℕ → ℕ → ℕ → Row → Packet → Request → Turn → Type 0
-IsAcceptors k c m row p r t =
-    (t.row ≡ next_row row r) × (t.note ≡ note_on p.ballot (reply_of row r)) × (t.out ≡ out_on k c m p (next_row row r).vote (reply_of row r))
+abbrev pub IsAcceptors : Seat → Row → Packet → Request → Turn → Type 0
+IsAcceptors s row p r t =
+    (t.row ≡ next_row row r) × (t.note ≡ note_on p.ballot (reply_of row r)) × (t.out ≡ out_on s p (next_row row r).vote (reply_of row r))
 
 -- a station answers each Prepare and Accept as an acceptor with its row does
 abbrev pub TurnsAreAnAcceptors : Type 0
 TurnsAreAnAcceptors =
-    (k c m now : ℕ) (marks : List Mark) (row : Row) (p : Packet)
-    → IsAcceptors k c m row p (Prepares p.ballot) (packet_turn k c m now marks row p Prepare)
-    × ((tape : Tape) → IsAcceptors k c m row p (Accepts p.ballot tape) (packet_turn k c m now marks row p (Accept tape)))
+    (s : Seat) (now : ℕ) (marks : List Mark) (row : Row) (p : Packet)
+    → IsAcceptors s row p (Prepares p.ballot) (packet_turn s now marks row p Prepare)
+    × ((tape : Tape) → IsAcceptors s row p (Accepts p.ballot tape) (packet_turn s now marks row p (Accept tape)))
 
 -- a turn about n doesn't release it where it was released before; what was released stays so, and what the turn releases is so from then on
 pub record ReleasesOnce (marks : List Mark) (n : ℕ) (t : Turn) : Type 0 where
@@ -215,4 +216,4 @@ pub record ReleasesOnce (marks : List Mark) (n : ℕ) (t : Turn) : Type 0 where
 -- where a number was released since the start, no turn releases it again
 abbrev pub NumbersAreReleasedOnce : Type 0
 NumbersAreReleasedOnce =
-    (k c m : ℕ) (marks : List Mark) (row : Row) (e : Event) (t : Turn) → IsMember c m → turn k c m marks row e ≡ Some t → ReleasesOnce marks (number_of e) t
+    (s : Seat) (marks : List Mark) (row : Row) (e : Event) (t : Turn) → IsMember s.members s.me → turn s marks row e ≡ Some t → ReleasesOnce marks (number_of e) t

@@ -2,7 +2,7 @@
 use Rattle.std.specs.Prelude.{◌≡◌, ℕ, Some, None, Bool, true, false, if◌then◌else◌}
 use Rattle.protocol.specs.Turn.{Event, number_of, Turn, turn}
 use Rattle.protocol.specs.Refusals.{Call, refusal, event_of}
-use Rattle.protocol.specs.Circuit.{Circuit, State, Step, Outcome, Done, Refused, Torn_by_store, Torn_as_armed, Torn_by_memory, Restarted, Upgraded, Armed, Task, task_of, setup_of, StepsTo}
+use Rattle.protocol.specs.Circuit.{Circuit, State, Step, Outcome, Done, Refused, Torn_by_store, Torn_as_armed, Torn_by_memory, Restarted, Upgraded, Armed, Task, task_of, seat_at, setup_of, StepsTo}
 
 -- the step ended so by the member's store, of its own accord or as it was armed
 abbrev pub by_store : {D F : Type 0} → Outcome D F → Bool
@@ -27,7 +27,7 @@ StoreTearsTheUnrefused D G F =
 -- as saved it has the row of the turn, as unsaved the row before
 pub record WasArmed {D G F : Type 0} (z : Circuit D G F) (w after : State G F) (e : Event) (t : Task) : Type 0 where
   pub taken : Turn
-  pub is_turn : turn z.number z.count t.member (w.marks t.member) (w.rows t.member (number_of e)) e ≡ Some taken
+  pub is_turn : turn (seat_at z t.member) (w.marks t.member) (w.rows t.member (number_of e)) e ≡ Some taken
   pub saved : Bool
   pub armed : w.armed t.member ≡ Some saved
   pub row : after.rows t.member (number_of e) ≡ (if saved then taken.row else w.rows t.member (number_of e))

@@ -1,6 +1,7 @@
 -- The turn of a station, as a function: from what it took in, the row of the event's number and the event
 -- to the row that is saved, what it then has taken in, the packets that go out and the tape that is released.
 use Rattle.std.specs.Prelude.{ℕ, List, [], ◌∷◌, ◌++◌, Option, Some, None, Bool, false, ◌==◌, not, nat_le, filter, map, if◌then◌else◌}
+use Rattle.protocol.specs.Seats.{Seat}
 use Rattle.protocol.specs.Ballots.{Ballot, is_same, is_below, next, members, is_majority}
 use Rattle.protocol.specs.Rows.{Tape, Vote, Row, raised, voted}
 use Rattle.protocol.specs.Packets.{Packet, Body, Prepare, Promise, Accept, Accepted, Nack}
@@ -41,17 +42,17 @@ pub record Turn : Type 0 where
 abbrev pub stays : Row → List Mark → Note → Turn
 stays row marks note = record { row = row; marks = marks; out = []; release = None; note = note }
 
--- all members but m, in rising order
-abbrev pub others : ℕ → ℕ → List ℕ
-others c m = filter (λ k. not (k == m)) (members c)
+-- all members but the station's, in rising order
+abbrev pub others : Seat → List ℕ
+others s = filter (λ k. not (k == s.me)) (members s.members)
 
--- the packet of circuit k from a member to another
-abbrev pub packet_to : ℕ → ℕ → ℕ → Ballot → Body → ℕ → Packet
-packet_to k from n b body to = record { circuit = k; from = from; to = to; number = n; ballot = b; body = body }
+-- the station's packet to a member
+abbrev pub packet_to : Seat → ℕ → Ballot → Body → ℕ → Packet
+packet_to s n b body to = record { circuit = s.circuit; from = s.me; to = to; number = n; ballot = b; body = body }
 
 -- the packet to each of the others
-abbrev pub to_others : ℕ → ℕ → ℕ → ℕ → Ballot → Body → List Packet
-to_others k c m n b body = map (packet_to k m n b body) (others c m)
+abbrev pub to_others : Seat → ℕ → Ballot → Body → List Packet
+to_others s n b body = map (packet_to s n b body) (others s)
 
 -- the marks after a vote was heard, and what is released
 pub record Hearing : Type 0 where
@@ -74,22 +75,22 @@ abbrev pub after_hearing : Row → List Packet → Note → Hearing → Turn
 after_hearing row out note h = record { row = row; marks = h.marks; out = out; release = h.release; note = note }
 
 -- Lamport, phase 2 (a): the picked tape is voted for and proposed at b; where there is none, the proposal is closed
-abbrev pub propose : ℕ → ℕ → ℕ → ℕ → Ballot → ℕ → List Mark → Row → Option Tape → Turn
-propose k c m n b now marks row None = stays row (Closed n ∷ marks) (Note_nothing b)
-propose k c m n b now marks row (Some tape) =
-    after_hearing (voted b tape) (to_others k c m n b (Accept tape) ++ to_others k c m n b (Accepted tape)) (Note_proposed b) (hear c n m b tape (Proposed n b now ∷ marks))
+abbrev pub propose : Seat → ℕ → Ballot → ℕ → List Mark → Row → Option Tape → Turn
+propose s n b now marks row None = stays row (Closed n ∷ marks) (Note_nothing b)
+propose s n b now marks row (Some tape) =
+    after_hearing (voted b tape) (to_others s n b (Accept tape) ++ to_others s n b (Accepted tape)) (Note_proposed b) (hear s.members n s.me b tape (Proposed n b now ∷ marks))
 
 -- Lamport, phase 1 (a): the row is promised to b, and the others are asked; a member of one proposes at once
-abbrev pub begin : ℕ → ℕ → ℕ → ℕ → Ballot → Option Tape → ℕ → List Mark → Row → Turn
-begin k c m n b own now marks row =
-    if c == 1
-    then propose k c m n b now (Began n b own row.vote now ∷ marks) (raised row b) (pick own (record { member = m; report = row.vote } ∷ []))
-    else record { row = raised row b; marks = Began n b own row.vote now ∷ marks; out = to_others k c m n b Prepare; release = None; note = Note_began b }
+abbrev pub begin : Seat → ℕ → Ballot → Option Tape → ℕ → List Mark → Row → Turn
+begin s n b own now marks row =
+    if s.members == 1
+    then propose s n b now (Began n b own row.vote now ∷ marks) (raised row b) (pick own (record { member = s.me; report = row.vote } ∷ []))
+    else record { row = raised row b; marks = Began n b own row.vote now ∷ marks; out = to_others s n b Prepare; release = None; note = Note_began b }
 
 -- an offer or a search begins the next ballot; there is no turn where the rounds are spent
-abbrev pub start_turn : ℕ → ℕ → ℕ → ℕ → Option Tape → ℕ → List Mark → Row → Option Ballot → Option Turn
-start_turn k c m n own now marks row None = None
-start_turn k c m n own now marks row (Some b) = Some (begin k c m n b own now marks row)
+abbrev pub start_turn : Seat → ℕ → Option Tape → ℕ → List Mark → Row → Option Ballot → Option Turn
+start_turn s n own now marks row None = None
+start_turn s n own now marks row (Some b) = Some (begin s n b own now marks row)
 
 -- the greater of two ballots that may be none
 abbrev pub greater_ballot : Option Ballot → Option Ballot → Option Ballot
@@ -106,48 +107,48 @@ abbrev pub next_ballot : ℕ → ℕ → List Mark → Row → Option Ballot
 next_ballot m n marks row = if nat_le most_ballots (begun n marks) then None else next (greater_ballot row.promised (denied n marks)) m
 
 -- a proposal that is due begins anew, or gives up
-abbrev pub renew : ℕ → ℕ → ℕ → ℕ → ℕ → Opening → List Mark → Row → Option Ballot → Turn
-renew k c m n now p marks row None = stays row (Closed n ∷ marks) (Note_gave_up p.ballot)
-renew k c m n now p marks row (Some b) = begin k c m n b p.own now marks row
+abbrev pub renew : Seat → ℕ → ℕ → Opening → List Mark → Row → Option Ballot → Turn
+renew s n now p marks row None = stays row (Closed n ∷ marks) (Note_gave_up p.ballot)
+renew s n now p marks row (Some b) = begin s n b p.own now marks row
 
 -- the due moment of a number: idle where no proposal of it is open or it has not come
-abbrev pub due_turn : ℕ → ℕ → ℕ → ℕ → ℕ → List Mark → Row → Option Opening → Turn
-due_turn k c m n now marks row None = stays row marks Note_idle
-due_turn k c m n now marks row (Some p) =
-    if is_due m n now (since_began n marks) (Some p)
-    then renew k c m n now p marks row (next_ballot m n marks row)
+abbrev pub due_turn : Seat → ℕ → ℕ → List Mark → Row → Option Opening → Turn
+due_turn s n now marks row None = stays row marks Note_idle
+due_turn s n now marks row (Some p) =
+    if is_due s.me n now (since_began n marks) (Some p)
+    then renew s n now p marks row (next_ballot s.me n marks row)
     else stays row marks Note_idle
 
 -- a turn that answers the sender of a packet
-abbrev pub answer : ℕ → ℕ → List Mark → Row → Packet → Body → Note → Turn
-answer k m marks row p body note = record { row = row; marks = marks; out = packet_to k m p.number p.ballot body p.from ∷ []; release = None; note = note }
+abbrev pub answer : Seat → List Mark → Row → Packet → Body → Note → Turn
+answer s marks row p body note = record { row = row; marks = marks; out = packet_to s p.number p.ballot body p.from ∷ []; release = None; note = note }
 
 -- Lamport, phase 1 (b): a Prepare is promised where the row has no promise or a lower one, and isn't answered where it has an equal one;
 -- a higher one goes back in a Nack
-abbrev pub prepare_turn : ℕ → ℕ → List Mark → Row → Packet → Option Ballot → Turn
-prepare_turn k m marks row p None = answer k m marks (raised row p.ballot) p (Promise row.vote) (Note_promised p.ballot)
-prepare_turn k m marks row p (Some a) =
-    if is_below a p.ballot then answer k m marks (raised row p.ballot) p (Promise row.vote) (Note_promised p.ballot)
+abbrev pub prepare_turn : Seat → List Mark → Row → Packet → Option Ballot → Turn
+prepare_turn s marks row p None = answer s marks (raised row p.ballot) p (Promise row.vote) (Note_promised p.ballot)
+prepare_turn s marks row p (Some a) =
+    if is_below a p.ballot then answer s marks (raised row p.ballot) p (Promise row.vote) (Note_promised p.ballot)
     else if is_same a p.ballot then stays row marks Note_silent
-    else answer k m marks row p (Nack a) (Note_nacked a)
+    else answer s marks row p (Nack a) (Note_nacked a)
 
 -- the station's vote is sent to the others and heard by itself
-abbrev pub vote_turn : ℕ → ℕ → ℕ → List Mark → Row → Packet → Tape → Note → Turn
-vote_turn k c m marks row p tape note =
-    after_hearing row (to_others k c m p.number p.ballot (Accepted tape)) note (hear c p.number m p.ballot tape marks)
+abbrev pub vote_turn : Seat → List Mark → Row → Packet → Tape → Note → Turn
+vote_turn s marks row p tape note =
+    after_hearing row (to_others s p.number p.ballot (Accepted tape)) note (hear s.members p.number s.me p.ballot tape marks)
 
 -- Lamport, phase 2 (b): an Accept that isn't below the promise is voted for; a vote that the row has at its ballot stands
-abbrev pub take_vote : ℕ → ℕ → ℕ → List Mark → Row → Packet → Tape → Option Vote → Turn
-take_vote k c m marks row p tape None = vote_turn k c m marks (voted p.ballot tape) p tape (Note_voted p.ballot)
-take_vote k c m marks row p tape (Some v) =
-    if is_same v.ballot p.ballot then vote_turn k c m marks row p v.tape (Note_voted_again p.ballot)
-    else vote_turn k c m marks (voted p.ballot tape) p tape (Note_voted p.ballot)
+abbrev pub take_vote : Seat → List Mark → Row → Packet → Tape → Option Vote → Turn
+take_vote s marks row p tape None = vote_turn s marks (voted p.ballot tape) p tape (Note_voted p.ballot)
+take_vote s marks row p tape (Some v) =
+    if is_same v.ballot p.ballot then vote_turn s marks row p v.tape (Note_voted_again p.ballot)
+    else vote_turn s marks (voted p.ballot tape) p tape (Note_voted p.ballot)
 
 -- an Accept, at a row with this promise
-abbrev pub accept_turn : ℕ → ℕ → ℕ → List Mark → Row → Packet → Tape → Option Ballot → Turn
-accept_turn k c m marks row p tape None = take_vote k c m marks row p tape row.vote
-accept_turn k c m marks row p tape (Some a) =
-    if is_below p.ballot a then answer k m marks row p (Nack a) (Note_nacked a) else take_vote k c m marks row p tape row.vote
+abbrev pub accept_turn : Seat → List Mark → Row → Packet → Tape → Option Ballot → Turn
+accept_turn s marks row p tape None = take_vote s marks row p tape row.vote
+accept_turn s marks row p tape (Some a) =
+    if is_below p.ballot a then answer s marks row p (Nack a) (Note_nacked a) else take_vote s marks row p tape row.vote
 
 -- there is a ballot, and it is b
 abbrev pub is_that : Option Ballot → Ballot → Bool
@@ -159,19 +160,19 @@ abbrev pub is_promised : Row → Ballot → Bool
 is_promised row b = is_that row.promised b
 
 -- a promise is counted; where a majority is counted with it, its tape is proposed
-abbrev pub count_promise : ℕ → ℕ → ℕ → ℕ → List Mark → Row → Packet → Option Vote → Opening → List Counted → Turn
-count_promise k c m now marks row p report o all =
-    if is_majority c (is_counted all)
-    then propose k c m p.number p.ballot now (Promised p.number p.from p.ballot report ∷ marks) row (pick o.own all)
+abbrev pub count_promise : Seat → ℕ → List Mark → Row → Packet → Option Vote → Opening → List Counted → Turn
+count_promise s now marks row p report o all =
+    if is_majority s.members (is_counted all)
+    then propose s p.number p.ballot now (Promised p.number p.from p.ballot report ∷ marks) row (pick o.own all)
     else stays row (Promised p.number p.from p.ballot report ∷ marks) (Note_counted p.ballot)
 
 -- a Promise, to the proposal that gathers at its ballot, if any
-abbrev pub promise_turn : ℕ → ℕ → ℕ → ℕ → List Mark → Row → Packet → Option Vote → Option Opening → Turn
-promise_turn k c m now marks row p report None = stays row marks Note_stale
-promise_turn k c m now marks row p report (Some o) =
+abbrev pub promise_turn : Seat → ℕ → List Mark → Row → Packet → Option Vote → Option Opening → Turn
+promise_turn s now marks row p report None = stays row marks Note_stale
+promise_turn s now marks row p report (Some o) =
     if not (is_promised row p.ballot) then stays row marks (Note_overtaken p.ballot)
-    else if is_counted (counted m p.number o (since_began p.number marks)) p.from then stays row marks Note_repeated
-    else count_promise k c m now marks row p report o (counted m p.number o (Promised p.number p.from p.ballot report ∷ since_began p.number marks))
+    else if is_counted (counted s.me p.number o (since_began p.number marks)) p.from then stays row marks Note_repeated
+    else count_promise s now marks row p report o (counted s.me p.number o (Promised p.number p.from p.ballot report ∷ since_began p.number marks))
 
 -- a Nack, to the proposal at its ballot, if any
 abbrev pub nack_turn : List Mark → Row → Packet → Ballot → Option Opening → Turn
@@ -179,22 +180,22 @@ nack_turn marks row p a None = stays row marks Note_stale
 nack_turn marks row p a (Some o) = stays row (Denied p.number a ∷ marks) (Note_denied a)
 
 -- a vote of another member
-abbrev pub accepted_turn : ℕ → List Mark → Row → Packet → Tape → Turn
-accepted_turn c marks row p tape =
-    after_hearing row [] (if was_released p.number marks then Note_settled else Note_heard p.ballot) (hear c p.number p.from p.ballot tape marks)
+abbrev pub accepted_turn : Seat → List Mark → Row → Packet → Tape → Turn
+accepted_turn s marks row p tape =
+    after_hearing row [] (if was_released p.number marks then Note_settled else Note_heard p.ballot) (hear s.members p.number p.from p.ballot tape marks)
 
 -- a packet, by its body
-abbrev pub packet_turn : ℕ → ℕ → ℕ → ℕ → List Mark → Row → Packet → Body → Turn
-packet_turn k c m now marks row p Prepare = prepare_turn k m marks row p row.promised
-packet_turn k c m now marks row p (Promise report) = promise_turn k c m now marks row p report (gathering_at p.number p.ballot marks)
-packet_turn k c m now marks row p (Accept tape) = accept_turn k c m marks row p tape row.promised
-packet_turn k c m now marks row p (Accepted tape) = accepted_turn c marks row p tape
-packet_turn k c m now marks row p (Nack a) = nack_turn marks row p a (proposal_at p.number p.ballot marks)
+abbrev pub packet_turn : Seat → ℕ → List Mark → Row → Packet → Body → Turn
+packet_turn s now marks row p Prepare = prepare_turn s marks row p row.promised
+packet_turn s now marks row p (Promise report) = promise_turn s now marks row p report (gathering_at p.number p.ballot marks)
+packet_turn s now marks row p (Accept tape) = accept_turn s marks row p tape row.promised
+packet_turn s now marks row p (Accepted tape) = accepted_turn s marks row p tape
+packet_turn s now marks row p (Nack a) = nack_turn marks row p a (proposal_at p.number p.ballot marks)
 
--- the turn of station m of the c of circuit k, with these marks and this row of the event's number;
+-- the turn of the station of this seat, with these marks and this row of the event's number;
 -- none where an offer or a search finds no ballot left
-abbrev pub turn : ℕ → ℕ → ℕ → List Mark → Row → Event → Option Turn
-turn k c m marks row (Offered n tape now) = start_turn k c m n (Some tape) now marks row (next row.promised m)
-turn k c m marks row (Sought n now) = start_turn k c m n None now marks row (next row.promised m)
-turn k c m marks row (Came_due n now) = Some (due_turn k c m n now marks row (open_proposal n marks))
-turn k c m marks row (Arrived p now) = Some (packet_turn k c m now marks row p p.body)
+abbrev pub turn : Seat → List Mark → Row → Event → Option Turn
+turn s marks row (Offered n tape now) = start_turn s n (Some tape) now marks row (next row.promised s.me)
+turn s marks row (Sought n now) = start_turn s n None now marks row (next row.promised s.me)
+turn s marks row (Came_due n now) = Some (due_turn s n now marks row (open_proposal n marks))
+turn s marks row (Arrived p now) = Some (packet_turn s now marks row p p.body)

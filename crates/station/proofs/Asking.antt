@@ -2,6 +2,7 @@
 use Rattle.std.proofs.Common.{◌≡◌, ◌≤◌, ℕ, inl, inr, refl, sym, ap, subst, ◌∙◌, List, [], ◌∷◌, Option, Some, None, Bool, true, false, length}
 use Rattle.std.specs.Prelude.{◌==◌, Result, Ok, Err, IsErr, IsErrAnd, not, is_some, if◌then◌else◌}
 use Rattle.std.proofs.lemmas.Bool.{le-leb}
+use Rattle.protocol.specs.Seats.{Seat, sits}
 use Rattle.protocol.specs.Lists.{or_else}
 use Rattle.protocol.specs.Packets.{Packet}
 use Rattle.protocol.specs.Versions.{One, fits}
@@ -18,7 +19,7 @@ use Rattle.packets.specs.Reading.{packet_at}
 use Rattle.packets.specs.declared.fault.PacketFault.{PacketFault}
 use Rattle.line_check.specs.Sets.{first_fault}
 use Rattle.line_check.specs.declared.fault.SetFault.{SetFault}
-use Rattle.node_core.specs.Standing.{StandsFor}
+use Rattle.node_core.specs.Standing.{StandsFor, seat_of}
 use Rattle.station.specs.declared.answer.Answer.{Answer}
 use Rattle.station.specs.declared.station.Station.{Station}
 use Rattle.station.specs.declared.refusal.StepRefusal.{StepRefusal}
@@ -184,34 +185,34 @@ came_due s marks n now goes h = record {
 pub received :
     {R : Type 0} (s : Station R) (marks : List Mark) (bytes : List ℕ) (now k c m : ℕ) (p q : Packet)
     → s.stopped ≡ false → packet_at bytes ≡ Ok p → k ≡ s.core.circuit → c ≡ s.core.members → m ≡ s.core.me
-    → refusals.packet_refusal {D = PacketFault} {F = SetFault} k c m p ≡ None → q ≡ p → Asks s marks (refusals.Receiving bytes now) (Arrived q now)
+    → refusals.packet_refusal {D = PacketFault} {F = SetFault} (sits k m c) p ≡ None → q ≡ p → Asks s marks (refusals.Receiving bytes now) (Arrived q now)
 received s marks bytes now k c m p q goes read circuit members me h same =
-    let here : refusals.packet_refusal {D = PacketFault} {F = SetFault} s.core.circuit s.core.members s.core.me p ≡ None =
-    sym (λ i. refusals.packet_refusal {D = PacketFault} {F = SetFault} (circuit i) (members i) (me i) p) ∙ h in
+    let here : refusals.packet_refusal {D = PacketFault} {F = SetFault} (seat_of s.core) p ≡ None =
+    sym (λ i. refusals.packet_refusal {D = PacketFault} {F = SetFault} (sits (circuit i) (me i) (members i)) p) ∙ h in
     record {
       unrefused = last_refusal (setup_of s) s.stopped marks (refusals.Receiving bytes now) goes
-          (ap (λ (r : Result Packet PacketFault). refusals.reading_refusal {D = PacketFault} {F = SetFault} s.core.circuit s.core.members s.core.me r) read ∙ here);
+          (ap (λ (r : Result Packet PacketFault). refusals.reading_refusal {D = PacketFault} {F = SetFault} (seat_of s.core) r) read ∙ here);
       event = ap (λ (r : Result Packet PacketFault). refusals.arrival r now) read ∙ (λ i. Some (Arrived (sym same i) now));
     }
 
 -- what is offered or sought begins a ballot: its turn is not quiet
-propose_stirs : (k c m n : ℕ) (b : Ballot) (now : ℕ) (marks : List Mark) (row : Row) (o : Option Tape) → Stirs (propose k c m n b now marks row o)
-propose_stirs k c m n b now marks row None = refl
-propose_stirs k c m n b now marks row (Some t) = refl
+propose_stirs : (z : Seat) (n : ℕ) (b : Ballot) (now : ℕ) (marks : List Mark) (row : Row) (o : Option Tape) → Stirs (propose z n b now marks row o)
+propose_stirs z n b now marks row None = refl
+propose_stirs z n b now marks row (Some t) = refl
 
-begin_stirs : (k c m n : ℕ) (b : Ballot) (own : Option Tape) (now : ℕ) (marks : List Mark) (row : Row) → Stirs (begin k c m n b own now marks row)
-begin_stirs k c m n b own now marks row = go (c == 1) refl
+begin_stirs : (z : Seat) (n : ℕ) (b : Ballot) (own : Option Tape) (now : ℕ) (marks : List Mark) (row : Row) → Stirs (begin z n b own now marks row)
+begin_stirs z n b own now marks row = go (z.members == 1) refl
   where
-    go : (x : Bool) → (c == 1) ≡ x → Stirs (begin k c m n b own now marks row)
-    go true e = rw e (propose_stirs k c m n b now (Began n b own row.vote now ∷ marks) (raised row b) (pick own (record { member = m; report = row.vote } ∷ [])))
+    go : (x : Bool) → (z.members == 1) ≡ x → Stirs (begin z n b own now marks row)
+    go true e = rw e (propose_stirs z n b now (Began n b own row.vote now ∷ marks) (raised row b) (pick own (record { member = z.me; report = row.vote } ∷ [])))
     go false e = rw e refl
 
-start_stirs : (k c m n : ℕ) (own : Option Tape) (now : ℕ) (marks : List Mark) (row : Row) (o : Option Ballot) (t : said.Turn) → start_turn k c m n own now marks row o ≡ Some t → Stirs t
-start_stirs k c m n own now marks row None t e = absurd cc
-start_stirs k c m n own now marks row (Some b) t e = let is : begin k c m n b own now marks row ≡ t = cc in subst Stirs is (begin_stirs k c m n b own now marks row)
+start_stirs : (z : Seat) (n : ℕ) (own : Option Tape) (now : ℕ) (marks : List Mark) (row : Row) (o : Option Ballot) (t : said.Turn) → start_turn z n own now marks row o ≡ Some t → Stirs t
+start_stirs z n own now marks row None t e = absurd cc
+start_stirs z n own now marks row (Some b) t e = let is : begin z n b own now marks row ≡ t = cc in subst Stirs is (begin_stirs z n b own now marks row)
 
 pub offer_stirs : {R : Type 0} (x : Sight R) (s : Station R) (marks : List Mark) (n : ℕ) (tape : List ℕ) (now : ℕ) (t : said.Turn) → turn_of x s marks (Offered n tape now) ≡ Some t → Stirs t
-offer_stirs x s marks n tape now t e = start_stirs s.core.circuit s.core.members s.core.me n (Some tape) now marks (x.saved s.rows n) (next (x.saved s.rows n).promised s.core.me) t e
+offer_stirs x s marks n tape now t e = start_stirs (seat_of s.core) n (Some tape) now marks (x.saved s.rows n) (next (x.saved s.rows n).promised s.core.me) t e
 
 -- memory was refused before the store was asked
 pub torn_early :

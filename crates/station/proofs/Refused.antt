@@ -5,7 +5,7 @@ use Rattle.protocol.specs.Rows.{Row}
 use Rattle.protocol.specs.Marks.{Mark}
 use Rattle.protocol.specs.Proposals.{Opening}
 use Rattle.protocol.specs.Turn as said
-use Rattle.node_core.specs.Standing.{Core, StandsFor}
+use Rattle.node_core.specs.Standing.{Core, StandsFor, seat_of}
 use Rattle.node_core.specs.Turns.{event_value}
 use Rattle.node_core.specs.Calls.{RefusesEvent}
 use Rattle.node_core.specs.declared.event.Event.{Event}
@@ -22,7 +22,7 @@ spent_stays (events.Arrived packet now) old new row h = absurd cc
 
 pub spent_none :
     (event : Event) (old new : Core) (row : Row) (marks : List Mark) → RefusesEvent event refusals.RoundsSpent old row new
-    → said.turn old.circuit old.members old.me marks row (event_value event) ≡ None
+    → said.turn (seat_of old) marks row (event_value event) ≡ None
 spent_none (events.Offer number tape now) old new row marks h = rw h.2 refl
 spent_none (events.Seek number now) old new row marks h = rw h.2 refl
 spent_none (events.Due number now) old new row marks h = absurd cc

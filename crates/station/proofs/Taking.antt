@@ -9,7 +9,7 @@ use Rattle.protocol.specs.Marks.{Mark}
 use Rattle.protocol.specs.Turn as said
 use Rattle.saved_rows.specs.Saved.{Saved, SameRows, WithRow, with_row}
 use Rattle.saved_rows.specs.declared.fault.RowsFault.{RowsFault}
-use Rattle.node_core.specs.Standing.{Core, StandsFor, IsSameSeat}
+use Rattle.node_core.specs.Standing.{Core, StandsFor, IsSameSeat, seat_of}
 use Rattle.node_core.specs.Turns.{event_value, note_value, is_quiet, Stirs, HandsNothing, IsTurn, IsRowAfter}
 use Rattle.node_core.specs.declared.event.Event.{Event}
 use Rattle.node_core.specs.declared.turn.Turn.{Turn}
@@ -42,7 +42,7 @@ pub refused_stirs :
     {R : Type 0} (x : Sight R) (event : Event) (s : Station R) (marks : List Mark) (row : Row) (n : ℕ) → said.number_of (event_value event) ≡ n → row ≡ x.saved s.rows n
     → MayTakeMemory s.core event marks row → (t : said.Turn) → turn_of x s marks (event_value event) ≡ Some t → Stirs t
 refused_stirs x event s marks row n number is h t e =
-    let here = subst (λ (r : Row). said.turn s.core.circuit s.core.members s.core.me marks r (event_value event) ≡ Some h.turn) (is ∙ ap (x.saved s.rows) (sym number)) h.is_the_turn in
+    let here = subst (λ (r : Row). said.turn (seat_of s.core) marks r (event_value event) ≡ Some h.turn) (is ∙ ap (x.saved s.rows) (sym number)) h.is_the_turn in
     subst Stirs (some_is (sym here ∙ e)) h.holds
 
 -- a station whose core wanted memory
@@ -67,7 +67,7 @@ pub record Taking {R : Type 0} (x : Sight R) (e : said.Event) (old : Station R) 
   pub is_open : x.is_open mid
   pub is_row : row ≡ x.saved old.rows n
   pub taken : said.Turn
-  pub is_turn : said.turn old.core.circuit old.core.members old.core.me marks row e ≡ Some taken
+  pub is_turn : said.turn (seat_of old.core) marks row e ≡ Some taken
   pub gives : IsTurn row taken move
   pub quiet : is_quiet (note_value move.note) ≡ true → HandsNothing move
   pub stands : StandsFor core taken.marks
@@ -83,7 +83,7 @@ module _ {R : Type 0} (x : Sight R) (e : said.Event) (old : Station R) (marks : 
   its_save r s = subst (λ (i : ℕ). Saves x old.table old.widths i row move mid new r) (sym k.number) s
 
   is_saved_turn : turn_of x old marks e ≡ Some k.taken
-  is_saved_turn = subst (λ (r : Row). said.turn old.core.circuit old.core.members old.core.me marks r e ≡ Some k.taken) is_its_row k.is_turn
+  is_saved_turn = subst (λ (r : Row). said.turn (seat_of old.core) marks r e ≡ Some k.taken) is_its_row k.is_turn
 
   saves_row :
       (o : Option Row) → IsRowAfter row k.taken.row o → RowSaved x (said.number_of e) o mid new

@@ -1,5 +1,6 @@
 -- A station's refusals, as the protocol's.
 use Rattle.std.specs.Prelude.{◌≡◌, ℕ, List, Option, Some, None, Result, Ok, Err}
+use Rattle.protocol.specs.Seats.{Seat}
 use Rattle.protocol.specs.Packets.{Packet}
 use Rattle.protocol.specs.Marks.{Mark}
 use Rattle.protocol.specs.Refusals as refusals
@@ -33,8 +34,8 @@ Checks o (Ok x) = o ≡ None
 Checks o (Err r) = IsRefusal o r
 
 -- a packet, checked
-abbrev pub ChecksPacket : {A : Type 0} → ℕ → ℕ → ℕ → Packet → Result A StepRefusal → Type 0
-ChecksPacket k c me p r = Checks (refusals.packet_refusal k c me p) r
+abbrev pub ChecksPacket : {A : Type 0} → Seat → Packet → Result A StepRefusal → Type 0
+ChecksPacket s p r = Checks (refusals.packet_refusal s p) r
 
 -- a number that is offered or sought, checked
 abbrev pub ChecksNumber : {A : Type 0} → ℕ → List Mark → Result A StepRefusal → Type 0

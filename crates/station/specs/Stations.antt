@@ -11,6 +11,7 @@ use Rattle.packets.specs.Reading.{packet_at}
 use Rattle.packets.specs.declared.fault.PacketFault.{PacketFault}
 use Rattle.line_check.specs.Sets.{first_fault}
 use Rattle.line_check.specs.declared.fault.SetFault.{SetFault}
+use Rattle.node_core.specs.Standing.{seat_of}
 use Rattle.station.specs.declared.station.Station.{Station}
 
 -- what is said of saved rows: whether they are kept and open, what is saved, which rows differ only by what was read or by a save
@@ -33,11 +34,11 @@ abbrev pub unless_faulty : Option SetFault → Result (Unit {0}) SetFault
 unless_faulty None = Ok tt
 unless_faulty (Some fault) = Err fault
 
--- the station's circuit, the count of its members and which it is, the grammar of packets of version 1, which tapes fit that version,
+-- where the station sits, the grammar of packets of version 1, which tapes fit that version,
 -- and whether a tape sets by its own code table and widths
 abbrev pub setup_of : {R : Type 0} → Station R → Setup PacketFault (Unit {0}) SetFault
 setup_of s =
-    record { circuit = s.core.circuit; count = s.core.members; me = s.core.me; reads = packet_at; fits = fits One; sets = λ tape. unless_faulty (first_fault (mean s.table) s.widths tape) }
+    record { seat = seat_of s.core; reads = packet_at; fits = fits One; sets = λ tape. unless_faulty (first_fault (mean s.table) s.widths tape) }
 
 -- the circuit, the count, which member it is, the code table and the widths stay
 pub record IsFixed {R : Type 0} (old new : Station R) : Type 0 where

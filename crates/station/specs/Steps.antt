@@ -8,7 +8,7 @@ use Rattle.protocol.specs.Turn.{Event, Offered, Sought, Came_due, Arrived, numbe
 use Rattle.protocol.specs.Refusals.{Call, refusal, early_refusal, event_of}
 use Rattle.saved_rows.specs.Saved.{SameRows, WithRow, IsEither}
 use Rattle.saved_rows.specs.declared.fault.RowsFault.{RowsFault}
-use Rattle.node_core.specs.Standing.{StandsFor}
+use Rattle.node_core.specs.Standing.{StandsFor, seat_of}
 use Rattle.node_core.specs.Turns.{note_value, Stirs}
 use Rattle.station.specs.declared.answer.Answer.{Answer}
 use Rattle.station.specs.declared.station.Station.{Station}
@@ -42,7 +42,7 @@ pub record WasBalked {R : Type 0} (x : Sight R) (old new : R) (n : ℕ) (row : R
 
 -- the turn of this event at the saved row of its number, if there is one
 abbrev pub turn_of : {R : Type 0} → Sight R → Station R → List Mark → Event → Option Turn
-turn_of x s marks e = turn s.core.circuit s.core.members s.core.me marks (x.saved s.rows (number_of e)) e
+turn_of x s marks e = turn (seat_of s.core) marks (x.saved s.rows (number_of e)) e
 
 -- the turn is taken: its row is saved, and what it sends and releases is handed out
 pub record Done {R : Type 0} (x : Sight R) (e : Event) (old new : Station R) (marks : List Mark) (a : Answer) : Type 0 where

@@ -2,6 +2,7 @@
 
 ghost use Rattle.std.specs.Prelude.{◌≡◌, ◌≤◌, OnOk, IfErr, true, false};
 ghost use Rattle.node_core.specs.Calls.{IsForMember};
+ghost use Rattle.protocol.specs.Seats.{sits};
 ghost use Rattle.protocol.specs.Refusals.{names_stranger, is_of_stranger};
 ghost use Rattle.protocol.specs.Versions.{One, fits};
 ghost use Rattle.packets.specs.Bodies.{said};
@@ -39,7 +40,7 @@ pub(crate) fn check_packet(
     me: Member,
     packet: &PacketRef<'_>,
 ) -> Result<(), StepRefusal>
-    ensures checks { ChecksPacket circuit members me packet.now result }
+    ensures checks { ChecksPacket (sits circuit me members) packet.now result }
     // One that is let in may come to the core.
     ensures let_in { OnOk result (IsForMember me members packet.now) }
     ensures goes_on { IfErr result (λ r. tears r ≡ false) }

@@ -21,13 +21,13 @@ pub faulty_alike :
 faulty_alike means widths tape (Ok slugs) h = sym (ap (λ (o : Option SetFault). setting_refusal {D = PacketFault} (unless_faulty o)) h.0)
 faulty_alike means widths tape (Err fault) h = sym (ap (λ (o : Option SetFault). setting_refusal {D = PacketFault} (unless_faulty o)) h)
 
-module _ {D F G H : Type 0} (a : Setup D G F) (b : Setup D H F) (circuit : a.circuit ≡ b.circuit) (count : a.count ≡ b.count) (me : a.me ≡ b.me)
+module _ {D F G H : Type 0} (a : Setup D G F) (b : Setup D H F) (seat : a.seat ≡ b.seat)
     (reads : (bytes : List ℕ) → a.reads bytes ≡ b.reads bytes) (fits : (tape : Tape) → a.fits tape ≡ b.fits tape) (sets : (tape : Tape) → setting_refusal {D = D} (a.sets tape) ≡ setting_refusal {D = D} (b.sets tape)) where
   call_alike : (marks : List Mark) (call : Call) → call_refusal a marks call ≡ call_refusal b marks call
   call_alike marks (Offering n tape now) = ap (λ (f : Bool). or_else (number_refusal n marks) (wire_refusal f)) (fits tape)
   call_alike marks (Seeking n now) = refl
   call_alike marks (Falling_due now) = refl
-  call_alike marks (Receiving bytes now) = λ i. reading_refusal (circuit i) (count i) (me i) (reads bytes i)
+  call_alike marks (Receiving bytes now) = λ i. reading_refusal (seat i) (reads bytes i)
 
   pub early_alike : (stopped : Bool) (marks : List Mark) (call : Call) → early_refusal a stopped marks call ≡ early_refusal b stopped marks call
   early_alike stopped marks call = ap (λ (r : Option (Refusal D F)). if stopped then Some Stopped else r) (call_alike marks call)
@@ -44,7 +44,7 @@ module _ {D F G H : Type 0} (a : Setup D G F) (b : Setup D H F) (circuit : a.cir
   pub event_alike : (marks : List Mark) (call : Call) → event_of a marks call ≡ event_of b marks call
   event_alike marks (Offering n tape now) = refl
   event_alike marks (Seeking n now) = refl
-  event_alike marks (Falling_due now) = λ i. due_event (next_due (me i) now marks) now
+  event_alike marks (Falling_due now) = λ i. due_event (next_due (seat i).me now marks) now
   event_alike marks (Receiving bytes now) = λ i. arrival (reads bytes i) now
 
 some_none : {A : Type 0} {a : A} → Some a ≡ None → ⊥

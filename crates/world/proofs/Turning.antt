@@ -4,6 +4,7 @@ use Rattle.std.specs.Prelude.{Result, Ok, IsSome}
 use Rattle.std.proofs.lemmas.Bool.{cases_lt}
 use Rattle.std.specs.List.{AllZip}
 use Rattle.protocol.specs.Ballots.{IsMember}
+use Rattle.protocol.specs.Seats.{sits}
 use Rattle.protocol.specs.Rows.{Tape, Row}
 use Rattle.protocol.specs.Packets.{Packet}
 use Rattle.protocol.specs.Versions.{Version, One}
@@ -23,7 +24,7 @@ use Rattle.saved_rows.specs.Saved.{WithRow, Rises}
 use Rattle.saved_rows.specs.declared.balky.Balky.{Balky}
 use Rattle.saved_rows.specs.declared.fault.RowsFault.{RowsFault}
 use Rattle.saved_rows.specs.declared.fault.RowsFault.TheVariants.{Store}
-use Rattle.node_core.specs.Standing.{StandsFor as CoreStandsFor}
+use Rattle.node_core.specs.Standing.{StandsFor as CoreStandsFor, seat_of}
 use Rattle.node_core.specs.Turns.{note_value}
 use Rattle.station.specs.declared.station.Station.{Station}
 use Rattle.station.specs.declared.answer.Answer.{Answer}
@@ -115,29 +116,32 @@ module _ {R : Type 0} (x : Sight R) (refusals : R → ℕ) (z : StationCircuit) 
       let a = subst (λ (t : Places). Sets (mean t) (h.files m) tape (z.sets m tape)) (sym old.table) (h.set_up.sets m tape) in
       subst (λ (f : WidthFile). Sets (mean s.table) f tape (z.sets m tape)) (sym old.widths) a
 
+  seat_is : circuit.seat_at z m ≡ seat_of s.core
+  seat_is = λ j. sits (sym old.circuit j) (sym old.me j) (sym old.members j)
+
   refusal_is : (call : Call) → refusal (circuit.setup_of z (w.version m) m) (w.is_stopped m) (w.marks m) call ≡ refusal (stations.setup_of s) s.stopped (w.marks m) call
   refusal_is call =
       ap (λ (b : Bool). refusal (circuit.setup_of z (w.version m) m) b (w.marks m) call) (sym old.stopped)
       ∙ ap (λ (v : Version). refusal (circuit.setup_of z v m) s.stopped (w.marks m) call) (h.one m)
-      ∙ refusal_alike (circuit.setup_of z One m) (stations.setup_of s) (sym old.circuit) (sym old.members) (sym old.me) h.set_up.reads (λ tape. refl)
+      ∙ refusal_alike (circuit.setup_of z One m) (stations.setup_of s) seat_is h.set_up.reads (λ tape. refl)
       (λ tape. faulty_alike (mean s.table) s.widths tape (z.sets m tape) (sets tape)) s.stopped (w.marks m) call
 
   early_is : (call : Call) → early_refusal (circuit.setup_of z (w.version m) m) (w.is_stopped m) (w.marks m) call ≡ early_refusal (stations.setup_of s) s.stopped (w.marks m) call
   early_is call =
       ap (λ (b : Bool). early_refusal (circuit.setup_of z (w.version m) m) b (w.marks m) call) (sym old.stopped)
       ∙ ap (λ (v : Version). early_refusal (circuit.setup_of z v m) s.stopped (w.marks m) call) (h.one m)
-      ∙ early_alike (circuit.setup_of z One m) (stations.setup_of s) (sym old.circuit) (sym old.members) (sym old.me) h.set_up.reads (λ tape. refl)
+      ∙ early_alike (circuit.setup_of z One m) (stations.setup_of s) seat_is h.set_up.reads (λ tape. refl)
       (λ tape. faulty_alike (mean s.table) s.widths tape (z.sets m tape) (sets tape)) s.stopped (w.marks m) call
 
   event_is : (call : Call) → event_of (circuit.setup_of z (w.version m) m) (w.marks m) call ≡ event_of (stations.setup_of s) (w.marks m) call
   event_is call =
       ap (λ (v : Version). event_of (circuit.setup_of z v m) (w.marks m) call) (h.one m)
-      ∙ event_alike (circuit.setup_of z One m) (stations.setup_of s) (sym old.circuit) (sym old.members) (sym old.me) h.set_up.reads (λ tape. refl)
+      ∙ event_alike (circuit.setup_of z One m) (stations.setup_of s) seat_is h.set_up.reads (λ tape. refl)
       (λ tape. faulty_alike (mean s.table) s.widths tape (z.sets m tape) (sets tape)) (w.marks m) call
 
   -- a turn of the station's is one of the state's
-  turns : (e : Event) (o : Option Turn) → x.is_open s.rows.rows → turn_of (balky_sight x refusals) s (w.marks m) e ≡ o → turn z.number z.count m (w.marks m) (w.rows m (number_of e)) e ≡ o
-  turns e o here is = (λ j. turn (sym old.circuit j) (sym old.members j) (sym old.me j) (w.marks m) (sym (old.rows here (number_of e)) j) e) ∙ is
+  turns : (e : Event) (o : Option Turn) → x.is_open s.rows.rows → turn_of (balky_sight x refusals) s (w.marks m) e ≡ o → turn (circuit.seat_at z m) (w.marks m) (w.rows m (number_of e)) e ≡ o
+  turns e o here is = (λ j. turn (seat_is j) (w.marks m) (sym (old.rows here (number_of e)) j) e) ∙ is
 
   -- a state that differs in nothing is shown by a station that differs in its rows' reading alone
   read_alone :

@@ -2,7 +2,7 @@ use Rattle.std.proofs.Common.{List}
 use Rattle.protocol.specs.Marks.{Mark}
 use Rattle.protocol.specs.Proposals.{is_due_number}
 use Rattle.node_core.specs.Standing.{AllStand, AreDesksOf}
-use Rattle.node_core.specs.Seats.{Seat}
+use Rattle.protocol.specs.Seats.{Seat}
 use Rattle.node_core.proofs.Dueing.{Left}
 use Rattle.node_core.proofs.desks.least_due.Given as goal
 

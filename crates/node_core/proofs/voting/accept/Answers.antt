@@ -35,4 +35,4 @@ returns-in-Voted-clause-voting c =
     c.send-turn-in-Voted.ensures.turn
 
 pub returns-in-Some-clause-stirs : goal.returns-in-Some-clause-stirs
-returns-in-Some-clause-stirs c = λ marks. accept_stirs c.args.seat.circuit c.args.seat.members c.args.seat.me marks c.args.row.now c.args.packet.now c.args.tape c.args.row.now.promised
+returns-in-Some-clause-stirs c = λ marks. accept_stirs c.args.seat marks c.args.row.now c.args.packet.now c.args.tape c.args.row.now.promised

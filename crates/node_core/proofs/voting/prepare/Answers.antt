@@ -10,7 +10,7 @@ use Rattle.node_core.proofs.voting.prepare.Goals as goal
 pub returns-in_ok-after-in-Promise-clause-turn : goal.returns-in_ok-after-in-Promise-clause-turn
 returns-in_ok-after-in-Promise-clause-turn c = λ marks.
     let h = c.send-in-Promise.ensures.turn in
-    let p = promising c.args.seat.circuit c.args.seat.me marks c.args.row.now c.args.packet.now (option_copied c.in-Promise._report) (rw c.ballot-ballot.ensures at (sym c.in-Promise.ensures.reply)) in
+    let p = promising c.args.seat marks c.args.row.now c.args.packet.now (option_copied c.in-Promise._report) (rw c.ballot-ballot.ensures at (sym c.in-Promise.ensures.reply)) in
     let after = rw c.ballot-ballot.ensures at (c.in_ok-after-in-Promise.ensures.row (rw c.ballot-ballot.ensures p.above)) in
     rw p.line (record {
       row_after = rw h.row_after after;
@@ -22,4 +22,4 @@ returns-in_ok-after-in-Promise-clause-turn c = λ marks.
 pub returns-in_err-after-in-Promise-clause-memory : goal.returns-in_err-after-in-Promise-clause-memory
 returns-in_err-after-in-Promise-clause-memory c =
     let reply = rw c.ballot-ballot.ensures at (sym c.in-Promise.ensures.reply) in
-    on_any_err c.from_residual.result _ (λ marks. prepare_stirs c.args.seat.circuit c.args.seat.me marks c.args.row.now c.args.packet.now (λ e. let f : Promises (option_copied c.in-Promise._report) ≡ Says_nothing = sym reply ∙ e in cc))
+    on_any_err c.from_residual.result _ (λ marks. prepare_stirs c.args.seat marks c.args.row.now c.args.packet.now (λ e. let f : Promises (option_copied c.in-Promise._report) ≡ Says_nothing = sym reply ∙ e in cc))

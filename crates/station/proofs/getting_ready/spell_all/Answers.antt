@@ -9,8 +9,8 @@ use Rattle.station.proofs.getting_ready.spell_all.Goals as goal
 pub loop-place-preserved : goal.loop-place-preserved
 loop-place-preserved c =
     let there : slice_get c.args.packets.now c.loop-place.place ≡ Some c.in-Some.packet = sym c.get.ensures ∙ c.in-Some.is in
-    rw c.in_ok-push.ensures.items (more Carries c.args.packets.now c.loop-place.out.items c.loop-place.place c.in-Some.packet c.in_ok-spell.field-0 (slice_get_within c.args.packets.now c.loop-place.place c.in-Some.packet there)
-    (sym (get_or_from_slice_get c.args.packets.now c.loop-place.place c.in-Some.packet c.in-Some.packet there)) c.loop-place.invariant c.in_ok-spell.ensures)
+    rw c.in_ok-push-in-Some.ensures.items (more Carries c.args.packets.now c.loop-place.out.items c.loop-place.place c.in-Some.packet c.in_ok-spell-in-Some.field-0 (slice_get_within c.args.packets.now c.loop-place.place c.in-Some.packet there)
+    (sym (get_or_from_slice_get c.args.packets.now c.loop-place.place c.in-Some.packet c.in-Some.packet there)) c.loop-place.invariant c.in_ok-spell-in-Some.ensures)
 
 pub returns-clause-carry : goal.returns-clause-carry
 returns-clause-carry c =

@@ -14,4 +14,4 @@ returns-clause-of c = c.hear.ensures.of c.args.seat c.requires.of
 pub returns-in_err-release-clause-turn : goal.returns-in_err-release-clause-turn
 returns-in_err-release-clause-turn c = λ row marks stands.
     on_err c.from_residual.result _ _ c.from_residual.ensures.0
-    (λ _. accepted_stirs c.args.seat.members marks row c.args.packet.now c.args.tape (ap (λ n. was_released n marks) c.requires.number ∙ stands.unreleased))
+    (λ _. accepted_stirs c.args.seat marks row c.args.packet.now c.args.tape (ap (λ n. was_released n marks) c.requires.number ∙ stands.unreleased))

@@ -14,14 +14,14 @@ use Rattle.node_core.proofs.desk.Desk.promise.Goals as goal
 pub returns-in-None-clause-turn : goal.returns-in-None-clause-turn
 returns-in-None-clause-turn c = λ marks stands.
     let none : open_proposal c.args.packet.now.number marks ≡ None = rw c.requires.number (none_stands c.args.self.now marks c.in-None.is stands) in
-    rw (not_gathering c.args.seat.circuit c.args.seat.members c.args.seat.me c.args.now marks c.args.row.now c.args.packet.now c.args.report (none_gathers c.args.packet.now.number c.args.packet.now.ballot marks none))
+    rw (not_gathering c.args.seat c.args.now marks c.args.row.now c.args.packet.now c.args.report (none_gathers c.args.packet.now.number c.args.packet.now.ballot marks none))
     (stays_so c.args.row.now marks said.Note_stale c.quiet.result c.args.self.now c.quiet.ensures.row c.quiet.ensures.mail c.quiet.ensures.release (rw c.quiet.ensures.note refl) stands)
 
 pub returns-then-not-gathers_at-clause-turn : goal.returns-then-not-gathers_at-clause-turn
 returns-then-not-gathers_at-clause-turn c = λ marks stands.
     let p = proposal_stands c.args.self.now c.in-Some.proposal marks c.in-Some.is stands in
     let none : gathering_at c.args.packet.now.number c.args.packet.now.ballot marks ≡ None = rw (c.requires.number, ← c.ballot-ballot.ensures) (c.if-not-gathers_at.ensures.marks c.args.self.now.number marks p) in
-    rw (not_gathering c.args.seat.circuit c.args.seat.members c.args.seat.me c.args.now marks c.args.row.now c.args.packet.now c.args.report none)
+    rw (not_gathering c.args.seat c.args.now marks c.args.row.now c.args.packet.now c.args.report none)
     (stays_so c.args.row.now marks said.Note_stale c.quiet-then-not-gathers_at.result _ c.quiet-then-not-gathers_at.ensures.row c.quiet-then-not-gathers_at.ensures.mail c.quiet-then-not-gathers_at.ensures.release (rw c.quiet-then-not-gathers_at.ensures.note refl)
     (still c.args.self.now c.in-Some.proposal marks stands p))
 
@@ -31,7 +31,7 @@ returns-then-not-is_promised-clause-turn c = λ marks stands.
     let g = c.if-not-gathers_at.ensures.marks c.args.self.now.number marks p in
     let e : gathering_at c.args.packet.now.number c.args.packet.now.ballot marks ≡ Some g.0 = rw (c.requires.number, ← c.ballot-ballot.ensures) g.1 in
     let passed : c.args.row.now.promised ≡ Some c.args.packet.now.ballot → ⊥ = λ h. (let f : false ≡ true = c.if-not-is_promised.ensures.1 (h ∙ ap Some (sym c.ballot-ballot.ensures)) in cc) in
-    rw (overtaken c.args.seat.circuit c.args.seat.members c.args.seat.me c.args.now marks c.args.row.now c.args.packet.now c.args.report g.0 e passed)
+    rw (overtaken c.args.seat c.args.now marks c.args.row.now c.args.packet.now c.args.report g.0 e passed)
     (stays_so c.args.row.now marks (said.Note_overtaken c.args.packet.now.ballot) c.quiet-then-not-is_promised.result _ c.quiet-then-not-is_promised.ensures.row c.quiet-then-not-is_promised.ensures.mail c.quiet-then-not-is_promised.ensures.release (rw (c.quiet-then-not-is_promised.ensures.note, c.ballot-ballot.ensures) refl)
     (still c.args.self.now c.in-Some.proposal marks stands p))
 
@@ -40,7 +40,7 @@ returns-in-Stale-clause-turn c = λ marks stands.
     let p = proposal_stands c.args.self.now c.in-Some.proposal marks c.in-Some.is stands in
     let kind = rw c.in-Stale.is at (c.in_ok-promise-in-Some.ensures.kind c.args.self.now.number marks p) in
     let none : gathering_at c.args.packet.now.number c.args.packet.now.ballot marks ≡ None = rw (c.requires.number, ← c.ballot-ballot.ensures) kind in
-    rw (not_gathering c.args.seat.circuit c.args.seat.members c.args.seat.me c.args.now marks c.args.row.now c.args.packet.now c.args.report none)
+    rw (not_gathering c.args.seat c.args.now marks c.args.row.now c.args.packet.now c.args.report none)
     (stays_so c.args.row.now marks said.Note_stale c.quiet-in-Stale.result _ c.quiet-in-Stale.ensures.row c.quiet-in-Stale.ensures.mail c.quiet-in-Stale.ensures.release (rw c.quiet-in-Stale.ensures.note refl)
     (still c.args.self.now c.promise.new.self marks stands (rw c.in-Stale.is at (c.in_ok-promise-in-Some.ensures.stands c.args.self.now.number marks p))))
 
@@ -51,7 +51,7 @@ returns-in-Repeated-clause-turn c = λ marks stands.
     let promised : c.args.row.now.promised ≡ Some c.args.packet.now.ballot = c.if-not-is_promised.ensures.0 refl ∙ ap Some c.ballot-ballot.ensures in
     let kind = counted_as kinds.Repeated c.in-Some.proposal.members c.args.seat.members c.in-Some.proposal.me c.args.seat.me c.args.self.now.number c.args.packet.now.number c.ballot-ballot.result c.args.packet.now.ballot c.from.result c.args.packet.now.from c.args.report marks of.1 of.0 (sym c.requires.number) c.ballot-ballot.ensures c.from.ensures
     (rw c.in-Repeated.is at (c.in_ok-promise-in-Some.ensures.kind c.args.self.now.number marks p)) in
-    rw (repeated c.args.seat.circuit c.args.seat.members c.args.seat.me c.args.now marks c.args.row.now c.args.packet.now c.args.report promised kind)
+    rw (repeated c.args.seat c.args.now marks c.args.row.now c.args.packet.now c.args.report promised kind)
     (stays_so c.args.row.now marks said.Note_repeated c.quiet-in-Repeated.result _ c.quiet-in-Repeated.ensures.row c.quiet-in-Repeated.ensures.mail c.quiet-in-Repeated.ensures.release (rw c.quiet-in-Repeated.ensures.note refl)
     (still c.args.self.now c.promise.new.self marks stands (rw c.in-Repeated.is at (c.in_ok-promise-in-Some.ensures.stands c.args.self.now.number marks p))))
 
@@ -63,7 +63,7 @@ returns-in-More-clause-turn c = λ marks stands.
     let promised : c.args.row.now.promised ≡ Some c.args.packet.now.ballot = c.if-not-is_promised.ensures.0 refl ∙ ap Some c.ballot-ballot.ensures in
     let kind = counted_as kinds.More c.in-Some.proposal.members c.args.seat.members c.in-Some.proposal.me c.args.seat.me c.args.self.now.number c.args.packet.now.number c.ballot-ballot.result c.args.packet.now.ballot c.from.result c.args.packet.now.from c.args.report marks of.1 of.0 (sym c.requires.number) c.ballot-ballot.ensures c.from.ensures
     (rw c.in-More.is at (c.in_ok-promise-in-Some.ensures.kind c.args.self.now.number marks p)) in
-    rw (counts_as c.args.seat.circuit c.args.seat.members c.args.seat.me c.args.now marks c.args.row.now c.args.packet.now c.args.report promised kind)
+    rw (counts_as c.args.seat c.args.now marks c.args.row.now c.args.packet.now c.args.report promised kind)
     (stays_so c.args.row.now (Promised c.args.packet.now.number c.args.packet.now.from c.args.packet.now.ballot c.args.report ∷ marks) (said.Note_counted c.args.packet.now.ballot) c.quiet-in-More.result desk c.quiet-in-More.ensures.row c.quiet-in-More.ensures.mail c.quiet-in-More.ensures.release (rw (c.quiet-in-More.ensures.note, c.ballot-ballot.ensures) refl)
     (subst (λ (x : Mark). DeskStands desk (x ∷ marks)) (promised_told c.args.self.now.number c.args.packet.now.number c.from.result c.args.packet.now.from c.ballot-ballot.result c.args.packet.now.ballot c.args.report (sym c.requires.number) c.from.ensures c.ballot-ballot.ensures)
     (one_more c.other_marks_pass.ensures c.args.self.now c.promise.new.self (Promised c.args.self.now.number c.from.result c.ballot-ballot.result c.args.report) marks refl refl stands (rw c.in-More.is at (c.in_ok-promise-in-Some.ensures.stands c.args.self.now.number marks p)))))
@@ -80,10 +80,10 @@ returns-in-Quorum-clause-turn c = λ marks stands.
     (one_more c.other_marks_pass.ensures c.args.self.now c.promise.new.self (Promised c.args.self.now.number c.from.result c.ballot-ballot.result c.args.report) marks refl refl stands (rw c.in-Quorum.is at (c.in_ok-promise-in-Some.ensures.stands c.args.self.now.number marks p))) in
     on_ok_or c.propose.result _ _ _ c.propose.ensures.turn
     (λ x h.
-    completes_as c.args.seat.circuit c.args.seat.members c.args.seat.me c.args.now marks c.args.row.now c.args.packet.now c.args.report promised x c.propose.new.self kind
+    completes_as c.args.seat c.args.now marks c.args.row.now c.args.packet.now c.args.report promised x c.propose.new.self kind
     (told c.args.seat c.args.now c.args.row.now x c.propose.new.self desk c.ballot-ballot.result c.args.packet.now.number c.args.packet.now.ballot (Promised c.args.packet.now.number c.args.packet.now.from c.args.packet.now.ballot c.args.report ∷ marks) (sym c.requires.number) c.ballot-ballot.ensures
     (h (Promised c.args.packet.now.number c.args.packet.now.from c.args.packet.now.ballot c.args.report ∷ marks)) (promised_not_above c.args.row.now.promised c.args.packet.now.ballot promised) left))
-    (λ _. promise_stirs c.args.seat.circuit c.args.seat.members c.args.seat.me c.args.now marks c.args.row.now c.args.packet.now c.args.report promised kind.0)
+    (λ _. promise_stirs c.args.seat c.args.now marks c.args.row.now c.args.packet.now c.args.report promised kind.0)
 
 pub returns-in_err-promise-in-Some-clause-turn : goal.returns-in_err-promise-in-Some-clause-turn
 returns-in_err-promise-in-Some-clause-turn c = λ marks stands.
@@ -92,6 +92,6 @@ returns-in_err-promise-in-Some-clause-turn c = λ marks stands.
     let promised : c.args.row.now.promised ≡ Some c.args.packet.now.ballot = c.if-not-is_promised.ensures.0 refl ∙ ap Some c.ballot-ballot.ensures in
     on_err c.from_residual.result _ _ c.from_residual.ensures.0
     (λ _.
-    promise_stirs c.args.seat.circuit c.args.seat.members c.args.seat.me c.args.now marks c.args.row.now c.args.packet.now c.args.report promised
+    promise_stirs c.args.seat c.args.now marks c.args.row.now c.args.packet.now c.args.report promised
     (is_new_told c.args.seat.me c.args.self.now.number c.args.packet.now.number c.ballot-ballot.result c.args.packet.now.ballot c.from.result c.args.packet.now.from marks (sym c.requires.number) c.ballot-ballot.ensures c.from.ensures
     (subst (λ m. IsNew m c.args.self.now.number c.ballot-ballot.result c.from.result marks) of.0 (c.in_err-promise-in-Some.ensures.err_where_new c.args.self.now.number marks p))))

@@ -15,5 +15,5 @@ returns-in_err-begin-clause-turn c = λ marks stands.
       free = record { unreleased = stands.unreleased; closed = closed_so c.args.self.now.number marks c.is_some.result c.open_ballot.result c.is_some.ensures (c.open_ballot.ensures marks stands) c.if-is_some.false };
       ballot = b.0;
       is_next = b.1;
-      holds = begin_stirs c.args.seat.circuit c.args.seat.members c.args.seat.me c.args.self.now.number b.0 c.args.own c.args.now marks c.args.row.now;
+      holds = begin_stirs c.args.seat c.args.self.now.number b.0 c.args.own c.args.now marks c.args.row.now;
     })

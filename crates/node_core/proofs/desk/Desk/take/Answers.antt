@@ -10,7 +10,7 @@ use Rattle.node_core.specs.declared.turn.Turn.{Turn}
 use Rattle.node_core.specs.declared.turn.CoreRefusal.{CoreRefusal}
 use Rattle.node_core.specs.declared.turn.CoreRefusal.TheVariants as refusals
 use Rattle.node_core.specs.Calls.{TurnIs}
-use Rattle.node_core.specs.Seats.{Seat}
+use Rattle.protocol.specs.Seats.{Seat}
 use Rattle.node_core.specs.Standing.{Answers}
 use Rattle.node_core.specs.Turns.{event_value, Stirs}
 use Rattle.node_core.proofs.Calling.{offered, sought, came_due, packet_came}

@@ -7,9 +7,9 @@ use Rattle.node_core.proofs.mail.Mail.proposal.Goals as goal
 pub returns-then-place-others : goal.returns-then-place-others
 returns-then-place-others c =
     c.to_other.ensures
-    ∙ sym (proposed_first c.args.self.now.seat.circuit c.args.self.now.seat.members c.args.self.now.seat.me c.args.self.now.number c.args.self.now.ballot (Accept c.args.tape) (Accepted c.args.tape) c.others-others.result c.others-others.ensures.many c.args.place c.if-place-others.true)
+    ∙ sym (proposed_first c.args.self.now.seat c.args.self.now.number c.args.self.now.ballot (Accept c.args.tape) (Accepted c.args.tape) c.others-others.result c.args.place c.others-others.ensures.many c.if-place-others.true)
 
 pub returns : goal.returns
 returns c =
     c.to_other-2.ensures
-    ∙ sym (proposed_second c.args.self.now.seat.circuit c.args.self.now.seat.members c.args.self.now.seat.me c.args.self.now.number c.args.self.now.ballot (Accept c.args.tape) (Accepted c.args.tape) c.others-others.result c.others-others.ensures.many c.args.place c.if-place-others.false)
+    ∙ sym (proposed_second c.args.self.now.seat c.args.self.now.number c.args.self.now.ballot (Accept c.args.tape) (Accepted c.args.tape) c.others-others.result c.args.place c.others-others.ensures.many c.if-place-others.false)

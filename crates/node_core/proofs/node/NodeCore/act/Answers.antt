@@ -5,7 +5,7 @@ use Rattle.std.specs.BTreeMap.{get}
 use Rattle.protocol.specs.Proposals.{was_released}
 use Rattle.node_core.specs.declared.desk.Desk.{Desk}
 use Rattle.node_core.specs.Calls.{TurnIs, IsRefused}
-use Rattle.node_core.specs.Seats.{Seat}
+use Rattle.protocol.specs.Seats.{Seat}
 use Rattle.node_core.specs.Standing.{Core, StandsFor, DeskStands, Grows, Kept, Settles, seat_of}
 use Rattle.node_core.specs.Turns.{event_value, Stirs}
 use Rattle.node_core.proofs.Calling.{turn_so, refused_told}
@@ -30,7 +30,7 @@ returns-in-Some-clause-turn c = λ marks h.
     (λ u is a.
     settles c.other_marks_pass.ensures c.other_marks_pass-2.ensures c.args.self.now after c.args.number c.take.new.self kept number c.args.row.now marks u x h
     (ap (λ n. was_released n marks) (sym s.0) ∙ s.1.unreleased)
-    (subst (λ n. Grows n marks u.marks) c.requires.number (grows c.self.inside.seat.circuit c.self.inside.seat.members c.self.inside.seat.me marks c.args.row.now (event_value c.args.event) u is))
+    (subst (λ n. Grows n marks u.marks) c.requires.number (grows c.self.inside.seat marks c.args.row.now (event_value c.args.event) u is))
     (c.take.ensures.of.heard ∙ ap (λ (v : Core). v.members) c.self.view_is) a)))
     (λ e t is. subst (λ (z : Seat). TurnIs z c.args.event marks c.args.row.now Stirs) (ap seat_of c.self.view_is) (t is))
 

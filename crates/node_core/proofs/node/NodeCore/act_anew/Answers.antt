@@ -6,7 +6,7 @@ use Rattle.protocol.specs.Proposals.{was_released, open_proposal}
 use Rattle.protocol.specs.Turn.{number_of}
 use Rattle.node_core.specs.declared.desk.Desk.{Desk}
 use Rattle.node_core.specs.Calls.{TurnIs, IsRefused}
-use Rattle.node_core.specs.Seats.{Seat}
+use Rattle.protocol.specs.Seats.{Seat}
 use Rattle.node_core.specs.Standing.{Core, StandsFor, DeskStands, Grows, Settles, seat_of}
 use Rattle.node_core.specs.Turns.{event_value, Stirs}
 use Rattle.node_core.proofs.Calling.{turn_so, refused_told}
@@ -57,7 +57,7 @@ returns-in_err-keep-clause-turn c = λ marks h.
     (λ t is a.
     new_stirs c.self.inside.seat.members c.args.number c.new-desk.result c.take-2.new.self c.args.row.now marks t c.in_ok-turn.turn c.new-desk.ensures.desk stands
     (c.take-2.ensures.number ∙ ap (λ (d : Desk). d.number) c.new-desk.ensures.desk) c.take-2.ensures.of.heard c.in_err-keep.ensures.memory
-    (quiet_keeps c.self.inside.seat.circuit c.self.inside.seat.members c.self.inside.seat.me marks c.args.row.now (event_value c.args.event) t is
+    (quiet_keeps c.self.inside.seat marks c.args.row.now (event_value c.args.event) t is
     (subst (λ n. open_proposal n marks ≡ None) (sym c.requires.number) (fresh_closed c.self.inside.seat.members c.args.number c.new-desk.result marks c.new-desk.ensures.desk stands))) a)))
 
 pub returns-clause-turn : goal.returns-clause-turn
@@ -69,5 +69,5 @@ returns-clause-turn c = λ marks h.
     (λ t is a.
     settles c.other_marks_pass.ensures c.other_marks_pass-2.ensures c.args.self.now c.keep.new.self c.args.number c.take-2.new.self c.in_ok-keep.ensures.kept
     (c.take-2.ensures.number ∙ ap (λ (d : Desk). d.number) c.new-desk.ensures.desk) c.args.row.now marks t c.in_ok-turn.turn h unreleased
-    (subst (λ n. Grows n marks t.marks) c.requires.number (grows c.self.inside.seat.circuit c.self.inside.seat.members c.self.inside.seat.me marks c.args.row.now (event_value c.args.event) t is))
+    (subst (λ n. Grows n marks t.marks) c.requires.number (grows c.self.inside.seat marks c.args.row.now (event_value c.args.event) t is))
     (c.take-2.ensures.of.heard ∙ ap (λ (v : Core). v.members) c.self.view_is) a))
