@@ -1,14 +1,13 @@
 -- The acceptor's lines of the turn, from what it replies.
-use Rattle.std.proofs.Common.{◌≡◌, ℕ, refl, sym, ap, ◌∙◌, List, [], ◌∷◌, Option, Some, None, Bool, true, false, arith}
-use Rattle.std.specs.Prelude.{IsSome, is_some, unwrap_or}
-use Rattle.std.proofs.lemmas.Bool.Decides.{nat_tests}
-use Rattle.protocol.specs.Ballots.{Ballot, is_same, is_below}
+use Rattle.std.proofs.Common.{◌≡◌, ℕ, refl, sym, ap, subst, ◌∙◌, List, [], ◌∷◌, Option, Some, None, Bool, true, false}
+use Rattle.std.specs.Prelude.{unwrap_or}
+use Rattle.protocol.specs.Ballots.{Ballot}
 use Rattle.protocol.specs.Rows.{Tape, Vote, Row, vote_for, raised, voted}
-use Rattle.protocol.specs.Packets.{Packet, Promise, Accepted, Nack}
+use Rattle.protocol.specs.Packets.{Packet, Promise}
 use Rattle.protocol.specs.Marks.{Mark}
-use Rattle.protocol.specs.Acceptor.{Reply, Prepares, Accepts, Promises, Nacks, Votes, Votes_again, Says_nothing, reply_of, next_row, is_above, vote_is_at}
+use Rattle.protocol.specs.Acceptor.{Reply, Prepares, Accepts, Promises, Nacks, Says_nothing, Votes, Votes_again, reply_of, next_row, is_above, is_at, vote_is_at, nack_of}
 use Rattle.protocol.specs.Turn as said
-use Rattle.protocol.specs.Turn.{answer, prepare_turn, accept_turn, vote_turn, take_vote, hear, packet_to, to_others}
+use Rattle.protocol.specs.Turn.{answer, prepare_turn, accept_turn, reply_turn, take_vote, hear, packet_to, to_others}
 use Rattle.protocol.specs.Proposals.{was_released}
 use Rattle.node_core.specs.declared.desk.Desk.{Desk}
 use Rattle.node_core.specs.declared.turn.Turn.{Turn}
@@ -24,29 +23,23 @@ use Rattle.node_core.proofs.Sending.{row_is, whole_report}
 use Rattle.acceptor.specs.Said.{may_report}
 use Rattle.node_core.proofs.Phases.{is_same-self}
 
--- a promise: the row's own is none or below
+-- a promise: the row's own is not above
 pub record Promising (s : Seat) (marks : List Mark) (row : Row) (p : Packet) (r : Option Vote) : Type 0 where
-  pub line : prepare_turn s marks row p row.promised ≡ answer s marks (raised row p.ballot) p (Promise row.vote) (said.Note_promised p.ballot)
+  pub line : prepare_turn s marks row p ≡ answer s marks (raised row p.ballot) p (Promise row.vote) (said.Note_promised p.ballot)
   pub above : is_above row.promised p.ballot ≡ false
   pub report : row.vote ≡ r
 
-other_side : (a b : Ballot) → is_below b a ≡ false → is_same a b ≡ false → is_below a b ≡ true
-other_side a b h k = grind (arith, nat_tests)
+no_promise : (o : Option Ballot) (r : Option Vote) → nack_of o ≡ Promises r → ⊥
+no_promise None r e = cc
+no_promise (Some a) r e = cc
 
 pub promising : (s : Seat) (marks : List Mark) (row : Row) (p : Packet) (r : Option Vote) → reply_of row (Prepares p.ballot) ≡ Promises r → Promising s marks row p r
-promising s marks row p r e = go row.promised refl
+promising s marks row p r e = go (is_above row.promised p.ballot) refl (is_at row.promised p.ballot) refl
   where
-    below : (a : Ballot) → row.promised ≡ Some a → (x : Bool) → is_below p.ballot a ≡ x → (y : Bool) → is_same a p.ballot ≡ y → Promising s marks row p r
-    below a h true u y w = let f : Nacks a ≡ Promises r = rw (h, u) at e in absurd cc
-    below a h false u true w = let f : Says_nothing ≡ Promises r = rw (h, u, w) at e in absurd cc
-    below a h false u false w =
-        let f : Promises row.vote ≡ Promises r = rw (h, u, w) at e in
-        let t : is_below a p.ballot ≡ true = other_side a p.ballot u w in
-        record { line = rw (h, t) refl; above = rw (h, u) refl; report = cc }
-
-    go : (q : Option Ballot) → row.promised ≡ q → Promising s marks row p r
-    go None h = let f : Promises row.vote ≡ Promises r = rw h at e in record { line = rw h refl; above = rw h refl; report = cc }
-    go (Some a) h = below a h (is_below p.ballot a) refl (is_same a p.ballot) refl
+    go : (x : Bool) → is_above row.promised p.ballot ≡ x → (y : Bool) → is_at row.promised p.ballot ≡ y → Promising s marks row p r
+    go true u y w = absurd (no_promise row.promised r (rw u at e))
+    go false u true w = let f : Says_nothing ≡ Promises r = rw (u, w) at e in absurd cc
+    go false u false w = let f : Promises row.vote ≡ Promises r = rw (u, w) at e in record { line = rw (u, w) refl; above = u; report = cc }
 
 -- what a promise sends
 pub promise_sent :
@@ -57,118 +50,83 @@ promise_sent s row p x to after saves sends is h may =
     let whole : vote_below p.ballot row.vote ≡ row.vote = whole_report row.vote p.ballot may in
     rw (sends, saves, is, same, whole) refl
 
-module _ (s : Seat) (marks : List Mark) (row : Row) (p : Packet) (t : Tape) where
-  -- a Nack
-  pub refusing : (a : Ballot) → reply_of row (Accepts p.ballot t) ≡ Nacks a → accept_turn s marks row p t row.promised ≡ answer s marks row p (Nack a) (said.Note_nacked a)
-  refusing a e = go row.promised refl
-    where
-      not_above : is_above row.promised p.ballot ≡ false → (y : Bool) → vote_is_at row.vote p.ballot ≡ y → ⊥
-      not_above h true w = let f : Votes_again ≡ Nacks a = rw (h, w) at e in cc
-      not_above h false w = let f : Votes ≡ Nacks a = rw (h, w) at e in cc
+-- a vote: it is the row after, which differs from the row before
+pub record Voting (row : Row) (b : Ballot) (t : Tape) : Type 0 where
+  pub row_after : next_row row (Accepts b t) ≡ voted b t
+  pub changes : ¬ (next_row row (Accepts b t) ≡ row)
 
-      above : (q : Ballot) → row.promised ≡ Some q → (x : Bool) → is_below p.ballot q ≡ x → accept_turn s marks row p t row.promised ≡ answer s marks row p (Nack a) (said.Note_nacked a)
-      above q h true u = let f : Nacks q ≡ Nacks a = rw (h, u) at e in let is : q ≡ a = cc in rw (h, u, is) refl
-      above q h false u = absurd (not_above (rw (h, u) refl) (vote_is_at row.vote p.ballot) refl)
+no_vote : (o : Option Ballot) → nack_of o ≡ Votes → ⊥
+no_vote None e = cc
+no_vote (Some a) e = cc
 
-      go : (q : Option Ballot) → row.promised ≡ q → accept_turn s marks row p t row.promised ≡ answer s marks row p (Nack a) (said.Note_nacked a)
-      go None h = absurd (not_above (rw h refl) (vote_is_at row.vote p.ballot) refl)
-      go (Some q) h = above q h (is_below p.ballot q) refl
-
-  -- not above: the vote decides
-  taking : (q : Option Ballot) → is_above q p.ballot ≡ false → accept_turn s marks row p t q ≡ take_vote s marks row p t row.vote
-  taking None h = refl
-  taking (Some a) h = rw h refl
-
-  not_refused : (r : Reply) → reply_of row (Accepts p.ballot t) ≡ r → ((a : Ballot) → r ≡ Nacks a → ⊥) → (r ≡ Says_nothing → ⊥) → is_above row.promised p.ballot ≡ false
-  not_refused r e not_nack not_silent = go row.promised refl
-    where
-      above : (q : Ballot) → row.promised ≡ Some q → (x : Bool) → is_below p.ballot q ≡ x → is_above row.promised p.ballot ≡ false
-      above q h true u = let f : Nacks q ≡ r = rw (h, u) at e in absurd (not_nack q (sym f))
-      above q h false u = rw (h, u) refl
-
-      go : (q : Option Ballot) → row.promised ≡ q → is_above row.promised p.ballot ≡ false
-      go None h = rw h refl
-      go (Some q) h = above q h (is_below p.ballot q) refl
-
-  -- its vote at this ballot stands
-  pub standing : (v : Vote) → row.vote ≡ Some v → reply_of row (Accepts p.ballot t) ≡ Votes_again → accept_turn s marks row p t row.promised ≡ vote_turn s marks row p v.tape (said.Note_voted_again p.ballot)
-  standing v h e =
-      let above : is_above row.promised p.ballot ≡ false = not_refused Votes_again e (λ a f. cc) (λ f. cc) in
-      taking row.promised above ∙ go above (is_same v.ballot p.ballot) refl
-    where
-      go : is_above row.promised p.ballot ≡ false → (x : Bool) → is_same v.ballot p.ballot ≡ x → take_vote s marks row p t row.vote ≡ vote_turn s marks row p v.tape (said.Note_voted_again p.ballot)
-      go above true u = rw (h, u) refl
-      go above false u = let f : Votes ≡ Votes_again = rw (above, h, u) at e in absurd cc
-
-  -- it votes
-  pub record Voting (after : Row) : Type 0 where
-    pub line : accept_turn s marks row p t row.promised ≡ vote_turn s marks after p t (said.Note_voted p.ballot)
-    pub changes : ¬ (after ≡ row)
-    pub promised : IsSome after.promised
-    pub votes : after.vote ≡ Some (vote_for p.ballot t)
-
-  pub voting : (after : Row) → reply_of row (Accepts p.ballot t) ≡ Votes → after ≡ next_row row (Accepts p.ballot t) → Voting after
-  voting after e is = go (vote_is_at row.vote p.ballot) refl
-    where
-      above : is_above row.promised p.ballot ≡ false
-      above = not_refused Votes e (λ a f. cc) (λ f. cc)
-
-      new_vote : (o : Option Vote) → vote_is_at o p.ballot ≡ false → take_vote s marks row p t o ≡ vote_turn s marks (voted p.ballot t) p t (said.Note_voted p.ballot)
-      new_vote None h = refl
-      new_vote (Some v) h = rw h refl
-
-      go : (x : Bool) → vote_is_at row.vote p.ballot ≡ x → Voting after
-      go true u = let a = above in let f : Votes_again ≡ Votes = rw (a, u) at e in absurd cc
-      go false u =
-          let a = above in
-          let after_is : after ≡ voted p.ballot t = is ∙ rw (a, u) refl in
-          record {
-            line = taking row.promised a ∙ new_vote row.vote u ∙ ap (λ (r : Row). vote_turn s marks r p t (said.Note_voted p.ballot)) (sym after_is);
-            changes = λ same.
-                let f : vote_is_at row.vote p.ballot ≡ true = ap (λ (r : Row). vote_is_at r.vote p.ballot) (sym same ∙ after_is) ∙ is_same-self p.ballot in
-                let g : true ≡ false = sym f ∙ u in cc;
-            promised = ap (λ (r : Row). is_some r.promised) after_is;
-            votes = ap (λ (r : Row). r.vote) after_is;
-          }
+pub voting : (row : Row) (b : Ballot) (t : Tape) → reply_of row (Accepts b t) ≡ Votes → Voting row b t
+voting row b t e = go (is_above row.promised b) refl (vote_is_at row.vote b) refl
+  where
+    go : (x : Bool) → is_above row.promised b ≡ x → (y : Bool) → vote_is_at row.vote b ≡ y → Voting row b t
+    go true u y w = absurd (no_vote row.promised (rw u at e))
+    go false u true w = let f : Votes_again ≡ Votes = rw (u, w) at e in absurd cc
+    go false u false w =
+        let after : next_row row (Accepts b t) ≡ voted b t = rw (u, w) refl in
+        record {
+          row_after = after;
+          changes = λ same.
+              let f : vote_is_at row.vote b ≡ true = ap (λ (r : Row). vote_is_at r.vote b) (sym same ∙ after) ∙ is_same-self b in
+              let g : true ≡ false = sym f ∙ w in cc;
+        }
 
 -- a Prepare adds no mark, and releases nothing
-pub prepare_adds_none : (s : Seat) (marks : List Mark) (row : Row) (p : Packet) (o : Option Ballot) → ((prepare_turn s marks row p o).marks ≡ marks) × ((prepare_turn s marks row p o).release ≡ None)
-prepare_adds_none s marks row p None = (refl, refl)
-prepare_adds_none s marks row p (Some a) = go (is_below a p.ballot) refl (is_same a p.ballot) refl
+pub prepare_adds_none : (s : Seat) (marks : List Mark) (row : Row) (p : Packet) → ((prepare_turn s marks row p).marks ≡ marks) × ((prepare_turn s marks row p).release ≡ None)
+prepare_adds_none s marks row p = go (is_above row.promised p.ballot) refl (is_at row.promised p.ballot) refl
   where
-    go : (x : Bool) → is_below a p.ballot ≡ x → (y : Bool) → is_same a p.ballot ≡ y → ((prepare_turn s marks row p (Some a)).marks ≡ marks) × ((prepare_turn s marks row p (Some a)).release ≡ None)
-    go true e y f = rw e (refl, refl)
+    nack : (w : Row) (o : Option Ballot) → ((reply_turn s marks w p (nack_of o)).marks ≡ marks) × ((reply_turn s marks w p (nack_of o)).release ≡ None)
+    nack w None = (refl, refl)
+    nack w (Some a) = (refl, refl)
+
+    go : (x : Bool) → is_above row.promised p.ballot ≡ x → (y : Bool) → is_at row.promised p.ballot ≡ y → ((prepare_turn s marks row p).marks ≡ marks) × ((prepare_turn s marks row p).release ≡ None)
+    go true e y f = rw e (nack row row.promised)
     go false e true f = rw (e, f) (refl, refl)
     go false e false f = rw (e, f) (refl, refl)
 
 module _ (s : Seat) (row : Row) (p : Packet) (tape : Tape) where
+  -- the turn, by what the acceptor replies and leaves
+  by_reply : (marks : List Mark) (w : Row) (r : Reply) → reply_of row (Accepts p.ballot tape) ≡ r → w ≡ next_row row (Accepts p.ballot tape) → accept_turn s marks row p tape ≡ reply_turn s marks w p r
+  by_reply marks w r e f = λ i. reply_turn s marks (sym f i) p (e i)
+
   -- a Nack takes nothing in
-  pub nacked_alone : (marks : List Mark) (x : Turn) (a : Ballot) → reply_of row (Accepts p.ballot tape) ≡ Nacks a → IsSending x None (notes.Nacked a) (record { seat = s; number = p.number; ballot = p.ballot; letter = letters.Nack p.from a }) → IsTurnAlone row marks (accept_turn s marks row p tape row.promised) x
-  nacked_alone marks x a reply r = rw (refusing s marks row p tape a reply) (record {
+  pub nacked_alone :
+      (marks : List Mark) (x : Turn) (a : Ballot) → reply_of row (Accepts p.ballot tape) ≡ Nacks a → row ≡ next_row row (Accepts p.ballot tape)
+      → IsSending x None (notes.Nacked a) (record { seat = s; number = p.number; ballot = p.ballot; letter = letters.Nack p.from a }) → IsTurnAlone row marks (accept_turn s marks row p tape) x
+  nacked_alone marks x a reply is r = subst (λ (t : said.Turn). IsTurnAlone row marks t x) (sym (by_reply marks row (Nacks a) reply is)) (record {
     is_turn = record { row_after = rw r.row_after refl; out = rw r.out refl; release = r.release; note = rw r.noted refl };
     takes_nothing = refl;
     releases_nothing = r.release;
   })
 
   -- a vote that stands
-  pub again_votes : (x : Turn) (v : Vote) (b : Ballot) (voted : Tape) → b ≡ p.ballot → voted ≡ v.tape → row.vote ≡ Some v → reply_of row (Accepts p.ballot tape) ≡ Votes_again → IsSending x None (notes.VotedAgain b) (record { seat = s; number = p.number; ballot = p.ballot; letter = letters.Vote }) → IsVote s row p tape x voted
-  again_votes x v b voted its same is reply r = record {
+  pub again_votes :
+      (x : Turn) (v : Vote) (b : Ballot) (voted : Tape) → b ≡ p.ballot → voted ≡ v.tape → row.vote ≡ Some v
+      → reply_of row (Accepts p.ballot tape) ≡ Votes_again → row ≡ next_row row (Accepts p.ballot tape)
+      → IsSending x None (notes.VotedAgain b) (record { seat = s; number = p.number; ballot = p.ballot; letter = letters.Vote }) → IsVote s row p tape x voted
+  again_votes x v b voted its same has reply is r = record {
     after = row;
-    line = λ marks. rw (r.noted, its, same) (standing s marks row p tape v is reply);
+    line = λ marks. by_reply marks row Votes_again reply is ∙ ap (take_vote s marks row p (said.Note_voted_again p.ballot)) has ∙ rw (r.noted, its, same) refl;
     row_after = rw r.row_after refl;
-    out = rw (r.out, r.row_after, is, same) refl;
+    out = rw (r.out, r.row_after, has, same) refl;
     release = r.release;
   }
 
   -- a new vote
-  pub now_votes : (x : Turn) (after : Row) (b : Ballot) → b ≡ p.ballot → reply_of row (Accepts p.ballot tape) ≡ Votes → after ≡ next_row row (Accepts p.ballot tape) → IsSending x (Some after) (notes.Voted b) (record { seat = s; number = p.number; ballot = p.ballot; letter = letters.Vote }) → IsVote s row p tape x tape
+  pub now_votes :
+      (x : Turn) (after : Row) (b : Ballot) → b ≡ p.ballot → reply_of row (Accepts p.ballot tape) ≡ Votes → after ≡ next_row row (Accepts p.ballot tape)
+      → IsSending x (Some after) (notes.Voted b) (record { seat = s; number = p.number; ballot = p.ballot; letter = letters.Vote }) → IsVote s row p tape x tape
   now_votes x after b its reply is r =
-      let v : Voting s [] row p tape after = voting s [] row p tape after reply is in
+      let v : Voting row p.ballot tape = voting row p.ballot tape reply in
+      let votes : after.vote ≡ Some (vote_for p.ballot tape) = ap (λ (w : Row). w.vote) (is ∙ v.row_after) in
       record {
         after = after;
-        line = λ marks. rw (r.noted, its) (voting s marks row p tape after reply is).line;
-        row_after = rw r.row_after (refl, v.changes);
-        out = rw (r.out, r.row_after, v.votes) refl;
+        line = λ marks. by_reply marks after Votes reply is ∙ ap (λ (w : Row). take_vote s marks after p (said.Note_voted p.ballot) w.vote) (is ∙ v.row_after) ∙ rw (r.noted, its) refl;
+        row_after = rw r.row_after (refl, λ same. v.changes (sym is ∙ same));
+        out = rw (r.out, r.row_after, votes) refl;
         release = r.release;
       }
 
@@ -177,7 +135,7 @@ module _ (s : Seat) (row : Row) (p : Packet) (tape : Tape) where
       (marks : List Mark) (x y : Turn) (voted : Tape) (d : Desk) (release : Option Tape) → IsVote s row p tape x voted
       → y.row ≡ x.row → y.mail ≡ x.mail → y.release ≡ release → y.note ≡ x.note
       → (release ≡ (hear s.members p.number s.me p.ballot voted marks).release) × IsLeft d release (hear s.members p.number s.me p.ballot voted marks).marks
-      → Answers row (accept_turn s marks row p tape row.promised) y d
+      → Answers row (accept_turn s marks row p tape) y d
   vote_heard marks x y voted d release v saves sends releases noted h = rw (v.line marks) (record {
     is_turn = record { row_after = rw saves v.row_after; out = rw (saves, sends) v.out; release = releases ∙ h.0; note = ap note_value noted };
     left = rw releases h.1;
@@ -185,20 +143,20 @@ module _ (s : Seat) (row : Row) (p : Packet) (tape : Tape) where
 
   -- it is as orderly as before
   pub vote_orderly :
-      (x y : Turn) (voted : Tape) → IsVote s row p tape x voted → ((marks : List Mark) → Stirs (accept_turn s marks row p tape row.promised))
+      (x y : Turn) (voted : Tape) → IsVote s row p tape x voted → ((marks : List Mark) → Stirs (accept_turn s marks row p tape))
       → y.row ≡ x.row → y.mail ≡ x.mail → y.note ≡ x.note → IsOrderly x → IsOrderly y
   vote_orderly x y voted v stirs saves sends noted o =
       let loud : is_quiet (note_value x.note) ≡ false = ap (λ (t : said.Turn). is_quiet t.note) (sym (v.line [])) ∙ stirs [] in
       record { promised = rw saves o.promised; few = rw sends o.few; quiet = λ q. (let bad : true ≡ false = sym q ∙ ap (λ (n : Note). is_quiet (note_value n)) noted ∙ loud in absurd cc) }
 
   -- of a number that was released it is not heard
-  vote_alone : (marks : List Mark) (x : Turn) (voted : Tape) → IsVote s row p tape x voted → was_released p.number marks ≡ true → IsTurnAlone row marks (accept_turn s marks row p tape row.promised) x
+  vote_alone : (marks : List Mark) (x : Turn) (voted : Tape) → IsVote s row p tape x voted → was_released p.number marks ≡ true → IsTurnAlone row marks (accept_turn s marks row p tape) x
   vote_alone marks x voted v r = rw (v.line marks, r) (record {
     is_turn = record { row_after = v.row_after; out = v.out; release = v.release; note = refl };
     takes_nothing = refl;
     releases_nothing = v.release;
   })
 
-  pub voting_alone : (marks : List Mark) (x : Turn) (o : Option Tape) → IsVoting s row p tape x o → was_released p.number marks ≡ true → IsTurnAlone row marks (accept_turn s marks row p tape row.promised) x
+  pub voting_alone : (marks : List Mark) (x : Turn) (o : Option Tape) → IsVoting s row p tape x o → was_released p.number marks ≡ true → IsTurnAlone row marks (accept_turn s marks row p tape) x
   voting_alone marks x None h r = h marks
   voting_alone marks x (Some voted) h r = vote_alone marks x voted h r

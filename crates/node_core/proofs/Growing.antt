@@ -2,15 +2,15 @@
 use Rattle.std.proofs.Common.{◌≡◌, ℕ, refl, ap, subst, List, [], ◌∷◌, Option, Some, None, Bool, true, false}
 use Rattle.std.specs.Prelude.{◌==◌}
 use Rattle.protocol.specs.Seats.{Seat}
-use Rattle.protocol.specs.Ballots.{Ballot, is_majority, is_same, is_below, next}
-use Rattle.protocol.specs.Rows.{Tape, Vote, Row, raised, voted}
+use Rattle.protocol.specs.Ballots.{Ballot, is_majority, next}
+use Rattle.protocol.specs.Rows.{Tape, Vote, Row, raised}
 use Rattle.protocol.specs.Packets.{Packet, Body, Prepare, Promise, Accept, Accepted, Nack}
+use Rattle.protocol.specs.Acceptor.{Prepares, Accepts, Reply, Promises, Nacks, Says_nothing, Votes, Votes_again, reply_of, next_row}
 use Rattle.protocol.specs.Marks.{Mark, Began, Promised, Proposed, Denied, Heard, Closed, Released}
 use Rattle.protocol.specs.Proposals.{Opening, was_released, open_proposal, gathering_at, proposal_at, since_began, counted, is_counted, pick, is_due}
 use Rattle.protocol.specs.Learner.{ripe}
 use Rattle.protocol.specs.Turn as said
-use Rattle.protocol.specs.Turn.{hear, propose, begin, start_turn, renew, next_ballot, due_turn, promise_turn, nack_turn, accept_turn, take_vote, vote_turn, packet_turn, is_that}
-use Rattle.node_core.proofs.Accepting.{prepare_adds_none}
+use Rattle.protocol.specs.Turn.{hear, propose, begin, start_turn, renew, next_ballot, due_turn, promise_turn, nack_turn, reply_turn, take_vote, packet_turn, is_that}
 use Rattle.node_core.specs.Standing.{Grows, marked_number}
 
 pub stays : (n : ℕ) (marks : List Mark) → Grows n marks marks
@@ -70,32 +70,25 @@ denies : (marks : List Mark) (row : Row) (p : Packet) (a : Ballot) (o : Option O
 denies marks row p a None = stays p.number marks
 denies marks row p a (Some o) = adds p.number marks marks (Denied p.number a) refl (stays p.number marks)
 
-accepts : (s : Seat) (marks : List Mark) (row : Row) (p : Packet) (t : Tape) (o : Option Ballot) → Grows p.number marks (accept_turn s marks row p t o).marks
-accepts s marks row p t o = above o
+-- what an acceptor replies
+replies : (s : Seat) (marks : List Mark) (row : Row) (p : Packet) (r : Reply) → Grows p.number marks (reply_turn s marks row p r).marks
+replies s marks row p r = go r
   where
-    votes : (w : Row) (u : Tape) (note : said.Note) → Grows p.number marks (vote_turn s marks w p u note).marks
-    votes w u note = hears s.members p.number s.me p.ballot u marks marks (stays p.number marks)
+    takes : (note : said.Note) (v : Option Vote) → Grows p.number marks (take_vote s marks row p note v).marks
+    takes note None = stays p.number marks
+    takes note (Some v) = hears s.members p.number s.me p.ballot v.tape marks marks (stays p.number marks)
 
-    takes : (v : Option Vote) → Grows p.number marks (take_vote s marks row p t v).marks
-    takes None = votes (voted p.ballot t) t (said.Note_voted p.ballot)
-    takes (Some v) = go (is_same v.ballot p.ballot) refl
-      where
-        go : (x : Bool) → is_same v.ballot p.ballot ≡ x → Grows p.number marks (take_vote s marks row p t (Some v)).marks
-        go true e = rw e (votes row v.tape (said.Note_voted_again p.ballot))
-        go false e = rw e (votes (voted p.ballot t) t (said.Note_voted p.ballot))
-
-    above : (q : Option Ballot) → Grows p.number marks (accept_turn s marks row p t q).marks
-    above None = takes row.vote
-    above (Some a) = go (is_below p.ballot a) refl
-      where
-        go : (x : Bool) → is_below p.ballot a ≡ x → Grows p.number marks (accept_turn s marks row p t (Some a)).marks
-        go true e = rw e (stays p.number marks)
-        go false e = rw e (takes row.vote)
+    go : (r : Reply) → Grows p.number marks (reply_turn s marks row p r).marks
+    go (Promises report) = stays p.number marks
+    go (Nacks a) = stays p.number marks
+    go Says_nothing = stays p.number marks
+    go Votes = takes (said.Note_voted p.ballot) row.vote
+    go Votes_again = takes (said.Note_voted_again p.ballot) row.vote
 
 receives : (s : Seat) (now : ℕ) (marks : List Mark) (row : Row) (p : Packet) (body : Body) → Grows p.number marks (packet_turn s now marks row p body).marks
-receives s now marks row p Prepare = rw (prepare_adds_none s marks row p row.promised).0 (stays p.number marks)
+receives s now marks row p Prepare = replies s marks (next_row row (Prepares p.ballot)) p (reply_of row (Prepares p.ballot))
 receives s now marks row p (Promise r) = promises s now marks row p r (gathering_at p.number p.ballot marks)
-receives s now marks row p (Accept t) = accepts s marks row p t row.promised
+receives s now marks row p (Accept t) = replies s marks (next_row row (Accepts p.ballot t)) p (reply_of row (Accepts p.ballot t))
 receives s now marks row p (Accepted t) = hears s.members p.number p.from p.ballot t marks marks (stays p.number marks)
 receives s now marks row p (Nack a) = denies marks row p a (proposal_at p.number p.ballot marks)
 

@@ -1,5 +1,5 @@
 -- Lemmas on the lines of the turn.
-use Rattle.std.proofs.Common.{◌≡◌, ◌≤◌, ℕ, suc, refl, sym, ap, subst, ◌∙◌, List, [], ◌∷◌, Option, Some, None, Bool, true, false, Result, Ok, Err, arith, length}
+use Rattle.std.proofs.Common.{◌≡◌, ◌≤◌, ℕ, suc, refl, sym, ap, subst, ◌∙◌, List, [], ◌∷◌, Option, Some, None, Bool, true, false, Result, Ok, Err, arith}
 use Rattle.std.specs.Prelude.{IfOk, IfErr, OnErr, MatchResult, IsErr, ◌==◌, nat_lt, nat_le, is_some}
 use Rattle.std.proofs.lemmas.Bool.{eq-eqb}
 use Rattle.std.proofs.lemmas.Bool.Decides.{nat_tests}
@@ -21,11 +21,9 @@ use Rattle.protocol.specs.Seats.{Seat}
 use Rattle.learner.specs.Latest.{hears, OtherMarksPass as OtherVotesPass}
 use Rattle.proposer.specs.InHand.{InHand, StandsFor as ProposalStandsFor}
 use Rattle.node_core.specs.Standing.{Answers, DeskStands, ProposalStands}
-use Rattle.node_core.specs.Mails.{Mail, IsFew}
-use Rattle.node_core.specs.Turns.{note_value, is_quiet, HasPromise, IsOrderly, IsSending}
+use Rattle.node_core.specs.Turns.{note_value}
 use Rattle.node_core.specs.declared.turn.Note.TheVariants as notes
 use Rattle.node_core.specs.Handling.{IsTurnAlone}
-use Rattle.node_core.specs.declared.turn.Note.{Note}
 
 -- where the first fact gives the second, an Ok keeps it
 pub on_ok : {A E : Type 0} (r : Result A E) (P Q : A → Type 0) → IfOk r P → ((x : A) → P x → Q x) → IfOk r Q
@@ -289,8 +287,3 @@ hear_told P c e j n k m b a t marks f g h i p =
     (subst (λ l. P (hear e n l b t marks)) h
     (subst (λ l. P (hear e l k b t marks)) g
     (subst (λ l. P (hear l j k b t marks)) f p)))
-
--- a turn that sends is orderly where its note is not a quiet one
-pub sends_orderly : (x : Turn) (row : Option Row) (note : Note) (mail : Mail) → HasPromise row → is_quiet (note_value note) ≡ false → IsFew x.mail → IsSending x row note mail → IsOrderly x
-sends_orderly x row note mail h stirs few r =
-    record { promised = rw r.row_after h; few = few; quiet = λ q. (let bad : true ≡ false = sym q ∙ ap (λ (y : Note). is_quiet (note_value y)) r.noted ∙ stirs in absurd cc) }

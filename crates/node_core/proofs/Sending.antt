@@ -1,5 +1,5 @@
 -- The packets to the others, member by member.
-use Rattle.std.proofs.Common.{◌≡◌, ◌≤◌, ◌<◌, ℕ, zero, suc, ◌+◌, refl, sym, ap, ◌∙◌, List, [], ◌∷◌, ◌++◌, Option, Some, None, Bool, true, false, length, map, arith, length-append}
+use Rattle.std.proofs.Common.{◌≡◌, ◌≤◌, ◌<◌, ℕ, zero, suc, ◌+◌, refl, sym, ap, ◌∙◌, List, [], ◌∷◌, ◌++◌, Option, Some, None, Bool, true, false, length, arith, length-append}
 use Rattle.std.specs.Prelude.{filter, not, slice_get, option_map, unwrap_or, is_some, ◌==◌, ◌-◌, ◌*◌}
 use Rattle.std.proofs.lemmas.Bool.{eqb-true, eqb-false, ne_eqb, eq-eqb}
 use Rattle.std.proofs.lemmas.List.{length-map}
@@ -7,7 +7,7 @@ use Rattle.std.proofs.lemmas.List.Elements.{filter-append}
 use Rattle.std.proofs.lemmas.Option.{slice_get-map, slice_get_past, slice_get_within}
 use Rattle.protocol.specs.Ballots.{Ballot, is_below, members}
 use Rattle.protocol.specs.Rows.{Vote, Row}
-use Rattle.protocol.specs.Packets.{Packet, Body, Prepare, Promise, Accept, Accepted, Nack}
+use Rattle.protocol.specs.Packets.{Packet, Body, Prepare, Accept, Accepted}
 use Rattle.protocol.specs.Turn.{packet_to, others, to_others}
 use Rattle.packets.specs.Rules.{keeps_rules, kind_of, may_send, may_say}
 use Rattle.acceptor.specs.Said.{may_report}

@@ -1,16 +1,15 @@
 -- Turns that are not quiet, and what a quiet one leaves.
-use Rattle.std.proofs.Common.{◌≡◌, ℕ, refl, sym, ap, subst, ◌∙◌, List, [], ◌∷◌, Option, Some, None, Bool, true, false, arith}
-use Rattle.std.specs.Prelude.{◌==◌}
-use Rattle.std.proofs.lemmas.Bool.Decides.{nat_tests}
+use Rattle.std.proofs.Common.{◌≡◌, ℕ, refl, sym, subst, ◌∙◌, List, [], ◌∷◌, Option, Some, None, Bool, true, false}
+use Rattle.std.specs.Prelude.{◌==◌, if◌then◌else◌}
 use Rattle.protocol.specs.Seats.{Seat}
-use Rattle.protocol.specs.Ballots.{Ballot, is_same, is_below, next}
+use Rattle.protocol.specs.Ballots.{Ballot, is_below, next}
 use Rattle.protocol.specs.Rows.{Tape, Vote, Row, raised}
 use Rattle.protocol.specs.Packets.{Packet, Body, Prepare, Promise, Accept, Accepted, Nack}
 use Rattle.protocol.specs.Marks.{Mark, Began, Promised}
-use Rattle.protocol.specs.Proposals.{Opening, was_released, open_proposal, gathering_at, proposal_at, since_began, counted, pick, is_due, is_due_number}
-use Rattle.protocol.specs.Acceptor.{Prepares, Says_nothing, reply_of}
+use Rattle.protocol.specs.Proposals.{Opening, was_released, open_proposal, gathering_at, since_began, counted, pick, is_due, is_due_number}
+use Rattle.protocol.specs.Acceptor.{Prepares, Accepts, Reply, Promises, Nacks, Says_nothing, Votes, Votes_again, reply_of, next_row, is_above, vote_is_at, nack_of}
 use Rattle.protocol.specs.Turn as said
-use Rattle.protocol.specs.Turn.{propose, begin, start_turn, renew, next_ballot, due_turn, promise_turn, prepare_turn, accept_turn, accepted_turn, packet_turn, take_vote}
+use Rattle.protocol.specs.Turn.{propose, begin, start_turn, renew, next_ballot, due_turn, promise_turn, prepare_turn, accept_turn, accepted_turn, packet_turn, reply_turn, take_vote}
 use Rattle.proposer.specs.Answers.{IsNew, completes}
 use Rattle.node_core.specs.Turns.{Stirs, is_quiet}
 use Rattle.node_core.proofs.Phases.{counts_so, completes_so, none_gathers}
@@ -57,43 +56,36 @@ promise_stirs s now marks row p r promised h = go (completes s.members s.me p.nu
 pub is_new_told : (m n j : ℕ) (b a : Ballot) (from k : ℕ) (marks : List Mark) → n ≡ j → b ≡ a → from ≡ k → IsNew m n b from marks → IsNew m j a k marks
 is_new_told m n j b a from k marks e f g h = subst (λ i. IsNew m j a i marks) g (subst (λ (x : Ballot). IsNew m j x from marks) f (subst (λ i. IsNew m i b from marks) e h))
 
-not_below_same : (a b : Ballot) → is_same a b ≡ true → is_below b a ≡ false
-not_below_same a b h = grind (arith, nat_tests)
+-- an answer is not quiet
+module _ (s : Seat) (marks : List Mark) (row : Row) (p : Packet) where
+  take_stirs : (note : said.Note) (v : Option Vote) → is_quiet note ≡ false → Stirs (take_vote s marks row p note v)
+  take_stirs note None h = h
+  take_stirs note (Some v) h = h
+
+  reply_stirs : (r : Reply) → (r ≡ Says_nothing → ⊥) → Stirs (reply_turn s marks row p r)
+  reply_stirs (Promises report) speaks = refl
+  reply_stirs (Nacks a) speaks = refl
+  reply_stirs Says_nothing speaks = absurd (speaks refl)
+  reply_stirs Votes speaks = take_stirs (said.Note_voted p.ballot) row.vote refl
+  reply_stirs Votes_again speaks = take_stirs (said.Note_voted_again p.ballot) row.vote refl
 
 -- a Prepare is answered, unless it is promised already
-pub prepare_stirs : (s : Seat) (marks : List Mark) (row : Row) (p : Packet) → (reply_of row (Prepares p.ballot) ≡ Says_nothing → ⊥) → Stirs (prepare_turn s marks row p row.promised)
-prepare_stirs s marks row p speaks = go row.promised refl
-  where
-    below : (a : Ballot) → row.promised ≡ Some a → (x : Bool) → is_below a p.ballot ≡ x → (y : Bool) → is_same a p.ballot ≡ y → Stirs (prepare_turn s marks row p row.promised)
-    below a h true e y f = rw (h, e) refl
-    below a h false e true f =
-        let g : is_below p.ballot a ≡ false = not_below_same a p.ballot f in
-        absurd (speaks (rw (h, g, f) refl))
-    below a h false e false f = rw (h, e, f) refl
-
-    go : (q : Option Ballot) → row.promised ≡ q → Stirs (prepare_turn s marks row p row.promised)
-    go None h = rw h refl
-    go (Some a) h = below a h (is_below a p.ballot) refl (is_same a p.ballot) refl
+pub prepare_stirs : (s : Seat) (marks : List Mark) (row : Row) (p : Packet) → (reply_of row (Prepares p.ballot) ≡ Says_nothing → ⊥) → Stirs (prepare_turn s marks row p)
+prepare_stirs s marks row p speaks = reply_stirs s marks (next_row row (Prepares p.ballot)) p (reply_of row (Prepares p.ballot)) speaks
 
 -- an Accept is answered
-pub accept_stirs : (s : Seat) (marks : List Mark) (row : Row) (p : Packet) (t : Tape) (q : Option Ballot) → Stirs (accept_turn s marks row p t q)
-accept_stirs s marks row p t q = above q
+pub accept_stirs : (s : Seat) (marks : List Mark) (row : Row) (p : Packet) (t : Tape) → Stirs (accept_turn s marks row p t)
+accept_stirs s marks row p t = reply_stirs s marks (next_row row (Accepts p.ballot t)) p (reply_of row (Accepts p.ballot t)) (speaks row.promised (vote_is_at row.vote p.ballot))
   where
-    takes : (v : Option Vote) → Stirs (take_vote s marks row p t v)
-    takes None = refl
-    takes (Some v) = go (is_same v.ballot p.ballot) refl
+    speaks : (o : Option Ballot) (y : Bool) → (if is_above o p.ballot then nack_of o else if y then Votes_again else Votes) ≡ Says_nothing → ⊥
+    speaks None true e = cc
+    speaks None false e = cc
+    speaks (Some a) y e = go (is_below p.ballot a) y e
       where
-        go : (x : Bool) → is_same v.ballot p.ballot ≡ x → Stirs (take_vote s marks row p t (Some v))
-        go true e = rw e refl
-        go false e = rw e refl
-
-    above : (o : Option Ballot) → Stirs (accept_turn s marks row p t o)
-    above None = takes row.vote
-    above (Some a) = go (is_below p.ballot a) refl
-      where
-        go : (x : Bool) → is_below p.ballot a ≡ x → Stirs (accept_turn s marks row p t (Some a))
-        go true e = rw e refl
-        go false e = rw e (takes row.vote)
+        go : (x y : Bool) → (if x then Nacks a else if y then Votes_again else Votes) ≡ Says_nothing → ⊥
+        go true y e = cc
+        go false true e = cc
+        go false false e = cc
 
 -- a vote is heard where its number was not released
 pub accepted_stirs : (s : Seat) (marks : List Mark) (row : Row) (p : Packet) (t : Tape) → was_released p.number marks ≡ false → Stirs (accepted_turn s marks row p t)
@@ -112,9 +104,9 @@ module _ (s : Seat) (marks : List Mark) (row : Row) where
   started n own now (Some b) t e = let is : begin s n b own now marks row ≡ t = cc in subst Keeps is (stirred (begin s n b own now marks row) (begin_stirs s n b own now marks row))
 
   received : (p : Packet) (now : ℕ) (body : Body) → open_proposal p.number marks ≡ None → Keeps (packet_turn s now marks row p body)
-  received p now Prepare h q = (prepare_adds_none s marks row p row.promised).0
+  received p now Prepare h q = (prepare_adds_none s marks row p).0
   received p now (Promise r) h q = let none : gathering_at p.number p.ballot marks ≡ None = none_gathers p.number p.ballot marks h in rw none refl
-  received p now (Accept t) h q = stirred (accept_turn s marks row p t row.promised) (accept_stirs s marks row p t row.promised) q
+  received p now (Accept t) h q = stirred (accept_turn s marks row p t) (accept_stirs s marks row p t) q
   received p now (Accepted t) h q = go (was_released p.number marks) refl q
     where
       go : (x : Bool) → was_released p.number marks ≡ x → Keeps (accepted_turn s marks row p t)

@@ -55,12 +55,12 @@ Acts n event row result old new =
 -- what the code hands out is a vote for this tape
 pub record IsVote (s : Seat) (row : Row) (p : Packet) (tape : Tape) (x : Turn) (voted : Tape) : Type 0 where
   pub after : Row
-  pub line : (marks : List Mark) → accept_turn s marks row p tape row.promised ≡ vote_turn s marks after p voted (note_value x.note)
+  pub line : (marks : List Mark) → accept_turn s marks row p tape ≡ vote_turn s marks after p voted (note_value x.note)
   pub row_after : IsRowAfter row after x.row
   pub out : sent row x ≡ to_others s p.number p.ballot (Accepted voted)
   pub release : x.release ≡ None
 
 -- an Accept is voted for, with this tape, or refused
 abbrev pub IsVoting : Seat → Row → Packet → Tape → Turn → Option Tape → Type 0
-IsVoting s row p tape x None = (marks : List Mark) → IsTurnAlone row marks (accept_turn s marks row p tape row.promised) x
+IsVoting s row p tape x None = (marks : List Mark) → IsTurnAlone row marks (accept_turn s marks row p tape) x
 IsVoting s row p tape x (Some voted) = IsVote s row p tape x voted

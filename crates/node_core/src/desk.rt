@@ -1,6 +1,6 @@
 //! What is in hand of one number: its proposal, if one is open, and the votes that were heard.
 
-ghost use Rattle.std.specs.Prelude.{◌≡◌, ◌≤◌, ℕ, List, [], ◌∷◌, Option, Some, None, IfOk, IfErr, OnOk, IsTrue, IsSome, MatchBool, true, false, option_map};
+ghost use Rattle.std.specs.Prelude.{◌≡◌, ◌≤◌, ℕ, List, ◌∷◌, Option, Some, None, IfOk, IfErr, OnOk, IsTrue, IsSome, MatchBool, false, option_map};
 ghost use Rattle.protocol.specs.Ballots.{next};
 ghost use Rattle.protocol.specs.Packets.{Accept as AcceptBody};
 ghost use Rattle.packets.specs.Rules.{keeps_rules};
@@ -411,7 +411,7 @@ impl Desk {
         requires arrived { IsForMember seat.me seat.members packet.now }
         requires rules { IsTrue (keeps_rules packet.now) }
         requires kind { packet.now.body ≡ AcceptBody tape }
-        ensures turn { Handles row.now (λ marks. accept_turn seat marks row.now packet.now tape.entry row.now.promised) result self.old self.new }
+        ensures turn { Handles row.now (λ marks. accept_turn seat marks row.now packet.now tape.entry) result self.old self.new }
         ensures orderly { IfOk result (λ x. IsOrderly x) }
         ensures of { IsDeskOf seat self.new }
         ensures number { self.new.number ≡ self.old.number }

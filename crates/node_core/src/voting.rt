@@ -1,10 +1,9 @@
 //! The acceptor's part of a turn.
 
-ghost use Rattle.std.specs.Prelude.{◌≡◌, ◌≤◌, List, [], ◌∷◌, IfOk, OnErr, IsTrue, None, length};
+ghost use Rattle.std.specs.Prelude.{◌≡◌, List, IfOk, OnErr, IsTrue};
 ghost use Rattle.protocol.specs.Marks.{Mark};
-ghost use Rattle.protocol.specs.Packets.{Prepare, Accept, Accepted};
-ghost use Rattle.protocol.specs.Turn.{packet_to, to_others, prepare_turn, accept_turn};
-ghost use Rattle.packets.specs.Bodies.{said};
+ghost use Rattle.protocol.specs.Packets.{Prepare, Accept};
+ghost use Rattle.protocol.specs.Turn.{prepare_turn, accept_turn};
 ghost use Rattle.packets.specs.Rules.{keeps_rules};
 ghost use Rattle.node_core.specs.Calls.{IsForMember};
 ghost use Rattle.node_core.specs.Mails.{MayGo, IsFew};
@@ -53,9 +52,9 @@ pub(crate) fn prepare(
     requires to { packet.now.to ≡ seat.me }
     requires rules { IsTrue (keeps_rules packet.now) }
     requires kind { packet.now.body ≡ Prepare }
-    ensures turn { IfOk result (λ x. (marks : List Mark) → IsTurn row.now (prepare_turn seat marks row.now packet.now row.now.promised) x) }
+    ensures turn { IfOk result (λ x. (marks : List Mark) → IsTurn row.now (prepare_turn seat marks row.now packet.now) x) }
     ensures orderly { IfOk result (λ x. IsOrderly x) }
-    ensures memory { OnErr result ((marks : List Mark) → Stirs (prepare_turn seat marks row.now packet.now row.now.promised)) }
+    ensures memory { OnErr result ((marks : List Mark) → Stirs (prepare_turn seat marks row.now packet.now)) }
 {
     let ballot = packet.ballot();
     match acceptor::prepare(row, ballot) {
@@ -87,10 +86,8 @@ pub(crate) fn accept<'a>(
     requires kind { packet.now.body ≡ Accept tape }
     ensures voting { IfOk result (λ v. IsVoting seat row.now packet.now tape.entry v.turn v.vote) }
     ensures orderly { IfOk result (λ v. IsOrderly v.turn) }
-    ensures stirs { (marks : List Mark) → Stirs (accept_turn seat marks row.now packet.now tape.entry row.now.promised) }
+    ensures stirs { (marks : List Mark) → Stirs (accept_turn seat marks row.now packet.now tape.entry) }
 {
-    // The sender is another member: so there is one to answer.
-    let (_from, _me) = (packet.from().get(), seat.me());
     let ballot = packet.ballot();
     match acceptor::accept(alloc, row, ballot, tape.lend())? {
         AcceptAnswer::Nack { promised } => {

@@ -3,17 +3,19 @@ use Rattle.std.proofs.Common.{◌≡◌, ℕ, ◌≤◌, inl, inr, refl, sym, ap
 use Rattle.std.specs.Prelude.{◌==◌, nat_le, if◌then◌else◌, MatchOption}
 use Rattle.std.proofs.lemmas.Bool.{eqb-true, eqb-false, leb-true, leb-false}
 use Rattle.protocol.specs.Seats.{Seat}
-use Rattle.protocol.specs.Ballots.{Ballot, IsBelow, IsMember, IsNoneOrAtMost, IsNoneOrBelow, next, is_same, is_below, is_majority}
-use Rattle.protocol.specs.Rows.{Tape, Vote, Row, raised}
+use Rattle.protocol.specs.Ballots.{Ballot, IsMember, IsNoneOrAtMost, next, is_same, is_below, is_majority}
+use Rattle.protocol.specs.Rows.{Tape, Vote, vote_for, Row, raised}
 use Rattle.protocol.specs.Packets.{Packet, Body, Prepare, Promise, Accept, Accepted, Nack}
+use Rattle.protocol.specs.Acceptor.{is_above, vote_is_at}
 use Rattle.protocol.specs.Marks.{Mark, Began, Promised, Proposed, Heard}
 use Rattle.protocol.specs.Readings.{IsReleased, IsOpen, Gathers, IsCounted, Picks, IsDue}
 use Rattle.protocol.specs.Proposals.{begun, Opening, was_released, since_began, open_proposal, proposal_at, gathering_at, counted, is_counted, pick, denied, due_moment}
-use Rattle.protocol.specs.Turn.{Event, Offered, Sought, Came_due, Arrived, Turn, settle, hear, propose, begin, start_turn, greater_ballot, renew, due_turn, prepare_turn, take_vote, accept_turn, is_that, is_promised, promise_turn, nack_turn, accepted_turn, packet_turn, turn}
+use Rattle.protocol.specs.Turn.{Event, Offered, Sought, Came_due, Arrived, Note_silent, Turn, stays, settle, hear, propose, begin, start_turn, greater_ballot, renew, due_turn, prepare_turn, accept_turn, is_that, is_promised, promise_turn, nack_turn, accepted_turn, packet_turn, turn}
 use Rattle.protocol.specs.Table.{Hears, was_settled, waits, releases, Proposes, nothing, proposes, Begins, asks, alone, StartTurn, starts, IsGreater, DueTurn, is_idle, gives_up, begins_anew, PrepareTurn, promises, is_silent, VotedAt, AcceptTurn, votes_again, votes, PromiseTurn, is_stale, is_overtaken, is_repeated, counts, completes, NackTurn, is_denied, AcceptedTurn, settles, hears, AnswerTurn, IsTurn, IsSpent, TurnsAreOfTheTable}
 use Rattle.protocol.specs.Table as table
 use Rattle.protocol.specs.Learner.{ripe}
-use Rattle.protocol.proofs.Below.{below_weaken, at_most_cases}
+use Rattle.protocol.proofs.Order.{below_where}
+use Rattle.protocol.proofs.Below.{below_weaken}
 use Rattle.protocol.proofs.Due.{due_as, not_due, none_due}
 use Rattle.protocol.proofs.Reading.{is_same-true, is_same-self, is_below-true, is_below-false, released_is, unreleased_is, open_is, proposal_is, proposal_none, gathering_is, gathering_none, is_counted-one, one-is_counted, majority_of, no_majority_of, pick_is, denied_is, ripe_is, ripe_none}
 
@@ -85,54 +87,61 @@ due_is seat n now marks row l = go (open_proposal n marks) refl
 
 -- packets
 
-above_is : (a b : Ballot) → is_below a b ≡ false → is_same a b ≡ false → IsBelow b a
-above_is a b e f = elim (at_most_cases b a (is_below-false a b e)) [
-  | inl g ↦ absurd (true_false (sym (is_same-self a b (sym g)) ∙ f))
-  | inr l ↦ l
-]
+pub prepare_is : (seat : Seat) (marks : List Mark) (row : Row) (p : Packet) → PrepareTurn seat marks row p (prepare_turn seat marks row p)
+prepare_is seat marks row p = at row.promised
   where
-    true_false : true ≡ false → ⊥
-    true_false e = cc
+    held : Option Ballot → Row
+    held o = record { promised = o; vote = row.vote }
 
-pub prepare_is : (seat : Seat) (marks : List Mark) (row : Row) (p : Packet) (r : Option Ballot) → row.promised ≡ r → PrepareTurn seat marks row p (prepare_turn seat marks row p r)
-prepare_is seat marks row p None e = promises (subst (λ (r : Option Ballot). IsNoneOrBelow r p.ballot) (sym e) tt) refl
-prepare_is seat marks row p (Some a) e = go (is_below a p.ballot) refl (is_same a p.ballot) refl
-  where
-    go : (s : Bool) → is_below a p.ballot ≡ s → (t : Bool) → is_same a p.ballot ≡ t → PrepareTurn seat marks row p (prepare_turn seat marks row p (Some a))
-    go true f t g = rw f (promises (subst (λ (r : Option Ballot). IsNoneOrBelow r p.ballot) (sym e) (is_below-true a p.ballot f)) refl)
-    go false f true g = rw (f, g) (is_silent (e ∙ ap Some (is_same-true a p.ballot g)) refl)
-    go false f false g = rw (f, g) (table.PrepareTurn.nacks a e (above_is a p.ballot f g) refl)
-
-pub vote_is : (seat : Seat) (marks : List Mark) (row : Row) (p : Packet) (tape : Tape) → IsNoneOrAtMost row.promised p.ballot → (r : Option Vote) → row.vote ≡ r → AcceptTurn seat marks row p tape (take_vote seat marks row p tape r)
-vote_is seat marks row p tape l None e =
-    votes (hear seat.members p.number seat.me p.ballot tape marks).release (hear seat.members p.number seat.me p.ballot tape marks).marks l (λ own h. some_none (sym h ∙ e)) (hear_is seat.members p.number seat.me p.ballot tape marks) refl
-vote_is seat marks row p tape l (Some v) e = go (is_same v.ballot p.ballot) refl
-  where
-    other : is_same v.ballot p.ballot ≡ false → (own : Tape) → ¬ VotedAt row p.ballot own
-    other f own h = false_true (sym f ∙ is_same-self v.ballot p.ballot (ap (λ (x : Vote). x.ballot) same))
+    at : (o : Option Ballot) → PrepareTurn seat marks (held o) p (prepare_turn seat marks (held o) p)
+    at None = promises tt refl
+    at (Some a) = go (is_below p.ballot a) refl (is_same a p.ballot) refl
       where
-        false_true : false ≡ true → ⊥
-        false_true e = cc
+        go : (s : Bool) → is_below p.ballot a ≡ s → (t : Bool) → is_same a p.ballot ≡ t → PrepareTurn seat marks (held (Some a)) p (prepare_turn seat marks (held (Some a)) p)
+        go true f t g = rw f (table.PrepareTurn.nacks a refl (is_below-true p.ballot a f) refl)
+        go false f true g =
+            let same : a ≡ p.ballot = is_same-true a p.ballot g in
+            rw (f, g) (is_silent (ap Some same) (ap (λ (b : Ballot). stays (held (Some b)) marks Note_silent) (sym same)))
+        go false f false g = rw (f, g) (promises (is_below-true a p.ballot (below_where a p.ballot f g)) refl)
 
-        some_same : {A : Type 0} {x y : A} → Some x ≡ Some y → x ≡ y
-        some_same e = cc
-
-        same : v ≡ record { ballot = p.ballot; tape = own }
-        same = some_same (sym e ∙ h)
-
-    go : (s : Bool) → is_same v.ballot p.ballot ≡ s → AcceptTurn seat marks row p tape (take_vote seat marks row p tape (Some v))
-    go true f =
-        let g : v.ballot ≡ p.ballot = is_same-true v.ballot p.ballot f in
-        rw f (votes_again v.tape (hear seat.members p.number seat.me p.ballot v.tape marks).release (hear seat.members p.number seat.me p.ballot v.tape marks).marks l (e ∙ ap (λ (b : Ballot). Some (record { ballot = b; tape = v.tape })) g) (hear_is seat.members p.number seat.me p.ballot v.tape marks) refl)
-    go false f = rw f (votes (hear seat.members p.number seat.me p.ballot tape marks).release (hear seat.members p.number seat.me p.ballot tape marks).marks l (other f) (hear_is seat.members p.number seat.me p.ballot tape marks) refl)
-
-pub accept_is : (seat : Seat) (marks : List Mark) (row : Row) (p : Packet) (tape : Tape) (r : Option Ballot) → row.promised ≡ r → AcceptTurn seat marks row p tape (accept_turn seat marks row p tape r)
-accept_is seat marks row p tape None e = vote_is seat marks row p tape (subst (λ (r : Option Ballot). IsNoneOrAtMost r p.ballot) (sym e) tt) row.vote refl
-accept_is seat marks row p tape (Some a) e = go (is_below p.ballot a) refl
+pub accept_is : (seat : Seat) (marks : List Mark) (row : Row) (p : Packet) (tape : Tape) → AcceptTurn seat marks row p tape (accept_turn seat marks row p tape)
+accept_is seat marks row p tape = at row.promised
   where
-    go : (s : Bool) → is_below p.ballot a ≡ s → AcceptTurn seat marks row p tape (accept_turn seat marks row p tape (Some a))
-    go true f = rw f (table.AcceptTurn.nacks a e (is_below-true p.ballot a f) refl)
-    go false f = rw f (vote_is seat marks row p tape (subst (λ (r : Option Ballot). IsNoneOrAtMost r p.ballot) (sym e) (is_below-false p.ballot a f)) row.vote refl)
+    Is : Option Ballot → Option Vote → Type 0
+    Is o v = AcceptTurn seat marks (record { promised = o; vote = v }) p tape (accept_turn seat marks (record { promised = o; vote = v }) p tape)
+
+    -- a vote
+    new : (o : Option Ballot) (v : Option Vote) → IsNoneOrAtMost o p.ballot → is_above o p.ballot ≡ false → vote_is_at v p.ballot ≡ false → ((own : Tape) → ¬ (v ≡ Some (vote_for p.ballot own))) → Is o v
+    new o v l above f none =
+        rw (above, f) (votes (hear seat.members p.number seat.me p.ballot tape marks).release (hear seat.members p.number seat.me p.ballot tape marks).marks l none (hear_is seat.members p.number seat.me p.ballot tape marks) refl)
+
+    voting : (o : Option Ballot) (v : Option Vote) → IsNoneOrAtMost o p.ballot → is_above o p.ballot ≡ false → Is o v
+    voting o None l above = new o None l above refl (λ own h. some_none (sym h))
+    voting o (Some v) l above = go (is_same v.ballot p.ballot) refl
+      where
+        other : is_same v.ballot p.ballot ≡ false → (own : Tape) → ¬ (Some v ≡ Some (vote_for p.ballot own))
+        other f own h = false_true (sym f ∙ is_same-self v.ballot p.ballot (ap (λ (x : Vote). x.ballot) (some_same h)))
+          where
+            false_true : false ≡ true → ⊥
+            false_true e = cc
+
+            some_same : {A : Type 0} {x y : A} → Some x ≡ Some y → x ≡ y
+            some_same e = cc
+
+        go : (s : Bool) → is_same v.ballot p.ballot ≡ s → Is o (Some v)
+        go true f =
+            let same : v.ballot ≡ p.ballot = is_same-true v.ballot p.ballot f in
+            rw (above, f) (votes_again v.tape (hear seat.members p.number seat.me p.ballot v.tape marks).release (hear seat.members p.number seat.me p.ballot v.tape marks).marks l
+            (ap (λ (b : Ballot). Some (vote_for b v.tape)) same) (hear_is seat.members p.number seat.me p.ballot v.tape marks) refl)
+        go false f = new o (Some v) l above f (other f)
+
+    at : (o : Option Ballot) → Is o row.vote
+    at None = voting None row.vote tt refl
+    at (Some a) = go (is_below p.ballot a) refl
+      where
+        go : (s : Bool) → is_below p.ballot a ≡ s → Is (Some a) row.vote
+        go true f = rw f (table.AcceptTurn.nacks a refl (is_below-true p.ballot a f) refl)
+        go false f = voting (Some a) row.vote (is_below-false p.ballot a f) f
 
 pub accepted_is : (seat : Seat) (marks : List Mark) (row : Row) (p : Packet) (tape : Tape) → AcceptedTurn seat marks row p tape (accepted_turn seat marks row p tape)
 accepted_is seat marks row p tape = go (was_released p.number marks) refl
@@ -206,9 +215,9 @@ promise_is seat now marks row p r (Some o) e = here (gathering_is p.number p.bal
             refl)
 
 pub packet_is : (seat : Seat) (now : ℕ) (marks : List Mark) (row : Row) (p : Packet) (body : Body) → AnswerTurn seat now marks row p body (packet_turn seat now marks row p body)
-packet_is seat now marks row p Prepare = prepare_is seat marks row p row.promised refl
+packet_is seat now marks row p Prepare = prepare_is seat marks row p
 packet_is seat now marks row p (Promise r) = promise_is seat now marks row p r (gathering_at p.number p.ballot marks) refl
-packet_is seat now marks row p (Accept tape) = accept_is seat marks row p tape row.promised refl
+packet_is seat now marks row p (Accept tape) = accept_is seat marks row p tape
 packet_is seat now marks row p (Accepted tape) = accepted_is seat marks row p tape
 packet_is seat now marks row p (Nack a) = nack_is marks row p a (proposal_at p.number p.ballot marks) refl
 

@@ -5,6 +5,7 @@ use Rattle.protocol.specs.Seats.{Seat}
 use Rattle.protocol.specs.Ballots.{Ballot, is_same, is_below, next, members, is_majority}
 use Rattle.protocol.specs.Rows.{Tape, Vote, Row, raised, voted}
 use Rattle.protocol.specs.Packets.{Packet, Body, Prepare, Promise, Accept, Accepted, Nack}
+use Rattle.protocol.specs.Acceptor.{Reply, Prepares, Accepts, Promises, Nacks, Says_nothing, Votes, Votes_again, reply_of, next_row}
 use Rattle.protocol.specs.Marks.{Mark, Began, Promised, Proposed, Denied, Heard, Closed, Released}
 use Rattle.protocol.specs.Proposals.{Opening, Counted, was_released, open_proposal, proposal_at, gathering_at, since_began, counted, is_counted, pick, begun, denied, is_due}
 use Rattle.protocol.specs.Learner.{ripe}
@@ -123,32 +124,32 @@ due_turn s n now marks row (Some p) =
 abbrev pub answer : Seat → List Mark → Row → Packet → Body → Note → Turn
 answer s marks row p body note = record { row = row; marks = marks; out = packet_to s p.number p.ballot body p.from ∷ []; release = None; note = note }
 
--- Lamport, phase 1 (b): a Prepare is promised where the row has no promise or a lower one, and isn't answered where it has an equal one;
--- a higher one goes back in a Nack
-abbrev pub prepare_turn : Seat → List Mark → Row → Packet → Option Ballot → Turn
-prepare_turn s marks row p None = answer s marks (raised row p.ballot) p (Promise row.vote) (Note_promised p.ballot)
-prepare_turn s marks row p (Some a) =
-    if is_below a p.ballot then answer s marks (raised row p.ballot) p (Promise row.vote) (Note_promised p.ballot)
-    else if is_same a p.ballot then stays row marks Note_silent
-    else answer s marks row p (Nack a) (Note_nacked a)
-
 -- the station's vote is sent to the others and heard by itself
 abbrev pub vote_turn : Seat → List Mark → Row → Packet → Tape → Note → Turn
 vote_turn s marks row p tape note =
     after_hearing row (to_others s p.number p.ballot (Accepted tape)) note (hear s.members p.number s.me p.ballot tape marks)
 
--- Lamport, phase 2 (b): an Accept that isn't below the promise is voted for; a vote that the row has at its ballot stands
-abbrev pub take_vote : Seat → List Mark → Row → Packet → Tape → Option Vote → Turn
-take_vote s marks row p tape None = vote_turn s marks (voted p.ballot tape) p tape (Note_voted p.ballot)
-take_vote s marks row p tape (Some v) =
-    if is_same v.ballot p.ballot then vote_turn s marks row p v.tape (Note_voted_again p.ballot)
-    else vote_turn s marks (voted p.ballot tape) p tape (Note_voted p.ballot)
+-- the vote that the row has, if it has one, is sent and heard so
+abbrev pub take_vote : Seat → List Mark → Row → Packet → Note → Option Vote → Turn
+take_vote s marks row p note None = stays row marks note
+take_vote s marks row p note (Some v) = vote_turn s marks row p v.tape note
 
--- an Accept, at a row with this promise
-abbrev pub accept_turn : Seat → List Mark → Row → Packet → Tape → Option Ballot → Turn
-accept_turn s marks row p tape None = take_vote s marks row p tape row.vote
-accept_turn s marks row p tape (Some a) =
-    if is_below p.ballot a then answer s marks row p (Nack a) (Note_nacked a) else take_vote s marks row p tape row.vote
+-- the turn on an acceptor's reply to the request in p, with the row that it leaves: its report, or the promise that stands in the way,
+-- goes back to the sender; the vote that its row then has is sent to the others and heard
+abbrev pub reply_turn : Seat → List Mark → Row → Packet → Reply → Turn
+reply_turn s marks row p (Promises report) = answer s marks row p (Promise report) (Note_promised p.ballot)
+reply_turn s marks row p (Nacks a) = answer s marks row p (Nack a) (Note_nacked a)
+reply_turn s marks row p Says_nothing = stays row marks Note_silent
+reply_turn s marks row p Votes = take_vote s marks row p (Note_voted p.ballot) row.vote
+reply_turn s marks row p Votes_again = take_vote s marks row p (Note_voted_again p.ballot) row.vote
+
+-- Lamport, phase 1 (b): a Prepare is taken as an acceptor with this row takes it
+abbrev pub prepare_turn : Seat → List Mark → Row → Packet → Turn
+prepare_turn s marks row p = reply_turn s marks (next_row row (Prepares p.ballot)) p (reply_of row (Prepares p.ballot))
+
+-- Lamport, phase 2 (b): so is an Accept
+abbrev pub accept_turn : Seat → List Mark → Row → Packet → Tape → Turn
+accept_turn s marks row p tape = reply_turn s marks (next_row row (Accepts p.ballot tape)) p (reply_of row (Accepts p.ballot tape))
 
 -- there is a ballot, and it is b
 abbrev pub is_that : Option Ballot → Ballot → Bool
@@ -186,9 +187,9 @@ accepted_turn s marks row p tape =
 
 -- a packet, by its body
 abbrev pub packet_turn : Seat → ℕ → List Mark → Row → Packet → Body → Turn
-packet_turn s now marks row p Prepare = prepare_turn s marks row p row.promised
+packet_turn s now marks row p Prepare = prepare_turn s marks row p
 packet_turn s now marks row p (Promise report) = promise_turn s now marks row p report (gathering_at p.number p.ballot marks)
-packet_turn s now marks row p (Accept tape) = accept_turn s marks row p tape row.promised
+packet_turn s now marks row p (Accept tape) = accept_turn s marks row p tape
 packet_turn s now marks row p (Accepted tape) = accepted_turn s marks row p tape
 packet_turn s now marks row p (Nack a) = nack_turn marks row p a (proposal_at p.number p.ballot marks)
 

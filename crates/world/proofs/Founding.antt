@@ -3,6 +3,7 @@ use Rattle.std.proofs.Common.{◌≡◌, ℕ, zero, suc, ◌<◌, ◌≤◌, ◌
 use Rattle.std.specs.Prelude.{◌↔◌, map, slice_get}
 use Rattle.std.proofs.lemmas.List.{length-map, map-append}
 use Rattle.std.proofs.lemmas.Option.{slice_get_within}
+use Rattle.protocol.specs.Seats.{sits}
 use Rattle.protocol.specs.Versions.{One}
 use Rattle.protocol.specs.Circuit.{fresh, starts}
 use Rattle.saved_rows.specs.Saved.{Saved}
@@ -43,13 +44,13 @@ last (z ∷ xs) x = last xs x
 -- one member more
 pub more :
     {R : Type 0} (k c : ℕ) (parts : List (Part R)) (stations : List (Station (Balky R))) (part : Part R) (s : Station (Balky R)) → length stations ≡ length parts
-    → AreNew k c parts stations → IsNew k c (suc (length parts)) part s → AreNew k c (parts ++ part ∷ []) (stations ++ s ∷ [])
+    → AreNew k c parts stations → IsNew (sits k (suc (length parts)) c) part s → AreNew k c (parts ++ part ∷ []) (stations ++ s ∷ [])
 more {R = R} k c parts stations part s same all new i t at_i = elim (grown stations s i t at_i) [
   | inl before ↦ (let p = all i t before in (p.0, stays parts part i p.0 p.1, p.2))
   | inr now ↦ (let place : i ≡ length parts = now.0 ∙ same in
       let at_last : slice_get (parts ++ part ∷ []) i ≡ Some part = ap (slice_get (parts ++ part ∷ [])) place ∙ last parts part in
-      let numbered : IsNew k c (suc i) part s = subst (λ (j : ℕ). IsNew k c (suc j) part s) (sym place) new in
-      (part, at_last, subst (λ (u : Station (Balky R)). IsNew k c (suc i) part u) now.1 numbered))
+      let numbered : IsNew (sits k (suc i) c) part s = subst (λ (j : ℕ). IsNew (sits k (suc j) c) part s) (sym place) new in
+      (part, at_last, subst (λ (u : Station (Balky R)). IsNew (sits k (suc i) c) part u) now.1 numbered))
 ]
 
 -- what a member was given, without its rows
@@ -66,7 +67,7 @@ module _ {R : Type 0} (is_open : R → Type 0) (saved : R → Saved) (k : ℕ) (
   shows : (i : ℕ) (s : Station (Balky R)) → slice_get v.stations.items i ≡ Some s → Shows is_open saved of.tables of.files z (fresh (λ k. One)) (suc i) s
   shows i s at_i =
       let p = f.stations i s at_i in
-      let new : IsNew k (length parts) (suc i) p.0 s = p.2 in
+      let new : IsNew (sits k (suc i) (length parts)) p.0 s = p.2 in
       record {
         circuit = new.circuit ∙ sym of.number;
         members = new.members ∙ sym so_many;

@@ -1,5 +1,6 @@
 -- A world in which nothing has happened yet.
 use Rattle.std.specs.Prelude.{◌≡◌, ◌≤◌, ℕ, suc, List, [], Some, None, false, Result, Ok, Err, length, slice_get}
+use Rattle.protocol.specs.Seats.{Seat, sits}
 use Rattle.protocol.specs.Rows.{blank}
 use Rattle.code_table.specs.Tables.{Places}
 use Rattle.widths.specs.Widths.{WidthFile}
@@ -30,11 +31,11 @@ given_of part = (part.0, part.1)
 abbrev pub IsCount : ℕ → Type 0
 IsCount n = (1 ≤ n) × (n ≤ 15)
 
--- member m of the c of circuit k, which has taken nothing in, with this table, these widths and these rows, unarmed
-pub record IsNew {R : Type 0} (k c m : ℕ) (part : Part R) (s : Station (Balky R)) : Type 0 where
-  pub circuit : s.core.circuit ≡ k
-  pub members : s.core.members ≡ c
-  pub me : s.core.me ≡ m
+-- the station of this seat, which has taken nothing in, with this table, these widths and these rows, unarmed
+pub record IsNew {R : Type 0} (seat : Seat) (part : Part R) (s : Station (Balky R)) : Type 0 where
+  pub circuit : s.core.circuit ≡ seat.circuit
+  pub members : s.core.members ≡ seat.members
+  pub me : s.core.me ≡ seat.me
   pub table : s.table ≡ part.0
   pub widths : s.widths ≡ part.1
   pub rows : s.rows.rows ≡ part.2
@@ -45,7 +46,7 @@ pub record IsNew {R : Type 0} (k c m : ℕ) (part : Part R) (s : Station (Balky 
 -- the stations are those of the parts, numbered from 1 in order
 abbrev pub AreNew : {R : Type 0} → ℕ → ℕ → List (Part R) → List (Station (Balky R)) → Type 0
 AreNew {R = R} k c parts stations =
-    (i : ℕ) (s : Station (Balky R)) → slice_get stations i ≡ Some s → (part : Part R) × (slice_get parts i ≡ Some part) × IsNew k c (suc i) part s
+    (i : ℕ) (s : Station (Balky R)) → slice_get stations i ≡ Some s → (part : Part R) × (slice_get parts i ≡ Some part) × IsNew (sits k (suc i) c) part s
 
 -- all members of circuit k, and nothing went between them
 pub record IsFounded {R : Type 0} (k : ℕ) (parts : List (Part R)) (v : World R) : Type 0 where

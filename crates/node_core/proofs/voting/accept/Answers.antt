@@ -19,12 +19,14 @@ pub returns-in-Nack-clause-voting : goal.returns-in-Nack-clause-voting
 returns-in-Nack-clause-voting c = λ marks.
     nacked_alone c.args.seat c.args.row.now c.args.packet.now c.args.tape marks c.send-turn.result c.in-Nack.promised
     (reply_told c.args.row.now c.ballot-ballot.result c.args.packet.now.ballot c.lend.result c.args.tape (Nacks c.in-Nack.promised) c.ballot-ballot.ensures c.lend.ensures (ap said_of_accept (sym c.in-Nack.is) ∙ c.in_ok-promised.ensures.reply))
+    (row_told c.args.row.now c.args.row.now c.ballot-ballot.result c.args.packet.now.ballot c.lend.result c.args.tape c.ballot-ballot.ensures c.lend.ensures (ap (λ (a : AcceptAnswer). row_of a c.args.row.now) (sym c.in-Nack.is) ∙ c.in_ok-promised.ensures.row))
     (rw c.from-to.ensures at c.send-turn.ensures.turn)
 
 pub returns-in-Some-clause-voting : goal.returns-in-Some-clause-voting
 returns-in-Some-clause-voting c =
     again_votes c.args.seat c.args.row.now c.args.packet.now c.args.tape c.send-turn-in-Some.result c.in-Some.vote.now c.ballot-ballot.result c.tape.result c.ballot-ballot.ensures c.tape.ensures (sym c.in-Some.ensures.value)
     (reply_told c.args.row.now c.ballot-ballot.result c.args.packet.now.ballot c.lend.result c.args.tape Votes_again c.ballot-ballot.ensures c.lend.ensures (ap said_of_accept (sym c.in-Again.is) ∙ c.in_ok-promised.ensures.reply))
+    (row_told c.args.row.now c.args.row.now c.ballot-ballot.result c.args.packet.now.ballot c.lend.result c.args.tape c.ballot-ballot.ensures c.lend.ensures (ap (λ (a : AcceptAnswer). row_of a c.args.row.now) (sym c.in-Again.is) ∙ c.in_ok-promised.ensures.row))
     c.send-turn-in-Some.ensures.turn
 
 pub returns-in-Voted-clause-voting : goal.returns-in-Voted-clause-voting
@@ -35,4 +37,4 @@ returns-in-Voted-clause-voting c =
     c.send-turn-in-Voted.ensures.turn
 
 pub returns-in-Some-clause-stirs : goal.returns-in-Some-clause-stirs
-returns-in-Some-clause-stirs c = λ marks. accept_stirs c.args.seat marks c.args.row.now c.args.packet.now c.args.tape c.args.row.now.promised
+returns-in-Some-clause-stirs c = λ marks. accept_stirs c.args.seat marks c.args.row.now c.args.packet.now c.args.tape

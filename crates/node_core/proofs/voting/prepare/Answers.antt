@@ -1,5 +1,5 @@
 -- The lines of a Prepare: refused, promised already, or promised now.
-use Rattle.std.proofs.Common.{◌≡◌, refl, sym, ap, ◌∙◌}
+use Rattle.std.proofs.Common.{◌≡◌, refl, sym, ◌∙◌}
 use Rattle.std.specs.Prelude.{option_copied}
 use Rattle.protocol.specs.Acceptor.{Promises, Says_nothing}
 use Rattle.node_core.proofs.Phases.{on_any_err}

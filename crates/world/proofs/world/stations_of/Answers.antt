@@ -3,6 +3,7 @@ use Rattle.std.proofs.Common.{◌≡◌, ◌+◌, suc, sym, ap, subst, ◌∙◌
 use Rattle.std.proofs.lemmas.List.{map-id}
 use Rattle.std.proofs.lemmas.Iterator.Adapters.{YieldsList-from_vec}
 use Rattle.std.proofs.lemmas.Iterator.Consumers.{YieldsList-end}
+use Rattle.protocol.specs.Seats.{sits}
 use Rattle.saved_rows.specs.declared.balky.Balky.{Balky}
 use Rattle.station.specs.declared.station.Station.{Station}
 use Rattle.world.specs.Founding.{Part, IsNew, AreNew}
@@ -18,7 +19,7 @@ loop-table-preserved g c =
     let longer : length (parts ++ part ∷ []) ≡ length parts + 1 = length-append parts (part ∷ []) in
     let pushed = c.in_ok-push-in-Ok.ensures.items in
     let so_many : length stations ≡ length parts = c.loop-table.invariant.count in
-    let new : IsNew c.args.circuit c.args.count (suc (length parts)) part c.in-Ok.station = record {
+    let new : IsNew (sits c.args.circuit (suc (length parts)) c.args.count) part c.in-Ok.station = record {
       circuit = e.circuit;
       members = e.members;
       me = e.me ∙ (let i = c.loop-table.invariant.me in omega (arith, i));

@@ -17,7 +17,7 @@ returns-in-Nack-clause-of c = c.nack.ensures.of c.args.seat c.requires.of
 pub returns-in-Prepare-clause-turn : goal.returns-in-Prepare-clause-turn
 returns-in-Prepare-clause-turn c = λ marks stands.
     let turn = λ (y : Body). packet_turn c.args.seat c.args.now marks c.args.row.now c.args.packet.now y in
-    let quiet = prepare_adds_none c.args.seat marks c.args.row.now c.args.packet.now c.args.row.now.promised in
+    let quiet = prepare_adds_none c.args.seat marks c.args.row.now c.args.packet.now in
     subst (λ (y : Body). MatchResult c.prepare.result (λ x. Answers c.args.row.now (turn y) x c.args.self.now) (λ _. Stirs (turn y))) (sym (ap said c.in-Prepare.is) ∙ c.body.ensures.body)
     (on_both c.prepare.result _ _ _ _ c.prepare.ensures.turn c.prepare.ensures.memory
     (λ x t. record { is_turn = t marks; left = rw ((t marks).release ∙ quiet.1, quiet.0) stands })

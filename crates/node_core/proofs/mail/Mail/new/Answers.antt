@@ -1,4 +1,3 @@
-use Rattle.std.proofs.Common.{sym, subst, ◌≤◌}
 use Rattle.node_core.proofs.Sending.{few_sent}
 use Rattle.node_core.proofs.mail.Mail.new.Goals as goal
 

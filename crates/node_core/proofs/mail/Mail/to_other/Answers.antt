@@ -1,5 +1,5 @@
 -- The packet to another.
-use Rattle.std.proofs.Common.{sym, ap, ◌∙◌, Some, arith}
+use Rattle.std.proofs.Common.{ap, ◌∙◌, Some}
 use Rattle.packets.specs.Bodies.{said}
 use Rattle.node_core.proofs.Sending.{none_sent_at, sent_at, other_keeps}
 use Rattle.node_core.proofs.mail.Mail.to_other.Goals as goal
