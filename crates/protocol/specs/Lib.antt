@@ -3,6 +3,7 @@ pub mod Seats
 pub mod Ballots
 pub mod Rows
 pub mod Versions
+pub mod Entries
 pub mod Packets
 pub mod Acceptor
 pub mod Marks

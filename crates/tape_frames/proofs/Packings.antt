@@ -1,8 +1,8 @@
 -- The laws of packings.
-use Rattle.std.proofs.Common.{◌≡◌, ℕ, zero, suc, ◌+◌, ◌*◌, ◌-◌, ◌/◌, ◌%◌, ◌^◌, ◌<◌, List, [], ◌∷◌, length, refl, sym, ap, ◌∙◌, arith}
+use Rattle.std.proofs.Common.{◌≡◌, ℕ, zero, suc, ◌+◌, ◌*◌, ◌-◌, ◌/◌, ◌%◌, ◌^◌, ◌<◌, List, [], ◌∷◌, length, refl, sym, ap, subst, ◌∙◌, arith}
 use Rattle.std.specs.Prelude.{slice_index}
 use Rattle.tape_frames.specs.Frames.{AreFrames}
-use Rattle.tape_frames.specs.Packing.{AreBytes, Packs, none, one, two, three, four, packed_len, unpacked, pad_of, OnePacking, OneUnpacking, PackedLength, HasPacking, UnpackingUndoes, TapesArePacked, PackedAreTapes}
+use Rattle.tape_frames.specs.Packing.{AreBytes, Packs, none, one, two, three, four, packed_len, unpacked, pad_of, OnePacking, OneUnpacking, PackedLength, HasPacking, UnpackingUndoes, TapesArePacked, PackedAreTapes, OnePacked}
 
 cons : {x y : ℕ} {xs ys : List ℕ} → x ≡ y → xs ≡ ys → x ∷ xs ≡ y ∷ ys
 cons e f = λ i. e i ∷ f i
@@ -142,6 +142,14 @@ packed_are_tapes n bytes is =
     let few = is.few in
     let many = t.many in
     (record { some = omega (arith, some, many); few = omega (arith, few, many); small = t.small }, t.many, t.packs)
+
+pub one_packed : OnePacked
+one_packed frames others bytes other is are e =
+    let a = packed_are_tapes frames bytes is in
+    let b = packed_are_tapes others other are in (
+      sym a.1 ∙ ap (λ (xs : List ℕ). length xs) e ∙ b.1,
+      one_packing (unpacked others other) bytes other is.small are.small (subst (λ (xs : List ℕ). Packs xs bytes) e a.2) b.2,
+    )
 
 -- what holds a byte at each place is bytes
 pub are_bytes : (bytes : List ℕ) → ((i : ℕ) → slice_index bytes i < 256) → AreBytes bytes

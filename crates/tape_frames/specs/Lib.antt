@@ -1,3 +1,4 @@
 pub mod Frames
 pub mod Holes
 pub mod Packing
+pub mod Entries

@@ -37,6 +37,12 @@ unpacked frames bytes = take frames (frames_in bytes)
 abbrev pub pad_of : ℕ → List ℕ → ℕ
 pad_of frames bytes = slice_index bytes (length bytes - 1) % 4 ^ (frames % 4)
 
+-- as many frames as a tape may have, in their number of bytes
+pub record IsWhole (frames : ℕ) (bytes : List ℕ) : Type 0 where
+  pub some : 1 ≤ frames
+  pub few : frames ≤ most_frames
+  pub whole : length bytes ≡ packed_len frames
+
 -- bytes are a packed tape of so many frames: as many as a tape may have, in their number of bytes, and zero bits behind the last
 pub record IsPacked (frames : ℕ) (bytes : List ℕ) : Type 0 where
   pub small : AreBytes bytes
@@ -74,3 +80,9 @@ abbrev pub PackedAreTapes : Type 0
 PackedAreTapes =
     (frames : ℕ) (bytes : List ℕ) → IsPacked frames bytes
     → IsTape (unpacked frames bytes) × (length (unpacked frames bytes) ≡ frames) × Packs (unpacked frames bytes) bytes
+
+-- packed tapes in which the same frames stand are as many frames in the same bytes
+abbrev pub OnePacked : Type 0
+OnePacked =
+    (frames others : ℕ) (bytes other : List ℕ) → IsPacked frames bytes → IsPacked others other → unpacked frames bytes ≡ unpacked others other
+    → (frames ≡ others) × (bytes ≡ other)

@@ -1,7 +1,7 @@
 //! Laws over packings. The functions do nothing: their contracts are the laws.
 
 ghost use Rattle.std.specs.Prelude.{[], ◌∷◌};
-ghost use Rattle.tape_frames.specs.Packing.{OnePacking, OneUnpacking, PackedLength, HasPacking, UnpackingUndoes, TapesArePacked, PackedAreTapes, Packs};
+ghost use Rattle.tape_frames.specs.Packing.{OnePacking, OneUnpacking, PackedLength, HasPacking, UnpackingUndoes, TapesArePacked, PackedAreTapes, OnePacked, Packs};
 
 /// Frames have a packing, only one, and of a known length.
 pub fn packing()
@@ -20,6 +20,11 @@ pub fn unpacking()
 pub fn packed()
     ensures tapes { TapesArePacked }
     ensures are_tapes { PackedAreTapes }
+{}
+
+/// Two packed tapes of the same frames are the same bytes.
+pub fn one_packed()
+    ensures { OnePacked }
 {}
 
 /// Seven frames packed: `01 02 03 01 03 02 04` are `04 20 c1 0c 21 00`.

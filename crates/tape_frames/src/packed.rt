@@ -1,10 +1,12 @@
 //! Packed tapes: six bits a frame.
 
-ghost use Rattle.std.specs.Prelude.{◌≡◌, ◌≤◌, ◌↔◌, length, slice_get, IsSome, IfSome};
-ghost use Rattle.tape_frames.specs.Frames.{IsTape, most_frames};
-ghost use Rattle.tape_frames.specs.Packing.{Packs, IsPacked, packed_len, pad_of, unpacked};
+ghost use Rattle.std.specs.Prelude.{◌≡◌, ◌≤◌, ◌↔◌, length, slice_get, IsSome, IfSome, IfOk, IsTrue};
+ghost use Rattle.tape_frames.specs.Frames.{IsTape};
+ghost use Rattle.tape_frames.specs.Packing.{Packs, IsWhole, IsPacked, packed_len, pad_of, unpacked};
 
-use crate::tape::MAX_FRAMES;
+use crate::tape::{MAX_FRAMES, Tape};
+use crate::unpacking::frames_of;
+use std::alloc::{AllocError, Global};
 use std::marker::Model;
 
 /// A packed tape whose bytes are lent: six bits a frame, the highest first, and zero bits behind the last as far
@@ -27,11 +29,10 @@ impl<'a> Model for PackedRef<'a> {
 }
 
 /// How many bytes so many frames are packed in.
-pub(crate) fn packed_len(frames: usize) -> usize
-    requires { frames ≤ most_frames }
+pub fn packed_len(frames: u16) -> usize
     ensures { result ≡ packed_len frames }
 {
-    (3 * frames + 3) / 4
+    (3 * usize::from(frames) + 3) / 4
 }
 
 /// The bits of the last byte behind the last frame.
@@ -68,10 +69,13 @@ fn frame_at(bytes: &[u8], frames: usize, i: usize) -> Option<u8>
 
 impl<'a> PackedRef<'a> {
     /// The packed tape of so many frames; `None` where it is none: where a tape has never so many, where they take another
-    /// number of bytes, or where a bit behind the last is set.
+    /// number of bytes, or where a bit behind the last is set. So `None` means that bit to who has taken [`packed_len`]
+    /// bytes for 1 to [`MAX_FRAMES`] frames. It takes no memory.
     pub fn new(length: u16, bytes: &'a [u8]) -> Option<PackedRef<'a>>
         ensures some { IsSome result ↔ IsPacked length bytes.now }
         ensures value { IfSome result (λ p. p ≡ unpacked length bytes.now) }
+        // Where the length is a tape's and has its bytes, the pad alone decides.
+        ensures pad { IsWhole length bytes.now → (IsSome result ↔ (pad_of length bytes.now ≡ 0)) }
         ensures packs { IfSome result (λ p. Packs p bytes.now) }
         ensures is_tape { IfSome result (λ p. IsTape p) }
     {
@@ -79,7 +83,7 @@ impl<'a> PackedRef<'a> {
         if frames < 1 || frames > MAX_FRAMES {
             return None;
         }
-        if bytes.len() != packed_len(frames) || pad_of(frames, bytes) != 0 {
+        if bytes.len() != packed_len(length) || pad_of(frames, bytes) != 0 {
             return None;
         }
         Some(PackedRef { length, bytes })
@@ -98,5 +102,54 @@ impl<'a> PackedRef<'a> {
         ensures is_tape { IsTape self.now }
     {
         usize::from(self.length)
+    }
+
+    /// Its bytes: the frames packed, [`packed_len`] bytes of them.
+    pub fn bytes(&self) -> &'a [u8]
+        ensures packed { IsPacked (length self.now) result.now }
+        ensures unpacked { unpacked (length self.now) result.now ≡ self.now }
+        ensures packs { Packs self.now result.now }
+    {
+        self.bytes
+    }
+
+    /// The same packed tape, lent once more.
+    pub fn lend(&self) -> PackedRef<'a>
+        ensures { result ≡ self.now }
+    {
+        PackedRef {
+            length: self.length,
+            bytes: self.bytes,
+        }
+    }
+
+    /// Whether the frames are equal: then the bytes are.
+    pub(crate) fn is_packed_as(&self, other: &PackedRef<'_>) -> bool
+        ensures { IsTrue result ↔ (self.now ≡ other.now) }
+    {
+        self.length == other.length && self.bytes == other.bytes
+    }
+
+    /// Whether these are its frames.
+    pub(crate) fn has_frames(&self, frames: &[u8]) -> bool
+        ensures { IsTrue result ↔ (self.now ≡ frames.now) }
+    {
+        if frames.len() != self.len() {
+            return false;
+        }
+        for (i, frame) in frames.iter().enumerate() {
+            if self.frame(i) != Some(*frame) {
+                return false;
+            }
+        }
+        true
+    }
+
+    /// The tape with frames of its own, one a byte. Its memory is asked for once.
+    pub(crate) fn unpack(&self, alloc: Global) -> Result<Tape, AllocError>
+        ensures { IfOk result (λ t. t ≡ self.now) }
+    {
+        let frames = frames_of(alloc, self.bytes, usize::from(self.length))?;
+        Ok(Tape::of_frames(frames))
     }
 }

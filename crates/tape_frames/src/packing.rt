@@ -44,7 +44,7 @@ impl<'a> TapeRef<'a> {
         ensures again { IfOk result (λ v. unpacked (length self.now) v.items ≡ self.now) }
     {
         let frames = self.frames();
-        let mut out = Vec::with_capacity(alloc, packed_len(frames.len()))?;
+        let mut out = Vec::with_capacity(alloc, packed_len(frames.len() as u16))?;
         for group in frames.chunks(4) {
             put_group(&mut out, group)?;
         }

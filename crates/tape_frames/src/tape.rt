@@ -125,6 +125,14 @@ impl<'a> TapeRef<'a> {
 }
 
 impl Tape {
+    /// The tape that owns these frames.
+    pub(crate) fn of_frames(frames: Vec<u8>) -> Tape
+        requires { IsTape frames.items }
+        ensures { result ≡ frames.items }
+    {
+        Tape { frames }
+    }
+
     /// The tape of these frames, one a byte, copied.
     ///
     /// The faults are those of [`TapeRef::from_bytes`], and then `OutOfMemory`.

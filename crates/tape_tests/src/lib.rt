@@ -1,6 +1,8 @@
-//! The tests of tapes, packed tapes and packets.
+//! The tests of tapes, packed tapes, entries and packets.
 #![tactic(auto)]
 
+#[cfg(test)]
+mod entries;
 #[cfg(test)]
 mod faults;
 #[cfg(test)]

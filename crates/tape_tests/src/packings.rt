@@ -2,7 +2,7 @@
 
 use fixtures::FLOOD;
 use std::alloc::Global;
-use tape_frames::{PackedRef, TapeRef};
+use tape_frames::{PackedRef, TapeRef, packed_len};
 
 // Frames and their packing, each worked out by hand.
 const PACKINGS: &[(&[u8], &[u8])] = &[
@@ -12,6 +12,9 @@ const PACKINGS: &[(&[u8], &[u8])] = &[
     (&[1, 2], &[0x04, 0x20]),
     (&[1], &[0x04]),
     (&[63, 0, 63, 0, 63], &[0xfc, 0x0f, 0xc0, 0xfc]),
+    (&[63], &[0xfc]),
+    (&[63, 63], &[0xff, 0xf0]),
+    (&[63, 63, 63], &[0xff, 0xff, 0xc0]),
 ];
 
 // Lengths and bytes that are no packed tape: a pad bit is set, or there is a byte too many or too few, or no frame.
@@ -20,6 +23,8 @@ const NOT_PACKED: &[(u16, &[u8])] = &[
     (7, &[0x04, 0x20, 0xc1, 0x0c, 0x21, 0x20]),
     (2, &[0x04, 0x21]),
     (2, &[0x04, 0x28]),
+    (3, &[0x04, 0x20, 0xc1]),
+    (3, &[0x04, 0x20, 0xe0]),
     (1, &[0x05]),
     (1, &[0x06]),
     (7, &[0x04, 0x20, 0xc1, 0x0c, 0x21]),
@@ -89,6 +94,26 @@ fn longest_goes_both_ways(alloc: Global) -> Option<bool> {
 fn both_ways(rt: HostRuntime) {
     for (frames, bytes) in PACKINGS {
         assert!(rt; goes_both_ways(rt.alloc(), frames, bytes));
+    }
+}
+
+// How many bytes so many frames take: none, one each up to three, and three for four of them.
+const LENGTHS: &[(u16, usize)] = &[
+    (0, 0),
+    (1, 1),
+    (2, 2),
+    (3, 3),
+    (4, 3),
+    (5, 4),
+    (4096, 3072),
+    (16384, 12288),
+    (65535, 49152),
+];
+
+#[test]
+fn lengths(rt: HostRuntime) {
+    for (frames, bytes) in LENGTHS {
+        assert!(rt; packed_len(*frames) == *bytes);
     }
 }
 

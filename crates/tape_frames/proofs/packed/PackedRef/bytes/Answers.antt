@@ -1,0 +1,13 @@
+use Rattle.std.proofs.Common.{◌≡◌, ℕ, List, length, sym, ap, subst, ◌∙◌}
+use Rattle.tape_frames.specs.Packing.{Packs, IsPacked}
+use Rattle.tape_frames.proofs.Packings.{packed_are_tapes}
+use Rattle.tape_frames.proofs.packed.PackedRef.bytes.Goals as goal
+
+-- as many frames as the view has
+pub returns-clause-packed : goal.returns-clause-packed
+returns-clause-packed c =
+    let many : c.self.inside.length ≡ length c.args.self.now = sym (packed_are_tapes _ _ c.self.invariant).1 ∙ ap (λ (xs : List ℕ). length xs) c.self.view_is in
+    subst (λ (n : ℕ). IsPacked n c.self.inside.bytes.now) many c.self.invariant
+
+pub returns-clause-packs : goal.returns-clause-packs
+returns-clause-packs c = subst (λ (xs : List ℕ). Packs xs c.self.inside.bytes.now) c.self.view_is (packed_are_tapes _ _ c.self.invariant).2
