@@ -4,3 +4,5 @@ pub mod Written
 pub mod Again
 pub mod Taken
 pub mod Unique
+pub mod EntryFronts
+pub mod EntrySpellings

@@ -19,10 +19,10 @@ kind_is (Accept tape) = refl
 kind_is (Accepted tape) = refl
 kind_is (Nack promised) = refl
 
-ballot_are : (bytes : List ℕ) (b : Ballot) → SpellsBallot bytes b → bytes ≡ ballot_bytes b
+pub ballot_are : (bytes : List ℕ) (b : Ballot) → SpellsBallot bytes b → bytes ≡ ballot_bytes b
 ballot_are bytes b s = s.are ∙ ap (λ (r : List ℕ). r ++ b.owner ∷ []) (four_are s.round b.round s.spells_round)
 
-tape_are : (bytes : List ℕ) (tape : Tape) → SpellsTape bytes tape → bytes ≡ tape_bytes tape
+pub tape_are : (bytes : List ℕ) (tape : Tape) → SpellsTape bytes tape → bytes ≡ tape_bytes tape
 tape_are bytes tape s = s.are ∙ ap (λ (r : List ℕ). r ++ tape) (two_are s.count (length tape) s.spells_count)
 
 vote_are : (bytes : List ℕ) (vote : Vote) → SpellsVote bytes vote → bytes ≡ report_bytes (Some vote)
@@ -78,12 +78,12 @@ packet_is bytes p s =
       rules = s.rules;
     }
 
-ballot_written : (b : Ballot) → IsBallot b → SpellsBallot (ballot_bytes b) b
+pub ballot_written : (b : Ballot) → IsBallot b → SpellsBallot (ballot_bytes b) b
 ballot_written b is =
     let high = is.round_high in
     record { round = to_be_bytes w32 b.round; are = refl; spells_round = four_written b.round (omega (arith, high)); is_ballot = is }
 
-tape_written : (tape : Tape) → IsTapeOne tape → SpellsTape (tape_bytes tape) tape
+pub tape_written : (tape : Tape) → IsTapeOne tape → SpellsTape (tape_bytes tape) tape
 tape_written tape is =
     let few = is.few in
     record { count = to_be_bytes w16 (length tape); are = refl; spells_count = two_written (length tape) (omega (arith, few)); is_tape = is }

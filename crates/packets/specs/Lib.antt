@@ -3,3 +3,4 @@ pub mod Rules
 pub mod Grammar
 pub mod Spelling
 pub mod Reading
+pub mod EntryGrammar

@@ -5,6 +5,7 @@ pub mod Rows
 pub mod Versions
 pub mod Entries
 pub mod Packets
+pub mod EntryPackets
 pub mod Acceptor
 pub mod Marks
 pub mod Proposals

@@ -95,10 +95,11 @@ fn copies(alloc: Global, form: Form) -> bool {
     }
 }
 
-fn fits(form: Form, version: Version) -> Option<bool> {
+// Whether it fits version 2, and version 1 where it is to.
+fn fits(form: Form, at_one: bool) -> bool {
     match entry_of(form) {
-        Some(entry) => Some(entry.fits(version)),
-        None => None,
+        Some(entry) => entry.fits(Version::Two) && entry.fits(Version::One) == at_one,
+        None => false,
     }
 }
 
@@ -126,7 +127,6 @@ fn copied(rt: HostRuntime) {
 #[test]
 fn fitting(rt: HostRuntime) {
     for (form, at_one) in FITS {
-        assert!(rt; fits(*form, Version::One) == Some(*at_one));
-        assert!(rt; fits(*form, Version::Two) == Some(true));
+        assert!(rt; fits(*form, *at_one));
     }
 }
