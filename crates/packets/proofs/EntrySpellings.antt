@@ -13,7 +13,7 @@ use Rattle.protocol.specs.EntryPackets.{EntryPacket, EntryBody, Prepare, Promise
 use Rattle.packets.specs.Rules.{keeps_rules}
 use Rattle.packets.specs.Spelling.{kind_byte, ballot_bytes, tape_bytes}
 use Rattle.packets.specs.Grammar.{IsTapeOne, SpellsBallot, SpellsBody, number_of_kind}
-use Rattle.packets.specs.EntryGrammar.{frames_of, IsEntry, entry_kind, keeps_entry_rules, SpellsPacked, SpellsEntry, SpellsEntryBody, version_byte, SpellsIn, IsEntryBody, IsEntryPacket, OneSpellingIn, OnlyWhatFits, OneSpellsTapes}
+use Rattle.packets.specs.EntryGrammar.{frames_of, IsEntry, entry_kind, keeps_entry_rules, SpellsPacked, SpellsEntry, SpellsEntryBody, version_byte, said_version, SpellsIn, IsEntryBody, IsEntryPacket, OneSpellingIn, OnlyWhatFits, OneSpellsTapes, SaysItsVersion}
 use Rattle.packets.proofs.Numbers.{two_are, two_below, four_are, two_written, four_written}
 use Rattle.packets.proofs.Written.{ballot_are, tape_are, ballot_written, tape_written}
 
@@ -53,6 +53,12 @@ only_what_fits v bytes p s =
       },
       body.1,
     )
+
+-- ---- the version is said
+
+pub says_its_version : SaysItsVersion
+says_its_version One bytes p s = ap said_version s.are
+says_its_version Two bytes p s = ap said_version s.are
 
 -- ---- version 1 spells tapes as ever
 

@@ -1,6 +1,6 @@
 -- The grammar of packets that carry entries, in either version: which bytes spell which packet. Every number is big-endian.
 -- Version 1 spells tapes alone, one frame a byte; version 2 spells each entry, its frames packed. Else they differ in one byte.
-use Rattle.std.specs.Prelude.{◌≡◌, ℕ, ◌<◌, ◌≤◌, List, [], ◌∷◌, ◌++◌, length, Bool, true, not, ◌&&◌, ◌==◌, Some, None, IsTrue, ◌↔◌}
+use Rattle.std.specs.Prelude.{◌≡◌, ℕ, ◌<◌, ◌≤◌, List, [], ◌∷◌, ◌++◌, length, slice_index, if◌then◌else◌, Bool, true, not, ◌&&◌, ◌==◌, Some, None, IsTrue, ◌↔◌}
 use Rattle.tape_frames.specs.Frames.{IsTape}
 use Rattle.tape_frames.specs.Packing.{AreBytes, Packs}
 use Rattle.protocol.specs.Ballots.{Ballot, IsBallot, IsMember, is_below}
@@ -130,6 +130,14 @@ OneSpellingIn =
 -- nothing else has one: a packet that is spelled in a version is a packet, and its entries fit the version
 abbrev pub OnlyWhatFits : Type 0
 OnlyWhatFits = (v : Version) (bytes : List ℕ) (p : EntryPacket) → SpellsIn v bytes p → IsEntryPacket p × (body_fits v p.body ≡ true)
+
+-- of which version bytes say that they are: their third byte
+abbrev pub said_version : List ℕ → Version
+said_version bytes = if slice_index bytes 2 == 2 then Two else One
+
+-- what spells a packet in a version says that it is of it
+abbrev pub SaysItsVersion : Type 0
+SaysItsVersion = (v : Version) (bytes : List ℕ) (p : EntryPacket) → SpellsIn v bytes p → said_version bytes ≡ v
 
 -- no bytes spell two packets, of one version or of two
 abbrev pub OneEntryPacket : Type 0

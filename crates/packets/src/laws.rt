@@ -6,7 +6,7 @@ ghost use Rattle.packets.specs.Grammar.{IsBytes, Spells, IsPacket, HasOneSpellin
 ghost use Rattle.packets.specs.Reading.{packet_at};
 ghost use Rattle.protocol.specs.Versions.{Two};
 ghost use Rattle.protocol.specs.Entries.{Void, Taped};
-ghost use Rattle.packets.specs.EntryGrammar.{SpellsIn, OneSpellingIn, OnlyWhatFits, OneSpellsTapes, OneEntryPacket, NoFrontIn, worked_packet, worked_front};
+ghost use Rattle.packets.specs.EntryGrammar.{SpellsIn, OneSpellingIn, OnlyWhatFits, OneSpellsTapes, SaysItsVersion, OneEntryPacket, NoFrontIn, worked_packet, worked_front};
 
 use tape_frames::laws::{packing, unpacking};
 
@@ -43,6 +43,11 @@ pub fn one_spelling_in()
 /// Version 1 spells packets of tapes as ever.
 pub fn one_spells_tapes()
     ensures { OneSpellsTapes }
+{}
+
+/// What spells a packet of entries in a version says so in its third byte.
+pub fn says()
+    ensures { SaysItsVersion }
 {}
 
 /// No bytes spell two packets of entries, and none spell one in both versions.

@@ -1,4 +1,4 @@
-//! Tapes: frames of six levels, one frame a byte or packed. And entries: a tape, or that there is none.
+//! Tapes: frames of six levels, one frame a byte or packed; and entries, each a tape or the withdrawal of its number.
 #![tactic(auto)]
 
 mod entry;

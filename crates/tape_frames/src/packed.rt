@@ -69,8 +69,8 @@ fn frame_at(bytes: &[u8], frames: usize, i: usize) -> Option<u8>
 
 impl<'a> PackedRef<'a> {
     /// The packed tape of so many frames; `None` where it is none: where a tape has never so many, where they take another
-    /// number of bytes, or where a bit behind the last is set. So `None` means that bit to who has taken [`packed_len`]
-    /// bytes for 1 to [`MAX_FRAMES`] frames. It takes no memory.
+    /// number of bytes, or where a bit behind the last is set. So where [`packed_len`] bytes were taken for 1 to
+    /// [`MAX_FRAMES`] frames, `None` says that such a bit is set. It takes no memory.
     pub fn new(length: u16, bytes: &'a [u8]) -> Option<PackedRef<'a>>
         ensures some { IsSome result ↔ IsPacked length bytes.now }
         ensures value { IfSome result (λ p. p ≡ unpacked length bytes.now) }

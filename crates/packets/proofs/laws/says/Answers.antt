@@ -1,0 +1,5 @@
+use Rattle.packets.proofs.EntrySpellings.{says_its_version}
+use Rattle.packets.proofs.laws.says.Goals as goal
+
+pub returns : goal.returns
+returns c = says_its_version
