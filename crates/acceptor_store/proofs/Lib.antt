@@ -2,3 +2,7 @@ pub mod ColumnLemmas
 pub mod ListLemmas
 pub mod IdentityLemmas
 pub mod StandLemmas
+mod TableLemmas
+mod RestartLemmas
+mod StepLemmas
+mod GivingLemmas

@@ -14,18 +14,33 @@ use Rattle.saved_rows.specs.declared.identity.Identity.{Identity}
 use Rattle.saved_rows.specs.Identity.{IsIdentity}
 use Rattle.acceptor_store.specs.StationRow.{identity_in}
 use Rattle.acceptor_store.specs.Columns.{row_in, row_or_blank, columns_for, saved_in}
-use Rattle.acceptor_store.specs.Sqlite.{HoldsRows, Stands}
+use Rattle.sqlite_trees.specs.Objects.{catalog_tree}
+use Rattle.sqlite_catalog.specs.Listing.{Lists as ListsTables}
+use Rattle.row_table.specs.Tables.{row_schema, rows_tree}
+use Rattle.row_table.specs.Rows.{SavesIn}
+use Rattle.acceptor_store.specs.Sqlite.{HoldsRows, IsOfStation, Stands}
 use Rattle.acceptor_store.proofs.ColumnLemmas.{stays_sound, stays_station}
 use Rattle.acceptor_store.proofs.IdentityLemmas.{added}
 
--- the rows and the station that a database holds are its trees' alone
-pub same_holds : (i : Identity) (old new : Database) → new ≡ old → HoldsRows i old.trees → HoldsRows i new.trees
-same_holds i old new same h = subst (λ (d : Database). HoldsRows i d.trees) (sym same) h
+-- the tables, the rows and the station that a database holds are its trees' alone
+pub same_holds : (i : Identity) (old new : Database) → new ≡ old → IsOfStation i old.trees → IsOfStation i new.trees
+same_holds i old new same h = subst (λ (d : Database). IsOfStation i d.trees) (sym same) h
+
+-- a row that is saved leaves a database of the station
+pub saved_station : (i : Identity) (old new : Trees) (n : ℕ) (row : Row) → HasPromise row → row_in 0 (columns_for row) ≡ Some row → 1 ≤ n → n ≤ 999999
+    → SavesIn n (columns_for row) old new → IsOfStation i old → IsOfStation i new
+saved_station i old new n row has back low high done held = record {
+  tables = subst (λ objects. ListsTables objects row_schema) (sym (done.others catalog_tree (λ e. absurd (omega (arith, e))))) held.tables;
+  holds = record {
+    sound = stays_sound old new n row has back done low high held.holds.sound;
+    station = ap (λ rows. identity_in (map station_columns rows)) (stays_station old new n row has back done) ∙ held.holds.station;
+  };
+}
 
 pub same_rows : (old new : State) → new.now ≡ old.now → SameRows (saved_in old.now.trees) (saved_in new.now.trees)
 same_rows old new same n = ap (λ (d : Database). saved_in d.trees n) same
 
-was_clean : (old new : State) → doubt old.is_clean ≤ doubt new.is_clean → HasCleanDisk new → HasCleanDisk old
+pub was_clean : (old new : State) → doubt old.is_clean ≤ doubt new.is_clean → HasCleanDisk new → HasCleanDisk old
 was_clean old new falls clean = omega (arith, falls, clean)
 
 module _ {S : Type 0} (g : Ghosts S) (old new : Held S) (falls : doubt (state g old).is_clean ≤ doubt (state g new).is_clean) (i : Identity) (stands : Stands g old i) where
@@ -37,13 +52,9 @@ module _ {S : Type 0} (g : Ghosts S) (old new : Held S) (falls : doubt (state g 
   }
 
   module _ (n : ℕ) (row : Row) (has : HasPromise row) (back : row_in 0 (columns_for row) ≡ Some row) (low : 1 ≤ n) (high : n ≤ 999999) where
-    saved_holds : WasSaved n (columns_for row) (state g old) (state g new) → HasCleanDisk (state g new) → HoldsRows i (state g new).now.trees
+    saved_holds : WasSaved n (columns_for row) (state g old) (state g new) → HasCleanDisk (state g new) → IsOfStation i (state g new).now.trees
     saved_holds done clean =
-        let held = stands.holds (was_clean (state g old) (state g new) falls clean) done.was_open in
-        let trees = done.saved.trees in record {
-          sound = stays_sound (state g old).now.trees (state g new).now.trees n row has back trees low high held.sound;
-          station = ap (λ rows. identity_in (map station_columns rows)) (stays_station (state g old).now.trees (state g new).now.trees n row has back trees) ∙ held.station;
-        }
+        saved_station i (state g old).now.trees (state g new).now.trees n row has back low high done.saved.trees (stands.holds (was_clean (state g old) (state g new) falls clean) done.was_open)
 
     -- after a save
     pub stands_saved : {A E : Type 0} (r : Result A E) → (Serves (state g old) → Serves (state g new))

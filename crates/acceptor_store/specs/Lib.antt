@@ -5,3 +5,5 @@ pub mod Columns
 pub mod StationRow
 pub mod Sqlite
 pub mod Files
+pub mod Restarts
+pub mod Steps

@@ -5,7 +5,9 @@ use Rattle.sqlite_schema.specs.declared.schema.Schema.{Schema}
 use Rattle.sqlite_schema.specs.contracts.schema.Schema as schema
 use Rattle.sqlite_value.specs.Order.{Row as Columns}
 use Rattle.sqlite_trees.specs.declared.store.Store.{Ghosts}
+use Rattle.sqlite_trees.specs.Objects.{catalog_tree}
 use Rattle.sqlite_trees.specs.Tree.{Trees}
+use Rattle.sqlite_catalog.specs.Listing.{Lists as ListsTables}
 use Rattle.sqlite.specs.State.{HasCleanDisk}
 use Rattle.sqlite.specs.Held.{Held, held_code, state}
 use Rattle.row_table.specs.Tables.{row_schema, rows_tree}
@@ -49,6 +51,11 @@ IsOurs alone found = IsTrue alone × IfSome found (λ schema. schema ≡ row_sch
 pub record HoldsRows (i : Identity) (trees : Trees) : Type 0 where
   pub sound : AreSound (trees rows_tree)
   pub station : stored_identity trees ≡ Some i
+
+-- a database of this station: it lists the tables that `create` makes, and no others, and holds rows of the station
+pub record IsOfStation (i : Identity) (trees : Trees) : Type 0 where
+  pub tables : ListsTables (trees catalog_tree) row_schema
+  pub holds : HoldsRows i trees
 
 -- a refusal that speaks of no row
 abbrev pub IsRefusal : RowsFault → Type 0
@@ -103,10 +110,14 @@ module _ {S : Type 0} (g : Ghosts S) where
   abbrev pub MayLeave : SqliteOf S → Saved → Type 0
   MayLeave s saved = (db : Trees) × (state g s.conn).may_leave db × (saved ≡ saved_in db)
 
+  -- whatever a crash at this moment leaves is a database of this station
+  abbrev pub LeavesStation : SqliteOf S → Identity → Type 0
+  LeavesStation s i = (db : Trees) → (state g s.conn).may_leave db → IsOfStation i db
+
   -- a connection that is at rest on the tables of this station
   pub record Stands (conn : Held S) (i : Identity) : Type 0 where
     pub serves : Serves (state g conn)
-    pub holds : HasCleanDisk (state g conn) → IsTrue (state g conn).is_open → HoldsRows i (state g conn).now.trees
+    pub holds : HasCleanDisk (state g conn) → IsTrue (state g conn).is_open → IsOfStation i (state g conn).now.trees
 
   -- where the tables are those that were made, the connection stands on them
   abbrev pub IsServing : Held S → Identity → Bool → Option Schema → Type 0

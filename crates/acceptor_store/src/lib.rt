@@ -3,10 +3,13 @@
 
 mod columns;
 mod files;
+pub mod laws;
+mod restarts;
 mod sqlite_rows;
 mod statements;
 mod station_row;
 mod taking_up;
 
+pub use restarts::into_files;
 pub use saved_rows::{Balky, Identity, MemoryRows, Rows, RowsFault};
 pub use sqlite_rows::SqliteRows;

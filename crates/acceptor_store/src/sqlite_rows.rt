@@ -103,6 +103,8 @@ impl<S: Alter + Drop> SqliteRows<S> {
         if let Err(error) = create_tables(&mut conn, circuit, member, members) {
             return Err((fault_of(&error), conn));
         }
+        // What the database lists is known once it is read.
+        let _tables = conn.schema();
         Ok(SqliteRows {
             conn,
             identity,
@@ -224,7 +226,7 @@ impl<S: Alter + Drop> SqliteRows<S> {
 }
 
 impl<S: Alter + Drop> Rows for SqliteRows<S> {
-    ghost use Rattle.acceptor_store.specs.Sqlite.{IsKept, IsOpen, IsHonest, IsOurs, saved_of, MayLeave, IsRefusal, Blames};
+    ghost use Rattle.acceptor_store.specs.Sqlite.{IsKept, IsOpen, IsHonest, IsOurs, saved_of, MayLeave, LeavesStation, IsRefusal, Blames};
 
     ghost made = { λ s. IsOurs s.alone s.found };
 
@@ -296,6 +298,9 @@ impl<S: Alter + Drop> Rows for SqliteRows<S> {
         // After the Ok a crash leaves this row too; after an Err the rows as they were, or with this one.
         ensures crash_ok { IsKept S.Store self.new → OnOk result ((left : _) → MayLeave S.Store self.new left → WithRow (saved_of S.Store self.old) number row.now left) }
         ensures crash_err { IsKept S.Store self.new → IsOpen S.Store self.old → self.old.stopped ≡ false → (left : _) → MayLeave S.Store self.new left → IsEither (saved_of S.Store self.old) number row.now left }
+
+        // And the station as it was.
+        ensures crash_station { IsKept S.Store self.new → IsOpen S.Store self.old → self.old.stopped ≡ false → LeavesStation S.Store self.new self.old.identity }
     {
         if self.stopped {
             self.refusals = self.refusals.saturating_add(1);

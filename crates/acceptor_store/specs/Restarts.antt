@@ -1,0 +1,66 @@
+-- From a crash to the next start: what an open finds in the files that the crash left.
+use Rattle.std.specs.Prelude.{◌≡◌, ◌≢◌, ◌⊎◌, ◌<◌, ◌^◌, ℕ, None}
+use Rattle.sqlite_disk.specs.declared.Disk.{Ghosts}
+use Rattle.sqlite_disk.specs.declared.Files.{Files}
+use Rattle.sqlite.specs.WalReads.{AreClean}
+use Rattle.sqlite.specs.WalFiles.{outcomes}
+use Rattle.sqlite.specs.Recovery.{Image}
+use Rattle.sqlite_trees.specs.Tree.{Trees}
+use Rattle.sqlite.specs.declared.FileStore.{FileStore}
+use Rattle.sqlite.specs.Held.{Held}
+use Rattle.sqlite.specs.State.{HasCleanDisk}
+use Rattle.sqlite.specs.Files.{file_state, over_files, HoldsDatabase}
+use Rattle.row_table.specs.Station.{HoldsNone}
+use Rattle.protocol.specs.Rows.{Row, blank}
+use Rattle.protocol.specs.Circuit.{MayLeave as MayLeaveTorn, Torn_by_store}
+use Rattle.saved_rows.specs.Saved.{Saved, IsEither}
+use Rattle.saved_rows.specs.Identity.{IsIdentity}
+use Rattle.saved_rows.specs.declared.identity.Identity.{Identity}
+use Rattle.acceptor_store.specs.StationRow.{stored_identity}
+use Rattle.acceptor_store.specs.Sqlite.{SqliteOf, IsOurs, saved_of, MayLeave, LeavesStation}
+use Rattle.acceptor_store.specs.Files.{TakesItsOwn, IsTakenUp}
+
+-- the files of a connection that was given up: where the disk has returned what was written,
+-- whatever a crash leaves of them holds a database that a crash could leave of the connection
+abbrev pub GivesUp : {D : Type 0} (g : Ghosts D) → Held (FileStore D g) → Files D → Type 0
+GivesUp g conn files =
+    AreClean g files.log files.db → (left : Image) → outcomes g files.log files.db left → ∥ ((db : Trees) × (file_state conn).may_leave db × HoldsDatabase left db) ∥₁
+
+-- rows that `open_from` took up from files which held this, on a disk that has returned what was written
+pub record AreOpenedFrom {D : Type 0} {g : Ghosts D} (left : Image) (s : SqliteOf (FileStore D g)) : Type 0 where
+  pub honest : HasCleanDisk (file_state s.conn)
+  pub made : TakesItsOwn left s
+  pub rows : IsOurs s.alone s.found → IsTakenUp left s
+
+-- A crash of the files that were given up, and an open of what it left that is not refused: the tables are the store's own,
+-- the station is the one that was there, and the rows are those that a crash could leave
+abbrev pub OpensWhatIsLeft : (D : Type 0) (g : Ghosts D) (E : Type 0) (h : Ghosts E) → Type 0
+OpensWhatIsLeft D g E h =
+    (s : SqliteOf (FileStore D g)) (i : Identity) (files : Files D) (left : Image) (again : SqliteOf (FileStore E h))
+    → LeavesStation over_files s i → GivesUp g s.conn files → AreClean g files.log files.db → outcomes g files.log files.db left → AreOpenedFrom left again
+    → IsOurs again.alone again.found × (again.identity ≡ i) × ∥ MayLeave over_files s (saved_of over_files again) ∥₁
+
+-- the rows of a station after a step that its own store tore as it saved this row: under the number a row that such a step
+-- may leave, and no other changed
+pub record AreTorn (before : Saved) (number : ℕ) (row : Row) (after : Saved) : Type 0 where
+  pub torn : MayLeaveTorn {A = Row} {D = Unit {0}} {F = Unit {0}} None Torn_by_store (before number) row (after number)
+  pub others : (n : ℕ) → n ≢ number → after n ≡ before n
+
+-- The same after a save that was asked for, as `put` promises of what a crash leaves then: the rows are those of a torn step,
+-- of the same station
+abbrev pub PutOutlivesCrash : (D : Type 0) (g : Ghosts D) (E : Type 0) (h : Ghosts E) → Type 0
+PutOutlivesCrash D g E h =
+    (old new : SqliteOf (FileStore D g)) (number : ℕ) (row : Row) (files : Files D) (left : Image) (again : SqliteOf (FileStore E h))
+    → LeavesStation over_files new old.identity → ((rows : Saved) → MayLeave over_files new rows → IsEither (saved_of over_files old) number row rows)
+    → GivesUp g new.conn files → AreClean g files.log files.db → outcomes g files.log files.db left → AreOpenedFrom left again
+    → IsOurs again.alone again.found × (again.identity ≡ old.identity) × ∥ AreTorn (saved_of over_files old) number row (saved_of over_files again) ∥₁
+
+-- The same after the tables were to be made in a database without a station, as `create` promises of what a crash leaves then:
+-- where its tables are the store's own, rows are taken up for this station alone, and none is there
+abbrev pub CreateOutlivesCrash : (D : Type 0) (g : Ghosts D) (E : Type 0) (h : Ghosts E) → Type 0
+CreateOutlivesCrash D g E h =
+    (old new : Held (FileStore D g)) (i : Identity) (files : Files D) (left : Image) (again : SqliteOf (FileStore E h))
+    → IsIdentity i → i.circuit < 2 ^ 16 → ((db : Trees) → (file_state old).may_leave db → stored_identity db ≡ None)
+    → ((db : Trees) → (file_state new).may_leave db → (file_state old).may_leave db ⊎ HoldsNone i.circuit i.member i.members db)
+    → GivesUp g new files → AreClean g files.log files.db → outcomes g files.log files.db left → IsTakenUp left again
+    → (again.identity ≡ i) × ((n : ℕ) → saved_of over_files again n ≡ blank)

@@ -1,0 +1,29 @@
+-- A crash of a station as it saves, in the words of a circuit.
+use Rattle.std.specs.Prelude.{◌≡◌, ℕ, Some, None, false, []}
+use Rattle.protocol.specs.Ballots.{IsMember}
+use Rattle.protocol.specs.Turn.{Event, number_of, Turn, turn}
+use Rattle.protocol.specs.Refusals.{Call, refusal, event_of}
+use Rattle.protocol.specs.Circuit.{Circuit, State, Step, Restarts, Restarted, Torn_by_store, seat_at, task_of, setup_of, StepsTo}
+use Rattle.saved_rows.specs.Saved.{Saved}
+use Rattle.acceptor_store.specs.Restarts.{AreTorn}
+
+-- two steps of a circuit: the step that the member's store tore, and the member's restart; it has these rows then
+pub record TearsAndRestarts {D G F : Type 0} (z : Circuit D G F) (w : State G F) (s : Step) (m : ℕ) (rows : Saved) : Type 0 where
+  pub torn : State G F
+  pub after : State G F
+  pub tears : StepsTo z w s Torn_by_store torn
+  pub restarts : StepsTo z torn (Restarts m) Restarted after
+  pub has_rows : (n : ℕ) → after.rows m n ≡ rows n
+  pub has_no_marks : after.marks m ≡ []
+  pub goes_on : after.is_stopped m ≡ false
+
+-- So is a crash of a station as it saves the row of a turn, where the rows that the next open takes up are those of a torn step
+abbrev pub CrashIsTwoSteps : (D G F : Type 0) → Type 0
+CrashIsTwoSteps D G F =
+    (z : Circuit D G F) (w : State G F) (s : Step) (m : ℕ) (call : Call) (e : Event) (t : Turn) (rows : Saved)
+    → task_of w.sent s ≡ Some (record { member = m; call = call }) → IsMember z.count m
+    → refusal (setup_of z (w.version m) m) (w.is_stopped m) (w.marks m) call ≡ None
+    → event_of (setup_of z (w.version m) m) (w.marks m) call ≡ Some e
+    → turn (seat_at z m) (w.marks m) (w.rows m (number_of e)) e ≡ Some t → ¬ (t.row ≡ w.rows m (number_of e)) → w.armed m ≡ None
+    → AreTorn (w.rows m) (number_of e) t.row rows
+    → TearsAndRestarts z w s m rows
