@@ -1,5 +1,5 @@
 -- What a call leaves of a connection that stands on the tables of a station.
-use Rattle.std.proofs.Common.{◌≡◌, ◌<◌, ◌≤◌, ℕ, Some, Result, Ok, Err, OnOk, OnErr, IsTrue, is_some, map, sym, ap, subst, ◌∙◌, arith, true≢false}
+use Rattle.std.proofs.Common.{◌≡◌, ◌⊎◌, inl, inr, ◌<◌, ◌≤◌, ℕ, Some, Result, Ok, Err, OnOk, OnErr, IsTrue, is_some, map, sym, ap, subst, ◌∙◌, arith, true≢false}
 use Rattle.sqlite_trees.specs.declared.store.Store.{Ghosts}
 use Rattle.sqlite_trees.specs.Tree.{Trees}
 use Rattle.sqlite_trees.specs.View.{doubt}
@@ -36,6 +36,12 @@ saved_station i old new n row has back low high done held = record {
     station = ap (λ rows. identity_in (map station_columns rows)) (stays_station old new n row has back done) ∙ held.holds.station;
   };
 }
+
+-- so does what a crash leaves where it is saved
+pub left_station : (i : Identity) (old left : Trees) (n : ℕ) (row : Row) → HasPromise row → row_in 0 (columns_for row) ≡ Some row → 1 ≤ n → n ≤ 999999
+    → IsOfStation i old → (left ≡ old) ⊎ SavesIn n (columns_for row) old left → IsOfStation i left
+left_station i old left n row has back low high held (inl same) = subst (IsOfStation i) (sym same) held
+left_station i old left n row has back low high held (inr done) = saved_station i old left n row has back low high done held
 
 pub same_rows : (old new : State) → new.now ≡ old.now → SameRows (saved_in old.now.trees) (saved_in new.now.trees)
 same_rows old new same n = ap (λ (d : Database). saved_in d.trees n) same

@@ -1,10 +1,9 @@
-use Rattle.std.proofs.Common.{inl, inr, ap, subst, ◌∙◌, sym, true≢false}
+use Rattle.std.proofs.Common.{inl, inr, ap, ◌∙◌, sym, true≢false}
 use Rattle.std.proofs.lemmas.Bool.{cases_Bool}
 use Rattle.sqlite.specs.Held.{state}
 use Rattle.acceptor_store.specs.Columns.{saved_in}
 use Rattle.acceptor_store.proofs.ColumnLemmas.{saves_row}
-use Rattle.acceptor_store.specs.Sqlite.{IsOfStation}
-use Rattle.acceptor_store.proofs.StandLemmas.{same_rows, stands_saved, saved_station, was_clean}
+use Rattle.acceptor_store.proofs.StandLemmas.{same_rows, stands_saved, left_station, was_clean}
 use Rattle.acceptor_store.proofs.sqlite_rows.SqliteRowsRows.put.Goals as goal
 
 pub returns-in-Ok-clause-row : goal.returns-in-Ok-clause-row
@@ -36,21 +35,15 @@ pub returns-in-Ok-clause-crash_station : goal.returns-in-Ok-clause-crash_station
 returns-in-Ok-clause-crash_station g c = rw (← c.self.view_is) (λ kept opened running left may.
     let old = state g.S.Store c.self.inside.conn in
     let stands = c.self.invariant kept.1 in
-    let held = stands.holds (was_clean old (state g.S.Store c.save.new.conn) c.save.ensures.clean kept.0) opened in
-    elim (c.save.ensures.crash stands.serves kept.0 opened left may) [
-      | inl same ↦ subst (IsOfStation c.self.inside.identity) (sym same) held
-      | inr by ↦ saved_station c.self.inside.identity old.now.trees left c.args.number c.args.row.now c.requires c.save.ensures.back c.save.ensures.low c.save.ensures.high by held
-    ])
+    left_station c.self.inside.identity old.now.trees left c.args.number c.args.row.now c.requires c.save.ensures.back c.save.ensures.low c.save.ensures.high
+    (stands.holds (was_clean old (state g.S.Store c.save.new.conn) c.save.ensures.clean kept.0) opened) (c.save.ensures.crash stands.serves kept.0 opened left may))
 
 pub returns-in-Err-clause-crash_station : goal.returns-in-Err-clause-crash_station
 returns-in-Err-clause-crash_station g c = rw (← c.self.view_is) (λ kept opened running left may.
     let old = state g.S.Store c.self.inside.conn in
     let stands = c.self.invariant kept.1 in
-    let held = stands.holds (was_clean old (state g.S.Store c.save.new.conn) c.save.ensures.clean kept.0) opened in
-    elim (c.save.ensures.crash stands.serves kept.0 opened left may) [
-      | inl same ↦ subst (IsOfStation c.self.inside.identity) (sym same) held
-      | inr by ↦ saved_station c.self.inside.identity old.now.trees left c.args.number c.args.row.now c.requires c.save.ensures.back c.save.ensures.low c.save.ensures.high by held
-    ])
+    left_station c.self.inside.identity old.now.trees left c.args.number c.args.row.now c.requires c.save.ensures.back c.save.ensures.low c.save.ensures.high
+    (stands.holds (was_clean old (state g.S.Store c.save.new.conn) c.save.ensures.clean kept.0) opened) (c.save.ensures.crash stands.serves kept.0 opened left may))
 
 pub returns-in-Err-clause-either : goal.returns-in-Err-clause-either
 returns-in-Err-clause-either g c = rw (← c.self.view_is) (λ kept.
