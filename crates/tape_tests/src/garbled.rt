@@ -201,7 +201,7 @@ const SEED: u64 = 1961;
 const CASES: u32 = 4000;
 
 /// Whether the bytes have the fault that the plain reading finds, and are the spelling of the packet that they are, if any.
-fn is_read(alloc: Global, bytes: &[u8]) -> bool {
+pub fn is_read(alloc: Global, bytes: &[u8]) -> bool {
     fault_of(bytes) == plain_fault(bytes) && is_one(alloc, bytes)
 }
 

@@ -14,6 +14,8 @@ mod rules;
 #[cfg(test)]
 mod samples;
 #[cfg(test)]
+mod sent;
+#[cfg(test)]
 mod spellings;
 #[cfg(test)]
 mod tapes;

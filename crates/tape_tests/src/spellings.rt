@@ -1,5 +1,6 @@
 //! What packets say, and that each has one spelling.
 
+use crate::garbled::is_read;
 use crate::samples::{
     ACCEPT, ACCEPTED, ALL, LONG_ACCEPT, LONG_ACCEPTED, LONG_REPORT, NACK, PREPARE, PREPARE_OF_3,
     PROMISE, REPORT, changed, fault_of, long_packet,
@@ -119,26 +120,26 @@ pub fn is_one(alloc: Global, bytes: &[u8]) -> bool {
     }
 }
 
-fn is_one_with(alloc: Global, bytes: &[u8], at: usize, value: u8) -> bool {
+fn is_read_with(alloc: Global, bytes: &[u8], at: usize, value: u8) -> bool {
     match changed(alloc, bytes, &[(at, value)], &[]) {
-        Some(other) => is_one(alloc, &other),
+        Some(other) => is_read(alloc, &other),
         None => false,
     }
 }
 
-// Whether it is so with any byte set to 0 or to 255.
-fn are_ones(alloc: Global, bytes: &[u8]) -> bool {
+// Whether what the bytes become is read as it has to be with any of them set to 0 or to 255.
+fn are_read(alloc: Global, bytes: &[u8]) -> bool {
     for at in 0..bytes.len() {
-        if !is_one_with(alloc, bytes, at, 0) || !is_one_with(alloc, bytes, at, 0xff) {
+        if !is_read_with(alloc, bytes, at, 0) || !is_read_with(alloc, bytes, at, 0xff) {
             return false;
         }
     }
     true
 }
 
-// The first of these that does not hold: the packet comes again, its fronts are too short, a byte more is one too many,
-// and what its bytes become where one is changed is no other packet's spelling.
-fn wrong(alloc: Global, bytes: &[u8]) -> u32 {
+/// The first of these that does not hold: the packet comes again, its fronts are too short, a byte more is one too many,
+/// and what its bytes become where one is changed has the fault that a plain reading finds, or is its packet's spelling.
+pub fn wrong(alloc: Global, bytes: &[u8]) -> u32 {
     if !comes_again(alloc, bytes) {
         return 1;
     }
@@ -148,7 +149,7 @@ fn wrong(alloc: Global, bytes: &[u8]) -> u32 {
     if !more_is_long(alloc, bytes) {
         return 3;
     }
-    if !are_ones(alloc, bytes) {
+    if !are_read(alloc, bytes) {
         return 4;
     }
     0
