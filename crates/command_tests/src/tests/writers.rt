@@ -28,19 +28,28 @@ const CHECKED: &str = "0001 C 10 11 B\n0002 R 22 0 A\n";
 const LISTED: &str = "o.o... 5\n.o.... 2\nooo... 7\n..o... 4\no..... 1\noo.o.. 11\n..o... 4\n\
 0001 C 10 11 B\n0002 R 22 0 A\n";
 
-const SCRIPT: &str = "members 3\nseek 1 12\n";
+const SEARCH: &str = "members 3\nseek 1 12\n";
 
-const REHEARSED: &str = "1 began 1.1\n #1 prepare 1>2 12 1.1\n #2 prepare 1>3 12 1.1\n";
+const SEARCHED: &str = "1 began 1.1\n #1 prepare 1>2 12 1.1\n #2 prepare 1>3 12 1.1\n";
 
-const ASKED: &str = "544e0101000701020000000c0000000101";
+const OFFER: &str = "members 1\noffer 1 12 05020704010b04\n";
 
-const ANSWERED: &str = "544e0102000702010000000c000000010100\n";
+const RELEASED: &str =
+    "1 proposed 1.1\n release 12 05020704010b04\n0001 C 10 11 B\n0002 R 22 0 A\n";
 
-/// A command, and whether `check` prints its listing.
+/// A promise, a vote and no answer; and what is no packet.
+const ASKED: &str = "544e0101000701020000000c0000000101\n\
+544e0103000701020000000c00000001010003010204\n\
+544e0101000701020000000c0000000101\n00\n";
+
+const ANSWERED: &str = "544e0102000702010000000c000000010100\n\
+544e0104000702010000000c00000001010003010204\nsilent\nrefused short\n";
+
+/// A command: whether `check` prints its listing, the script that is rehearsed.
 #[derive(Clone, Copy)]
 enum Command {
     Check(bool),
-    Rehearse,
+    Rehearse(&'static str),
     Answer,
 }
 
@@ -63,7 +72,7 @@ fn run_check(alloc: Global, listing: bool, out: &mut Slow, err: &mut Vec<u8>) ->
     )
 }
 
-fn run_rehearse(alloc: Global, out: &mut Slow, err: &mut Vec<u8>) -> End {
+fn run_rehearse(alloc: Global, script: &str, out: &mut Slow, err: &mut Vec<u8>) -> End {
     let paths = ScriptPaths {
         table: "codes.toml",
         widths: "widths.toml",
@@ -72,7 +81,7 @@ fn run_rehearse(alloc: Global, out: &mut Slow, err: &mut Vec<u8>) -> End {
     let (mut table, mut widths, mut script) = (
         CODES.as_bytes(),
         WIDTHS.as_bytes(),
-        SCRIPT.as_bytes(),
+        script.as_bytes(),
     );
     rehearse(
         alloc,
@@ -94,7 +103,7 @@ fn run_answer(alloc: Global, out: &mut Slow, err: &mut Vec<u8>) -> Option<End> {
 fn run(alloc: Global, command: Command, out: &mut Slow, err: &mut Vec<u8>) -> Option<End> {
     match command {
         Command::Check(listing) => Some(run_check(alloc, listing, out, err)),
-        Command::Rehearse => Some(run_rehearse(alloc, out, err)),
+        Command::Rehearse(script) => Some(run_rehearse(alloc, script, out, err)),
         Command::Answer => run_answer(alloc, out, err),
     }
 }
@@ -148,7 +157,8 @@ fn first_wrong(alloc: Global, command: Command, text: &str) -> Option<usize> {
 const COMMANDS: &[(Command, &str)] = &[
     (Command::Check(false), CHECKED),
     (Command::Check(true), LISTED),
-    (Command::Rehearse, REHEARSED),
+    (Command::Rehearse(SEARCH), SEARCHED),
+    (Command::Rehearse(OFFER), RELEASED),
     (Command::Answer, ANSWERED),
 ];
 
