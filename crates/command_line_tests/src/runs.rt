@@ -73,6 +73,31 @@ ip = \"127.0.0.1\"
 port = 7001
 ";
 
+/// The same, of which one file is too long: its table, its widths.
+const LONG_TABLE: &str = "\
+circuit = 7
+member = 1
+table = \"circuitd_words/blanks\"
+widths = \"circuitd_words/widths.toml\"
+rows = \"made.db\"
+[[station]]
+member = 1
+ip = \"127.0.0.1\"
+port = 7001
+";
+
+const LONG_WIDTHS: &str = "\
+circuit = 7
+member = 1
+table = \"circuitd_words/codes.toml\"
+widths = \"circuitd_words/blanks\"
+rows = \"made.db\"
+[[station]]
+member = 1
+ip = \"127.0.0.1\"
+port = 7001
+";
+
 /// The files that the lines name. The tape is the flood tape of the examples.
 const FILES: &[(&str, &str)] = &[
     ("circuitd_words/codes.toml", CODES),
@@ -83,7 +108,12 @@ const FILES: &[(&str, &str)] = &[
         "members 3\noffer 2 12 01020301030204\n",
     ),
     ("circuitd_words/station.toml", STATION),
+    ("circuitd_words/long_table.toml", LONG_TABLE),
+    ("circuitd_words/long_widths.toml", LONG_WIDTHS),
 ];
+
+/// A file of blanks, one more than an input may have.
+const BLANKS: (&str, usize) = ("circuitd_words/blanks", 1_048_577);
 
 /// A line, what comes on the input, and what it comes to: the end, the output, the faults.
 #[derive(Clone, Copy)]
@@ -146,6 +176,31 @@ const RUNS: &[Run] = &[
     },
 ];
 
+/// Lines of which one file is that of the blanks.
+const TOO_LONG: &[&str] = &[
+    "circuitd check circuitd_words/blanks circuitd_words/widths.toml circuitd_words/flood.tape",
+    "circuitd check circuitd_words/codes.toml circuitd_words/blanks circuitd_words/flood.tape",
+    "circuitd check circuitd_words/codes.toml circuitd_words/widths.toml circuitd_words/blanks --holes",
+    "circuitd rehearse circuitd_words/blanks circuitd_words/widths.toml circuitd_words/story.script",
+    "circuitd rehearse circuitd_words/codes.toml circuitd_words/blanks circuitd_words/story.script",
+    "circuitd rehearse circuitd_words/codes.toml circuitd_words/widths.toml circuitd_words/blanks",
+    "circuitd serve circuitd_words/blanks --turns 1",
+    "circuitd serve circuitd_words/long_table.toml --turns 1",
+    "circuitd serve circuitd_words/long_widths.toml --turns 1",
+    "circuitd serve circuitd_words/station.toml --turns 1 --number 12 --tape circuitd_words/blanks",
+];
+
+/// Whether a line ends by an input that is too long.
+fn is_too_long(rt: &HostRuntime, line: &'static str) -> Option<bool> {
+    let run = Run {
+        line,
+        end: End::Input,
+        err: "input too long\n",
+        ..SILENT
+    };
+    goes(rt, &run)
+}
+
 /// Whether a line comes to what it has to.
 fn goes(rt: &HostRuntime, run: &Run) -> Option<bool> {
     let alloc = rt.alloc();
@@ -172,7 +227,8 @@ fn put_files(rt: &HostRuntime) -> Option<()> {
     for (path, text) in FILES {
         fs::write(rt, *path, text.as_bytes()).ok()?;
     }
-    Some(())
+    let blanks = vec![in rt.alloc(); b' '; BLANKS.1].ok()?;
+    fs::write(rt, BLANKS.0, blanks.as_slice()).ok()
 }
 
 #[test]
@@ -180,6 +236,9 @@ fn words_in_their_places(rt: HostRuntime) {
     assert!(rt; put_files(&rt) == Some(()));
     for run in RUNS {
         assert!(rt; goes(&rt, run) == Some(true), "{}", run.line);
+    }
+    for line in TOO_LONG {
+        assert!(rt; is_too_long(&rt, line) == Some(true), "{line}");
     }
     assert!(rt; fs::remove_dir_all(&rt, FOLDER).is_ok());
 }
