@@ -1,16 +1,27 @@
 #!/usr/bin/env python3
-"""Kills stations of a running circuit, and looks whether a number ever meant two stories.
+"""Kills stations of running circuits over a bad network, and looks whether a number ever meant two stories or a saved row was lost.
 
-    bench/kills.py PROGRAM [ROUNDS] [SEED]
+    bench/kills.py PROGRAM [KILLS] [SEED]
 
-Three stations run on 127.0.0.1. In each round each of them, with a choice of its own, offers one of three stories for one
-of twelve numbers or seeks one, and each is killed (SIGKILL) at a moment of its own and started again over its saved rows. All
-releases that any of them ever printed for a number must have one tape. At the end all stations seek all numbers, undisturbed,
-and it is told how long each round took until every station had printed the number.
+Needs the stock SQLite shell (`apt-get install sqlite3`). Circuits of three stations run on 127.0.0.1, one after another, each in a
+folder of its own. Each station offers one of three stories for one of twelve numbers, or seeks one, is killed (SIGKILL) at a moment
+of its own, 1,000 kills where no other count is given, and started again over its saved rows; the first kills come while the file of
+saved rows is made. No station sends to another: for each ordered pair there is a socket here, to which the one sends for the other,
+and which loses datagrams, repeats, delays and so reorders them. What it passes on goes out of the socket that the addressee's
+configuration names for the sender.
+
+After each kill a copy of the station's file is read by the shell. It is whole, or was never made; a file that was once made stays
+made; no row of an earlier reading is missing or has a lower promise or vote; and all votes at one ballot, in whichever file, are for
+one tape. All releases of a number that any station of a circuit ever printed have one tape. In the end of each circuit the network
+passes all on, each released number is sought, and it is told how long it took until all three stations had printed it; then the
+stations end by themselves, the shell reads what `rows` prints, and of each released number a majority of the files has the vote. The
+status is 1 where anything was otherwise, and the folder of that circuit stays.
 """
+import heapq
 import os
 import random
 import re
+import selectors
 import shutil
 import signal
 import socket
@@ -24,126 +35,350 @@ EXAMPLES = os.path.join(HERE, '..', 'examples')
 NUMBERS = range(1, 13)
 MEMBERS = (1, 2, 3)
 STORIES = ('flood.tape', 'harvest.tape', 'third.tape')
+KILLS_OF_A_CIRCUIT = 50
+# the tables of a file, and what the shell is asked of it
+TABLES = ['acceptor_row', 'station']
+ROWS = ('SELECT number, promised_round, promised_owner, vote_round, vote_owner, lower(hex(tape))'
+        ' FROM acceptor_row ORDER BY number')
+# a moment in which nothing happens
+NEVER = float('inf')
 
 
-def free_ports(count):
-    """Ports that are free now; they are held until all are known."""
-    sockets = [socket.socket(socket.AF_INET, socket.SOCK_DGRAM) for _ in range(count)]
-    for s in sockets:
-        s.bind(('127.0.0.1', 0))
-    ports = [s.getsockname()[1] for s in sockets]
-    for s in sockets:
-        s.close()
-    return ports
+class Wrong(Exception):
+    """Something that may not happen."""
 
 
-def configure(folder):
-    for name in ('codes.toml', 'widths.toml', 'flood.tape', 'harvest.tape'):
-        shutil.copy(os.path.join(EXAMPLES, name), folder)
-    with open(os.path.join(folder, 'third.tape'), 'wb') as tape:
-        tape.write(bytes([1, 1, 1, 1, 1, 1, 4]))
-    ports = free_ports(len(MEMBERS))
-    stations = ''.join(
-        f'[[station]]\nmember = {m}\nip = "127.0.0.1"\nport = {p}\n' for m, p in zip(MEMBERS, ports))
-    for m in MEMBERS:
-        with open(os.path.join(folder, f'station{m}.toml'), 'w') as config:
-            config.write(f'circuit = 7\nmember = {m}\ntable = "codes.toml"\nwidths = "widths.toml"\n'
-                         f'rows = "station{m}.db"\n{stations}')
+class Network:
+    """The sockets between the stations. Where it is calm it passes on all at once."""
+
+    def __init__(self, chance):
+        self.chance, self.calm = chance, False
+        self.selector, self.waiting = selectors.DefaultSelector(), []
+        self.counts = dict.fromkeys(('sent', 'lost', 'repeated', 'delayed'), 0)
+        self.ports = self.free_ports()
+        self.between = {}
+        for pair in ((a, b) for a in MEMBERS for b in MEMBERS if a != b):
+            self.between[pair] = own = socket.socket(socket.AF_INET, socket.SOCK_DGRAM)
+            own.bind(('127.0.0.1', 0))
+            own.setblocking(False)
+            self.selector.register(own, selectors.EVENT_READ, pair)
+
+    @staticmethod
+    def free_ports():
+        """A port for each station; they are held until all are known."""
+        held = [socket.socket(socket.AF_INET, socket.SOCK_DGRAM) for _ in MEMBERS]
+        for own in held:
+            own.bind(('127.0.0.1', 0))
+        ports = {member: own.getsockname()[1] for member, own in zip(MEMBERS, held)}
+        for own in held:
+            own.close()
+        return ports
+
+    def port_of(self, member, other):
+        """The port that the configuration of a member names for another, or for itself."""
+        return self.ports[member] if member == other else self.between[member, other].getsockname()[1]
+
+    def take(self, pair, datagram):
+        """What becomes of a datagram that one of the pair has sent to the other."""
+        self.counts['sent'] += 1
+        now = time.monotonic()
+        if self.calm:
+            heapq.heappush(self.waiting, (now, self.counts['sent'], pair, datagram))
+            return
+        if self.chance.random() < 0.1:
+            self.counts['lost'] += 1
+            return
+        copies = 2 if self.chance.random() < 0.1 else 1
+        self.counts['repeated'] += copies - 1
+        for _ in range(copies):
+            late = self.chance.choice((0, 0, 0.02, 0.1)) if self.chance.random() < 0.95 else 2
+            self.counts['delayed'] += late > 0
+            moment = now + self.chance.uniform(0, late)
+            heapq.heappush(self.waiting, (moment, self.chance.random(), pair, datagram))
+
+    def pass_on_until(self, moment):
+        """Passes datagrams on until this moment."""
+        while (now := time.monotonic()) < moment:
+            while self.waiting and self.waiting[0][0] <= now:
+                _, _, (sender, to), datagram = heapq.heappop(self.waiting)
+                self.between[to, sender].sendto(datagram, ('127.0.0.1', self.ports[to]))
+            due = min(moment, self.waiting[0][0] if self.waiting else NEVER)
+            for key, _ in self.selector.select(max(0.0, due - now)):
+                self.take(key.data, key.fileobj.recv(65536))
+
+    def close(self):
+        self.selector.close()
+        for own in self.between.values():
+            own.close()
+
+
+class Station:
+    """A station, its runs one after another, and what its file had when it was last read."""
+
+    def __init__(self, circuit, member):
+        self.circuit, self.member = circuit, member
+        self.process, self.until, self.runs = None, 0.0, 0
+        self.made, self.rows = False, {}
+
+    def start(self, turns, *words):
+        """A run, what it prints in a file of its own."""
+        self.runs += 1
+        words = list(words) + ([] if self.made else ['--create'])
+        self.log = self.circuit.path(f'station{self.member}.run{self.runs}')
+        with open(self.log, 'wb') as out, open(self.log + '.err', 'wb') as err:
+            self.process = subprocess.Popen(
+                [self.circuit.program, 'serve', f'station{self.member}.toml', '--turns', str(turns), *words],
+                cwd=self.circuit.folder, stdout=out, stderr=err)
+
+    def kill(self):
+        """Kills the run, which has not ended before, and sees what it printed and left."""
+        self.process.send_signal(signal.SIGKILL)
+        if self.process.wait() != -signal.SIGKILL:
+            raise Wrong(f'run {self.runs} of station {self.member} ended with status {self.process.returncode}')
+        self.process = None
+        self.see()
+
+    def end(self):
+        """Starts the station for one turn, and lets it end."""
+        self.start(1)
+        if self.process.wait(60) != 0:
+            raise Wrong(f'the last run of station {self.member} ended with status {self.process.returncode}')
+        self.process = None
+        self.see()
+
+    def releases(self):
+        """The number and the tape of each release of this run. A line that a kill cut off is none."""
+        with open(self.log) as text:
+            return re.findall(r'^release (\d+) ([0-9a-f]+)\n', text.read(), re.MULTILINE)
+
+    def see(self):
+        """Takes in what the run printed and what its file has now."""
+        with open(self.log + '.err') as err:
+            if told := err.read():
+                raise Wrong(f'run {self.runs} of station {self.member} told {told!r}')
+        for number, tape in self.releases():
+            self.circuit.take_release(int(number), tape)
+        rows = self.read()
+        if rows is None:
+            if self.made:
+                raise Wrong(f'the file of station {self.member} was made, and has no tables now')
+            return
+        for number, row in self.rows.items():
+            if not row.stands_in(rows.get(number)):
+                raise Wrong(f'station {self.member} lost of number {number} {row}: {rows.get(number)}')
+        self.made, self.rows = True, rows
+        for number, row in rows.items():
+            self.circuit.take_vote(number, row)
+
+    def read(self):
+        """The rows of a copy of the file; None where it was not made yet."""
+        name = f'station{self.member}.db'
+        with tempfile.TemporaryDirectory(dir=self.circuit.folder) as copy:
+            for file in os.listdir(self.circuit.folder):
+                if file.startswith(name):
+                    shutil.copy(self.circuit.path(file), copy)
+            path = os.path.join(copy, name)
+            if is_half_made(path):
+                return None
+            if shell(path, 'PRAGMA integrity_check') != ['ok']:
+                raise Wrong(f'the file of station {self.member} is damaged')
+            tables = shell(path, "SELECT name FROM sqlite_schema WHERE type = 'table' ORDER BY name")
+            if not tables:
+                return None
+            whose = shell(path, 'SELECT layout, circuit, member, members FROM station') if tables == TABLES else None
+            if whose != [f'1|7|{self.member}|{len(MEMBERS)}']:
+                raise Wrong(f'the file of station {self.member} has the tables {tables} of {whose}')
+            return {row.number: row for row in map(Row, shell(path, ROWS))}
+
+
+class Row:
+    """What a file has of a number."""
+
+    def __init__(self, line):
+        words = line.split('|')
+        self.number, self.promised = int(words[0]), (int(words[1]), int(words[2]))
+        self.vote = (int(words[3]), int(words[4])) if words[3] else None
+        self.tape = words[5]
+
+    def stands_in(self, later):
+        """Whether a later row of the number has lost nothing of this one."""
+        if later is None or later.promised < self.promised:
+            return False
+        if self.vote is None or later.vote == self.vote:
+            return self.vote is None or later.tape == self.tape
+        return later.vote is not None and later.vote > self.vote
+
+    def __str__(self):
+        promised, vote = ('.'.join(map(str, ballot)) if ballot else '-' for ballot in (self.promised, self.vote))
+        return f'{self.number} {promised} {vote} {self.tape or "-"}'
+
+
+def is_half_made(path):
+    """Whether the file lacks SQLite's first letter, which is written last as a database is made."""
+    if not os.path.exists(path):
+        return True
+    with open(path, 'rb') as file:
+        return file.read(1) != b'S'
+
+
+def shell(path, question):
+    """The lines that the stock shell prints."""
+    run = subprocess.run(['sqlite3', '-batch', path, question], capture_output=True, text=True)
+    if run.returncode != 0 or run.stderr:
+        raise Wrong(f'{path}: {question}: {run.stderr}')
+    return run.stdout.splitlines()
 
 
 class Circuit:
-    def __init__(self, program, folder):
-        self.program, self.folder, self.runs = program, folder, 0
-        self.created = set()
+    """Three stations in a folder, and what was seen of them."""
 
-    def start(self, member, turns, *words):
-        """A run of a station, what it prints in a file of its own."""
-        self.runs += 1
-        words = list(words)
-        if member not in self.created:
-            words.append('--create')
-            self.created.add(member)
-        name = os.path.join(self.folder, f'run{self.runs}.{member}')
-        with open(name, 'wb') as out, open(name + '.err', 'wb') as err:
-            return subprocess.Popen(
-                [self.program, 'serve', f'station{member}.toml', '--turns', str(turns), *words],
-                cwd=self.folder, stdout=out, stderr=err), name
+    def __init__(self, program, chance):
+        self.program, self.chance, self.folder = program, chance, tempfile.mkdtemp()
+        self.network = Network(chance)
+        self.kills = self.early = self.printed = 0
+        self.offered, self.released, self.voted, self.took = {}, {}, {}, []
+        self.stations = [Station(self, member) for member in MEMBERS]
+        self.configure()
 
-    def releases(self):
-        """The tapes that were ever printed for each number, and how many releases there were."""
-        tapes, count = {}, 0
-        for name in os.listdir(self.folder):
-            if re.fullmatch(r'run\d+\.\d', name):
-                with open(os.path.join(self.folder, name)) as text:
-                    for line in text:
-                        found = re.match(r'release (\d+) ([0-9a-f]+)', line)
-                        if found:
-                            tapes.setdefault(int(found.group(1)), set()).add(found.group(2))
-                            count += 1
-        return tapes, count
+    def path(self, name):
+        return os.path.join(self.folder, name)
 
-
-def disturb(circuit, chance):
-    """Each station runs, and each is killed at a moment of its own and started again."""
-    for _ in range(4):
-        running = []
+    def configure(self):
+        for name in ('codes.toml', 'widths.toml', 'flood.tape', 'harvest.tape'):
+            shutil.copy(os.path.join(EXAMPLES, name), self.folder)
+        with open(self.path('third.tape'), 'wb') as tape:
+            tape.write(bytes([1, 1, 1, 1, 1, 1, 4]))
         for member in MEMBERS:
-            number = str(chance.choice(NUMBERS))
-            if chance.random() < 0.7:
-                words = ('--number', number, '--tape', chance.choice(STORIES))
-            else:
-                words = ('--seek', number)
-            running.append(circuit.start(member, 100000, *words)[0])
-        ends = sorted((chance.uniform(0.02, 1.2), station) for station in running)
-        begun = time.monotonic()
-        for moment, station in ends:
-            time.sleep(max(0.0, begun + moment - time.monotonic()))
-            station.send_signal(signal.SIGKILL)
-        for station in running:
-            station.wait()
+            stations = ''.join(f'[[station]]\nmember = {other}\nip = "127.0.0.1"\n'
+                               f'port = {self.network.port_of(member, other)}\n' for other in MEMBERS)
+            with open(self.path(f'station{member}.toml'), 'w') as config:
+                config.write(f'circuit = 7\nmember = {member}\ntable = "codes.toml"\nwidths = "widths.toml"\n'
+                             f'rows = "station{member}.db"\n{stations}')
+
+    def take_release(self, number, tape):
+        self.printed += 1
+        if self.released.setdefault(number, tape) != tape:
+            raise Wrong(f'TWO STORIES of {number}: {tape} and {self.released[number]}')
+
+    def take_vote(self, number, row):
+        if row.vote and self.voted.setdefault((number, row.vote), row.tape) != row.tape:
+            raise Wrong(f'two tapes at one ballot: {row} and {self.voted[number, row.vote]}')
+
+    def stir(self, station):
+        """Starts a station with a wish of its own, and says when it is killed."""
+        number = self.chance.choice(NUMBERS)
+        if self.chance.random() < 0.7:
+            story = self.chance.choice(STORIES)
+            self.offered.setdefault(number, set()).add(story)
+            words = ['--number', str(number), '--tape', story]
+        else:
+            words = ['--seek', str(number)]
+        # most are killed among others' datagrams, some while they start
+        span = (0, 0.06) if self.chance.random() < (0.3 if station.made else 0.8) else (0.06, 1.0)
+        station.start(1_000_000, *words)
+        station.until = time.monotonic() + self.chance.uniform(*span)
+
+    def disturb(self, kills):
+        """So many kills. A station that was killed starts again at once, or after a while."""
+        for station in self.stations:
+            self.stir(station)
+        while self.kills < kills:
+            station = min(self.stations, key=lambda each: each.until)
+            self.network.pass_on_until(station.until)
+            if station.process is None:
+                self.stir(station)
+                continue
+            was_made = station.made
+            station.kill()
+            self.kills += 1
+            self.early += not was_made
+            station.until = time.monotonic() + self.chance.choice((0, 0, 0.05, 0.3))
+
+    def settle(self):
+        """Seeks each released number while nothing is lost, and keeps how long it took until all had printed it."""
+        self.network.calm = True
+        for station in self.stations:
+            if station.process is None:
+                station.start(1_000_000)
+        for number in sorted(self.released):
+            seeker = self.stations[number % len(MEMBERS)]
+            seeker.kill()
+            seeker.start(1_000_000, '--seek', str(number))
+            begun = time.monotonic()
+            while not self.all_have(number) and time.monotonic() < begun + 8:
+                self.network.pass_on_until(time.monotonic() + 0.01)
+            self.took.append(time.monotonic() - begun if self.all_have(number) else NEVER)
+        for station in self.stations:
+            station.kill()
+
+    def all_have(self, number):
+        return all(str(number) in dict(station.releases()) for station in self.stations)
+
+    def compare(self):
+        """The stations end by themselves; what is then in their files is what `rows` prints, and has the votes."""
+        for station in self.stations:
+            station.end()
+            printed = subprocess.run([self.program, 'rows', f'station{station.member}.db'], cwd=self.folder,
+                                     capture_output=True, text=True)
+            lines = [f'station {station.member} of {len(MEMBERS)} circuit 7', *map(str, station.rows.values())]
+            if printed.stdout.splitlines() != lines:
+                raise Wrong(f'rows of station {station.member} prints {printed.stdout!r}, the shell {lines}')
+        for number, tape in self.released.items():
+            votes = sum(number in s.rows and s.rows[number].tape == tape for s in self.stations)
+            if 2 * votes <= len(MEMBERS):
+                raise Wrong(f'{number} was released, and {votes} files have a vote for its tape')
+
+    def close(self):
+        for station in self.stations:
+            if station.process is not None:
+                station.process.kill()
+                station.process.wait()
+        self.network.close()
 
 
-def settle(circuit, number):
-    """All stations seek a number, undisturbed. The seconds until each has printed it; None where none of them has."""
-    begun = time.monotonic()
-    running = [circuit.start(member, 100000, '--seek', str(number)) for member in MEMBERS]
-    printed = set()
-    while len(printed) < len(MEMBERS) and time.monotonic() < begun + 8:
-        for member, (_, name) in zip(MEMBERS, running):
-            with open(name) as text:
-                if f'release {number} ' in text.read():
-                    printed.add(member)
-        time.sleep(0.01)
-    took = time.monotonic() - begun
-    for station, _ in running:
-        station.kill()
-        station.wait()
-    return took if len(printed) == len(MEMBERS) else None
+def tell(circuits, seed):
+    """Prints what was seen of all circuits."""
+    def total(count):
+        return sum(map(count, circuits))
+
+    rivals = total(lambda c: sum(len(c.offered.get(number, ())) > 1 for number in c.released))
+    took = [moment for circuit in circuits for moment in circuit.took]
+    print(f'{total(lambda c: c.kills)} kills in {len(circuits)} circuits, {total(lambda c: c.early)} of them of stations whose'
+          f' file was not made yet; seed {seed}')
+    print(', '.join(f'{total(lambda c: c.network.counts[what])} {what}' for what in circuits[0].network.counts)
+          + ' of the datagrams')
+    print(f'{total(lambda c: c.printed)} releases of {total(lambda c: len(c.released))} numbers, {rivals} of which were'
+          f' offered as several stories; {total(lambda c: len(c.voted))} votes')
+    found = [moment for moment in took if moment < NEVER]
+    print(f'{len(found)} of {len(took)} numbers were found again, within {max(found, default=0):.2f} s')
 
 
 def main():
+    if not 2 <= len(sys.argv) <= 4:
+        sys.exit(__doc__)
     program = os.path.abspath(sys.argv[1])
-    rounds = int(sys.argv[2]) if len(sys.argv) > 2 else 10
-    seed = int(sys.argv[3]) if len(sys.argv) > 3 else 1
-    chance = random.Random(seed)
-    folder = tempfile.mkdtemp()
-    configure(folder)
-    circuit = Circuit(program, folder)
-    for _ in range(rounds):
-        disturb(circuit, chance)
-    tapes, count = circuit.releases()
-    print(f'{circuit.runs} runs, all killed; {count} releases of {len(tapes)} numbers')
-    for number in sorted(tapes):
-        took = settle(circuit, number)
-        print(f'number {number}: ' + (f'all three have it after {took:.2f} s' if took else 'not all have it after 8 s'))
-    tapes, count = circuit.releases()
-    torn = {number: found for number, found in tapes.items() if len(found) > 1}
-    print(f'{circuit.runs} runs, {count} releases of {len(tapes)} numbers, seed {seed}')
-    if torn:
-        print(f'TWO STORIES: {torn}; see {folder}')
-        return 1
-    print('no number means two stories')
-    shutil.rmtree(folder)
+    kills = int(sys.argv[2]) if len(sys.argv) > 2 else 1000
+    seed = int(sys.argv[3]) if len(sys.argv) > 3 else random.SystemRandom().randrange(1_000_000)
+    if shutil.which('sqlite3') is None:
+        sys.exit('kills.py: no SQLite shell: apt-get install sqlite3')
+    print(f'seed {seed}', flush=True)
+    chance, circuits = random.Random(seed), []
+    while kills > 0:
+        circuit = Circuit(program, chance)
+        circuits.append(circuit)
+        try:
+            circuit.disturb(min(kills, KILLS_OF_A_CIRCUIT))
+            circuit.settle()
+            circuit.compare()
+        except Wrong as wrong:
+            print(f'{wrong}; see {circuit.folder}')
+            return 1
+        finally:
+            circuit.close()
+        shutil.rmtree(circuit.folder)
+        kills -= circuit.kills
+    tell(circuits, seed)
+    print('no number means two stories, and no saved row was lost')
     return 0
 
 
