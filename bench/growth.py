@@ -13,36 +13,10 @@ import sys
 import tempfile
 import time
 
+from scripts import heard_again, in_hand, released
+
 HERE = os.path.dirname(os.path.abspath(__file__))
 EXAMPLES = os.path.join(HERE, '..', 'examples')
-STORY = '01020301030204'
-
-
-def in_hand(numbers):
-    """Three members: each number is offered, promised and voted for by a majority, and no vote comes back."""
-    lines, sent = ['members 3'], 0
-    for number in range(1, numbers + 1):
-        # two Prepares, a Promise, two Accepts and the two Accepteds of the proposer, the two of its voter
-        lines += [f'offer 1 {number} {STORY}', f'deliver {sent + 1}', f'deliver {sent + 3}', f'deliver {sent + 4}']
-        sent += 9
-    return lines
-
-
-def released(numbers):
-    """The same, and the vote comes back."""
-    lines, sent = ['members 3'], 0
-    for number in range(1, numbers + 1):
-        lines += [f'offer 1 {number} {STORY}']
-        lines += [f'deliver {sent + k}' for k in (1, 3, 4, 6, 8)]
-        sent += 9
-    return lines
-
-
-def heard_again(times):
-    """One vote of another member comes to a third one over and over."""
-    return ['members 3', f'offer 1 12 {STORY}', 'deliver 1', 'deliver 3'] + ['deliver 7'] * times
-
-
 KINDS = [('numbers in hand', in_hand, 2000), ('numbers released', released, 2000), ('one vote again', heard_again, 8000)]
 
 
