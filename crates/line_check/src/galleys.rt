@@ -7,11 +7,10 @@ ghost use Rattle.streams.specs.Fronts.{AppendsFront};
 
 use crate::slug::{Kind, Slug};
 use crate::sort::Sort;
-use crate::writing::put_parts;
 use itoa::Buffer;
 use slug_reader::Rail;
 use std::io::Write;
-use streams::{CannotWrite as WriteFault, put_all};
+use streams::{CannotWrite as WriteFault, put_all, put_parts};
 
 /// The letter of a kind.
 fn kind_text(kind: Kind) -> &'static [u8]

@@ -8,7 +8,6 @@ pub mod laws;
 mod setting;
 mod slug;
 mod sort;
-mod writing;
 
 pub use fault::{Cause, LineFault, SetError, SetFault};
 pub use galleys::galley;

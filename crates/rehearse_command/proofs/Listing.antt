@@ -5,7 +5,7 @@ use Rattle.std.specs.Io.KnownBytes.{Appends}
 use Rattle.std.proofs.KnownBytes.{Appends-trans}
 use Rattle.std.proofs.lemmas.List.{take-append-drop, length-take, length-append, take_more, append-nil}
 use Rattle.streams.specs.Fronts.{AppendsFront}
-use Rattle.line_check.proofs.Written.{front_then, front_of}
+use Rattle.streams.proofs.Parts.{front_then, front_of}
 use Rattle.protocol.specs.Packets.{Packet}
 use Rattle.protocol.specs.Circuit.{Datagram}
 use Rattle.packets.specs.Reading.{packet_at}

@@ -5,4 +5,4 @@ mod input;
 mod output;
 
 pub use input::{InputFault, MAX_INPUT, read_input};
-pub use output::{CannotWrite, put_all};
+pub use output::{CannotWrite, put_all, put_parts};

@@ -1,6 +1,6 @@
 //! Output that stops at the first fault.
 
-ghost use Rattle.std.specs.Prelude.{OnOk, OnErr};
+ghost use Rattle.std.specs.Prelude.{OnOk, OnErr, flat_map};
 ghost use Rattle.std.specs.Io.KnownBytes.{Appends};
 ghost use Rattle.streams.specs.Fronts.{AppendsFront};
 
@@ -24,6 +24,17 @@ pub fn put_all<W: Write>(out: &mut W, bytes: &[u8]) -> Result<(), CannotWrite>
             Ok(n) => at += n,
             Err(_) => return Err(CannotWrite),
         }
+    }
+    Ok(())
+}
+
+/// Writes the parts one after another. Where the writer fails, it has a front of their text.
+pub fn put_parts<W: Write>(out: &mut W, parts: &[&[u8]]) -> Result<(), CannotWrite>
+    ensures ok { OnOk result (Appends (W.contents out.old) (W.contents out.new) (flat_map (λ part. part.now) parts.now)) }
+    ensures err { OnErr result (AppendsFront (W.contents out.old) (W.contents out.new) (flat_map (λ part. part.now) parts.now)) }
+{
+    for part in parts {
+        put_all(out, part)?;
     }
     Ok(())
 }

@@ -1,7 +1,7 @@
 -- A line, and then a galley.
 use Rattle.std.proofs.lemmas.Result.{on_err_weaker}
 use Rattle.line_check.specs.Galley.{galley_of}
-use Rattle.line_check.proofs.Written.{at_err, front_of, front_then}
+use Rattle.streams.proofs.Parts.{at_err, front_of, front_then}
 use Rattle.command_ends.proofs.releases.put_set.Goals as goal
 
 pub returns-in_err-put_text-clause-err : goal.returns-in_err-put_text-clause-err

@@ -1,4 +1,5 @@
-use Rattle.line_check.proofs.Written.{at_err, wrote_slug, stopped_slug}
+use Rattle.streams.proofs.Parts.{at_err}
+use Rattle.line_check.proofs.Written.{wrote_slug, stopped_slug}
 use Rattle.line_check.proofs.galleys.galley.Goals as goal
 
 pub returns-in_err-put_slug-clause-err : goal.returns-in_err-put_slug-clause-err

@@ -3,7 +3,7 @@ use Rattle.std.specs.Prelude.{flat_map}
 use Rattle.std.proofs.KnownBytes.{Appends-trans}
 use Rattle.std.proofs.lemmas.Result.{on_ok_weaker, on_err_weaker}
 use Rattle.line_check.specs.Galley.{head_text, sort_text}
-use Rattle.line_check.proofs.Written.{at_err, front_of, front_then}
+use Rattle.streams.proofs.Parts.{at_err, front_of, front_then}
 use Rattle.line_check.proofs.galleys.put_slug.Goals as goal
 
 pub returns-in_err-put_head-clause-err : goal.returns-in_err-put_head-clause-err

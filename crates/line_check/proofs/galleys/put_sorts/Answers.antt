@@ -1,5 +1,5 @@
 use Rattle.line_check.specs.Galley.{sort_text}
-use Rattle.line_check.proofs.Written.{at_err, stopped_part}
+use Rattle.streams.proofs.Parts.{at_err, stopped_part}
 use Rattle.line_check.proofs.galleys.put_sorts.Goals as goal
 
 pub returns-in_err-put_sort-clause-err : goal.returns-in_err-put_sort-clause-err

@@ -4,7 +4,7 @@ use Rattle.std.specs.Io.KnownBytes.{Appends}
 use Rattle.std.proofs.KnownBytes.{Appends-trans}
 use Rattle.std.proofs.lemmas.Result.{on_ok_weaker, on_err_weaker}
 use Rattle.streams.specs.Fronts.{AppendsFront}
-use Rattle.line_check.proofs.Written.{front_then}
+use Rattle.streams.proofs.Parts.{front_then}
 use Rattle.rehearse_command.proofs.Shown.{behind, front_shown, shown_step, shown_still}
 use Rattle.rehearse_command.proofs.rehearsing.show_step.Goals as goal
 

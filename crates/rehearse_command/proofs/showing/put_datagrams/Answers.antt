@@ -1,5 +1,5 @@
 -- One datagram more.
-use Rattle.line_check.proofs.Written.{at_err}
+use Rattle.streams.proofs.Parts.{at_err}
 use Rattle.rehearse_command.proofs.Listing.{wrote_datagram, stopped_datagram}
 use Rattle.rehearse_command.proofs.showing.put_datagrams.Goals as goal
 

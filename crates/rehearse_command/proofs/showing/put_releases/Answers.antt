@@ -1,5 +1,5 @@
 -- One release more.
-use Rattle.line_check.proofs.Written.{at_err, stopped_part}
+use Rattle.streams.proofs.Parts.{at_err, stopped_part}
 use Rattle.rehearse_command.specs.Lines.{released_text}
 use Rattle.rehearse_command.proofs.showing.put_releases.Goals as goal
 

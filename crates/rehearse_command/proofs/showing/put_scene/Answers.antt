@@ -3,7 +3,7 @@ use Rattle.std.proofs.Common.{◌++◌}
 use Rattle.std.specs.Prelude.{flat_map}
 use Rattle.std.proofs.KnownBytes.{Appends-trans}
 use Rattle.std.proofs.lemmas.Result.{on_ok_weaker, on_err_weaker}
-use Rattle.line_check.proofs.Written.{at_err, front_of, front_then}
+use Rattle.streams.proofs.Parts.{at_err, front_of, front_then}
 use Rattle.rehearse_command.specs.Lines.{outcome_line, datagrams_text, released_text}
 use Rattle.rehearse_command.proofs.showing.put_scene.Goals as goal
 

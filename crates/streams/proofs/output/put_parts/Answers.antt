@@ -1,6 +1,6 @@
 use Rattle.std.proofs.Common.{List, [], ℕ, get_or, refl, Bor}
-use Rattle.line_check.proofs.Written.{at_err, stopped_part}
-use Rattle.line_check.proofs.writing.put_parts.Goals as goal
+use Rattle.streams.proofs.Parts.{at_err, stopped_part}
+use Rattle.streams.proofs.output.put_parts.Goals as goal
 
 pub returns-in_err-put_all-clause-err : goal.returns-in_err-put_all-clause-err
 returns-in_err-put_all-clause-err g c =
