@@ -1,0 +1,5 @@
+pub mod Sequences
+pub mod Looking
+pub mod Boxes
+pub mod Holes
+pub mod Casts
