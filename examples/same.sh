@@ -54,7 +54,7 @@ import sys
 import tempfile
 
 # the pages that have examples
-PAGES = ["README.md", "docs/SETTING.md"]
+PAGES = ["README.md", "docs/SETTING.md", "docs/DRAWING.md"]
 
 
 def differing_in(page, work):
@@ -65,6 +65,9 @@ def differing_in(page, work):
     os.makedirs(os.path.join(work, "examples"))
     for name in files:
         shutil.copy(name, os.path.join(work, "examples"))
+    os.makedirs(os.path.join(work, "docs"))
+    for drawing in ["story.svg", "overset.svg"]:
+        shutil.copy(os.path.join("..", "docs", drawing), os.path.join(work, "docs"))
     os.makedirs(os.path.join(work, "bin"))
     os.symlink(sys.argv[1], os.path.join(work, "bin", "circuitd"))
     path = os.path.join(work, "bin") + os.pathsep + os.environ["PATH"]

@@ -3,6 +3,7 @@
 use ballots::Member;
 use check_command::TapePaths;
 use rehearse_command::ScriptPaths;
+use tape_drawing::Page;
 
 /// A command, with all that it is given.
 #[derive(Clone, Copy)]
@@ -11,6 +12,8 @@ pub enum Asked<'a> {
     Answer { circuit: u16, me: Member },
     /// To set a tape, and where `listing` is set to list its frames first.
     Check { paths: TapePaths<'a>, listing: bool },
+    /// To draw a tape.
+    Draw { paths: TapePaths<'a>, page: Page },
     /// To list the saved rows in the file at a path.
     Rows { path: &'a str },
     /// To serve a station.

@@ -114,7 +114,7 @@ A tape that does not set is told with its place, counted in frames from 0:
   $ circuitd check codes.toml widths.toml overset.tape
   fault: overset 1 at 7 line 1";
 
-const CHECK_WORDS: &[(&str, &str)] = &[
+const TAPE_WORDS: &[(&str, &str)] = &[
     ("TABLE", "The code table, as examples/codes.toml"),
     ("WIDTHS", "The width file, as examples/widths.toml"),
     ("TAPE", "The tape, one frame per byte"),
@@ -126,9 +126,30 @@ fn check_command<'a>(alloc: Global) -> Result<Command<'a>, AllocError> {
             "Sets a tape by a code table and a width file, and writes its galley: one line per slug",
         )
         .after_help(CHECK_EXAMPLE);
-    let command = with_words(alloc, command, CHECK_WORDS)?;
+    let command = with_words(alloc, command, TAPE_WORDS)?;
     let help = "First write one line per frame: its holes, and the frame in decimal";
     with_flag(alloc, command, "holes", help)
+}
+
+const DRAW_EXAMPLE: &str = "\
+Example: the holes of a tape and its slugs to scale, in a file that a browser shows:
+
+  $ circuitd draw codes.toml widths.toml flood.tape > flood.svg
+
+A tape that does not set is drawn as far as it sets, with a mark at its fault, which is told:
+
+  $ circuitd draw codes.toml widths.toml overset.tape > overset.svg
+  fault: overset 1 at 7 line 1";
+
+fn draw_command<'a>(alloc: Global) -> Result<Command<'a>, AllocError> {
+    let command = Command::new(alloc, "draw")
+        .about(
+            "Draws a tape as an SVG document: its holes, what each frame means, and its slugs to scale",
+        )
+        .after_help(DRAW_EXAMPLE);
+    let command = with_words(alloc, command, TAPE_WORDS)?;
+    let help = "Write a page in HTML, with the drawing, the fault in words and the galley";
+    with_flag(alloc, command, "html", help)
 }
 
 const ROWS_EXAMPLE: &str =
@@ -250,6 +271,7 @@ pub(crate) fn grammar<'a>(alloc: Global) -> Result<Command<'a>, AllocError> {
         .subcommand_required(true);
     let program = with_command(program, answer_command(alloc))?;
     let program = with_command(program, check_command(alloc))?;
+    let program = with_command(program, draw_command(alloc))?;
     let program = with_command(program, rows_command(alloc))?;
     let program = with_command(program, serve_command(alloc))?;
     with_command(program, rehearse_command(alloc))

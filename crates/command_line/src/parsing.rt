@@ -13,6 +13,7 @@ use command_ends::{End, Fault};
 use rehearse_command::ScriptPaths;
 use std::alloc::Global;
 use std::io::Write;
+use tape_drawing::Page;
 
 fn matches_of<'a>(alloc: Global, words: &'a [String]) -> Result<ArgMatches<'a>, Error> {
     grammar(alloc)?.try_get_matches_from(words)
@@ -24,14 +25,28 @@ fn answer_of<'a>(matches: &ArgMatches<'a>) -> Option<Asked<'a>> {
     Some(Asked::Answer { circuit, me })
 }
 
-fn check_of<'a>(matches: &ArgMatches<'a>) -> Option<Asked<'a>> {
-    let paths = TapePaths {
+fn tape_paths_of<'a>(matches: &ArgMatches<'a>) -> Option<TapePaths<'a>> {
+    Some(TapePaths {
         table: matches.get_str("TABLE")?,
         widths: matches.get_str("WIDTHS")?,
         tape: matches.get_str("TAPE")?,
-    };
+    })
+}
+
+fn check_of<'a>(matches: &ArgMatches<'a>) -> Option<Asked<'a>> {
+    let paths = tape_paths_of(matches)?;
     let listing = matches.get_flag("holes");
     Some(Asked::Check { paths, listing })
+}
+
+fn draw_of<'a>(matches: &ArgMatches<'a>) -> Option<Asked<'a>> {
+    let paths = tape_paths_of(matches)?;
+    let page = if matches.get_flag("html") {
+        Page::Html
+    } else {
+        Page::Svg
+    };
+    Some(Asked::Draw { paths, page })
 }
 
 fn rows_of<'a>(matches: &ArgMatches<'a>) -> Option<Asked<'a>> {
@@ -64,6 +79,7 @@ fn asked_of<'a>(matches: &ArgMatches<'a>) -> Option<Asked<'a>> {
     match matches.subcommand() {
         Some(("answer", given)) => answer_of(given),
         Some(("check", given)) => check_of(given),
+        Some(("draw", given)) => draw_of(given),
         Some(("rows", given)) => rows_of(given),
         Some(("serve", given)) => serve_of(given),
         Some(("rehearse", given)) => rehearse_of(given),

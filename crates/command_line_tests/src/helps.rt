@@ -12,6 +12,7 @@ Usage: circuitd <COMMAND>
 Commands:
   answer    Answers requests as one acceptor: a datagram in hex per line in, its reply per line out
   check     Sets a tape by a code table and a width file, and writes its galley: one line per slug
+  draw      Draws a tape as an SVG document: its holes, what each frame means, and its slugs to scale
   rows      Lists what a station saved: per number its promise, its vote and the frames of that, in hex
   serve     Runs this plant's station on the wire, and prints each story that the circuit has agreed on
   rehearse  Rehearses a whole circuit by a script: who offers, what is delivered when, who starts again
@@ -62,6 +63,30 @@ the blank left and right, and the matrices with the width of each spaceband.
 A tape that does not set is told with its place, counted in frames from 0:
 
   $ circuitd check codes.toml widths.toml overset.tape
+  fault: overset 1 at 7 line 1
+";
+
+const DRAW: &str = "\
+Draws a tape as an SVG document: its holes, what each frame means, and its slugs to scale
+
+Usage: circuitd draw [OPTIONS] <TABLE> <WIDTHS> <TAPE>
+
+Arguments:
+  <TABLE>   The code table, as examples/codes.toml
+  <WIDTHS>  The width file, as examples/widths.toml
+  <TAPE>    The tape, one frame per byte
+
+Options:
+      --html  Write a page in HTML, with the drawing, the fault in words and the galley
+  -h, --help  Print help
+
+Example: the holes of a tape and its slugs to scale, in a file that a browser shows:
+
+  $ circuitd draw codes.toml widths.toml flood.tape > flood.svg
+
+A tape that does not set is drawn as far as it sets, with a mark at its fault, which is told:
+
+  $ circuitd draw codes.toml widths.toml overset.tape > overset.svg
   fault: overset 1 at 7 line 1
 ";
 
@@ -147,6 +172,7 @@ const HELPS: &[(&str, &str)] = &[
     ("circuitd help", PROGRAM),
     ("circuitd answer -h", ANSWER),
     ("circuitd check --help", CHECK),
+    ("circuitd draw --help", DRAW),
     ("circuitd help rows", ROWS),
     ("circuitd rows --help", ROWS),
     ("circuitd serve --help", SERVE),

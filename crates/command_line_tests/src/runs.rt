@@ -151,6 +151,12 @@ const RUNS: &[Run] = &[
         ..SILENT
     },
     Run {
+        line: "circuitd draw --html circuitd_words/codes.toml circuitd_words/widths.toml circuitd_words/none.tape",
+        end: End::Input,
+        err: "cannot read circuitd_words/none.tape\n",
+        ..SILENT
+    },
+    Run {
         line: "circuitd rehearse circuitd_words/codes.toml circuitd_words/widths.toml circuitd_words/story.script",
         out: "2 began 1.2\n #1 prepare 2>1 12 1.2\n #2 prepare 2>3 12 1.2\n",
         ..SILENT

@@ -8,7 +8,7 @@ use command_line::parse;
 const USAGES: &[(&str, &str, &str)] = &[
     (
         "circuitd",
-        "'circuitd' requires a subcommand but one was not provided\n  [subcommands: answer, check, rows, serve, rehearse, help]",
+        "'circuitd' requires a subcommand but one was not provided\n  [subcommands: answer, check, draw, rows, serve, rehearse, help]",
         "<COMMAND>",
     ),
     (

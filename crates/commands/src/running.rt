@@ -11,11 +11,13 @@ use answer_command::answer;
 use check_command::{TapePaths, check};
 use command_ends::End;
 use command_line::Asked;
+use draw_command::draw;
 use opened_files::Opened;
 use rehearse_command::{ScriptPaths, rehearse};
 use row_files::RowFiles;
 use station_start::serve;
 use std::io::{Read, Write};
+use tape_drawing::Page;
 
 /// Checks the tape at its path by the table and the widths at theirs.
 fn run_check<W: Write, E: Write>(
@@ -35,6 +37,29 @@ fn run_check<W: Write, E: Write>(
         &mut widths,
         &mut tape,
         listing,
+        out,
+        err,
+    )
+}
+
+/// Draws the tape at its path by the table and the widths at theirs.
+fn run_draw<W: Write, E: Write>(
+    rt: &HostRuntime,
+    paths: &TapePaths<'_>,
+    page: Page,
+    out: &mut W,
+    err: &mut E,
+) -> End {
+    let mut table = Opened::at(rt, paths.table);
+    let mut widths = Opened::at(rt, paths.widths);
+    let mut tape = Opened::at(rt, paths.tape);
+    draw(
+        rt.alloc(),
+        paths,
+        &mut table,
+        &mut widths,
+        &mut tape,
+        page,
         out,
         err,
     )
@@ -77,6 +102,7 @@ pub fn run_command<F: RowFiles, R: Read, W: Write, E: Write>(
     match asked {
         Asked::Answer { circuit, me } => answer(rt.alloc(), *circuit, *me, input, out, err),
         Asked::Check { paths, listing } => run_check(rt, paths, *listing, out, err),
+        Asked::Draw { paths, page } => run_draw(rt, paths, *page, out, err),
         Asked::Rows { path } => row_files.list(rt, *path, out, err),
         Asked::Serve(plan) => serve(rt, plan, row_files, out, err),
         Asked::Rehearse { paths } => run_rehearse(rt, paths, out, err),
