@@ -1,7 +1,7 @@
 //! Tapes, owned and lent.
 
-ghost use Rattle.std.specs.Prelude.{◌≡◌, ◌≤◌, length, IfOk, IfErr, IsTrue, ◌↔◌, Some, None, MatchResult, MatchOption, nat_lt};
-ghost use Rattle.std.specs.List.{position_from};
+ghost use Rattle.std.specs.Prelude.{◌≡◌, ◌≤◌, length, IfOk, IfErr, IsTrue, ◌↔◌, Some, None, MatchResult, MatchOption, nat_le, nat_lt};
+ghost use Rattle.std.specs.List.{list_all, position_from};
 ghost use Rattle.tape_frames.specs.Frames.{IsTape, tape_fault};
 ghost use Rattle.tape_frames.specs.declared.fault.TapeFault.TheVariants.{OutOfMemory};
 
@@ -46,10 +46,26 @@ impl<'a> Model for TapeRef<'a> {
     ghost invariant = { λ t. IsTape t.frames.now };
 }
 
+/// Whether each byte is a frame. It looks at all of them, without a stop at one that is none, so that many are compared
+/// at a time.
+fn are_frames(bytes: &[u8]) -> bool
+    ensures { result ≡ list_all (λ f. nat_le f 63) bytes.now }
+{
+    let mut all = true;
+    for byte in bytes {
+        all = *byte <= 63 && all;
+    }
+    all
+}
+
 /// The place of the first frame above 63.
+#[tactic(auto, using(crate::proofs::Frames::none_bad))]
 fn first_bad(bytes: &[u8]) -> Option<usize>
     ensures { result ≡ position_from (λ f. nat_lt 63 f) 0 bytes.now }
 {
+    if are_frames(bytes) {
+        return None;
+    }
     bytes.iter().position(|f| *f > 63)
 }
 
