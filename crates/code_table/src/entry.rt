@@ -1,5 +1,7 @@
 //! What a code table says of one frame.
 
+ghost use Rattle.std.specs.Prelude.{◌≡◌};
+
 use crate::meaning::Meaning;
 
 /// The two meanings of a frame.
@@ -9,4 +11,17 @@ pub struct Entry {
     pub unshift: Meaning,
     /// What it means in the second.
     pub shift: Meaning,
+}
+
+/// The same entry once more, where there is one. It takes no memory.
+pub(crate) fn copied(entry: &Option<Entry>) -> Option<Entry>
+    ensures { result ≡ entry.now }
+{
+    match entry {
+        None => None,
+        Some(entry) => Some(Entry {
+            unshift: entry.unshift.copy(),
+            shift: entry.shift.copy(),
+        }),
+    }
 }

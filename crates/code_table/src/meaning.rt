@@ -87,6 +87,29 @@ impl Meaning {
         }
     }
 
+    /// The same meaning once more. It takes no memory.
+    pub(crate) fn copy(&self) -> Meaning
+        ensures { result ≡ self.now }
+    {
+        match self {
+            Meaning::Matrix(name) => Meaning::Matrix(name.copy()),
+            Meaning::Shift => Meaning::Shift,
+            Meaning::Unshift => Meaning::Unshift,
+            Meaning::Elevate => Meaning::Elevate,
+            Meaning::Return => Meaning::Return,
+            Meaning::Spaceband => Meaning::Spaceband,
+            Meaning::Thin => Meaning::Thin,
+            Meaning::En => Meaning::En,
+            Meaning::Em => Meaning::Em,
+            Meaning::Upper => Meaning::Upper,
+            Meaning::Lower => Meaning::Lower,
+            Meaning::QuadLeft => Meaning::QuadLeft,
+            Meaning::QuadCenter => Meaning::QuadCenter,
+            Meaning::QuadRight => Meaning::QuadRight,
+            Meaning::Ignore => Meaning::Ignore,
+        }
+    }
+
     /// The case that it selects for the frames after it, where it is a case code.
     pub fn selects(&self) -> Option<Case>
         ensures { result ≡ case_of (Some self.now) }

@@ -8,11 +8,11 @@ ghost use Rattle.code_table.specs.declared.fault.TableFault.TheVariants.{NotToml
 ghost use Rattle.code_table.specs.Tables.{mean, case_of};
 
 use crate::case::Case;
-use crate::entry::Entry;
+use crate::entry::{Entry, copied};
 use crate::fault::TableFault;
 use crate::meaning::Meaning;
 use crate::reading::{FRAMES, codes_in, read_places};
-use std::alloc::Global;
+use std::alloc::{AllocError, Global};
 use std::marker::Model;
 use toml::Table;
 
@@ -47,6 +47,17 @@ fn document_of(alloc: Global, text: &str) -> Result<Table, TableFault>
     })
 }
 
+/// The same entries once more.
+fn copied_all(alloc: Global, entries: &[Option<Entry>]) -> Result<Vec<Option<Entry>>, AllocError>
+    ensures { IfOk result (λ v. v.items ≡ entries.now) }
+{
+    let mut copies = Vec::with_capacity(alloc, entries.len())?;
+    for entry in entries {
+        copies.push(copied(entry))?;
+    }
+    Ok(copies)
+}
+
 impl CodeTable {
     /// The table of a TOML text: an array `code` of tables with the keys `frame`, `unshift` and `shift`.
     ///
@@ -60,6 +71,16 @@ impl CodeTable {
         let document = document_of(alloc, text)?;
         let codes = codes_in(&document)?;
         match <[Option<Entry>; FRAMES]>::try_from(read_places(alloc, codes)?) {
+            Ok(places) => Ok(CodeTable { places }),
+            Err(_) => unreachable!(),
+        }
+    }
+
+    /// An equal table.
+    pub fn copy(&self, alloc: Global) -> Result<CodeTable, AllocError>
+        ensures { IfOk result (λ table. table ≡ self.now) }
+    {
+        match <[Option<Entry>; FRAMES]>::try_from(copied_all(alloc, &self.places)?) {
             Ok(places) => Ok(CodeTable { places }),
             Err(_) => unreachable!(),
         }

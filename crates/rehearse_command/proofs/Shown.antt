@@ -1,10 +1,7 @@
 -- What is shown of a world, step by step.
 use Rattle.std.proofs.Common.{◌≡◌, ℕ, ◌+◌, List, [], ◌∷◌, ◌++◌, length, drop, Option, Some, None, Result, Ok, Err, refl, sym, ap, subst, ◌∙◌, inl, inr, arith}
-use Rattle.std.specs.Prelude.{flat_map, IfSome}
+use Rattle.std.specs.Prelude.{flat_map}
 use Rattle.std.specs.List.{All}
-use Rattle.toml.specs.Parse.{parse_document}
-use Rattle.code_table.specs.Reading.{read_table}
-use Rattle.widths.specs.Reading.{read_widths}
 use Rattle.std.specs.Io.KnownBytes.{Appends, Keeps}
 use Rattle.std.proofs.KnownBytes.{Appends-kept}
 use Rattle.std.proofs.lemmas.Grind.{flat_map-append}
@@ -30,7 +27,7 @@ use Rattle.world.specs.declared.step.WorldRefusal.{WorldRefusal}
 use Rattle.world.specs.Worlds.{GoesOn}
 use Rattle.world.proofs.Asking.{ends_more}
 use Rattle.rehearse_command.specs.Scenes.{Scene, ArePlayed, TakesAs, Takes, scene_text, scenes_text}
-use Rattle.rehearse_command.specs.Rehearsals.{Inputs, inputs, IsSetUpBy, Shows, Stands, StandsFront, IsStaged, Rehearses}
+use Rattle.rehearse_command.specs.Rehearsals.{Inputs, IsSetUpBy, Shows, Stands, StandsFront, IsStaged, Rehearses}
 use Rattle.rehearse_command.specs.declared.rehearsing.Stage.{Stage}
 use Rattle.rehearse_command.proofs.Listing.{sent_in, scenes_more}
 
@@ -61,6 +58,10 @@ module _ (by : Inputs) where
   pub rehearsed_as : (P Q : List ℕ → Type 0) → ((text : List ℕ) → P text → Q text) → Rehearses by P → Rehearses by Q
   rehearsed_as P Q turn (inl nothing) = inl (turn [] nothing)
   rehearsed_as P Q turn (inr shown) = inr (shown.0, shown_as P Q shown.0 turn shown.1)
+
+  -- members that are all as one that is set up by the texts are set up by them
+  pub all_set_up : (member : Given) (members : List Given) → All (λ (m : Given). m ≡ member) members → IsSetUpBy by member → All (IsSetUpBy by) members
+  all_set_up member members same set_up = λ k d lt. subst (IsSetUpBy by) (sym (same k d lt)) set_up
 
   -- nothing has happened yet
   pub shown_new : (start now : Option (List ℕ)) (k : ℕ) (members : List Given) (v : World MemoryRows) → All (IsSetUpBy by) members → IsBeginning k members v → IsFresh ghosts k members v → IsReached ghosts v → Appends start now [] → Stands by start now v
@@ -160,30 +161,3 @@ module _ (by : Inputs) where
 
   pub kept_front_rehearsed : (start now later : Option (List ℕ)) → Keeps now later → Rehearses by (AppendsFront start now) → Rehearses by (AppendsFront start later)
   kept_front_rehearsed start now later keeps r = rehearsed_as (AppendsFront start now) (AppendsFront start later) (λ text h. (h.0, Appends-kept start now later _ h.1 keeps)) r
-
--- a text is one of what is known of its input
-pub of_known : (known : Option (List ℕ)) (items : List ℕ) (Q : List ℕ → Type 0) → IfSome known (λ xs. items ≡ xs) → Q items → IfSome known Q
-of_known None items Q is q = tt
-of_known (Some xs) items Q is q = subst Q is q
-
--- the texts are those of the inputs
-pub rehearsed_from : (table widths : List ℕ) (known_table known_widths : Option (List ℕ)) (P : List ℕ → Type 0) → IfSome known_table (λ xs. table ≡ xs) → IfSome known_widths (λ xs. widths ≡ xs)
-    → Rehearses (inputs (Some table) (Some widths)) P → Rehearses (inputs known_table known_widths) P
-rehearsed_from table widths known_table known_widths P t w (inl nothing) = inl nothing
-rehearsed_from table widths known_table known_widths P t w (inr (v, s)) =
-    let turn : (m : Given) → IsSetUpBy (inputs (Some table) (Some widths)) m → IsSetUpBy (inputs known_table known_widths) m =
-    λ m h. (of_known known_table table (λ text. read_table (parse_document text) ≡ Ok m.0) t h.0, of_known known_widths widths (λ text. read_widths (parse_document text) ≡ Ok m.1) w h.1) in
-    inr (
-      v,
-      record {
-        reached = s.reached;
-        agreed = s.agreed;
-        scenes = s.scenes;
-        are_of = s.are_of;
-        number = s.number;
-        members = s.members;
-        set_up = λ k d lt. turn _ (s.set_up k d lt);
-        played = s.played;
-        written = s.written;
-      },
-    )

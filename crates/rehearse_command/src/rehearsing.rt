@@ -1,6 +1,6 @@
 //! The command `rehearse`: a whole circuit in one process, driven by a script.
 
-ghost use Rattle.std.specs.Prelude.{◌≡◌, ℕ, List, [], Option, OnOk, OnErr, IfOk, IfSome};
+ghost use Rattle.std.specs.Prelude.{◌≡◌, ℕ, List, [], Option, OnOk, OnErr, IfOk};
 ghost use Rattle.std.specs.List.{All};
 ghost use Rattle.std.specs.Io.KnownBytes.{Appends};
 ghost use Rattle.streams.specs.Fronts.{AppendsFront};
@@ -10,7 +10,7 @@ ghost use Rattle.rehearse_command.specs.Rehearsals.{Inputs, IsSetUpBy, IsStaged,
 use crate::script::{LineFault, Order, is_ignored, order_of};
 use crate::showing::put_scene;
 use code_table::CodeTable;
-use command_ends::{End, Fault, read_text, table_of, widths_of};
+use command_ends::{End, Fault, read_table, read_text, read_widths};
 use saved_rows::MemoryRows;
 use std::alloc::{AllocError, Global};
 use std::io::{Read, Write};
@@ -35,37 +35,42 @@ struct Stage {
     now: u64,
 }
 
-/// The texts that each member reads its table and its widths from.
+/// What each member sets tapes by.
 #[derive(Clone, Copy)]
-struct Texts<'a> {
-    table: &'a [u8],
-    widths: &'a [u8],
+struct Setting<'a> {
+    table: &'a CodeTable,
+    widths: &'a Widths,
 }
 
-/// So many members, each with the table and the widths of these texts.
-fn members_of<'a>(
+/// So many members, each with a copy of this table and of these widths.
+fn members_of(
     alloc: Global,
-    texts: Texts<'_>,
+    setting: Setting<'_>,
     count: u8,
-) -> Result<Vec<(CodeTable, Widths)>, Fault<'a>>
-    ensures { IfOk result (λ members. All (IsSetUpBy (inputs (Some texts.entry.table.now) (Some texts.entry.widths.now))) members.items) }
+) -> Result<Vec<(CodeTable, Widths)>, AllocError>
+    ensures { IfOk result (λ members. All (λ member. member ≡ (setting.entry.table.now, setting.entry.widths.now)) members.items) }
 {
-    let mut members: Vec<(CodeTable, Widths)> = Vec::new(alloc);
+    let mut members = Vec::with_capacity(alloc, usize::from(count))?;
     for _ in 0..count {
-        let table = table_of(alloc, texts.table)?;
-        let widths = widths_of(alloc, texts.widths)?;
-        if members.push((table, widths)).is_err() {
-            return Err(Fault::OutOfMemory);
-        }
+        let table = setting.table.copy(alloc)?;
+        let widths = setting.widths.copy(alloc)?;
+        members.push((table, widths))?;
     }
     Ok(members)
 }
 
 /// A circuit of so many members, in which nothing has happened yet.
-fn stage_of<'a>(alloc: Global, texts: Texts<'_>, line: usize, count: u8) -> Result<Stage, Fault<'a>>
-    ensures { IfOk result (λ stage. (start now : Option (List ℕ)) → Appends start now [] → Stands (inputs (Some texts.entry.table.now) (Some texts.entry.widths.now)) start now stage.world) }
+fn stage_of<'a>(
+    alloc: Global,
+    setting: Setting<'_>,
+    line: usize,
+    count: u8,
+) -> Result<Stage, Fault<'a>>
+    ensures { IfOk result (λ stage. (by : Inputs) (start now : Option (List ℕ)) → IsSetUpBy by (setting.entry.table.now, setting.entry.widths.now) → Appends start now [] → Stands by start now stage.world) }
 {
-    let members = members_of(alloc, texts, count)?;
+    let Ok(members) = members_of(alloc, setting, count) else {
+        return Err(Fault::OutOfMemory);
+    };
     match circuit_in_memory(alloc, CIRCUIT, members) {
         Ok(world) => Ok(Stage { world, now: 0 }),
         Err(PlayFault::BadCount) => Err(Fault::script(line, "bad line")),
@@ -157,14 +162,14 @@ impl Stage {
 /// Sets the stage by the first line that is not ignored.
 fn set_stage<'a>(
     alloc: Global,
-    texts: Texts<'_>,
+    setting: Setting<'_>,
     line: usize,
     order: Result<Order, LineFault>,
 ) -> Result<Stage, Fault<'a>>
-    ensures { IfOk result (λ stage. (start now : Option (List ℕ)) → Appends start now [] → Stands (inputs (Some texts.entry.table.now) (Some texts.entry.widths.now)) start now stage.world) }
+    ensures { IfOk result (λ stage. (by : Inputs) (start now : Option (List ℕ)) → IsSetUpBy by (setting.entry.table.now, setting.entry.widths.now) → Appends start now [] → Stands by start now stage.world) }
 {
     match order {
-        Ok(Order::Members(count)) => stage_of(alloc, texts, line, count),
+        Ok(Order::Members(count)) => stage_of(alloc, setting, line, count),
         Err(LineFault::OutOfMemory) => Err(Fault::OutOfMemory),
         _ => Err(Fault::script(line, "bad line")),
     }
@@ -192,20 +197,20 @@ fn play_order<'a, W: Write>(
 /// Plays one line that is not ignored. The first such line sets the stage.
 fn play_line<'a, W: Write>(
     alloc: Global,
-    texts: Texts<'_>,
+    setting: Setting<'_>,
     stage: &mut Option<Stage>,
     line: usize,
     words: &[u8],
     out: &mut W,
 ) -> Result<(), Fault<'a>>
-    ensures goes_on { (start : Option (List ℕ)) → IsStaged (inputs (Some texts.entry.table.now) (Some texts.entry.widths.now)) start (W.contents out.old) stage.old → OnOk result (IsStaged (inputs (Some texts.entry.table.now) (Some texts.entry.widths.now)) start (W.contents out.new) stage.new) }
-    ensures stops { (start : Option (List ℕ)) → IsStaged (inputs (Some texts.entry.table.now) (Some texts.entry.widths.now)) start (W.contents out.old) stage.old → OnErr result (Rehearses (inputs (Some texts.entry.table.now) (Some texts.entry.widths.now)) (AppendsFront start (W.contents out.new))) }
+    ensures goes_on { (by : Inputs) (start : Option (List ℕ)) → IsSetUpBy by (setting.entry.table.now, setting.entry.widths.now) → IsStaged by start (W.contents out.old) stage.old → OnOk result (IsStaged by start (W.contents out.new) stage.new) }
+    ensures stops { (by : Inputs) (start : Option (List ℕ)) → IsSetUpBy by (setting.entry.table.now, setting.entry.widths.now) → IsStaged by start (W.contents out.old) stage.old → OnErr result (Rehearses by (AppendsFront start (W.contents out.new))) }
 {
     let order = order_of(alloc, words);
     match stage {
         Some(stage) => play_order(alloc, stage, line, order, out),
         None => {
-            *stage = Some(set_stage(alloc, texts, line, order)?);
+            *stage = Some(set_stage(alloc, setting, line, order)?);
             Ok(())
         }
     }
@@ -219,17 +224,17 @@ fn lines_of<'a>(alloc: Global, script: &'a [u8]) -> Result<Vec<&'a [u8]>, AllocE
 /// Plays lines, up to the first fault.
 fn play_lines<'a, W: Write>(
     alloc: Global,
-    texts: Texts<'_>,
+    setting: Setting<'_>,
     lines: &[&[u8]],
     out: &mut W,
 ) -> Result<(), Fault<'a>>
-    ensures ok { OnOk result (Rehearses (inputs (Some texts.entry.table.now) (Some texts.entry.widths.now)) (Appends (W.contents out.old) (W.contents out.new))) }
-    ensures err { OnErr result (Rehearses (inputs (Some texts.entry.table.now) (Some texts.entry.widths.now)) (AppendsFront (W.contents out.old) (W.contents out.new))) }
+    ensures ok { (by : Inputs) → IsSetUpBy by (setting.entry.table.now, setting.entry.widths.now) → OnOk result (Rehearses by (Appends (W.contents out.old) (W.contents out.new))) }
+    ensures err { (by : Inputs) → IsSetUpBy by (setting.entry.table.now, setting.entry.widths.now) → OnErr result (Rehearses by (AppendsFront (W.contents out.old) (W.contents out.new))) }
 {
     let mut stage = None;
     for (index, words) in lines.iter().enumerate() {
         if !is_ignored(words) {
-            play_line(alloc, texts, &mut stage, index + 1, words, out)?;
+            play_line(alloc, setting, &mut stage, index + 1, words, out)?;
         }
     }
     Ok(())
@@ -238,47 +243,21 @@ fn play_lines<'a, W: Write>(
 /// Plays all lines, up to the first fault.
 fn play_all<'a, W: Write>(
     alloc: Global,
-    texts: Texts<'_>,
+    setting: Setting<'_>,
     script: &[u8],
     out: &mut W,
 ) -> Result<(), Fault<'a>>
-    ensures ok { OnOk result (Rehearses (inputs (Some texts.entry.table.now) (Some texts.entry.widths.now)) (Appends (W.contents out.old) (W.contents out.new))) }
-    ensures err { OnErr result (Rehearses (inputs (Some texts.entry.table.now) (Some texts.entry.widths.now)) (AppendsFront (W.contents out.old) (W.contents out.new))) }
+    ensures ok { (by : Inputs) → IsSetUpBy by (setting.entry.table.now, setting.entry.widths.now) → OnOk result (Rehearses by (Appends (W.contents out.old) (W.contents out.new))) }
+    ensures err { (by : Inputs) → IsSetUpBy by (setting.entry.table.now, setting.entry.widths.now) → OnErr result (Rehearses by (AppendsFront (W.contents out.old) (W.contents out.new))) }
 {
     let Ok(lines) = lines_of(alloc, script) else {
         return Err(Fault::OutOfMemory);
     };
-    play_lines(alloc, texts, &lines, out)?;
+    play_lines(alloc, setting, &lines, out)?;
     match out.flush() {
         Ok(()) => Ok(()),
         Err(_) => Err(Fault::CannotWrite),
     }
-}
-
-/// The text of a code table, which is taken once to see that it is one.
-fn table_text<'a, R: Read>(
-    alloc: Global,
-    input: &mut R,
-    path: &'a str,
-) -> Result<Vec<u8>, Fault<'a>>
-    ensures { IfOk result (λ v. IfSome (R.remaining input.old) (λ xs. v.items ≡ xs)) }
-{
-    let text = read_text(alloc, input, path)?;
-    let _ = table_of(alloc, &text)?;
-    Ok(text)
-}
-
-/// The text of a width file, which is taken once to see that it is one.
-fn widths_text<'a, R: Read>(
-    alloc: Global,
-    input: &mut R,
-    path: &'a str,
-) -> Result<Vec<u8>, Fault<'a>>
-    ensures { IfOk result (λ v. IfSome (R.remaining input.old) (λ xs. v.items ≡ xs)) }
-{
-    let text = read_text(alloc, input, path)?;
-    let _ = widths_of(alloc, &text)?;
-    Ok(text)
 }
 
 /// The same, from the three files.
@@ -293,14 +272,14 @@ fn rehearsed<'a, R: Read, S: Read, T: Read, W: Write>(
     ensures ok { OnOk result (Rehearses (inputs (R.remaining table.old) (S.remaining widths.old)) (Appends (W.contents out.old) (W.contents out.new))) }
     ensures err { OnErr result (Rehearses (inputs (R.remaining table.old) (S.remaining widths.old)) (AppendsFront (W.contents out.old) (W.contents out.new))) }
 {
-    let table = table_text(alloc, table, paths.table)?;
-    let widths = widths_text(alloc, widths, paths.widths)?;
+    let table = read_table(alloc, table, paths.table)?;
+    let widths = read_widths(alloc, widths, paths.widths)?;
     let script = read_text(alloc, script, paths.script)?;
-    let texts = Texts {
+    let setting = Setting {
         table: &table,
         widths: &widths,
     };
-    play_all(alloc, texts, &script, out)
+    play_all(alloc, setting, &script, out)
 }
 
 /// Rehearses a circuit by a script: each line's step, what it sends and what it releases are written as they come.

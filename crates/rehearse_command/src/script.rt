@@ -140,11 +140,19 @@ pub fn order_of(alloc: Global, line: &[u8]) -> Result<Order, LineFault> {
     let Ok(text) = str::from_utf8(line) else {
         return Err(LineFault::BadLine);
     };
-    let words: Vec<&str> = text.split(' ').filter(|w| !w.is_empty()).collect(alloc)?;
-    match words.as_slice() {
-        ["offer", who, what, frames] => offer(alloc, who, what, frames),
-        [name, who, word] => order_of_two(name, who, word),
-        [name, word] => order_of_one(name, word),
+    let mut words = text.split(' ').filter(|w| !w.is_empty());
+    match (
+        words.next(),
+        words.next(),
+        words.next(),
+        words.next(),
+        words.next(),
+    ) {
+        (Some("offer"), Some(who), Some(what), Some(frames), None) => {
+            offer(alloc, who, what, frames)
+        }
+        (Some(name), Some(who), Some(word), None, _) => order_of_two(name, who, word),
+        (Some(name), Some(word), None, _, _) => order_of_one(name, word),
         _ => Err(LineFault::BadLine),
     }
 }

@@ -1,12 +1,13 @@
 //! One matrix of a width file.
 
-ghost use Rattle.std.specs.Prelude.{◌≡◌, IfSome};
+ghost use Rattle.std.specs.Prelude.{◌≡◌, IfSome, IfOk};
 ghost use Rattle.std.specs.Ordering.{nat_cmp};
 ghost use Rattle.std.specs.Cmp.Lexicographic.{slice_cmp};
 ghost use Rattle.std.specs.List.{AllByRecursion};
 ghost use Rattle.widths.specs.Widths.{width_among, IsInNameOrder, IsWidth};
 
 use code_table::Name;
+use std::alloc::{AllocError, Global};
 use std::cmp::Ordering;
 
 /// A matrix and its width.
@@ -37,4 +38,17 @@ pub fn width_among(entries: &[MatrixWidth], name: &[u8]) -> Option<u16>
         Ok(at) => Some(entries[at].width),
         Err(_) => None,
     }
+}
+
+/// The same entries once more.
+pub fn copied(alloc: Global, entries: &[MatrixWidth]) -> Result<Vec<MatrixWidth>, AllocError>
+    ensures { IfOk result (λ v. v.items ≡ entries.now) }
+{
+    let mut copies = Vec::with_capacity(alloc, entries.len())?;
+    for entry in entries {
+        let name = entry.name.copy();
+        let width = entry.width;
+        copies.push(MatrixWidth { name, width })?;
+    }
+    Ok(copies)
 }

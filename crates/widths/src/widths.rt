@@ -7,12 +7,12 @@ ghost use Rattle.widths.specs.Reading.{read_file, read_widths};
 ghost use Rattle.widths.specs.declared.fault.WidthFault.TheVariants.{NotToml, OutOfMemory};
 ghost use Rattle.widths.specs.Widths.{width_of, IsWidth, IsWidthFile};
 
-use crate::entry::{MatrixWidth, width_among};
+use crate::entry::{MatrixWidth, copied, width_among};
 use crate::fault::WidthFault;
 use crate::matrix::read_matrix;
 use crate::measures::{matrix_in, measures_in};
 use code_table::Name;
-use std::alloc::Global;
+use std::alloc::{AllocError, Global};
 use std::marker::Model;
 use toml::Table;
 
@@ -91,6 +91,22 @@ impl Widths {
     {
         let file = document_of(alloc, text)?;
         read_file(alloc, &file)
+    }
+
+    /// Equal measures and widths.
+    pub fn copy(&self, alloc: Global) -> Result<Widths, AllocError>
+        ensures { IfOk result (λ widths. widths ≡ self.now) }
+    {
+        let matrix = copied(alloc, &self.matrix)?;
+        Ok(Widths {
+            measure: self.measure,
+            band_min: self.band_min,
+            band_max: self.band_max,
+            thin: self.thin,
+            en: self.en,
+            em: self.em,
+            matrix,
+        })
     }
 
     /// The width of the matrix with this name, 1 to 999 units; `None` where the file has none of that name.

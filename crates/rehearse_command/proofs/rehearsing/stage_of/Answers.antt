@@ -1,9 +1,9 @@
 -- Nothing has happened yet.
-use Rattle.std.proofs.Common.{Some}
-use Rattle.rehearse_command.specs.Rehearsals.{inputs}
-use Rattle.rehearse_command.proofs.Shown.{shown_new}
+use Rattle.rehearse_command.proofs.Shown.{all_set_up, shown_new}
 use Rattle.rehearse_command.proofs.rehearsing.stage_of.Goals as goal
 
-pub returns-in-Ok : goal.returns-in-Ok
-returns-in-Ok c = λ start now written.
-    shown_new (inputs (Some c.args.texts.table.now) (Some c.args.texts.widths.now)) start now _ c.in_ok-members.members.items c.in-Ok.world c.in_ok-members.ensures c.in-Ok.ensures.begins c.in-Ok.ensures.fresh c.in-Ok.ensures.reached written
+pub returns-in-Ok-circuit_in_memory : goal.returns-in-Ok-circuit_in_memory
+returns-in-Ok-circuit_in_memory c = λ by start now set_up written.
+    let members = c.in-Ok.members.items in
+    let done = c.in-Ok-circuit_in_memory in
+    shown_new by start now _ members done.world (all_set_up by (c.args.setting.table.now, c.args.setting.widths.now) members c.in-Ok.ensures set_up) done.ensures.begins done.ensures.fresh done.ensures.reached written

@@ -1,0 +1,6 @@
+-- The entries so far are copied.
+use Rattle.std.proofs.Common.{◌≡◌, take}
+use Rattle.widths.proofs.entry.copied.Given as goal
+
+abbrev pub invariant-loop-entry : goal.invariant-loop-entry
+invariant-loop-entry l = l.copies.items ≡ take l.entry-index l.entries
