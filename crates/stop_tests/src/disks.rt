@@ -1,0 +1,119 @@
+//! Databases over two disks in memory, one of which stops after so many calls.
+
+ghost use Rattle.std.specs.Prelude.{IsTrue};
+
+use acceptor_store::{SqliteRows, into_files};
+use saved_rows::{Identity, RowsFault};
+use sqlite::{Connection, FileStore, Files, Options};
+use sqlite_disk::{Crash, Disk, Fuse, Memory};
+use std::alloc::Global;
+
+/// Saved rows over such disks.
+pub type Saved = SqliteRows<FileStore<Fuse<Memory>>>;
+
+/// The two disks of a database.
+pub type Disks = Files<Fuse<Memory>>;
+
+/// The one member of circuit 7.
+pub const ALONE: Identity = Identity {
+    circuit: 7,
+    member: 1,
+    members: 1,
+};
+
+/// Which of the two disks stops.
+#[derive(Clone, Copy, PartialEq, Eq)]
+pub enum Side {
+    Log,
+    Database,
+}
+
+/// What is left of a database: its disks, and whether it was closed whole.
+#[derive(Drop)]
+pub struct Left {
+    pub disks: Disks,
+    pub closed: bool,
+}
+
+/// A new disk that stops after so many calls.
+fn disk(alloc: Global, calls: u64) -> Fuse<Memory>
+    ensures { IsTrue (⟦<Fuse<Memory> as Disk>⟧.is_usable result) }
+{
+    Fuse::new(Memory::new(alloc), calls)
+}
+
+/// Opens a database over new disks, of which this one stops after so many calls; or what is left of them.
+fn opened(
+    alloc: Global,
+    side: Side,
+    calls: u64,
+) -> Result<Connection<FileStore<Fuse<Memory>>>, Disks> {
+    let (log_calls, database_calls) = match side {
+        Side::Log => (calls, u64::MAX),
+        Side::Database => (u64::MAX, calls),
+    };
+    let disks = Files {
+        log: disk(alloc, log_calls),
+        db: disk(alloc, database_calls),
+    };
+    match Connection::open_files(alloc, disks, Options::new(1)) {
+        Ok(conn) => Ok(conn),
+        Err((_, left)) => Err(left.into_files()),
+    }
+}
+
+/// Takes the disks out of a database.
+fn close(conn: Connection<FileStore<Fuse<Memory>>>) -> Left {
+    match conn.close_files() {
+        Ok(disks) => Left {
+            disks,
+            closed: true,
+        },
+        Err((_, store)) => Left {
+            disks: store.close(),
+            closed: false,
+        },
+    }
+}
+
+/// Takes the disks out of saved rows.
+pub fn left_of(rows: Saved) -> Left {
+    close(rows.into_connection())
+}
+
+/// Makes saved rows over new disks, of which this one stops after so many calls; or what a stop left of them.
+pub fn made(alloc: Global, side: Side, calls: u64) -> Result<Saved, Disks> {
+    let conn = opened(alloc, side, calls)?;
+    match SqliteRows::create(alloc, conn, ALONE) {
+        Ok(rows) => Ok(rows),
+        Err((_, conn)) => Err(into_files(conn)),
+    }
+}
+
+/// Opens the database that stands on the disks after a crash; nothing where that is refused.
+fn reopened(alloc: Global, disks: Disks) -> Option<Connection<FileStore<Fuse<Memory>>>> {
+    let mut disks = disks;
+    disks.log.crash();
+    disks.db.crash();
+    match Connection::open_files(alloc, disks, Options::new(1)) {
+        Ok(conn) => Some(conn),
+        Err(_) => None,
+    }
+}
+
+/// The rows that are found on the disks after a crash, or why they are refused; nothing where no database is found.
+pub fn found(alloc: Global, disks: Disks) -> Option<Result<Saved, RowsFault>> {
+    let conn = reopened(alloc, disks)?;
+    match SqliteRows::open(alloc, conn, Some(ALONE)) {
+        Ok(rows) => Some(Ok(rows)),
+        Err((fault, _)) => Some(Err(fault)),
+    }
+}
+
+/// How many rows are listed.
+pub fn count(rows: &mut Saved) -> Option<usize> {
+    match rows.all() {
+        Ok(list) => Some(list.len()),
+        Err(_) => None,
+    }
+}

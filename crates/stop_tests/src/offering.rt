@@ -1,0 +1,27 @@
+//! Stops while a station is offered a tape: a new one over the rows releases it, or finds nothing and releases another.
+
+use crate::disks::Side;
+use crate::stops::{Stops, all_stop};
+use crate::works::Work;
+
+#[test]
+fn the_log_stops(rt: HostRuntime) {
+    let stops = Stops {
+        work: Work::Offer,
+        side: Side::Log,
+        from: 0,
+        to: 12,
+    };
+    assert!(rt; all_stop(rt.alloc(), &stops));
+}
+
+#[test]
+fn the_database_stops(rt: HostRuntime) {
+    let stops = Stops {
+        work: Work::Offer,
+        side: Side::Database,
+        from: 0,
+        to: 12,
+    };
+    assert!(rt; all_stop(rt.alloc(), &stops));
+}

@@ -1,0 +1,127 @@
+//! The one station of a circuit, over saved rows of any kind.
+
+use ballots::Member;
+use code_table::CodeTable;
+use command_ends::End;
+use fixtures::{CODES, WIDTHS};
+use saved_rows::Rows;
+use serve_command::serve_run;
+use station::{Answer, Station, StepRefusal};
+use std::alloc::Global;
+use tape_frames::Tape;
+use widths::Widths;
+use wire::{Arrival, Wire};
+
+/// The text of the release of the flood story for number 12.
+const RELEASE: &str = "release 12 01020301030204\n0001 J 0 0 a b _4 a _4 b\n";
+
+/// The one station of circuit 7.
+fn station_over<R: Rows>(alloc: Global, rows: R) -> Option<Station<R>> {
+    let table = CodeTable::read(alloc, CODES).ok()?;
+    let widths = Widths::read(alloc, WIDTHS).ok()?;
+    Station::new(alloc, 7, 1, 1, table, widths, rows).ok()
+}
+
+/// Whether a step released the tape of these frames.
+fn releases(step: &Result<Answer, StepRefusal>, frames: &[u8]) -> bool {
+    let Ok(answer) = step else {
+        return false;
+    };
+    match &answer.release {
+        Some(release) => release.tape.frames() == frames,
+        None => false,
+    }
+}
+
+/// Whether the station releases the tape of these frames that it is offered for number 12; nothing where it neither does nor
+/// stops.
+fn offers<R: Rows>(alloc: Global, station: &mut Station<R>, frames: &[u8]) -> Option<bool> {
+    let tape = Tape::from_bytes(alloc, frames).ok()?;
+    let is_released = releases(&station.offer(12, &tape, 0), frames);
+    (is_released || station.stopped()).then_some(is_released)
+}
+
+/// Whether the station that searches number 12 releases the tape of these frames; nothing where it finds another thing than that or
+/// nothing.
+fn seeks<R: Rows>(station: &mut Station<R>, frames: &[u8]) -> Option<bool> {
+    let step = station.seek(12, 0);
+    if releases(&step, frames) {
+        return Some(true);
+    }
+    match &step {
+        Ok(answer) => answer.release.is_none().then_some(false),
+        Err(_) => None,
+    }
+}
+
+/// The rows after a station over them was offered the tape of these frames for number 12, and whether it released it.
+pub fn offered<R: Rows>(alloc: Global, rows: R, frames: &[u8]) -> Option<(R, bool)> {
+    let mut station = station_over(alloc, rows)?;
+    let is_released = offers(alloc, &mut station, frames)?;
+    Some((station.into_rows(), is_released))
+}
+
+/// Whether a new station over these rows finds the tape of these frames for number 12. Where it finds none it releases the
+/// other tape, which it is offered then; else this answers nothing.
+pub fn sought<R: Rows>(alloc: Global, rows: R, frames: &[u8], other: &[u8]) -> Option<bool> {
+    let mut station = station_over(alloc, rows)?;
+    if seeks(&mut station, frames)? {
+        return Some(true);
+    }
+    if offers(alloc, &mut station, other)? {
+        Some(false)
+    } else {
+        None
+    }
+}
+
+/// A wire to which nothing comes.
+#[derive(Drop)]
+struct Still {
+    moment: u64,
+}
+
+impl Wire for Still {
+    fn receive(&mut self, _buffer: &mut [u8]) -> Arrival {
+        Arrival::Nothing
+    }
+
+    fn send(&mut self, _to: Member, _bytes: &[u8]) -> bool {
+        true
+    }
+
+    fn now(&mut self) -> u64 {
+        self.moment
+    }
+}
+
+/// Whether a run of a station that is offered the flood story prints its release and ends well; nothing where it neither does nor
+/// ends by the store.
+fn serves<R: Rows>(alloc: Global, station: &mut Station<R>, frames: &[u8]) -> Option<bool> {
+    let tape = Tape::from_bytes(alloc, frames).ok()?;
+    let mut wire = Still { moment: 0 };
+    let mut out = Vec::new(alloc);
+    let mut err = Vec::new(alloc);
+    let end = serve_run(
+        alloc,
+        station,
+        &mut wire,
+        Some((12, tape)),
+        None,
+        1,
+        &mut out,
+        &mut err,
+    );
+    match end {
+        End::Done => (out.as_slice() == RELEASE.as_bytes()).then_some(true),
+        End::Store => out.as_slice().is_empty().then_some(false),
+        _ => None,
+    }
+}
+
+/// The rows after such a run of a station over them, and whether it ended well.
+pub fn served<R: Rows>(alloc: Global, rows: R, frames: &[u8]) -> Option<(R, bool)> {
+    let mut station = station_over(alloc, rows)?;
+    let is_done = serves(alloc, &mut station, frames)?;
+    Some((station.into_rows(), is_done))
+}
