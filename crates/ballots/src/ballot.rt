@@ -42,8 +42,8 @@ impl Ballot {
         }
     }
 
-    /// The owner's first ballot above the one that was seen, or its first of all where none was;
-    /// `None` where the rounds are spent.
+    /// The owner's ballot of the round after that of the ballot that was seen, or of round 1 where none was;
+    /// `None` where the rounds are spent. The owner may have one above what was seen in its own round, and does not take it.
     pub fn next(seen: Option<Ballot>, owner: Member) -> Option<Ballot>
         ensures { result ≡ next seen owner }
     {

@@ -45,7 +45,7 @@ IsNoneOrAtMost (Some a) b = IsAtMost a b
 abbrev pub last_round : ℕ
 last_round = 4294967295
 
--- the owner's first ballot after the one that was seen; none where the rounds are spent
+-- the owner's ballot of the round after that of the one that was seen, or of round 1 where none was; none where the rounds are spent
 abbrev pub next : Option Ballot → ℕ → Option Ballot
 next None owner = Some (record { round = 1; owner = owner })
 next (Some seen) owner = if nat_lt seen.round last_round then Some (record { round = suc seen.round; owner = owner }) else None
