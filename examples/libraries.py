@@ -46,7 +46,13 @@ def built_at(crate):
     return os.path.join(TOP, "crates", crate, "out")
 
 
-def build(crates):
+def jobs_for(lower, name, waiting):
+    """With how many jobs the prover works at a crate. Each reads all its sources again, so a second one is only worth its time
+    where all else waits for this crate."""
+    return 2 if all(longest_above(lower, name) >= longest_above(lower, other) for other in waiting) else 1
+
+
+def build(crates, jobs):
     """Builds the last of these crates over the others. Gives what the prover says where it refuses."""
     name = crates[-1]
     home = os.path.join(SIDE, name)
@@ -58,7 +64,8 @@ def build(crates):
         place = os.path.join("crates", crate)
         shutil.copytree(os.path.join(TOP, place), os.path.join(home, place), copy_function=os.link)
     folder = os.path.join(home, "crates", name)
-    run = subprocess.run(["rt", "lib"], cwd=folder, stdout=subprocess.PIPE, stderr=subprocess.STDOUT, text=True)
+    command = ["rt", "lib", "--jobs", str(jobs)]
+    run = subprocess.run(command, cwd=folder, stdout=subprocess.PIPE, stderr=subprocess.STDOUT, text=True)
     if run.returncode == 0:
         os.rename(os.path.join(folder, "out"), built_at(name))
         shutil.rmtree(home)
@@ -86,7 +93,8 @@ def main():
             ready.sort(key=lambda n: -longest_above(lower, n))
             for name in ready[: workers - len(running)]:
                 left.remove(name)
-                running[pool.submit(build, below(lower, name) + [name])] = name
+                jobs = jobs_for(lower, name, waiting)
+                running[pool.submit(build, below(lower, name) + [name], jobs)] = name
             ended, _ = futures.wait(running, timeout=1, return_when=futures.FIRST_COMPLETED)
             for future in ended:
                 name = running.pop(future)
