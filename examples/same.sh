@@ -40,6 +40,9 @@ if differing:
 print("The tests' files and tapes are those of the examples.")
 END
 
+# The lines that the pages link may lag behind the sources. That is told; no example is wrong for it.
+../docs/pages.py --check || true
+
 circuitd=$PWD/../crates/circuitd/out/circuitd
 if [ ! -x "$circuitd" ]; then
     echo "The program is not built, so the pages' examples were not run: examples/first_circuit.sh builds it."
@@ -54,44 +57,52 @@ import sys
 import tempfile
 
 # the pages that have examples
-PAGES = ["README.md", "docs/SETTING.md", "docs/DRAWING.md"]
+PAGES = ["README.md", "docs/COMMANDS.md", "docs/SETTING.md", "docs/DRAWING.md"]
+# what is printed behind each example, to tell them apart
+MARK = "\x1e"
 
 
-def differing_in(page, work):
-    """What the program prints otherwise than a page, each example in its order, in an empty folder."""
+def examples_of(page):
+    """The examples of a page, each as its commands and what they print: blocks whose first line is a command."""
     with open(os.path.join("..", page), encoding="utf-8") as file:
         text = file.read()
-    files = [name for name in os.listdir(".") if name.endswith((".toml", ".tape", ".script"))]
-    os.makedirs(os.path.join(work, "examples"))
-    for name in files:
-        shutil.copy(name, os.path.join(work, "examples"))
-    os.makedirs(os.path.join(work, "docs"))
-    for drawing in ["story.svg", "overset.svg"]:
-        shutil.copy(os.path.join("..", "docs", drawing), os.path.join(work, "docs"))
-    os.makedirs(os.path.join(work, "bin"))
-    os.symlink(sys.argv[1], os.path.join(work, "bin", "circuitd"))
-    path = os.path.join(work, "bin") + os.pathsep + os.environ["PATH"]
-    differing = []
-    # an example is a block whose first line is a command
     for block in re.findall(r"^```\n(\$ .*?)^```$", text, re.DOTALL | re.MULTILINE):
-        commands, told, goes_on = [], "", False
+        commands, told, goes_on = "", "", False
         for line in block.splitlines(keepends=True):
             if goes_on or line.startswith("$ "):
-                commands.append(line.removeprefix("$ "))
+                commands += line.removeprefix("$ ")
                 goes_on = line.endswith("\\\n")
             else:
                 told += line
-        run = subprocess.run(
-            ["bash", "-c", "".join(commands) + "wait"],
-            cwd=work,
-            env=dict(os.environ, PATH=path),
-            stdout=subprocess.PIPE,
-            stderr=subprocess.STDOUT,
-            text=True,
-        )
-        if run.stdout != told:
-            differing.append(f"{page} says otherwise than the program. This\n" + "".join(commands) + "prints\n" + run.stdout)
-    return differing
+        yield commands, told
+
+
+def differing_in(page, work):
+    """What the program prints otherwise than a page: its examples in their order, in one shell that starts where the page says."""
+    os.makedirs(os.path.join(work, "examples"))
+    for name in os.listdir("."):
+        if name.endswith((".toml", ".tape", ".script")):
+            shutil.copy(name, os.path.join(work, "examples"))
+    shutil.copytree("../docs", os.path.join(work, "docs"))
+    os.makedirs(os.path.join(work, "crates/circuitd/out"))
+    os.symlink(sys.argv[1], os.path.join(work, "crates/circuitd/out/circuitd"))
+    path = os.path.join(work, "crates/circuitd/out") + os.pathsep + os.environ["PATH"]
+    examples = list(examples_of(page))
+    run = subprocess.run(
+        ["bash", "-c", "".join(f"{commands}wait\nprintf '{MARK}'\n" for commands, _ in examples)],
+        cwd=work,
+        env=dict(os.environ, PATH=path),
+        stdout=subprocess.PIPE,
+        stderr=subprocess.STDOUT,
+        text=True,
+    )
+    # nothing is printed behind where the shell ended
+    printed = run.stdout.split(MARK) + [""] * len(examples)
+    return [
+        f"{page} says otherwise than the program. This\n{commands}prints\n{was}"
+        for (commands, told), was in zip(examples, printed)
+        if was != told
+    ]
 
 
 # On a busy machine a promise may come after the moment at which its ballot is begun anew, and then a row has a
