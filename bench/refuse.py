@@ -28,6 +28,7 @@ import tempfile
 
 HERE = os.path.dirname(os.path.abspath(__file__))
 EXAMPLES = os.path.join(HERE, '..', 'examples')
+DRAWINGS = os.path.join(HERE, '..', 'docs')
 MEMORY = 'out of memory\n'
 STORY = '01020301030204'
 GALLEY = '0001 J 0 0 a b _4 a _4 b\n'
@@ -126,6 +127,29 @@ WIDTHS = [
     ('measure = 30', 'measure = 0', 'widths: out of range measure\n'),
     ('em = 10\n', '', 'widths: missing em\n'),
 ]
+
+# What stands round the words of a page and its galley.
+PAGE = """<!DOCTYPE html>
+<html lang='en'>
+<head>
+<meta charset='utf-8'>
+<title>A tape and its slugs</title>
+<style>
+body { width: 840px; margin: 0 auto; font-family: sans-serif; }
+h1, h2, p, pre { margin: 20px; }
+pre { white-space: pre-wrap; }
+svg { display: block; break-before: page; }
+</style>
+</head>
+<body>
+<h1>A tape and its slugs</h1>
+<p>%s</p>
+<h2>Galley</h2>
+<pre>
+%s</pre>
+%s</body>
+</html>
+"""
 
 
 @dataclasses.dataclass
@@ -307,6 +331,20 @@ def replaced(text, old, new):
     return text.replace(old, new)
 
 
+def draw_cases(sweep):
+    """Of `draw`, of a tape that sets and of one that does not, as drawings and as pages."""
+    cases = []
+    for name, drawing, galley, fault in (('flood', 'story', GALLEY, ''), ('overset', 'overset', '', 'fault: overset 1 at 7 line 1')):
+        shutil.copy(os.path.join(EXAMPLES, f'{name}.tape'), sweep.work)
+        with open(os.path.join(DRAWINGS, f'{drawing}.svg')) as file:
+            svg = file.read()
+        words, end = ['draw', 'codes.toml', 'widths.toml', f'{name}.tape'], (f'{fault}\n', 1) if fault else ('', 0)
+        page = PAGE % (fault or 'The tape sets.', galley, svg)
+        cases.append(Case(f'draw {name}', words, out=svg, err=end[0], status=end[1]))
+        cases.append(Case(f'draw {name} as a page', [*words, '--html'], out=page, err=end[0], status=end[1]))
+    return cases
+
+
 def answer_cases():
     words = ['answer', '7', '2']
     given, told = zip(*ANSWERS)
@@ -393,7 +431,8 @@ def main():
         for name in ('codes.toml', 'widths.toml', 'flood.tape'):
             shutil.copy(os.path.join(EXAMPLES, name), work)
         sweep = Sweep(os.path.abspath(sys.argv[1]), work)
-        cases = [*setting_cases(sweep), *answer_cases(), *rehearse_cases(sweep), *store_cases(sweep)]
+        cases = [
+            *setting_cases(sweep), *draw_cases(sweep), *answer_cases(), *rehearse_cases(sweep), *store_cases(sweep)]
         print(f'{"":32}' + ''.join(f'{name:>10}' for name in totals), flush=True)
         for case in cases:
             counts = count(sweep, case)

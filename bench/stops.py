@@ -6,7 +6,7 @@ usage: stops.py FOLDER
 FOLDER is outside the repository. Needs `rt` on the path. The crates below are copied to FOLDER/stops, with the libraries
 that were built of them, and those that were not are proved and built there first. The program stops/stops.rt.txt is put
 over them with the modules of the crate `stop_tests`; it is tried as it is, and not proved again (`rt try`), which takes
-some 20 minutes.
+some 20 minutes of one core. The interpreter, which `rt try` runs first, gives it up: what is printed is the native run's.
 
 The works: the tables are made; two rows are saved; a station of one is offered a tape; a run of `serve` is offered it. Of
 each, first the log and then the database's file fails at its first call, at its second, and so on, until a run comes to

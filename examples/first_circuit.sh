@@ -45,7 +45,7 @@ prove_and_build() {
     cd "$examples"
 }
 
-echo "Proving and building the program: about a quarter of an hour on four cores, seconds after that."
+echo "Proving and building the program: about half an hour on four cores, seconds after that."
 prove_and_build
 
 cp station?.toml codes.toml widths.toml ./*.tape "$work"

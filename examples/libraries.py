@@ -46,10 +46,12 @@ def built_at(crate):
     return os.path.join(TOP, "crates", crate, "out")
 
 
-def jobs_for(lower, name, waiting):
-    """With how many jobs the prover works at a crate. Each reads all its sources again, so a second one is only worth its time
-    where all else waits for this crate."""
-    return 2 if all(longest_above(lower, name) >= longest_above(lower, other) for other in waiting) else 1
+def jobs_for(lower, name, waiting, idle):
+    """With how many jobs the prover works at a crate. Each reads all its sources again, so more than one are only worth their
+    time where all else waits for this crate: two of them, and a third where else a processor had nothing to do."""
+    if any(longest_above(lower, name) < longest_above(lower, other) for other in waiting):
+        return 1
+    return 3 if idle else 2
 
 
 def build(crates, jobs):
@@ -91,9 +93,10 @@ def main():
             waiting = set(left) | set(running.values())
             ready = [n for n in left if not waiting & set(below(lower, n))]
             ready.sort(key=lambda n: -longest_above(lower, n))
-            for name in ready[: workers - len(running)]:
+            free = workers - len(running)
+            for name in ready[:free]:
                 left.remove(name)
-                jobs = jobs_for(lower, name, waiting)
+                jobs = jobs_for(lower, name, waiting, free > len(ready) + 1)
                 running[pool.submit(build, below(lower, name) + [name], jobs)] = name
             ended, _ = futures.wait(running, timeout=1, return_when=futures.FIRST_COMPLETED)
             for future in ended:

@@ -1,5 +1,5 @@
 -- What an open finds is what the crash left.
-use Rattle.std.proofs.Common.{◌≡◌, ◌≢◌, ◌⊎◌, ◌<◌, ◌^◌, ◌==◌, if◌then◌else◌, ℕ, Bool, true, false, true≢false, is_some, Option, Some, None, inl, inr, refl, sym, ap, subst, ◌∙◌}
+use Rattle.std.proofs.Common.{◌≡◌, ◌==◌, if◌then◌else◌, ℕ, true≢false, is_some, Some, inl, inr, refl, sym, ap, subst, ◌∙◌}
 use Rattle.std.proofs.Math.Logic.{∥∥₁_elim, ∥∥₁_map}
 use Rattle.std.proofs.lemmas.Bool.{cases_Bool}
 use Rattle.std.proofs.lemmas.Bool.Decides.{Decides-eqb}
@@ -16,27 +16,26 @@ use Rattle.sqlite.specs.Effect.{Database}
 use Rattle.sqlite.specs.Held.{Held}
 use Rattle.sqlite.specs.Files.{file_state, over_files, IsOpened}
 use Rattle.sqlite.specs.Start.{FindsIn}
-use Rattle.sqlite_catalog.specs.Listing.{Lists}
 use Rattle.sqlite_schema.specs.contracts.schema.Schema as schema
 use Rattle.row_table.specs.Tables.{row_schema}
 use Rattle.row_table.specs.Station.{HoldsNone}
-use Rattle.protocol.specs.Rows.{Row, blank}
+use Rattle.protocol.specs.Rows.{Row}
 use Rattle.ballots.specs.contracts.row.Row as row
 use Rattle.saved_rows.specs.contracts.identity.Identity as identity
-use Rattle.saved_rows.specs.Saved.{Saved, with_row, IsEither}
-use Rattle.saved_rows.specs.Identity.{IsIdentity}
+use Rattle.saved_rows.specs.Saved.{Saved, IsEither}
 use Rattle.saved_rows.specs.declared.identity.Identity.{Identity}
 use Rattle.acceptor_store.specs.Columns.{saved_in}
-use Rattle.acceptor_store.specs.StationRow.{stored_identity}
-use Rattle.acceptor_store.specs.Sqlite.{SqliteOf, IsOfStation, LeavesStation, saved_of, MayLeave}
-use Rattle.acceptor_store.specs.Files.{IsTakenUp}
-use Rattle.acceptor_store.specs.Restarts.{GivesUp, AreOpenedFrom, AreTorn, OpensWhatIsLeft, PutOutlivesCrash, CreateOutlivesCrash}
+use Rattle.acceptor_store.specs.Sqlite.{IsOfStation, saved_of}
+use Rattle.acceptor_store.specs.Restarts.{GivesUp, AreTorn, OpensWhatIsLeft, PutOutlivesCrash, CreateOutlivesCrash}
 use Rattle.acceptor_store.proofs.IdentityLemmas.{added}
 use Rattle.acceptor_store.proofs.StandLemmas.{none_saved}
 use Rattle.acceptor_store.proofs.TableLemmas.{same_schema}
 
 some_same : {A : Type 0} (a b : A) → Some a ≡ Some b → a ≡ b
 some_same a b e = cc
+
+same_rows : (a b : Saved) → ((n : ℕ) → a n ≡ b n) → a ≡ b
+same_rows a b same = λ j n. same n j
 
 pub torn_from : (before : Saved) (number : ℕ) (row : Row) (after : Saved) → IsEither before number row after → AreTorn before number row after
 torn_from before number row after (inl same) = record { torn = (refl, inl (same number)); others = λ n _. same n }
@@ -67,10 +66,11 @@ opens {h = h} s i files left again leaves gives clean may opened =
     let has = found_ours s.conn files left gives clean may i leaves made.was (made.opened opened.honest) (made.found opened.honest) in
     let ours = made.ours has in
     let taken = opened.rows ours in
-    let found = found_left s.conn files left gives clean may taken.was taken.opened taken.found in (
+    let found = found_left s.conn files left gives clean may taken.was taken.opened taken.found in
+    let trees = (file_state taken.was).now.trees in (
       ours,
       ∥∥₁_elim found (Coded-set identity.the_row.coded _ _) (λ db. some_same _ _ (sym taken.station ∙ (leaves _ db).holds.station)),
-      ∥∥₁_map found (λ db. ((file_state taken.was).now.trees, db, λ j n. taken.same n j)),
+      ∥∥₁_map found (λ db. (trees, db, same_rows (saved_of over_files again) (saved_in trees) taken.same)),
     )
 
 pub put_outlives : {D : Type 0} {g : Ghosts D} {E : Type 0} {h : Ghosts E} → PutOutlivesCrash D g E h

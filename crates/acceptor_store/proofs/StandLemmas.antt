@@ -16,7 +16,7 @@ use Rattle.acceptor_store.specs.StationRow.{identity_in}
 use Rattle.acceptor_store.specs.Columns.{row_in, row_or_blank, columns_for, saved_in}
 use Rattle.sqlite_trees.specs.Objects.{catalog_tree}
 use Rattle.sqlite_catalog.specs.Listing.{Lists as ListsTables}
-use Rattle.row_table.specs.Tables.{row_schema, rows_tree}
+use Rattle.row_table.specs.Tables.{row_schema}
 use Rattle.row_table.specs.Rows.{SavesIn}
 use Rattle.acceptor_store.specs.Sqlite.{HoldsRows, IsOfStation, Stands}
 use Rattle.acceptor_store.proofs.ColumnLemmas.{stays_sound, stays_station}

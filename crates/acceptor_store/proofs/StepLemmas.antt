@@ -1,9 +1,9 @@
 -- A crash of a station as it saves is the torn step and the restart.
-use Rattle.std.proofs.Common.{◌≡◌, ◌==◌, if◌then◌else◌, ℕ, Bool, true, false, [], None, inl, inr, refl, sym, ap, subst, ◌∙◌}
+use Rattle.std.proofs.Common.{◌≡◌, ◌==◌, if◌then◌else◌, ℕ, true, false, [], None, inl, inr, refl, sym, ap, subst, ◌∙◌}
 use Rattle.std.proofs.lemmas.Bool.{cases_Bool}
 use Rattle.std.proofs.lemmas.Bool.Decides.{Decides-eqb}
 use Rattle.protocol.specs.Rows.{Row}
-use Rattle.protocol.specs.Turn.{Event, number_of}
+use Rattle.protocol.specs.Turn.{number_of}
 use Rattle.protocol.specs.Circuit.{State, IsSameState, with_at, saved, offers_with, MayLeave, Torn_by_store, is_torn, at_save, restarts}
 use Rattle.saved_rows.specs.Saved.{Saved}
 use Rattle.acceptor_store.specs.Restarts.{AreTorn}

@@ -9,21 +9,13 @@ ghost use Rattle.check_command.specs.Galley.{IsSetAs, IsGalleyOf};
 ghost use Rattle.command_ends.specs.declared.end.End.TheVariants.{Done};
 
 use code_table::CodeTable;
-use command_ends::{End, Fault, read_table, read_tape, read_widths};
+use command_ends::{End, Fault, TapePaths, read_table, read_tape, read_widths};
 use line_check::{SetError, galley, set};
 use std::alloc::Global;
 use std::io::{Read, Write};
 use std::str;
 use tape_frames::{Tape, holes};
 use widths::Widths;
-
-/// Where the three files of `check` are.
-#[derive(Clone, Copy)]
-pub struct TapePaths<'a> {
-    pub table: &'a str,
-    pub widths: &'a str,
-    pub tape: &'a str,
-}
 
 /// Writes one line per frame: its holes, and the frame in decimal.
 fn put_holes<'a, W: Write>(tape: &Tape, out: &mut W) -> Result<(), Fault<'a>> {

@@ -3,4 +3,4 @@
 
 mod checking;
 
-pub use checking::{TapePaths, check};
+pub use checking::check;

@@ -3,6 +3,7 @@
 
 mod end;
 mod fault;
+mod paths;
 mod refusal;
 mod releases;
 mod sources;
@@ -11,6 +12,7 @@ mod words;
 
 pub use end::End;
 pub use fault::Fault;
+pub use paths::{ScriptPaths, TapePaths};
 pub use refusal::Refusal;
 pub use releases::put_release;
 pub use sources::{read_table, read_tape, read_text, read_widths, table_of, tape_of, widths_of};

@@ -1,8 +1,7 @@
 //! What the command line asks for.
 
 use ballots::Member;
-use check_command::TapePaths;
-use rehearse_command::ScriptPaths;
+use command_ends::{ScriptPaths, TapePaths};
 use tape_drawing::Page;
 
 /// A command, with all that it is given.

@@ -8,12 +8,12 @@ ghost use Rattle.command_ends.specs.declared.end.End.TheVariants.{Done};
 ghost use Rattle.command_line.specs.declared.asked.Asked.TheVariants.{Answer};
 
 use answer_command::answer;
-use check_command::{TapePaths, check};
-use command_ends::End;
+use check_command::check;
+use command_ends::{End, ScriptPaths, TapePaths};
 use command_line::Asked;
 use draw_command::draw;
 use opened_files::Opened;
-use rehearse_command::{ScriptPaths, rehearse};
+use rehearse_command::rehearse;
 use row_files::RowFiles;
 use station_start::serve;
 use std::io::{Read, Write};

@@ -1,5 +1,5 @@
--- What `draw` writes: the drawing of its three inputs.
-use Rattle.std.specs.Prelude.{◌≡◌, ℕ, List, [], ◌++◌, Option, Some, None, Ok, codes}
+-- What `draw` writes: the drawing of its three inputs, or what there is of it where it breaks off.
+use Rattle.std.specs.Prelude.{◌≡◌, ◌⊎◌, ℕ, List, [], ◌++◌, Option, Some, None, Ok, IfSome, codes}
 use Rattle.std.specs.Io.KnownBytes.{Appends}
 use Rattle.toml.specs.Parse.{parse_document}
 use Rattle.code_table.specs.Tables.{Places, mean}
@@ -8,27 +8,56 @@ use Rattle.widths.specs.Widths.{WidthFile}
 use Rattle.widths.specs.Reading.{read_widths}
 use Rattle.slug_reader.specs.Meanings.{Meanings}
 use Rattle.line_check.specs.declared.fault.SetFault.{SetFault}
+use Rattle.streams.specs.Fronts.{AppendsFront}
 use Rattle.tape_drawing.specs.declared.document.Page.{Page}
 use Rattle.tape_drawing.specs.Castings.{Cast, IsCast}
 use Rattle.tape_drawing.specs.Document.{document_text}
 use Rattle.command_ends.specs.ReleaseText.{cause_text}
+use Rattle.command_ends.specs.declared.end.End.{End}
+use Rattle.command_ends.specs.declared.end.End.TheVariants.{Done, Input}
+use Rattle.command_ends.specs.Ends.{IsOfInput}
 
 -- the words of a fault as `check` tells it, and none where there is none
 abbrev pub fault_words : Option SetFault → List ℕ
 fault_words None = []
 fault_words (Some fault) = codes "fault: " ++ cause_text fault
 
--- the tape is cast with this fault or with none, and its drawing was written
-pub record IsDrawnAs (means : Meanings) (file : WidthFile) (tape : List ℕ) (page : Page) (fault : Option SetFault) (old new : Option (List ℕ)) : Type 0 where
+-- the tape is cast with this fault or with none, and its drawing, or what is said of it, was written
+pub record IsDrawnAs (means : Meanings) (file : WidthFile) (tape : List ℕ) (page : Page) (fault : Option SetFault) (IsWritten : List ℕ → Type 0) : Type 0 where
   pub casting : Cast
   pub is_cast : IsCast means file tape casting
   pub is_fault : casting.fault ≡ fault
-  pub wrote : Appends old new (document_text page means tape casting (fault_words fault))
+  pub wrote : IsWritten (document_text page means tape casting (fault_words fault))
 
--- the texts are a code table and a width file, and the tape's drawing by them was written
-pub record IsDrawingOf (table widths tape : List ℕ) (page : Page) (fault : Option SetFault) (old new : Option (List ℕ)) : Type 0 where
+-- the texts are a code table and a width file, and so the tape's drawing by them was written
+pub record IsDrawingOf (table widths tape : List ℕ) (page : Page) (fault : Option SetFault) (IsWritten : List ℕ → Type 0) : Type 0 where
   pub places : Places
   pub file : WidthFile
   pub is_table : read_table (parse_document table) ≡ Ok places
   pub is_widths : read_widths (parse_document widths) ≡ Ok file
-  pub is_drawn : IsDrawnAs (mean places) file tape page fault old new
+  pub is_drawn : IsDrawnAs (mean places) file tape page fault IsWritten
+
+-- a command that breaks off: an input is not taken or memory is refused before anything is written, or the output took no
+-- more than a front
+abbrev pub BreaksOff : Type 0 → End → Option (List ℕ) → Option (List ℕ) → Type 0
+BreaksOff WroteFront end old new = (IsOfInput end × (new ≡ old)) ⊎ ((end ≡ Input) × WroteFront)
+
+-- the end once a drawing is written: a tape with a fault is one of an input
+abbrev pub end_by : Option SetFault → End
+end_by None = Done
+end_by (Some fault) = Input
+
+-- how `draw` ends, by its cause, and what it has written then
+pub data Draws (table widths tape : List ℕ) (page : Page) (end : End) (old new : Option (List ℕ)) : Type 0 where
+  -- the tape sets, and its drawing was written
+  Whole : end ≡ Done → IsDrawingOf table widths tape page None (Appends old new) → Draws table widths tape page end old new
+  -- the tape has a fault, and was drawn as far as it sets, with the words of the fault
+  Unset : (fault : SetFault) → end ≡ Input → IsDrawingOf table widths tape page (Some fault) (Appends old new) → Draws table widths tape page end old new
+  -- an input is not taken, or memory was refused: nothing was written
+  Unwritten : IsOfInput end → ¬ (end ≡ Done) → new ≡ old → Draws table widths tape page end old new
+  -- the output can't be written: a front of the drawing was
+  Cut : (fault : Option SetFault) → end ≡ Input → IsDrawingOf table widths tape page fault (AppendsFront old new) → Draws table widths tape page end old new
+
+-- what holds of the texts of the three inputs, where these are known
+abbrev pub IfKnown : Option (List ℕ) → Option (List ℕ) → Option (List ℕ) → (List ℕ → List ℕ → List ℕ → Type 0) → Type 0
+IfKnown table widths tape P = IfSome table (λ ts. IfSome widths (λ ws. IfSome tape (λ xs. P ts ws xs)))

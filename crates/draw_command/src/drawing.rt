@@ -1,20 +1,24 @@
 //! The command `draw`: the drawing of a tape.
 
-ghost use Rattle.std.specs.Prelude.{◌≡◌, Ok, None, IfOk, IfSome, string_bytes};
+ghost use Rattle.std.specs.Prelude.{◌≡◌, Ok, None, Option, OnOk, IfOk, IfErr, IfSome, string_bytes};
+ghost use Rattle.std.specs.Io.KnownBytes.{Appends};
 ghost use Rattle.toml.specs.Parse.{parse_document};
 ghost use Rattle.code_table.specs.Reading.{read_table};
 ghost use Rattle.code_table.specs.Tables.{mean};
 ghost use Rattle.widths.specs.Reading.{read_widths};
-ghost use Rattle.draw_command.specs.Drawing.{fault_words, IsDrawnAs, IsDrawingOf};
+ghost use Rattle.line_check.specs.declared.fault.SetFault.{SetFault};
+ghost use Rattle.streams.specs.Fronts.{AppendsFront};
+ghost use Rattle.tape_drawing.specs.Document.{document_text};
+ghost use Rattle.draw_command.specs.Drawing.{fault_words, IsDrawnAs, IsDrawingOf, BreaksOff, end_by, Draws, IfKnown};
+ghost use Rattle.command_ends.specs.Ends.{end_of, IsOfInput};
 ghost use Rattle.command_ends.specs.declared.end.End.TheVariants.{Done};
 
-use check_command::TapePaths;
 use code_table::CodeTable;
-use command_ends::{CauseText, End, Fault, read_table, read_tape, read_widths};
+use command_ends::{CauseText, End, Fault, TapePaths, read_table, read_tape, read_widths};
 use line_check::SetFault;
 use std::alloc::{AllocError, Global};
 use std::io::{Read, Write};
-use tape_drawing::{DrawFault, Page, cast, put_drawing};
+use tape_drawing::{Casting, DrawFault, Page, cast, put_drawing};
 use tape_frames::Tape;
 use widths::Widths;
 
@@ -23,14 +27,6 @@ use widths::Widths;
 struct Setting {
     table: CodeTable,
     widths: Widths,
-}
-
-/// Why a drawing is not written, as a fault of the command.
-fn fault_of<'a>(fault: DrawFault) -> Fault<'a> {
-    match fault {
-        DrawFault::CannotWrite => Fault::CannotWrite,
-        DrawFault::OutOfMemory => Fault::OutOfMemory,
-    }
 }
 
 /// Reads the code table, and then the widths.
@@ -42,6 +38,7 @@ fn read_setting<'a, R: Read, S: Read>(
 ) -> Result<Setting, Fault<'a>>
     ensures table { IfOk result (λ s. IfSome (R.remaining table.old) (λ ts. read_table (parse_document ts) ≡ Ok s.table)) }
     ensures widths { IfOk result (λ s. IfSome (S.remaining widths.old) (λ ws. read_widths (parse_document ws) ≡ Ok s.widths)) }
+    ensures err { IfErr result (λ e. IsOfInput (end_of e)) }
 {
     let table = read_table(alloc, table, paths.table)?;
     let widths = read_widths(alloc, widths, paths.widths)?;
@@ -61,6 +58,30 @@ fn words_of(alloc: Global, fault: Option<SetFault>) -> Result<String, AllocError
     }
 }
 
+/// Writes the drawing of a tape and what was cast of it, and hands it on.
+fn put_casting<'a, W: Write>(
+    alloc: Global,
+    table: &CodeTable,
+    tape: &Tape,
+    casting: &Casting,
+    words: &str,
+    page: Page,
+    out: &mut W,
+) -> Result<(), Fault<'a>>
+    ensures ok { OnOk result (Appends (W.contents out.old) (W.contents out.new) (document_text page (mean table.now) tape.now casting.now words.now)) }
+    ensures err { IfErr result (λ e. BreaksOff (AppendsFront (W.contents out.old) (W.contents out.new) (document_text page (mean table.now) tape.now casting.now words.now)) (end_of e) (W.contents out.old) (W.contents out.new)) }
+{
+    match put_drawing(alloc, table, tape, casting, words, page, out) {
+        Ok(()) => {}
+        Err(DrawFault::CannotWrite) => return Err(Fault::CannotWrite),
+        Err(DrawFault::OutOfMemory) => return Err(Fault::OutOfMemory),
+    }
+    match out.flush() {
+        Ok(()) => Ok(()),
+        Err(_) => Err(Fault::CannotWrite),
+    }
+}
+
 /// Draws a tape, and answers its fault, if it has one.
 fn put_tape<'a, W: Write>(
     alloc: Global,
@@ -69,22 +90,17 @@ fn put_tape<'a, W: Write>(
     page: Page,
     out: &mut W,
 ) -> Result<Option<SetFault>, Fault<'a>>
-    ensures { IfOk result (λ fault. IsDrawnAs (mean setting.now.table) setting.now.widths tape.now page fault (W.contents out.old) (W.contents out.new)) }
+    ensures ok { IfOk result (λ fault. IsDrawnAs (mean setting.now.table) setting.now.widths tape.now page fault (Appends (W.contents out.old) (W.contents out.new))) }
+    ensures err { IfErr result (λ e. BreaksOff ((fault : Option SetFault) × IsDrawnAs (mean setting.now.table) setting.now.widths tape.now page fault (AppendsFront (W.contents out.old) (W.contents out.new))) (end_of e) (W.contents out.old) (W.contents out.new)) }
 {
-    let casting = match cast(alloc, &setting.table, &setting.widths, tape) {
-        Ok(casting) => casting,
-        Err(fault) => return Err(fault_of(fault)),
+    let Ok(casting) = cast(alloc, &setting.table, &setting.widths, tape) else {
+        return Err(Fault::OutOfMemory);
     };
     let fault = casting.fault();
     let Ok(words) = words_of(alloc, fault) else {
         return Err(Fault::OutOfMemory);
     };
-    if let Err(fault) = put_drawing(alloc, &setting.table, tape, &casting, &words, page, out) {
-        return Err(fault_of(fault));
-    }
-    if out.flush().is_err() {
-        return Err(Fault::CannotWrite);
-    }
+    put_casting(alloc, &setting.table, tape, &casting, &words, page, out)?;
     Ok(fault)
 }
 
@@ -98,17 +114,31 @@ fn drawn<'a, R: Read, S: Read, T: Read, W: Write>(
     page: Page,
     out: &mut W,
 ) -> Result<Option<SetFault>, Fault<'a>>
-    ensures { IfOk result (λ fault. IfSome (R.remaining table.old) (λ ts. IfSome (S.remaining widths.old) (λ ws. IfSome (T.remaining tape.old) (λ xs. IsDrawingOf ts ws xs page fault (W.contents out.old) (W.contents out.new))))) }
+    ensures ok { IfOk result (λ fault. IfKnown (R.remaining table.old) (S.remaining widths.old) (T.remaining tape.old) (λ ts ws xs. IsDrawingOf ts ws xs page fault (Appends (W.contents out.old) (W.contents out.new)))) }
+    ensures err { IfErr result (λ e. IfKnown (R.remaining table.old) (S.remaining widths.old) (T.remaining tape.old) (λ ts ws xs. BreaksOff ((fault : Option SetFault) × IsDrawingOf ts ws xs page fault (AppendsFront (W.contents out.old) (W.contents out.new))) (end_of e) (W.contents out.old) (W.contents out.new))) }
+    ensures ends { IfErr result (λ e. IsOfInput (end_of e)) }
 {
     let setting = read_setting(alloc, paths, table, widths)?;
     let tape = read_tape(alloc, tape, paths.tape)?;
     put_tape(alloc, &setting, &tape, page, out)
 }
 
+/// How the command ends once a drawing is written, by the fault of its tape, if it has one.
+fn end_by<E: Write>(fault: Option<SetFault>, err: &mut E) -> End
+    ensures { result ≡ end_by fault }
+{
+    match fault {
+        None => End::Done,
+        Some(fault) => Fault::Unset(fault).tell(err),
+    }
+}
+
 /// Draws a tape by a code table and a width file, as a document in SVG or a page in HTML.
 ///
 /// The table is read and taken before the widths are read, and the widths before the tape. The first fault ends it. A
-/// tape that does not set is drawn as far as it sets, and then its fault ends the command.
+/// tape that does not set is drawn as far as it sets, and then its fault ends the command. Nothing is written before all
+/// three are taken; where the output can't be written, it has a front of the drawing.
+#[tactic(auto, using(crate::proofs::Ends::whole, crate::proofs::Ends::broken))]
 pub fn draw<R: Read, S: Read, T: Read, W: Write, E: Write>(
     alloc: Global,
     paths: &TapePaths<'_>,
@@ -119,11 +149,12 @@ pub fn draw<R: Read, S: Read, T: Read, W: Write, E: Write>(
     out: &mut W,
     err: &mut E,
 ) -> End
-    ensures { result ≡ Done → IfSome (R.remaining table.old) (λ ts. IfSome (S.remaining widths.old) (λ ws. IfSome (T.remaining tape.old) (λ xs. IsDrawingOf ts ws xs page None (W.contents out.old) (W.contents out.new)))) }
+    ensures done { result ≡ Done → IfKnown (R.remaining table.old) (S.remaining widths.old) (T.remaining tape.old) (λ ts ws xs. IsDrawingOf ts ws xs page None (Appends (W.contents out.old) (W.contents out.new))) }
+    ensures cause { IfKnown (R.remaining table.old) (S.remaining widths.old) (T.remaining tape.old) (λ ts ws xs. Draws ts ws xs page result (W.contents out.old) (W.contents out.new)) }
+    ensures ends { IsOfInput result }
 {
     match drawn(alloc, paths, table, widths, tape, page, out) {
-        Ok(None) => End::Done,
-        Ok(Some(fault)) => Fault::Unset(fault).tell(err),
+        Ok(found) => end_by(found, err),
         Err(fault) => fault.tell(err),
     }
 }

@@ -2,8 +2,7 @@
 
 use crate::documents::{FLOOD_SVG, NAMES_HTML, OVERSET_SVG, UNFINISHED_HTML};
 use crate::failing::Narrow;
-use check_command::TapePaths;
-use command_ends::End;
+use command_ends::{End, TapePaths};
 use draw_command::draw;
 use fixtures::{CODES, FLOOD, LONGEST, OVERSET, WIDTHS};
 use std::alloc::Global;

@@ -6,7 +6,7 @@ ghost use Rattle.protocol.specs.Rows.{Vote as VoteValue};
 ghost use Rattle.protocol.specs.Marks.{Mark, Heard as HeardMark};
 ghost use Rattle.protocol.specs.Learner.{latest, ripe, votes_at};
 ghost use Rattle.learner.specs.Latest.{StandsFor, latest_votes, least_at};
-ghost use Rattle.learner.specs.Slots.{is_newer, kept, slot_of, nothing_heard, ripe_in, least_in};
+ghost use Rattle.learner.specs.Slots.{is_newer, kept, slot_of, nothing_heard, opened, written, ripe_in, least_in};
 
 use arrayvec::ArrayVec;
 use ballots::laws::slots_of_members;
@@ -15,28 +15,35 @@ use std::alloc::{AllocError, Global};
 use std::marker::Model;
 use tape_frames::TapeRef;
 
+/// Of each member, in rising order, the vote that was heard. As many are used as the circuit has members.
+type Slots = ArrayVec<Option<Vote>, 15>;
+
 /// The votes for one number that were heard since the station's start: of each member the one of greatest ballot.
 ///
 /// Lamport, Paxos Made Simple: a learner finds out that a tape is chosen by hearing of the votes of a majority.
 #[derive(Drop)]
 pub struct Heard {
     alloc: Global,
-    slots: ArrayVec<Option<Vote>, 15>,
+    members: u8,
+    /// None until the first vote is kept, so that a number in hand is small.
+    slots: Option<Box<Slots>>,
 }
 
 impl Model for Heard {
     ghost use Rattle.std.specs.Prelude.{◌≤◌, length};
+    ghost use Rattle.std.specs.Prelude.{◌≡◌};
     ghost use Rattle.learner.specs.Latest.{LatestVotes};
+    ghost use Rattle.learner.specs.Slots.{opened};
 
     ghost Value = { LatestVotes };
 
-    ghost view = { λ h. record { members = length h.slots.items; votes = h.slots.items } };
+    ghost view = { λ h. record { members = length (opened h.members h.slots); votes = opened h.members h.slots } };
 
-    ghost invariant = { λ h. length h.slots.items ≤ 15 };
+    ghost invariant = { λ h. (h.members ≤ 15) × (length (opened h.members h.slots) ≡ h.members) };
 }
 
 /// A slot for each of so many members, with nothing heard.
-fn empty_slots(members: u8) -> ArrayVec<Option<Vote>, 15>
+fn empty_slots(members: u8) -> Slots
     requires { members ≤ 15 }
     ensures items { result.items ≡ nothing_heard members }
     ensures many { length result.items ≡ members }
@@ -46,6 +53,17 @@ fn empty_slots(members: u8) -> ArrayVec<Option<Vote>, 15>
         slots.push(None);
     }
     slots
+}
+
+/// The slots, lent; none as long as no vote is kept.
+fn lent(slots: &Option<Box<Slots>>) -> &[Option<Vote>]
+    ensures value { result.now ≡ written slots.now }
+    ensures few { length result.now ≤ 15 }
+{
+    match slots {
+        None => &[],
+        Some(slots) => slots.as_slice(),
+    }
 }
 
 /// Whether a vote at the ballot takes the slot: the vote in it, if any, is at a ballot below.
@@ -125,7 +143,7 @@ fn least_at(slots: &[Option<Vote>], ballot: Ballot) -> Option<&Vote>
 /// Keeps the vote in the member's slot, where it is above the one that stands there. Only then does it take memory.
 fn keep_newer(
     alloc: Global,
-    slots: &mut ArrayVec<Option<Vote>, 15>,
+    slots: &mut Slots,
     member: Member,
     ballot: Ballot,
     tape: TapeRef<'_>,
@@ -143,6 +161,34 @@ fn keep_newer(
     Ok(())
 }
 
+/// Keeps the vote as `keep_newer`, in slots that are made with the first.
+#[tactic(auto, using(crate::proofs::Opening::nothing_there))]
+fn keep(
+    alloc: Global,
+    slots: &mut Option<Box<Slots>>,
+    members: u8,
+    member: Member,
+    ballot: Ballot,
+    tape: TapeRef<'_>,
+) -> Result<(), AllocError>
+    requires few { members ≤ 15 }
+    requires member { member ≤ length (opened members slots.old) }
+    ensures kept { OnOk result (opened members slots.new ≡ kept (opened members slots.old) member ballot tape.entry) }
+    ensures written { OnOk result (written slots.new ≡ opened members slots.new) }
+    ensures err { OnErr result (opened members slots.new ≡ opened members slots.old) }
+    ensures no_memory { is_newer ballot (slot_of (opened members slots.old) member) ≡ false → IsOk result }
+{
+    match slots {
+        None => {
+            let mut first = Box::new(alloc, empty_slots(members))?;
+            keep_newer(alloc, &mut first, member, ballot, tape)?;
+            *slots = Some(first);
+            Ok(())
+        }
+        Some(slots) => keep_newer(alloc, slots, member, ballot, tape),
+    }
+}
+
 impl Heard {
     /// Nothing was heard yet, in a circuit of so many members.
     pub fn new(alloc: Global, members: u8) -> Heard
@@ -151,9 +197,11 @@ impl Heard {
         ensures members { result.members ≡ members }
         ensures stands { (n : ℕ) → StandsFor result n [] }
     {
+        slots_of_members::<Option<Vote>>();
         Heard {
             alloc,
-            slots: empty_slots(members),
+            members,
+            slots: None,
         }
     }
 
@@ -161,7 +209,7 @@ impl Heard {
     pub fn is_empty(&self) -> bool
         ensures { MatchBool result (self.now ≡ latest_votes self.now.members 0 []) (self.now ≡ latest_votes self.now.members 0 [] → ⊥) }
     {
-        are_empty(&self.slots)
+        are_empty(lent(&self.slots))
     }
 
     /// Takes a member's vote in, and answers the ballot at which the latest votes of a majority now stand, if any.
@@ -184,8 +232,15 @@ impl Heard {
         slots_of_members::<Option<Vote>>();
         // The member's range is known once it is read.
         let _range = member.get();
-        keep_newer(self.alloc, &mut self.slots, member, ballot, tape)?;
-        Ok(majority_at(&self.slots))
+        keep(
+            self.alloc,
+            &mut self.slots,
+            self.members,
+            member,
+            ballot,
+            tape,
+        )?;
+        Ok(majority_at(lent(&self.slots)))
     }
 
     /// The tape of the least member whose latest vote has this ballot, lent.
@@ -193,7 +248,7 @@ impl Heard {
         ensures least { (n : ℕ) (marks : List Mark) → StandsFor self.now n marks → result ≡ option_map (λ (v : VoteValue). v.tape) (least_at self.now.members ballot (latest n marks)) }
         ensures ripe { (n : ℕ) (marks : List Mark) (v : VoteValue) → StandsFor self.now n marks → ripe self.now.members n marks ≡ Some v → ballot ≡ v.ballot → result ≡ Some v.tape }
     {
-        match least_at(&self.slots, ballot) {
+        match least_at(lent(&self.slots), ballot) {
             None => None,
             Some(vote) => Some(vote.tape()),
         }

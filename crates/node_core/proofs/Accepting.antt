@@ -1,7 +1,7 @@
 -- The acceptor's lines of the turn, from what it replies.
 use Rattle.std.proofs.Common.{◌≡◌, ℕ, refl, sym, ap, subst, ◌∙◌, List, [], ◌∷◌, Option, Some, None, Bool, true, false}
 use Rattle.std.specs.Prelude.{unwrap_or}
-use Rattle.protocol.specs.Ballots.{Ballot}
+use Rattle.protocol.specs.Ballots.{Ballot, is_below}
 use Rattle.protocol.specs.Rows.{Tape, Vote, Row, vote_for, raised, voted}
 use Rattle.protocol.specs.Packets.{Packet, Promise}
 use Rattle.protocol.specs.Marks.{Mark}
@@ -11,15 +11,14 @@ use Rattle.protocol.specs.Turn.{answer, prepare_turn, accept_turn, reply_turn, t
 use Rattle.protocol.specs.Proposals.{was_released}
 use Rattle.node_core.specs.declared.desk.Desk.{Desk}
 use Rattle.node_core.specs.declared.turn.Turn.{Turn}
-use Rattle.node_core.specs.declared.mail.Letter.TheVariants as letters
+use Rattle.mail.specs.declared.letter.Letter.TheVariants as letters
 use Rattle.node_core.specs.declared.turn.Note.{Note}
 use Rattle.node_core.specs.declared.turn.Note.TheVariants as notes
 use Rattle.node_core.specs.Handling.{IsTurnAlone, IsVote, IsVoting}
 use Rattle.protocol.specs.Seats.{Seat}
 use Rattle.node_core.specs.Standing.{Answers, IsLeft}
 use Rattle.node_core.specs.Turns.{IsSending, IsOrderly, IsRowAfter, Stirs, is_quiet, note_value, sent}
-use Rattle.node_core.specs.Mails.{vote_below}
-use Rattle.node_core.proofs.Sending.{row_is, whole_report}
+use Rattle.mail.specs.Mails.{vote_below}
 use Rattle.acceptor.specs.Said.{may_report}
 use Rattle.node_core.proofs.Phases.{is_same-self}
 
@@ -40,6 +39,16 @@ promising s marks row p r e = go (is_above row.promised p.ballot) refl (is_at ro
     go true u y w = absurd (no_promise row.promised r (rw u at e))
     go false u true w = let f : Says_nothing ≡ Promises r = rw (u, w) at e in absurd cc
     go false u false w = let f : Promises row.vote ≡ Promises r = rw (u, w) at e in record { line = rw (u, w) refl; above = u; report = cc }
+
+-- the row after a turn
+row_is : (before after : Row) (o : Option Row) → IsRowAfter before after o → unwrap_or o before ≡ after
+row_is before after None h = sym h
+row_is before after (Some row) h = sym h.0
+
+-- a report that may be sent is sent whole
+whole_report : (o : Option Vote) (b : Ballot) → may_report o b ≡ true → vote_below b o ≡ o
+whole_report None b h = refl
+whole_report (Some v) b h = let t : is_below v.ballot b ≡ true = h in rw t refl
 
 -- what a promise sends
 pub promise_sent :

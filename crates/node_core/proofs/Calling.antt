@@ -15,7 +15,7 @@ use Rattle.node_core.specs.declared.turn.CoreRefusal.{CoreRefusal}
 use Rattle.node_core.specs.declared.turn.CoreRefusal.TheVariants as refusals
 use Rattle.protocol.specs.Seats.{Seat}
 use Rattle.node_core.specs.Turns.{event_value, note_value, is_quiet, Stirs, IsTurn, HandsNothing}
-use Rattle.node_core.specs.Calls.{StartIs, TurnIs, RefusesToStart, IsRefused, is_memory}
+use Rattle.node_core.specs.Calls.{StartIs, TurnIs, RefusesToStart, IsRefused}
 
 -- an offer or a search that begins the next ballot
 pub offered : (s : Seat) (n j : ℕ) (tape : Tape) (now : ℕ) (marks : List Mark) (row : Row) (P : said.Turn → Type 0) → j ≡ n → StartIs s n (Some tape) now marks row P → TurnIs s (events.Offer j tape now) marks row P
@@ -68,11 +68,3 @@ next_told p q m n o b e f g h = ap (λ k. is_some (next q k)) (sym f) ∙ ap (λ
 pub some_so : (o : Option Ballot) → is_some o ≡ true → (b : Ballot) × (o ≡ Some b)
 some_so None e = let f : false ≡ true = e in absurd cc
 some_so (Some b) e = (b, refl)
-
--- only one refusal is for want of memory
-pub memory_so : (e : CoreRefusal) (b : Bool) → b ≡ is_memory e → b ≡ true → e ≡ refusals.OutOfMemory
-memory_so refusals.Failed b h t = let f : true ≡ false = sym t ∙ h in absurd cc
-memory_so refusals.AlreadyReleased b h t = let f : true ≡ false = sym t ∙ h in absurd cc
-memory_so refusals.AlreadyOpen b h t = let f : true ≡ false = sym t ∙ h in absurd cc
-memory_so refusals.RoundsSpent b h t = let f : true ≡ false = sym t ∙ h in absurd cc
-memory_so refusals.OutOfMemory b h t = refl

@@ -5,12 +5,12 @@ use Rattle.protocol.specs.Seats.{Seat}
 use Rattle.protocol.specs.Ballots.{Ballot, is_majority, next}
 use Rattle.protocol.specs.Rows.{Tape, Vote, Row, raised}
 use Rattle.protocol.specs.Packets.{Packet, Body, Prepare, Promise, Accept, Accepted, Nack}
-use Rattle.protocol.specs.Acceptor.{Prepares, Accepts, Reply, Promises, Nacks, Says_nothing, Votes, Votes_again, reply_of, next_row}
+use Rattle.protocol.specs.Acceptor.{Prepares, Accepts, Reply, Promises, Nacks, Says_nothing, Votes, Votes_again, reply_of, next_row, is_at}
 use Rattle.protocol.specs.Marks.{Mark, Began, Promised, Proposed, Denied, Heard, Closed, Released}
 use Rattle.protocol.specs.Proposals.{Opening, was_released, open_proposal, gathering_at, proposal_at, since_began, counted, is_counted, pick, is_due}
 use Rattle.protocol.specs.Learner.{ripe}
 use Rattle.protocol.specs.Turn as said
-use Rattle.protocol.specs.Turn.{hear, propose, begin, start_turn, renew, next_ballot, due_turn, promise_turn, nack_turn, reply_turn, take_vote, packet_turn, is_that}
+use Rattle.protocol.specs.Turn.{hear, propose, begin, start_turn, renew, next_ballot, due_turn, promise_turn, nack_turn, reply_turn, take_vote, packet_turn}
 use Rattle.node_core.specs.Standing.{Grows, marked_number}
 
 pub stays : (n : ℕ) (marks : List Mark) → Grows n marks marks
@@ -55,12 +55,12 @@ falls_due s n now marks row (Some p) = go (is_due s.me n now (since_began n mark
 
 promises : (s : Seat) (now : ℕ) (marks : List Mark) (row : Row) (p : Packet) (r : Option Vote) (o : Option Opening) → Grows p.number marks (promise_turn s now marks row p r o).marks
 promises s now marks row p r None = stays p.number marks
-promises s now marks row p r (Some o) = go (is_that row.promised p.ballot) refl (is_counted (counted s.me p.number o (since_began p.number marks)) p.from) refl (is_majority s.members (is_counted (counted s.me p.number o (Promised p.number p.from p.ballot r ∷ since_began p.number marks)))) refl
+promises s now marks row p r (Some o) = go (is_at row.promised p.ballot) refl (is_counted (counted s.me p.number o (since_began p.number marks)) p.from) refl (is_majority s.members (is_counted (counted s.me p.number o (Promised p.number p.from p.ballot r ∷ since_began p.number marks)))) refl
   where
     counts : Grows p.number marks (Promised p.number p.from p.ballot r ∷ marks)
     counts = adds p.number marks marks (Promised p.number p.from p.ballot r) refl (stays p.number marks)
 
-    go : (x : Bool) → is_that row.promised p.ballot ≡ x → (y : Bool) → is_counted (counted s.me p.number o (since_began p.number marks)) p.from ≡ y → (z : Bool) → is_majority s.members (is_counted (counted s.me p.number o (Promised p.number p.from p.ballot r ∷ since_began p.number marks))) ≡ z → Grows p.number marks (promise_turn s now marks row p r (Some o)).marks
+    go : (x : Bool) → is_at row.promised p.ballot ≡ x → (y : Bool) → is_counted (counted s.me p.number o (since_began p.number marks)) p.from ≡ y → (z : Bool) → is_majority s.members (is_counted (counted s.me p.number o (Promised p.number p.from p.ballot r ∷ since_began p.number marks))) ≡ z → Grows p.number marks (promise_turn s now marks row p r (Some o)).marks
     go false e y f z h = rw e (stays p.number marks)
     go true e true f z h = rw (e, f) (stays p.number marks)
     go true e false f false h = rw (e, f, h) counts

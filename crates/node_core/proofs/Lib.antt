@@ -1,4 +1,3 @@
-pub mod Sending
 pub mod Phases
 pub mod Passing
 pub mod Growing

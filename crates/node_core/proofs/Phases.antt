@@ -1,17 +1,17 @@
 -- Lemmas on the lines of the turn.
-use Rattle.std.proofs.Common.{◌≡◌, ◌≤◌, ℕ, suc, refl, sym, ap, subst, ◌∙◌, List, [], ◌∷◌, Option, Some, None, Bool, true, false, Result, Ok, Err, arith}
-use Rattle.std.specs.Prelude.{IfOk, IfErr, OnErr, MatchResult, IsErr, ◌==◌, nat_lt, nat_le, is_some}
+use Rattle.std.proofs.Common.{◌≡◌, ◌≤◌, ℕ, suc, refl, sym, ap, subst, ◌∙◌, List, [], ◌∷◌, Option, Some, None, Bool, true, false, arith}
+use Rattle.std.specs.Prelude.{◌==◌, nat_lt, nat_le, is_some}
 use Rattle.std.proofs.lemmas.Bool.{eq-eqb}
 use Rattle.std.proofs.lemmas.Bool.Decides.{nat_tests}
 use Rattle.protocol.specs.Lists.{has}
 use Rattle.protocol.specs.Ballots.{Ballot, is_same, is_below, next, last_round}
 use Rattle.protocol.specs.Rows.{Tape, Vote, Row, raised}
-use Rattle.protocol.specs.Acceptor.{is_above}
+use Rattle.protocol.specs.Acceptor.{is_above, is_at}
 use Rattle.protocol.specs.Marks.{Mark, Began, Promised, Closed, proposes, releases}
 use Rattle.protocol.specs.Proposals.{Opening, was_released, open_proposal, gathering_at, since_began, where_at, counted, is_counted, pick, begun, denied, is_due, is_due_number, due_moment, opening_ballot, open_ballot}
 use Rattle.protocol.specs.Packets.{Packet}
 use Rattle.protocol.specs.Turn as said
-use Rattle.protocol.specs.Turn.{greater_ballot, next_ballot, is_promised, is_that, stays, promise_turn, propose, due_turn, nack_turn, begin, Hearing, hear}
+use Rattle.protocol.specs.Turn.{greater_ballot, next_ballot, is_promised, stays, promise_turn, propose, due_turn, nack_turn, begin, Hearing, hear}
 use Rattle.proposer.specs.Answers.{IsNew, IsRepeated, completes, IsCountedAs}
 use Rattle.proposer.specs.declared.answer.Counted.{Counted}
 use Rattle.proposer.specs.declared.answer.Counted.TheVariants as kinds
@@ -21,43 +21,9 @@ use Rattle.protocol.specs.Seats.{Seat}
 use Rattle.learner.specs.Latest.{hears, OtherMarksPass as OtherVotesPass}
 use Rattle.proposer.specs.InHand.{InHand, StandsFor as ProposalStandsFor}
 use Rattle.node_core.specs.Standing.{Answers, DeskStands, ProposalStands}
-use Rattle.node_core.specs.Turns.{note_value}
+use Rattle.node_core.specs.Turns.{HandsNothing, note_value}
 use Rattle.node_core.specs.declared.turn.Note.TheVariants as notes
 use Rattle.node_core.specs.Handling.{IsTurnAlone}
-
--- where the first fact gives the second, an Ok keeps it
-pub on_ok : {A E : Type 0} (r : Result A E) (P Q : A → Type 0) → IfOk r P → ((x : A) → P x → Q x) → IfOk r Q
-on_ok (Ok x) P Q h f = f x h
-on_ok (Err e) P Q h f = tt
-
-pub if_err : {A E : Type 0} (r : Result A E) (P Q : E → Type 0) → IfErr r P → ((e : E) → P e → Q e) → IfErr r Q
-if_err (Ok x) P Q h f = tt
-if_err (Err e) P Q h f = f e h
-
-pub on_any_err : {A E : Type 0} (r : Result A E) (Q : Type 0) → Q → OnErr r Q
-on_any_err (Ok x) Q q = tt
-on_any_err (Err e) Q q = q
-
--- where both outcomes are known, what follows from each
-pub on_match : {A E : Type 0} (r : Result A E) (P Q : A → Type 0) (F G : E → Type 0) → MatchResult r P F → ((x : A) → P x → Q x) → ((e : E) → F e → G e) → MatchResult r Q G
-on_match (Ok x) P Q F G h f g = f x h
-on_match (Err e) P Q F G h f g = g e h
-
-pub on_both : {A E : Type 0} (r : Result A E) (P Q : A → Type 0) (F : Type 0) (G : E → Type 0) → IfOk r P → OnErr r F → ((x : A) → P x → Q x) → ((e : E) → F → G e) → MatchResult r Q G
-on_both (Ok x) P Q F G h k f g = f x h
-on_both (Err e) P Q F G h k f g = g e k
-
-pub on_err : {A E : Type 0} (r : Result A E) (P : A → Type 0) (G : E → Type 0) → IsErr r → ((e : E) → G e) → MatchResult r P G
-on_err (Ok x) P G h g = let bad : false ≡ true = h in absurd cc
-on_err (Err e) P G h g = g e
-
-pub on_ok_or : {A E : Type 0} (r : Result A E) (P Q : A → Type 0) (G : E → Type 0) → IfOk r P → ((x : A) → P x → Q x) → ((e : E) → G e) → MatchResult r Q G
-on_ok_or (Ok x) P Q G h f g = f x h
-on_ok_or (Err e) P Q G h f g = g e
-
-pub if_any_err : {A E : Type 0} (r : Result A E) (G : E → Type 0) → ((e : E) → G e) → IfErr r G
-if_any_err (Ok x) G g = tt
-if_any_err (Err e) G g = g e
 
 abbrev pub opening : Ballot → Option Tape → Option Vote → ℕ → Opening
 opening b own report now = record { ballot = b; own = own; report = report; now = now }
@@ -121,13 +87,12 @@ not_below_greater (Some p) (Some q) b h = go (is_below p q) refl
     go false e = rw e at h
 
 -- a turn that saves, sends and releases nothing
-pub stays_so : (row : Row) (marks : List Mark) (note : said.Note) (x : Turn) (d : Desk) → x.row ≡ None → x.mail ≡ None → x.release ≡ None → note_value x.note ≡ note → DeskStands d marks → Answers row (stays row marks note) x d
-stays_so row marks note x d saves sends releases noted stands =
-    record { is_turn = record { row_after = rw saves refl; out = rw sends refl; release = releases; note = noted }; left = rw releases stands }
+pub stays_so : {row : Row} {marks : List Mark} {note : said.Note} {x : Turn} {d : Desk} → HandsNothing x → note_value x.note ≡ note → DeskStands d marks → Answers row (stays row marks note) x d
+stays_so h noted stands = record { is_turn = record { row_after = rw h.saves refl; out = rw h.sends refl; release = h.releases; note = noted }; left = rw h.releases stands }
 
-not_that : (p : Option Ballot) (b : Ballot) → (p ≡ Some b → ⊥) → is_that p b ≡ false
-not_that None b o = refl
-not_that (Some a) b o = go (is_same a b) refl
+not_at_it : (p : Option Ballot) (b : Ballot) → (p ≡ Some b → ⊥) → is_at p b ≡ false
+not_at_it None b o = refl
+not_at_it (Some a) b o = go (is_same a b) refl
   where
     go : (t : Bool) → is_same a b ≡ t → is_same a b ≡ false
     go true h = absurd (o (ap (λ (x : Ballot). Some x) (is_same-true a b h)))
@@ -139,23 +104,23 @@ module _ (s : Seat) (now : ℕ) (marks : List Mark) (row : Row) (p : Packet) (r 
   not_gathering e = rw e refl
 
   pub overtaken : (o : Opening) → gathering_at p.number p.ballot marks ≡ Some o → (row.promised ≡ Some p.ballot → ⊥) → promise_turn s now marks row p r (gathering_at p.number p.ballot marks) ≡ stays row marks (said.Note_overtaken p.ballot)
-  overtaken o e passed = let f : is_that row.promised p.ballot ≡ false = not_that row.promised p.ballot passed in rw (e, f) refl
+  overtaken o e passed = let f : is_at row.promised p.ballot ≡ false = not_at_it row.promised p.ballot passed in rw (e, f) refl
 
   module _ (promised : row.promised ≡ Some p.ballot) where
-    at_it : is_that row.promised p.ballot ≡ true
-    at_it = ap (λ (a : Option Ballot). is_that a p.ballot) promised ∙ is_same-self p.ballot
+    at_it : is_at row.promised p.ballot ≡ true
+    at_it = ap (λ (a : Option Ballot). is_at a p.ballot) promised ∙ is_same-self p.ballot
 
     pub repeated : IsRepeated s.me p.number p.ballot p.from marks → promise_turn s now marks row p r (gathering_at p.number p.ballot marks) ≡ stays row marks said.Note_repeated
     repeated h =
         let e : gathering_at p.number p.ballot marks ≡ Some h.opening = h.gathers in
-        let t : is_that row.promised p.ballot ≡ true = at_it in
+        let t : is_at row.promised p.ballot ≡ true = at_it in
         let f : is_counted (counted s.me p.number h.opening (since_began p.number marks)) p.from ≡ true = h.is_repeated in
         rw (e, t, f) refl
 
     pub counts_so : (h : IsNew s.me p.number p.ballot p.from marks) → completes s.members s.me p.number p.ballot p.from r marks h.opening ≡ false → promise_turn s now marks row p r (gathering_at p.number p.ballot marks) ≡ stays row (Promised p.number p.from p.ballot r ∷ marks) (said.Note_counted p.ballot)
     counts_so h few =
         let e : gathering_at p.number p.ballot marks ≡ Some h.opening = h.gathers in
-        let t : is_that row.promised p.ballot ≡ true = at_it in
+        let t : is_at row.promised p.ballot ≡ true = at_it in
         let f : is_counted (counted s.me p.number h.opening (since_began p.number marks)) p.from ≡ false = h.is_new in
         rw (e, t, f, few) refl
 
@@ -168,7 +133,7 @@ module _ (s : Seat) (now : ℕ) (marks : List Mark) (row : Row) (p : Packet) (r 
         ≡ propose s p.number p.ballot now (Promised p.number p.from p.ballot r ∷ marks) row (pick h.opening.own (counted s.me p.number h.opening (Promised p.number p.from p.ballot r ∷ since_began p.number marks)))
     completes_so h many =
         let e : gathering_at p.number p.ballot marks ≡ Some h.opening = h.gathers in
-        let t : is_that row.promised p.ballot ≡ true = at_it in
+        let t : is_at row.promised p.ballot ≡ true = at_it in
         let f : is_counted (counted s.me p.number h.opening (since_began p.number marks)) p.from ≡ false = h.is_new in
         rw (e, t, f, many) refl
 
@@ -235,11 +200,11 @@ told s now row x d e b n a marks is_n is_a h above stands o opens at =
     (h o (subst (λ (y : Ballot). is_above row.promised y ≡ false) (sym is_a) above) stands (subst (λ j. open_proposal j marks ≡ Some o) (sym is_n) opens) (at ∙ sym is_a)))
 
 -- a due moment of a number that was released
-pub idle_alone : (s : Seat) (n now : ℕ) (marks : List Mark) (row : Row) (x : Turn) → was_released n marks ≡ true → x.row ≡ None → x.mail ≡ None → x.release ≡ None → x.note ≡ notes.Idle → IsTurnAlone row marks (due_turn s n now marks row (open_proposal n marks)) x
-idle_alone s n now marks row x released saves sends releases noted = rw released (record {
-  is_turn = record { row_after = rw saves refl; out = rw sends refl; release = releases; note = rw noted refl };
+pub idle_alone : (s : Seat) (n now : ℕ) (marks : List Mark) (row : Row) (x : Turn) → was_released n marks ≡ true → HandsNothing x → x.note ≡ notes.Idle → IsTurnAlone row marks (due_turn s n now marks row (open_proposal n marks)) x
+idle_alone s n now marks row x released h noted = rw released (record {
+  is_turn = record { row_after = rw h.saves refl; out = rw h.sends refl; release = h.releases; note = rw noted refl };
   takes_nothing = refl;
-  releases_nothing = releases;
+  releases_nothing = h.releases;
 })
 
 -- where one more mark comes that hears and releases nothing, and the proposal in hand stands for it
@@ -258,6 +223,10 @@ proposal_stands d q marks is s = subst (λ (o : Option InHand). ProposalStands o
 
 pub none_stands : (d : Desk) (marks : List Mark) → d.proposal ≡ None → DeskStands d marks → open_proposal d.number marks ≡ None
 none_stands d marks is s = subst (λ (o : Option InHand). ProposalStands o d.number marks) is s.proposal
+
+-- no other proposal of a number is open
+pub one_open : (n : ℕ) (marks : List Mark) (o p : Opening) → open_proposal n marks ≡ Some o → open_proposal n marks ≡ Some p → p.ballot ≡ o.ballot
+one_open n marks o p e f = let g : Some p ≡ Some o = sym f ∙ e in let is : p ≡ o = cc in ap (λ (q : Opening). q.ballot) is
 
 -- where nothing is open, nothing gathers
 pub none_gathers : (n : ℕ) (b : Ballot) (marks : List Mark) → open_proposal n marks ≡ None → gathering_at n b marks ≡ None

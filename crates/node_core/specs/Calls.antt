@@ -1,5 +1,5 @@
 -- What a call of the core answers, and what is left of it.
-use Rattle.std.specs.Prelude.{◌≡◌, ◌≤◌, ℕ, List, Option, Some, None, Bool, true, false, is_some}
+use Rattle.std.specs.Prelude.{◌≡◌, ◌≤◌, ℕ, List, Option, Some, None, true, false, is_some}
 use Rattle.protocol.specs.Ballots.{Ballot, next}
 use Rattle.protocol.specs.Rows.{Tape, Row}
 use Rattle.protocol.specs.Packets.{Packet}
@@ -79,14 +79,6 @@ IsRefused (events.Arrived packet now) e same stands m row = e ≡ refusals.OutOf
 -- why the core refused the event
 abbrev pub RefusesEvent : Event → CoreRefusal → Core → Row → Core → Type 0
 RefusesEvent event e old row new = IsRefused event e (new ≡ old) (StandsFor old) old.me row
-
--- memory was refused
-abbrev pub is_memory : CoreRefusal → Bool
-is_memory refusals.Failed = false
-is_memory refusals.AlreadyReleased = false
-is_memory refusals.AlreadyOpen = false
-is_memory refusals.RoundsSpent = false
-is_memory refusals.OutOfMemory = true
 
 -- why there is no turn; but for want of memory, which leaves the core failed, it stays as it was
 abbrev pub Refuses : CoreRefusal → Event → Core → Row → Core → Type 0

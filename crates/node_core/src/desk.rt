@@ -1,16 +1,14 @@
 //! What is in hand of one number: its proposal, if one is open, and the votes that were heard.
 
-ghost use Rattle.std.specs.Prelude.{◌≡◌, ◌≤◌, ℕ, List, ◌∷◌, Option, Some, None, IfOk, IfErr, OnOk, IsTrue, IsSome, MatchBool, false, option_map};
+ghost use Rattle.std.specs.Prelude.{◌≡◌, ◌≤◌, ℕ, List, ◌∷◌, Option, Some, None, IfOk, IfErr, IsTrue, IsSome, MatchBool, false};
 ghost use Rattle.protocol.specs.Ballots.{next};
 ghost use Rattle.protocol.specs.Packets.{Accept as AcceptBody};
 ghost use Rattle.packets.specs.Rules.{keeps_rules};
-ghost use Rattle.protocol.specs.Rows.{Row as RowValue, Tape as TapeValue, Vote as VoteValue, raised};
-ghost use Rattle.protocol.specs.Marks.{Mark, Began, Proposed, Closed, Heard as HeardMark};
+ghost use Rattle.protocol.specs.Rows.{Row as RowValue, Tape as TapeValue, raised};
+ghost use Rattle.protocol.specs.Marks.{Mark, Began, Proposed, Closed};
 ghost use Rattle.protocol.specs.Acceptor.{is_above};
 ghost use Rattle.protocol.specs.Proposals.{Opening, open_proposal, open_ballot, proposal_at, gathering_at, since_began, counted, pick, is_due_number};
 ghost use Rattle.protocol.specs.Turn.{number_of, hear, propose, begin, due_turn, promise_turn, nack_turn, accept_turn, accepted_turn, packet_turn};
-ghost use Rattle.protocol.specs.Learner.{ripe};
-ghost use Rattle.learner.specs.Latest.{StandsFor};
 ghost use Rattle.node_core.specs.Standing.{DeskStands, fresh, IsDeskOf, IsLeft, Answers};
 ghost use Rattle.node_core.specs.Calls.{IsForMember, MayCome, StartIs, RefusesToStart, IsRefused};
 ghost use Rattle.node_core.specs.Handling.{Handles, Starts, Takes};
@@ -18,39 +16,16 @@ ghost use Rattle.protocol.specs.Seats.{Seat as SeatValue};
 ghost use Rattle.node_core.specs.Turns.{event_value, note_value, is_quiet, HasPromise, IsOrderly};
 
 use crate::event::Event;
-use crate::mail::{Letter, Mail};
-use crate::rows::{copied, is_promised, raise, relent, vote};
-use crate::seat::Seat;
+use crate::rows::{copied, is_promised, raise, vote};
 use crate::turn::{CoreRefusal, Note, Turn};
 use crate::voting::{self, Voting};
 use ballots::{Ballot, Member, Number, Row, VoteRef};
 use learner::Heard;
+use mail::{Letter, Mail, Seat};
 use packets::{BodyRef, PacketRef};
 use proposer::{Counted, DueAnswer, Proposal};
 use std::alloc::{AllocError, Global};
 use tape_frames::{Tape, TapeRef};
-
-/// Hears a member's vote, and answers the tape of the least member at whose ballot a majority's votes now stand, if any.
-fn hear_vote(
-    alloc: Global,
-    heard: &mut Heard,
-    member: Member,
-    ballot: Ballot,
-    tape: TapeRef<'_>,
-) -> Result<Option<Tape>, AllocError>
-    requires { member ≤ heard.old.members }
-    ensures ripe { IfOk result (λ release. (n : ℕ) (marks : List Mark) → StandsFor heard.old n marks → release ≡ option_map (λ (v : VoteValue). v.tape) (ripe heard.old.members n (HeardMark n member ballot tape.entry ∷ marks))) }
-    ensures stands { OnOk result ((n : ℕ) (marks : List Mark) → StandsFor heard.old n marks → StandsFor heard.new n (HeardMark n member ballot tape.entry ∷ marks)) }
-    ensures members { heard.new.members ≡ heard.old.members }
-{
-    let Some(chosen) = heard.hear(member, ballot, tape)? else {
-        return Ok(None);
-    };
-    match heard.tape_at(chosen) {
-        None => Ok(None),
-        Some(tape) => Ok(Some(tape.copy(alloc)?)),
-    }
-}
 
 /// One number's open proposal and heard votes. The number was not released.
 #[derive(Drop)]
@@ -100,7 +75,8 @@ impl Desk {
         }
     }
 
-    /// Hears a member's vote, and answers the tape that is then released, if any.
+    /// Hears a member's vote, and answers the tape that is then released, if any: that of the least member at whose ballot a
+    /// majority's votes stand.
     fn hear(
         &mut self,
         alloc: Global,
@@ -116,53 +92,31 @@ impl Desk {
     {
         // A vote that is heard changes nothing of the proposal.
         proposer::laws::other_marks_pass();
-        hear_vote(alloc, &mut self.heard, member, ballot, tape)
-    }
-
-    /// The tape that the proposal picks, copied.
-    fn picked(&self, alloc: Global) -> Result<Option<Tape>, AllocError>
-        ensures { IfOk result (λ tape. (s : SeatValue) (marks : List Mark) (o : Opening) → IsDeskOf s self.now → DeskStands self.now marks → open_proposal self.now.number marks ≡ Some o → tape ≡ pick o.own (counted s.me self.now.number o (since_began self.now.number marks))) }
-    {
-        let Some(proposal) = &self.proposal else {
+        let Some(chosen) = self.heard.hear(member, ballot, tape)? else {
             return Ok(None);
         };
-        match proposal.pick() {
+        match self.heard.tape_at(chosen) {
             None => Ok(None),
             Some(tape) => Ok(Some(tape.copy(alloc)?)),
         }
     }
 
-    /// Notes that the proposal was proposed.
-    fn proposed(&mut self, now: u64)
-        ensures stands { (marks : List Mark) (o : Opening) → DeskStands self.old marks → open_proposal self.old.number marks ≡ Some o → DeskStands self.new (Proposed self.old.number o.ballot now ∷ marks) }
-        ensures of { (s : SeatValue) → IsDeskOf s self.old → IsDeskOf s self.new }
-        ensures number { self.new.number ≡ self.old.number }
-        ensures heard { self.new.heard ≡ self.old.heard }
-    {
-        learner::laws::other_marks_pass();
-        if let Some(proposal) = &mut self.proposal {
-            proposal.proposed(now);
-        }
-    }
-
-    /// Proposes the tape at the proposal's ballot, and votes for it.
-    fn propose_tape(
+    /// Votes for the tape at the ballot at which it was just proposed.
+    fn vote_for(
         &mut self,
         alloc: Global,
         seat: Seat,
         ballot: Ballot,
         tape: Tape,
-        now: u64,
         row: &Row,
     ) -> Result<Turn, AllocError>
         requires of { IsDeskOf seat self.old }
         requires owner { ballot.owner ≡ seat.me }
-        ensures turn { IfOk result (λ x. (marks : List Mark) (o : Opening) (before : RowValue) → DeskStands self.old marks → open_proposal self.old.number marks ≡ Some o → o.ballot ≡ ballot → Answers row.now (propose seat self.old.number ballot now marks before (Some tape)) x self.new) }
+        ensures turn { IfOk result (λ x. (now : ℕ) (marks : List Mark) (before : RowValue) → DeskStands self.old (Proposed self.old.number ballot now ∷ marks) → Answers row.now (propose seat self.old.number ballot now marks before (Some tape)) x self.new) }
         ensures orderly { IfOk result (λ x. IsOrderly x) }
         ensures of { IsDeskOf seat self.new }
         ensures number { self.new.number ≡ self.old.number }
     {
-        self.proposed(now);
         let release = self.hear(alloc, seat.me(), ballot, tape.lend())?;
         Ok(Turn {
             row: vote(row, ballot, tape),
@@ -182,17 +136,26 @@ impl Desk {
         row: &Row,
     ) -> Result<Turn, AllocError>
         requires of { IsDeskOf seat self.old }
+        requires open { IsSome self.old.proposal }
         requires owner { ballot.owner ≡ seat.me }
         ensures turn { IfOk result (λ x. (marks : List Mark) (o : Opening) → is_above row.now.promised ballot ≡ false → DeskStands self.old marks → open_proposal self.old.number marks ≡ Some o → o.ballot ≡ ballot → Answers row.now (propose seat self.old.number ballot now marks (raised row.now ballot) (pick o.own (counted seat.me self.old.number o (since_began self.old.number marks)))) x self.new) }
         ensures orderly { IfOk result (λ x. IsOrderly x) }
         ensures of { IsDeskOf seat self.new }
         ensures number { self.new.number ≡ self.old.number }
     {
-        match self.picked(alloc)? {
-            Some(tape) => self.propose_tape(alloc, seat, ballot, tape, now, row),
+        learner::laws::other_marks_pass();
+        let Some(proposal) = &mut self.proposal else {
+            unreachable!();
+        };
+        match proposal.pick() {
             None => {
                 let row = raise(alloc, row, ballot)?;
                 Ok(self.close(row, Note::Nothing { ballot }))
+            }
+            Some(tape) => {
+                let tape = tape.copy(alloc)?;
+                proposal.proposed(now);
+                self.vote_for(alloc, seat, ballot, tape, row)
             }
         }
     }
@@ -230,6 +193,7 @@ impl Desk {
         row: &Row,
     ) -> Result<Turn, AllocError>
         requires of { IsDeskOf seat self.old }
+        requires open { IsSome self.old.proposal }
         requires owner { ballot.owner ≡ seat.me }
         ensures turn { IfOk result (λ x. (marks : List Mark) (own : Option TapeValue) → is_above row.now.promised ballot ≡ false → DeskStands self.old (Began self.old.number ballot own row.now.vote now ∷ marks) → Answers row.now (begin seat self.old.number ballot own now marks row.now) x self.new) }
         ensures orderly { IfOk result (λ x. IsOrderly x) }
@@ -271,11 +235,11 @@ impl Desk {
         match &mut self.proposal {
             None => Ok(Turn::quiet(Note::Stale)),
             Some(proposal) => {
-                if !proposal.gathers_at(ballot) {
-                    return Ok(Turn::quiet(Note::Stale));
-                }
                 if !is_promised(row, ballot) {
-                    return Ok(Turn::quiet(Note::Overtaken { ballot }));
+                    if proposal.gathers_at(ballot) {
+                        return Ok(Turn::quiet(Note::Overtaken { ballot }));
+                    }
+                    return Ok(Turn::quiet(Note::Stale));
                 }
                 match proposal.promise(packet.from(), ballot, report)? {
                     Counted::Stale => Ok(Turn::quiet(Note::Stale)),
@@ -469,14 +433,12 @@ impl Desk {
         ensures of { IsDeskOf seat self.new }
         ensures number { self.new.number ≡ self.old.number }
     {
-        match packet.body() {
+        match packet.body().lend() {
             BodyRef::Prepare => voting::prepare(alloc, seat, packet, row),
-            BodyRef::Promise { report } => {
-                self.promise(alloc, seat, packet, relent(report), now, row)
-            }
-            BodyRef::Accept { tape } => self.accept(alloc, seat, packet, tape.lend(), row),
-            BodyRef::Accepted { tape } => self.accepted(alloc, seat, packet, tape.lend()),
-            BodyRef::Nack { promised } => Ok(self.nack(packet, *promised)),
+            BodyRef::Promise { report } => self.promise(alloc, seat, packet, report, now, row),
+            BodyRef::Accept { tape } => self.accept(alloc, seat, packet, tape, row),
+            BodyRef::Accepted { tape } => self.accepted(alloc, seat, packet, tape),
+            BodyRef::Nack { promised } => Ok(self.nack(packet, promised)),
         }
     }
 

@@ -1,6 +1,6 @@
 //! What is in hand, by number, and the numbers that were released.
 
-ghost use Rattle.std.specs.Prelude.{◌≡◌, ℕ, List, Some, true, OnOk, OnErr};
+ghost use Rattle.std.specs.Prelude.{◌≡◌, ℕ, List, Some, None, true, OnOk, OnErr};
 ghost use Rattle.std.specs.Ordering.{nat_cmp};
 ghost use Rattle.std.specs.BTreeMap.{get, Updates};
 ghost use Rattle.std.specs.BTreeSet as sorted;
@@ -23,6 +23,13 @@ pub(crate) fn put(desks: &mut BTreeMap<u32, Desk>, desk: Desk) -> Result<(), All
         Ok(_) => Ok(()),
         Err(_) => Err(AllocError),
     }
+}
+
+/// Takes out what is in hand of the number, if anything is.
+pub(crate) fn take_out(desks: &mut BTreeMap<u32, Desk>, number: Number)
+    ensures { Updates nat_cmp desks.old desks.new number None }
+{
+    desks.remove(&number.get());
 }
 
 /// Notes the number as released.

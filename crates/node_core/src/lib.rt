@@ -4,10 +4,8 @@
 mod desk;
 mod desks;
 mod event;
-mod mail;
 mod node;
 mod rows;
-mod seat;
 mod settled;
 mod turn;
 mod voting;

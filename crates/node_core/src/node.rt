@@ -11,10 +11,10 @@ ghost use Rattle.node_core.specs.Turns.{event_value, note_value, is_quiet, Hands
 
 use crate::desk::Desk;
 use crate::event::Event;
-use crate::seat::Seat;
 use crate::turn::{CoreRefusal, Turn};
 use crate::{desks, settled};
 use ballots::{Ballot, Member, Number, Row};
+use mail::Seat;
 use std::alloc::{AllocError, Global};
 use std::collections::{BTreeMap, BTreeSet};
 use std::marker::Model;
@@ -142,7 +142,7 @@ impl NodeCore {
     {
         if is_released {
             desks::note(&mut self.released, number)?;
-            self.desks.remove(&number.get());
+            desks::take_out(&mut self.desks, number);
         }
         Ok(())
     }
@@ -251,14 +251,11 @@ impl NodeCore {
             return Err(CoreRefusal::Failed);
         }
         match self.take_turn(event, row) {
-            Ok(turn) => Ok(turn),
-            Err(refusal) => {
-                if refusal.is_memory() {
-                    self.fail();
-                    return Err(CoreRefusal::OutOfMemory);
-                }
-                Err(refusal)
+            Err(CoreRefusal::OutOfMemory) => {
+                self.fail();
+                Err(CoreRefusal::OutOfMemory)
             }
+            answer => answer,
         }
     }
 }

@@ -5,7 +5,7 @@ ghost use Rattle.protocol.specs.Rows.{raised, voted};
 ghost use Rattle.protocol.specs.Acceptor.{is_above};
 ghost use Rattle.node_core.specs.Turns.{IsRowAfter, HasPromise};
 
-use ballots::{Ballot, Row, Vote, VoteRef};
+use ballots::{Ballot, Row, Vote};
 use std::alloc::{AllocError, Global};
 use tape_frames::{Tape, TapeRef};
 
@@ -16,26 +16,6 @@ pub(crate) fn copied(alloc: Global, vote: Option<&Vote>) -> Result<Option<Vote>,
     match vote {
         None => Ok(None),
         Some(vote) => Ok(Some(vote.copy(alloc)?)),
-    }
-}
-
-/// The vote, if there is one, its tape lent.
-pub(crate) fn lent(vote: Option<&Vote>) -> Option<VoteRef<'_>>
-    ensures { result ≡ option_copied vote.entry }
-{
-    match vote {
-        None => None,
-        Some(vote) => Some(vote.lend()),
-    }
-}
-
-/// The lent vote, if there is one, lent once more.
-pub(crate) fn relent<'a>(vote: &Option<VoteRef<'a>>) -> Option<VoteRef<'a>>
-    ensures { result ≡ vote.now }
-{
-    match vote {
-        None => None,
-        Some(vote) => Some(vote.lend()),
     }
 }
 

@@ -9,10 +9,10 @@ ghost use Rattle.node_core.specs.Handling.{Answered, TakesNothing};
 ghost use Rattle.node_core.specs.Turns.{event_value, IsOrderly};
 
 use crate::event::Event;
-use crate::seat::Seat;
 use crate::turn::{CoreRefusal, Note, Turn};
 use crate::voting::{self, Voting};
 use ballots::Row;
+use mail::Seat;
 use packets::{BodyRef, PacketRef};
 use std::alloc::{AllocError, Global};
 
@@ -22,11 +22,11 @@ fn receive(alloc: Global, seat: Seat, packet: &PacketRef<'_>, row: &Row) -> Resu
     ensures turn { (now : ℕ) (marks : List Mark) → was_released packet.now.number marks ≡ true → Answered row.now marks (packet_turn seat now marks row.now packet.now packet.now.body) result }
     ensures orderly { IfOk result (λ x. IsOrderly x) }
 {
-    match packet.body() {
+    match packet.body().lend() {
         BodyRef::Prepare => voting::prepare(alloc, seat, packet, row),
         BodyRef::Promise { .. } => Ok(Turn::quiet(Note::Stale)),
         BodyRef::Accept { tape } => {
-            let Voting { turn, .. } = voting::accept(alloc, seat, packet, tape.lend(), row)?;
+            let Voting { turn, .. } = voting::accept(alloc, seat, packet, tape, row)?;
             Ok(turn)
         }
         BodyRef::Accepted { .. } => Ok(Turn::quiet(Note::Settled)),

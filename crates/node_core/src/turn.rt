@@ -1,12 +1,11 @@
 //! What a turn hands out, and why there is none.
 
-ghost use Rattle.std.specs.Prelude.{◌≡◌, None};
-ghost use Rattle.node_core.specs.Calls.{is_memory};
-ghost use Rattle.node_core.specs.Turns.{IsOrderly, sent};
+ghost use Rattle.std.specs.Prelude.{◌≡◌};
+ghost use Rattle.node_core.specs.Turns.{HandsNothing, IsOrderly, sent};
 ghost use Rattle.node_core.specs.declared.turn.CoreRefusal.TheVariants.{OutOfMemory};
 
-use crate::mail::{Mail, Outgoing};
 use ballots::{Ballot, Row};
+use mail::{Mail, Outgoing};
 use std::alloc::AllocError;
 use tape_frames::Tape;
 
@@ -73,9 +72,7 @@ impl Turn {
 
     /// A turn that saves, sends and releases nothing.
     pub(crate) fn quiet(note: Note) -> Turn
-        ensures row { result.row ≡ None }
-        ensures mail { result.mail ≡ None }
-        ensures release { result.release ≡ None }
+        ensures nothing { HandsNothing result }
         ensures note { result.note ≡ note }
         ensures orderly { IsOrderly result }
     {
@@ -101,18 +98,6 @@ pub enum CoreRefusal {
     RoundsSpent,
     /// Memory was refused: the core has failed.
     OutOfMemory,
-}
-
-impl CoreRefusal {
-    /// Whether memory was refused.
-    pub(crate) fn is_memory(self) -> bool
-        ensures { result ≡ is_memory self }
-    {
-        match self {
-            CoreRefusal::OutOfMemory => true,
-            _ => false,
-        }
-    }
 }
 
 impl From<AllocError> for CoreRefusal {

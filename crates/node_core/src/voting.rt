@@ -6,16 +6,15 @@ ghost use Rattle.protocol.specs.Packets.{Prepare, Accept};
 ghost use Rattle.protocol.specs.Turn.{prepare_turn, accept_turn};
 ghost use Rattle.packets.specs.Rules.{keeps_rules};
 ghost use Rattle.node_core.specs.Calls.{IsForMember};
-ghost use Rattle.node_core.specs.Mails.{MayGo, IsFew};
+ghost use Rattle.mail.specs.Mails.{MayGo, IsFew};
 ghost use Rattle.node_core.specs.Turns.{IsTurn, IsSending, IsOrderly, Stirs};
 ghost use Rattle.node_core.specs.Handling.{IsVoting};
 
-use crate::mail::{Letter, Mail};
 use crate::rows::raise;
-use crate::seat::Seat;
 use crate::turn::{Note, Turn};
 use acceptor::{AcceptAnswer, PrepareAnswer};
 use ballots::Row;
+use mail::{Letter, Mail, Seat};
 use packets::PacketRef;
 use std::alloc::{AllocError, Global};
 use tape_frames::TapeRef;

@@ -1,4 +1,5 @@
 pub mod Greatest
+pub mod Alone
 pub mod Counting
 pub mod Reading
 pub mod Standing

@@ -1,19 +1,44 @@
 //! The promises that are counted, in a slot for each member.
 
-ghost use Rattle.std.specs.Prelude.{◌≡◌, ◌≤◌, ◌<◌, ◌+◌, ◌*◌, ◌-◌, Some, IfOk, IsOk, OnErr, true, false, not, is_some, count_by, length, nat_lt, slice_set, option_copied, if◌then◌else◌};
+ghost use Rattle.std.specs.Prelude.{◌≡◌, ◌≤◌, ◌<◌, ◌+◌, ◌*◌, ◌-◌, Some, IfOk, IsOk, OnOk, OnErr, true, false, not, is_some, count_by, length, nat_lt, slice_set, option_copied, if◌then◌else◌};
 ghost use Rattle.protocol.specs.Proposals.{vote_above};
-ghost use Rattle.proposer.specs.Slots.{nothing_counted, report_at, vote_at};
+ghost use Rattle.proposer.specs.Slots.{nothing_counted, report_at, slots_with, vote_at};
 ghost use Rattle.proposer.specs.Greatest.{IsGreatest};
 
 use arrayvec::ArrayVec;
+use ballots::laws::slots_of_members;
 use ballots::{Member, Vote, VoteRef, majority};
 use std::alloc::{AllocError, Global};
+use std::marker::Model;
 
-/// Of each member, in rising order: what it reported, where it is counted.
-pub(crate) type Slots = ArrayVec<Option<Option<Vote>>, 15>;
+/// Of each member, in rising order: what it reported, where it is counted. As many are used as the circuit has members.
+type Reports = ArrayVec<Option<Option<Vote>>, 15>;
 
-/// The slots of so many members, of whom none is counted.
-fn empty_slots(members: u8) -> Slots
+/// Of each member, in rising order: what it reported, where it is counted. Clauses see this list.
+#[derive(Drop)]
+pub(crate) struct Slots {
+    me: Member,
+    members: u8,
+    /// What `me` reported, as long as it alone is counted.
+    own: Option<Vote>,
+    /// None as long as `me` alone is counted, so that a proposal that is just begun is small and takes no memory.
+    slots: Option<Box<Reports>>,
+}
+
+impl Model for Slots {
+    ghost use Rattle.std.specs.Prelude.{◌≡◌, ◌≤◌, List, Option, length};
+    ghost use Rattle.protocol.specs.Rows.{Vote as VoteValue};
+    ghost use Rattle.proposer.specs.Slots.{slots_with};
+
+    ghost Value = { List (Option (Option VoteValue)) };
+
+    ghost view = { λ s. slots_with s.members s.me s.own s.slots };
+
+    ghost invariant = { λ s. (s.members ≤ 15) × (s.me ≤ s.members) × (length (slots_with s.members s.me s.own s.slots) ≡ s.members) };
+}
+
+/// A slot for each of so many members, of whom none is counted.
+fn empty_slots(members: u8) -> Reports
     requires { members ≤ 15 }
     ensures items { result.items ≡ nothing_counted members }
     ensures many { length result.items ≡ members }
@@ -26,7 +51,7 @@ fn empty_slots(members: u8) -> Slots
 }
 
 /// Sets the member's slot: it is counted, with what it reported.
-fn count(slots: &mut Slots, member: Member, report: Option<Vote>)
+fn set(slots: &mut Reports, member: Member, report: Option<Vote>)
     requires { member ≤ length slots.old.items }
     ensures { slots.new.items ≡ slice_set slots.old.items (member - 1) (Some report) }
 {
@@ -34,34 +59,120 @@ fn count(slots: &mut Slots, member: Member, report: Option<Vote>)
     slots[place] = Some(report);
 }
 
-/// The slots of so many members, of whom this one alone is counted.
+/// A slot for each of so many members, of whom `me` alone is counted, with what it reported.
+fn spread(
+    alloc: Global,
+    members: u8,
+    me: Member,
+    own: &mut Option<Vote>,
+) -> Result<Box<Reports>, AllocError>
+    requires few { members ≤ 15 }
+    requires member { me ≤ members }
+    ensures spread { IfOk result (λ slots. slots.value.items ≡ slice_set (nothing_counted members) (me - 1) (Some own.old)) }
+    ensures own { OnErr result (own.new ≡ own.old) }
+{
+    let mut slots = Box::new(alloc, empty_slots(members))?;
+    set(&mut slots, me, own.take());
+    Ok(slots)
+}
+
+/// The vote that stands in the slot, if the member is counted and reported one.
+fn vote_in(slots: &[Option<Option<Vote>>], place: usize) -> Option<&Vote>
+    requires { place < length slots.now }
+    ensures { option_copied result ≡ vote_at slots.now (place + 1) }
+{
+    match &slots[place] {
+        None => None,
+        Some(report) => report.as_ref(),
+    }
+}
+
+impl Slots {
+    /// How many members there are.
+    fn len(&self) -> u8
+        ensures value { result ≡ length self.now }
+        ensures few { result ≤ 15 }
+    {
+        self.members
+    }
+
+    /// Whether the member at this place is counted.
+    fn is_counted(&self, place: usize) -> bool
+        requires { place < length self.now }
+        ensures { result ≡ is_some (report_at self.now (place + 1)) }
+    {
+        slots_of_members::<Option<Option<Vote>>>();
+        let me = usize::from(self.me.get());
+        match &self.slots {
+            None => me == place + 1,
+            Some(slots) => slots.as_slice()[place].is_some(),
+        }
+    }
+
+    /// The vote that the member at this place reported, where it is counted and reported one.
+    fn vote_of(&self, place: usize) -> Option<&Vote>
+        requires { place < length self.now }
+        ensures { option_copied result ≡ vote_at self.now (place + 1) }
+    {
+        slots_of_members::<Option<Option<Vote>>>();
+        let me = usize::from(self.me.get());
+        match &self.slots {
+            None => {
+                if me == place + 1 {
+                    return self.own.as_ref();
+                }
+                None
+            }
+            Some(slots) => vote_in(slots.as_slice(), place),
+        }
+    }
+
+    /// Counts the member, with what it reported.
+    fn count(
+        &mut self,
+        alloc: Global,
+        member: Member,
+        report: Option<Vote>,
+    ) -> Result<(), AllocError>
+        requires { member ≤ length self.old }
+        ensures ok { OnOk result (self.new ≡ slice_set self.old (member - 1) (Some report)) }
+        ensures err { OnErr result (self.new ≡ self.old) }
+    {
+        match &mut self.slots {
+            None => {
+                let mut slots = spread(alloc, self.members, self.me, &mut self.own)?;
+                set(&mut slots, member, report);
+                self.slots = Some(slots);
+            }
+            Some(slots) => set(slots, member, report),
+        }
+        Ok(())
+    }
+}
+
+/// The slots of so many members, of whom this one alone is counted. It takes no memory.
+#[tactic(auto, using(crate::proofs::Alone::alone_many))]
 pub(crate) fn counted_alone(me: Member, members: u8, report: Option<Vote>) -> Slots
     requires few { members ≤ 15 }
     requires member { me ≤ members }
-    ensures items { result.items ≡ slice_set (nothing_counted members) (me - 1) (Some report) }
-    ensures many { length result.items ≡ members }
+    ensures items { result ≡ slice_set (nothing_counted members) (me - 1) (Some report) }
+    ensures many { length result ≡ members }
 {
-    let mut slots = empty_slots(members);
-    count(&mut slots, me, report);
-    slots
+    Slots {
+        me,
+        members,
+        own: report,
+        slots: None,
+    }
 }
 
-/// Counts anew: of as many members this one alone is counted.
+/// Counts anew: of as many members this one alone is counted. It takes no memory.
 pub(crate) fn count_anew(slots: &mut Slots, me: Member, report: Option<Vote>)
-    requires few { length slots.old.items ≤ 15 }
-    requires member { me ≤ length slots.old.items }
-    ensures items { slots.new.items ≡ slice_set (nothing_counted (length slots.old.items)) (me - 1) (Some report) }
-    ensures many { length slots.new.items ≡ length slots.old.items }
+    requires member { me ≤ length slots.old }
+    ensures items { slots.new ≡ slice_set (nothing_counted (length slots.old)) (me - 1) (Some report) }
+    ensures many { length slots.new ≡ length slots.old }
 {
-    *slots = counted_alone(me, slots.len() as u8, report);
-}
-
-/// Whether the member is counted.
-fn is_counted(slots: &[Option<Option<Vote>>], member: Member) -> bool
-    requires { member ≤ length slots.now }
-    ensures { result ≡ is_some (report_at slots.now member) }
-{
-    slots[usize::from(member.get()) - 1].is_some()
+    *slots = counted_alone(me, slots.len(), report);
 }
 
 /// The vote with frames of its own, where there is one.
@@ -82,43 +193,31 @@ pub(crate) fn count_once(
     member: Member,
     report: Option<VoteRef<'_>>,
 ) -> Result<bool, AllocError>
-    requires { member ≤ length slots.old.items }
-    ensures new { IfOk result (λ new. new ≡ not (is_some (report_at slots.old.items member))) }
-    ensures slots { IfOk result (λ new. slots.new.items ≡ (if new then slice_set slots.old.items (member - 1) (Some report.entry) else slots.old.items)) }
-    ensures err { OnErr result (slots.new.items ≡ slots.old.items) }
-    ensures no_memory { is_some (report_at slots.old.items member) ≡ true → IsOk result }
+    requires { member ≤ length slots.old }
+    ensures new { IfOk result (λ new. new ≡ not (is_some (report_at slots.old member))) }
+    ensures slots { IfOk result (λ new. slots.new ≡ (if new then slice_set slots.old (member - 1) (Some report.entry) else slots.old)) }
+    ensures err { OnErr result (slots.new ≡ slots.old) }
+    ensures no_memory { is_some (report_at slots.old member) ≡ true → IsOk result }
 {
-    if is_counted(slots, member) {
+    if slots.is_counted(usize::from(member.get()) - 1) {
         return Ok(false);
     }
     let report = copy_of(alloc, report)?;
-    count(slots, member, report);
+    slots.count(alloc, member, report)?;
     Ok(true)
 }
 
 /// Whether the members that are counted are a majority of all.
-pub(crate) fn is_quorum(slots: &[Option<Option<Vote>>]) -> bool
-    requires { length slots.now ≤ 15 }
+pub(crate) fn is_quorum(slots: &Slots) -> bool
     ensures { result ≡ nat_lt (length slots.now) (2 * count_by is_some slots.now) }
 {
     let mut count = 0;
-    for slot in slots {
-        if slot.is_some() {
+    for place in 0..slots.len() {
+        if slots.is_counted(usize::from(place)) {
             count += 1;
         }
     }
-    majority(count, slots.len() as u8)
-}
-
-/// The vote that stands in the slot, if the member is counted and reported one.
-fn vote_of(slots: &[Option<Option<Vote>>], place: usize) -> Option<&Vote>
-    requires { place < length slots.now }
-    ensures { option_copied result ≡ vote_at slots.now (place + 1) }
-{
-    match &slots[place] {
-        None => None,
-        Some(report) => report.as_ref(),
-    }
+    majority(count, slots.len())
 }
 
 /// Whether a vote is reported, and it is above the greatest so far: its ballot is greater, or there is none so far.
@@ -133,12 +232,12 @@ fn is_above(report: Option<&Vote>, greatest: Option<&Vote>) -> bool
 }
 
 /// The greatest of the reported votes, that of the least member where equal.
-pub(crate) fn greatest_vote(slots: &[Option<Option<Vote>>]) -> Option<&Vote>
+pub(crate) fn greatest_vote(slots: &Slots) -> Option<&Vote>
     ensures { IsGreatest (vote_at slots.now) (length slots.now) (option_copied result) }
 {
     let mut greatest = None;
-    for place in 0..slots.len() {
-        let report = vote_of(slots, place);
+    for place in 0..usize::from(slots.len()) {
+        let report = slots.vote_of(place);
         if is_above(report, greatest) {
             greatest = report;
         }

@@ -44,9 +44,9 @@ impl Model for Proposal {
 
     ghost Value = { InHand };
 
-    ghost view = { λ p. record { me = p.me; members = length p.slots.items; ballot = p.ballot; own = p.own; reports = p.slots.items; gathers = p.gathers; denied = p.denied; begun = p.begun; moved = p.moved } };
+    ghost view = { λ p. record { me = p.me; members = length p.slots; ballot = p.ballot; own = p.own; reports = p.slots; gathers = p.gathers; denied = p.denied; begun = p.begun; moved = p.moved } };
 
-    ghost invariant = { λ p. (length p.slots.items ≤ 15) × (p.me ≤ length p.slots.items) };
+    ghost invariant = { λ p. (length p.slots ≤ 15) × (p.me ≤ length p.slots) };
 }
 
 /// The greater of two ballots that may be none.

@@ -6,11 +6,11 @@ use Rattle.protocol.specs.Seats.{Seat}
 use Rattle.protocol.specs.Ballots.{Ballot, IsMember, IsNoneOrAtMost, next, is_same, is_below, is_majority}
 use Rattle.protocol.specs.Rows.{Tape, Vote, vote_for, Row, raised}
 use Rattle.protocol.specs.Packets.{Packet, Body, Prepare, Promise, Accept, Accepted, Nack}
-use Rattle.protocol.specs.Acceptor.{is_above, vote_is_at}
+use Rattle.protocol.specs.Acceptor.{is_above, is_at, vote_is_at}
 use Rattle.protocol.specs.Marks.{Mark, Began, Promised, Proposed, Heard}
 use Rattle.protocol.specs.Readings.{IsReleased, IsOpen, Gathers, IsCounted, Picks, IsDue}
 use Rattle.protocol.specs.Proposals.{begun, Opening, was_released, since_began, open_proposal, proposal_at, gathering_at, counted, is_counted, pick, denied, due_moment}
-use Rattle.protocol.specs.Turn.{Event, Offered, Sought, Came_due, Arrived, Note_silent, Turn, stays, settle, hear, propose, begin, start_turn, greater_ballot, renew, due_turn, prepare_turn, accept_turn, is_that, is_promised, promise_turn, nack_turn, accepted_turn, packet_turn, turn}
+use Rattle.protocol.specs.Turn.{Event, Offered, Sought, Came_due, Arrived, Note_silent, Turn, stays, settle, hear, propose, begin, start_turn, greater_ballot, renew, due_turn, prepare_turn, accept_turn, is_promised, promise_turn, nack_turn, accepted_turn, packet_turn, turn}
 use Rattle.protocol.specs.Table.{Hears, was_settled, waits, releases, Proposes, nothing, proposes, Begins, asks, alone, StartTurn, starts, IsGreater, DueTurn, is_idle, gives_up, begins_anew, PrepareTurn, promises, is_silent, VotedAt, AcceptTurn, votes_again, votes, PromiseTurn, is_stale, is_overtaken, is_repeated, counts, completes, NackTurn, is_denied, AcceptedTurn, settles, hears, AnswerTurn, IsTurn, IsSpent, TurnsAreOfTheTable}
 use Rattle.protocol.specs.Table as table
 use Rattle.protocol.specs.Learner.{ripe}
@@ -157,14 +157,14 @@ nack_is marks row p a (Some o) e =
     let (f, g) = proposal_is p.number p.ballot marks o e in
     is_denied o.own o.report (since_began p.number marks) (subst (λ (b : Ballot). IsOpen marks p.number b o.own o.report (since_began p.number marks)) f g.is_open) refl
 
-that_is : (r : Option Ballot) (b : Ballot) → is_that r b ≡ true → r ≡ Some b
+that_is : (r : Option Ballot) (b : Ballot) → is_at r b ≡ true → r ≡ Some b
 that_is None b e = absurd (false_true e)
   where
     false_true : false ≡ true → ⊥
     false_true e = cc
 that_is (Some a) b e = ap Some (is_same-true a b e)
 
-not_that : (r : Option Ballot) (b : Ballot) → is_that r b ≡ false → ¬ (r ≡ Some b)
+not_that : (r : Option Ballot) (b : Ballot) → is_at r b ≡ false → ¬ (r ≡ Some b)
 not_that None b e f = some_none (sym f)
 not_that (Some a) b e f = false_true (sym e ∙ is_same-self a b (some_same f))
   where

@@ -1,11 +1,11 @@
 -- The turn of a station, as a function: from what it took in, the row of the event's number and the event
 -- to the row that is saved, what it then has taken in, the packets that go out and the tape that is released.
-use Rattle.std.specs.Prelude.{ℕ, List, [], ◌∷◌, ◌++◌, Option, Some, None, Bool, false, ◌==◌, not, nat_le, filter, map, if◌then◌else◌}
+use Rattle.std.specs.Prelude.{ℕ, List, [], ◌∷◌, ◌++◌, Option, Some, None, Bool, ◌==◌, not, nat_le, filter, map, if◌then◌else◌}
 use Rattle.protocol.specs.Seats.{Seat}
-use Rattle.protocol.specs.Ballots.{Ballot, is_same, is_below, next, members, is_majority}
+use Rattle.protocol.specs.Ballots.{Ballot, is_below, next, members, is_majority}
 use Rattle.protocol.specs.Rows.{Tape, Vote, Row, raised, voted}
 use Rattle.protocol.specs.Packets.{Packet, Body, Prepare, Promise, Accept, Accepted, Nack}
-use Rattle.protocol.specs.Acceptor.{Reply, Prepares, Accepts, Promises, Nacks, Says_nothing, Votes, Votes_again, reply_of, next_row}
+use Rattle.protocol.specs.Acceptor.{Reply, Prepares, Accepts, Promises, Nacks, Says_nothing, Votes, Votes_again, reply_of, next_row, is_at}
 use Rattle.protocol.specs.Marks.{Mark, Began, Promised, Proposed, Denied, Heard, Closed, Released}
 use Rattle.protocol.specs.Proposals.{Opening, Counted, was_released, open_proposal, proposal_at, gathering_at, since_began, counted, is_counted, pick, begun, denied, is_due}
 use Rattle.protocol.specs.Learner.{ripe}
@@ -151,14 +151,9 @@ prepare_turn s marks row p = reply_turn s marks (next_row row (Prepares p.ballot
 abbrev pub accept_turn : Seat → List Mark → Row → Packet → Tape → Turn
 accept_turn s marks row p tape = reply_turn s marks (next_row row (Accepts p.ballot tape)) p (reply_of row (Accepts p.ballot tape))
 
--- there is a ballot, and it is b
-abbrev pub is_that : Option Ballot → Ballot → Bool
-is_that None b = false
-is_that (Some a) b = is_same a b
-
 -- the row's promise is b
 abbrev pub is_promised : Row → Ballot → Bool
-is_promised row b = is_that row.promised b
+is_promised row b = is_at row.promised b
 
 -- a promise is counted; where a majority is counted with it, its tape is proposed
 abbrev pub count_promise : Seat → ℕ → List Mark → Row → Packet → Option Vote → Opening → List Counted → Turn

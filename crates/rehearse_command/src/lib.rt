@@ -8,4 +8,4 @@ mod script;
 mod showing;
 
 pub use notes::NoteText;
-pub use rehearsing::{ScriptPaths, rehearse};
+pub use rehearsing::rehearse;

@@ -10,7 +10,7 @@ ghost use Rattle.rehearse_command.specs.Rehearsals.{Inputs, IsSetUpBy, IsStaged,
 use crate::script::{LineFault, Order, is_ignored, order_of};
 use crate::showing::put_scene;
 use code_table::CodeTable;
-use command_ends::{End, Fault, read_table, read_text, read_widths};
+use command_ends::{End, Fault, ScriptPaths, read_table, read_text, read_widths};
 use saved_rows::MemoryRows;
 use std::alloc::{AllocError, Global};
 use std::io::{Read, Write};
@@ -20,19 +20,12 @@ use world::{PlayFault, Step, World, WorldRefusal, circuit_in_memory};
 /// The number of the circuit that is rehearsed.
 const CIRCUIT: u16 = 7;
 
-/// Where the three files of `rehearse` are.
-#[derive(Clone, Copy)]
-pub struct ScriptPaths<'a> {
-    pub table: &'a str,
-    pub widths: &'a str,
-    pub script: &'a str,
-}
-
-/// A circuit that is rehearsed, and the moment that it has reached, in milliseconds.
+/// A circuit that is rehearsed, the moment that it has reached, in milliseconds, and room for the lines that are shown.
 #[derive(Drop)]
 struct Stage {
     world: World<MemoryRows>,
     now: u64,
+    text: String,
 }
 
 /// What each member sets tapes by.
@@ -72,7 +65,11 @@ fn stage_of<'a>(
         return Err(Fault::OutOfMemory);
     };
     match circuit_in_memory(alloc, CIRCUIT, members) {
-        Ok(world) => Ok(Stage { world, now: 0 }),
+        Ok(world) => Ok(Stage {
+            world,
+            now: 0,
+            text: String::new(alloc),
+        }),
         Err(PlayFault::BadCount) => Err(Fault::script(line, "bad line")),
         Err(PlayFault::OutOfMemory) => Err(Fault::OutOfMemory),
     }
@@ -120,6 +117,7 @@ fn show_step<'a, W: Write>(
     world: &mut World<MemoryRows>,
     step: &Step,
     line: usize,
+    text: &mut String,
     out: &mut W,
 ) -> Result<(), Fault<'a>>
     ensures goes_on { (by : Inputs) (start : Option (List ℕ)) → Stands by start (W.contents out.old) world.old → OnOk result (Stands by start (W.contents out.new) world.new) }
@@ -130,7 +128,7 @@ fn show_step<'a, W: Write>(
         Ok(seen) => {
             let (_, new_sent) = world.sent().split_at(sent);
             let (_, new_releases) = world.releases().split_at(released);
-            put_scene(alloc, &seen, sent, new_sent, new_releases, out)
+            put_scene(alloc, text, &seen, sent, new_sent, new_releases, out)
         }
         Err(refusal) => Err(fault_of(refusal, line)),
     }
@@ -153,7 +151,7 @@ impl Stage {
             return Ok(());
         }
         match step_of(order, self.now) {
-            Some(step) => show_step(alloc, &mut self.world, &step, line, out),
+            Some(step) => show_step(alloc, &mut self.world, &step, line, &mut self.text, out),
             None => Err(Fault::script(line, "bad line")),
         }
     }

@@ -17,12 +17,13 @@ use std::io::Write;
 use streams::put_all;
 use world::{Outcome, ReleaseLog, Seen};
 
-/// The line for what became of a member's step.
-fn outcome_line(alloc: Global, member: u8, outcome: Outcome) -> Result<String, AllocError>
-    ensures { IfOk result (λ t. string_bytes t ≡ outcome_line member outcome) }
+/// Makes `line` the line for what became of a member's step.
+fn outcome_line(line: &mut String, member: u8, outcome: Outcome) -> Result<(), AllocError>
+    ensures { OnOk result (string_bytes line.new ≡ outcome_line member outcome) }
 {
     let text = OutcomeText(outcome);
-    format!(in alloc; "{member} {text}\n")
+    line.clear();
+    write!(line, "{member} {text}\n")
 }
 
 /// The word for a packet's kind.
@@ -53,9 +54,9 @@ impl fmt::Display for RouteText {
     }
 }
 
-/// The line of the `k`-th packet ever sent.
-fn packet_line(alloc: Global, k: usize, packet: &PacketRef<'_>) -> Result<String, AllocError>
-    ensures { IfOk result (λ t. string_bytes t ≡ packet_line k packet.now) }
+/// Makes `line` the line of the `k`-th packet ever sent.
+fn packet_line(line: &mut String, k: usize, packet: &PacketRef<'_>) -> Result<(), AllocError>
+    ensures { OnOk result (string_bytes line.new ≡ packet_line k packet.now) }
 {
     let kind = kind_word(packet);
     let route = RouteText {
@@ -64,10 +65,11 @@ fn packet_line(alloc: Global, k: usize, packet: &PacketRef<'_>) -> Result<String
     };
     let number = packet.number().get();
     let ballot = BallotText(packet.ballot());
-    format!(in alloc; " #{k} {kind} {route} {number} {ballot}\n")
+    line.clear();
+    write!(line, " #{k} {kind} {route} {number} {ballot}\n")
 }
 
-/// Writes a line, if there was memory for it.
+/// Writes a line.
 fn put_line<'a, W: Write>(line: &str, out: &mut W) -> Result<(), Fault<'a>>
     ensures ok { OnOk result (Appends (W.contents out.old) (W.contents out.new) line.now) }
     ensures err { OnErr result (AppendsFront (W.contents out.old) (W.contents out.new) line.now) }
@@ -80,7 +82,7 @@ fn put_line<'a, W: Write>(line: &str, out: &mut W) -> Result<(), Fault<'a>>
 
 /// Writes what became of a member's step.
 fn put_outcome<'a, W: Write>(
-    alloc: Global,
+    line: &mut String,
     member: u8,
     outcome: Outcome,
     out: &mut W,
@@ -88,15 +90,15 @@ fn put_outcome<'a, W: Write>(
     ensures ok { OnOk result (Appends (W.contents out.old) (W.contents out.new) (outcome_line member outcome)) }
     ensures err { OnErr result (AppendsFront (W.contents out.old) (W.contents out.new) (outcome_line member outcome)) }
 {
-    match outcome_line(alloc, member, outcome) {
-        Ok(line) => put_line(&line, out),
+    match outcome_line(line, member, outcome) {
+        Ok(()) => put_line(line, out),
         Err(_) => Err(Fault::OutOfMemory),
     }
 }
 
 /// Writes the `k`-th datagram ever sent. Each spells a packet, for a station sent it.
 fn put_datagram<'a, W: Write>(
-    alloc: Global,
+    line: &mut String,
     k: usize,
     datagram: &Datagram,
     out: &mut W,
@@ -107,15 +109,15 @@ fn put_datagram<'a, W: Write>(
     let Ok(packet) = decode(datagram.bytes()) else {
         return Ok(());
     };
-    match packet_line(alloc, k, &packet) {
-        Ok(line) => put_line(&line, out),
+    match packet_line(line, k, &packet) {
+        Ok(()) => put_line(line, out),
         Err(_) => Err(Fault::OutOfMemory),
     }
 }
 
 /// Writes the datagrams that a step sent, before which so many were sent.
 fn put_datagrams<'a, W: Write>(
-    alloc: Global,
+    line: &mut String,
     before: usize,
     sent: &[Datagram],
     out: &mut W,
@@ -125,7 +127,7 @@ fn put_datagrams<'a, W: Write>(
     ensures err { OnErr result (AppendsFront (W.contents out.old) (W.contents out.new) (datagrams_text before sent.now)) }
 {
     for (index, datagram) in sent.iter().enumerate() {
-        put_datagram(alloc, before + index + 1, datagram, out)?;
+        put_datagram(line, before + index + 1, datagram, out)?;
     }
     Ok(())
 }
@@ -160,8 +162,11 @@ fn put_releases<'a, W: Write>(
 
 /// Writes all that is seen of a step, before which so many datagrams were sent: what it did, and the datagrams and the
 /// releases that it added. Where memory or the writer fails, a front of this text was written.
+///
+/// Each line but a release's is made in `line`, whose memory serves them all.
 pub fn put_scene<'a, W: Write>(
     alloc: Global,
+    line: &mut String,
     seen: &Seen,
     before: usize,
     sent: &[Datagram],
@@ -172,7 +177,7 @@ pub fn put_scene<'a, W: Write>(
     ensures ok { OnOk result (Appends (W.contents out.old) (W.contents out.new) (scene_text before (record { member = seen.now.member; outcome = seen.now.outcome; sent = sent.now; releases = releases.now }))) }
     ensures err { OnErr result (AppendsFront (W.contents out.old) (W.contents out.new) (scene_text before (record { member = seen.now.member; outcome = seen.now.outcome; sent = sent.now; releases = releases.now }))) }
 {
-    put_outcome(alloc, seen.member, seen.outcome, out)?;
-    put_datagrams(alloc, before, sent, out)?;
+    put_outcome(line, seen.member, seen.outcome, out)?;
+    put_datagrams(line, before, sent, out)?;
     put_releases(alloc, releases, out)
 }

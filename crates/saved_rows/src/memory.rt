@@ -8,13 +8,13 @@ use crate::fault::RowsFault;
 use crate::rows::Rows;
 use ballots::{Number, Row};
 use std::alloc::{AllocError, Global};
-use std::collections::BTreeMap;
+use std::collections::HashMap;
 use std::mem;
 
 /// Rows that last as long as the program. Clauses see the map `saved`.
 #[derive(Drop)]
 pub struct MemoryRows {
-    rows: BTreeMap<u32, Row>,
+    rows: HashMap<u32, Row>,
     refusals: u64,
     alloc: Global,
 }
@@ -28,7 +28,7 @@ impl MemoryRows {
         ensures refusals { result.refusals ≡ 0 }
     {
         MemoryRows {
-            rows: BTreeMap::new(alloc),
+            rows: HashMap::new(alloc),
             refusals: 0,
             alloc,
         }

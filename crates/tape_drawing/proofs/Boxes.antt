@@ -1,5 +1,5 @@
 -- The boxes of a slug, side by side.
-use Rattle.std.proofs.Common.{◌≡◌, ℕ, zero, suc, ◌+◌, ◌-◌, ◌*◌, ◌<◌, ◌≤◌, ◌/◌, Bool, true, false, cond, List, [], ◌∷◌, ◌++◌, length, Option, Some, None, refl, sym, subst, ap, ◌∙◌, arith}
+use Rattle.std.proofs.Common.{◌≡◌, ℕ, ◌+◌, ◌-◌, ◌*◌, ◌≤◌, ◌/◌, Bool, true, false, cond, List, [], ◌∷◌, ◌++◌, refl, sym, subst, ap, ◌∙◌, arith}
 use Rattle.std.specs.Prelude.{filter_map, sum_by, ◌==◌, decimal}
 use Rattle.std.proofs.Math.Nat.{div-mul-le_self, zero-div, mul-div_cancel_left}
 use Rattle.std.proofs.lemmas.Bool.{eqb-true}
@@ -9,15 +9,13 @@ use Rattle.std.proofs.lemmas.List.Elements.{filter_map-append}
 use Rattle.slug_reader.specs.declared.item.Rail.TheVariants as rails
 use Rattle.line_check.specs.declared.sort.Sort.{Sort}
 use Rattle.line_check.specs.declared.sort.Sort.TheVariants as sorts
-use Rattle.line_check.specs.declared.slug.Slug.{Slug}
 use Rattle.line_check.specs.Slugs.{sort_width}
 use Rattle.tape_drawing.specs.declared.elements.Look.{Look}
 use Rattle.tape_drawing.specs.declared.elements.Look.TheVariants as looks
 use Rattle.tape_drawing.specs.declared.labels.Room.{Room}
-use Rattle.tape_drawing.specs.Shapes.{Shape, Box, Upright, Turned}
+use Rattle.tape_drawing.specs.Shapes.{Shape, Upright, Turned}
 use Rattle.tape_drawing.specs.Labels.{name_shapes}
-use Rattle.tape_drawing.specs.Slugs.{edge, across, stretch, box_shapes, blank_shapes, sort_shapes, sorts_shapes, pieces_shapes, room_in}
-use Rattle.tape_drawing.specs.Castings.{IsFull}
+use Rattle.tape_drawing.specs.Slugs.{edge, stretch, box_shapes, blank_shapes, sort_shapes, sorts_shapes, room_in}
 use Rattle.tape_drawing.specs.Laws.{box_span, Tiles, BoxesAddUp}
 
 -- the boxes among elements

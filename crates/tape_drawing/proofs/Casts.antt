@@ -1,6 +1,6 @@
 -- What is cast fills its measure.
-use Rattle.std.proofs.Common.{◌≡◌, ℕ, zero, suc, ◌+◌, ◌<◌, ◌≤◌, Bool, true, false, cond, List, [], ◌∷◌, ◌++◌, length, take, Option, Some, None, refl, sym, subst, ap, ◌∙◌, arith}
-use Rattle.std.specs.Prelude.{filter, option_map, Ok, Err}
+use Rattle.std.proofs.Common.{◌≡◌, ℕ, zero, suc, ◌+◌, ◌<◌, ◌≤◌, Bool, true, false, cond, List, [], ◌∷◌, ◌++◌, length, Option, Some, None, refl, sym, ap, ◌∙◌, arith}
+use Rattle.std.specs.Prelude.{filter, option_map, Ok}
 use Rattle.std.specs.List.{AllByRecursion}
 use Rattle.std.proofs.lemmas.List.{length-map, length-append}
 use Rattle.tape_frames.specs.Frames.{most_frames}
@@ -16,7 +16,7 @@ use Rattle.line_check.specs.declared.fault.SetFault.{SetFault}
 use Rattle.line_check.specs.Slugs.{AreSlugs}
 use Rattle.line_check.specs.Laws.{AddsUp}
 use Rattle.line_check.specs.Sets.{Sets, fault_at, cause_at, set_fault_at, first_fault_before, first_fault, end_fault}
-use Rattle.tape_drawing.specs.Castings.{Cast, IsFull, IsFilled}
+use Rattle.tape_drawing.specs.Castings.{IsFull, IsFilled}
 
 are_full : AddsUp → (widths : WidthFile) (lines : List Line) (slugs : List Slug) → AreSlugs widths lines slugs → AllByRecursion (IsFull widths.measure) slugs
 are_full law widths [] [] are = tt

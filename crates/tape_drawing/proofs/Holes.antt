@@ -1,6 +1,6 @@
 -- The holes among the elements of a tape.
-use Rattle.std.proofs.Common.{◌≡◌, ℕ, ◌+◌, ◌*◌, Bool, true, false, cond, List, [], ◌∷◌, ◌++◌, length, Option, Some, None, refl, sym, ap, ◌∙◌, arith}
-use Rattle.std.specs.Prelude.{filter_map, flat_map, ◌==◌, nat_lt, nat_le}
+use Rattle.std.proofs.Common.{◌≡◌, ℕ, ◌+◌, Bool, true, false, cond, List, [], ◌∷◌, ◌++◌, length, refl, sym, ap, ◌∙◌, arith}
+use Rattle.std.specs.Prelude.{filter_map, flat_map, ◌==◌}
 use Rattle.std.proofs.lemmas.List.{append-nil}
 use Rattle.std.proofs.lemmas.List.Elements.{filter_map-append}
 use Rattle.tape_frames.specs.Holes.{hole_at, holes_of}
@@ -10,7 +10,7 @@ use Rattle.tape_drawing.specs.declared.elements.Place.{Place}
 use Rattle.tape_drawing.specs.declared.labels.Room.{Room}
 use Rattle.tape_drawing.specs.Shapes.{Shape, Hole, Feed, Paper, Upright, Turned}
 use Rattle.tape_drawing.specs.Labels.{meaning_word, name_shapes}
-use Rattle.tape_drawing.specs.Frames.{corner_of, hole_shapes, paper_shapes, number_shapes, room_below, column_shapes, frame_shapes}
+use Rattle.tape_drawing.specs.Frames.{corner_of, hole_shapes, paper_shapes, number_shapes, room_below, frame_shapes}
 use Rattle.tape_drawing.specs.Laws.{hole_place, level_places, punched, HolesArePunched}
 
 -- one element, or none

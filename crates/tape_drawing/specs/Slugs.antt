@@ -1,5 +1,5 @@
 -- The slugs: where each piece is drawn, and how wide. The measure of each is 800 units wide.
-use Rattle.std.specs.Prelude.{ℕ, ◌+◌, ◌*◌, ◌-◌, ◌/◌, List, [], ◌∷◌, ◌++◌, codes, decimal, sum_by, ◌==◌, if◌then◌else◌}
+use Rattle.std.specs.Prelude.{ℕ, ◌+◌, ◌*◌, ◌-◌, ◌/◌, List, [], ◌∷◌, ◌++◌, decimal, sum_by, ◌==◌, if◌then◌else◌}
 use Rattle.slug_reader.specs.declared.item.Rail.{Rail}
 use Rattle.slug_reader.specs.declared.item.Rail.TheVariants as rails
 use Rattle.line_check.specs.declared.sort.Sort.{Sort}

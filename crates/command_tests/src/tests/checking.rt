@@ -1,7 +1,7 @@
 //! The texts of galleys and faults, of the whole command.
 
-use check_command::{TapePaths, check};
-use command_ends::End;
+use check_command::check;
+use command_ends::{End, TapePaths};
 use fixtures::{CODES, FLOOD, HARVEST, LIGATURE, OVERSET, WIDTHS};
 use std::alloc::Global;
 use std::io::Read;

@@ -1,9 +1,9 @@
 //! The three inputs of `check` and of `rehearse`: which is read first, which can't be read, and which is too long.
 
-use check_command::{TapePaths, check};
-use command_ends::End;
+use check_command::check;
+use command_ends::{End, ScriptPaths, TapePaths};
 use fixtures::{CODES, WIDTHS};
-use rehearse_command::{ScriptPaths, rehearse};
+use rehearse_command::rehearse;
 use std::alloc::Global;
 use std::io;
 use std::io::{ErrorKind, Read};

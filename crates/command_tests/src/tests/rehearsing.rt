@@ -1,9 +1,9 @@
 //! Rehearsals: whole printed texts, and every fault of a script with its line.
 
 use crate::failing::Broken;
-use command_ends::End;
+use command_ends::{End, ScriptPaths};
 use fixtures::{CODES, WIDTHS};
-use rehearse_command::{ScriptPaths, rehearse};
+use rehearse_command::rehearse;
 use std::alloc::Global;
 use std::io;
 use std::io::Read;

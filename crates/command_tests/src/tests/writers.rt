@@ -3,10 +3,10 @@
 use crate::failing::Slow;
 use answer_command::answer;
 use ballots::Member;
-use check_command::{TapePaths, check};
-use command_ends::End;
+use check_command::check;
+use command_ends::{End, ScriptPaths, TapePaths};
 use fixtures::{CODES, HARVEST, WIDTHS};
-use rehearse_command::{ScriptPaths, rehearse};
+use rehearse_command::rehearse;
 use std::alloc::Global;
 use streams::put_all;
 

@@ -1,13 +1,12 @@
 -- A packet, by its body.
 use Rattle.std.proofs.Common.{sym, ap, subst, ◌∙◌}
 use Rattle.std.specs.Prelude.{MatchResult}
-use Rattle.protocol.specs.Rows.{Tape}
+use Rattle.std.proofs.lemmas.Result.{MatchResult-weaker, MatchResult-from_both}
 use Rattle.protocol.specs.Packets.{Body}
-use Rattle.protocol.specs.Turn.{packet_turn, accept_turn}
+use Rattle.protocol.specs.Turn.{packet_turn}
 use Rattle.packets.specs.Bodies.{said}
 use Rattle.node_core.specs.Handling.{IsTurnAlone}
 use Rattle.node_core.specs.Turns.{Stirs}
-use Rattle.node_core.proofs.Phases.{on_both}
 use Rattle.node_core.proofs.Accepting.{prepare_adds_none, voting_alone}
 use Rattle.node_core.proofs.settled.receive.Goals as goal
 
@@ -15,14 +14,13 @@ pub returns-in-Prepare-clause-turn : goal.returns-in-Prepare-clause-turn
 returns-in-Prepare-clause-turn c = λ now marks released.
     let turn = λ (y : Body). packet_turn c.args.seat now marks c.args.row.now c.args.packet.now y in
     let quiet = prepare_adds_none c.args.seat marks c.args.row.now c.args.packet.now in
-    subst (λ (y : Body). MatchResult c.prepare.result (λ x. IsTurnAlone c.args.row.now marks (turn y) x) (λ _. Stirs (turn y))) (sym (ap said c.in-Prepare.is) ∙ c.body.ensures.body)
-    (on_both c.prepare.result _ _ _ _ c.prepare.ensures.turn c.prepare.ensures.memory
+    subst (λ (y : Body). MatchResult c.prepare.result (λ x. IsTurnAlone c.args.row.now marks (turn y) x) (λ _. Stirs (turn y))) (sym (ap said c.in-Prepare.is) ∙ c.lend.ensures ∙ c.body.ensures.body)
+    (MatchResult-weaker c.prepare.result (MatchResult-from_both c.prepare.result _ _ c.prepare.ensures.turn c.prepare.ensures.memory)
     (λ x t. record { is_turn = t marks; takes_nothing = quiet.0; releases_nothing = (t marks).release ∙ quiet.1 })
     (λ _ stirs. stirs marks))
 
 pub returns-in_ok-turn-in-Accept-clause-turn : goal.returns-in_ok-turn-in-Accept-clause-turn
 returns-in_ok-turn-in-Accept-clause-turn c = λ now marks released.
     let x = c.in_ok-turn-in-Accept.field-0.turn in
-    subst (λ (y : Body). IsTurnAlone c.args.row.now marks (packet_turn c.args.seat now marks c.args.row.now c.args.packet.now y) x) (sym (ap said c.in-Accept.is) ∙ c.body.ensures.body)
-    (subst (λ (u : Tape). IsTurnAlone c.args.row.now marks (accept_turn c.args.seat marks c.args.row.now c.args.packet.now u) x) c.lend.ensures
-    (voting_alone c.args.seat c.args.row.now c.args.packet.now c.lend.result marks x c.in_ok-turn-in-Accept.field-0.vote c.in_ok-turn-in-Accept.ensures.voting released))
+    subst (λ (y : Body). IsTurnAlone c.args.row.now marks (packet_turn c.args.seat now marks c.args.row.now c.args.packet.now y) x) (sym (ap said c.in-Accept.is) ∙ c.lend.ensures ∙ c.body.ensures.body)
+    (voting_alone c.args.seat c.args.row.now c.args.packet.now c.in-Accept.tape marks x c.in_ok-turn-in-Accept.field-0.vote c.in_ok-turn-in-Accept.ensures.voting released)

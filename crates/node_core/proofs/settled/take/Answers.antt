@@ -1,5 +1,6 @@
 -- Each event's turn is that of the definitions.
 use Rattle.std.proofs.Common.{◌≡◌, sym, subst, refl, true}
+use Rattle.std.proofs.lemmas.Result.{MatchResult-from_err}
 use Rattle.protocol.specs.Proposals.{was_released}
 use Rattle.protocol.specs.Turn.{number_of}
 use Rattle.node_core.specs.declared.event.Event.{Event}
@@ -7,7 +8,7 @@ use Rattle.node_core.specs.Calls.{TurnIs}
 use Rattle.node_core.specs.Handling.{IsTurnAlone}
 use Rattle.node_core.specs.Turns.{event_value, Stirs}
 use Rattle.node_core.proofs.Calling.{came_due, packet_came}
-use Rattle.node_core.proofs.Phases.{on_err, idle_alone}
+use Rattle.node_core.proofs.Phases.{idle_alone}
 use Rattle.node_core.proofs.settled.take.Goals as goal
 
 pub returns-in-Due-clause-turn : goal.returns-in-Due-clause-turn
@@ -15,7 +16,7 @@ returns-in-Due-clause-turn c = λ marks released.
     subst (λ (y : Event). TurnIs c.args.seat y marks c.args.row.now (λ t. IsTurnAlone c.args.row.now marks t c.quiet.result)) (sym c.in-Due.is)
     (came_due c.args.seat c.in-Due.number c.in-Due.number c.in-Due.now marks c.args.row.now (λ t. IsTurnAlone c.args.row.now marks t c.quiet.result) refl
     (idle_alone c.args.seat c.in-Due.number c.in-Due.now marks c.args.row.now c.quiet.result (subst (λ (y : Event). was_released (number_of (event_value y)) marks ≡ true) c.in-Due.is released)
-    c.quiet.ensures.row c.quiet.ensures.mail c.quiet.ensures.release c.quiet.ensures.note))
+    c.quiet.ensures.nothing c.quiet.ensures.note))
 
 pub returns-in_ok-receive-in-Arrived-clause-turn : goal.returns-in_ok-receive-in-Arrived-clause-turn
 returns-in_ok-receive-in-Arrived-clause-turn c = λ marks released.
@@ -25,7 +26,7 @@ returns-in_ok-receive-in-Arrived-clause-turn c = λ marks released.
 
 pub returns-in_err-receive-in-Arrived-clause-turn : goal.returns-in_err-receive-in-Arrived-clause-turn
 returns-in_err-receive-in-Arrived-clause-turn c = λ marks released.
-    on_err c.from_residual.result _ _ c.from_residual.ensures.0
+    MatchResult-from_err c.from_residual.result _ _ c.from_residual.ensures.0
     (λ _ _.
     subst (λ (y : Event). TurnIs c.args.seat y marks c.args.row.now Stirs) (sym c.in-Arrived.is)
     (packet_came c.args.seat c.in-Arrived.packet c.in-Arrived.now marks c.args.row.now Stirs

@@ -1,8 +1,8 @@
 -- The lines of a Prepare: refused, promised already, or promised now.
 use Rattle.std.proofs.Common.{◌≡◌, refl, sym, ◌∙◌}
+use Rattle.std.proofs.lemmas.Result.{MatchResult-from_err}
 use Rattle.std.specs.Prelude.{option_copied}
 use Rattle.protocol.specs.Acceptor.{Promises, Says_nothing}
-use Rattle.node_core.proofs.Phases.{on_any_err}
 use Rattle.node_core.proofs.Accepting.{promising, promise_sent}
 use Rattle.node_core.proofs.Stirring.{prepare_stirs}
 use Rattle.node_core.proofs.voting.prepare.Goals as goal
@@ -22,4 +22,4 @@ returns-in_ok-after-in-Promise-clause-turn c = λ marks.
 pub returns-in_err-after-in-Promise-clause-memory : goal.returns-in_err-after-in-Promise-clause-memory
 returns-in_err-after-in-Promise-clause-memory c =
     let reply = rw c.ballot-ballot.ensures at (sym c.in-Promise.ensures.reply) in
-    on_any_err c.from_residual.result _ (λ marks. prepare_stirs c.args.seat marks c.args.row.now c.args.packet.now (λ e. let f : Promises (option_copied c.in-Promise._report) ≡ Says_nothing = sym reply ∙ e in cc))
+    MatchResult-from_err c.from_residual.result _ _ c.from_residual.ensures.0 (λ _ marks. prepare_stirs c.args.seat marks c.args.row.now c.args.packet.now (λ e. let f : Promises (option_copied c.in-Promise._report) ≡ Says_nothing = sym reply ∙ e in cc))

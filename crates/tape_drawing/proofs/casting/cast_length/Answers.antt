@@ -1,4 +1,4 @@
-use Rattle.std.proofs.Common.{◌≡◌, ◌+◌, true, false, sym, ◌∙◌, refl, arith}
+use Rattle.std.proofs.Common.{◌≡◌, ◌+◌, true, false, sym, ◌∙◌, arith}
 use Rattle.code_table.specs.Tables.{mean}
 use Rattle.slug_reader.specs.Lines.{is_cut}
 use Rattle.slug_reader.specs.Meanings.{case_at}

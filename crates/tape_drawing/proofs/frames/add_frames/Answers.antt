@@ -1,9 +1,8 @@
-use Rattle.std.proofs.Common.{◌≡◌, ◌+◌, ◌++◌, List, ℕ, sym, ◌∙◌, refl}
+use Rattle.std.proofs.Common.{sym, ◌∙◌}
 use Rattle.std.specs.Prelude.{flat_map}
 use Rattle.std.proofs.lemmas.List.{append-nil}
 use Rattle.code_table.specs.Tables.{mean}
 use Rattle.slug_reader.specs.Positions.{before}
-use Rattle.slug_reader.specs.Meanings.{case_at}
 use Rattle.tape_drawing.specs.Shapes.{text_of}
 use Rattle.tape_drawing.specs.Frames.{frame_shapes}
 use Rattle.tape_drawing.proofs.Looking.{case_start, case_more}

@@ -1,15 +1,16 @@
 -- The next ballot is begun.
 use Rattle.std.proofs.Common.{◌≡◌, refl, sym, ap, subst, ◌∙◌, ◌∷◌, Option, Some}
+use Rattle.std.proofs.lemmas.Result.{MatchResult-weaker}
 use Rattle.protocol.specs.Ballots.{Ballot, next}
 use Rattle.protocol.specs.Rows.{Vote}
 use Rattle.protocol.specs.Marks.{Began}
 use Rattle.proposer.specs.InHand.{StandsFor as ProposalStandsFor}
-use Rattle.node_core.proofs.Phases.{on_ok, next_above, one_more}
+use Rattle.node_core.proofs.Phases.{next_above, one_more}
 use Rattle.node_core.proofs.desk.Desk.begin.Goals as goal
 
 pub returns-clause-turn : goal.returns-clause-turn
 returns-clause-turn c =
-    on_ok c.begun.result _ _ c.begun.ensures.turn
+    MatchResult-weaker c.begun.result c.begun.ensures.turn
     (λ x took marks stands closed.
     let n = c.args.self.now.number in
     let b = c.ballot-ballot.result in
@@ -24,3 +25,4 @@ returns-clause-turn c =
       holds = took marks c.args.own (next_above c.args.row.now.promised c.args.seat.me b first)
           (one_more c.other_marks_pass.ensures c.args.self.now c.in-Ok.proposal (Began n b c.args.own c.args.row.now.vote c.args.now) marks refl refl stands begun);
     })
+    (λ _ _. tt)

@@ -1,5 +1,6 @@
 -- The lines of the due moment: idle, given up, or begun anew.
 use Rattle.std.proofs.Common.{refl, sym, ap, subst, ◌∙◌, ◌∷◌, Option}
+use Rattle.std.proofs.lemmas.Result.{MatchResult-weaker, MatchResult-from_err}
 use Rattle.protocol.specs.Rows.{Tape, Vote}
 use Rattle.protocol.specs.Marks.{Began, Closed}
 use Rattle.protocol.specs.Turn as said
@@ -7,7 +8,7 @@ use Rattle.proposer.specs.InHand.{StandsFor as ProposalStandsFor}
 use Rattle.proposer.specs.Answers.{IsDueAnswer}
 use Rattle.proposer.specs.declared.answer.DueAnswer.TheVariants as answers
 use Rattle.node_core.specs.Turns.{note_value}
-use Rattle.node_core.proofs.Phases.{on_ok_or, on_err, stays_so, not_due, gives_up, renews, renews_above, due_so, one_more, still, proposal_stands}
+use Rattle.node_core.proofs.Phases.{stays_so, not_due, gives_up, renews, renews_above, due_so, one_more, still, proposal_stands}
 use Rattle.node_core.proofs.Stirring.{due_stirs}
 use Rattle.node_core.proofs.desk.Desk.due.Goals as goal
 
@@ -15,7 +16,7 @@ pub returns-in_err-report-in-Some-clause-turn : goal.returns-in_err-report-in-So
 returns-in_err-report-in-Some-clause-turn c = λ marks stands.
     let p = proposal_stands c.args.self.now c.in-Some.proposal marks c.in-Some.is stands in
     let of = rw c.in-Some.is at c.requires.proposal in
-    on_err c.from_residual.result _ _ c.from_residual.ensures.0
+    MatchResult-from_err c.from_residual.result _ _ c.from_residual.ensures.0
     (λ _.
     due_stirs c.args.seat c.args.self.now.number c.args.now marks c.args.row.now
     (due_so c.args.self.now c.in-Some.proposal c.args.seat.me c.args.now c.due_moment-moment.result marks p of.0 (c.due_moment-moment.ensures.moment c.args.self.now.number marks p.opening p p.is_open) c.if-now-moment.false))
@@ -26,7 +27,7 @@ returns-in-Wait-clause-turn c = λ marks stands.
     let of = rw c.in-Some.is at c.requires.proposal in
     let answer = subst (λ m. IsDueAnswer answers.Wait m c.args.self.now.number c.args.now p.opening marks c.args.row.now) of.0 (rw c.in-Wait.is at (c.in_ok-due-in-Some.ensures.answer c.args.self.now.number marks p.opening c.args.row.now p p.is_open (sym c.promised.ensures.value))) in
     rw (not_due c.args.seat c.args.self.now.number c.args.now marks c.args.row.now p.opening p.is_open answer)
-    (stays_so c.args.row.now marks said.Note_idle c.quiet-in-Wait.result _ c.quiet-in-Wait.ensures.row c.quiet-in-Wait.ensures.mail c.quiet-in-Wait.ensures.release (rw c.quiet-in-Wait.ensures.note refl)
+    (stays_so c.quiet-in-Wait.ensures.nothing (rw c.quiet-in-Wait.ensures.note refl)
     (still c.args.self.now c.due.new.self marks stands (rw c.in-Wait.is at (c.in_ok-due-in-Some.ensures.stands c.args.self.now.number marks p))))
 
 pub returns-in-GaveUp-clause-turn : goal.returns-in-GaveUp-clause-turn
@@ -35,7 +36,7 @@ returns-in-GaveUp-clause-turn c = λ marks stands.
     let of = rw c.in-Some.is at c.requires.proposal in
     let answer = subst (λ m. IsDueAnswer answers.GaveUp m c.args.self.now.number c.args.now p.opening marks c.args.row.now) of.0 (rw c.in-GaveUp.is at (c.in_ok-due-in-Some.ensures.answer c.args.self.now.number marks p.opening c.args.row.now p p.is_open (sym c.promised.ensures.value))) in
     rw (gives_up c.args.seat c.args.self.now.number c.args.now marks c.args.row.now p.opening p.is_open answer.0 answer.1)
-    (stays_so c.args.row.now (Closed c.args.self.now.number ∷ marks) (said.Note_gave_up p.opening.ballot) c.close.result c.close.new.self c.close.ensures.row c.close.ensures.mail c.close.ensures.release (ap note_value c.close.ensures.note ∙ ap said.Note_gave_up (c.ballot-last.ensures.value ∙ p.its_ballot))
+    (stays_so (record { saves = c.close.ensures.row; sends = c.close.ensures.mail; releases = c.close.ensures.release }) (ap note_value c.close.ensures.note ∙ ap said.Note_gave_up (c.ballot-last.ensures.value ∙ p.its_ballot))
     (c.close.ensures.stands marks (still c.args.self.now c.due.new.self marks stands (rw c.in-GaveUp.is at (c.in_ok-due-in-Some.ensures.stands c.args.self.now.number marks p)))))
 
 pub returns-in-GaveUp-clause-of : goal.returns-in-GaveUp-clause-of
@@ -52,11 +53,11 @@ returns-in-Began-clause-turn c = λ marks stands.
     let answer = subst (λ m. IsDueAnswer (answers.Began b) m n c.args.now p.opening marks c.args.row.now) of.0 (rw c.in-Began.is at (c.in_ok-due-in-Some.ensures.answer n marks p.opening c.args.row.now p p.is_open (sym c.promised.ensures.value))) in
     let begun = subst (λ (o : Option Tape). ProposalStandsFor c.due.new.self n (Began n b o c.args.row.now.vote c.args.now ∷ marks)) p.its_own
     (subst (λ (r : Option Vote). ProposalStandsFor c.due.new.self n (Began n b c.in-Some.proposal.own r c.args.now ∷ marks)) (c.in_ok-report-in-Some.ensures ∙ c.vote.ensures.value) (rw c.in-Began.is at (c.in_ok-due-in-Some.ensures.stands n marks p))) in
-    on_ok_or c.begun.result _ _ _ c.begun.ensures.turn
+    MatchResult-weaker c.begun.result c.begun.ensures.turn
     (λ x h.
     rw (renews c.args.seat n c.args.now marks c.args.row.now p.opening b p.is_open answer.0 answer.1)
     (h marks p.opening.own (renews_above c.args.seat n c.args.now marks c.args.row.now b answer.1)
     (one_more c.other_marks_pass.ensures c.args.self.now c.due.new.self (Began n b p.opening.own c.args.row.now.vote c.args.now) marks refl refl stands begun)))
-    (λ _.
+    (λ _ _.
     due_stirs c.args.seat n c.args.now marks c.args.row.now
     (due_so c.args.self.now c.in-Some.proposal c.args.seat.me c.args.now c.due_moment-moment.result marks p of.0 (c.due_moment-moment.ensures.moment n marks p.opening p p.is_open) c.if-now-moment.false))

@@ -15,7 +15,7 @@ returns-then-nack-clause-turn c = λ row marks stands.
     let o = c.if-nack.ensures.kept c.args.self.now.number marks p in
     let at : proposal_at c.args.packet.now.number c.args.packet.now.ballot marks ≡ Some o.0 = rw (c.requires, ← c.ballot.ensures) o.1 in
     rw at
-    (stays_so row (Denied c.args.packet.now.number c.args.promised ∷ marks) (said.Note_denied c.args.promised) c.quiet-then-nack.result desk c.quiet-then-nack.ensures.row c.quiet-then-nack.ensures.mail c.quiet-then-nack.ensures.release (rw c.quiet-then-nack.ensures.note refl)
+    (stays_so c.quiet-then-nack.ensures.nothing (rw c.quiet-then-nack.ensures.note refl)
     (subst (λ n. DeskStands desk (Denied n c.args.promised ∷ marks)) (sym c.requires)
     (one_more c.other_marks_pass.ensures c.args.self.now c.nack.new.self (Denied c.args.self.now.number c.args.promised) marks refl refl stands (c.if-nack.ensures.stands c.args.self.now.number marks p))))
 
@@ -24,5 +24,5 @@ returns-else-nack-clause-turn c = λ row marks stands.
     let p = proposal_stands c.args.self.now c.in-Some.proposal marks c.in-Some.is stands in
     let none : proposal_at c.args.packet.now.number c.args.packet.now.ballot marks ≡ None = rw (c.requires, ← c.ballot.ensures) (c.if-nack.ensures.kept c.args.self.now.number marks p) in
     rw none
-    (stays_so row marks said.Note_stale c.quiet-else-nack.result _ c.quiet-else-nack.ensures.row c.quiet-else-nack.ensures.mail c.quiet-else-nack.ensures.release (rw c.quiet-else-nack.ensures.note refl)
+    (stays_so c.quiet-else-nack.ensures.nothing (rw c.quiet-else-nack.ensures.note refl)
     (still c.args.self.now c.nack.new.self marks stands (c.if-nack.ensures.stands c.args.self.now.number marks p)))

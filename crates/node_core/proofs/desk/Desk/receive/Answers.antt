@@ -1,13 +1,12 @@
 -- A packet, by its body.
 use Rattle.std.proofs.Common.{sym, ap, subst, ◌∙◌}
 use Rattle.std.specs.Prelude.{MatchResult}
-use Rattle.protocol.specs.Rows.{Tape}
+use Rattle.std.proofs.lemmas.Result.{MatchResult-weaker, MatchResult-from_both}
 use Rattle.protocol.specs.Packets.{Body}
-use Rattle.protocol.specs.Turn.{packet_turn, accepted_turn}
+use Rattle.protocol.specs.Turn.{packet_turn}
 use Rattle.packets.specs.Bodies.{said}
 use Rattle.node_core.specs.Standing.{Answers}
 use Rattle.node_core.specs.Turns.{Stirs}
-use Rattle.node_core.proofs.Phases.{on_both}
 use Rattle.node_core.proofs.Accepting.{prepare_adds_none}
 use Rattle.node_core.proofs.desk.Desk.receive.Goals as goal
 
@@ -18,19 +17,18 @@ pub returns-in-Prepare-clause-turn : goal.returns-in-Prepare-clause-turn
 returns-in-Prepare-clause-turn c = λ marks stands.
     let turn = λ (y : Body). packet_turn c.args.seat c.args.now marks c.args.row.now c.args.packet.now y in
     let quiet = prepare_adds_none c.args.seat marks c.args.row.now c.args.packet.now in
-    subst (λ (y : Body). MatchResult c.prepare.result (λ x. Answers c.args.row.now (turn y) x c.args.self.now) (λ _. Stirs (turn y))) (sym (ap said c.in-Prepare.is) ∙ c.body.ensures.body)
-    (on_both c.prepare.result _ _ _ _ c.prepare.ensures.turn c.prepare.ensures.memory
+    subst (λ (y : Body). MatchResult c.prepare.result (λ x. Answers c.args.row.now (turn y) x c.args.self.now) (λ _. Stirs (turn y))) (sym (ap said c.in-Prepare.is) ∙ c.lend.ensures ∙ c.body.ensures.body)
+    (MatchResult-weaker c.prepare.result (MatchResult-from_both c.prepare.result _ _ c.prepare.ensures.turn c.prepare.ensures.memory)
     (λ x t. record { is_turn = t marks; left = rw ((t marks).release ∙ quiet.1, quiet.0) stands })
     (λ _ stirs. stirs marks))
 
 pub returns-in-Accepted-clause-turn : goal.returns-in-Accepted-clause-turn
 returns-in-Accepted-clause-turn c = λ marks stands.
     let turn = λ (y : Body). packet_turn c.args.seat c.args.now marks c.args.row.now c.args.packet.now y in
-    subst (λ (y : Body). MatchResult c.accepted.result (λ x. Answers c.args.row.now (turn y) x c.accepted.new.self) (λ _. Stirs (turn y))) (sym (ap said c.in-Accepted.is) ∙ c.body.ensures.body)
-    (subst (λ (u : Tape). MatchResult c.accepted.result (λ x. Answers c.args.row.now (accepted_turn c.args.seat marks c.args.row.now c.args.packet.now u) x c.accepted.new.self) (λ _. Stirs (accepted_turn c.args.seat marks c.args.row.now c.args.packet.now u))) c.lend-in-Accepted.ensures
-    (c.accepted.ensures.turn c.args.row.now marks stands))
+    subst (λ (y : Body). MatchResult c.accepted.result (λ x. Answers c.args.row.now (turn y) x c.accepted.new.self) (λ _. Stirs (turn y))) (sym (ap said c.in-Accepted.is) ∙ c.lend.ensures ∙ c.body.ensures.body)
+    (c.accepted.ensures.turn c.args.row.now marks stands)
 
 pub returns-in-Nack-clause-turn : goal.returns-in-Nack-clause-turn
 returns-in-Nack-clause-turn c = λ marks stands.
-    subst (λ (y : Body). Answers c.args.row.now (packet_turn c.args.seat c.args.now marks c.args.row.now c.args.packet.now y) c.nack.result c.nack.new.self) (sym (ap said c.in-Nack.is) ∙ c.body.ensures.body)
+    subst (λ (y : Body). Answers c.args.row.now (packet_turn c.args.seat c.args.now marks c.args.row.now c.args.packet.now y) c.nack.result c.nack.new.self) (sym (ap said c.in-Nack.is) ∙ c.lend.ensures ∙ c.body.ensures.body)
     (c.nack.ensures.turn c.args.row.now marks stands)

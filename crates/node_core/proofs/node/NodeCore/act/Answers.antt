@@ -1,5 +1,6 @@
 -- What is in hand is acted on where it is.
 use Rattle.std.proofs.Common.{◌≡◌, ℕ, sym, ap, subst, ◌∙◌, List, Some}
+use Rattle.std.proofs.lemmas.Result.{MatchResult-weaker}
 use Rattle.std.specs.Ordering.{nat_cmp}
 use Rattle.std.specs.BTreeMap.{get}
 use Rattle.protocol.specs.Proposals.{was_released}
@@ -11,7 +12,6 @@ use Rattle.node_core.specs.Turns.{event_value, Stirs}
 use Rattle.node_core.proofs.Calling.{turn_so, refused_told}
 use Rattle.node_core.proofs.Growing.{grows}
 use Rattle.node_core.proofs.Keeping.{stands_there, Written, written, unwritten, in_place, settles}
-use Rattle.node_core.proofs.Phases.{on_match, if_err}
 use Rattle.node_core.proofs.node.NodeCore.act.Goals as goal
 
 pub returns-in-Some-clause-turn : goal.returns-in-Some-clause-turn
@@ -23,7 +23,7 @@ returns-in-Some-clause-turn c = λ marks h.
     let there = subst (λ n. Written c.self.inside.desks m n c.take.new.self) c.get.ensures.value (written c.self.inside.desks m c.get.result c.in-Some.desk.now c.take.new.self c.in-Some.ensures.value (c.get_mut.follows.holds c.take.new.self)) in
     let kept = subst (λ (v : Core). Kept v c.take.new.self after) c.self.view_is
     (in_place c.self.inside.seat.circuit c.self.inside.seat.me c.self.inside.seat.members c.self.inside.failed c.self.inside.released.keys c.self.inside.desks m c.args.number c.take.new.self there number) in
-    on_match c.take.result _ _ _ _ (c.take.ensures.turn marks s.1)
+    MatchResult-weaker c.take.result (c.take.ensures.turn marks s.1)
     (λ x t.
     subst (λ (z : Seat). TurnIs z c.args.event marks c.args.row.now (λ u. Settles c.args.number c.args.row.now u x after)) (ap seat_of c.self.view_is)
     (turn_so c.self.inside.seat c.args.event marks c.args.row.now _ _ t
@@ -38,7 +38,7 @@ pub returns-in-Some-clause-refused : goal.returns-in-Some-clause-refused
 returns-in-Some-clause-refused c =
     let m = c.get_mut.follows.lender c.take.new.self in
     let core = λ (es : List (ℕ × Desk)). (let v : Core = record { circuit = c.self.inside.seat.circuit; me = c.self.inside.seat.me; members = c.self.inside.seat.members; failed = c.self.inside.failed; desks = es; released = c.self.inside.released.keys } in v) in
-    if_err c.take.result _ _ c.take.ensures.refused
+    MatchResult-weaker c.take.result c.take.ensures.refused (λ _ _. tt)
     (λ e r.
     subst (λ i. IsRefused c.args.event e (core m.entries ≡ c.args.self.now) (StandsFor c.args.self.now) i c.args.row.now) (ap (λ (v : Core). v.me) c.self.view_is)
     (refused_told (c.take.new.self ≡ c.in-Some.desk.now) (core m.entries ≡ c.args.self.now) (DeskStands c.in-Some.desk.now) (StandsFor c.args.self.now)

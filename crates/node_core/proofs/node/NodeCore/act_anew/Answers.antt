@@ -1,6 +1,6 @@
 -- A released number's turn takes nothing in; of another what is then in hand is kept.
 use Rattle.std.proofs.Common.{◌≡◌, refl, sym, ap, subst, ◌∙◌, List, None, true, false}
-use Rattle.std.proofs.lemmas.Result.{err_from_is_err_and}
+use Rattle.std.proofs.lemmas.Result.{err_from_is_err_and, MatchResult-weaker, MatchResult-from_err}
 use Rattle.protocol.specs.Marks.{Mark}
 use Rattle.protocol.specs.Proposals.{was_released, open_proposal}
 use Rattle.protocol.specs.Turn.{number_of}
@@ -13,13 +13,12 @@ use Rattle.node_core.proofs.Calling.{turn_so, refused_told}
 use Rattle.node_core.proofs.Growing.{grows}
 use Rattle.node_core.proofs.Keeping.{new_stands, new_stirs, fresh_closed, settles, settles_alone}
 use Rattle.node_core.proofs.Stirring.{quiet_keeps}
-use Rattle.node_core.proofs.Phases.{on_match, on_err, if_err}
 use Rattle.node_core.proofs.node.NodeCore.act_anew.Goals as goal
 
 pub returns-then-released-clause-turn : goal.returns-then-released-clause-turn
 returns-then-released-clause-turn c = λ marks h.
     let released : was_released (number_of (event_value c.args.event)) marks ≡ true = ap (λ n. was_released n marks) c.requires.number ∙ sym (c.if-released.ensures.value marks h) in
-    on_match c.take.result _ _ _ _ (c.take.ensures.turn marks released)
+    MatchResult-weaker c.take.result (c.take.ensures.turn marks released)
     (λ x t.
     subst (λ (s : Seat). TurnIs s c.args.event marks c.args.row.now (λ u. Settles c.args.number c.args.row.now u x c.args.self.now)) (ap seat_of c.self.view_is)
     (turn_so c.self.inside.seat c.args.event marks c.args.row.now _ _ t (λ u is a. settles_alone c.args.self.now c.args.number c.args.row.now marks u x h a)))
@@ -27,7 +26,7 @@ returns-then-released-clause-turn c = λ marks h.
 
 pub returns-then-released-clause-refused : goal.returns-then-released-clause-refused
 returns-then-released-clause-refused c =
-    if_err c.take.result _ _ c.take.ensures.refused
+    MatchResult-weaker c.take.result c.take.ensures.refused (λ _ _. tt)
     (λ e r.
     subst (λ m. IsRefused c.args.event e (c.args.self.now ≡ c.args.self.now) (StandsFor c.args.self.now) m c.args.row.now) (ap (λ (v : Core). v.me) c.self.view_is)
     (refused_told (Unit {0}) (c.args.self.now ≡ c.args.self.now) (λ marks. was_released (number_of (event_value c.args.event)) marks ≡ true) (StandsFor c.args.self.now) (λ _. refl)
@@ -50,7 +49,7 @@ returns-in_err-turn-clause-refused c =
 pub returns-in_err-keep-clause-turn : goal.returns-in_err-keep-clause-turn
 returns-in_err-keep-clause-turn c = λ marks h.
     let stands = new_stands c.args.self.now c.self.inside.seat.members c.args.number c.new-desk.result marks c.requires.nothing (ap (λ (v : Core). v.members) c.self.view_is) c.new-desk.ensures.desk h (sym (c.if-released.ensures.value marks h)) in
-    on_err c.from_residual-in_err-keep.result _ _ c.from_residual-in_err-keep.ensures.0
+    MatchResult-from_err c.from_residual-in_err-keep.result _ _ c.from_residual-in_err-keep.ensures.0
     (λ _ _.
     subst (λ (s : Seat). TurnIs s c.args.event marks c.args.row.now Stirs) (ap seat_of c.self.view_is)
     (turn_so c.self.inside.seat c.args.event marks c.args.row.now _ _ (c.in_ok-turn.ensures.turn marks stands)

@@ -1,10 +1,9 @@
 -- The number is settled.
 use Rattle.std.proofs.Common.{sym, subst, ◌∙◌, None}
 use Rattle.std.specs.Prelude.{if◌then◌else◌}
-use Rattle.std.proofs.lemmas.Result.{err_from_is_err_and}
+use Rattle.std.proofs.lemmas.Result.{err_from_is_err_and, MatchResult-from_err}
 use Rattle.node_core.specs.Standing.{Moves, desk_at, seat_of}
 use Rattle.node_core.proofs.Calling.{turn_so, released_stirs}
-use Rattle.node_core.proofs.Phases.{if_any_err}
 use Rattle.node_core.proofs.node.NodeCore.take_turn.Goals as goal
 
 pub returns-clause-ok : goal.returns-clause-ok
@@ -22,7 +21,7 @@ returns-clause-ok c = λ marks h.
 
 pub returns-in_err-settle-clause-memory : goal.returns-in_err-settle-clause-memory
 returns-in_err-settle-clause-memory c =
-    if_any_err c.from_residual-in_err-settle.result _
+    MatchResult-from_err c.from_residual-in_err-settle.result _ _ c.from_residual-in_err-settle.ensures.0
     (λ _ _ marks h.
     turn_so (seat_of c.args.self.now) c.args.event marks c.args.row.now _ _ (c.in_ok-turn.ensures.turn marks h)
     (λ t is settles. released_stirs c.args.row.now t c.in_ok-turn.turn settles.is_turn c.in_ok-turn.ensures.orderly.quiet (sym c.is_some.ensures ∙ c.in_err-settle.ensures.memory)))

@@ -12,17 +12,17 @@ use Rattle.proposer.proofs.proposal.Proposal.promise.Goals as goal
 pub returns-then-not-is_new-clause-kind : goal.returns-then-not-is_new-clause-kind
 returns-then-not-is_new-clause-kind c = λ n marks h.
     let gathers : c.self.inside.gathers && is_same c.self.inside.ballot c.args.ballot ≡ true = ap (λ (q : InHand). q.gathers && is_same q.ballot c.args.ballot) c.self.view_is ∙ sym c.gathers_at.ensures.value ∙ c.if-not-gathers_at.false in
-    let many : length c.self.inside.slots.items ≡ c.args.self.now.members = ap (λ (q : InHand). q.members) c.self.view_is in
-    let member : IsMember (length c.self.inside.slots.items) c.args.from = (omega (arith, c.get-range.ensures), omega (arith, many)) in
+    let many : length c.self.inside.slots ≡ c.args.self.now.members = ap (λ (q : InHand). q.members) c.self.view_is in
+    let member : IsMember (length c.self.inside.slots) c.args.from = (omega (arith, c.get-range.ensures), omega (arith, many)) in
     subst (λ (q : InHand). IsRepeated q.me n c.args.ballot c.args.from marks) c.self.view_is
     (is_repeated _ n marks (opened c.self.view_is h) c.args.ballot gathers c.args.from member c.slots_of_members.ensures.read (was_counted _ c.in_ok-is_new.is_new c.in_ok-is_new.ensures.new c.if-not-is_new.true))
 
 pub returns-in_err-is_new-clause-err_where_new : goal.returns-in_err-is_new-clause-err_where_new
 returns-in_err-is_new-clause-err_where_new c = on_err c.from_residual.result (λ n marks h.
     let gathers : c.self.inside.gathers && is_same c.self.inside.ballot c.args.ballot ≡ true = ap (λ (q : InHand). q.gathers && is_same q.ballot c.args.ballot) c.self.view_is ∙ sym c.gathers_at.ensures.value ∙ c.if-not-gathers_at.false in
-    let many : length c.self.inside.slots.items ≡ c.args.self.now.members = ap (λ (q : InHand). q.members) c.self.view_is in
-    let member : IsMember (length c.self.inside.slots.items) c.args.from = (omega (arith, c.get-range.ensures), omega (arith, many)) in
-    let new : is_some (report_at c.self.inside.slots.items c.args.from) ≡ false =
+    let many : length c.self.inside.slots ≡ c.args.self.now.members = ap (λ (q : InHand). q.members) c.self.view_is in
+    let member : IsMember (length c.self.inside.slots) c.args.from = (omega (arith, c.get-range.ensures), omega (arith, many)) in
+    let new : is_some (report_at c.self.inside.slots c.args.from) ≡ false =
     only_not_counted _ (λ e. let taken = c.count_once.ensures.no_memory e in let refused = c.in_err-is_new.was in let bad : false ≡ true = rw refused at taken in cc) in
     subst (λ (q : InHand). IsNew q.me n c.args.ballot c.args.from marks) c.self.view_is
     (is_new _ n marks (opened c.self.view_is h) c.args.ballot gathers c.args.from member c.slots_of_members.ensures.read new))
@@ -30,39 +30,39 @@ returns-in_err-is_new-clause-err_where_new c = on_err c.from_residual.result (λ
 pub returns-then-not-is_quorum-clause-kind : goal.returns-then-not-is_quorum-clause-kind
 returns-then-not-is_quorum-clause-kind c = λ n marks h.
     let gathers : c.self.inside.gathers && is_same c.self.inside.ballot c.args.ballot ≡ true = ap (λ (q : InHand). q.gathers && is_same q.ballot c.args.ballot) c.self.view_is ∙ sym c.gathers_at.ensures.value ∙ c.if-not-gathers_at.false in
-    let many : length c.self.inside.slots.items ≡ c.args.self.now.members = ap (λ (q : InHand). q.members) c.self.view_is in
-    let member : IsMember (length c.self.inside.slots.items) c.args.from = (omega (arith, c.get-range.ensures), omega (arith, many)) in
-    let new : is_some (report_at c.self.inside.slots.items c.args.from) ≡ false = was_not_counted _ c.in_ok-is_new.is_new c.in_ok-is_new.ensures.new c.if-not-is_new.false in
-    let counts : c.count_once.new.slots.items ≡ set c.self.inside.slots.items (c.args.from - 1) (Some c.args.report) = rw c.if-not-is_new.false at c.in_ok-is_new.ensures.slots in
+    let many : length c.self.inside.slots ≡ c.args.self.now.members = ap (λ (q : InHand). q.members) c.self.view_is in
+    let member : IsMember (length c.self.inside.slots) c.args.from = (omega (arith, c.get-range.ensures), omega (arith, many)) in
+    let new : is_some (report_at c.self.inside.slots c.args.from) ≡ false = was_not_counted _ c.in_ok-is_new.is_new c.in_ok-is_new.ensures.new c.if-not-is_new.false in
+    let counts : c.count_once.new.slots ≡ set c.self.inside.slots (c.args.from - 1) (Some c.args.report) = rw c.if-not-is_new.false at c.in_ok-is_new.ensures.slots in
     subst (λ (q : InHand). (x : IsNew q.me n c.args.ballot c.args.from marks) × (completes q.members q.me n c.args.ballot c.args.from c.args.report marks x.opening ≡ false)) c.self.view_is
-    (is_quorum_now _ n marks (opened c.self.view_is h) c.args.ballot gathers c.args.from member c.slots_of_members.ensures.read c.slots_of_members.ensures.set c.slots_of_members.ensures.many c.args.report new c.deref.result.now (c.deref.ensures.0 ∙ counts) c.slots_of_members.ensures.count false
+    (is_quorum_now _ n marks (opened c.self.view_is h) c.args.ballot gathers c.args.from member c.slots_of_members.ensures.read c.slots_of_members.ensures.set c.slots_of_members.ensures.many c.args.report new c.count_once.new.slots counts c.slots_of_members.ensures.count false
     (sym c.is_quorum.ensures ∙ c.if-not-is_quorum.true))
 
 pub returns-then-not-is_quorum-clause-stands : goal.returns-then-not-is_quorum-clause-stands
 returns-then-not-is_quorum-clause-stands c = λ n marks h.
     let gathers : c.self.inside.gathers && is_same c.self.inside.ballot c.args.ballot ≡ true = ap (λ (q : InHand). q.gathers && is_same q.ballot c.args.ballot) c.self.view_is ∙ sym c.gathers_at.ensures.value ∙ c.if-not-gathers_at.false in
-    let many : length c.self.inside.slots.items ≡ c.args.self.now.members = ap (λ (q : InHand). q.members) c.self.view_is in
-    let member : IsMember (length c.self.inside.slots.items) c.args.from = (omega (arith, c.get-range.ensures), omega (arith, many)) in
-    let new : is_some (report_at c.self.inside.slots.items c.args.from) ≡ false = was_not_counted _ c.in_ok-is_new.is_new c.in_ok-is_new.ensures.new c.if-not-is_new.false in
-    let counts : c.count_once.new.slots.items ≡ set c.self.inside.slots.items (c.args.from - 1) (Some c.args.report) = rw c.if-not-is_new.false at c.in_ok-is_new.ensures.slots in
-    stands_after _ n marks (opened c.self.view_is h) c.args.ballot gathers c.args.from member c.slots_of_members.ensures.read c.slots_of_members.ensures.set c.slots_of_members.ensures.many c.args.report new c.count_once.new.slots.items counts
+    let many : length c.self.inside.slots ≡ c.args.self.now.members = ap (λ (q : InHand). q.members) c.self.view_is in
+    let member : IsMember (length c.self.inside.slots) c.args.from = (omega (arith, c.get-range.ensures), omega (arith, many)) in
+    let new : is_some (report_at c.self.inside.slots c.args.from) ≡ false = was_not_counted _ c.in_ok-is_new.is_new c.in_ok-is_new.ensures.new c.if-not-is_new.false in
+    let counts : c.count_once.new.slots ≡ set c.self.inside.slots (c.args.from - 1) (Some c.args.report) = rw c.if-not-is_new.false at c.in_ok-is_new.ensures.slots in
+    stands_after _ n marks (opened c.self.view_is h) c.args.ballot gathers c.args.from member c.slots_of_members.ensures.read c.slots_of_members.ensures.set c.slots_of_members.ensures.many c.args.report new c.count_once.new.slots counts
 
 pub returns-clause-kind : goal.returns-clause-kind
 returns-clause-kind c = λ n marks h.
     let gathers : c.self.inside.gathers && is_same c.self.inside.ballot c.args.ballot ≡ true = ap (λ (q : InHand). q.gathers && is_same q.ballot c.args.ballot) c.self.view_is ∙ sym c.gathers_at.ensures.value ∙ c.if-not-gathers_at.false in
-    let many : length c.self.inside.slots.items ≡ c.args.self.now.members = ap (λ (q : InHand). q.members) c.self.view_is in
-    let member : IsMember (length c.self.inside.slots.items) c.args.from = (omega (arith, c.get-range.ensures), omega (arith, many)) in
-    let new : is_some (report_at c.self.inside.slots.items c.args.from) ≡ false = was_not_counted _ c.in_ok-is_new.is_new c.in_ok-is_new.ensures.new c.if-not-is_new.false in
-    let counts : c.count_once.new.slots.items ≡ set c.self.inside.slots.items (c.args.from - 1) (Some c.args.report) = rw c.if-not-is_new.false at c.in_ok-is_new.ensures.slots in
+    let many : length c.self.inside.slots ≡ c.args.self.now.members = ap (λ (q : InHand). q.members) c.self.view_is in
+    let member : IsMember (length c.self.inside.slots) c.args.from = (omega (arith, c.get-range.ensures), omega (arith, many)) in
+    let new : is_some (report_at c.self.inside.slots c.args.from) ≡ false = was_not_counted _ c.in_ok-is_new.is_new c.in_ok-is_new.ensures.new c.if-not-is_new.false in
+    let counts : c.count_once.new.slots ≡ set c.self.inside.slots (c.args.from - 1) (Some c.args.report) = rw c.if-not-is_new.false at c.in_ok-is_new.ensures.slots in
     subst (λ (q : InHand). (x : IsNew q.me n c.args.ballot c.args.from marks) × (completes q.members q.me n c.args.ballot c.args.from c.args.report marks x.opening ≡ true)) c.self.view_is
-    (is_quorum_now _ n marks (opened c.self.view_is h) c.args.ballot gathers c.args.from member c.slots_of_members.ensures.read c.slots_of_members.ensures.set c.slots_of_members.ensures.many c.args.report new c.deref.result.now (c.deref.ensures.0 ∙ counts) c.slots_of_members.ensures.count true
+    (is_quorum_now _ n marks (opened c.self.view_is h) c.args.ballot gathers c.args.from member c.slots_of_members.ensures.read c.slots_of_members.ensures.set c.slots_of_members.ensures.many c.args.report new c.count_once.new.slots counts c.slots_of_members.ensures.count true
     (sym c.is_quorum.ensures ∙ c.if-not-is_quorum.false))
 
 pub returns-clause-stands : goal.returns-clause-stands
 returns-clause-stands c = λ n marks h.
     let gathers : c.self.inside.gathers && is_same c.self.inside.ballot c.args.ballot ≡ true = ap (λ (q : InHand). q.gathers && is_same q.ballot c.args.ballot) c.self.view_is ∙ sym c.gathers_at.ensures.value ∙ c.if-not-gathers_at.false in
-    let many : length c.self.inside.slots.items ≡ c.args.self.now.members = ap (λ (q : InHand). q.members) c.self.view_is in
-    let member : IsMember (length c.self.inside.slots.items) c.args.from = (omega (arith, c.get-range.ensures), omega (arith, many)) in
-    let new : is_some (report_at c.self.inside.slots.items c.args.from) ≡ false = was_not_counted _ c.in_ok-is_new.is_new c.in_ok-is_new.ensures.new c.if-not-is_new.false in
-    let counts : c.count_once.new.slots.items ≡ set c.self.inside.slots.items (c.args.from - 1) (Some c.args.report) = rw c.if-not-is_new.false at c.in_ok-is_new.ensures.slots in
-    stands_after _ n marks (opened c.self.view_is h) c.args.ballot gathers c.args.from member c.slots_of_members.ensures.read c.slots_of_members.ensures.set c.slots_of_members.ensures.many c.args.report new c.count_once.new.slots.items counts
+    let many : length c.self.inside.slots ≡ c.args.self.now.members = ap (λ (q : InHand). q.members) c.self.view_is in
+    let member : IsMember (length c.self.inside.slots) c.args.from = (omega (arith, c.get-range.ensures), omega (arith, many)) in
+    let new : is_some (report_at c.self.inside.slots c.args.from) ≡ false = was_not_counted _ c.in_ok-is_new.is_new c.in_ok-is_new.ensures.new c.if-not-is_new.false in
+    let counts : c.count_once.new.slots ≡ set c.self.inside.slots (c.args.from - 1) (Some c.args.report) = rw c.if-not-is_new.false at c.in_ok-is_new.ensures.slots in
+    stands_after _ n marks (opened c.self.view_is h) c.args.ballot gathers c.args.from member c.slots_of_members.ensures.read c.slots_of_members.ensures.set c.slots_of_members.ensures.many c.args.report new c.count_once.new.slots counts

@@ -1,0 +1,17 @@
+//! Where the files are that a command is given.
+
+/// Where a code table, a width file and a tape are.
+#[derive(Clone, Copy)]
+pub struct TapePaths<'a> {
+    pub table: &'a str,
+    pub widths: &'a str,
+    pub tape: &'a str,
+}
+
+/// Where a code table, a width file and a script are.
+#[derive(Clone, Copy)]
+pub struct ScriptPaths<'a> {
+    pub table: &'a str,
+    pub widths: &'a str,
+    pub script: &'a str,
+}

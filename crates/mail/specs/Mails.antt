@@ -1,0 +1,51 @@
+-- What goes out with a turn.
+use Rattle.std.specs.Prelude.{◌≡◌, ◌≤◌, ℕ, List, [], ◌∷◌, ◌++◌, Option, Some, None, IsTrue, length, if◌then◌else◌}
+use Rattle.protocol.specs.Ballots.{Ballot, is_below}
+use Rattle.protocol.specs.Rows.{Tape, Vote}
+use Rattle.protocol.specs.Packets.{Packet, Prepare, Promise, Accept, Accepted, Nack}
+use Rattle.protocol.specs.Turn.{packet_to, to_others}
+use Rattle.packets.specs.Rules.{keeps_rules}
+use Rattle.protocol.specs.Seats.{Seat}
+use Rattle.mail.specs.declared.letter.Letter.{Letter}
+use Rattle.mail.specs.declared.letter.Letter.TheVariants as letters
+
+-- from which seat it goes out, about which number, at which ballot, and what it says to whom
+pub record Mail : Type 0 where
+  pub seat : Seat
+  pub number : ℕ
+  pub ballot : Ballot
+  pub letter : Letter
+
+-- the vote, where it is below the ballot
+abbrev pub vote_below : Ballot → Option Vote → Option Vote
+vote_below b None = None
+vote_below b (Some v) = if is_below v.ballot b then Some v else None
+
+-- the packets that carry the vote's tape; where there is no vote, none
+abbrev pub of_tape : (Tape → List Packet) → Option Vote → List Packet
+of_tape packets None = []
+of_tape packets (Some v) = packets v.tape
+
+-- what goes out, where this is the vote of the row after the turn
+abbrev pub letter_sends : Seat → ℕ → Ballot → Option Vote → Letter → List Packet
+letter_sends s n b vote letters.Prepare = to_others s n b Prepare
+letter_sends s n b vote letters.Proposal = of_tape (λ tape. to_others s n b (Accept tape) ++ to_others s n b (Accepted tape)) vote
+letter_sends s n b vote letters.Vote = of_tape (λ tape. to_others s n b (Accepted tape)) vote
+letter_sends s n b vote (letters.Promise to) = packet_to s n b (Promise (vote_below b vote)) to ∷ []
+letter_sends s n b vote (letters.Nack to promised) = packet_to s n b (Nack promised) to ∷ []
+
+abbrev pub mail_sends : Option Mail → Option Vote → List Packet
+mail_sends None vote = []
+mail_sends (Some m) vote = letter_sends m.seat m.number m.ballot vote m.letter
+
+-- its packets keep the rules of packets
+abbrev pub MayGo : Seat → ℕ → Ballot → Letter → Type 0
+MayGo s n b letters.Prepare = b.owner ≡ s.me
+MayGo s n b letters.Proposal = b.owner ≡ s.me
+MayGo s n b letters.Vote = Unit {0}
+MayGo s n b (letters.Promise to) = IsTrue (keeps_rules (packet_to s n b (Promise None) to))
+MayGo s n b (letters.Nack to promised) = IsTrue (keeps_rules (packet_to s n b (Nack promised) to))
+
+-- two packets go out to each of 14 others at most
+abbrev pub IsFew : Option Mail → Type 0
+IsFew mail = (vote : Option Vote) → length (mail_sends mail vote) ≤ 28
