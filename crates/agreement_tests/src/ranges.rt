@@ -1,10 +1,8 @@
 //! Members, numbers, ballots, majorities and saved rows.
 
-use crate::rows::{At, Frames, ballot, parts};
+use crate::rows::{Agreed, At, FLOOD, LONGEST, VOID, ballot, is_entry, owned, parts};
 use ballots::{Ballot, Member, Number, Row, Vote, majority};
-use fixtures::{FLOOD, LONGEST};
 use std::alloc::Global;
-use tape_frames::Tape;
 
 const MEMBERS: &[(u8, bool)] = &[(0, false), (15, true), (16, false)];
 
@@ -108,10 +106,10 @@ fn majorities(rt: HostRuntime) {
     }
 }
 
-/// A copy of a vote for this tape at 1.1, and of the copy, lent.
-fn vote(alloc: Global, frames: Frames) -> Option<Vote> {
-    let tape = Tape::from_bytes(alloc, frames).ok()?;
-    let copy = Vote::new(ballot((1, 1))?, tape).copy(alloc).ok()?;
+/// A copy of a vote for this entry at 1.1, and of the copy, lent.
+fn vote(alloc: Global, agreed: Agreed) -> Option<Vote> {
+    let entry = owned(alloc, agreed)?;
+    let copy = Vote::new(ballot((1, 1))?, entry).copy(alloc).ok()?;
     copy.lend().copy(alloc).ok()
 }
 
@@ -124,31 +122,33 @@ fn is_refused(alloc: Global) -> bool {
 }
 
 /// A copy of the row with the vote and a promise of 1.3.
-fn row(alloc: Global, frames: Frames) -> Option<Row> {
-    let row = Row::new(Some(ballot((1, 3))?), Some(vote(alloc, frames)?))?;
+fn row(alloc: Global, agreed: Agreed) -> Option<Row> {
+    let row = Row::new(Some(ballot((1, 3))?), Some(vote(alloc, agreed)?))?;
     row.copy(alloc).ok()
 }
 
 /// Whether that row has this promise, and the vote at this ballot.
-fn holds(alloc: Global, frames: Frames, promised: At, voted: At) -> bool {
-    let Some(row) = row(alloc, frames) else {
+fn holds(alloc: Global, agreed: Agreed, promised: At, voted: At) -> bool {
+    let Some(row) = row(alloc, agreed) else {
         return false;
     };
     let vote_stands = match row.vote() {
         None => false,
-        Some(vote) => parts(vote.ballot()) == voted && vote.tape().frames() == frames,
+        Some(vote) => parts(vote.ballot()) == voted && is_entry(&vote.entry(), agreed),
     };
     vote_stands && row.promised().map(parts) == Some(promised)
 }
 
+const VOTED: &[(&str, Agreed)] = &[
+    ("the flood story", FLOOD),
+    ("the longest tape", LONGEST),
+    ("a withdrawal", VOID),
+];
+
 #[test]
 fn saved_rows(rt: HostRuntime) {
     assert!(rt; is_refused(rt.alloc()));
-    for frames in &[FLOOD, LONGEST] {
-        assert!(rt;
-            holds(rt.alloc(), frames, (1, 3), (1, 1)),
-            "{}",
-            frames.len()
-        );
+    for (name, agreed) in VOTED {
+        assert!(rt; holds(rt.alloc(), *agreed, (1, 3), (1, 1)), "{name}");
     }
 }

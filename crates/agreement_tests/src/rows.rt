@@ -1,12 +1,58 @@
 //! What stands in the rows of the tables.
 
 use ballots::{Ballot, Member};
+use std::alloc::Global;
+use tape_frames::{Entry, EntryRef, Tape, TapeRef};
 
 /// A ballot: its round and its owner.
 pub type At = (u32, u8);
 
-/// The frames of a tape.
-pub type Frames = &'static [u8];
+/// What is agreed on: the frames of a tape, or that the number is withdrawn.
+#[derive(Clone, Copy)]
+pub enum Agreed {
+    Tape(&'static [u8]),
+    Void,
+}
+
+pub const FLOOD: Agreed = Agreed::Tape(fixtures::FLOOD);
+
+pub const LIGATURE: Agreed = Agreed::Tape(fixtures::LIGATURE);
+
+pub const HARVEST: Agreed = Agreed::Tape(fixtures::HARVEST);
+
+pub const LONGEST: Agreed = Agreed::Tape(fixtures::LONGEST);
+
+pub const VOID: Agreed = Agreed::Void;
+
+/// The entry of a row, its frames lent.
+pub fn lent(agreed: Agreed) -> Option<EntryRef<'static>> {
+    match agreed {
+        Agreed::Void => Some(EntryRef::Void),
+        Agreed::Tape(frames) => match TapeRef::from_bytes(frames) {
+            Ok(tape) => Some(EntryRef::Plain(tape)),
+            Err(_) => None,
+        },
+    }
+}
+
+/// The entry of a row, with frames of its own.
+pub fn owned(alloc: Global, agreed: Agreed) -> Option<Entry> {
+    match agreed {
+        Agreed::Void => Some(Entry::Void),
+        Agreed::Tape(frames) => match Tape::from_bytes(alloc, frames) {
+            Ok(tape) => Some(Entry::Tape(tape)),
+            Err(_) => None,
+        },
+    }
+}
+
+/// Whether the entry is that of the row.
+pub fn is_entry(entry: &EntryRef<'_>, agreed: Agreed) -> bool {
+    match lent(agreed) {
+        Some(other) => entry.same(other),
+        None => false,
+    }
+}
 
 /// The ballot of a row.
 pub fn ballot(at: At) -> Option<Ballot> {

@@ -2,6 +2,7 @@
 use Rattle.std.proofs.Common.{◌≡◌, ℕ, List, [], ◌∷◌, ◌++◌, true, false, cond, eqb, Result, Ok, Err, refl, ap, sym, ◌∙◌}
 use Rattle.std.specs.Prelude.{OnOk}
 use Rattle.std.proofs.lemmas.Bool.{eqb-true}
+use Rattle.protocol.specs.Versions.{Version}
 use Rattle.protocol.specs.Rows.{Row}
 use Rattle.protocol.specs.Acceptor.{Request, Reply, row_after, reply_after, reply_of, next_row, StepsAreOfTheWhole}
 use Rattle.saved_rows.specs.Saved.{WithRow}
@@ -20,14 +21,14 @@ requests_for-more n (h ∷ hs) k r =
     ]
 
 -- the text of a line is that behind the requests heard
-pub text_stands : StepsAreOfTheWhole → (circuit me : ℕ) (rows : ℕ → Row) (heard : List (ℕ × Request)) (asked : Result Asked Refusal) → Stands rows heard → answered circuit me rows asked ≡ line_text circuit me heard asked
-text_stands steps circuit me rows heard (Err refusal) s = refl
-text_stands steps circuit me rows heard (Ok asked) s =
+pub text_stands : StepsAreOfTheWhole → (circuit me : ℕ) (v : Version) (rows : ℕ → Row) (heard : List (ℕ × Request)) (asked : Result Asked Refusal) → Stands rows heard → answered circuit me v rows asked ≡ line_text circuit me v heard asked
+text_stands steps circuit me v rows heard (Err refusal) s = refl
+text_stands steps circuit me v rows heard (Ok asked) s =
     let before = requests_for asked.number heard in
     let row : rows asked.number ≡ row_after before = s asked.number in
     let reply : reply_of (rows asked.number) asked.request ≡ reply_after before asked.request = ap (λ (r : Row). reply_of r asked.request) row ∙ (steps before asked.request).1 in
     let next : next_row (rows asked.number) asked.request ≡ row_after (before ++ asked.request ∷ []) = ap (λ (r : Row). next_row r asked.request) row ∙ (steps before asked.request).0 in
-    ap (λ (r : Reply). reply_text circuit me asked r (next_row (rows asked.number) asked.request)) reply ∙ ap (λ (r : Row). reply_text circuit me asked (reply_after before asked.request) r) next
+    ap (λ (r : Reply). reply_text circuit me v asked r (next_row (rows asked.number) asked.request)) reply ∙ ap (λ (r : Row). reply_text circuit me v asked (reply_after before asked.request) r) next
 
 -- and the rows after it stand for the requests heard after it
 pub rows_stand : StepsAreOfTheWhole → (rows new : ℕ → Row) (heard : List (ℕ × Request)) (asked : Result Asked Refusal) → Stands rows heard → ((n : ℕ) → new n ≡ rows_after rows asked n) → Stands new (heard_after heard asked)

@@ -48,6 +48,7 @@ end_of_step steps.Stranger = Input
 end_of_step steps.BadNumber = Input
 end_of_step steps.AlreadyReleased = Input
 end_of_step steps.AlreadyOpen = Input
+end_of_step steps.WireTooOld = Input
 end_of_step (steps.TapeFaulty fault) = Input
 end_of_step steps.RoundsSpent = Input
 end_of_step (steps.Store fault) = end_of_rows fault

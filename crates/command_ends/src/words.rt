@@ -41,6 +41,7 @@ fn refusal_word(refusal: StepRefusal) -> &'static str
         StepRefusal::BadNumber => "bad-number",
         StepRefusal::AlreadyReleased => "already-released",
         StepRefusal::AlreadyOpen => "already-open",
+        StepRefusal::WireTooOld => "wire-too-old",
         StepRefusal::TapeFaulty(_) => "tape-faulty",
         StepRefusal::RoundsSpent => "rounds-spent",
         StepRefusal::Store(_) => "store",

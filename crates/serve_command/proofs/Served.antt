@@ -110,6 +110,7 @@ refused_cause call steps.Stranger old new p = p
 refused_cause call steps.BadNumber old new p = p
 refused_cause call steps.AlreadyReleased old new p = p
 refused_cause call steps.AlreadyOpen old new p = p
+refused_cause call steps.WireTooOld old new p = p
 refused_cause call (steps.TapeFaulty fault) old new p = p
 refused_cause call steps.RoundsSpent old new p = p
 refused_cause call (steps.Store row_faults.Store) old new p = stops_now call (steps.Store row_faults.Store) new IsByStore (λ e. cc) p

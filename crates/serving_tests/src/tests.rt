@@ -6,3 +6,4 @@ mod printing;
 mod refusing;
 mod sending;
 mod sockets;
+mod withdrawing;

@@ -7,6 +7,7 @@ mod datagram;
 mod getting_ready;
 mod refusal;
 mod setting;
+mod speaker;
 mod station;
 mod steps;
 

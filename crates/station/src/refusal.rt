@@ -21,10 +21,13 @@ pub enum StepRefusal {
     Stranger,
     /// The number is not 1 to 999,999.
     BadNumber,
-    /// The number's tape was released since the station started.
+    /// The number's entry was released since the station started.
     AlreadyReleased,
     /// The number has an open proposal.
     AlreadyOpen,
+    /// The version of the station's rows has no spelling for what is offered: at version 1 for a withdrawal, and for a
+    /// tape above 4,096 frames.
+    WireTooOld,
     /// The tape that is offered does not set here.
     TapeFaulty(SetFault),
     /// No ballot is left above the number's saved promise.

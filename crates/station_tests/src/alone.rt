@@ -1,15 +1,16 @@
 //! One station: what it answers, what it refuses, and what its saved rows make of a restart.
 
-use crate::benches::Act::{Arm, Due, Offer, Receive, Refuse, Restart, Seek};
+use crate::benches::Act::{Arm, Due, Offer, Receive, Refuse, Replace, Restart, Seek, Withdraw};
 use crate::benches::Ends::{Always, Done, Refused};
 use crate::benches::{
-    ALONE, FIRST, Left, OFFER, Open, QUIET, SECOND, Story, Turn, are_no_members, fails_at,
+    ALONE, FIRST, Handed, Left, OFFER, Open, QUIET, SECOND, Story, Turn, are_no_members, fails_at,
 };
 use fixtures::FLOOD;
 use line_check::{Cause, SetFault};
 use packets::PacketFault;
 use saved_rows::RowsFault;
 use station::StepRefusal;
+use tape_frames::Version;
 
 /// A Prepare at 1.1 from member 1 to member 2 of circuit 7, for number 12.
 const PREPARE: [u8; 17] = [0x54, 0x4e, 1, 1, 0, 7, 1, 2, 0, 0, 0, 12, 0, 0, 0, 1, 1];
@@ -26,10 +27,15 @@ const OF_ANOTHER: [u8; 17] = [0x54, 0x4e, 1, 1, 0, 7, 1, 2, 0, 0, 0, 12, 0, 0, 0
 /// The promise of that ballot, with no report.
 const PROMISE: [u8; 18] = [0x54, 0x4e, 1, 2, 0, 7, 2, 1, 0, 0, 0, 12, 0, 0, 0, 1, 1, 0];
 
+/// The same Prepare and the same promise in version 2.
+const PREPARE_TWO: [u8; 17] = [0x54, 0x4e, 2, 1, 0, 7, 1, 2, 0, 0, 0, 12, 0, 0, 0, 1, 1];
+
+const PROMISE_TWO: [u8; 18] = [0x54, 0x4e, 2, 2, 0, 7, 2, 1, 0, 0, 0, 12, 0, 0, 0, 1, 1, 0];
+
 /// The flood story is released.
 const RELEASED: Turn = Turn {
     ends: Done("proposed 1.1"),
-    releases: true,
+    releases: Handed::Flood,
     released: true,
     open: Open::Unasked,
     ..QUIET
@@ -55,7 +61,7 @@ const SAVES: &[Story] = &[
             Turn {
                 act: Offer(12, FLOOD),
                 ends: Refused(StepRefusal::AlreadyReleased),
-                releases: false,
+                releases: Handed::Nothing,
                 ..RELEASED
             },
         ],
@@ -338,6 +344,138 @@ const STEPS: &[Story] = &[
         ..FIRST
     },
 ];
+
+/// The number is withdrawn.
+const WITHDRAWN: Turn = Turn {
+    act: Withdraw(12),
+    releases: Handed::Withdrawal,
+    ..RELEASED
+};
+
+/// The version of the rows does not have what is offered.
+const TOO_OLD: Turn = Turn {
+    act: Withdraw(12),
+    ends: Refused(StepRefusal::WireTooOld),
+    ..QUIET
+};
+
+/// A station that withdraws a number, and reads packets, at version 1 and at version 2.
+const VERSIONS: &[Story] = &[
+    // Version 1 has no withdrawal: it is refused after the number, and behind what is open.
+    Story {
+        turns: &[
+            TOO_OLD,
+            Turn {
+                act: Withdraw(0),
+                ends: Refused(StepRefusal::BadNumber),
+                ..QUIET
+            },
+            OFFER,
+            Turn {
+                act: Withdraw(12),
+                ends: Refused(StepRefusal::AlreadyOpen),
+                open: Open::At(1, 1),
+                ..QUIET
+            },
+        ],
+        ..FIRST
+    },
+    // At version 2 a member of one releases it, once, and finds it again after a restart.
+    Story {
+        version: Version::Two,
+        turns: &[
+            WITHDRAWN,
+            Turn {
+                act: Offer(12, FLOOD),
+                ends: Refused(StepRefusal::AlreadyReleased),
+                releases: Handed::Nothing,
+                ..WITHDRAWN
+            },
+            Turn {
+                act: Restart,
+                ..QUIET
+            },
+            Turn {
+                act: Seek,
+                ends: Done("proposed 2.1"),
+                ..WITHDRAWN
+            },
+        ],
+        ..ALONE
+    },
+    Story {
+        turns: &[
+            Turn {
+                act: Receive(&PREPARE_TWO),
+                ends: Refused(StepRefusal::BadDatagram(PacketFault::BadVersion)),
+                ..QUIET
+            },
+            Turn {
+                act: Receive(&PREPARE),
+                ends: Done("promised 1.1"),
+                sent: 1,
+                datagram: Some((1, &PROMISE)),
+                ..QUIET
+            },
+        ],
+        ..SECOND
+    },
+    // At version 2 it reads both, and answers in its own.
+    Story {
+        version: Version::Two,
+        turns: &[
+            Turn {
+                act: Receive(&PREPARE),
+                ends: Done("promised 1.1"),
+                sent: 1,
+                datagram: Some((1, &PROMISE_TWO)),
+                ..QUIET
+            },
+            Turn {
+                act: Receive(&PREPARE_TWO),
+                ends: Done("silent"),
+                ..QUIET
+            },
+        ],
+        ..SECOND
+    },
+    // It speaks the version of its rows: what is open stays so at a higher version, and is forgotten at a lower one.
+    Story {
+        turns: &[
+            OFFER,
+            Turn {
+                act: Replace(Version::Two),
+                open: Open::At(1, 1),
+                ..QUIET
+            },
+            Turn {
+                act: Withdraw(12),
+                ends: Refused(StepRefusal::AlreadyOpen),
+                open: Open::At(1, 1),
+                ..QUIET
+            },
+            Turn {
+                act: Withdraw(13),
+                open: Open::At(1, 1),
+                ..OFFER
+            },
+            Turn {
+                act: Replace(Version::One),
+                open: Open::At(1, 1),
+                ..QUIET
+            },
+            TOO_OLD,
+        ],
+        ..FIRST
+    },
+];
+
+#[test]
+fn each_version_says_what_it_can(rt: HostRuntime) {
+    for (place, story) in VERSIONS.iter().enumerate() {
+        assert!(rt; fails_at(rt.alloc(), story).is_none(), "{place}");
+    }
+}
 
 #[test]
 fn what_was_saved_is_found(rt: HostRuntime) {

@@ -36,6 +36,7 @@ fn ended(outcome: Outcome) -> (&'static str, Option<Ballot>) {
         Outcome::Done(note) => noted(note),
         Outcome::Refused(StepRefusal::Stopped) => ("refused stopped", None),
         Outcome::Refused(StepRefusal::AlreadyOpen) => ("refused already-open", None),
+        Outcome::Refused(StepRefusal::WireTooOld) => ("refused wire-too-old", None),
         Outcome::Refused(StepRefusal::TapeFaulty(_)) => ("refused tape-faulty", None),
         Outcome::Refused(StepRefusal::Store(RowsFault::Store)) => ("stopped store", None),
         Outcome::Refused(_) => ("refused", None),

@@ -95,7 +95,7 @@ fn are_same_datagrams(left: &[Datagram], right: &[Datagram]) -> bool {
 fn are_same_offers(left: &[OfferLog], right: &[OfferLog]) -> bool {
     for (one, other) in left.iter().zip(right) {
         let same = one.member() == other.member() && one.number() == other.number();
-        if !same || one.tape().frames() != other.tape().frames() {
+        if !same || !one.entry().lend().same(other.entry().lend()) {
             return false;
         }
     }
@@ -120,7 +120,7 @@ fn is_same_text(alloc: Global, one: &ReleaseLog, other: &ReleaseLog) -> bool {
 fn are_same_releases(alloc: Global, left: &[ReleaseLog], right: &[ReleaseLog]) -> bool {
     for (one, other) in left.iter().zip(right) {
         let same = one.member() == other.member() && one.number() == other.number();
-        if !same || one.tape().frames() != other.tape().frames() {
+        if !same || !one.entry().lend().same(other.entry().lend()) {
             return false;
         }
         if !is_same_text(alloc, one, other) {

@@ -62,6 +62,31 @@ deliver 4\ndeliver 8\ndeliver 9\ndeliver 7\n",
 3 heard 1.1\n release 12 01020301030204\n0001 J 0 0 a b _4 a _4 b\n",
 );
 
+/// Three members at version 2 withdraw.
+const THREE_WITHDRAW: (&str, &str) = (
+    "members 3\nwire 2\nwithdraw 1 12\ndeliver 1\ndeliver 3\ndeliver 6\n\
+deliver 4\ndeliver 8\ndeliver 9\ndeliver 7\n",
+    "1 began 1.1\n #1 prepare 1>2 12 1.1\n #2 prepare 1>3 12 1.1\n\
+2 promised 1.1\n #3 promise 2>1 12 1.1\n\
+1 proposed 1.1\n #4 accept 1>2 12 1.1\n #5 accept 1>3 12 1.1\n #6 accepted 1>2 12 1.1\n #7 accepted 1>3 12 1.1\n\
+2 heard 1.1\n\
+2 voted 1.1\n #8 accepted 2>1 12 1.1\n #9 accepted 2>3 12 1.1\n release 12 void\n\
+1 heard 1.1\n release 12 void\n\
+3 heard 1.1\n\
+3 heard 1.1\n release 12 void\n",
+);
+
+/// At version 1 none is withdrawn, whether that version is asked for or not.
+const TOO_OLD: (&str, &str) = (
+    "members 3\nwire 1\nwithdraw 1 12\n",
+    "1 refused wire-too-old\n",
+);
+
+const TOO_OLD_UNASKED: (&str, &str) = (
+    "members 3\nwithdraw 1 12\nwithdraw 1 0\n",
+    "1 refused wire-too-old\n1 refused bad-number\n",
+);
+
 /// A second ballot after a restart.
 const SECOND_BALLOT: (&str, &str) = (
     "members 3\noffer 1 12 01020301030204\nrestart 1\noffer 1 12 01020301030b04\n",
@@ -122,6 +147,9 @@ const IGNORED: &[(&str, &str)] = &[
 
 const STORIES: &[(&str, &str)] = &[
     THREE_MEMBERS,
+    THREE_WITHDRAW,
+    TOO_OLD,
+    TOO_OLD_UNASKED,
     SECOND_BALLOT,
     LOWER_BALLOT,
     BALKS_SAVED,
@@ -194,6 +222,14 @@ const NO_ORDERS: &[(&str, &str)] = &[
     ("due 1\r", "script line 2: bad line\n"),
     (" # due 1", "script line 2: bad line\n"),
     ("at 18446744073709551616", "script line 2: bad line\n"),
+    ("wire", "script line 2: bad line\n"),
+    ("wire 0", "script line 2: bad line\n"),
+    ("wire 3", "script line 2: bad line\n"),
+    ("wire 02", "script line 2: bad line\n"),
+    ("wire 2 1", "script line 2: bad line\n"),
+    ("withdraw 1", "script line 2: bad line\n"),
+    ("withdraw 1 12 01", "script line 2: bad line\n"),
+    ("withdraw 1 4294967296", "script line 2: bad line\n"),
     ("offer 9 12 0x", "script line 2: bad tape\n"),
     ("offer 9 12 0g", "script line 2: bad tape\n"),
     ("offer 9 12 010", "script line 2: bad tape\n"),
@@ -229,6 +265,18 @@ const FAULTY: &[(&str, &str)] = &[
         "script line 2: no such member\n",
     ),
     ("members 3\nseek 4 12\n", "script line 2: no such member\n"),
+    (
+        "members 3\nwithdraw 4 12\n",
+        "script line 2: no such member\n",
+    ),
+    // The version comes directly behind the members, and once.
+    ("wire 2\nmembers 3\n", "script line 1: bad line\n"),
+    ("members 3\nwire 2\nwire 2\n", "script line 3: bad line\n"),
+    ("members 3\nat 1\nwire 2\n", "script line 3: bad line\n"),
+    (
+        "members 3\n\n# in the version of old\nwire 1\nwire 1\n",
+        "script line 5: bad line\n",
+    ),
     ("members 3\nrestart 0\n", "script line 2: no such member\n"),
     (
         "members 3\ndeliver 0\n",

@@ -9,6 +9,7 @@ use fixtures::{CODES, HARVEST, WIDTHS};
 use rehearse_command::rehearse;
 use std::alloc::Global;
 use streams::put_all;
+use tape_frames::Version;
 
 /// Whether a writer that is interrupted behind so many bytes has this front of a text, and is not asked again.
 fn is_interrupted(alloc: Global, room: usize, front: &[u8]) -> bool {
@@ -96,7 +97,7 @@ fn run_rehearse(alloc: Global, script: &str, out: &mut Slow, err: &mut Vec<u8>) 
 
 fn run_answer(alloc: Global, out: &mut Slow, err: &mut Vec<u8>) -> Option<End> {
     let me = Member::new(2)?;
-    Some(answer(alloc, 7, me, &mut ASKED.as_bytes(), out, err))
+    Some(answer(alloc, 7, me, Version::One, &mut ASKED.as_bytes(), out, err))
 }
 
 /// How a command over this writer ends.
