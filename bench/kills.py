@@ -7,8 +7,8 @@ Needs the stock SQLite shell (`apt-get install sqlite3`). Circuits of three stat
 folder of its own. Each station offers one of three stories for one of twelve numbers, or seeks one, is killed (SIGKILL) at a moment
 of its own, 1,000 kills where no other count is given, and started again over its saved rows; the first kills come while the file of
 saved rows is made. No station sends to another: for each ordered pair there is a socket here, to which the one sends for the other,
-and which loses datagrams, repeats, delays and so reorders them. What it passes on goes out of the socket that the addressee's
-configuration names for the sender.
+and which loses datagrams, repeats, delays and so reorders them, and sends some once more as of version 2, which a station over rows of
+version 1 does not read. What it passes on goes out of the socket that the addressee's configuration names for the sender.
 
 After each kill a copy of the station's file is read by the shell. It is whole, or was never made; a file that was once made stays
 made; no row of an earlier reading is missing or has a lower promise or vote; and all votes at one ballot, in whichever file, are for
@@ -54,7 +54,7 @@ class Network:
     def __init__(self, chance):
         self.chance, self.calm = chance, False
         self.selector, self.waiting = selectors.DefaultSelector(), []
-        self.counts = dict.fromkeys(('sent', 'lost', 'repeated', 'delayed'), 0)
+        self.counts = dict.fromkeys(('sent', 'lost', 'repeated', 'delayed', 'of version 2'), 0)
         self.ports = self.free_ports()
         self.between = {}
         for pair in ((a, b) for a in MEMBERS for b in MEMBERS if a != b):
@@ -90,6 +90,9 @@ class Network:
             return
         copies = 2 if self.chance.random() < 0.1 else 1
         self.counts['repeated'] += copies - 1
+        if self.chance.random() < 0.1:
+            self.counts['of version 2'] += 1
+            heapq.heappush(self.waiting, (now, self.chance.random(), pair, datagram[:2] + b'\2' + datagram[3:]))
         for _ in range(copies):
             late = self.chance.choice((0, 0, 0.02, 0.1)) if self.chance.random() < 0.95 else 2
             self.counts['delayed'] += late > 0

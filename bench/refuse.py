@@ -44,6 +44,18 @@ ANSWERS = [
     (PREPARE, '544e0105000702010000000c00000001010000000103'),
 ]
 
+# The same in version 2: the flood story, whose frames are packed; the same with a pad bit, asked by 3; a withdrawal takes its
+# place; 1 asks too late, and then at a later ballot, and learns of the withdrawal.
+ANSWERS_TWO = [
+    (PREPARE, '544e0202000702010000000c000000010100'),
+    ('544e0203000701020000000c000000010100070420c10c2100', '544e0204000702010000000c000000010100070420c10c2100'),
+    ('544e0203000701020000000c000000010100070420c10c2101', 'refused bad-pad'),
+    ('544e0201000703020000000c0000000103', '544e0202000702030000000c000000010301000000010100070420c10c2100'),
+    ('544e0203000703020000000c00000001030000', '544e0204000702030000000c00000001030000'),
+    (PREPARE, '544e0205000702010000000c00000001010000000103'),
+    ('544e0201000701020000000c0000000201', '544e0202000702010000000c00000002010100000001030000'),
+]
+
 THREE_RELEASE = (
     f'members 3\noffer 1 12 {STORY}\ndeliver 1\ndeliver 3\ndeliver 6\ndeliver 4\ndeliver 8\ndeliver 9\ndeliver 7\n',
     f"""1 began 1.1
@@ -96,6 +108,13 @@ VOTE_IS_REPORTED = (
  #18 accepted 2>3 12 1.3
 3 heard 1.3
  {RELEASE}""")
+
+# The first once more, of a withdrawal, and the second in version 2; and what version 1 does not have.
+THREE_WITHDRAW = (
+    THREE_RELEASE[0].replace(f'offer 1 12 {STORY}', 'wire 2\nwithdraw 1 12'),
+    THREE_RELEASE[1].replace(RELEASE, 'release 12 void\n'))
+VOTE_IS_REPORTED_PACKED = (VOTE_IS_REPORTED[0].replace('members 3\n', 'members 3\nwire 2\n'), VOTE_IS_REPORTED[1])
+TOO_OLD = ('members 3\nwire 1\nwithdraw 1 12\n', '1 refused wire-too-old\n')
 
 # A tape, its galley, its fault.
 TAPES = [
@@ -348,17 +367,23 @@ def draw_cases(sweep):
 def answer_cases():
     words = ['answer', '7', '2']
     given, told = zip(*ANSWERS)
+    given_two, told_two = zip(*ANSWERS_TWO)
     return [
         Case('answer', words, PREPARE, f'{ANSWERS[0][1]}\n'),
         Case('answer, short', words, PREPARE[:-2], 'refused short\n'),
         Case('answer, long', words, PREPARE + '00', 'refused long\n'),
         Case('answer, five lines', words, '\n'.join(given), '\n'.join(told) + '\n'),
+        Case('answer, version 2 to version 1', words, ANSWERS_TWO[1][0], 'refused bad-version\n'),
+        Case('answer --wire 2', [*words, '--wire', '2'], '\n'.join(given_two), '\n'.join(told_two) + '\n'),
     ]
 
 
 def rehearse_cases(sweep):
     cases = []
-    for name, (script, out) in (('three release', THREE_RELEASE), ('a vote is reported', VOTE_IS_REPORTED)):
+    scripts = (
+        ('three release', THREE_RELEASE), ('a vote is reported', VOTE_IS_REPORTED), ('three withdraw', THREE_WITHDRAW),
+        ('a packed vote', VOTE_IS_REPORTED_PACKED), ('too old', TOO_OLD))
+    for name, (script, out) in scripts:
         sweep.write(f'{name}.script', script)
         cases.append(Case(f'rehearse, {name}', ['rehearse', 'codes.toml', 'widths.toml', f'{name}.script'], out=out))
     return cases
@@ -418,6 +443,8 @@ def store_cases(sweep):
              left=(alone + voted, alone + f'12 2.1 2.1 {STORY}\n')),
         Case('serve, made, an offer', ['serve', 'own.toml', '--turns', '1', *offer], out=RELEASE,
              left=(none, alone, alone + voted)),
+        Case('serve, made, a withdrawal', ['serve', 'own.toml', '--turns', '1', '--create', '--withdraw', '12'],
+             err='refused wire-too-old\n', status=1, left=(none, alone)),
         Case('serve, made, beside another', ['serve', 'two.toml', '--turns', '6', *offer], out=RELEASE,
              left=(none, two, two + '12 1.1 - -\n', two + voted), peer=Peer(peer, ('127.0.0.1', port))),
     ]

@@ -3,13 +3,14 @@
 
     bench/rehearsals.py PROGRAM [SCRIPTS] [SEED]
 
-Each script has a circuit of 3 or 5 members that are offered stories for a few numbers, seek them and see to what is due, whose
-datagrams are lost, repeated and come in any order, whose saves are refused, and which start again. Then all start again and
-member 1 seeks each number, and nothing is lost any more. `rehearse` plays a script in pieces, each time from its beginning, since only
+Each script has a circuit of 3 or 5 members, in version 1 or 2, that are offered stories for a few numbers, withdraw and seek them and
+see to what is due, whose datagrams are lost, repeated and come in any order, whose saves are refused, and which start again. Then all
+start again and member 1 seeks each number, and nothing is lost any more. `rehearse` plays a script in pieces, each time from its beginning, since only
 what it prints tells which datagrams there are; what it printed before has to be the front of what it prints now.
 
-Of what is printed, all releases of a number must have one tape, which a member was offered for it, set as it sets; and each number
-that was released must be released by all members at the end. The script that shows otherwise is kept, and named.
+Of what is printed, all releases of a number must have one tape, which a member was offered for it, set as it sets, or all be of its
+withdrawal, which a member was asked for and no member in version 1 takes; and each number that was released must be released by all
+members at the end. The script that shows otherwise is kept, and named.
 """
 import os
 import random
@@ -26,6 +27,9 @@ STORIES = {
     '01020301030b04': ['0001 J 0 0 a b _4 a _3 fi'],
     '05020704010b04': ['0001 C 10 11 B', '0002 R 22 0 A'],
 }
+# the word of a withdrawal, which sets as nothing
+VOID = 'void'
+SLUGS = {**STORIES, VOID: []}
 NUMBERS = (12, 13, 14)
 PIECES, STEPS = 8, 25
 
@@ -35,10 +39,10 @@ class Broken(Exception):
 
 
 class Rehearsal:
-    def __init__(self, program, folder, members, chance):
-        self.program, self.members, self.chance = program, members, chance
+    def __init__(self, program, folder, members, wire, chance):
+        self.program, self.members, self.wire, self.chance = program, members, wire, chance
         self.path = os.path.join(folder, 'script')
-        self.lines, self.orders, self.out = [f'members {members}'], [], ''
+        self.lines, self.orders, self.out = [f'members {members}', f'wire {wire}'], [], ''
         self.now, self.next, self.sent = 0, 1, 0
         self.offered, self.releases, self.found = {}, {}, {}
         self.count = 0
@@ -93,18 +97,21 @@ class Rehearsal:
         if words[0] == 'restart':
             for found in self.found.values():
                 found.discard(member)
-        if words[0] == 'offer' and not told.startswith('refused'):
-            self.offered.setdefault(int(words[2]), set()).add(words[3])
+        if words[0] in ('offer', 'withdraw') and not told.startswith('refused'):
+            entry = words[3] if words[0] == 'offer' else VOID
+            if entry == VOID and self.wire == 1:
+                raise Broken(f'{words[2]} is withdrawn in version 1')
+            self.offered.setdefault(int(words[2]), set()).add(entry)
 
     def take_release(self, words, member, slugs):
-        number, tape = int(words[1]), words[2]
+        number, entry = int(words[1]), words[2]
         self.count += 1
-        if tape not in self.offered.get(number, ()):
-            raise Broken(f'{number} is released as {tape}, which nobody was offered for it')
-        if self.releases.setdefault(number, tape) != tape:
-            raise Broken(f'TWO STORIES of {number}: {tape} and {self.releases[number]}')
-        if slugs != STORIES[tape]:
-            raise Broken(f'{tape} is set as {slugs}')
+        if entry not in self.offered.get(number, ()):
+            raise Broken(f'{number} is released as {entry}, which nobody was offered for it')
+        if self.releases.setdefault(number, entry) != entry:
+            raise Broken(f'TWO STORIES of {number}: {entry} and {self.releases[number]}')
+        if slugs != SLUGS[entry]:
+            raise Broken(f'{entry} is set as {slugs}')
         self.found.setdefault(number, set()).add(member)
 
     def deliver(self):
@@ -122,7 +129,8 @@ class Rehearsal:
             member, number = self.chance.randint(1, self.members), self.chance.choice(NUMBERS)
             what = self.chance.random()
             if what < 0.06 or self.sent == 0:
-                self.add(f'offer {member} {number} {self.chance.choice(sorted(STORIES))}')
+                entry = self.chance.choice(sorted(SLUGS))
+                self.add(f'withdraw {member} {number}' if entry == VOID else f'offer {member} {number} {entry}')
             elif what < 0.09:
                 self.add(f'seek {member} {number}')
             elif what < 0.15:
@@ -168,9 +176,9 @@ def main():
     seed = int(sys.argv[3]) if len(sys.argv) > 3 else 1
     chance = random.Random(seed)
     folder = tempfile.mkdtemp()
-    steps = early = releases = rivals = 0
+    steps = early = releases = rivals = withdrawn = 0
     for place in range(scripts):
-        rehearsal = Rehearsal(program, folder, (3, 5)[place % 2], chance)
+        rehearsal = Rehearsal(program, folder, (3, 5)[place % 2], (1, 2)[place // 2 % 2], chance)
         try:
             for _ in range(PIECES):
                 rehearsal.stir()
@@ -182,8 +190,9 @@ def main():
         steps += len(rehearsal.orders)
         releases += rehearsal.count
         rivals += sum(len(rehearsal.offered[number]) > 1 for number in rehearsal.releases)
+        withdrawn += sum(entry == VOID for entry in rehearsal.releases.values())
     print(f'{scripts} scripts, {steps} steps, {releases} releases, {early} of them while all was stirred, seed {seed}')
-    print(f'no number means two stories; {rivals} that were released were offered as several')
+    print(f'no number means two stories; {rivals} that were released were offered as several, {withdrawn} are withdrawn')
     os.remove(rehearsal.path)
     os.rmdir(folder)
     return 0

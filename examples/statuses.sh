@@ -31,6 +31,8 @@ port = {port}
 SCRIPT = "members 3\noffer 1 12 01020301030204\n"
 BEGAN = "1 began 1.1\n #1 prepare 1>2 12 1.1\n #2 prepare 1>3 12 1.1\n"
 GALLEY = "0001 J 0 0 a b _4 a _4 b\n"
+WITHDRAWAL = "544e0203000701020000000c00000001010000\n"
+WITHDRAWN = "544e0204000702010000000c00000001010000\n"
 UNKNOWN = """error: unrecognized subcommand 'sing'
 
 Usage: circuitd <COMMAND>
@@ -41,6 +43,7 @@ For more information, try '--help'.
 # the words, the input, the status, the output and the faults
 RUNS = [
     ("answer 7 2", "544e0101000701020000000c0000000101\n", 0, "544e0102000702010000000c000000010100\n", ""),
+    ("answer 7 2 --wire 2", WITHDRAWAL, 0, WITHDRAWN, ""),
     ("check codes.toml widths.toml flood.tape", "", 0, GALLEY, ""),
     ("rehearse codes.toml widths.toml one.script", "", 0, BEGAN, ""),
     ("serve one.toml --turns 1 --create --number 12 --tape flood.tape", "", 0, "release 12 01020301030204\n" + GALLEY, ""),
@@ -48,6 +51,7 @@ RUNS = [
     ("check codes.toml widths.toml overset.tape", "", 1, "", "fault: overset 1 at 7 line 1\n"),
     ("check widths.toml codes.toml flood.tape", "", 1, "", "table: no codes\n"),
     ("check codes.toml widths.toml no.tape", "", 1, "", "cannot read no.tape\n"),
+    ("serve one.toml --turns 1 --withdraw 13", "", 1, "", "refused wire-too-old\n"),
     ("sing", "", 2, "", UNKNOWN),
     ("serve one.toml --turns 1 --number 12", "", 2, "", "usage: --number and --tape go together\n"),
     ("serve one.toml --turns 1 --create", "", 3, "", "store: refused\n"),

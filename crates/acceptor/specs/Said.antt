@@ -3,6 +3,7 @@ use Rattle.std.specs.Prelude.{Bool, true, Option, Some, None, option_copied}
 use Rattle.protocol.specs.Ballots.{Ballot, is_below}
 use Rattle.protocol.specs.Rows.{Vote, Row}
 use Rattle.protocol.specs.Acceptor.{Request as Asked, Prepares, Accepts, Reply as Answer, Promises, Nacks, Says_nothing, Votes, Votes_again}
+use Rattle.tape_frames.specs.Entries.{owned_entry}
 use Rattle.acceptor.specs.declared.request.Request.{Request}
 use Rattle.acceptor.specs.declared.request.Request.TheVariants as ask
 use Rattle.acceptor.specs.declared.request.Reply.{Reply}
@@ -15,7 +16,7 @@ use Rattle.acceptor.specs.declared.answer.AcceptAnswer.TheVariants as accepted
 -- what a request asks
 abbrev pub asked : Request → Asked
 asked (ask.Prepare b) = Prepares b
-asked (ask.Accept b t) = Accepts b t
+asked (ask.Accept b t) = Accepts b (owned_entry t)
 
 -- what a reply says
 abbrev pub said : Reply → Answer

@@ -3,10 +3,11 @@
 ghost use Rattle.std.specs.Prelude.{◌≡◌, IfOk, IfErr, IsTrue};
 ghost use Rattle.protocol.specs.Acceptor.{Prepares, Accepts, Votes, reply_of, next_row};
 ghost use Rattle.acceptor.specs.Said.{said_of_prepare, said_of_accept, row_of, fits};
+ghost use Rattle.tape_frames.specs.Entries.{lent_entry};
 
 use ballots::{Ballot, Row, Vote};
 use std::alloc::{AllocError, Global};
-use tape_frames::TapeRef;
+use tape_frames::EntryRef;
 
 /// The answer to a prepare request.
 #[derive(Drop)]
@@ -24,7 +25,7 @@ pub enum PrepareAnswer<'a> {
 pub enum AcceptAnswer {
     /// It has promised this higher ballot.
     Nack { promised: Ballot },
-    /// The row's vote has this ballot: it stands, whatever tape comes now.
+    /// The row's vote has this ballot: it stands, whatever entry comes now.
     Again,
     /// It votes: the row after has this ballot as its promise and its vote's.
     Voted { row: Row },
@@ -42,18 +43,18 @@ pub fn prepare(row: &Row, ballot: Ballot) -> PrepareAnswer<'_>
     }
 }
 
-/// Answers an accept request (Lamport, phase 2). The tape is copied only where it is voted for,
+/// Answers an accept request (Lamport, phase 2). The entry is copied only where it is voted for,
 /// and nothing else takes memory.
 pub fn accept(
     alloc: Global,
     row: &Row,
     ballot: Ballot,
-    tape: TapeRef<'_>,
+    entry: EntryRef<'_>,
 ) -> Result<AcceptAnswer, AllocError>
-    ensures reply { IfOk result (λ a. said_of_accept a ≡ reply_of row.now (Accepts ballot tape.entry)) }
-    ensures row { IfOk result (λ a. row_of a row.now ≡ next_row row.now (Accepts ballot tape.entry)) }
+    ensures reply { IfOk result (λ a. said_of_accept a ≡ reply_of row.now (Accepts ballot (lent_entry entry.entry))) }
+    ensures row { IfOk result (λ a. row_of a row.now ≡ next_row row.now (Accepts ballot (lent_entry entry.entry))) }
     ensures fits { IfOk result (λ a. IsTrue (fits (said_of_accept a) ballot)) }
-    ensures memory { IfErr result (λ _. reply_of row.now (Accepts ballot tape.entry) ≡ Votes) }
+    ensures memory { IfErr result (λ _. reply_of row.now (Accepts ballot (lent_entry entry.entry)) ≡ Votes) }
 {
     match row.promised() {
         Some(p) if ballot.is_below(p) => return Ok(AcceptAnswer::Nack { promised: p }),
@@ -63,8 +64,8 @@ pub fn accept(
         Some(v) if v.ballot().is_same(ballot) => return Ok(AcceptAnswer::Again),
         _ => {}
     }
-    let tape = tape.copy(alloc)?;
-    match Row::new(Some(ballot), Some(Vote::new(ballot, tape))) {
+    let entry = entry.copy(alloc)?;
+    match Row::new(Some(ballot), Some(Vote::new(ballot, entry))) {
         Some(row) => Ok(AcceptAnswer::Voted { row }),
         None => unreachable!(),
     }

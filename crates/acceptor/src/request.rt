@@ -1,15 +1,15 @@
 //! What an acceptor is asked, and what it says.
 
 use ballots::{Ballot, Vote};
-use tape_frames::Tape;
+use tape_frames::Entry;
 
 /// A request to an acceptor.
 #[derive(Drop)]
 pub enum Request {
     /// Promise to accept nothing below this ballot.
     Prepare { ballot: Ballot },
-    /// Vote for this tape at this ballot.
-    Accept { ballot: Ballot, tape: Tape },
+    /// Vote for this entry at this ballot.
+    Accept { ballot: Ballot, entry: Entry },
 }
 
 /// What an acceptor says to a request.

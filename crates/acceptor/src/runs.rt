@@ -38,7 +38,7 @@ fn serve(alloc: Global, row: Row, request: &Request) -> Result<(Row, Reply), All
 {
     match request {
         Request::Prepare { ballot } => serve_prepare(alloc, row, *ballot),
-        Request::Accept { ballot, tape } => match accept(alloc, &row, *ballot, tape.lend())? {
+        Request::Accept { ballot, entry } => match accept(alloc, &row, *ballot, entry.lend())? {
             AcceptAnswer::Nack { promised } => Ok((row, Reply::Nack { promised })),
             AcceptAnswer::Again => Ok((row, Reply::Again)),
             AcceptAnswer::Voted { row } => Ok((row, Reply::Voted)),

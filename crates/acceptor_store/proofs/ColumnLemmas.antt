@@ -1,16 +1,19 @@
 -- A row comes back out of its columns.
-use Rattle.std.proofs.Common.{◌≡◌, ◌<◌, ◌≤◌, ◌^◌, ◌==◌, ◌+◌, ℕ, pos, Bool, true, false, cond, List, [], ◌∷◌, length, Option, Some, None, option_map, unwrap_or, true≢false, IfSome, IsSome, nat_lt, refl, sym, ap, subst, ◌∙◌, arith, inl, inr}
+use Rattle.std.proofs.Common.{◌≡◌, ◌<◌, ◌≤◌, ◌^◌, ◌==◌, ◌+◌, ℕ, pos, Bool, true, false, cond, List, [], ◌∷◌, length, Option, Some, None, option_map, unwrap_or, true≢false, IsSome, nat_lt, nat_le, refl, sym, ap, subst, ◌∙◌, arith, inl, inr}
 use Rattle.std.specs.List.{AllByRecursion, position_from}
 use Rattle.std.proofs.lemmas.Bool.Decides.{Decides-ltb, Decides-eqb, same_from_decides}
-use Rattle.std.proofs.lemmas.Bool.{le-leb, cases_Bool}
-use Rattle.tape_frames.specs.Frames.{IsTape, tape_fault}
+use Rattle.std.proofs.lemmas.Bool.{le-leb, cases_Bool, and_parts}
+use Rattle.tape_frames.specs.Frames.{most_frames, IsTape, tape_fault}
 use Rattle.sqlite_trees.specs.Tree.{Trees}
 use Rattle.row_table.specs.Tables.{rows_tree, station_tree}
 use Rattle.row_table.specs.Rows.{stored, found_at, columns_at, shown_of, SavesIn}
 use Rattle.protocol.specs.Ballots.{Ballot, IsBallot}
-use Rattle.protocol.specs.Rows.{Vote, Row, blank, may_stand}
+use Rattle.protocol.specs.Entries.{Taped}
+use Rattle.protocol.specs.Rows.{Vote, Row, vote_for, blank, may_stand}
+use Rattle.protocol.specs.Versions.{One}
+use Rattle.protocol.specs.Fitting.{Fits}
 use Rattle.saved_rows.specs.Saved.{WithRow}
-use Rattle.acceptor_store.specs.Columns.{small, ballot_from, row_of, row_in, columns_with, columns_for, row_or_blank, saved_in, IsSound, AreSound}
+use Rattle.acceptor_store.specs.Columns.{most_frames_one, small, ballot_from, row_of, row_in, columns_with, columns_for, row_or_blank, saved_in, IsSound, AreSound}
 
 pub ranged : (n : ℕ) → n < 2 ^ 32 → small (pos n) ≡ Some n
 ranged n h = ap (λ b. cond b (Some n) None) ((Decides-ltb n (2 ^ 32)).1 h)
@@ -38,12 +41,14 @@ is_some_length n h = elim (cases_Bool (n == 0)) [
 ]
 
 no_fault : (frames : List ℕ) → IsTape frames → tape_fault frames ≡ None
-no_fault frames h = rw (is_some_length (length frames) h.some, not_below 4096 (length frames) h.few, none_bad 0 frames h.small) refl
+no_fault frames h = rw (is_some_length (length frames) h.some, not_below most_frames (length frames) h.few, none_bad 0 frames h.small) refl
 
-pub back_with : (p : Ballot) (vote : Option Vote) → IsBallot p → IfSome vote (λ v. IsBallot v.ballot × IsTape v.tape) → may_stand (Some p) vote ≡ true
-    → row_in 0 (columns_with (Some p) vote) ≡ Some (row_of p vote)
-back_with p None promise none stands = rw (a_ballot p promise) refl
-back_with p (Some v) promise voted stands = rw (a_ballot p promise, a_ballot v.ballot voted.0, le-leb (length v.tape) 4096 voted.1.few, no_fault v.tape voted.1, stands) refl
+few_frames : (tape : List ℕ) → Fits One (Taped tape) → nat_le (length tape) most_frames_one ≡ true
+few_frames tape fits = (and_parts (nat_le 1 (length tape)) (nat_le (length tape) most_frames_one) fits).1
+
+pub back_with : (p b : Ballot) (tape : List ℕ) → IsBallot p → IsBallot b → IsTape tape → Fits One (Taped tape) → may_stand (Some p) (Some (vote_for b (Taped tape))) ≡ true
+    → row_in 0 (columns_with (Some p) (Some (vote_for b (Taped tape)))) ≡ Some (row_of p (Some (vote_for b (Taped tape))))
+back_with p b tape promise ballot is_tape fits stands = rw (a_ballot p promise, a_ballot b ballot, few_frames tape fits, no_fault tape is_tape, stands) refl
 
 -- ---- after a save
 

@@ -1,4 +1,5 @@
 pub mod ColumnLemmas
+pub mod FitLemmas
 pub mod ListLemmas
 pub mod IdentityLemmas
 pub mod StandLemmas

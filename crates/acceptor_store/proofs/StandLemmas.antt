@@ -1,5 +1,5 @@
 -- What a call leaves of a connection that stands on the tables of a station.
-use Rattle.std.proofs.Common.{◌≡◌, ◌⊎◌, inl, inr, ◌<◌, ◌≤◌, ℕ, Some, Result, Ok, Err, OnOk, OnErr, IsTrue, is_some, map, sym, ap, subst, ◌∙◌, arith, true≢false}
+use Rattle.std.proofs.Common.{◌≡◌, ◌⊎◌, inl, inr, ◌<◌, ◌≤◌, ℕ, Result, Ok, Err, OnOk, OnErr, IsTrue, is_some, map, sym, ap, subst, ◌∙◌, arith, true≢false}
 use Rattle.sqlite_trees.specs.declared.store.Store.{Ghosts}
 use Rattle.sqlite_trees.specs.Tree.{Trees}
 use Rattle.sqlite_trees.specs.View.{doubt}
@@ -13,7 +13,7 @@ use Rattle.saved_rows.specs.Saved.{SameRows, HasPromise}
 use Rattle.saved_rows.specs.declared.identity.Identity.{Identity}
 use Rattle.saved_rows.specs.Identity.{IsIdentity}
 use Rattle.acceptor_store.specs.StationRow.{identity_in}
-use Rattle.acceptor_store.specs.Columns.{row_in, row_or_blank, columns_for, saved_in}
+use Rattle.acceptor_store.specs.Columns.{row_or_blank, columns_for, saved_in, ComesBack}
 use Rattle.sqlite_trees.specs.Objects.{catalog_tree}
 use Rattle.sqlite_catalog.specs.Listing.{Lists as ListsTables}
 use Rattle.row_table.specs.Tables.{row_schema}
@@ -27,7 +27,7 @@ pub same_holds : (i : Identity) (old new : Database) → new ≡ old → IsOfSta
 same_holds i old new same h = subst (λ (d : Database). IsOfStation i d.trees) (sym same) h
 
 -- a row that is saved leaves a database of the station
-pub saved_station : (i : Identity) (old new : Trees) (n : ℕ) (row : Row) → HasPromise row → row_in 0 (columns_for row) ≡ Some row → 1 ≤ n → n ≤ 999999
+pub saved_station : (i : Identity) (old new : Trees) (n : ℕ) (row : Row) → HasPromise row → ComesBack row → 1 ≤ n → n ≤ 999999
     → SavesIn n (columns_for row) old new → IsOfStation i old → IsOfStation i new
 saved_station i old new n row has back low high done held = record {
   tables = subst (λ objects. ListsTables objects row_schema) (sym (done.others catalog_tree (λ e. absurd (omega (arith, e))))) held.tables;
@@ -38,10 +38,10 @@ saved_station i old new n row has back low high done held = record {
 }
 
 -- so does what a crash leaves where it is saved
-pub left_station : (i : Identity) (old left : Trees) (n : ℕ) (row : Row) → HasPromise row → row_in 0 (columns_for row) ≡ Some row → 1 ≤ n → n ≤ 999999
-    → IsOfStation i old → (left ≡ old) ⊎ SavesIn n (columns_for row) old left → IsOfStation i left
-left_station i old left n row has back low high held (inl same) = subst (IsOfStation i) (sym same) held
-left_station i old left n row has back low high held (inr done) = saved_station i old left n row has back low high done held
+pub left_station : (i : Identity) (old left : Trees) (n : ℕ) (row : Row) → HasPromise row → 1 ≤ n → n ≤ 999999
+    → IsOfStation i old → (left ≡ old) ⊎ (ComesBack row × SavesIn n (columns_for row) old left) → IsOfStation i left
+left_station i old left n row has low high held (inl same) = subst (IsOfStation i) (sym same) held
+left_station i old left n row has low high held (inr done) = saved_station i old left n row has done.0 low high done.1 held
 
 pub same_rows : (old new : State) → new.now ≡ old.now → SameRows (saved_in old.now.trees) (saved_in new.now.trees)
 same_rows old new same n = ap (λ (d : Database). saved_in d.trees n) same
@@ -57,17 +57,17 @@ module _ {S : Type 0} (g : Ghosts S) (old new : Held S) (falls : doubt (state g 
     holds = λ clean opened. let same = kept stands.serves clean opened in same_holds i (state g old).now (state g new).now same.same (stands.holds (was_clean (state g old) (state g new) falls clean) same.was_open);
   }
 
-  module _ (n : ℕ) (row : Row) (has : HasPromise row) (back : row_in 0 (columns_for row) ≡ Some row) (low : 1 ≤ n) (high : n ≤ 999999) where
-    saved_holds : WasSaved n (columns_for row) (state g old) (state g new) → HasCleanDisk (state g new) → IsOfStation i (state g new).now.trees
-    saved_holds done clean =
+  module _ (n : ℕ) (row : Row) (has : HasPromise row) (low : 1 ≤ n) (high : n ≤ 999999) where
+    saved_holds : ComesBack row → WasSaved n (columns_for row) (state g old) (state g new) → HasCleanDisk (state g new) → IsOfStation i (state g new).now.trees
+    saved_holds back done clean =
         saved_station i (state g old).now.trees (state g new).now.trees n row has back low high done.saved.trees (stands.holds (was_clean (state g old) (state g new) falls clean) done.was_open)
 
     -- after a save
-    pub stands_saved : {A E : Type 0} (r : Result A E) → (Serves (state g old) → Serves (state g new))
+    pub stands_saved : {A E : Type 0} (r : Result A E) → OnOk r (ComesBack row) → (Serves (state g old) → Serves (state g new))
         → (Serves (state g old) → HasCleanDisk (state g new) → OnOk r (WasSaved n (columns_for row) (state g old) (state g new)))
         → (Serves (state g old) → HasCleanDisk (state g new) → IsTrue (state g new).is_open → OnErr r (WasKept (state g old) (state g new))) → Stands g new i
-    stands_saved (Ok a) serves ok err = record { serves = serves stands.serves; holds = λ clean opened. saved_holds (ok stands.serves clean) clean }
-    stands_saved (Err e) serves ok err = stands_kept serves err
+    stands_saved (Ok a) back serves ok err = record { serves = serves stands.serves; holds = λ clean opened. saved_holds back (ok stands.serves clean) clean }
+    stands_saved (Err e) back serves ok err = stands_kept serves err
 
 -- the rows of a database that was just made
 pub none_saved : (circuit member members : ℕ) (trees : Trees) → HoldsNone circuit member members trees → (n : ℕ) → saved_in trees n ≡ blank

@@ -8,7 +8,8 @@ use Rattle.row_table.specs.Tables.{rows_tree}
 use Rattle.row_table.specs.Rows.{columns_of, columns_at}
 use Rattle.tape_frames.specs.Frames.{tape_fault}
 use Rattle.protocol.specs.Ballots.{Ballot}
-use Rattle.protocol.specs.Rows.{Tape, Vote, Row, blank, may_stand}
+use Rattle.protocol.specs.Entries.{Tape, Entry, Void, Taped}
+use Rattle.protocol.specs.Rows.{Vote, Row, blank, may_stand}
 use Rattle.saved_rows.specs.Saved.{Saved}
 
 -- ---- out of the columns
@@ -38,12 +39,12 @@ unless None b = Some b
 unless (Some a) b = None
 
 -- the most frames of a tape that a row of layout 1 holds
-abbrev pub most_frames : ℕ
-most_frames = 4096
+abbrev pub most_frames_one : ℕ
+most_frames_one = 4096
 
 -- the tape of these frames, if they are one and a row of layout 1 holds so many
 abbrev pub stored_tape : List ℕ → Option Tape
-stored_tape frames = if nat_le (length frames) most_frames then unless (tape_fault frames) frames else None
+stored_tape frames = if nat_le (length frames) most_frames_one then unless (tape_fault frames) frames else None
 
 -- the tape in a column, one frame a byte, if it is one
 abbrev pub tape_in : Value → Option Tape
@@ -53,11 +54,11 @@ tape_in (Int z) = None
 tape_in (Real x) = None
 tape_in (Text t) = None
 
--- the vote of a ballot and a tape, where both are some
+-- the vote for a tape at a ballot, where both are some
 abbrev pub vote_from : Option Ballot → Option Tape → Option (Option Vote)
 vote_from None tape = None
 vote_from (Some ballot) None = None
-vote_from (Some ballot) (Some tape) = Some (Some (record { ballot = ballot; tape = tape }))
+vote_from (Some ballot) (Some tape) = Some (Some (record { ballot = ballot; entry = Taped tape }))
 
 -- the column holds nothing
 abbrev pub is_null : Value → Bool
@@ -89,14 +90,28 @@ row_in first c =
 
 -- ---- into the columns
 
--- the five columns of a promise and a vote
+-- the tape of an entry, if it has one
+abbrev pub tape_of : Entry → Option Tape
+tape_of Void = None
+tape_of (Taped tape) = Some tape
+
+-- the tape that was voted for, if any
+abbrev pub voted_tape : Option Vote → Option Tape
+voted_tape None = None
+voted_tape (Some v) = tape_of v.entry
+
+-- the five columns of a promise and a vote; there are none for the vote for a withdrawal
 abbrev pub columns_with : Option Ballot → Option Vote → Columns
 columns_with None vote = []
-columns_with (Some p) vote = columns_of p.round p.owner (option_map (λ v. v.ballot.round) vote) (option_map (λ v. v.ballot.owner) vote) (option_map (λ v. v.tape) vote)
+columns_with (Some p) vote = columns_of p.round p.owner (option_map (λ v. v.ballot.round) vote) (option_map (λ v. v.ballot.owner) vote) (voted_tape vote)
 
 -- the five columns of a row that has a promise
 abbrev pub columns_for : Row → Columns
 columns_for row = columns_with row.promised row.vote
+
+-- the row comes back out of its columns
+abbrev pub ComesBack : Row → Type 0
+ComesBack row = row_in 0 (columns_for row) ≡ Some row
 
 -- ---- the rows of a table
 

@@ -1,17 +1,21 @@
 //! A row as the columns of its table, and back.
 
-ghost use Rattle.std.specs.Prelude.{◌≡◌, ◌≤◌, IfOk, option_map, Some};
+ghost use Rattle.std.specs.Prelude.{◌≡◌, ◌≤◌, IfOk, OnOk, option_map, Some};
 ghost use Rattle.std.specs.List.{filter_map};
 ghost use Rattle.sqlite_value.specs.Value.{owned};
 ghost use Rattle.sqlite_value.specs.Order.{column};
-ghost use Rattle.acceptor_store.specs.Columns.{whole_in, ballot_from, stored_tape, tape_in, is_null, vote_in, row_of, row_in, damage_of, damage_in, item_in, columns_for};
+ghost use Rattle.protocol.specs.Entries.{Taped};
+ghost use Rattle.protocol.specs.Versions.{One};
+ghost use Rattle.protocol.specs.Fitting.{Fits};
+ghost use Rattle.tape_frames.specs.Frames.{IsTape};
+ghost use Rattle.acceptor_store.specs.Columns.{whole_in, ballot_from, stored_tape, tape_in, is_null, vote_in, row_of, row_in, damage_of, damage_in, item_in, columns_for, ComesBack};
 ghost use Rattle.row_table.specs.Rows.{columns_of};
-ghost use Rattle.saved_rows.specs.Saved.{HasPromise};
+ghost use Rattle.saved_rows.specs.Saved.{HasPromise, RowFits};
 
-use ballots::{Ballot, Member, Number, Row, VoteRef};
+use ballots::{Ballot, Member, Number, Row, Vote, VoteRef};
 use sqlite::types::ValueRef;
 use std::alloc::{AllocError, Global};
-use tape_frames::TapeRef;
+use tape_frames::{Entry, EntryRef, Tape, TapeRef};
 
 /// The most frames of a tape that a row of layout 1 holds.
 const MOST_FRAMES: usize = 4096;
@@ -85,7 +89,7 @@ fn is_null(value: &ValueRef<'_>) -> bool
     matches!(value, ValueRef::Null)
 }
 
-/// The vote in three columns, its tape lent: none where all three are null.
+/// The vote in three columns, for a tape that is lent: none where all three are null.
 fn vote_in<'a>(
     round: ValueRef<'a>,
     owner: ValueRef<'a>,
@@ -98,7 +102,7 @@ fn vote_in<'a>(
     }
     let ballot = ballot_from(whole_in(round), whole_in(owner))?;
     let tape = tape_in(tape)?;
-    Some(Some(VoteRef::new(ballot, tape)))
+    Some(Some(VoteRef::new(ballot, EntryRef::Plain(tape))))
 }
 
 /// The promise and the vote of the row that five columns from `first` on are, the tape lent;
@@ -123,6 +127,16 @@ fn parts_in(columns: &sqlite::Row, first: usize) -> Option<(Ballot, Option<VoteR
     if stands { Some((promise, vote)) } else { None }
 }
 
+/// The vote with frames of its own, if there is one.
+fn copied(alloc: Global, vote: Option<VoteRef<'_>>) -> Result<Option<Vote>, AllocError>
+    ensures { IfOk result (λ copy. copy ≡ vote.entry) }
+{
+    match vote {
+        None => Ok(None),
+        Some(vote) => Ok(Some(vote.copy(alloc)?)),
+    }
+}
+
 /// The row that five columns from `first` on are; `None` where they are no row.
 pub(crate) fn row_in(
     alloc: Global,
@@ -135,10 +149,7 @@ pub(crate) fn row_in(
     let Some((promise, vote)) = parts_in(columns, first) else {
         return Ok(None);
     };
-    let vote = match vote {
-        None => None,
-        Some(vote) => Some(vote.copy(alloc)?),
-    };
+    let vote = copied(alloc, vote)?;
     Ok(Row::new(Some(promise), vote))
 }
 
@@ -202,39 +213,71 @@ pub(crate) fn items_in(
 
 /// The columns of a row.
 #[derive(Drop)]
-pub(crate) struct RowColumns<'a> {
+pub(crate) struct RowColumns {
     pub(crate) promised_round: u32,
     pub(crate) promised_owner: u32,
     pub(crate) vote_round: Option<u32>,
     pub(crate) vote_owner: Option<u32>,
-    pub(crate) tape: Option<&'a [u8]>,
+    tape: Option<Tape>,
 }
 
-/// The columns of a row that has a promise; they are the row again.
-pub(crate) fn columns_for(row: &Row) -> RowColumns<'_>
-    requires { HasPromise row.now }
-    ensures columns { columns_of result.promised_round result.promised_owner result.vote_round result.vote_owner (option_map (λ b. b.now) result.tape) ≡ columns_for row.now }
-    ensures back { row_in 0 (columns_for row.now) ≡ Some row.now }
+impl RowColumns {
+    /// The frames of the tape that was voted for, one a byte.
+    pub(crate) fn frames(&self) -> Option<&[u8]>
+        ensures { option_map (λ b. b.now) result ≡ self.now.tape }
+    {
+        match &self.tape {
+            None => None,
+            Some(tape) => Some(tape.frames()),
+        }
+    }
+}
+
+/// The tape that was voted for, where layout 1 has a row for the entry.
+fn voted_tape(alloc: Global, vote: &Vote) -> Result<Tape, AllocError>
+    requires { Fits One vote.now.entry }
+    ensures tape { IfOk result (λ tape. vote.now.entry ≡ Taped tape) }
+    ensures is_tape { IfOk result IsTape }
+{
+    // An entry may be lent packed, and a row has a byte for each frame.
+    match vote.entry().copy(alloc)? {
+        Entry::Void => unreachable!(),
+        Entry::Tape(tape) => {
+            // What a tape is, is known once it is read.
+            let _frames = tape.frames();
+            Ok(tape)
+        }
+    }
+}
+
+/// The columns of a row that has a promise, and a vote for a tape where it has one; they are the row again.
+pub(crate) fn columns_for(alloc: Global, row: &Row) -> Result<RowColumns, AllocError>
+    requires promise { HasPromise row.now }
+    requires fits { RowFits One row.now }
+    ensures columns { IfOk result (λ c. columns_of c.promised_round c.promised_owner c.vote_round c.vote_owner c.tape ≡ columns_for row.now) }
+    ensures back { OnOk result (ComesBack row.now) }
 {
     let Some(promise) = row.promised() else {
         unreachable!()
     };
     let promised_round = promise.round();
     let promised_owner = u32::from(promise.owner().get());
-    match row.vote() {
-        None => RowColumns {
+    let Some(vote) = row.vote() else {
+        return Ok(RowColumns {
             promised_round,
             promised_owner,
             vote_round: None,
             vote_owner: None,
             tape: None,
-        },
-        Some(vote) => RowColumns {
-            promised_round,
-            promised_owner,
-            vote_round: Some(vote.ballot().round()),
-            vote_owner: Some(u32::from(vote.ballot().owner().get())),
-            tape: Some(vote.tape().frames()),
-        },
-    }
+        });
+    };
+    let ballot = vote.ballot();
+    let tape = voted_tape(alloc, vote)?;
+    Ok(RowColumns {
+        promised_round,
+        promised_owner,
+        vote_round: Some(ballot.round()),
+        vote_owner: Some(u32::from(ballot.owner().get())),
+        tape: Some(tape),
+    })
 }

@@ -8,7 +8,8 @@ ghost use Rattle.row_table.specs.Tables.{no_schema, row_schema};
 ghost use Rattle.row_table.specs.Station.{HoldsNone};
 ghost use Rattle.saved_rows.specs.Identity.{IsIdentity};
 ghost use Rattle.acceptor_store.specs.StationRow.{stored_identity};
-ghost use Rattle.saved_rows.specs.Saved.{SameRows, WithRow, IsEither, IsListOf, HasPromise, Rises};
+ghost use Rattle.protocol.specs.Versions.{One};
+ghost use Rattle.saved_rows.specs.Saved.{SameRows, WithRow, IsEither, IsListOf, HasPromise, RowFits, AreFitting, Rises};
 
 use crate::statements::{fault_of, list, read, save};
 use crate::taking_up::take_up;
@@ -19,8 +20,10 @@ use sqlite::{Alter, Connection};
 use sqlite_schema::schema::Schema;
 use std::alloc::Global;
 use std::marker::Model;
+use tape_frames::Version;
 
-/// Rows in a database, in its table `acceptor_row` beside the table `station` that says whose they are.
+/// Rows in a database, in its table `acceptor_row` beside the table `station` that says whose they are. They are at
+/// version 1, whose layout is 1: a vote in it is for a tape of at most 4,096 frames.
 ///
 /// They are kept where their tables are those that [`SqliteRows::create`] makes, and no others, and the disk has
 /// returned what was written. The first is the store's to give: `create` in an empty database makes them so,
@@ -168,12 +171,13 @@ impl<S: Alter + Drop> SqliteRows<S> {
         }
     }
 
-    /// All rows that are saved, in order of their numbers. No row is changed.
+    /// All rows that are saved, in order of their numbers; version 1 has each. No row is changed.
     ///
     /// A refusal is counted: `Store` after a refused `put`, or where the statement was refused; `OutOfMemory`;
     /// `Damaged` only where another wrote to the database.
     pub fn all(&mut self) -> Result<Vec<(Number, Row)>, RowsFault>
         ensures rows { IsKept S.Store self.new → IfOk result (λ rows. IsListOf (saved_of S.Store self.old) rows.items) }
+        ensures fits { IfOk result (λ rows. AreFitting One rows.items) }
         ensures open { IsKept S.Store self.new → OnOk result (IsOpen S.Store self.new) }
         ensures same { IsKept S.Store self.new → IsOpen S.Store self.new → SameRows (saved_of S.Store self.old) (saved_of S.Store self.new) }
         ensures cause { OnErr result (Rises self.old.refusals self.new.refusals) }
@@ -238,14 +242,21 @@ impl<S: Alter + Drop> Rows for SqliteRows<S> {
 
     ghost saved = { saved_of S.Store };
 
+    ghost version = { λ _. One };
+
     ghost refusals = { λ s. s.refusals };
 
     ghost blames = { Blames S.Store };
 
     ghost halves = { λ _. (λ both. both, λ both. both) };
 
+    fn version(&self) -> Version {
+        Version::One
+    }
+
     fn get(&mut self, number: Number) -> Result<Row, RowsFault>
         ensures row { IsKept S.Store self.new → IfOk result (λ row. row ≡ saved_of S.Store self.old number) }
+        ensures fits { IfOk result (RowFits One) }
         ensures open { IsKept S.Store self.new → OnOk result (IsOpen S.Store self.new) }
         ensures same { IsKept S.Store self.new → IsOpen S.Store self.new → SameRows (saved_of S.Store self.old) (saved_of S.Store self.new) }
         ensures cause { OnErr result (Rises self.old.refusals self.new.refusals) }
@@ -275,7 +286,8 @@ impl<S: Alter + Drop> Rows for SqliteRows<S> {
     }
 
     fn put(&mut self, number: Number, row: &Row) -> Result<(), RowsFault>
-        requires { HasPromise row.now }
+        requires promise { HasPromise row.now }
+        requires fits { RowFits One row.now }
         ensures row { IsKept S.Store self.new → OnOk result (WithRow (saved_of S.Store self.old) number row.now (saved_of S.Store self.new)) }
         ensures open { IsKept S.Store self.new → OnOk result (IsOpen S.Store self.new) }
         ensures either { IsKept S.Store self.new → OnErr result ((¬ IsOpen S.Store self.new) ⊎ IsEither (saved_of S.Store self.old) number row.now (saved_of S.Store self.new)) }
@@ -306,7 +318,7 @@ impl<S: Alter + Drop> Rows for SqliteRows<S> {
             self.refusals = self.refusals.saturating_add(1);
             return Err(RowsFault::Store);
         }
-        match save(&mut self.conn, number, row) {
+        match save(self.alloc, &mut self.conn, number, row) {
             Ok(()) => Ok(()),
             Err(fault) => {
                 self.stopped = true;

@@ -1,13 +1,14 @@
 //! Rows read and saved by the statements of the tables.
 
-ghost use Rattle.std.specs.Prelude.{◌≡◌, ◌⊎◌, ◌≤◌, Some, IsTrue, IfOk, IfErr, OnOk, OnErr};
+ghost use Rattle.std.specs.Prelude.{◌≡◌, ◌⊎◌, ◌≤◌, IsTrue, IfOk, IfErr, OnOk, OnErr};
 ghost use Rattle.sqlite_trees.specs.View.{doubt};
 ghost use Rattle.sqlite.specs.State.{HasCleanDisk};
 ghost use Rattle.sqlite.specs.Held.{state};
 ghost use Rattle.row_table.specs.Tables.{rows_tree};
 ghost use Rattle.row_table.specs.Rows.{Serves, SavesIn, WasSaved, WasKept};
-ghost use Rattle.saved_rows.specs.Saved.{HasPromise, IsListOf};
-ghost use Rattle.acceptor_store.specs.Columns.{columns_for, row_in, saved_in, AreSound};
+ghost use Rattle.protocol.specs.Versions.{One};
+ghost use Rattle.saved_rows.specs.Saved.{HasPromise, RowFits, AreFitting, IsListOf};
+ghost use Rattle.acceptor_store.specs.Columns.{columns_for, saved_in, AreSound, ComesBack};
 ghost use Rattle.acceptor_store.specs.Sqlite.{IsRefusal};
 
 use crate::columns::{columns_for, damage_in, items_in, row_in};
@@ -27,35 +28,40 @@ pub(crate) fn fault_of(error: &Error) -> RowsFault
     }
 }
 
-/// Saves a row that has a promise: one statement.
+/// Saves a row that has a promise, and that layout 1 has: one statement.
 pub(crate) fn save<S: Alter>(
+    alloc: Global,
     conn: &mut Connection<S>,
     number: Number,
     row: &Row,
 ) -> Result<(), RowsFault>
-    requires { HasPromise row.now }
+    requires promise { HasPromise row.now }
+    requires fits { RowFits One row.now }
     ensures serves { Serves (state S.Store conn.old) → Serves (state S.Store conn.new) }
     ensures saved { Serves (state S.Store conn.old) → HasCleanDisk (state S.Store conn.new) → OnOk result (WasSaved number (columns_for row.now) (state S.Store conn.old) (state S.Store conn.new)) }
     ensures err { Serves (state S.Store conn.old) → HasCleanDisk (state S.Store conn.new) → IsTrue (state S.Store conn.new).is_open → OnErr result (WasKept (state S.Store conn.old) (state S.Store conn.new)) }
     ensures crash { Serves (state S.Store conn.old) → HasCleanDisk (state S.Store conn.new) → IsTrue (state S.Store conn.old).is_open
-        → (db : _) → (state S.Store conn.new).may_leave db → (db ≡ (state S.Store conn.old).now.trees) ⊎ SavesIn number (columns_for row.now) (state S.Store conn.old).now.trees db }
+        → (db : _) → (state S.Store conn.new).may_leave db → (db ≡ (state S.Store conn.old).now.trees) ⊎ (ComesBack row.now × SavesIn number (columns_for row.now) (state S.Store conn.old).now.trees db) }
     ensures clean { doubt (state S.Store conn.old).is_clean ≤ doubt (state S.Store conn.new).is_clean }
     ensures refusal { IfErr result IsRefusal }
 
     // The columns are the row again.
-    ensures back { row_in 0 (columns_for row.now) ≡ Some row.now }
+    ensures back { OnOk result (ComesBack row.now) }
     ensures low { 1 ≤ number }
     ensures high { number ≤ 999999 }
 {
-    let columns = columns_for(row);
+    let key = number.get();
+    let Ok(columns) = columns_for(alloc, row) else {
+        return Err(RowsFault::OutOfMemory);
+    };
     let ran = put_row(
         conn,
-        number.get(),
+        key,
         columns.promised_round,
         columns.promised_owner,
         columns.vote_round,
         columns.vote_owner,
-        columns.tape,
+        columns.frames(),
     );
     match ran {
         Ok(()) => Ok(()),
@@ -63,7 +69,7 @@ pub(crate) fn save<S: Alter>(
     }
 }
 
-/// Reads the row of a number, blank where there is none.
+/// Reads the row of a number, blank where there is none. Version 1 has it.
 pub(crate) fn read<S: Alter>(
     alloc: Global,
     conn: &mut Connection<S>,
@@ -71,6 +77,7 @@ pub(crate) fn read<S: Alter>(
 ) -> Result<Row, RowsFault>
     ensures serves { Serves (state S.Store conn.old) → Serves (state S.Store conn.new) }
     ensures row { Serves (state S.Store conn.old) → HasCleanDisk (state S.Store conn.new) → IfOk result (λ row. row ≡ saved_in (state S.Store conn.old).now.trees number) }
+    ensures fits { IfOk result (RowFits One) }
     ensures open { Serves (state S.Store conn.old) → HasCleanDisk (state S.Store conn.new) → OnOk result (IsTrue (state S.Store conn.new).is_open) }
     ensures same { Serves (state S.Store conn.old) → HasCleanDisk (state S.Store conn.new) → IsTrue (state S.Store conn.new).is_open → WasKept (state S.Store conn.old) (state S.Store conn.new) }
     ensures crash { Serves (state S.Store conn.old) → HasCleanDisk (state S.Store conn.new) → IsTrue (state S.Store conn.old).is_open
@@ -96,13 +103,14 @@ pub(crate) fn read<S: Alter>(
     }
 }
 
-/// Reads all rows, in order of their numbers.
+/// Reads all rows, in order of their numbers. Version 1 has each.
 pub(crate) fn list<S: Alter>(
     alloc: Global,
     conn: &mut Connection<S>,
 ) -> Result<Vec<(Number, Row)>, RowsFault>
     ensures serves { Serves (state S.Store conn.old) → Serves (state S.Store conn.new) }
     ensures listed { Serves (state S.Store conn.old) → HasCleanDisk (state S.Store conn.new) → IfOk result (λ items. IsListOf (saved_in (state S.Store conn.old).now.trees) items.items) }
+    ensures fits { IfOk result (λ items. AreFitting One items.items) }
     ensures open { Serves (state S.Store conn.old) → HasCleanDisk (state S.Store conn.new) → OnOk result (IsTrue (state S.Store conn.new).is_open) }
     ensures same { Serves (state S.Store conn.old) → HasCleanDisk (state S.Store conn.new) → IsTrue (state S.Store conn.new).is_open → WasKept (state S.Store conn.old) (state S.Store conn.new) }
     ensures crash { Serves (state S.Store conn.old) → HasCleanDisk (state S.Store conn.new) → IsTrue (state S.Store conn.old).is_open

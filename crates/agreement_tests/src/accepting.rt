@@ -1,24 +1,22 @@
 //! Worked runs of an acceptor.
 
-use crate::rows::{At, Frames, ballot, parts};
+use crate::rows::{Agreed, At, FLOOD, LIGATURE, LONGEST, VOID, ballot, is_entry, owned, parts};
 use acceptor::{Reply, Request, run};
 use ballots::Vote;
-use fixtures::{FLOOD, LIGATURE, LONGEST};
 use std::alloc::Global;
-use tape_frames::Tape;
 
 /// What an acceptor is asked.
 #[derive(Clone, Copy)]
 pub enum Asked {
     Prepare(At),
-    Accept(At, Frames),
+    Accept(At, Agreed),
 }
 
 /// What it has to say.
 #[derive(Clone, Copy)]
 pub enum Said {
     Promise,
-    Report(At, Frames),
+    Report(At, Agreed),
     Silent,
     Nack(At),
     Voted,
@@ -30,7 +28,7 @@ struct Story {
     name: &'static str,
     steps: &'static [(Asked, Said)],
     promised: At,
-    voted: Option<(At, Frames)>,
+    voted: Option<(At, Agreed)>,
 }
 
 fn request(alloc: Global, asked: Asked) -> Option<Request> {
@@ -38,9 +36,9 @@ fn request(alloc: Global, asked: Asked) -> Option<Request> {
         Asked::Prepare(at) => Some(Request::Prepare {
             ballot: ballot(at)?,
         }),
-        Asked::Accept(at, frames) => Some(Request::Accept {
+        Asked::Accept(at, agreed) => Some(Request::Accept {
             ballot: ballot(at)?,
-            tape: Tape::from_bytes(alloc, frames).ok()?,
+            entry: owned(alloc, agreed)?,
         }),
     }
 }
@@ -57,8 +55,8 @@ fn requests(alloc: Global, steps: &[(Asked, Said)]) -> Option<Vec<Request>> {
 fn says(reply: &Reply, said: Said) -> bool {
     match (reply, said) {
         (Reply::Promise { report: None }, Said::Promise) => true,
-        (Reply::Promise { report: Some(vote) }, Said::Report(voted, frames)) => {
-            parts(vote.ballot()) == voted && vote.tape().frames() == frames
+        (Reply::Promise { report: Some(vote) }, Said::Report(voted, agreed)) => {
+            parts(vote.ballot()) == voted && is_entry(&vote.entry(), agreed)
         }
         (Reply::Silent, Said::Silent) => true,
         (Reply::Nack { promised }, Said::Nack(above)) => parts(*promised) == above,
@@ -79,11 +77,11 @@ fn as_told(replies: &[Reply], steps: &[(Asked, Said)]) -> usize {
 }
 
 /// Whether the vote is this one, or there is none.
-fn is_vote(vote: Option<&Vote>, voted: Option<(At, Frames)>) -> bool {
+fn is_vote(vote: Option<&Vote>, voted: Option<(At, Agreed)>) -> bool {
     match (vote, voted) {
         (None, None) => true,
-        (Some(vote), Some((at, frames))) => {
-            parts(vote.ballot()) == at && vote.tape().frames() == frames
+        (Some(vote), Some((at, agreed))) => {
+            parts(vote.ballot()) == at && is_entry(&vote.entry(), agreed)
         }
         _ => false,
     }
@@ -94,7 +92,7 @@ pub fn is_run(
     alloc: Global,
     steps: &[(Asked, Said)],
     promised: At,
-    voted: Option<(At, Frames)>,
+    voted: Option<(At, Agreed)>,
 ) -> bool {
     let Some(requests) = requests(alloc, steps) else {
         return false;
@@ -160,6 +158,28 @@ const STORIES: &[Story] = &[
         ],
         promised: (1, 3),
         voted: Some(((1, 1), LONGEST)),
+    },
+    Story {
+        name: "a withdrawal is voted for and reported",
+        steps: &[
+            (Asked::Accept((1, 1), VOID), Said::Voted),
+            (Asked::Accept((1, 1), FLOOD), Said::Again),
+            (Asked::Prepare((1, 3)), Said::Report((1, 1), VOID)),
+            (Asked::Accept((1, 3), VOID), Said::Voted),
+        ],
+        promised: (1, 3),
+        voted: Some(((1, 3), VOID)),
+    },
+    Story {
+        name: "a withdrawal takes the place of a tape at a higher ballot alone",
+        steps: &[
+            (Asked::Accept((1, 1), FLOOD), Said::Voted),
+            (Asked::Accept((1, 1), VOID), Said::Again),
+            (Asked::Accept((1, 3), VOID), Said::Voted),
+            (Asked::Prepare((2, 2)), Said::Report((1, 3), VOID)),
+        ],
+        promised: (2, 2),
+        voted: Some(((1, 3), VOID)),
     },
 ];
 

@@ -1,9 +1,9 @@
-//! Random ballots and tapes.
+//! Random ballots and entries.
 
 ghost use Rattle.std.specs.Prelude.{◌≤◌};
 
-use crate::rows::{At, Frames};
-use fixtures::{Dice, FLOOD, HARVEST, LIGATURE};
+use crate::rows::{Agreed, At, FLOOD, HARVEST, LIGATURE, VOID};
+use fixtures::Dice;
 
 /// A ballot of one of three rounds and of one of so many members.
 pub fn drawn_at(dice: &mut Dice, members: u8) -> At
@@ -19,11 +19,12 @@ pub fn drawn_member(dice: &mut Dice, members: u8) -> u8
     1 + dice.throw(u32::from(members)) as u8
 }
 
-/// One of three tapes.
-pub fn drawn_frames(dice: &mut Dice) -> Frames {
-    match dice.throw(3) {
+/// One of three tapes, or a withdrawal.
+pub fn drawn_entry(dice: &mut Dice) -> Agreed {
+    match dice.throw(4) {
         0 => FLOOD,
         1 => LIGATURE,
-        _ => HARVEST,
+        2 => HARVEST,
+        _ => VOID,
     }
 }

@@ -2,19 +2,20 @@
 
 ghost use Rattle.std.specs.Prelude.{◌≡◌, ◌≤◌, IfSome};
 
-use crate::rows::{At, Frames, ballot, parts};
+use crate::rows::{
+    Agreed, At, FLOOD, LIGATURE, LONGEST, PACKED, VOID, ballot, is_entry, lent, parts,
+};
 use ballots::{Ballot, Member};
-use fixtures::{FLOOD, LIGATURE, LONGEST};
 use learner::Heard;
 use std::alloc::Global;
-use tape_frames::TapeRef;
+use tape_frames::EntryRef;
 
 #[derive(Clone, Copy)]
 pub enum Step {
     /// A member's vote, and the ballot at which a majority then votes.
-    Hear(u8, At, Frames, Option<At>),
-    /// The tape that then stands at a ballot.
-    Tape(At, Option<Frames>),
+    Hear(u8, At, Agreed, Option<At>),
+    /// The entry that then stands at a ballot.
+    Entry(At, Option<Agreed>),
 }
 
 /// What the member of a circuit of so many hears.
@@ -24,27 +25,26 @@ struct Story {
     steps: &'static [Step],
 }
 
-/// The member, the ballot and the tape of a vote, in a circuit of so many.
-fn vote_of(members: u8, vote: (u8, At, Frames)) -> Option<(Member, Ballot, TapeRef<'static>)>
+/// The member, the ballot and the entry of a vote, in a circuit of so many.
+fn vote_of(members: u8, vote: (u8, At, Agreed)) -> Option<(Member, Ballot, EntryRef<'static>)>
     ensures { IfSome result (λ v. v.0 ≤ members) }
 {
     let member = Member::new(vote.0)?;
     if member.get() > members {
         return None;
     }
-    let tape = TapeRef::from_bytes(vote.2).ok()?;
-    Some((member, ballot(vote.1)?, tape))
+    Some((member, ballot(vote.1)?, lent(vote.2)?))
 }
 
 /// Whether the vote is answered so.
-fn hears(heard: &mut Heard, members: u8, vote: (u8, At, Frames), ripe: Option<At>) -> bool
+fn hears(heard: &mut Heard, members: u8, vote: (u8, At, Agreed), ripe: Option<At>) -> bool
     requires { heard.old.members ≡ members }
     ensures { heard.new.members ≡ members }
 {
-    let Some((member, ballot, tape)) = vote_of(members, vote) else {
+    let Some((member, ballot, entry)) = vote_of(members, vote) else {
         return false;
     };
-    match heard.hear(member, ballot, tape) {
+    match heard.hear(member, ballot, entry) {
         Ok(answer) => answer.map(parts) == ripe,
         Err(_) => false,
     }
@@ -55,7 +55,7 @@ fn answers(
     heard: &mut Heard,
     members: u8,
     times: u32,
-    vote: (u8, At, Frames),
+    vote: (u8, At, Agreed),
     ripe: Option<At>,
 ) -> bool
     requires { heard.old.members ≡ members }
@@ -69,14 +69,14 @@ fn answers(
     true
 }
 
-/// Whether this tape stands at the ballot.
-fn stands(heard: &Heard, voted: At, frames: Option<Frames>) -> bool {
+/// Whether this entry stands at the ballot.
+fn stands(heard: &Heard, voted: At, agreed: Option<Agreed>) -> bool {
     let Some(ballot) = ballot(voted) else {
         return false;
     };
-    match (heard.tape_at(ballot), frames) {
+    match (heard.tape_at(ballot), agreed) {
         (None, None) => true,
-        (Some(tape), Some(frames)) => tape.frames() == frames,
+        (Some(entry), Some(agreed)) => is_entry(&entry, agreed),
         _ => false,
     }
 }
@@ -87,10 +87,10 @@ fn takes(heard: &mut Heard, members: u8, times: u32, step: Step) -> bool
     ensures { heard.new.members ≡ members }
 {
     match step {
-        Step::Hear(member, voted, frames, ripe) => {
-            answers(heard, members, times, (member, voted, frames), ripe)
+        Step::Hear(member, voted, agreed, ripe) => {
+            answers(heard, members, times, (member, voted, agreed), ripe)
         }
-        Step::Tape(voted, frames) => stands(heard, voted, frames),
+        Step::Entry(voted, agreed) => stands(heard, voted, agreed),
     }
 }
 
@@ -127,14 +127,14 @@ const STORIES: &[Story] = &[
         name: "the least member's tape",
         members: 5,
         steps: &[
-            Step::Tape((1, 1), None),
+            Step::Entry((1, 1), None),
             Step::Hear(3, (1, 1), LIGATURE, None),
             Step::Hear(2, (1, 1), FLOOD, None),
             Step::Hear(2, (1, 1), LIGATURE, None),
-            Step::Tape((1, 1), Some(FLOOD)),
+            Step::Entry((1, 1), Some(FLOOD)),
             Step::Hear(2, (2, 1), FLOOD, None),
-            Step::Tape((1, 1), Some(LIGATURE)),
-            Step::Tape((2, 1), Some(FLOOD)),
+            Step::Entry((1, 1), Some(LIGATURE)),
+            Step::Entry((2, 1), Some(FLOOD)),
         ],
     },
     // the third member never votes: it hears of the two that do
@@ -146,7 +146,7 @@ const STORIES: &[Story] = &[
             Step::Hear(1, (1, 1), FLOOD, None),
             Step::Hear(1, (1, 1), FLOOD, None),
             Step::Hear(2, (1, 1), FLOOD, Some((1, 1))),
-            Step::Tape((1, 1), Some(FLOOD)),
+            Step::Entry((1, 1), Some(FLOOD)),
         ],
     },
     // the second voted for the flood story at 1.1, and again at the third member's ballot
@@ -157,8 +157,8 @@ const STORIES: &[Story] = &[
             Step::Hear(2, (1, 1), FLOOD, None),
             Step::Hear(3, (1, 3), FLOOD, None),
             Step::Hear(2, (1, 3), FLOOD, Some((1, 3))),
-            Step::Tape((1, 1), None),
-            Step::Tape((1, 3), Some(FLOOD)),
+            Step::Entry((1, 1), None),
+            Step::Entry((1, 3), Some(FLOOD)),
         ],
     },
     Story {
@@ -167,7 +167,31 @@ const STORIES: &[Story] = &[
         steps: &[
             Step::Hear(1, (1, 1), LONGEST, None),
             Step::Hear(3, (1, 1), LONGEST, Some((1, 1))),
-            Step::Tape((1, 1), Some(LONGEST)),
+            Step::Entry((1, 1), Some(LONGEST)),
+        ],
+    },
+    Story {
+        name: "a packed tape",
+        members: 3,
+        steps: &[
+            Step::Hear(1, (1, 1), PACKED, None),
+            Step::Entry((1, 1), Some(FLOOD)),
+            Step::Hear(3, (1, 1), FLOOD, Some((1, 1))),
+            Step::Entry((1, 1), Some(PACKED)),
+        ],
+    },
+    Story {
+        name: "a withdrawal",
+        members: 3,
+        steps: &[
+            Step::Hear(3, (1, 1), VOID, None),
+            Step::Entry((1, 1), Some(VOID)),
+            Step::Hear(2, (1, 3), FLOOD, None),
+            Step::Hear(1, (1, 1), VOID, Some((1, 1))),
+            Step::Entry((1, 1), Some(VOID)),
+            Step::Entry((1, 3), Some(FLOOD)),
+            Step::Hear(3, (1, 3), FLOOD, Some((1, 3))),
+            Step::Entry((1, 1), Some(VOID)),
         ],
     },
     Story {

@@ -1,4 +1,4 @@
-//! The tests of ballots, of an acceptor, of a learner and of a proposer: stories that are tables.
+//! The tests of ballots, of rows in memory, of an acceptor, of a learner and of a proposer: stories that are tables.
 #![tactic(auto)]
 
 #[cfg(test)]

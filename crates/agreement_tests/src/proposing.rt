@@ -2,12 +2,13 @@
 
 ghost use Rattle.std.specs.Prelude.{◌≡◌, ◌≤◌, IfSome};
 
-use crate::rows::{At, Frames, ballot, parts};
+use crate::rows::{
+    Agreed, At, FLOOD, LIGATURE, LONGEST, PACKED, VOID, ballot, is_entry, lent, owned, parts,
+};
 use ballots::{Ballot, Member, VoteRef};
-use fixtures::{FLOOD, LIGATURE, LONGEST};
 use proposer::{BeginRefusal, Counted, DueAnswer, Proposal};
 use std::alloc::Global;
-use tape_frames::{Tape, TapeRef};
+use tape_frames::Entry;
 
 /// What happens to a proposal, and what it has to answer.
 #[derive(Clone, Copy)]
@@ -19,11 +20,11 @@ pub enum Step {
     /// Its due moment.
     DueMoment(u64),
     /// A member's promise at a ballot, with a vote that it reports, and what becomes of it.
-    Promise(u8, At, Option<(At, Frames)>, Counted),
+    Promise(u8, At, Option<(At, Agreed)>, Counted),
     /// An acceptor's Nack of a ballot, with what it has promised, and whether it is kept.
     Nack(At, At, bool),
-    /// The tape to propose.
-    Picks(Option<Frames>),
+    /// The entry to propose.
+    Picks(Option<Agreed>),
     /// It is proposed at this moment.
     Proposed(u64),
     /// At this moment, with this saved promise, it waits.
@@ -43,7 +44,7 @@ pub struct Story<'a> {
     pub me: u8,
     pub members: u8,
     pub seen: Option<At>,
-    pub own: Option<Frames>,
+    pub own: Option<Agreed>,
     pub begun_at: u64,
     pub steps: &'a [Step],
 }
@@ -57,13 +58,10 @@ fn seen_ballot(seen: Option<At>) -> Option<Option<Ballot>> {
 }
 
 /// Where there is a report, the vote that is reported.
-fn report_of(report: Option<(At, Frames)>) -> Option<Option<VoteRef<'static>>> {
+fn report_of(report: Option<(At, Agreed)>) -> Option<Option<VoteRef<'static>>> {
     match report {
         None => Some(None),
-        Some((voted, frames)) => {
-            let tape = TapeRef::from_bytes(frames).ok()?;
-            Some(Some(VoteRef::new(ballot(voted)?, tape)))
-        }
+        Some((voted, agreed)) => Some(Some(VoteRef::new(ballot(voted)?, lent(agreed)?))),
     }
 }
 
@@ -83,7 +81,7 @@ fn promises(
     proposal: &mut Proposal,
     from: Member,
     promised: At,
-    report: Option<(At, Frames)>,
+    report: Option<(At, Agreed)>,
     kind: Counted,
 ) -> bool
     requires { from ≤ proposal.old.members }
@@ -145,11 +143,11 @@ fn begins_up_to(proposal: &mut Proposal, last: u32) -> bool
     true
 }
 
-/// Whether this is the tape to propose.
-fn picks(proposal: &Proposal, frames: Option<Frames>) -> bool {
-    match (proposal.pick(), frames) {
+/// Whether this is the entry to propose.
+fn picks(proposal: &Proposal, agreed: Option<Agreed>) -> bool {
+    match (proposal.pick(), agreed) {
         (None, None) => true,
-        (Some(tape), Some(frames)) => tape.frames() == frames,
+        (Some(entry), Some(agreed)) => is_entry(&entry, agreed),
         _ => false,
     }
 }
@@ -163,7 +161,7 @@ fn is_so(proposal: &Proposal, step: Step) -> bool {
             Some(ballot) => proposal.gathers_at(ballot) == gathers,
         },
         Step::DueMoment(moment) => proposal.due_moment() == moment,
-        Step::Picks(frames) => picks(proposal, frames),
+        Step::Picks(agreed) => picks(proposal, agreed),
         _ => false,
     }
 }
@@ -203,11 +201,11 @@ fn taken(proposal: &mut Proposal, members: u8, steps: &[Step]) -> usize
     steps.len()
 }
 
-/// Where there is an own tape, that tape.
-fn own_of(alloc: Global, own: Option<Frames>) -> Option<Option<Tape>> {
+/// Where there is an own entry, that entry.
+fn own_of(alloc: Global, own: Option<Agreed>) -> Option<Option<Entry>> {
     match own {
         None => Some(None),
-        Some(frames) => Some(Some(Tape::from_bytes(alloc, frames).ok()?)),
+        Some(agreed) => Some(Some(owned(alloc, agreed)?)),
     }
 }
 
@@ -231,9 +229,9 @@ pub fn taken_of(alloc: Global, story: &Story<'_>) -> usize {
 }
 
 /// A tape of one frame.
-const ONE_FRAME: Frames = &[1];
+const ONE_FRAME: Agreed = Agreed::Tape(&[1]);
 
-/// A proposal of member 1 of five, with no tape of its own.
+/// A proposal of member 1 of five, with no entry of its own.
 pub const FIRST: Story<'static> = Story {
     name: "",
     me: 1,
@@ -350,6 +348,51 @@ const STORIES: &[Story<'static>] = &[
             Step::Picks(Some(LONGEST)),
             Step::Promise(3, (1, 1), Some(((1, 1), LONGEST)), Counted::Quorum),
             Step::Picks(Some(LONGEST)),
+        ],
+        ..FIRST
+    },
+    Story {
+        name: "a packed tape was reported",
+        me: 3,
+        members: 3,
+        own: Some(LIGATURE),
+        steps: &[
+            Step::Promise(2, (1, 3), Some(((1, 1), PACKED)), Counted::Quorum),
+            Step::Picks(Some(FLOOD)),
+        ],
+        ..FIRST
+    },
+    Story {
+        name: "an own withdrawal",
+        members: 3,
+        own: Some(VOID),
+        steps: &[
+            Step::Promise(3, (1, 1), None, Counted::Quorum),
+            Step::Picks(Some(VOID)),
+            Step::Begins((1, 1), 290, (2, 1)),
+            Step::Picks(Some(VOID)),
+        ],
+        ..FIRST
+    },
+    Story {
+        name: "a withdrawal was reported",
+        me: 3,
+        members: 3,
+        own: Some(FLOOD),
+        steps: &[
+            Step::Promise(2, (1, 3), Some(((1, 1), VOID)), Counted::Quorum),
+            Step::Picks(Some(VOID)),
+        ],
+        ..FIRST
+    },
+    Story {
+        name: "a tape was reported against an own withdrawal",
+        me: 3,
+        members: 3,
+        own: Some(VOID),
+        steps: &[
+            Step::Promise(2, (1, 3), Some(((1, 1), FLOOD)), Counted::Quorum),
+            Step::Picks(Some(FLOOD)),
         ],
         ..FIRST
     },

@@ -1,14 +1,14 @@
 //! Random promises and Nacks, beside a proposer that keeps each of them and looks through them all.
 
-use crate::draws::{drawn_at, drawn_frames, drawn_member};
+use crate::draws::{drawn_at, drawn_entry, drawn_member};
 use crate::proposing::{FIRST, Step, Story, taken_of};
-use crate::rows::{At, Frames};
-use fixtures::{Dice, FLOOD};
+use crate::rows::{Agreed, At, FLOOD};
+use fixtures::Dice;
 use proposer::Counted;
 use std::alloc::Global;
 
 /// A member that promised, and the vote that it reported.
-type Promise = (u8, Option<(At, Frames)>);
+type Promise = (u8, Option<(At, Agreed)>);
 
 /// What was heard since a ballot was begun: the promises that were counted, and the greatest Nack of all.
 #[derive(Drop)]
@@ -20,22 +20,22 @@ struct Notes {
 }
 
 /// The report of greatest ballot, that of the least member where equal.
-fn greatest(promises: &[Promise]) -> Option<Frames> {
-    let mut greatest: Option<(At, u8, Frames)> = None;
+fn greatest(promises: &[Promise]) -> Option<Agreed> {
+    let mut greatest: Option<(At, u8, Agreed)> = None;
     for (member, report) in promises {
-        if let Some((at, frames)) = report {
+        if let Some((at, agreed)) = report {
             let is_greater = match greatest {
                 None => true,
                 Some((voted, least, _)) => voted < *at || (voted == *at && *member < least),
             };
             if is_greater {
-                greatest = Some((*at, *member, *frames));
+                greatest = Some((*at, *member, *agreed));
             }
         }
     }
     match greatest {
         None => None,
-        Some((_, _, frames)) => Some(frames),
+        Some((_, _, agreed)) => Some(agreed),
     }
 }
 
@@ -45,7 +45,7 @@ fn has_promised(promises: &[Promise], member: u8) -> bool {
 }
 
 /// Takes a promise in, and tells what becomes of it in a circuit of five.
-fn count(notes: &mut Notes, from: u8, at: At, report: Option<(At, Frames)>) -> Option<Counted> {
+fn count(notes: &mut Notes, from: u8, at: At, report: Option<(At, Agreed)>) -> Option<Counted> {
     if at != notes.ballot {
         return Some(Counted::Stale);
     }
@@ -74,7 +74,7 @@ fn drawn_promise(dice: &mut Dice, notes: &mut Notes) -> Option<Step> {
     let ballot = drawn_ballot(dice, notes);
     let report = match dice.throw(3) {
         0 => None,
-        _ => Some((drawn_at(dice, 5), drawn_frames(dice))),
+        _ => Some((drawn_at(dice, 5), drawn_entry(dice))),
     };
     let becomes = count(notes, from, ballot, report)?;
     Some(Step::Promise(from, ballot, report, becomes))
@@ -107,7 +107,7 @@ fn begin(notes: &mut Notes) -> Option<Step> {
     Some(Step::Begins(promised, notes.now, notes.ballot))
 }
 
-/// One step, and the tape to propose after it.
+/// One step, and the entry to propose after it.
 fn take_step(dice: &mut Dice, notes: &mut Notes, steps: &mut Vec<Step>) -> Option<()> {
     let step = match dice.throw(8) {
         0 => begin(notes)?,

@@ -1,8 +1,8 @@
 //! Random requests to an acceptor, beside one that keeps no row: it looks through all that it was asked.
 
 use crate::accepting::{Asked, Said, is_run};
-use crate::draws::{drawn_at, drawn_frames};
-use crate::rows::{At, Frames};
+use crate::draws::{drawn_at, drawn_entry};
+use crate::rows::{Agreed, At};
 use fixtures::Dice;
 use std::alloc::Global;
 
@@ -37,16 +37,16 @@ fn greatest(steps: &[(Asked, Said)], many: usize) -> Option<At> {
 }
 
 /// The vote of greatest ballot, the first where equal. An accept is voted for where no request before it has a greater ballot.
-fn vote_of(steps: &[(Asked, Said)]) -> Option<(At, Frames)> {
-    let mut vote: Option<(At, Frames)> = None;
+fn vote_of(steps: &[(Asked, Said)]) -> Option<(At, Agreed)> {
+    let mut vote: Option<(At, Agreed)> = None;
     for (before, (asked, _)) in steps.iter().enumerate() {
-        if let Asked::Accept(at, frames) = asked {
+        if let Asked::Accept(at, agreed) = asked {
             let is_voted_for = match greatest(steps, before) {
                 None => true,
                 Some(promised) => promised <= *at,
             };
             if is_voted_for && is_above(*at, vote.map(|voted| voted.0)) {
-                vote = Some((*at, *frames));
+                vote = Some((*at, *agreed));
             }
         }
     }
@@ -61,7 +61,7 @@ fn said(before: &[(Asked, Said)], asked: Asked) -> Said {
         (Asked::Prepare(at), Some(promised)) if promised == at => Said::Silent,
         (Asked::Prepare(_), _) => match vote {
             None => Said::Promise,
-            Some((voted, frames)) => Said::Report(voted, frames),
+            Some((voted, agreed)) => Said::Report(voted, agreed),
         },
         (Asked::Accept(at, _), _) => match vote {
             Some((voted, _)) if voted == at => Said::Again,
@@ -77,7 +77,7 @@ fn drawn(alloc: Global, dice: &mut Dice) -> Option<Steps> {
         let at = drawn_at(dice, 3);
         let asked = match dice.throw(2) {
             0 => Asked::Prepare(at),
-            _ => Asked::Accept(at, drawn_frames(dice)),
+            _ => Asked::Accept(at, drawn_entry(dice)),
         };
         let answer = said(&steps, asked);
         steps.push((asked, answer)).ok()?;

@@ -2,35 +2,35 @@
 
 ghost use Rattle.std.specs.Prelude.{◌≤◌};
 
-use crate::draws::{drawn_at, drawn_frames, drawn_member};
+use crate::draws::{drawn_at, drawn_entry, drawn_member};
 use crate::hearing::{Step, taken};
-use crate::rows::{At, Frames};
+use crate::rows::{Agreed, At};
 use fixtures::Dice;
 use std::alloc::Global;
 
 /// A member's vote.
-type Vote = (u8, At, Frames);
+type Vote = (u8, At, Agreed);
 
 /// The member's vote of greatest ballot, the first where equal.
-fn latest(votes: &[Vote], member: u8) -> Option<(At, Frames)> {
-    let mut latest: Option<(At, Frames)> = None;
-    for (from, at, frames) in votes {
+fn latest(votes: &[Vote], member: u8) -> Option<(At, Agreed)> {
+    let mut latest: Option<(At, Agreed)> = None;
+    for (from, at, agreed) in votes {
         let is_later = match latest {
             None => true,
             Some((voted, _)) => voted < *at,
         };
         if *from == member && is_later {
-            latest = Some((*at, *frames));
+            latest = Some((*at, *agreed));
         }
     }
     latest
 }
 
-/// The tape of the least member whose latest vote is at this ballot.
-fn least_at(votes: &[Vote], members: u8, at: At) -> Option<Frames> {
+/// The entry of the least member whose latest vote is at this ballot.
+fn least_at(votes: &[Vote], members: u8, at: At) -> Option<Agreed> {
     for member in 1..16 {
         match latest(votes, member) {
-            Some((voted, frames)) if voted == at && member <= members => return Some(frames),
+            Some((voted, agreed)) if voted == at && member <= members => return Some(agreed),
             _ => {}
         }
     }
@@ -59,7 +59,7 @@ fn ripe(votes: &[Vote], members: u8) -> Option<At> {
     None
 }
 
-/// Up to thirty votes in a circuit of so many, and after each the tape that stands at its ballot and at another.
+/// Up to thirty votes in a circuit of so many, and after each the entry that stands at its ballot and at another.
 fn drawn(alloc: Global, dice: &mut Dice, members: u8) -> Option<Vec<Step>>
     requires { 1 ≤ members }
 {
@@ -67,14 +67,14 @@ fn drawn(alloc: Global, dice: &mut Dice, members: u8) -> Option<Vec<Step>>
     let mut steps = Vec::new(alloc);
     for _ in 0..dice.throw(31) {
         let (from, voted) = (drawn_member(dice, members), drawn_at(dice, 2));
-        let (frames, other) = (drawn_frames(dice), drawn_at(dice, 2));
-        votes.push((from, voted, frames)).ok()?;
+        let (agreed, other) = (drawn_entry(dice), drawn_at(dice, 2));
+        votes.push((from, voted, agreed)).ok()?;
         let chosen = ripe(&votes, members);
-        steps.push(Step::Hear(from, voted, frames, chosen)).ok()?;
+        steps.push(Step::Hear(from, voted, agreed, chosen)).ok()?;
         let own = least_at(&votes, members, voted);
-        steps.push(Step::Tape(voted, own)).ok()?;
+        steps.push(Step::Entry(voted, own)).ok()?;
         let stands = least_at(&votes, members, other);
-        steps.push(Step::Tape(other, stands)).ok()?;
+        steps.push(Step::Entry(other, stands)).ok()?;
     }
     Some(steps)
 }

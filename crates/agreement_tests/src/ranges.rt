@@ -1,10 +1,10 @@
 //! Members, numbers, ballots, majorities and saved rows.
 
-use crate::rows::{At, Frames, ballot, parts};
+use crate::rows::{Agreed, At, FLOOD, LONGEST, VOID, ballot, is_entry, owned, parts};
 use ballots::{Ballot, Member, Number, Row, Vote, majority};
-use fixtures::{FLOOD, LONGEST};
+use saved_rows::{MemoryRows, Rows};
 use std::alloc::Global;
-use tape_frames::Tape;
+use tape_frames::Version;
 
 const MEMBERS: &[(u8, bool)] = &[(0, false), (15, true), (16, false)];
 
@@ -108,10 +108,10 @@ fn majorities(rt: HostRuntime) {
     }
 }
 
-/// A copy of a vote for this tape at 1.1, and of the copy, lent.
-fn vote(alloc: Global, frames: Frames) -> Option<Vote> {
-    let tape = Tape::from_bytes(alloc, frames).ok()?;
-    let copy = Vote::new(ballot((1, 1))?, tape).copy(alloc).ok()?;
+/// A copy of a vote for this entry at 1.1, and of the copy, lent.
+fn vote(alloc: Global, agreed: Agreed) -> Option<Vote> {
+    let entry = owned(alloc, agreed)?;
+    let copy = Vote::new(ballot((1, 1))?, entry).copy(alloc).ok()?;
     copy.lend().copy(alloc).ok()
 }
 
@@ -124,31 +124,64 @@ fn is_refused(alloc: Global) -> bool {
 }
 
 /// A copy of the row with the vote and a promise of 1.3.
-fn row(alloc: Global, frames: Frames) -> Option<Row> {
-    let row = Row::new(Some(ballot((1, 3))?), Some(vote(alloc, frames)?))?;
+fn row(alloc: Global, agreed: Agreed) -> Option<Row> {
+    let row = Row::new(Some(ballot((1, 3))?), Some(vote(alloc, agreed)?))?;
     row.copy(alloc).ok()
 }
 
 /// Whether that row has this promise, and the vote at this ballot.
-fn holds(alloc: Global, frames: Frames, promised: At, voted: At) -> bool {
-    let Some(row) = row(alloc, frames) else {
+fn holds(alloc: Global, agreed: Agreed, promised: At, voted: At) -> bool {
+    let Some(row) = row(alloc, agreed) else {
         return false;
     };
     let vote_stands = match row.vote() {
         None => false,
-        Some(vote) => parts(vote.ballot()) == voted && vote.tape().frames() == frames,
+        Some(vote) => parts(vote.ballot()) == voted && is_entry(&vote.entry(), agreed),
     };
     vote_stands && row.promised().map(parts) == Some(promised)
 }
 
+const VOTED: &[(&str, Agreed)] = &[
+    ("the flood story", FLOOD),
+    ("the longest tape", LONGEST),
+    ("a withdrawal", VOID),
+];
+
 #[test]
 fn saved_rows(rt: HostRuntime) {
     assert!(rt; is_refused(rt.alloc()));
-    for frames in &[FLOOD, LONGEST] {
-        assert!(rt;
-            holds(rt.alloc(), frames, (1, 3), (1, 1)),
-            "{}",
-            frames.len()
-        );
+    for (name, agreed) in VOTED {
+        assert!(rt; holds(rt.alloc(), *agreed, (1, 3), (1, 1)), "{name}");
+    }
+}
+
+/// The version of these rows, where they have no row of number 12.
+fn version_of(rows: &mut MemoryRows) -> Option<Version> {
+    match rows.get(Number::new(12)?) {
+        Ok(row) if row.promised().is_none() && row.vote().is_none() => Some(rows.version()),
+        _ => None,
+    }
+}
+
+/// The same of rows in memory that are made at a version, or at none that is told.
+fn version_at(alloc: Global, version: Option<Version>) -> Option<Version> {
+    let mut rows = match version {
+        None => MemoryRows::new(alloc),
+        Some(version) => MemoryRows::at(alloc, version),
+    };
+    version_of(&mut rows)
+}
+
+const VERSIONS: &[(Option<Version>, Version)] = &[
+    (None, Version::One),
+    (Some(Version::One), Version::One),
+    (Some(Version::Two), Version::Two),
+];
+
+/// No row is asked for that takes memory, and the rows take none.
+#[test]
+fn rows_in_memory(rt: HostRuntime) {
+    for (told, version) in VERSIONS {
+        assert!(rt; version_at(rt.alloc(), *told) == Some(*version));
     }
 }

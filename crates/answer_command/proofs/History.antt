@@ -2,11 +2,13 @@
 use Rattle.std.proofs.Common.{◌≡◌, ℕ, List, [], ◌∷◌, ◌++◌, true, false, cond, eqb, Result, Ok, Err, refl, ap, sym, ◌∙◌}
 use Rattle.std.specs.Prelude.{OnOk}
 use Rattle.std.proofs.lemmas.Bool.{eqb-true}
+use Rattle.protocol.specs.Versions.{Version}
 use Rattle.protocol.specs.Rows.{Row}
-use Rattle.protocol.specs.Acceptor.{Request, Reply, row_after, reply_after, reply_of, next_row, StepsAreOfTheWhole}
+use Rattle.protocol.specs.Packets.{Accepted}
+use Rattle.protocol.specs.Acceptor.{Request, Reply, Votes, row_after, reply_after, reply_of, next_row, StepsAreOfTheWhole}
 use Rattle.saved_rows.specs.Saved.{WithRow}
 use Rattle.answer_command.specs.Asked.{Asked}
-use Rattle.answer_command.specs.Replies.{answered, reply_text, rows_after}
+use Rattle.answer_command.specs.Replies.{answered, reply_text, rows_after, sent_back, voted_entry}
 use Rattle.answer_command.specs.AnswerText.{requests_for, heard_after, line_text, Stands}
 use Rattle.command_ends.specs.declared.refusal.Refusal.{Refusal}
 
@@ -20,14 +22,14 @@ requests_for-more n (h ∷ hs) k r =
     ]
 
 -- the text of a line is that behind the requests heard
-pub text_stands : StepsAreOfTheWhole → (circuit me : ℕ) (rows : ℕ → Row) (heard : List (ℕ × Request)) (asked : Result Asked Refusal) → Stands rows heard → answered circuit me rows asked ≡ line_text circuit me heard asked
-text_stands steps circuit me rows heard (Err refusal) s = refl
-text_stands steps circuit me rows heard (Ok asked) s =
+pub text_stands : StepsAreOfTheWhole → (circuit me : ℕ) (v : Version) (rows : ℕ → Row) (heard : List (ℕ × Request)) (asked : Result Asked Refusal) → Stands rows heard → answered circuit me v rows asked ≡ line_text circuit me v heard asked
+text_stands steps circuit me v rows heard (Err refusal) s = refl
+text_stands steps circuit me v rows heard (Ok asked) s =
     let before = requests_for asked.number heard in
     let row : rows asked.number ≡ row_after before = s asked.number in
     let reply : reply_of (rows asked.number) asked.request ≡ reply_after before asked.request = ap (λ (r : Row). reply_of r asked.request) row ∙ (steps before asked.request).1 in
     let next : next_row (rows asked.number) asked.request ≡ row_after (before ++ asked.request ∷ []) = ap (λ (r : Row). next_row r asked.request) row ∙ (steps before asked.request).0 in
-    ap (λ (r : Reply). reply_text circuit me asked r (next_row (rows asked.number) asked.request)) reply ∙ ap (λ (r : Row). reply_text circuit me asked (reply_after before asked.request) r) next
+    ap (λ (r : Reply). reply_text circuit me v asked r (next_row (rows asked.number) asked.request)) reply ∙ ap (λ (r : Row). reply_text circuit me v asked (reply_after before asked.request) r) next
 
 -- and the rows after it stand for the requests heard after it
 pub rows_stand : StepsAreOfTheWhole → (rows new : ℕ → Row) (heard : List (ℕ × Request)) (asked : Result Asked Refusal) → Stands rows heard → ((n : ℕ) → new n ≡ rows_after rows asked n) → Stands new (heard_after heard asked)
@@ -57,3 +59,7 @@ stays_on_ok (Err x) rows n row e = tt
 -- a row that was saved, by another name of it
 pub saved_as : (rows new : ℕ → Row) (n : ℕ) (row other : Row) → WithRow rows n row new → row ≡ other → WithRow rows n other new
 saved_as rows new n row other saved e = rw (← e) saved
+
+-- the text of a vote is that of the reply, where the reply is to vote and the row that voted is the one after it
+pub voted_text : (circuit me : ℕ) (v : Version) (asked : Asked) (text : List ℕ) (row next : Row) (reply : Reply) → text ≡ sent_back circuit me v asked (Accepted (voted_entry row.vote)) → Votes ≡ reply → row ≡ next → text ≡ reply_text circuit me v asked reply next
+voted_text circuit me v asked text row next reply sent votes after = rw (← votes, ← after) sent

@@ -1,6 +1,7 @@
 -- What `answer` writes for a whole input: each line is answered behind all the requests before it.
 use Rattle.std.specs.Prelude.{◌≡◌, ℕ, List, [], ◌∷◌, ◌++◌, Bool, ◌==◌, Result, Ok, Err, if◌then◌else◌}
 use Rattle.std.specs.List.{list_all, slice_split}
+use Rattle.protocol.specs.Versions.{Version}
 use Rattle.protocol.specs.Rows.{Row}
 use Rattle.protocol.specs.Acceptor.{Request, row_after, reply_after}
 use Rattle.answer_command.specs.Asked.{Asked, asked_of}
@@ -26,21 +27,21 @@ heard_after heard (Err refusal) = heard
 heard_after heard (Ok asked) = heard ++ (asked.number, asked.request) ∷ []
 
 -- the text of a line behind the requests heard before it
-abbrev pub line_text : ℕ → ℕ → List (ℕ × Request) → Result Asked Refusal → List ℕ
-line_text circuit me heard (Err refusal) = refused_text refusal
-line_text circuit me heard (Ok asked) =
-    reply_text circuit me asked (reply_after (requests_for asked.number heard) asked.request) (row_after (requests_for asked.number heard ++ asked.request ∷ []))
+abbrev pub line_text : ℕ → ℕ → Version → List (ℕ × Request) → Result Asked Refusal → List ℕ
+line_text circuit me v heard (Err refusal) = refused_text refusal
+line_text circuit me v heard (Ok asked) =
+    reply_text circuit me v asked (reply_after (requests_for asked.number heard) asked.request) (row_after (requests_for asked.number heard ++ asked.request ∷ []))
 
 -- the texts of these lines behind the requests heard before them
-abbrev pub lines_text : ℕ → ℕ → List (ℕ × Request) → List (List ℕ) → List ℕ
-lines_text circuit me heard [] = []
-lines_text circuit me heard (line ∷ lines) =
-    if is_blank line then lines_text circuit me heard lines else
-    (line_text circuit me heard (asked_of circuit me line) ++ 10 ∷ []) ++ lines_text circuit me (heard_after heard (asked_of circuit me line)) lines
+abbrev pub lines_text : ℕ → ℕ → Version → List (ℕ × Request) → List (List ℕ) → List ℕ
+lines_text circuit me v heard [] = []
+lines_text circuit me v heard (line ∷ lines) =
+    if is_blank line then lines_text circuit me v heard lines else
+    (line_text circuit me v heard (asked_of circuit me v line) ++ 10 ∷ []) ++ lines_text circuit me v (heard_after heard (asked_of circuit me v line)) lines
 
--- the whole text for an input, of the acceptor `me` of this circuit
-abbrev pub answer_text : ℕ → ℕ → List ℕ → List ℕ
-answer_text circuit me input = lines_text circuit me [] (lines_of input)
+-- the whole text for an input, of the acceptor `me` of this circuit, which reads and replies in this version
+abbrev pub answer_text : ℕ → ℕ → Version → List ℕ → List ℕ
+answer_text circuit me v input = lines_text circuit me v [] (lines_of input)
 
 -- each number's row is the one after the requests heard for it
 abbrev pub Stands : (ℕ → Row) → List (ℕ × Request) → Type 0

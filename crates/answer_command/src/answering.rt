@@ -4,6 +4,7 @@ ghost use Rattle.std.specs.Prelude.{◌≡◌, ◌==◌, List, ℕ, [], ◌∷�
 ghost use Rattle.std.specs.List.{list_all, slice_split};
 ghost use Rattle.std.specs.Io.KnownBytes.{Appends};
 ghost use Rattle.streams.specs.Fronts.{AppendsFront};
+ghost use Rattle.tape_frames.specs.Entries.{version_of};
 ghost use Rattle.saved_rows.specs.Memory.{saved};
 ghost use Rattle.answer_command.specs.Asked.{asked_of};
 ghost use Rattle.answer_command.specs.Replies.{answered, rows_after};
@@ -18,6 +19,7 @@ use saved_rows::MemoryRows;
 use std::alloc::{AllocError, Global};
 use std::io::{Read, Write};
 use streams::{put_all, read_input};
+use tape_frames::Version;
 
 fn is_blank(line: &[u8]) -> bool
     ensures { result ≡ is_blank line.now }
@@ -46,9 +48,11 @@ fn put_line<W: Write>(
     line: &[u8],
     out: &mut W,
 ) -> Result<(), Stop>
-    ensures text { OnOk result (Appends (W.contents out.old) (W.contents out.new) (answered seat.now.circuit seat.now.me (saved rows.old) (asked_of seat.now.circuit seat.now.me line.now) ++ 10 ∷ [])) }
-    ensures front { OnErr result (AppendsFront (W.contents out.old) (W.contents out.new) (answered seat.now.circuit seat.now.me (saved rows.old) (asked_of seat.now.circuit seat.now.me line.now) ++ 10 ∷ [])) }
-    ensures rows { OnOk result ((n : ℕ) → saved rows.new n ≡ rows_after (saved rows.old) (asked_of seat.now.circuit seat.now.me line.now) n) }
+    requires { rows.old.version ≡ version_of seat.now.wire }
+    ensures text { OnOk result (Appends (W.contents out.old) (W.contents out.new) (answered seat.now.circuit seat.now.me (version_of seat.now.wire) (saved rows.old) (asked_of seat.now.circuit seat.now.me (version_of seat.now.wire) line.now) ++ 10 ∷ [])) }
+    ensures front { OnErr result (AppendsFront (W.contents out.old) (W.contents out.new) (answered seat.now.circuit seat.now.me (version_of seat.now.wire) (saved rows.old) (asked_of seat.now.circuit seat.now.me (version_of seat.now.wire) line.now) ++ 10 ∷ [])) }
+    ensures rows { OnOk result ((n : ℕ) → saved rows.new n ≡ rows_after (saved rows.old) (asked_of seat.now.circuit seat.now.me (version_of seat.now.wire) line.now) n) }
+    ensures version { rows.new.version ≡ rows.old.version }
 {
     let Ok(mut text) = answer_line(alloc, *seat, rows, line) else {
         return Err(Stop::Memory);
@@ -64,12 +68,12 @@ fn put_line<W: Write>(
 
 /// Answers the lines, one after the other.
 fn put_lines<W: Write>(alloc: Global, seat: &Seat, lines: &[&[u8]], out: &mut W) -> Result<(), Stop>
-    ensures text { OnOk result (Appends (W.contents out.old) (W.contents out.new) (lines_text seat.now.circuit seat.now.me [] (map (λ l. l.now) lines.now))) }
-    ensures front { OnErr result (AppendsFront (W.contents out.old) (W.contents out.new) (lines_text seat.now.circuit seat.now.me [] (map (λ l. l.now) lines.now))) }
+    ensures text { OnOk result (Appends (W.contents out.old) (W.contents out.new) (lines_text seat.now.circuit seat.now.me (version_of seat.now.wire) [] (map (λ l. l.now) lines.now))) }
+    ensures front { OnErr result (AppendsFront (W.contents out.old) (W.contents out.new) (lines_text seat.now.circuit seat.now.me (version_of seat.now.wire) [] (map (λ l. l.now) lines.now))) }
 {
     // The rows of the loop are those of all the requests heard.
     protocol::laws::acceptor_steps();
-    let mut rows = MemoryRows::new(alloc);
+    let mut rows = MemoryRows::at(alloc, seat.wire);
     for line in lines {
         if !is_blank(line) {
             put_line(alloc, seat, &mut rows, line, out)?;
@@ -79,8 +83,8 @@ fn put_lines<W: Write>(alloc: Global, seat: &Seat, lines: &[&[u8]], out: &mut W)
 }
 
 fn put_answer<W: Write>(alloc: Global, seat: &Seat, input: &[u8], out: &mut W) -> Result<(), Stop>
-    ensures text { OnOk result (Appends (W.contents out.old) (W.contents out.new) (answer_text seat.now.circuit seat.now.me input.now)) }
-    ensures front { OnErr result (AppendsFront (W.contents out.old) (W.contents out.new) (answer_text seat.now.circuit seat.now.me input.now)) }
+    ensures text { OnOk result (Appends (W.contents out.old) (W.contents out.new) (answer_text seat.now.circuit seat.now.me (version_of seat.now.wire) input.now)) }
+    ensures front { OnErr result (AppendsFront (W.contents out.old) (W.contents out.new) (answer_text seat.now.circuit seat.now.me (version_of seat.now.wire) input.now)) }
 {
     match lines_of(alloc, input) {
         Ok(lines) => put_lines(alloc, seat, &lines, out),
@@ -95,8 +99,8 @@ fn put_and_flush<W: Write>(
     input: &[u8],
     out: &mut W,
 ) -> Result<(), Stop>
-    ensures text { OnOk result (Appends (W.contents out.old) (W.contents out.new) (answer_text seat.now.circuit seat.now.me input.now)) }
-    ensures front { OnErr result (AppendsFront (W.contents out.old) (W.contents out.new) (answer_text seat.now.circuit seat.now.me input.now)) }
+    ensures text { OnOk result (Appends (W.contents out.old) (W.contents out.new) (answer_text seat.now.circuit seat.now.me (version_of seat.now.wire) input.now)) }
+    ensures front { OnErr result (AppendsFront (W.contents out.old) (W.contents out.new) (answer_text seat.now.circuit seat.now.me (version_of seat.now.wire) input.now)) }
 {
     put_answer(alloc, seat, input, out)?;
     match out.flush() {
@@ -105,7 +109,8 @@ fn put_and_flush<W: Write>(
     }
 }
 
-/// Answers each line of the input as one acceptor of this circuit and member, over rows that last for the run.
+/// Answers each line of the input as one acceptor of this circuit and member, over rows that last for the run. It reads and
+/// replies in this version; at version 2 it reads version 1 too.
 ///
 /// The whole input is read before anything is written. Where memory, the reader or the writer fails,
 /// a front of the text was written, and `err` has the fault. Nothing else ends it.
@@ -113,15 +118,16 @@ pub fn answer<R: Read, W: Write, E: Write>(
     alloc: Global,
     circuit: u16,
     me: Member,
+    wire: Version,
     input: &mut R,
     out: &mut W,
     err: &mut E,
 ) -> End
-    ensures done { result ≡ Done → IfSome (R.remaining input.old) (λ xs. Appends (W.contents out.old) (W.contents out.new) (answer_text circuit me xs)) }
-    ensures front { IfSome (R.remaining input.old) (λ xs. AppendsFront (W.contents out.old) (W.contents out.new) (answer_text circuit me xs)) }
+    ensures done { result ≡ Done → IfSome (R.remaining input.old) (λ xs. Appends (W.contents out.old) (W.contents out.new) (answer_text circuit me (version_of wire) xs)) }
+    ensures front { IfSome (R.remaining input.old) (λ xs. AppendsFront (W.contents out.old) (W.contents out.new) (answer_text circuit me (version_of wire) xs)) }
     ensures ends { IsOfInput result }
 {
-    let seat = Seat { circuit, me };
+    let seat = Seat { circuit, me, wire };
     let bytes = match read_input(alloc, input) {
         Ok(bytes) => bytes,
         Err(fault) => return Fault::of_input(fault, "-").tell(err),

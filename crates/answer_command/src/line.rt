@@ -2,16 +2,18 @@
 
 ghost use Rattle.std.specs.Prelude.{◌≡◌, ◌==◌, ℕ, IsSome, IfOk, OnOk, IsTrue, true, false, Ok, Err, not, ◌&&◌};
 ghost use Rattle.hex.specs.Hex.{encode_lower};
+ghost use Rattle.protocol.specs.Fitting.{BodyFits, Fits};
 ghost use Rattle.protocol.specs.Packets.{Prepare, Accept, Accepted};
 ghost use Rattle.protocol.specs.Rows.{raised};
 ghost use Rattle.protocol.specs.Acceptor.{Prepares, Accepts, is_above, next_row};
+ghost use Rattle.tape_frames.specs.Entries.{version_of, lent_entry};
 ghost use Rattle.packets.specs.Bodies.{said};
 ghost use Rattle.packets.specs.Rules.{keeps_rules};
 ghost use Rattle.packets.specs.Spelling.{spelling};
-ghost use Rattle.saved_rows.specs.Saved.{WithRow};
+ghost use Rattle.saved_rows.specs.Saved.{WithRow, RowFits};
 ghost use Rattle.saved_rows.specs.Memory.{saved};
 ghost use Rattle.answer_command.specs.Asked.{asked_of, asked_of_packet, asked_in};
-ghost use Rattle.answer_command.specs.Replies.{refused_text, answered, rows_after, back, voted_tape};
+ghost use Rattle.answer_command.specs.Replies.{refused_text, answered, rows_after, back, voted_entry};
 
 use acceptor::{AcceptAnswer, PrepareAnswer, accept, prepare};
 use ballots::{Ballot, Member, Number, Row};
@@ -20,13 +22,15 @@ use hex::FromHexError;
 use packets::{BodyRef, PacketRef, decode, encode};
 use saved_rows::MemoryRows;
 use std::alloc::{AllocError, Global};
-use tape_frames::TapeRef;
+use tape_frames::{EntryRef, Version};
 
 /// Where the acceptor that answers sits.
 #[derive(Clone, Copy)]
 pub struct Seat {
     pub circuit: u16,
     pub me: Member,
+    /// The version that it reads and replies in; at version 2 it reads version 1 too.
+    pub wire: Version,
 }
 
 fn refused(alloc: Global, refusal: Refusal) -> Result<Vec<u8>, AllocError>
@@ -38,10 +42,11 @@ fn refused(alloc: Global, refusal: Refusal) -> Result<Vec<u8>, AllocError>
     Ok(text)
 }
 
-fn hex_of(alloc: Global, packet: &PacketRef<'_>) -> Result<Vec<u8>, AllocError>
-    ensures { IfOk result (λ t. t.items ≡ encode_lower (spelling packet.now)) }
+fn hex_of(alloc: Global, packet: &PacketRef<'_>, wire: Version) -> Result<Vec<u8>, AllocError>
+    requires { BodyFits (version_of wire) packet.now.body }
+    ensures { IfOk result (λ t. t.items ≡ encode_lower (spelling (version_of wire) packet.now)) }
 {
-    let bytes = encode(alloc, packet)?;
+    let bytes = encode(alloc, packet, wire)?;
     let text = hex::encode(alloc, bytes.as_slice())?;
     Ok(text.into_bytes())
 }
@@ -53,8 +58,9 @@ fn send_back(
     packet: &PacketRef<'_>,
     body: BodyRef<'_>,
 ) -> Result<Vec<u8>, AllocError>
-    requires { IsTrue (keeps_rules (back seat.circuit seat.me packet.now.from packet.now.number packet.now.ballot (said body))) }
-    ensures { IfOk result (λ t. t.items ≡ encode_lower (spelling (back seat.circuit seat.me packet.now.from packet.now.number packet.now.ballot (said body.entry)))) }
+    requires rules { IsTrue (keeps_rules (back seat.circuit seat.me packet.now.from packet.now.number packet.now.ballot (said body))) }
+    requires fits { BodyFits (version_of seat.wire) (said body) }
+    ensures { IfOk result (λ t. t.items ≡ encode_lower (spelling (version_of seat.wire) (back seat.circuit seat.me packet.now.from packet.now.number packet.now.ballot (said body.entry)))) }
 {
     match PacketRef::new(
         seat.circuit,
@@ -64,7 +70,7 @@ fn send_back(
         packet.ballot(),
         body,
     ) {
-        Some(reply) => hex_of(alloc, &reply),
+        Some(reply) => hex_of(alloc, &reply, seat.wire),
         None => unreachable!(),
     }
 }
@@ -72,7 +78,8 @@ fn send_back(
 /// Raises the promise of a number's row, whose vote stays where it is.
 fn raise(rows: &mut MemoryRows, number: Number, ballot: Ballot) -> Result<(), AllocError>
     requires { is_above (saved rows.old number).promised ballot ≡ false }
-    ensures { OnOk result (WithRow (saved rows.old) number (raised (saved rows.old number) ballot) (saved rows.new)) }
+    ensures row { OnOk result (WithRow (saved rows.old) number (raised (saved rows.old number) ballot) (saved rows.new)) }
+    ensures version { rows.new.version ≡ rows.old.version }
 {
     let row = rows.take(number);
     let (_, vote) = row.into_parts();
@@ -92,8 +99,10 @@ fn answer_prepare(
 ) -> Result<Vec<u8>, AllocError>
     requires kind { packet.now.body ≡ Prepare }
     requires to { packet.now.to ≡ seat.me }
-    ensures text { IfOk result (λ t. t.items ≡ answered seat.circuit seat.me (saved rows.old) (Ok (asked_in packet.now (Prepares packet.now.ballot)))) }
+    requires version { rows.old.version ≡ version_of seat.wire }
+    ensures text { IfOk result (λ t. t.items ≡ answered seat.circuit seat.me (version_of seat.wire) (saved rows.old) (Ok (asked_in packet.now (Prepares packet.now.ballot)))) }
     ensures rows { OnOk result (WithRow (saved rows.old) packet.now.number (next_row (saved rows.old packet.now.number) (Prepares packet.now.ballot)) (saved rows.new)) }
+    ensures version { rows.new.version ≡ rows.old.version }
 {
     // The packet's rules are known once its body is read.
     let _rules = packet.body();
@@ -125,12 +134,15 @@ fn answer_accept(
     seat: Seat,
     rows: &mut MemoryRows,
     packet: &PacketRef<'_>,
-    tape: &TapeRef<'_>,
+    entry: &EntryRef<'_>,
 ) -> Result<Vec<u8>, AllocError>
-    requires kind { packet.now.body ≡ Accept tape.now }
+    requires kind { packet.now.body ≡ Accept (lent_entry entry.now) }
     requires to { packet.now.to ≡ seat.me }
-    ensures text { IfOk result (λ t. t.items ≡ answered seat.circuit seat.me (saved rows.old) (Ok (asked_in packet.now (Accepts packet.now.ballot tape.now)))) }
-    ensures rows { OnOk result (WithRow (saved rows.old) packet.now.number (next_row (saved rows.old packet.now.number) (Accepts packet.now.ballot tape.now)) (saved rows.new)) }
+    requires fits { Fits (version_of seat.wire) (lent_entry entry.now) }
+    requires version { rows.old.version ≡ version_of seat.wire }
+    ensures text { IfOk result (λ t. t.items ≡ answered seat.circuit seat.me (version_of seat.wire) (saved rows.old) (Ok (asked_in packet.now (Accepts packet.now.ballot (lent_entry entry.now))))) }
+    ensures rows { OnOk result (WithRow (saved rows.old) packet.now.number (next_row (saved rows.old packet.now.number) (Accepts packet.now.ballot (lent_entry entry.now))) (saved rows.new)) }
+    ensures version { rows.new.version ≡ rows.old.version }
 {
     // The packet's rules are known once its body is read.
     let _rules = packet.body();
@@ -138,7 +150,7 @@ fn answer_accept(
     let ballot = packet.ballot();
     let blank = Row::blank();
     let row = rows.row(number).unwrap_or(&blank);
-    match accept(alloc, row, ballot, tape.lend())? {
+    match accept(alloc, row, ballot, entry.lend())? {
         AcceptAnswer::Nack { promised } => {
             send_back(alloc, seat, packet, BodyRef::Nack { promised })
         }
@@ -160,12 +172,13 @@ fn send_vote(
 ) -> Result<Vec<u8>, AllocError>
     requires differ { (seat.me == packet.now.from) ≡ false }
     requires some { IsSome row.now.vote }
-    ensures { IfOk result (λ t. t.items ≡ encode_lower (spelling (back seat.circuit seat.me packet.now.from packet.now.number packet.now.ballot (Accepted (voted_tape row.now.vote))))) }
+    requires fits { RowFits (version_of seat.wire) row.now }
+    ensures { IfOk result (λ t. t.items ≡ encode_lower (spelling (version_of seat.wire) (back seat.circuit seat.me packet.now.from packet.now.number packet.now.ballot (Accepted (voted_entry row.now.vote))))) }
 {
     match row.vote() {
         Some(vote) => {
-            let tape = vote.tape();
-            send_back(alloc, seat, packet, BodyRef::Accepted { tape })
+            let entry = vote.entry();
+            send_back(alloc, seat, packet, BodyRef::Accepted { entry })
         }
         None => unreachable!(),
     }
@@ -177,8 +190,11 @@ fn answer_packet(
     rows: &mut MemoryRows,
     packet: &PacketRef<'_>,
 ) -> Result<Vec<u8>, AllocError>
-    ensures text { IfOk result (λ t. t.items ≡ answered seat.circuit seat.me (saved rows.old) (asked_of_packet seat.circuit seat.me (Ok packet.now))) }
+    requires fits { BodyFits (version_of seat.wire) packet.now.body }
+    requires version { rows.old.version ≡ version_of seat.wire }
+    ensures text { IfOk result (λ t. t.items ≡ answered seat.circuit seat.me (version_of seat.wire) (saved rows.old) (asked_of_packet seat.circuit seat.me (Ok packet.now))) }
     ensures rows { OnOk result ((n : ℕ) → saved rows.new n ≡ rows_after (saved rows.old) (asked_of_packet seat.circuit seat.me (Ok packet.now)) n) }
+    ensures version { rows.new.version ≡ rows.old.version }
 {
     if packet.circuit() != seat.circuit {
         return refused(alloc, Refusal::WrongCircuit);
@@ -188,7 +204,7 @@ fn answer_packet(
     }
     match packet.body() {
         BodyRef::Prepare => answer_prepare(alloc, seat, rows, packet),
-        BodyRef::Accept { tape } => answer_accept(alloc, seat, rows, packet, tape),
+        BodyRef::Accept { entry } => answer_accept(alloc, seat, rows, packet, entry),
         _ => refused(alloc, Refusal::NotARequest),
     }
 }
@@ -200,15 +216,17 @@ pub fn answer_line(
     rows: &mut MemoryRows,
     line: &[u8],
 ) -> Result<Vec<u8>, AllocError>
-    ensures text { IfOk result (λ t. t.items ≡ answered seat.circuit seat.me (saved rows.old) (asked_of seat.circuit seat.me line.now)) }
-    ensures rows { OnOk result ((n : ℕ) → saved rows.new n ≡ rows_after (saved rows.old) (asked_of seat.circuit seat.me line.now) n) }
+    requires { rows.old.version ≡ version_of seat.wire }
+    ensures text { IfOk result (λ t. t.items ≡ answered seat.circuit seat.me (version_of seat.wire) (saved rows.old) (asked_of seat.circuit seat.me (version_of seat.wire) line.now)) }
+    ensures rows { OnOk result ((n : ℕ) → saved rows.new n ≡ rows_after (saved rows.old) (asked_of seat.circuit seat.me (version_of seat.wire) line.now) n) }
+    ensures version { rows.new.version ≡ rows.old.version }
 {
     let bytes = match hex::decode(alloc, line) {
         Ok(bytes) => bytes,
         Err(FromHexError::OutOfMemory) => return Err(AllocError),
         Err(_) => return refused(alloc, Refusal::NotHex),
     };
-    match decode(&bytes) {
+    match decode(&bytes, seat.wire) {
         Ok(packet) => answer_packet(alloc, seat, rows, &packet),
         Err(fault) => refused(alloc, Refusal::Packet(fault)),
     }

@@ -2,11 +2,14 @@
 
 ghost use Rattle.std.specs.Prelude.{◌≡◌, IfOk, IsOk, IsSome, IfSome, IsTrue, ◌↔◌, None, option_copied};
 ghost use Rattle.protocol.specs.Rows.{blank, may_stand};
+ghost use Rattle.protocol.specs.Fitting.{VoteFits};
+ghost use Rattle.tape_frames.specs.Entries.{version_of};
 
 use crate::ballot::Ballot;
 use crate::vote::Vote;
 use std::alloc::{AllocError, Global};
 use std::marker::Model;
+use tape_frames::Version;
 
 /// The highest promise and the highest vote of an acceptor for one number.
 /// A vote stands only beside a promise that isn't below it.
@@ -70,6 +73,16 @@ impl Row {
         ensures stands { IsTrue (may_stand self.now.promised self.now.vote) }
     {
         self.vote.as_ref()
+    }
+
+    /// Whether the version has a row for it: there is no vote, or the version has one for the vote's entry.
+    pub fn fits(&self, version: Version) -> bool
+        ensures { IsTrue result ↔ VoteFits (version_of version) self.now.vote }
+    {
+        match &self.vote {
+            None => true,
+            Some(vote) => vote.lend().fits(version),
+        }
     }
 
     /// The two parts, given up.

@@ -2,8 +2,8 @@
 use Rattle.std.specs.Prelude.{◌≡◌, ◌⊎◌}
 use Rattle.saved_rows.specs.declared.fault.RowsFault.{RowsFault}
 use Rattle.saved_rows.specs.declared.fault.RowsFault.TheVariants as rows
-use Rattle.station.specs.declared.refusal.StepRefusal.{StepRefusal}
-use Rattle.station.specs.declared.refusal.StepRefusal.TheVariants as steps
+use Rattle.refusals.specs.declared.refusal.StepRefusal.{StepRefusal}
+use Rattle.refusals.specs.declared.refusal.StepRefusal.TheVariants as steps
 use Rattle.command_ends.specs.declared.end.End.{End}
 use Rattle.command_ends.specs.declared.end.End.TheVariants.{Input, Usage, Store, Memory}
 use Rattle.command_ends.specs.declared.end.End.TheVariants as ends
@@ -48,6 +48,7 @@ end_of_step steps.Stranger = Input
 end_of_step steps.BadNumber = Input
 end_of_step steps.AlreadyReleased = Input
 end_of_step steps.AlreadyOpen = Input
+end_of_step steps.WireTooOld = Input
 end_of_step (steps.TapeFaulty fault) = Input
 end_of_step steps.RoundsSpent = Input
 end_of_step (steps.Store fault) = end_of_rows fault

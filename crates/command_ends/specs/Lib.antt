@@ -1,4 +1,5 @@
 pub mod Ends
+pub mod EntryText
 pub mod RefusalWords
 pub mod ReleaseText
 pub mod Statuses

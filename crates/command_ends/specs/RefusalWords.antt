@@ -2,8 +2,8 @@
 use Rattle.std.specs.Prelude.{ℕ, List, ◌++◌, codes}
 use Rattle.packets.specs.declared.fault.PacketFault.{PacketFault}
 use Rattle.packets.specs.declared.fault.PacketFault.TheVariants as faults
-use Rattle.station.specs.declared.refusal.StepRefusal.{StepRefusal}
-use Rattle.station.specs.declared.refusal.StepRefusal.TheVariants as steps
+use Rattle.refusals.specs.declared.refusal.StepRefusal.{StepRefusal}
+use Rattle.refusals.specs.declared.refusal.StepRefusal.TheVariants as steps
 use Rattle.command_ends.specs.ReleaseText.{cause_text}
 use Rattle.command_ends.specs.declared.refusal.Refusal.{Refusal}
 use Rattle.command_ends.specs.declared.refusal.Refusal.TheVariants.{NotHex, Packet, WrongCircuit, NotForMe, NotARequest}
@@ -20,6 +20,7 @@ fault_word faults.BadBallot = codes "bad-ballot"
 fault_word faults.BadSender = codes "bad-sender"
 fault_word faults.BadReport = codes "bad-report"
 fault_word faults.BadFrames = codes "bad-frames"
+fault_word faults.BadPad = codes "bad-pad"
 fault_word faults.Long = codes "long"
 
 -- the word for each refusal
@@ -40,6 +41,7 @@ step_word steps.Stranger = codes "stranger"
 step_word steps.BadNumber = codes "bad-number"
 step_word steps.AlreadyReleased = codes "already-released"
 step_word steps.AlreadyOpen = codes "already-open"
+step_word steps.WireTooOld = codes "wire-too-old"
 step_word (steps.TapeFaulty fault) = codes "tape-faulty"
 step_word steps.RoundsSpent = codes "rounds-spent"
 step_word (steps.Store fault) = codes "store"
@@ -55,6 +57,7 @@ refusal_text steps.Stranger = step_word steps.Stranger
 refusal_text steps.BadNumber = step_word steps.BadNumber
 refusal_text steps.AlreadyReleased = step_word steps.AlreadyReleased
 refusal_text steps.AlreadyOpen = step_word steps.AlreadyOpen
+refusal_text steps.WireTooOld = step_word steps.WireTooOld
 refusal_text (steps.TapeFaulty fault) = step_word (steps.TapeFaulty fault) ++ (codes " " ++ cause_text fault)
 refusal_text steps.RoundsSpent = step_word steps.RoundsSpent
 refusal_text (steps.Store fault) = step_word (steps.Store fault)

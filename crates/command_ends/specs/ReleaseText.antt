@@ -1,12 +1,13 @@
 -- The text of a release.
 use Rattle.std.specs.Prelude.{ℕ, List, ◌++◌, Result, Ok, Err, codes, decimal}
 use Rattle.std.specs.Borrow.{Bor}
-use Rattle.hex.specs.Hex.{encode_lower}
+use Rattle.protocol.specs.Entries.{Entry, Void, Taped}
 use Rattle.line_check.specs.Galley.{galley_of}
 use Rattle.line_check.specs.declared.fault.Cause.{Cause}
 use Rattle.line_check.specs.declared.fault.Cause.TheVariants.{UnknownCode, NoWidth, Unfinished, Overset, Loose}
 use Rattle.line_check.specs.declared.fault.SetFault.{SetFault}
 use Rattle.line_check.specs.declared.slug.Slug.{Slug}
+use Rattle.command_ends.specs.EntryText.{entry_text}
 
 -- the word of a cause, with the units by which a line is overset or loose, before its place
 abbrev pub cause_at : Cause → List ℕ → List ℕ
@@ -25,20 +26,21 @@ abbrev pub lent : {E : Type 0} → Result (Bor (List Slug)) E → Result (List S
 lent (Ok slugs) = Ok slugs.now
 lent (Err fault) = Err fault
 
--- a number and a text for its frames, as a line behind a lead
+-- a number and the text of its entry, as a line behind a lead
 abbrev pub plain_line : List ℕ → ℕ → List ℕ → List ℕ
-plain_line lead n frames = lead ++ (codes "release " ++ (decimal n ++ (codes " " ++ (frames ++ codes "\n"))))
+plain_line lead n text = lead ++ (codes "release " ++ (decimal n ++ (codes " " ++ (text ++ codes "\n"))))
 
--- the line of a release that sets, behind a lead: its frames are in hex
-abbrev pub set_line : List ℕ → ℕ → List ℕ → List ℕ
-set_line lead n frames = plain_line lead n (encode_lower frames)
-
--- the line of one that does not set, with the cause
+-- the same of a tape that does not set, with the cause
 abbrev pub faulty_line : List ℕ → ℕ → List ℕ → SetFault → List ℕ
-faulty_line lead n frames fault =
-    lead ++ (codes "release " ++ (decimal n ++ (codes " " ++ (encode_lower frames ++ (codes " faulty " ++ (cause_text fault ++ codes "\n"))))))
+faulty_line lead n text fault =
+    lead ++ (codes "release " ++ (decimal n ++ (codes " " ++ (text ++ (codes " faulty " ++ (cause_text fault ++ codes "\n"))))))
 
--- a release behind a lead: its line, and its galley where it sets
-abbrev pub release_text : List ℕ → ℕ → List ℕ → Result (List Slug) SetFault → List ℕ
-release_text lead n frames (Ok slugs) = set_line lead n frames ++ galley_of slugs
-release_text lead n frames (Err fault) = faulty_line lead n frames fault
+-- the release of a tape of this text behind a lead: its line, and its galley where it sets
+abbrev pub tape_release : List ℕ → ℕ → List ℕ → Result (List Slug) SetFault → List ℕ
+tape_release lead n text (Ok slugs) = plain_line lead n text ++ galley_of slugs
+tape_release lead n text (Err fault) = faulty_line lead n text fault
+
+-- a release behind a lead: of a tape with what setting it gave, of a withdrawal its line alone
+abbrev pub release_text : List ℕ → ℕ → Entry → Result (List Slug) SetFault → List ℕ
+release_text lead n Void set = plain_line lead n (entry_text Void)
+release_text lead n (Taped tape) set = tape_release lead n (entry_text (Taped tape)) set

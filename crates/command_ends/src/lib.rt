@@ -2,6 +2,7 @@
 #![tactic(auto)]
 
 mod end;
+mod entries;
 mod fault;
 mod paths;
 mod refusal;
@@ -11,6 +12,7 @@ mod texts;
 mod words;
 
 pub use end::End;
+pub use entries::entry_text;
 pub use fault::Fault;
 pub use paths::{ScriptPaths, TapePaths};
 pub use refusal::Refusal;

@@ -34,6 +34,7 @@ fn fault_word(fault: PacketFault) -> &'static str
         PacketFault::BadSender => "bad-sender",
         PacketFault::BadReport => "bad-report",
         PacketFault::BadFrames => "bad-frames",
+        PacketFault::BadPad => "bad-pad",
         PacketFault::Long => "long",
     }
 }

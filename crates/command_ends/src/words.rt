@@ -6,7 +6,7 @@ ghost use Rattle.command_ends.specs.ReleaseText.{cause_text};
 
 use crate::refusal::Refusal;
 use line_check::{Cause, SetFault};
-use station::StepRefusal;
+use refusals::StepRefusal;
 use std::fmt;
 
 /// A cause with its place, as `unknown-code at 3 line 1`.
@@ -41,6 +41,7 @@ fn refusal_word(refusal: StepRefusal) -> &'static str
         StepRefusal::BadNumber => "bad-number",
         StepRefusal::AlreadyReleased => "already-released",
         StepRefusal::AlreadyOpen => "already-open",
+        StepRefusal::WireTooOld => "wire-too-old",
         StepRefusal::TapeFaulty(_) => "tape-faulty",
         StepRefusal::RoundsSpent => "rounds-spent",
         StepRefusal::Store(_) => "store",

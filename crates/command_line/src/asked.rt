@@ -3,22 +3,37 @@
 use ballots::Member;
 use command_ends::{ScriptPaths, TapePaths};
 use tape_drawing::Page;
+use tape_frames::Version;
 
 /// A command, with all that it is given.
 #[derive(Clone, Copy)]
 pub enum Asked<'a> {
-    /// To answer requests as one acceptor of a circuit.
-    Answer { circuit: u16, me: Member },
+    /// To answer requests as one acceptor of a circuit, which reads and replies in a version.
+    Answer {
+        circuit: u16,
+        me: Member,
+        wire: Version,
+    },
     /// To set a tape, and where `listing` is set to list its frames first.
-    Check { paths: TapePaths<'a>, listing: bool },
+    Check {
+        paths: TapePaths<'a>,
+        listing: bool,
+    },
     /// To draw a tape.
-    Draw { paths: TapePaths<'a>, page: Page },
+    Draw {
+        paths: TapePaths<'a>,
+        page: Page,
+    },
     /// To list the saved rows in the file at a path.
-    Rows { path: &'a str },
+    Rows {
+        path: &'a str,
+    },
     /// To serve a station.
     Serve(Plan<'a>),
     /// To rehearse a circuit by a script.
-    Rehearse { paths: ScriptPaths<'a> },
+    Rehearse {
+        paths: ScriptPaths<'a>,
+    },
 }
 
 /// What the command line of `serve` asks for.
@@ -33,6 +48,8 @@ pub struct Plan<'a> {
     /// The number for which a tape is offered, and the path of the tape: both, or neither.
     pub number: Option<u32>,
     pub tape: Option<&'a str>,
+    /// The number that is withdrawn.
+    pub withdraw: Option<u32>,
     /// The number whose tape is sought.
     pub seek: Option<u32>,
 }

@@ -88,6 +88,22 @@ Example: member 1 asks member 2 of circuit 7 to promise ballot 1.1 for number 12
   $ echo 544e0101000701020000000c0000000101 | circuitd answer 7 2
   544e0102000702010000000c000000010100";
 
+/// The versions of packets, as `--wire` names them.
+const WIRES: &[&str] = &["1", "2"];
+
+/// Adds the version that an acceptor reads and replies in.
+fn with_wire<'a>(alloc: Global, command: Command<'a>) -> Result<Command<'a>, AllocError> {
+    let help =
+        "The version of packets that it replies in; at version 2 it reads both, and a number may be withdrawn";
+    let wire = Arg::new(alloc, "wire")
+        .long("wire")
+        .value_name("V")
+        .value_parser(ValueParser::Names(WIRES))
+        .default_value("1")
+        .help(help);
+    command.arg(wire)
+}
+
 fn answer_command<'a>(alloc: Global) -> Result<Command<'a>, AllocError> {
     let command = Command::new(alloc, "answer")
         .about(
@@ -99,7 +115,8 @@ fn answer_command<'a>(alloc: Global) -> Result<Command<'a>, AllocError> {
     let command = with_number(alloc, command, "CIRCUIT", circuit, help)?;
     let member = clap::value_parser!(u8).range(1..=15);
     let help = "The member that answers, 1 to 15";
-    with_number(alloc, command, "MEMBER", member, help)
+    let command = with_number(alloc, command, "MEMBER", member, help)?;
+    with_wire(alloc, command)
 }
 
 const CHECK_EXAMPLE: &str = "\
@@ -193,7 +210,7 @@ fn with_turns<'a>(alloc: Global, command: Command<'a>) -> Result<Command<'a>, Al
     with_flag(alloc, command, "create", help)
 }
 
-/// Adds the story that a station offers first, and the one that it seeks.
+/// Adds the story that a station offers first, the number that it withdraws, and the story that it seeks.
 fn with_beginning<'a>(alloc: Global, command: Command<'a>) -> Result<Command<'a>, AllocError> {
     let number = clap::value_parser!(u32);
     let help = "First offer a story under this number, 1 to 999999; goes with --tape";
@@ -201,6 +218,10 @@ fn with_beginning<'a>(alloc: Global, command: Command<'a>) -> Result<Command<'a>
     let tape = ValueParser::string();
     let help = "The tape that is offered, one frame per byte; goes with --number";
     let command = with_option(alloc, command, "tape", "FILE", tape, help)?;
+    let withdraw = clap::value_parser!(u32);
+    let help =
+        "Then withdraw this number, 1 to 999999, so that no story goes out under it; refused by rows of version 1";
+    let command = with_option(alloc, command, "withdraw", "N", withdraw, help)?;
     let seek = clap::value_parser!(u32);
     let help = "Then ask the circuit for the story of this number";
     with_option(alloc, command, "seek", "N", seek, help)

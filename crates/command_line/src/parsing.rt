@@ -12,15 +12,26 @@ use command_ends::{End, Fault, ScriptPaths, TapePaths};
 use std::alloc::Global;
 use std::io::Write;
 use tape_drawing::Page;
+use tape_frames::Version;
 
 fn matches_of<'a>(alloc: Global, words: &'a [String]) -> Result<ArgMatches<'a>, Error> {
     grammar(alloc)?.try_get_matches_from(words)
 }
 
+/// The version that a line names.
+fn wire_of<'a>(matches: &ArgMatches<'a>) -> Option<Version> {
+    match matches.get_str("wire") {
+        Some("1") => Some(Version::One),
+        Some("2") => Some(Version::Two),
+        _ => None,
+    }
+}
+
 fn answer_of<'a>(matches: &ArgMatches<'a>) -> Option<Asked<'a>> {
     let circuit = matches.get_one::<u16>("CIRCUIT")?;
     let me = Member::new(matches.get_one::<u8>("MEMBER")?)?;
-    Some(Asked::Answer { circuit, me })
+    let wire = wire_of(matches)?;
+    Some(Asked::Answer { circuit, me, wire })
 }
 
 fn tape_paths_of<'a>(matches: &ArgMatches<'a>) -> Option<TapePaths<'a>> {
@@ -59,6 +70,7 @@ fn serve_of<'a>(matches: &ArgMatches<'a>) -> Option<Asked<'a>> {
         create: matches.get_flag("create"),
         number: matches.get_one::<u32>("number"),
         tape: matches.get_str("tape"),
+        withdraw: matches.get_one::<u32>("withdraw"),
         seek: matches.get_one::<u32>("seek"),
     };
     Some(Asked::Serve(plan))

@@ -25,14 +25,15 @@ Options:
 const ANSWER: &str = "\
 Answers requests as one acceptor: a datagram in hex per line in, its reply per line out
 
-Usage: circuitd answer <CIRCUIT> <MEMBER>
+Usage: circuitd answer [OPTIONS] <CIRCUIT> <MEMBER>
 
 Arguments:
   <CIRCUIT>  The circuit's number, 0 to 65535
   <MEMBER>   The member that answers, 1 to 15
 
 Options:
-  -h, --help  Print help
+      --wire <V>  The version of packets that it replies in; at version 2 it reads both, and a number may be withdrawn [default: 1] [possible values: 1, 2]
+  -h, --help      Print help
 
 Example: member 1 asks member 2 of circuit 7 to promise ballot 1.1 for number 12, and gets its promise.
 
@@ -117,12 +118,13 @@ Arguments:
   <CONFIG>  The station's configuration: its circuit, its member, its files and the addresses of all stations
 
 Options:
-      --turns <T>    How many turns to serve, 1 to 1000000: a turn takes in one datagram, or waits for 50 milliseconds
-      --create       Make the row file: for the first start of a station, and never again
-      --number <N>   First offer a story under this number, 1 to 999999; goes with --tape
-      --tape <FILE>  The tape that is offered, one frame per byte; goes with --number
-      --seek <N>     Then ask the circuit for the story of this number
-  -h, --help         Print help
+      --turns <T>     How many turns to serve, 1 to 1000000: a turn takes in one datagram, or waits for 50 milliseconds
+      --create        Make the row file: for the first start of a station, and never again
+      --number <N>    First offer a story under this number, 1 to 999999; goes with --tape
+      --tape <FILE>   The tape that is offered, one frame per byte; goes with --number
+      --withdraw <N>  Then withdraw this number, 1 to 999999, so that no story goes out under it; refused by rows of version 1
+      --seek <N>      Then ask the circuit for the story of this number
+  -h, --help          Print help
 
 Example: the first plant of a circuit makes its row file and puts a story on the wire as number 12.
 It serves for about a minute, and prints the story when the circuit has agreed on it:

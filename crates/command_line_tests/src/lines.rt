@@ -2,6 +2,7 @@
 
 use crate::words::words_of;
 use command_line::{Asked, Plan, parse};
+use tape_frames::Version;
 
 /// One turn of a station that is there already, and nothing to begin with.
 const ONE_TURN: Plan<'static> = Plan {
@@ -10,6 +11,7 @@ const ONE_TURN: Plan<'static> = Plan {
     create: false,
     number: None,
     tape: None,
+    withdraw: None,
     seek: None,
 };
 
@@ -25,12 +27,13 @@ const PLANS: &[(&str, Plan<'static>)] = &[
         },
     ),
     (
-        "circuitd serve station.toml --create --tape story.tape --turns 9 --seek 4294967295 --number 0",
+        "circuitd serve station.toml --create --tape story.tape --turns 9 --seek 4294967295 --number 0 --withdraw 13",
         Plan {
             turns: 9,
             create: true,
             number: Some(0),
             tape: Some("story.tape"),
+            withdraw: Some(13),
             seek: Some(4_294_967_295),
             ..ONE_TURN
         },
@@ -42,9 +45,10 @@ fn is_same(plan: &Plan<'_>, wanted: &Plan<'_>) -> bool {
     let config = plan.config == wanted.config;
     let number = plan.number == wanted.number;
     let tape = plan.tape == wanted.tape;
+    let withdraw = plan.withdraw == wanted.withdraw;
     let seek = plan.seek == wanted.seek;
     let runs = plan.turns == wanted.turns && plan.create == wanted.create;
-    config && runs && number && tape && seek
+    config && runs && number && tape && withdraw && seek
 }
 
 /// Whether a line asks to serve by this plan.
@@ -64,5 +68,33 @@ fn is_plan(rt: &HostRuntime, line: &str, wanted: &Plan<'_>) -> bool {
 fn plans_of_serve(rt: HostRuntime) {
     for (line, plan) in PLANS {
         assert!(rt; is_plan(&rt, *line, plan), "{line}");
+    }
+}
+
+/// Lines that ask to answer for circuit 7, and the version in which.
+const ANSWERS: &[(&str, Version)] = &[
+    ("circuitd answer 7 2", Version::One),
+    ("circuitd answer 7 2 --wire 1", Version::One),
+    ("circuitd answer 7 2 --wire 2", Version::Two),
+    ("circuitd answer --wire=2 7 2", Version::Two),
+];
+
+/// Whether a line asks to answer for circuit 7 in this version.
+fn is_answer(rt: &HostRuntime, line: &str, wanted: Version) -> bool {
+    let Some(words) = words_of(rt.alloc(), line) else {
+        return false;
+    };
+    let mut told = Vec::new(rt.alloc());
+    let mut mistakes = Vec::new(rt.alloc());
+    match parse(rt.alloc(), &words, &mut told, &mut mistakes) {
+        Ok(Asked::Answer { circuit, wire, .. }) => circuit == 7 && wire == wanted,
+        _ => false,
+    }
+}
+
+#[test]
+fn versions_of_answer(rt: HostRuntime) {
+    for (line, wire) in ANSWERS {
+        assert!(rt; is_answer(&rt, *line, *wire), "{line}");
     }
 }

@@ -141,6 +141,18 @@ const RUNS: &[Run] = &[
         ..SILENT
     },
     Run {
+        line: "circuitd answer 7 2 --wire 2",
+        input: "544e0203000701020000000c000000010100070420c10c2100\n",
+        out: "544e0204000702010000000c000000010100070420c10c2100\n",
+        ..SILENT
+    },
+    Run {
+        line: "circuitd answer 7 2",
+        input: "544e0203000701020000000c000000010100070420c10c2100\n",
+        out: "refused bad-version\n",
+        ..SILENT
+    },
+    Run {
         line: "circuitd check circuitd_words/codes.toml circuitd_words/widths.toml circuitd_words/flood.tape",
         out: "0001 J 0 0 a b _4 a _4 b\n",
         ..SILENT

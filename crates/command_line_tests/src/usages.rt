@@ -49,7 +49,22 @@ const USAGES: &[(&str, &str, &str)] = &[
     (
         "circuitd answer 7 2 3",
         "unexpected argument '3' found",
-        "answer <CIRCUIT> <MEMBER>",
+        "answer [OPTIONS] <CIRCUIT> <MEMBER>",
+    ),
+    (
+        "circuitd answer 7 2 --wire 3",
+        "invalid value '3' for '--wire <V>'\n  [possible values: 1, 2]",
+        "",
+    ),
+    (
+        "circuitd answer 7 2 --wire 02",
+        "invalid value '02' for '--wire <V>'\n  [possible values: 1, 2]",
+        "",
+    ),
+    (
+        "circuitd answer 7 2 --wire",
+        "a value is required for '--wire <V>' but none was supplied\n  [possible values: 1, 2]",
+        "",
     ),
     (
         "circuitd check codes.toml widths.toml",
@@ -130,6 +145,11 @@ const USAGES: &[(&str, &str, &str)] = &[
         "circuitd serve station.toml --turns 1 --seek -1",
         "unexpected argument '-1' found\n\n  tip: to pass '-1' as a value, use '-- -1'",
         "serve [OPTIONS] --turns <T> <CONFIG>",
+    ),
+    (
+        "circuitd serve station.toml --turns 1 --withdraw void",
+        "invalid value 'void' for '--withdraw <N>': invalid digit found in string",
+        "",
     ),
     (
         "circuitd serve station.toml --turns 1 --loud",

@@ -3,6 +3,8 @@
 ghost use Rattle.std.specs.Prelude.{◌≡◌, ℕ, IfSome};
 ghost use Rattle.std.specs.Io.KnownBytes.{Appends};
 ghost use Rattle.streams.specs.Fronts.{AppendsFront};
+ghost use Rattle.tape_frames.specs.Entries.{version_of};
+ghost use Rattle.tape_frames.specs.declared.version.Version.{Version as VersionValue};
 ghost use Rattle.answer_command.specs.AnswerText.{answer_text};
 ghost use Rattle.command_ends.specs.declared.end.End.TheVariants.{Done};
 ghost use Rattle.command_line.specs.declared.asked.Asked.TheVariants.{Answer};
@@ -96,11 +98,13 @@ pub fn run_command<F: RowFiles, R: Read, W: Write, E: Write>(
     out: &mut W,
     err: &mut E,
 ) -> End
-    ensures answered { (circuit : ℕ) → (me : ℕ) → asked.now ≡ Answer circuit me → result ≡ Done → IfSome (R.remaining input.old) (λ xs. Appends (W.contents out.old) (W.contents out.new) (answer_text circuit me xs)) }
-    ensures front { (circuit : ℕ) → (me : ℕ) → asked.now ≡ Answer circuit me → IfSome (R.remaining input.old) (λ xs. AppendsFront (W.contents out.old) (W.contents out.new) (answer_text circuit me xs)) }
+    ensures answered { (circuit : ℕ) → (me : ℕ) → (wire : VersionValue) → asked.now ≡ Answer circuit me wire → result ≡ Done → IfSome (R.remaining input.old) (λ xs. Appends (W.contents out.old) (W.contents out.new) (answer_text circuit me (version_of wire) xs)) }
+    ensures front { (circuit : ℕ) → (me : ℕ) → (wire : VersionValue) → asked.now ≡ Answer circuit me wire → IfSome (R.remaining input.old) (λ xs. AppendsFront (W.contents out.old) (W.contents out.new) (answer_text circuit me (version_of wire) xs)) }
 {
     match asked {
-        Asked::Answer { circuit, me } => answer(rt.alloc(), *circuit, *me, input, out, err),
+        Asked::Answer { circuit, me, wire } => {
+            answer(rt.alloc(), *circuit, *me, *wire, input, out, err)
+        }
         Asked::Check { paths, listing } => run_check(rt, paths, *listing, out, err),
         Asked::Draw { paths, page } => run_draw(rt, paths, *page, out, err),
         Asked::Rows { path } => row_files.list(rt, *path, out, err),

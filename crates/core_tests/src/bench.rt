@@ -1,12 +1,11 @@
 //! A core, the row that its turns have saved, and the story that both go through.
 
-use crate::events::{ballot_of, event_of};
+use crate::events::{ballot_of, event_of, owned};
 use crate::steps::{At, Did, Saved, Step, Voted, early, renewal};
 use crate::turns::{is_turn_of, parts, words_of};
 use ballots::{Member, Number, Row, Vote};
 use node_core::{CoreRefusal, NodeCore, Turn};
 use std::alloc::Global;
-use tape_frames::Tape;
 
 /// A member of circuit 7, of so many, and what happens to its core.
 #[derive(Clone, Copy)]
@@ -41,10 +40,7 @@ pub fn bench_of(alloc: Global, me: u8, members: u8) -> Option<Bench> {
 fn promised(alloc: Global, at: At, voted: Option<Voted>) -> Option<Row> {
     let vote = match voted {
         None => None,
-        Some((at, frames)) => {
-            let tape = Tape::from_bytes(alloc, frames).ok()?;
-            Some(Vote::new(ballot_of(at)?, tape))
-        }
+        Some((at, agreed)) => Some(Vote::new(ballot_of(at)?, owned(alloc, agreed)?)),
     };
     Row::new(Some(ballot_of(at)?), vote)
 }

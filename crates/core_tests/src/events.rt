@@ -3,22 +3,44 @@
 ghost use Rattle.std.specs.Prelude.{◌≡◌, ◌≤◌, IfSome};
 ghost use Rattle.node_core.specs.Calls.{MayCome};
 
-use crate::steps::{At, Coming, Says, Step, Voted};
+use crate::steps::{Agreed, At, Coming, Says, Step, Voted};
 use ballots::{Ballot, Member, Number, VoteRef};
 use node_core::Event;
 use packets::{BodyRef, PacketRef};
 use std::alloc::Global;
-use tape_frames::{Tape, TapeRef};
+use tape_frames::{Entry, EntryRef, PackedRef, TapeRef};
 
 /// The ballot of this round and owner.
 pub fn ballot_of(at: At) -> Option<Ballot> {
     Ballot::new(at.0, Member::new(at.1)?)
 }
 
+/// The entry, its frames lent.
+pub fn lent(agreed: Agreed) -> Option<EntryRef<'static>> {
+    match agreed {
+        Agreed::Void => Some(EntryRef::Void),
+        Agreed::Tape(frames) => match TapeRef::from_bytes(frames) {
+            Ok(tape) => Some(EntryRef::Plain(tape)),
+            Err(_) => None,
+        },
+        Agreed::Packed(length, bytes) => match PackedRef::new(length, bytes) {
+            Some(tape) => Some(EntryRef::Packed(tape)),
+            None => None,
+        },
+    }
+}
+
+/// The entry, with frames of its own.
+pub fn owned(alloc: Global, agreed: Agreed) -> Option<Entry> {
+    match lent(agreed) {
+        Some(entry) => entry.copy(alloc).ok(),
+        None => None,
+    }
+}
+
 /// The vote that is reported.
 fn vote_of(voted: Voted) -> Option<VoteRef<'static>> {
-    let tape = TapeRef::from_bytes(voted.1).ok()?;
-    Some(VoteRef::new(ballot_of(voted.0)?, tape))
+    Some(VoteRef::new(ballot_of(voted.0)?, lent(voted.1)?))
 }
 
 /// What a packet says.
@@ -29,11 +51,11 @@ fn body_of(says: Says) -> Option<BodyRef<'static>> {
         Says::Promise(Some(voted)) => BodyRef::Promise {
             report: Some(vote_of(voted)?),
         },
-        Says::Accept(frames) => BodyRef::Accept {
-            tape: TapeRef::from_bytes(frames).ok()?,
+        Says::Accept(agreed) => BodyRef::Accept {
+            entry: lent(agreed)?,
         },
-        Says::Accepted(frames) => BodyRef::Accepted {
-            tape: TapeRef::from_bytes(frames).ok()?,
+        Says::Accepted(agreed) => BodyRef::Accepted {
+            entry: lent(agreed)?,
         },
         Says::Nack(promised) => BodyRef::Nack {
             promised: ballot_of(promised)?,
@@ -73,9 +95,9 @@ pub fn event_of(alloc: Global, step: &Step, me: Member, members: u8) -> Option<E
     let number = Number::new(step.number)?;
     let now = step.now;
     Some(match step.coming {
-        Coming::Offer(frames) => Event::Offer {
+        Coming::Offer(agreed) => Event::Offer {
             number,
-            tape: Tape::from_bytes(alloc, frames).ok()?,
+            entry: owned(alloc, agreed)?,
             now,
         },
         Coming::Seek => Event::Seek { number, now },

@@ -1,36 +1,36 @@
 //! Random requests to a core, which keeps a saved row, beside a run of an acceptor over all of them.
 
 use crate::bench::{Bench, bench_of, noted};
-use crate::events::ballot_of;
-use crate::steps::{At, Coming, Frames, IDLE, NONE, Says, Step};
+use crate::events::{ballot_of, owned};
+use crate::steps::{Agreed, At, Coming, FLOOD, IDLE, LIGATURE, NONE, Says, Step, VOID};
 use crate::turns::parts;
 use acceptor::{Reply, Request, run};
 use ballots::{Row, Vote};
-use fixtures::{Dice, FLOOD, LIGATURE};
+use fixtures::Dice;
 use std::alloc::Global;
-use tape_frames::Tape;
 
-/// A ballot, and the tape that is to be voted for, or none where a promise is asked for.
-type Asked = (At, Option<Frames>);
+/// A ballot, and the entry that is to be voted for, or none where a promise is asked for.
+type Asked = (At, Option<Agreed>);
 
 /// A request of member 1 or 3, at one of three rounds.
 fn drawn(dice: &mut Dice) -> Asked {
     let owner = if dice.throw(2) == 0 { 1 } else { 3 };
-    let frames = match dice.throw(4) {
+    let agreed = match dice.throw(6) {
         0 => Some(FLOOD),
         1 => Some(LIGATURE),
+        2 => Some(VOID),
         _ => None,
     };
-    ((1 + dice.throw(3), owner), frames)
+    ((1 + dice.throw(3), owner), agreed)
 }
 
 fn request(alloc: Global, asked: Asked) -> Option<Request> {
     let ballot = ballot_of(asked.0)?;
     Some(match asked.1 {
         None => Request::Prepare { ballot },
-        Some(frames) => Request::Accept {
+        Some(agreed) => Request::Accept {
             ballot,
-            tape: Tape::from_bytes(alloc, frames).ok()?,
+            entry: owned(alloc, agreed)?,
         },
     })
 }
@@ -52,7 +52,7 @@ fn step_of(asked: Asked) -> Step {
     let mut step = IDLE;
     let says = match asked.1 {
         None => Says::Prepare,
-        Some(frames) => Says::Accept(frames),
+        Some(agreed) => Says::Accept(agreed),
     };
     step.coming = Coming::Packet(asked.0.1, asked.0, says);
     step
@@ -73,7 +73,7 @@ fn are_one_vote(vote: Option<&Vote>, other: Option<&Vote>) -> bool {
     match (vote, other) {
         (None, None) => true,
         (Some(vote), Some(other)) => {
-            vote.ballot() == other.ballot() && vote.tape().same(other.tape())
+            vote.ballot() == other.ballot() && vote.entry().same(other.entry())
         }
         _ => false,
     }

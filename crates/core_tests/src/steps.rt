@@ -1,16 +1,35 @@
 //! The steps of a story: what comes to a core, and what has to come of it.
 
-use fixtures::FLOOD;
 use node_core::CoreRefusal;
 
 /// A ballot: its round and its owner.
 pub type At = (u32, u8);
 
-/// The frames of a tape.
-pub type Frames = &'static [u8];
+/// What is agreed on: the frames of a tape, so many of them packed, or that the number is withdrawn.
+#[derive(Clone, Copy)]
+pub enum Agreed {
+    Tape(&'static [u8]),
+    Packed(u16, &'static [u8]),
+    Void,
+}
 
-/// A vote: its ballot and its tape.
-pub type Voted = (At, Frames);
+/// What is offered first: the flood story.
+pub const FLOOD: Agreed = Agreed::Tape(fixtures::FLOOD);
+
+/// The same, packed.
+pub const PACKED: Agreed = Agreed::Packed(7, &[0x04, 0x20, 0xc1, 0x0c, 0x21, 0x00]);
+
+/// What is offered against it: the story with the ligature.
+pub const LIGATURE: Agreed = Agreed::Tape(fixtures::LIGATURE);
+
+/// The most frames that a tape has.
+pub const LONGEST: Agreed = Agreed::Tape(fixtures::LONGEST);
+
+/// A withdrawal.
+pub const VOID: Agreed = Agreed::Void;
+
+/// A vote: its ballot and its entry.
+pub type Voted = (At, Agreed);
 
 /// What a packet says.
 #[derive(Clone, Copy)]
@@ -18,8 +37,8 @@ pub enum Says {
     Prepare,
     /// With the vote that it reports.
     Promise(Option<Voted>),
-    Accept(Frames),
-    Accepted(Frames),
+    Accept(Agreed),
+    Accepted(Agreed),
     /// With the ballot that was promised.
     Nack(At),
 }
@@ -27,7 +46,7 @@ pub enum Says {
 /// What comes to the core.
 #[derive(Clone, Copy)]
 pub enum Coming {
-    Offer(Frames),
+    Offer(Agreed),
     Seek,
     Due,
     /// From this member, at this ballot.
@@ -73,11 +92,11 @@ pub struct Step {
     pub at: At,
     /// The promise and the vote of the row that is to be saved, if one is.
     pub saves: Option<(At, Option<Voted>)>,
-    /// The tape that is released, if one is.
-    pub releases: Option<Frames>,
+    /// The entry that is released, if one is.
+    pub releases: Option<Agreed>,
     /// The ballot of the number's open proposal after the turn.
     pub open: Option<At>,
-    /// The number's tape was released by then.
+    /// The number's entry was released by then.
     pub released: bool,
     /// The least number that is due then, at each of these moments.
     pub due: &'static [(u64, Option<u32>)],

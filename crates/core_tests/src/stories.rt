@@ -2,10 +2,9 @@
 
 use crate::bench::Story;
 use crate::steps::{
-    Coming, Did, IDLE, NONE, OFFER, OFFER_OF_THREE, PROMISE, SEEK, SEEK_OF_THREE, Saved, Says,
-    Step, VOTE,
+    Coming, Did, FLOOD, IDLE, LIGATURE, LONGEST, NONE, OFFER, OFFER_OF_THREE, PACKED, PROMISE,
+    SEEK, SEEK_OF_THREE, Saved, Says, Step, VOID, VOTE,
 };
-use fixtures::{FLOOD, LIGATURE, LONGEST};
 use node_core::CoreRefusal;
 
 /// Alone, and how it asks the others.
@@ -370,7 +369,7 @@ pub const ANSWERING: &[Story] = &[
     },
 ];
 
-/// What is due, what is released, and the longest tape.
+/// What is due, what is released, packed frames, and the longest tape.
 pub const ENDING: &[Story] = &[
     Story {
         name: "it begins anew and gives up",
@@ -460,6 +459,56 @@ pub const ENDING: &[Story] = &[
         ],
     },
     Story {
+        name: "packed frames are voted for, heard and released",
+        me: 2,
+        members: 3,
+        steps: &[
+            Step {
+                coming: Coming::Packet(1, (1, 1), Says::Accept(PACKED)),
+                did: Did::Note("voted", (1, 1)),
+                out: &[(1, Says::Accepted(FLOOD)), (3, Says::Accepted(FLOOD))],
+                saves: Some(((1, 1), Some(((1, 1), FLOOD)))),
+                ..IDLE
+            },
+            Step {
+                coming: Coming::Packet(3, (1, 1), Says::Accepted(PACKED)),
+                releases: Some(FLOOD),
+                released: true,
+                ..VOTE
+            },
+        ],
+    },
+    Story {
+        name: "a report of packed frames is proposed, and not the own tape",
+        me: 3,
+        members: 3,
+        steps: &[
+            Step {
+                coming: Coming::Offer(LIGATURE),
+                did: Did::Note("began", (1, 3)),
+                out: &[(1, Says::Prepare), (2, Says::Prepare)],
+                at: (1, 3),
+                saves: Some(((1, 3), None)),
+                open: Some((1, 3)),
+                ..OFFER
+            },
+            Step {
+                coming: Coming::Packet(2, (1, 3), Says::Promise(Some(((1, 1), PACKED)))),
+                did: Did::Note("proposed", (1, 3)),
+                out: &[
+                    (1, Says::Accept(FLOOD)),
+                    (2, Says::Accept(FLOOD)),
+                    (1, Says::Accepted(FLOOD)),
+                    (2, Says::Accepted(FLOOD)),
+                ],
+                at: (1, 3),
+                saves: Some(((1, 3), Some(((1, 3), FLOOD)))),
+                open: Some((1, 3)),
+                ..IDLE
+            },
+        ],
+    },
+    Story {
         name: "the longest tape is proposed",
         me: 1,
         members: 3,
@@ -528,6 +577,178 @@ pub const ENDING: &[Story] = &[
                 at: (2, 2),
                 saves: Some(((2, 2), Some(((2, 2), LONGEST)))),
                 open: Some((2, 2)),
+                ..IDLE
+            },
+        ],
+    },
+];
+
+/// A number that the first of three withdraws, at each of the three: what goes out of one comes to the others. Then a
+/// withdrawal against a tape, either way.
+pub const WITHDRAWING: &[Story] = &[
+    Story {
+        name: "the first withdraws the number",
+        me: 1,
+        members: 3,
+        steps: &[
+            Step {
+                coming: Coming::Offer(VOID),
+                ..OFFER_OF_THREE
+            },
+            Step {
+                did: Did::Note("proposed", (1, 1)),
+                out: &[
+                    (2, Says::Accept(VOID)),
+                    (3, Says::Accept(VOID)),
+                    (2, Says::Accepted(VOID)),
+                    (3, Says::Accepted(VOID)),
+                ],
+                saves: Some(((1, 1), Some(((1, 1), VOID)))),
+                ..PROMISE
+            },
+            Step {
+                coming: Coming::Packet(2, (1, 1), Says::Accepted(VOID)),
+                releases: Some(VOID),
+                released: true,
+                ..VOTE
+            },
+            Step {
+                coming: Coming::Offer(FLOOD),
+                did: Did::Refuse(CoreRefusal::AlreadyReleased),
+                released: true,
+                ..IDLE
+            },
+        ],
+    },
+    Story {
+        name: "the second promises and votes",
+        me: 2,
+        members: 3,
+        steps: &[
+            Step {
+                coming: Coming::Packet(1, (1, 1), Says::Prepare),
+                did: Did::Note("promised", (1, 1)),
+                out: &[(1, Says::Promise(None))],
+                saves: Some(((1, 1), None)),
+                ..IDLE
+            },
+            Step {
+                coming: Coming::Packet(1, (1, 1), Says::Accept(VOID)),
+                did: Did::Note("voted", (1, 1)),
+                out: &[(1, Says::Accepted(VOID)), (3, Says::Accepted(VOID))],
+                saves: Some(((1, 1), Some(((1, 1), VOID)))),
+                ..IDLE
+            },
+            Step {
+                coming: Coming::Packet(1, (1, 1), Says::Accepted(VOID)),
+                releases: Some(VOID),
+                released: true,
+                ..VOTE
+            },
+            // it reports the withdrawal after the release
+            Step {
+                coming: Coming::Packet(3, (1, 3), Says::Prepare),
+                did: Did::Note("promised", (1, 3)),
+                out: &[(3, Says::Promise(Some(((1, 1), VOID))))],
+                at: (1, 3),
+                saves: Some(((1, 3), Some(((1, 1), VOID)))),
+                released: true,
+                ..IDLE
+            },
+        ],
+    },
+    Story {
+        name: "the third hears of two votes",
+        me: 3,
+        members: 3,
+        steps: &[
+            Step {
+                coming: Coming::Packet(1, (1, 1), Says::Accepted(VOID)),
+                ..VOTE
+            },
+            Step {
+                coming: Coming::Packet(2, (1, 1), Says::Accepted(VOID)),
+                releases: Some(VOID),
+                released: true,
+                ..VOTE
+            },
+        ],
+    },
+    Story {
+        name: "a withdrawal that was reported is proposed, and not the own tape",
+        me: 3,
+        members: 3,
+        steps: &[
+            Step {
+                did: Did::Note("began", (1, 3)),
+                out: &[(1, Says::Prepare), (2, Says::Prepare)],
+                at: (1, 3),
+                saves: Some(((1, 3), None)),
+                open: Some((1, 3)),
+                ..OFFER
+            },
+            Step {
+                coming: Coming::Packet(2, (1, 3), Says::Promise(Some(((1, 1), VOID)))),
+                did: Did::Note("proposed", (1, 3)),
+                out: &[
+                    (1, Says::Accept(VOID)),
+                    (2, Says::Accept(VOID)),
+                    (1, Says::Accepted(VOID)),
+                    (2, Says::Accepted(VOID)),
+                ],
+                at: (1, 3),
+                saves: Some(((1, 3), Some(((1, 3), VOID)))),
+                open: Some((1, 3)),
+                ..IDLE
+            },
+        ],
+    },
+    Story {
+        name: "a tape that was reported is proposed, and not the own withdrawal",
+        me: 3,
+        members: 3,
+        steps: &[
+            Step {
+                coming: Coming::Offer(VOID),
+                did: Did::Note("began", (1, 3)),
+                out: &[(1, Says::Prepare), (2, Says::Prepare)],
+                at: (1, 3),
+                saves: Some(((1, 3), None)),
+                open: Some((1, 3)),
+                ..OFFER
+            },
+            Step {
+                coming: Coming::Packet(2, (1, 3), Says::Promise(Some(((1, 1), FLOOD)))),
+                did: Did::Note("proposed", (1, 3)),
+                out: &[
+                    (1, Says::Accept(FLOOD)),
+                    (2, Says::Accept(FLOOD)),
+                    (1, Says::Accepted(FLOOD)),
+                    (2, Says::Accepted(FLOOD)),
+                ],
+                at: (1, 3),
+                saves: Some(((1, 3), Some(((1, 3), FLOOD)))),
+                open: Some((1, 3)),
+                ..IDLE
+            },
+        ],
+    },
+    Story {
+        name: "the first vote at a ballot stands, be it for a withdrawal",
+        me: 2,
+        members: 3,
+        steps: &[
+            Step {
+                coming: Coming::Packet(1, (1, 1), Says::Accept(VOID)),
+                did: Did::Note("voted", (1, 1)),
+                out: &[(1, Says::Accepted(VOID)), (3, Says::Accepted(VOID))],
+                saves: Some(((1, 1), Some(((1, 1), VOID)))),
+                ..IDLE
+            },
+            Step {
+                coming: Coming::Packet(1, (1, 1), Says::Accept(FLOOD)),
+                did: Did::Note("voted-again", (1, 1)),
+                out: &[(1, Says::Accepted(VOID)), (3, Says::Accepted(VOID))],
                 ..IDLE
             },
         ],

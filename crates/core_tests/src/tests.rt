@@ -2,7 +2,7 @@
 
 use crate::bench::{Bench, Story, answer, bench_of, is_answer, taken, told};
 use crate::steps::{Did, IDLE, SEEK_OF_THREE, Step};
-use crate::stories::{ANSWERING, ASKING, ENDING, GATHERING};
+use crate::stories::{ANSWERING, ASKING, ENDING, GATHERING, WITHDRAWING};
 use node_core::CoreRefusal;
 use std::alloc::Global;
 
@@ -38,6 +38,12 @@ fn answering(rt: HostRuntime) {
 fn ending(rt: HostRuntime) {
     let told = stories_told(rt.alloc(), ENDING);
     assert!(rt; told == ENDING.len(), "story {told}");
+}
+
+#[test]
+fn withdrawing(rt: HostRuntime) {
+    let told = stories_told(rt.alloc(), WITHDRAWING);
+    assert!(rt; told == WITHDRAWING.len(), "story {told}");
 }
 
 /// What comes after memory was refused: the core has failed until it is cleared.

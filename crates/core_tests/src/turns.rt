@@ -1,12 +1,12 @@
 //! What the turns of the steps have to be.
 
-use crate::events::packet_of;
-use crate::steps::{At, Did, Frames, NONE, Says, Step, Voted};
+use crate::events::{lent, packet_of};
+use crate::steps::{Agreed, At, Did, NONE, Says, Step, Voted};
 use ballots::{Ballot, Member, Number, Row, Vote};
 use node_core::{Note, Outgoing, Turn};
 use packets::{PacketRef, encode};
 use std::alloc::Global;
-use tape_frames::Tape;
+use tape_frames::{Entry, EntryRef, Version};
 
 /// The round and the owner of a ballot.
 pub fn parts(ballot: Ballot) -> At {
@@ -42,10 +42,18 @@ fn is_noted(note: Note, did: Did) -> bool {
     did == Did::Note(word, at)
 }
 
+/// The packet's spelling in version 2, which has one for each.
+fn spelling(alloc: Global, packet: &PacketRef<'_>) -> Option<Vec<u8>> {
+    if !packet.fits(Version::Two) {
+        return None;
+    }
+    encode(alloc, packet, Version::Two).ok()
+}
+
 /// Whether the two have one spelling, and so are one packet.
 fn are_one(alloc: Global, packet: &PacketRef<'_>, other: &PacketRef<'_>) -> bool {
-    match (encode(alloc, packet), encode(alloc, other)) {
-        (Ok(bytes), Ok(others)) => bytes.as_slice() == others.as_slice(),
+    match (spelling(alloc, packet), spelling(alloc, other)) {
+        (Some(bytes), Some(others)) => bytes.as_slice() == others.as_slice(),
         _ => false,
     }
 }
@@ -85,12 +93,20 @@ fn go_out(alloc: Global, out: &Outgoing<'_>, from: Member, step: &Step) -> bool 
     out.len() == step.out.len() && out.get(out.len()).is_none()
 }
 
+/// Whether the entry is this one.
+fn is_entry(entry: &EntryRef<'_>, agreed: Agreed) -> bool {
+    match lent(agreed) {
+        Some(other) => entry.same(other),
+        None => false,
+    }
+}
+
 /// Whether this is the vote, or there is none.
 fn is_vote(vote: Option<&Vote>, voted: Option<Voted>) -> bool {
     match (vote, voted) {
         (None, None) => true,
-        (Some(vote), Some((at, frames))) => {
-            parts(vote.ballot()) == at && vote.tape().frames() == frames
+        (Some(vote), Some((at, agreed))) => {
+            parts(vote.ballot()) == at && is_entry(&vote.entry(), agreed)
         }
         _ => false,
     }
@@ -107,11 +123,11 @@ fn is_saved(row: &Option<Row>, saves: Option<(At, Option<Voted>)>) -> bool {
     }
 }
 
-/// Whether this tape is released, or none.
-fn is_released(release: &Option<Tape>, releases: Option<Frames>) -> bool {
+/// Whether this entry is released, or none.
+fn is_released(release: &Option<Entry>, releases: Option<Agreed>) -> bool {
     match (release, releases) {
         (None, None) => true,
-        (Some(tape), Some(frames)) => tape.frames() == frames,
+        (Some(entry), Some(agreed)) => is_entry(&entry.lend(), agreed),
         _ => false,
     }
 }

@@ -5,6 +5,7 @@ use Rattle.std.proofs.lemmas.List.{map-append}
 use Rattle.sqlite_trees.specs.declared.memory.MemStore.{MemStore}
 use Rattle.sqlite_trees.specs.View.{doubt}
 use Rattle.sqlite.specs.Steps.{over_memory}
+use Rattle.protocol.specs.Versions.{One}
 use Rattle.acceptor_store.specs.Sqlite.{SqliteOf, IsKept, IsOpen, IsHonest, IsOurs, saved_of, Blames}
 use Rattle.saved_rows.specs.declared.rows.Rows.{Ghosts}
 use Rattle.world.specs.Founding.{Part, Given, given_of, AreBlank, IsNewlyMade, AreNewlyMade}
@@ -17,6 +18,7 @@ in_memory = record {
   kept = IsKept over_memory;
   is_open = IsOpen over_memory;
   saved = saved_of over_memory;
+  version = λ _. One;
   refusals = λ s. s.refusals;
   alike = λ _ _. Unit {0};
   passes = λ _ _. Unit {0};

@@ -1,6 +1,7 @@
 //! A circuit over databases that is played from its beginning.
 
 ghost use Rattle.std.specs.Prelude.{◌≡◌, ◌≤◌, IfOk, IfErr, length, map};
+ghost use Rattle.protocol.specs.Versions.{One};
 ghost use Rattle.world.specs.Founding.{AreNewlyMade, given_of};
 ghost use Rattle.world.specs.Playing.{IsUnplayed, Plays};
 ghost use Rattle.world.specs.Reach.{Agreed};
@@ -45,7 +46,7 @@ fn with_databases(
 }
 
 /// Plays a circuit from its beginning, its members over databases that are made for them in memory: takes the steps in
-/// order, up to the first that is refused.
+/// order, up to the first that is refused. The members are at version 1, as their rows are.
 ///
 /// Whatever the steps are, the releases agree, as [`world::play_in_memory`] says.
 ///
@@ -58,7 +59,7 @@ pub fn play_in_databases(
     steps: &[Step],
 ) -> Result<Played<SqliteRows<MemStore>>, PlayFault>
     ensures unplayed { IfErr result (IsUnplayed (length members.items)) }
-    ensures plays { IfOk result (λ p. Plays ⟦<SqliteRows<MemStore> as Rows>⟧ circuit members.items steps.now p.world p.run) }
+    ensures plays { IfOk result (λ p. Plays ⟦<SqliteRows<MemStore> as Rows>⟧ circuit members.items (λ _. One) steps.now p.world p.run) }
     ensures stops { IfOk result (λ p. IfErr p.run (StopsAt steps.now p.world)) }
     ensures agreed { IfOk result (λ p. Agreed p.world) }
 {

@@ -157,7 +157,7 @@ fn longest(alloc: Global) -> usize {
 #[test]
 fn the_longest_tape(rt: HostRuntime) {
     let bytes = longest(rt.alloc());
-    assert!(rt; 1_000_000 < bytes && bytes < 2_000_000, "{bytes}");
+    assert!(rt; 4_000_000 < bytes && bytes < 8_000_000, "{bytes}");
 }
 
 /// How many of the first bytes of the drawing a writer with this room has, where the command ends by that.

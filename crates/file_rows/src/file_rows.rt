@@ -6,6 +6,7 @@ use acceptor_store::SqliteRows;
 use ballots::{Number, Row};
 use saved_rows::{Rows, RowsFault};
 use sqlite::{FileFrom, FileStore, Wary};
+use tape_frames::Version;
 
 /// The database in a file. The database supposes nothing of a torn write, since a story that is lost to one would be a
 /// promise broken.
@@ -49,11 +50,17 @@ impl Rows for FileRows {
 
     ghost saved = { λ s. ⟦<SqliteRows<FileStore<FileFrom<Wary>>> as Rows>⟧.saved s.rows };
 
+    ghost version = { λ s. ⟦<SqliteRows<FileStore<FileFrom<Wary>>> as Rows>⟧.version s.rows };
+
     ghost refusals = { λ s. ⟦<SqliteRows<FileStore<FileFrom<Wary>>> as Rows>⟧.refusals s.rows };
 
     ghost blames = { λ old new fault. ⟦<SqliteRows<FileStore<FileFrom<Wary>>> as Rows>⟧.blames old.rows new.rows fault };
 
     ghost halves = { λ _. (λ both. both, λ both. both) };
+
+    fn version(&self) -> Version {
+        self.rows.version()
+    }
 
     fn get(&mut self, number: Number) -> Result<Row, RowsFault> {
         self.rows.get(number)

@@ -40,7 +40,7 @@ fn promised() -> Option<Row>
 /// Whether these rows save the promise for 12.
 fn saves<R: Rows>(rows: &mut R) -> bool {
     match (Number::new(12), promised()) {
-        (Some(number), Some(row)) => rows.put(number, &row).is_ok(),
+        (Some(number), Some(row)) => row.fits(rows.version()) && rows.put(number, &row).is_ok(),
         _ => false,
     }
 }

@@ -61,6 +61,7 @@ struct Start {
     changes: &'static [Change],
     create: bool,
     offers: bool,
+    withdraw: Option<u32>,
     end: End,
     text: &'static str,
     fault: &'static str,
@@ -72,6 +73,7 @@ const FIRST: Start = Start {
     changes: &[],
     create: true,
     offers: true,
+    withdraw: None,
     end: End::Input,
     text: "",
     fault: "",
@@ -86,7 +88,7 @@ fn ends(rt: &HostRuntime, plan: &Plan<'_>, end: End, text: &str, fault: &str) ->
     ended == end && out.as_slice() == text.as_bytes() && err.as_slice() == fault.as_bytes()
 }
 
-/// Whether one turn goes so: with an offer of the story for number 12, or a search of it.
+/// Whether one turn goes so: with an offer of the story for number 12 or a search of it, and a withdrawal before the search.
 fn goes(rt: &HostRuntime, start: &Start) -> bool {
     let plan = Plan {
         config: CONFIG,
@@ -94,6 +96,7 @@ fn goes(rt: &HostRuntime, start: &Start) -> bool {
         create: start.create,
         number: if start.offers { Some(12) } else { None },
         tape: if start.offers { Some(STORY) } else { None },
+        withdraw: start.withdraw,
         seek: if start.offers { None } else { Some(12) },
     };
     ends(rt, &plan, start.end, start.text, start.fault)
@@ -218,6 +221,15 @@ const OWNED: &[Start] = &[
         left: Left::Rows(LATER_ROWS),
         ..FIRST
     },
+    // Its rows are of version 1, which knows of no withdrawal; the search behind it is not made.
+    Start {
+        create: false,
+        offers: false,
+        withdraw: Some(13),
+        fault: "refused wire-too-old\n",
+        left: Left::Rows(LATER_ROWS),
+        ..FIRST
+    },
     // It is taken up by the station that it belongs to alone.
     Start {
         changes: &[Change::Circuit(8)],
@@ -329,6 +341,7 @@ fn a_number_goes_with_a_tape(rt: HostRuntime) {
             create: false,
             number: *number,
             tape: *tape,
+            withdraw: None,
             seek: None,
         };
         let text = "usage: --number and --tape go together\n";

@@ -5,7 +5,8 @@ use Rattle.std.proofs.lemmas.Bool.{eq-eqb, eqb-true}
 use Rattle.std.proofs.lemmas.List.{set-get_or}
 use Rattle.protocol.specs.Lists.{greater}
 use Rattle.protocol.specs.Ballots.{Ballot, is_same, is_below, is_majority, IsMember, members}
-use Rattle.protocol.specs.Rows.{Tape, Vote, vote_for}
+use Rattle.protocol.specs.Entries.{Entry}
+use Rattle.protocol.specs.Rows.{Vote, vote_for}
 use Rattle.protocol.specs.Marks.{Mark, Heard}
 use Rattle.protocol.specs.Learner.{latest, votes_at, ripe}
 use Rattle.ballots.specs.Slots.{SlotForEachMember, SlotHoldsItsValue, OneSlotChanges, SlotsCountAsMembers}
@@ -25,11 +26,11 @@ same_find p q same [] = refl
 same_find p q same (v ∷ vs) = let e : p v ≡ q v = same v in let r : find p vs ≡ find q vs = same_find p q same vs in rw (e, r) refl
 
 -- the vote that stands for j where one of m for t at b is heard after those that gave o
-abbrev then_heard : ℕ → Ballot → Tape → ℕ → Option Vote → Option Vote
+abbrev then_heard : ℕ → Ballot → Entry → ℕ → Option Vote → Option Vote
 then_heard m b t j o = cond (m == j) (Some (greater (λ (v u : Vote). is_below u.ballot v.ballot) (vote_for b t) o)) o
 
 -- one vote more is heard
-module _ (n m : ℕ) (b : Ballot) (t : Tape) (marks : List Mark) where
+module _ (n m : ℕ) (b : Ballot) (t : Entry) (marks : List Mark) where
   heard_for : (j : ℕ) → latest n (Heard n m b t ∷ marks) j ≡ then_heard m b t j (latest n marks j)
   heard_for j = go (m == j) refl
     where
@@ -77,7 +78,7 @@ module _ (n : ℕ) (marks : List Mark) (slots : List (Option Vote)) (now : Lates
     pub is_not_newer : (b : Ballot) (v : Vote) → latest n marks m ≡ Some v → is_below v.ballot b ≡ false → is_newer b (slot_of slots m) ≡ false
     is_not_newer b v here below = ap (is_newer b) (its_slot ∙ here) ∙ below
 
-    module _ (changes : OneSlotChanges (Option Vote)) (b : Ballot) (t : Tape) where
+    module _ (changes : OneSlotChanges (Option Vote)) (b : Ballot) (t : Entry) where
       abbrev before : ℕ → Option Vote
       before = latest n marks
 

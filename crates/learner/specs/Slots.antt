@@ -3,7 +3,8 @@ use Rattle.std.specs.Prelude.{ℕ, Bool, true, List, [], Option, Some, None, len
 use Rattle.std.specs.Global.{Box}
 use Rattle.arrayvec.specs.ArrayVec.{ArrayVec}
 use Rattle.protocol.specs.Ballots.{Ballot, is_below, is_same, members}
-use Rattle.protocol.specs.Rows.{Vote, Tape, vote_for}
+use Rattle.protocol.specs.Entries.{Entry}
+use Rattle.protocol.specs.Rows.{Vote, vote_for}
 use Rattle.protocol.specs.Learner.{votes_at}
 
 -- the slots of c members before anything is heard of them
@@ -30,7 +31,7 @@ abbrev pub slot_of : List (Option Vote) → ℕ → Option Vote
 slot_of slots m = slice_index_or slots (m - 1) None
 
 -- the slots once a vote of member m for t at b is heard
-abbrev pub kept : List (Option Vote) → ℕ → Ballot → Tape → List (Option Vote)
+abbrev pub kept : List (Option Vote) → ℕ → Ballot → Entry → List (Option Vote)
 kept slots m b t = if is_newer b (slot_of slots m) then slice_set slots (m - 1) (Some (vote_for b t)) else slots
 
 -- the votes that stand in the slots, in order

@@ -7,20 +7,21 @@ ghost use Rattle.protocol.specs.Marks.{Mark, Heard as HeardMark};
 ghost use Rattle.protocol.specs.Learner.{latest, ripe, votes_at};
 ghost use Rattle.learner.specs.Latest.{StandsFor, latest_votes, least_at};
 ghost use Rattle.learner.specs.Slots.{is_newer, kept, slot_of, nothing_heard, opened, written, ripe_in, least_in};
+ghost use Rattle.tape_frames.specs.Entries.{lent_entry};
 
 use arrayvec::ArrayVec;
 use ballots::laws::slots_of_members;
 use ballots::{Ballot, Member, Vote, majority};
 use std::alloc::{AllocError, Global};
 use std::marker::Model;
-use tape_frames::TapeRef;
+use tape_frames::EntryRef;
 
 /// Of each member, in rising order, the vote that was heard. As many are used as the circuit has members.
 type Slots = ArrayVec<Option<Vote>, 15>;
 
 /// The votes for one number that were heard since the station's start: of each member the one of greatest ballot.
 ///
-/// Lamport, Paxos Made Simple: a learner finds out that a tape is chosen by hearing of the votes of a majority.
+/// Lamport, Paxos Made Simple: a learner finds out that an entry is chosen by hearing of the votes of a majority.
 #[derive(Drop)]
 pub struct Heard {
     alloc: Global,
@@ -146,17 +147,17 @@ fn keep_newer(
     slots: &mut Slots,
     member: Member,
     ballot: Ballot,
-    tape: TapeRef<'_>,
+    entry: EntryRef<'_>,
 ) -> Result<(), AllocError>
     requires { member ≤ length slots.old.items }
-    ensures kept { OnOk result (slots.new.items ≡ kept slots.old.items member ballot tape.entry) }
+    ensures kept { OnOk result (slots.new.items ≡ kept slots.old.items member ballot (lent_entry entry.entry)) }
     ensures err { OnErr result (slots.new.items ≡ slots.old.items) }
     ensures no_memory { is_newer ballot (slot_of slots.old.items member) ≡ false → IsOk result }
 {
     let place = usize::from(member.get()) - 1;
     if is_newer(ballot, &slots[place]) {
-        let tape = tape.copy(alloc)?;
-        slots[place] = Some(Vote::new(ballot, tape));
+        let entry = entry.copy(alloc)?;
+        slots[place] = Some(Vote::new(ballot, entry));
     }
     Ok(())
 }
@@ -169,11 +170,11 @@ fn keep(
     members: u8,
     member: Member,
     ballot: Ballot,
-    tape: TapeRef<'_>,
+    entry: EntryRef<'_>,
 ) -> Result<(), AllocError>
     requires few { members ≤ 15 }
     requires member { member ≤ length (opened members slots.old) }
-    ensures kept { OnOk result (opened members slots.new ≡ kept (opened members slots.old) member ballot tape.entry) }
+    ensures kept { OnOk result (opened members slots.new ≡ kept (opened members slots.old) member ballot (lent_entry entry.entry)) }
     ensures written { OnOk result (written slots.new ≡ opened members slots.new) }
     ensures err { OnErr result (opened members slots.new ≡ opened members slots.old) }
     ensures no_memory { is_newer ballot (slot_of (opened members slots.old) member) ≡ false → IsOk result }
@@ -181,11 +182,11 @@ fn keep(
     match slots {
         None => {
             let mut first = Box::new(alloc, empty_slots(members))?;
-            keep_newer(alloc, &mut first, member, ballot, tape)?;
+            keep_newer(alloc, &mut first, member, ballot, entry)?;
             *slots = Some(first);
             Ok(())
         }
-        Some(slots) => keep_newer(alloc, slots, member, ballot, tape),
+        Some(slots) => keep_newer(alloc, slots, member, ballot, entry),
     }
 }
 
@@ -220,11 +221,11 @@ impl Heard {
         &mut self,
         member: Member,
         ballot: Ballot,
-        tape: TapeRef<'_>,
+        entry: EntryRef<'_>,
     ) -> Result<Option<Ballot>, AllocError>
         requires { member ≤ self.old.members }
-        ensures ripe { IfOk result (λ chosen. (n : ℕ) (marks : List Mark) → StandsFor self.old n marks → chosen ≡ option_map (λ (v : VoteValue). v.ballot) (ripe self.old.members n (HeardMark n member ballot tape.entry ∷ marks))) }
-        ensures stands { OnOk result ((n : ℕ) (marks : List Mark) → StandsFor self.old n marks → StandsFor self.new n (HeardMark n member ballot tape.entry ∷ marks)) }
+        ensures ripe { IfOk result (λ chosen. (n : ℕ) (marks : List Mark) → StandsFor self.old n marks → chosen ≡ option_map (λ (v : VoteValue). v.ballot) (ripe self.old.members n (HeardMark n member ballot (lent_entry entry.entry) ∷ marks))) }
+        ensures stands { OnOk result ((n : ℕ) (marks : List Mark) → StandsFor self.old n marks → StandsFor self.new n (HeardMark n member ballot (lent_entry entry.entry) ∷ marks)) }
         ensures members { self.new.members ≡ self.old.members }
         ensures err { OnErr result (self.new ≡ self.old) }
         ensures no_memory { (n : ℕ) (marks : List Mark) (v : VoteValue) → StandsFor self.old n marks → latest n marks member ≡ Some v → is_below v.ballot ballot ≡ false → IsOk result }
@@ -238,19 +239,19 @@ impl Heard {
             self.members,
             member,
             ballot,
-            tape,
+            entry,
         )?;
         Ok(majority_at(lent(&self.slots)))
     }
 
-    /// The tape of the least member whose latest vote has this ballot, lent.
-    pub fn tape_at(&self, ballot: Ballot) -> Option<TapeRef<'_>>
-        ensures least { (n : ℕ) (marks : List Mark) → StandsFor self.now n marks → result ≡ option_map (λ (v : VoteValue). v.tape) (least_at self.now.members ballot (latest n marks)) }
-        ensures ripe { (n : ℕ) (marks : List Mark) (v : VoteValue) → StandsFor self.now n marks → ripe self.now.members n marks ≡ Some v → ballot ≡ v.ballot → result ≡ Some v.tape }
+    /// The entry of the least member whose latest vote has this ballot, lent.
+    pub fn tape_at(&self, ballot: Ballot) -> Option<EntryRef<'_>>
+        ensures least { (n : ℕ) (marks : List Mark) → StandsFor self.now n marks → option_map lent_entry result ≡ option_map (λ (v : VoteValue). v.entry) (least_at self.now.members ballot (latest n marks)) }
+        ensures ripe { (n : ℕ) (marks : List Mark) (v : VoteValue) → StandsFor self.now n marks → ripe self.now.members n marks ≡ Some v → ballot ≡ v.ballot → option_map lent_entry result ≡ Some v.entry }
     {
         match least_at(lent(&self.slots), ballot) {
             None => None,
-            Some(vote) => Some(vote.tape()),
+            Some(vote) => Some(vote.entry()),
         }
     }
 }

@@ -161,10 +161,10 @@ module _ (s : Seat) where
     few_sent letters.Proposal low high most None = omega arith
     few_sent letters.Proposal low high most (Some v) =
         let few : length (others s) + 1 ≡ s.members = besides_few s.members s.me low high in
-        let both : length (to_others s n b (Accept v.tape) ++ to_others s n b (Accepted v.tape)) ≡ length (others s) + length (others s) = two_sent (Accept v.tape) (Accepted v.tape) in
+        let both : length (to_others s n b (Accept v.entry) ++ to_others s n b (Accepted v.entry)) ≡ length (others s) + length (others s) = two_sent (Accept v.entry) (Accepted v.entry) in
         omega arith
     few_sent letters.Vote low high most None = omega arith
-    few_sent letters.Vote low high most (Some v) = let e : length (to_others s n b (Accepted v.tape)) + 1 ≡ s.members = many_sent (Accepted v.tape) low high in omega arith
+    few_sent letters.Vote low high most (Some v) = let e : length (to_others s n b (Accepted v.entry)) + 1 ≡ s.members = many_sent (Accepted v.entry) low high in omega arith
     few_sent (letters.Promise to) low high most vote = omega arith
     few_sent (letters.Nack to promised) low high most vote = omega arith
 
@@ -182,12 +182,12 @@ pub vote_many :
     (o : Option Mail) (v : Option Vote) (m : Mail) (sends : List Packet) (count : ℕ) → mail_sends o v ≡ sends → o ≡ Some m → m.letter ≡ letters.Vote → is_some v ≡ true
     → count ≡ length (others m.seat) → count ≡ length sends
 vote_many o None m sends count is some letter has many = let bad : false ≡ true = has in absurd cc
-vote_many o (Some u) m sends count is some letter has many = many ∙ sym (each_sent m.seat m.number m.ballot (Accepted u.tape)) ∙ ap length (sym (letter_is o (Some u) m sends letters.Vote is some letter))
+vote_many o (Some u) m sends count is some letter has many = many ∙ sym (each_sent m.seat m.number m.ballot (Accepted u.entry)) ∙ ap length (sym (letter_is o (Some u) m sends letters.Vote is some letter))
 
 pub proposal_many :
     (o : Option Mail) (v : Option Vote) (m : Mail) (sends : List Packet) (count : ℕ) → mail_sends o v ≡ sends → o ≡ Some m → m.letter ≡ letters.Proposal → is_some v ≡ true
     → count ≡ length (others m.seat) → 2 * count ≡ length sends
 proposal_many o None m sends count is some letter has many = let bad : false ≡ true = has in absurd cc
 proposal_many o (Some u) m sends count is some letter has many =
-    let whole : length sends ≡ length (others m.seat) + length (others m.seat) = ap length (letter_is o (Some u) m sends letters.Proposal is some letter) ∙ two_sent m.seat m.number m.ballot (Accept u.tape) (Accepted u.tape) in
+    let whole : length sends ≡ length (others m.seat) + length (others m.seat) = ap length (letter_is o (Some u) m sends letters.Proposal is some letter) ∙ two_sent m.seat m.number m.ballot (Accept u.entry) (Accepted u.entry) in
     omega arith

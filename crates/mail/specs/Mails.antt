@@ -1,7 +1,8 @@
 -- What goes out with a turn.
 use Rattle.std.specs.Prelude.{◌≡◌, ◌≤◌, ℕ, List, [], ◌∷◌, ◌++◌, Option, Some, None, IsTrue, length, if◌then◌else◌}
 use Rattle.protocol.specs.Ballots.{Ballot, is_below}
-use Rattle.protocol.specs.Rows.{Tape, Vote}
+use Rattle.protocol.specs.Entries.{Entry}
+use Rattle.protocol.specs.Rows.{Vote}
 use Rattle.protocol.specs.Packets.{Packet, Prepare, Promise, Accept, Accepted, Nack}
 use Rattle.protocol.specs.Turn.{packet_to, to_others}
 use Rattle.packets.specs.Rules.{keeps_rules}
@@ -21,16 +22,16 @@ abbrev pub vote_below : Ballot → Option Vote → Option Vote
 vote_below b None = None
 vote_below b (Some v) = if is_below v.ballot b then Some v else None
 
--- the packets that carry the vote's tape; where there is no vote, none
-abbrev pub of_tape : (Tape → List Packet) → Option Vote → List Packet
-of_tape packets None = []
-of_tape packets (Some v) = packets v.tape
+-- the packets that carry the vote's entry; where there is no vote, none
+abbrev pub of_entry : (Entry → List Packet) → Option Vote → List Packet
+of_entry packets None = []
+of_entry packets (Some v) = packets v.entry
 
 -- what goes out, where this is the vote of the row after the turn
 abbrev pub letter_sends : Seat → ℕ → Ballot → Option Vote → Letter → List Packet
 letter_sends s n b vote letters.Prepare = to_others s n b Prepare
-letter_sends s n b vote letters.Proposal = of_tape (λ tape. to_others s n b (Accept tape) ++ to_others s n b (Accepted tape)) vote
-letter_sends s n b vote letters.Vote = of_tape (λ tape. to_others s n b (Accepted tape)) vote
+letter_sends s n b vote letters.Proposal = of_entry (λ entry. to_others s n b (Accept entry) ++ to_others s n b (Accepted entry)) vote
+letter_sends s n b vote letters.Vote = of_entry (λ entry. to_others s n b (Accepted entry)) vote
 letter_sends s n b vote (letters.Promise to) = packet_to s n b (Promise (vote_below b vote)) to ∷ []
 letter_sends s n b vote (letters.Nack to promised) = packet_to s n b (Nack promised) to ∷ []
 

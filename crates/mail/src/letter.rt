@@ -2,12 +2,12 @@
 
 use ballots::{Ballot, Member};
 
-/// What a mail says, and to whom. It holds no tape: the row after the turn does.
+/// What a mail says, and to whom. It holds no entry: the row after the turn does.
 #[derive(Clone, Copy)]
 pub enum Letter {
     /// A Prepare, to all others.
     Prepare,
-    /// An Accept of the tape that the row votes for, to all others; and then to all the news of that vote.
+    /// An Accept of the entry that the row votes for, to all others; and then to all the news of that vote.
     Proposal,
     /// The news of the row's vote, to all others.
     Vote,

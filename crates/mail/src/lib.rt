@@ -1,4 +1,4 @@
-//! What goes out with a turn of a station: packets whose tapes are lent by the row after the turn.
+//! What goes out with a turn of a station: packets whose entries are lent by the row after the turn.
 #![tactic(auto)]
 
 mod letter;

@@ -4,6 +4,7 @@ ghost use Rattle.std.specs.Prelude.{◌≡◌, ℕ, ◌≤◌, ◌<◌, ◌+◌,
 ghost use Rattle.protocol.specs.Packets.{Accept, Accepted};
 ghost use Rattle.protocol.specs.Turn.{packet_to, to_others, others};
 ghost use Rattle.packets.specs.Bodies.{said};
+ghost use Rattle.tape_frames.specs.Entries.{lent_entry};
 ghost use Rattle.packets.specs.Rules.{keeps_rules, may_send, kind_of, may_say};
 ghost use Rattle.mail.specs.Mails.{MayGo, IsFew};
 
@@ -12,9 +13,9 @@ use crate::seat::Seat;
 use ballots::{Ballot, Member, Number};
 use packets::{BodyRef, PacketRef};
 use std::marker::Model;
-use tape_frames::TapeRef;
+use tape_frames::EntryRef;
 
-/// What goes out with a turn, beside the tapes of its row: from a seat, about a number, at a ballot.
+/// What goes out with a turn, beside the entry of its row: from a seat, about a number, at a ballot.
 #[derive(Clone, Copy)]
 pub struct Mail {
     seat: Seat,
@@ -159,15 +160,15 @@ impl Mail {
         Some(self.packet_to(to, body))
     }
 
-    /// The packet at this place of those that propose the tape, and then tell of the vote for it.
-    pub(crate) fn proposal<'a>(&self, place: usize, tape: TapeRef<'a>) -> Option<PacketRef<'a>>
+    /// The packet at this place of those that propose the entry, and then tell of the vote for it.
+    pub(crate) fn proposal<'a>(&self, place: usize, entry: EntryRef<'a>) -> Option<PacketRef<'a>>
         requires { self.now.ballot.owner ≡ self.now.seat.me }
-        ensures { result ≡ slice_get (to_others self.now.seat self.now.number self.now.ballot (Accept tape.entry) ++ to_others self.now.seat self.now.number self.now.ballot (Accepted tape.entry)) place }
+        ensures { result ≡ slice_get (to_others self.now.seat self.now.number self.now.ballot (Accept (lent_entry entry.entry)) ++ to_others self.now.seat self.now.number self.now.ballot (Accepted (lent_entry entry.entry))) place }
     {
         let others = self.others();
         if place < others {
-            return self.to_other(place, BodyRef::Accept { tape });
+            return self.to_other(place, BodyRef::Accept { entry });
         }
-        self.to_other(place - others, BodyRef::Accepted { tape })
+        self.to_other(place - others, BodyRef::Accepted { entry })
     }
 }

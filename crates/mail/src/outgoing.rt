@@ -1,4 +1,4 @@
-//! What goes out with a turn, packet by packet. It owns no tape: what it tells is the vote of the row after the turn, lent from there.
+//! What goes out with a turn, packet by packet. It owns no entry: what it tells is the vote of the row after the turn, lent from there.
 
 ghost use Rattle.std.specs.Prelude.{◌≡◌, length, slice_get, option_copied};
 ghost use Rattle.mail.specs.Mails.{vote_below, mail_sends};
@@ -9,7 +9,7 @@ use ballots::{Ballot, Vote, VoteRef};
 use packets::{BodyRef, PacketRef};
 use std::marker::Model;
 
-/// The packets that go out with a turn, in order, their tapes lent. Clauses see the list of them.
+/// The packets that go out with a turn, in order, their entries lent. Clauses see the list of them.
 #[derive(Drop)]
 pub struct Outgoing<'a> {
     mail: Option<Mail>,
@@ -26,7 +26,7 @@ impl<'a> Model for Outgoing<'a> {
     ghost view = { λ o. mail_sends o.mail o.vote };
 }
 
-/// The vote, if there is one, its tape lent.
+/// The vote, if there is one, its entry lent.
 fn lent(vote: Option<&Vote>) -> Option<VoteRef<'_>>
     ensures { result ≡ option_copied vote.entry }
 {
@@ -83,9 +83,14 @@ impl<'a> Outgoing<'a> {
         };
         match (mail.letter(), &self.vote) {
             (Letter::Prepare, _) => mail.to_other(place, BodyRef::Prepare),
-            (Letter::Proposal, Some(vote)) => mail.proposal(place, vote.tape()),
+            (Letter::Proposal, Some(vote)) => mail.proposal(place, vote.entry()),
             (Letter::Vote, Some(vote)) => {
-                mail.to_other(place, BodyRef::Accepted { tape: vote.tape() })
+                mail.to_other(
+                    place,
+                    BodyRef::Accepted {
+                        entry: vote.entry(),
+                    },
+                )
             }
             (Letter::Proposal, None) | (Letter::Vote, None) => None,
             (Letter::Promise { to }, vote) => {

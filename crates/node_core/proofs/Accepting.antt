@@ -1,14 +1,18 @@
 -- The acceptor's lines of the turn, from what it replies.
 use Rattle.std.proofs.Common.{◌≡◌, ℕ, refl, sym, ap, subst, ◌∙◌, List, [], ◌∷◌, Option, Some, None, Bool, true, false}
-use Rattle.std.specs.Prelude.{unwrap_or}
+use Rattle.std.specs.Prelude.{unwrap_or, option_map}
 use Rattle.protocol.specs.Ballots.{Ballot, is_below}
-use Rattle.protocol.specs.Rows.{Tape, Vote, Row, vote_for, raised, voted}
+use Rattle.protocol.specs.Entries.{Entry}
+use Rattle.protocol.specs.Rows.{Vote, Row, vote_for, raised, voted}
 use Rattle.protocol.specs.Packets.{Packet, Promise}
 use Rattle.protocol.specs.Marks.{Mark}
 use Rattle.protocol.specs.Acceptor.{Reply, Prepares, Accepts, Promises, Nacks, Says_nothing, Votes, Votes_again, reply_of, next_row, is_above, is_at, vote_is_at, nack_of}
 use Rattle.protocol.specs.Turn as said
 use Rattle.protocol.specs.Turn.{answer, prepare_turn, accept_turn, reply_turn, take_vote, hear, packet_to, to_others}
 use Rattle.protocol.specs.Proposals.{was_released}
+use Rattle.tape_frames.specs.Entries.{owned_entry, lent_entry}
+use Rattle.tape_frames.specs.declared.entry.Entry.{Entry as OwnedEntry}
+use Rattle.tape_frames.specs.declared.entry.EntryRef.{EntryRef}
 use Rattle.node_core.specs.declared.desk.Desk.{Desk}
 use Rattle.node_core.specs.declared.turn.Turn.{Turn}
 use Rattle.mail.specs.declared.letter.Letter.TheVariants as letters
@@ -60,7 +64,7 @@ promise_sent s row p x to after saves sends is h may =
     rw (sends, saves, is, same, whole) refl
 
 -- a vote: it is the row after, which differs from the row before
-pub record Voting (row : Row) (b : Ballot) (t : Tape) : Type 0 where
+pub record Voting (row : Row) (b : Ballot) (t : Entry) : Type 0 where
   pub row_after : next_row row (Accepts b t) ≡ voted b t
   pub changes : ¬ (next_row row (Accepts b t) ≡ row)
 
@@ -68,7 +72,7 @@ no_vote : (o : Option Ballot) → nack_of o ≡ Votes → ⊥
 no_vote None e = cc
 no_vote (Some a) e = cc
 
-pub voting : (row : Row) (b : Ballot) (t : Tape) → reply_of row (Accepts b t) ≡ Votes → Voting row b t
+pub voting : (row : Row) (b : Ballot) (t : Entry) → reply_of row (Accepts b t) ≡ Votes → Voting row b t
 voting row b t e = go (is_above row.promised b) refl (vote_is_at row.vote b) refl
   where
     go : (x : Bool) → is_above row.promised b ≡ x → (y : Bool) → vote_is_at row.vote b ≡ y → Voting row b t
@@ -83,6 +87,11 @@ voting row b t e = go (is_above row.promised b) refl (vote_is_at row.vote b) ref
               let g : true ≡ false = sym f ∙ w in cc;
         }
 
+-- where no entry is told of there is none
+pub none_told : (o : Option OwnedEntry) → option_map owned_entry o ≡ None → o ≡ None
+none_told None e = refl
+none_told (Some x) e = absurd cc
+
 -- a Prepare adds no mark, and releases nothing
 pub prepare_adds_none : (s : Seat) (marks : List Mark) (row : Row) (p : Packet) → ((prepare_turn s marks row p).marks ≡ marks) × ((prepare_turn s marks row p).release ≡ None)
 prepare_adds_none s marks row p = go (is_above row.promised p.ballot) refl (is_at row.promised p.ballot) refl
@@ -96,26 +105,26 @@ prepare_adds_none s marks row p = go (is_above row.promised p.ballot) refl (is_a
     go false e true f = rw (e, f) (refl, refl)
     go false e false f = rw (e, f) (refl, refl)
 
-module _ (s : Seat) (row : Row) (p : Packet) (tape : Tape) where
+module _ (s : Seat) (row : Row) (p : Packet) (entry : Entry) where
   -- the turn, by what the acceptor replies and leaves
-  by_reply : (marks : List Mark) (w : Row) (r : Reply) → reply_of row (Accepts p.ballot tape) ≡ r → w ≡ next_row row (Accepts p.ballot tape) → accept_turn s marks row p tape ≡ reply_turn s marks w p r
+  by_reply : (marks : List Mark) (w : Row) (r : Reply) → reply_of row (Accepts p.ballot entry) ≡ r → w ≡ next_row row (Accepts p.ballot entry) → accept_turn s marks row p entry ≡ reply_turn s marks w p r
   by_reply marks w r e f = λ i. reply_turn s marks (sym f i) p (e i)
 
   -- a Nack takes nothing in
   pub nacked_alone :
-      (marks : List Mark) (x : Turn) (a : Ballot) → reply_of row (Accepts p.ballot tape) ≡ Nacks a → row ≡ next_row row (Accepts p.ballot tape)
-      → IsSending x None (notes.Nacked a) (record { seat = s; number = p.number; ballot = p.ballot; letter = letters.Nack p.from a }) → IsTurnAlone row marks (accept_turn s marks row p tape) x
+      (marks : List Mark) (x : Turn) (a : Ballot) → reply_of row (Accepts p.ballot entry) ≡ Nacks a → row ≡ next_row row (Accepts p.ballot entry)
+      → IsSending x None (notes.Nacked a) (record { seat = s; number = p.number; ballot = p.ballot; letter = letters.Nack p.from a }) → IsTurnAlone row marks (accept_turn s marks row p entry) x
   nacked_alone marks x a reply is r = subst (λ (t : said.Turn). IsTurnAlone row marks t x) (sym (by_reply marks row (Nacks a) reply is)) (record {
-    is_turn = record { row_after = rw r.row_after refl; out = rw r.out refl; release = r.release; note = rw r.noted refl };
+    is_turn = record { row_after = rw r.row_after refl; out = rw r.out refl; release = ap (option_map owned_entry) r.release; note = rw r.noted refl };
     takes_nothing = refl;
     releases_nothing = r.release;
   })
 
   -- a vote that stands
   pub again_votes :
-      (x : Turn) (v : Vote) (b : Ballot) (voted : Tape) → b ≡ p.ballot → voted ≡ v.tape → row.vote ≡ Some v
-      → reply_of row (Accepts p.ballot tape) ≡ Votes_again → row ≡ next_row row (Accepts p.ballot tape)
-      → IsSending x None (notes.VotedAgain b) (record { seat = s; number = p.number; ballot = p.ballot; letter = letters.Vote }) → IsVote s row p tape x voted
+      (x : Turn) (v : Vote) (b : Ballot) (voted : Entry) → b ≡ p.ballot → voted ≡ v.entry → row.vote ≡ Some v
+      → reply_of row (Accepts p.ballot entry) ≡ Votes_again → row ≡ next_row row (Accepts p.ballot entry)
+      → IsSending x None (notes.VotedAgain b) (record { seat = s; number = p.number; ballot = p.ballot; letter = letters.Vote }) → IsVote s row p entry x voted
   again_votes x v b voted its same has reply is r = record {
     after = row;
     line = λ marks. by_reply marks row Votes_again reply is ∙ ap (take_vote s marks row p (said.Note_voted_again p.ballot)) has ∙ rw (r.noted, its, same) refl;
@@ -126,11 +135,11 @@ module _ (s : Seat) (row : Row) (p : Packet) (tape : Tape) where
 
   -- a new vote
   pub now_votes :
-      (x : Turn) (after : Row) (b : Ballot) → b ≡ p.ballot → reply_of row (Accepts p.ballot tape) ≡ Votes → after ≡ next_row row (Accepts p.ballot tape)
-      → IsSending x (Some after) (notes.Voted b) (record { seat = s; number = p.number; ballot = p.ballot; letter = letters.Vote }) → IsVote s row p tape x tape
+      (x : Turn) (after : Row) (b : Ballot) → b ≡ p.ballot → reply_of row (Accepts p.ballot entry) ≡ Votes → after ≡ next_row row (Accepts p.ballot entry)
+      → IsSending x (Some after) (notes.Voted b) (record { seat = s; number = p.number; ballot = p.ballot; letter = letters.Vote }) → IsVote s row p entry x entry
   now_votes x after b its reply is r =
-      let v : Voting row p.ballot tape = voting row p.ballot tape reply in
-      let votes : after.vote ≡ Some (vote_for p.ballot tape) = ap (λ (w : Row). w.vote) (is ∙ v.row_after) in
+      let v : Voting row p.ballot entry = voting row p.ballot entry reply in
+      let votes : after.vote ≡ Some (vote_for p.ballot entry) = ap (λ (w : Row). w.vote) (is ∙ v.row_after) in
       record {
         after = after;
         line = λ marks. by_reply marks after Votes reply is ∙ ap (λ (w : Row). take_vote s marks after p (said.Note_voted p.ballot) w.vote) (is ∙ v.row_after) ∙ rw (r.noted, its) refl;
@@ -141,31 +150,31 @@ module _ (s : Seat) (row : Row) (p : Packet) (tape : Tape) where
 
   -- the turn, once the vote is heard
   pub vote_heard :
-      (marks : List Mark) (x y : Turn) (voted : Tape) (d : Desk) (release : Option Tape) → IsVote s row p tape x voted
+      (marks : List Mark) (x y : Turn) (voted : Entry) (d : Desk) (release : Option OwnedEntry) → IsVote s row p entry x voted
       → y.row ≡ x.row → y.mail ≡ x.mail → y.release ≡ release → y.note ≡ x.note
-      → (release ≡ (hear s.members p.number s.me p.ballot voted marks).release) × IsLeft d release (hear s.members p.number s.me p.ballot voted marks).marks
-      → Answers row (accept_turn s marks row p tape) y d
+      → (option_map owned_entry release ≡ (hear s.members p.number s.me p.ballot voted marks).release) × IsLeft d release (hear s.members p.number s.me p.ballot voted marks).marks
+      → Answers row (accept_turn s marks row p entry) y d
   vote_heard marks x y voted d release v saves sends releases noted h = rw (v.line marks) (record {
-    is_turn = record { row_after = rw saves v.row_after; out = rw (saves, sends) v.out; release = releases ∙ h.0; note = ap note_value noted };
+    is_turn = record { row_after = rw saves v.row_after; out = rw (saves, sends) v.out; release = ap (option_map owned_entry) releases ∙ h.0; note = ap note_value noted };
     left = rw releases h.1;
   })
 
   -- it is as orderly as before
   pub vote_orderly :
-      (x y : Turn) (voted : Tape) → IsVote s row p tape x voted → ((marks : List Mark) → Stirs (accept_turn s marks row p tape))
+      (x y : Turn) (voted : Entry) → IsVote s row p entry x voted → ((marks : List Mark) → Stirs (accept_turn s marks row p entry))
       → y.row ≡ x.row → y.mail ≡ x.mail → y.note ≡ x.note → IsOrderly x → IsOrderly y
   vote_orderly x y voted v stirs saves sends noted o =
       let loud : is_quiet (note_value x.note) ≡ false = ap (λ (t : said.Turn). is_quiet t.note) (sym (v.line [])) ∙ stirs [] in
       record { promised = rw saves o.promised; few = rw sends o.few; quiet = λ q. (let bad : true ≡ false = sym q ∙ ap (λ (n : Note). is_quiet (note_value n)) noted ∙ loud in absurd cc) }
 
   -- of a number that was released it is not heard
-  vote_alone : (marks : List Mark) (x : Turn) (voted : Tape) → IsVote s row p tape x voted → was_released p.number marks ≡ true → IsTurnAlone row marks (accept_turn s marks row p tape) x
+  vote_alone : (marks : List Mark) (x : Turn) (voted : Entry) → IsVote s row p entry x voted → was_released p.number marks ≡ true → IsTurnAlone row marks (accept_turn s marks row p entry) x
   vote_alone marks x voted v r = rw (v.line marks, r) (record {
-    is_turn = record { row_after = v.row_after; out = v.out; release = v.release; note = refl };
+    is_turn = record { row_after = v.row_after; out = v.out; release = ap (option_map owned_entry) v.release; note = refl };
     takes_nothing = refl;
     releases_nothing = v.release;
   })
 
-  pub voting_alone : (marks : List Mark) (x : Turn) (o : Option Tape) → IsVoting s row p tape x o → was_released p.number marks ≡ true → IsTurnAlone row marks (accept_turn s marks row p tape) x
+  pub voting_alone : (marks : List Mark) (x : Turn) (o : Option EntryRef) → IsVoting s row p entry x o → was_released p.number marks ≡ true → IsTurnAlone row marks (accept_turn s marks row p entry) x
   voting_alone marks x None h r = h marks
-  voting_alone marks x (Some voted) h r = vote_alone marks x voted h r
+  voting_alone marks x (Some u) h r = vote_alone marks x (lent_entry u) h r

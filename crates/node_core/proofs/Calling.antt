@@ -1,13 +1,15 @@
 -- What the calls of a core answer.
 use Rattle.std.proofs.Common.{◌≡◌, ℕ, refl, sym, ap, subst, ◌∙◌, List, Option, Some, None, Bool, true, false}
 use Rattle.std.specs.Prelude.{is_some, not}
-use Rattle.protocol.specs.Rows.{Tape, Row}
+use Rattle.protocol.specs.Rows.{Row}
 use Rattle.protocol.specs.Marks.{Mark}
 use Rattle.protocol.specs.Ballots.{Ballot, next}
 use Rattle.protocol.specs.Turn as said
 use Rattle.protocol.specs.Turn.{begin, due_turn, packet_turn}
 use Rattle.protocol.specs.Proposals.{open_proposal}
 use Rattle.protocol.specs.Packets.{Packet}
+use Rattle.tape_frames.specs.Entries.{owned_entry}
+use Rattle.tape_frames.specs.declared.entry.Entry.{Entry}
 use Rattle.node_core.specs.declared.event.Event.{Event}
 use Rattle.node_core.specs.declared.event.Event.TheVariants as events
 use Rattle.node_core.specs.declared.turn.Turn.{Turn}
@@ -18,9 +20,9 @@ use Rattle.node_core.specs.Turns.{event_value, note_value, is_quiet, Stirs, IsTu
 use Rattle.node_core.specs.Calls.{StartIs, TurnIs, RefusesToStart, IsRefused}
 
 -- an offer or a search that begins the next ballot
-pub offered : (s : Seat) (n j : ℕ) (tape : Tape) (now : ℕ) (marks : List Mark) (row : Row) (P : said.Turn → Type 0) → j ≡ n → StartIs s n (Some tape) now marks row P → TurnIs s (events.Offer j tape now) marks row P
-offered s n j tape now marks row P same h = subst (λ i. TurnIs s (events.Offer i tape now) marks row P) (sym same)
-    (let e : next row.promised s.me ≡ Some h.ballot = h.is_next in record { free = h.free; turn = begin s n h.ballot (Some tape) now marks row; is_the_turn = rw e refl; holds = h.holds })
+pub offered : (s : Seat) (n j : ℕ) (entry : Entry) (now : ℕ) (marks : List Mark) (row : Row) (P : said.Turn → Type 0) → j ≡ n → StartIs s n (Some (owned_entry entry)) now marks row P → TurnIs s (events.Offer j entry now) marks row P
+offered s n j entry now marks row P same h = subst (λ i. TurnIs s (events.Offer i entry now) marks row P) (sym same)
+    (let e : next row.promised s.me ≡ Some h.ballot = h.is_next in record { free = h.free; turn = begin s n h.ballot (Some (owned_entry entry)) now marks row; is_the_turn = rw e refl; holds = h.holds })
 
 pub sought : (s : Seat) (n j now : ℕ) (marks : List Mark) (row : Row) (P : said.Turn → Type 0) → j ≡ n → StartIs s n None now marks row P → TurnIs s (events.Seek j now) marks row P
 sought s n j now marks row P same h = subst (λ i. TurnIs s (events.Seek i now) marks row P) (sym same)
@@ -38,12 +40,12 @@ pub turn_so :
     → ((t : said.Turn) → said.turn s marks row (event_value event) ≡ Some t → P t → Q t) → TurnIs s event marks row Q
 turn_so s event marks row P Q h f = record { free = h.free; turn = h.turn; is_the_turn = h.is_the_turn; holds = f h.turn h.is_the_turn h.holds }
 
--- a turn that releases a tape is not quiet
+-- a turn that releases an entry is not quiet
 pub released_stirs : (row : Row) (t : said.Turn) (x : Turn) → IsTurn row t x → (is_quiet (note_value x.note) ≡ true → HandsNothing x) → is_some x.release ≡ true → Stirs t
 released_stirs row t x is quiet released = subst (λ (note : said.Note). is_quiet note ≡ false) is.note (go (is_quiet (note_value x.note)) refl)
   where
     go : (q : Bool) → is_quiet (note_value x.note) ≡ q → is_quiet (note_value x.note) ≡ false
-    go true e = let bad : false ≡ true = ap (λ (o : Option Tape). is_some o) (sym (quiet e).releases) ∙ released in absurd cc
+    go true e = let bad : false ≡ true = ap (λ (o : Option Entry). is_some o) (sym (quiet e).releases) ∙ released in absurd cc
     go false e = e
 
 -- why there is no turn, told of what stands for the same marks and stays where the other does
@@ -56,7 +58,7 @@ module _ (A B : Type 0) (P Q : List Mark → Type 0) (stay : A → B) (stand : (
   start_refused refusals.OutOfMemory n h = tt
 
   pub refused_told : (event : Event) (e : CoreRefusal) → IsRefused event e A P m row → IsRefused event e B Q m row
-  refused_told (events.Offer n tape now) e h = start_refused e n h
+  refused_told (events.Offer n entry now) e h = start_refused e n h
   refused_told (events.Seek n now) e h = start_refused e n h
   refused_told (events.Due n now) e h = h
   refused_told (events.Arrived p now) e h = h

@@ -3,7 +3,8 @@ use Rattle.std.proofs.Common.{◌≡◌, ℕ, refl, ap, subst, List, [], ◌∷�
 use Rattle.std.specs.Prelude.{◌==◌}
 use Rattle.protocol.specs.Seats.{Seat}
 use Rattle.protocol.specs.Ballots.{Ballot, is_majority, next}
-use Rattle.protocol.specs.Rows.{Tape, Vote, Row, raised}
+use Rattle.protocol.specs.Entries.{Entry}
+use Rattle.protocol.specs.Rows.{Vote, Row, raised}
 use Rattle.protocol.specs.Packets.{Packet, Body, Prepare, Promise, Accept, Accepted, Nack}
 use Rattle.protocol.specs.Acceptor.{Prepares, Accepts, Reply, Promises, Nacks, Says_nothing, Votes, Votes_again, reply_of, next_row, is_at}
 use Rattle.protocol.specs.Marks.{Mark, Began, Promised, Proposed, Denied, Heard, Closed, Released}
@@ -19,19 +20,19 @@ stays n marks = record { new = []; is = refl; about = tt }
 pub adds : (n : ℕ) (before after : List Mark) (x : Mark) → marked_number x ≡ n → Grows n before after → Grows n before (x ∷ after)
 adds n before after x e g = record { new = x ∷ g.new; is = ap (λ (marks : List Mark). x ∷ marks) g.is; about = (e, g.about) }
 
-hears : (c n m : ℕ) (b : Ballot) (t : Tape) (before marks : List Mark) → Grows n before marks → Grows n before (hear c n m b t marks).marks
+hears : (c n m : ℕ) (b : Ballot) (t : Entry) (before marks : List Mark) → Grows n before marks → Grows n before (hear c n m b t marks).marks
 hears c n m b t before marks g = go (was_released n marks) refl (ripe c n (Heard n m b t ∷ marks)) refl
   where
     go : (x : Bool) → was_released n marks ≡ x → (y : Option Vote) → ripe c n (Heard n m b t ∷ marks) ≡ y → Grows n before (hear c n m b t marks).marks
     go true e y f = rw e g
     go false e None f = rw (e, f) (adds n before marks (Heard n m b t) refl g)
-    go false e (Some v) f = rw (e, f) (adds n before (Heard n m b t ∷ marks) (Released n v.tape) refl (adds n before marks (Heard n m b t) refl g))
+    go false e (Some v) f = rw (e, f) (adds n before (Heard n m b t ∷ marks) (Released n v.entry) refl (adds n before marks (Heard n m b t) refl g))
 
-proposes : (s : Seat) (n : ℕ) (b : Ballot) (now : ℕ) (before marks : List Mark) (row : Row) (o : Option Tape) → Grows n before marks → Grows n before (propose s n b now marks row o).marks
+proposes : (s : Seat) (n : ℕ) (b : Ballot) (now : ℕ) (before marks : List Mark) (row : Row) (o : Option Entry) → Grows n before marks → Grows n before (propose s n b now marks row o).marks
 proposes s n b now before marks row None g = adds n before marks (Closed n) refl g
 proposes s n b now before marks row (Some t) g = hears s.members n s.me b t before (Proposed n b now ∷ marks) (adds n before marks (Proposed n b now) refl g)
 
-begins : (s : Seat) (n : ℕ) (b : Ballot) (own : Option Tape) (now : ℕ) (marks : List Mark) (row : Row) → Grows n marks (begin s n b own now marks row).marks
+begins : (s : Seat) (n : ℕ) (b : Ballot) (own : Option Entry) (now : ℕ) (marks : List Mark) (row : Row) → Grows n marks (begin s n b own now marks row).marks
 begins s n b own now marks row = go (s.members == 1) refl
   where
     began : Grows n marks (Began n b own row.vote now ∷ marks)
@@ -76,7 +77,7 @@ replies s marks row p r = go r
   where
     takes : (note : said.Note) (v : Option Vote) → Grows p.number marks (take_vote s marks row p note v).marks
     takes note None = stays p.number marks
-    takes note (Some v) = hears s.members p.number s.me p.ballot v.tape marks marks (stays p.number marks)
+    takes note (Some v) = hears s.members p.number s.me p.ballot v.entry marks marks (stays p.number marks)
 
     go : (r : Reply) → Grows p.number marks (reply_turn s marks row p r).marks
     go (Promises report) = stays p.number marks
@@ -93,12 +94,12 @@ receives s now marks row p (Accepted t) = hears s.members p.number p.from p.ball
 receives s now marks row p (Nack a) = denies marks row p a (proposal_at p.number p.ballot marks)
 
 -- the turn of any event
-starts : (s : Seat) (n : ℕ) (own : Option Tape) (now : ℕ) (marks : List Mark) (row : Row) (o : Option Ballot) (t : said.Turn) → start_turn s n own now marks row o ≡ Some t → Grows n marks t.marks
+starts : (s : Seat) (n : ℕ) (own : Option Entry) (now : ℕ) (marks : List Mark) (row : Row) (o : Option Ballot) (t : said.Turn) → start_turn s n own now marks row o ≡ Some t → Grows n marks t.marks
 starts s n own now marks row None t e = absurd cc
 starts s n own now marks row (Some b) t e = let is : begin s n b own now marks row ≡ t = cc in subst (λ (u : said.Turn). Grows n marks u.marks) is (begins s n b own now marks row)
 
 pub grows : (s : Seat) (marks : List Mark) (row : Row) (event : said.Event) (t : said.Turn) → said.turn s marks row event ≡ Some t → Grows (said.number_of event) marks t.marks
-grows s marks row (said.Offered n tape now) t e = starts s n (Some tape) now marks row (next row.promised s.me) t e
+grows s marks row (said.Offered n entry now) t e = starts s n (Some entry) now marks row (next row.promised s.me) t e
 grows s marks row (said.Sought n now) t e = starts s n None now marks row (next row.promised s.me) t e
 grows s marks row (said.Came_due n now) t e = let is : due_turn s n now marks row (open_proposal n marks) ≡ t = cc in subst (λ (u : said.Turn). Grows n marks u.marks) is (falls_due s n now marks row (open_proposal n marks))
 grows s marks row (said.Arrived p now) t e = let is : packet_turn s now marks row p p.body ≡ t = cc in subst (λ (u : said.Turn). Grows p.number marks u.marks) is (receives s now marks row p p.body)

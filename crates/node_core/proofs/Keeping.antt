@@ -15,7 +15,8 @@ use Rattle.node_core.specs.Standing.{Core, StandsFor, DeskStands, ProposalStands
 use Rattle.node_core.specs.declared.turn.Turn.{Turn}
 use Rattle.node_core.specs.Handling.{IsTurnAlone}
 use Rattle.node_core.specs.Turns.{Stirs, is_quiet}
-use Rattle.protocol.specs.Rows.{Tape, Row}
+use Rattle.protocol.specs.Rows.{Row}
+use Rattle.tape_frames.specs.declared.entry.Entry.{Entry}
 use Rattle.protocol.specs.Turn as said
 use Rattle.std.specs.List.{list_any}
 use Rattle.std.specs.Map.{set_value}
@@ -106,7 +107,7 @@ new_stirs c n old d row marks t x is s number of holds keeps a = quiet (is_quiet
     there : DeskStands (fresh d.heard.members d.number) marks
     there = subst (λ k. DeskStands (fresh k d.number) marks) (sym of) (subst (λ k. DeskStands (fresh c k) marks) (sym number) (subst (λ (y : Desk). DeskStands y marks) is s))
 
-    go : (o : Option Tape) → IsLeft d o marks → ⊥
+    go : (o : Option Entry) → IsLeft d o marks → ⊥
     go None left = holds (one_desk d marks left there)
     go (Some u) left = let bad : true ≡ false = sym left ∙ there.unreleased in cc
 
@@ -135,7 +136,7 @@ module _ (votes : OtherVotesPass) (proposals : OtherProposalsPass) (before mid :
   }
 
   module _ (marks next : List Mark) (h : StandsFor before marks) (u : was_released n marks ≡ false) (g : Grows n marks next) (members : d.heard.members ≡ before.members) where
-    settled : (release : Option Tape) (after : Core) → IsLeft d release next → Moves mid n (if is_some release then None else desk_at mid n) (is_some release) after → StandsFor after next
+    settled : (release : Option Entry) (after : Core) → IsLeft d release next → Moves mid n (if is_some release then None else desk_at mid n) (is_some release) after → StandsFor after next
     settled None after left m =
         let unreleased : was_released n next ≡ false = subst (λ k. was_released k next ≡ false) number left.unreleased in
         let whole = moves (desk_at mid n) false after m in
@@ -160,7 +161,7 @@ module _ (votes : OtherVotesPass) (proposals : OtherProposalsPass) (before mid :
 pub settles_alone : (v : Core) (n : ℕ) (row : Row) (marks : List Mark) (t : said.Turn) (x : Turn) → StandsFor v marks → IsTurnAlone row marks t x → Settles n row t x v
 settles_alone v n row marks t x h a = record {
   is_turn = a.is_turn;
-  settled = λ after m. stays after (subst (λ (o : Option Tape). Moves v n (if is_some o then None else desk_at v n) (is_some o) after) a.releases_nothing m);
+  settled = λ after m. stays after (subst (λ (o : Option Entry). Moves v n (if is_some o then None else desk_at v n) (is_some o) after) a.releases_nothing m);
 }
   where
     same_at : (after : Core) → Moves v n (desk_at v n) false after → (k : ℕ) (b : Bool) → (n == k) ≡ b → desk_at after k ≡ desk_at v k

@@ -1,11 +1,12 @@
 -- Lemmas on the lines of the turn.
 use Rattle.std.proofs.Common.{◌≡◌, ◌≤◌, ℕ, suc, refl, sym, ap, subst, ◌∙◌, List, [], ◌∷◌, Option, Some, None, Bool, true, false, arith}
-use Rattle.std.specs.Prelude.{◌==◌, nat_lt, nat_le, is_some}
+use Rattle.std.specs.Prelude.{◌==◌, nat_lt, nat_le, is_some, option_map}
 use Rattle.std.proofs.lemmas.Bool.{eq-eqb}
 use Rattle.std.proofs.lemmas.Bool.Decides.{nat_tests}
 use Rattle.protocol.specs.Lists.{has}
 use Rattle.protocol.specs.Ballots.{Ballot, is_same, is_below, next, last_round}
-use Rattle.protocol.specs.Rows.{Tape, Vote, Row, raised}
+use Rattle.protocol.specs.Entries.{Entry}
+use Rattle.protocol.specs.Rows.{Vote, Row, raised}
 use Rattle.protocol.specs.Acceptor.{is_above, is_at}
 use Rattle.protocol.specs.Marks.{Mark, Began, Promised, Closed, proposes, releases}
 use Rattle.protocol.specs.Proposals.{Opening, was_released, open_proposal, gathering_at, since_began, where_at, counted, is_counted, pick, begun, denied, is_due, is_due_number, due_moment, opening_ballot, open_ballot}
@@ -15,6 +16,7 @@ use Rattle.protocol.specs.Turn.{greater_ballot, next_ballot, is_promised, stays,
 use Rattle.proposer.specs.Answers.{IsNew, IsRepeated, completes, IsCountedAs}
 use Rattle.proposer.specs.declared.answer.Counted.{Counted}
 use Rattle.proposer.specs.declared.answer.Counted.TheVariants as kinds
+use Rattle.tape_frames.specs.Entries.{owned_entry}
 use Rattle.node_core.specs.declared.desk.Desk.{Desk}
 use Rattle.node_core.specs.declared.turn.Turn.{Turn}
 use Rattle.protocol.specs.Seats.{Seat}
@@ -25,14 +27,14 @@ use Rattle.node_core.specs.Turns.{HandsNothing, note_value}
 use Rattle.node_core.specs.declared.turn.Note.TheVariants as notes
 use Rattle.node_core.specs.Handling.{IsTurnAlone}
 
-abbrev pub opening : Ballot → Option Tape → Option Vote → ℕ → Opening
+abbrev pub opening : Ballot → Option Entry → Option Vote → ℕ → Opening
 opening b own report now = record { ballot = b; own = own; report = report; now = now }
 
 -- what was just begun is open
-pub began_opens : (n : ℕ) (b : Ballot) (own : Option Tape) (report : Option Vote) (now : ℕ) (marks : List Mark) → was_released n marks ≡ false → open_proposal n (Began n b own report now ∷ marks) ≡ Some (opening b own report now)
+pub began_opens : (n : ℕ) (b : Ballot) (own : Option Entry) (report : Option Vote) (now : ℕ) (marks : List Mark) → was_released n marks ≡ false → open_proposal n (Began n b own report now ∷ marks) ≡ Some (opening b own report now)
 began_opens n b own report now marks u = let here : (n == n) ≡ true = eq-eqb n n refl in rw (u, here) refl
 
-pub none_since : (n : ℕ) (b : Ballot) (own : Option Tape) (report : Option Vote) (now : ℕ) (marks : List Mark) → since_began n (Began n b own report now ∷ marks) ≡ []
+pub none_since : (n : ℕ) (b : Ballot) (own : Option Entry) (report : Option Vote) (now : ℕ) (marks : List Mark) → since_began n (Began n b own report now ∷ marks) ≡ []
 none_since n b own report now marks = let here : (n == n) ≡ true = eq-eqb n n refl in rw here refl
 
 pub is_same-true : (a b : Ballot) → is_same a b ≡ true → a ≡ b
@@ -88,7 +90,7 @@ not_below_greater (Some p) (Some q) b h = go (is_below p q) refl
 
 -- a turn that saves, sends and releases nothing
 pub stays_so : {row : Row} {marks : List Mark} {note : said.Note} {x : Turn} {d : Desk} → HandsNothing x → note_value x.note ≡ note → DeskStands d marks → Answers row (stays row marks note) x d
-stays_so h noted stands = record { is_turn = record { row_after = rw h.saves refl; out = rw h.sends refl; release = h.releases; note = noted }; left = rw h.releases stands }
+stays_so h noted stands = record { is_turn = record { row_after = rw h.saves refl; out = rw h.sends refl; release = ap (option_map owned_entry) h.releases; note = noted }; left = rw h.releases stands }
 
 not_at_it : (p : Option Ballot) (b : Ballot) → (p ≡ Some b → ⊥) → is_at p b ≡ false
 not_at_it None b o = refl
@@ -202,7 +204,7 @@ told s now row x d e b n a marks is_n is_a h above stands o opens at =
 -- a due moment of a number that was released
 pub idle_alone : (s : Seat) (n now : ℕ) (marks : List Mark) (row : Row) (x : Turn) → was_released n marks ≡ true → HandsNothing x → x.note ≡ notes.Idle → IsTurnAlone row marks (due_turn s n now marks row (open_proposal n marks)) x
 idle_alone s n now marks row x released h noted = rw released (record {
-  is_turn = record { row_after = rw h.saves refl; out = rw h.sends refl; release = h.releases; note = rw noted refl };
+  is_turn = record { row_after = rw h.saves refl; out = rw h.sends refl; release = ap (option_map owned_entry) h.releases; note = rw noted refl };
   takes_nothing = refl;
   releases_nothing = h.releases;
 })
@@ -249,7 +251,7 @@ closed_so n marks b (Some a) e f g = let bad : true ≡ false = sym e ∙ g in a
 
 -- what is heard, told of equal numbers, ballots and members
 pub hear_told :
-    (P : Hearing → Type 0) (c e j n k m : ℕ) (b a : Ballot) (t : Tape) (marks : List Mark) → c ≡ e → j ≡ n → k ≡ m → b ≡ a
+    (P : Hearing → Type 0) (c e j n k m : ℕ) (b a : Ballot) (t : Entry) (marks : List Mark) → c ≡ e → j ≡ n → k ≡ m → b ≡ a
     → P (hear c j k b t marks) → P (hear e n m a t marks)
 hear_told P c e j n k m b a t marks f g h i p =
     subst (λ (x : Ballot). P (hear e n m x t marks)) i

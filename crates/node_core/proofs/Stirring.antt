@@ -3,7 +3,8 @@ use Rattle.std.proofs.Common.{◌≡◌, ℕ, refl, sym, subst, ◌∙◌, List,
 use Rattle.std.specs.Prelude.{◌==◌, if◌then◌else◌}
 use Rattle.protocol.specs.Seats.{Seat}
 use Rattle.protocol.specs.Ballots.{Ballot, is_below, next}
-use Rattle.protocol.specs.Rows.{Tape, Vote, Row, raised}
+use Rattle.protocol.specs.Entries.{Entry}
+use Rattle.protocol.specs.Rows.{Vote, Row, raised}
 use Rattle.protocol.specs.Packets.{Packet, Body, Prepare, Promise, Accept, Accepted, Nack}
 use Rattle.protocol.specs.Marks.{Mark, Began, Promised}
 use Rattle.protocol.specs.Proposals.{Opening, was_released, open_proposal, gathering_at, since_began, counted, pick, is_due, is_due_number}
@@ -16,11 +17,11 @@ use Rattle.node_core.proofs.Phases.{counts_so, completes_so, none_gathers}
 use Rattle.node_core.proofs.Accepting.{prepare_adds_none}
 
 -- a turn that proposes, or closes the proposal
-propose_stirs : (s : Seat) (n : ℕ) (b : Ballot) (now : ℕ) (marks : List Mark) (row : Row) (o : Option Tape) → Stirs (propose s n b now marks row o)
+propose_stirs : (s : Seat) (n : ℕ) (b : Ballot) (now : ℕ) (marks : List Mark) (row : Row) (o : Option Entry) → Stirs (propose s n b now marks row o)
 propose_stirs s n b now marks row None = refl
 propose_stirs s n b now marks row (Some t) = refl
 
-pub begin_stirs : (s : Seat) (n : ℕ) (b : Ballot) (own : Option Tape) (now : ℕ) (marks : List Mark) (row : Row) → Stirs (begin s n b own now marks row)
+pub begin_stirs : (s : Seat) (n : ℕ) (b : Ballot) (own : Option Entry) (now : ℕ) (marks : List Mark) (row : Row) → Stirs (begin s n b own now marks row)
 begin_stirs s n b own now marks row = go (s.members == 1) refl
   where
     go : (x : Bool) → (s.members == 1) ≡ x → Stirs (begin s n b own now marks row)
@@ -74,7 +75,7 @@ pub prepare_stirs : (s : Seat) (marks : List Mark) (row : Row) (p : Packet) → 
 prepare_stirs s marks row p speaks = reply_stirs s marks (next_row row (Prepares p.ballot)) p (reply_of row (Prepares p.ballot)) speaks
 
 -- an Accept is answered
-pub accept_stirs : (s : Seat) (marks : List Mark) (row : Row) (p : Packet) (t : Tape) → Stirs (accept_turn s marks row p t)
+pub accept_stirs : (s : Seat) (marks : List Mark) (row : Row) (p : Packet) (t : Entry) → Stirs (accept_turn s marks row p t)
 accept_stirs s marks row p t = reply_stirs s marks (next_row row (Accepts p.ballot t)) p (reply_of row (Accepts p.ballot t)) (speaks row.promised (vote_is_at row.vote p.ballot))
   where
     speaks : (o : Option Ballot) (y : Bool) → (if is_above o p.ballot then nack_of o else if y then Votes_again else Votes) ≡ Says_nothing → ⊥
@@ -88,7 +89,7 @@ accept_stirs s marks row p t = reply_stirs s marks (next_row row (Accepts p.ball
         go false false e = cc
 
 -- a vote is heard where its number was not released
-pub accepted_stirs : (s : Seat) (marks : List Mark) (row : Row) (p : Packet) (t : Tape) → was_released p.number marks ≡ false → Stirs (accepted_turn s marks row p t)
+pub accepted_stirs : (s : Seat) (marks : List Mark) (row : Row) (p : Packet) (t : Entry) → was_released p.number marks ≡ false → Stirs (accepted_turn s marks row p t)
 accepted_stirs s marks row p t u = rw u refl
 
 -- where no proposal is open, a quiet turn takes nothing in
@@ -99,7 +100,7 @@ module _ (s : Seat) (marks : List Mark) (row : Row) where
   stirred : (t : said.Turn) → Stirs t → Keeps t
   stirred t h q = let bad : true ≡ false = sym q ∙ h in absurd cc
 
-  started : (n : ℕ) (own : Option Tape) (now : ℕ) (o : Option Ballot) (t : said.Turn) → start_turn s n own now marks row o ≡ Some t → Keeps t
+  started : (n : ℕ) (own : Option Entry) (now : ℕ) (o : Option Ballot) (t : said.Turn) → start_turn s n own now marks row o ≡ Some t → Keeps t
   started n own now None t e = absurd cc
   started n own now (Some b) t e = let is : begin s n b own now marks row ≡ t = cc in subst Keeps is (stirred (begin s n b own now marks row) (begin_stirs s n b own now marks row))
 
@@ -115,7 +116,7 @@ module _ (s : Seat) (marks : List Mark) (row : Row) where
   received p now (Nack a) h q = rw h refl
 
   pub quiet_keeps : (event : said.Event) (t : said.Turn) → said.turn s marks row event ≡ Some t → open_proposal (said.number_of event) marks ≡ None → is_quiet t.note ≡ true → t.marks ≡ marks
-  quiet_keeps (said.Offered n tape now) t e h q = started n (Some tape) now (next row.promised s.me) t e q
+  quiet_keeps (said.Offered n entry now) t e h q = started n (Some entry) now (next row.promised s.me) t e q
   quiet_keeps (said.Sought n now) t e h q = started n None now (next row.promised s.me) t e q
   quiet_keeps (said.Came_due n now) t e h q = let is : due_turn s n now marks row (open_proposal n marks) ≡ t = cc in subst Keeps is (λ _. rw h refl) q
   quiet_keeps (said.Arrived p now) t e h q = let is : packet_turn s now marks row p p.body ≡ t = cc in subst Keeps is (received p now p.body h) q

@@ -1,7 +1,8 @@
 -- What a call of the core answers, and what is left of it.
 use Rattle.std.specs.Prelude.{◌≡◌, ◌≤◌, ℕ, List, Option, Some, None, true, false, is_some}
 use Rattle.protocol.specs.Ballots.{Ballot, next}
-use Rattle.protocol.specs.Rows.{Tape, Row}
+use Rattle.protocol.specs.Entries.{Entry}
+use Rattle.protocol.specs.Rows.{Row}
 use Rattle.protocol.specs.Packets.{Packet}
 use Rattle.protocol.specs.Marks.{Mark}
 use Rattle.protocol.specs.Proposals.{was_released, open_proposal}
@@ -23,7 +24,7 @@ pub record IsForMember (me c : ℕ) (p : Packet) : Type 0 where
 
 -- an event may come to this member of the circuit: a packet has to be for it, from a member
 abbrev pub MayCome : ℕ → ℕ → Event → Type 0
-MayCome me c (events.Offer number tape now) = Unit {0}
+MayCome me c (events.Offer number entry now) = Unit {0}
 MayCome me c (events.Seek number now) = Unit {0}
 MayCome me c (events.Due number now) = Unit {0}
 MayCome me c (events.Arrived packet now) = IsForMember me c packet
@@ -34,7 +35,7 @@ pub record IsFree (n : ℕ) (marks : List Mark) : Type 0 where
   pub closed : open_proposal n marks ≡ None
 
 -- an offer or a search of a free number begins its next ballot, by a turn of which P holds
-pub record StartIs (s : Seat) (n : ℕ) (own : Option Tape) (now : ℕ) (marks : List Mark) (row : Row) (P : said.Turn → Type 0) : Type 0 where
+pub record StartIs (s : Seat) (n : ℕ) (own : Option Entry) (now : ℕ) (marks : List Mark) (row : Row) (P : said.Turn → Type 0) : Type 0 where
   pub free : IsFree n marks
   pub ballot : Ballot
   pub is_next : next row.promised s.me ≡ Some ballot
@@ -50,7 +51,7 @@ RefusesToStart refusals.OutOfMemory same stands m n row = Unit {0}
 
 -- an offer or a search is of a free number
 abbrev pub IsFreeFor : Event → List Mark → Type 0
-IsFreeFor (events.Offer number tape now) marks = IsFree number marks
+IsFreeFor (events.Offer number entry now) marks = IsFree number marks
 IsFreeFor (events.Seek number now) marks = IsFree number marks
 IsFreeFor (events.Due number now) marks = Unit {0}
 IsFreeFor (events.Arrived packet now) marks = Unit {0}
@@ -71,7 +72,7 @@ pub record TurnIs (s : Seat) (event : Event) (marks : List Mark) (row : Row) (P 
 
 -- why member m is refused the event: all but an offer and a search are refused for want of memory alone
 abbrev pub IsRefused : Event → CoreRefusal → Type 0 → (List Mark → Type 0) → ℕ → Row → Type 0
-IsRefused (events.Offer number tape now) e same stands m row = RefusesToStart e same stands m number row
+IsRefused (events.Offer number entry now) e same stands m row = RefusesToStart e same stands m number row
 IsRefused (events.Seek number now) e same stands m row = RefusesToStart e same stands m number row
 IsRefused (events.Due number now) e same stands m row = e ≡ refusals.OutOfMemory
 IsRefused (events.Arrived packet now) e same stands m row = e ≡ refusals.OutOfMemory

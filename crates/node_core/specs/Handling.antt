@@ -1,8 +1,11 @@
 -- What comes of an event: of a number that was not released, with what is in hand of it, and of one that was.
 use Rattle.std.specs.Prelude.{◌≡◌, ℕ, List, Option, None, Result, MatchResult, Some}
-use Rattle.protocol.specs.Rows.{Tape, Row}
+use Rattle.protocol.specs.Entries.{Entry}
+use Rattle.protocol.specs.Rows.{Row}
 use Rattle.protocol.specs.Marks.{Mark}
 use Rattle.protocol.specs.Turn as said
+use Rattle.tape_frames.specs.Entries.{lent_entry}
+use Rattle.tape_frames.specs.declared.entry.EntryRef.{EntryRef}
 use Rattle.node_core.specs.declared.desk.Desk.{Desk}
 use Rattle.node_core.specs.declared.event.Event.{Event}
 use Rattle.node_core.specs.declared.turn.Turn.{Turn}
@@ -20,7 +23,7 @@ abbrev pub Handles : {E : Type 0} → Row → (List Mark → said.Turn) → Resu
 Handles row turn result old new = (marks : List Mark) → DeskStands old marks → MatchResult result (λ x. Answers row (turn marks) x new) (λ _. Stirs (turn marks))
 
 -- the same of an offer or a search, which may be refused for another cause
-abbrev pub Starts : Seat → ℕ → Option Tape → ℕ → Row → Result Turn CoreRefusal → Desk → Desk → Type 0
+abbrev pub Starts : Seat → ℕ → Option Entry → ℕ → Row → Result Turn CoreRefusal → Desk → Desk → Type 0
 Starts s n own now row result old new =
     (marks : List Mark) → DeskStands old marks
     → MatchResult result (λ x. StartIs s n own now marks row (λ t. Answers row t x new)) (λ e. e ≡ refusals.OutOfMemory → StartIs s n own now marks row Stirs)
@@ -52,15 +55,15 @@ Acts n event row result old new =
     (marks : List Mark) → StandsFor old marks
     → MatchResult result (λ x. TurnIs (seat_of old) event marks row (λ t. Settles n row t x new)) (λ e. e ≡ refusals.OutOfMemory → MayTakeMemory old event marks row)
 
--- what the code hands out is a vote for this tape
-pub record IsVote (s : Seat) (row : Row) (p : Packet) (tape : Tape) (x : Turn) (voted : Tape) : Type 0 where
+-- what the code hands out is a vote for this entry
+pub record IsVote (s : Seat) (row : Row) (p : Packet) (entry : Entry) (x : Turn) (voted : Entry) : Type 0 where
   pub after : Row
-  pub line : (marks : List Mark) → accept_turn s marks row p tape ≡ vote_turn s marks after p voted (note_value x.note)
+  pub line : (marks : List Mark) → accept_turn s marks row p entry ≡ vote_turn s marks after p voted (note_value x.note)
   pub row_after : IsRowAfter row after x.row
   pub out : sent row x ≡ to_others s p.number p.ballot (Accepted voted)
   pub release : x.release ≡ None
 
--- an Accept is voted for, with this tape, or refused
-abbrev pub IsVoting : Seat → Row → Packet → Tape → Turn → Option Tape → Type 0
-IsVoting s row p tape x None = (marks : List Mark) → IsTurnAlone row marks (accept_turn s marks row p tape) x
-IsVoting s row p tape x (Some voted) = IsVote s row p tape x voted
+-- an Accept is voted for, with this entry, or refused
+abbrev pub IsVoting : Seat → Row → Packet → Entry → Turn → Option EntryRef → Type 0
+IsVoting s row p entry x None = (marks : List Mark) → IsTurnAlone row marks (accept_turn s marks row p entry) x
+IsVoting s row p entry x (Some voted) = IsVote s row p entry x (lent_entry voted)

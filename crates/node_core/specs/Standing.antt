@@ -8,8 +8,9 @@ use Rattle.protocol.specs.Marks.{Mark, Began, Promised, Proposed, Denied, Heard,
 use Rattle.protocol.specs.Proposals.{was_released, open_proposal}
 use Rattle.learner.specs.Latest.{latest_votes, StandsFor as VotesStandFor}
 use Rattle.proposer.specs.InHand.{InHand, StandsFor as ProposalStandsFor}
-use Rattle.protocol.specs.Rows.{Tape, Row}
+use Rattle.protocol.specs.Rows.{Row}
 use Rattle.protocol.specs.Turn as said
+use Rattle.tape_frames.specs.declared.entry.Entry.{Entry}
 use Rattle.node_core.specs.declared.desk.Desk.{Desk}
 use Rattle.node_core.specs.declared.turn.Turn.{Turn}
 use Rattle.protocol.specs.Seats.{Seat}
@@ -82,8 +83,8 @@ pub record IsDeskOf (s : Seat) (d : Desk) : Type 0 where
 abbrev pub AreDesksOf : Seat → List (ℕ × Desk) → Type 0
 AreDesksOf s desks = (n : ℕ) (d : Desk) → desk_in desks n ≡ Some d → IsDeskOf s d × (d.number ≡ n)
 
--- what is left in hand where this tape is released, or none is
-abbrev pub IsLeft : Desk → Option Tape → List Mark → Type 0
+-- what is left in hand where this entry is released, or none is
+abbrev pub IsLeft : Desk → Option Entry → List Mark → Type 0
 IsLeft d None marks = DeskStands d marks
 IsLeft d (Some t) marks = was_released d.number marks ≡ true
 

@@ -1,8 +1,9 @@
 -- What the code's events, notes and turns say, in the protocol's words.
-use Rattle.std.specs.Prelude.{◌≡◌, List, Bool, true, false, Option, Some, None, IsSome, IfSome, unwrap_or}
+use Rattle.std.specs.Prelude.{◌≡◌, List, Bool, true, false, Option, Some, None, IsSome, IfSome, unwrap_or, option_map}
 use Rattle.protocol.specs.Rows.{Row}
 use Rattle.protocol.specs.Packets.{Packet}
 use Rattle.protocol.specs.Turn as said
+use Rattle.tape_frames.specs.Entries.{owned_entry}
 use Rattle.node_core.specs.declared.event.Event.{Event}
 use Rattle.node_core.specs.declared.event.Event.TheVariants as events
 use Rattle.node_core.specs.declared.turn.Note.{Note}
@@ -12,7 +13,7 @@ use Rattle.mail.specs.Mails.{Mail, mail_sends, IsFew}
 
 -- what comes to the station
 abbrev pub event_value : Event → said.Event
-event_value (events.Offer number tape now) = said.Offered number tape now
+event_value (events.Offer number entry now) = said.Offered number (owned_entry entry) now
 event_value (events.Seek number now) = said.Sought number now
 event_value (events.Due number now) = said.Came_due number now
 event_value (events.Arrived packet now) = said.Arrived packet now
@@ -65,7 +66,7 @@ sent row x = mail_sends x.mail (unwrap_or x.row row).vote
 pub record IsTurn (row : Row) (t : said.Turn) (x : Turn) : Type 0 where
   pub row_after : IsRowAfter row t.row x.row
   pub out : sent row x ≡ t.out
-  pub release : x.release ≡ t.release
+  pub release : option_map owned_entry x.release ≡ t.release
   pub note : note_value x.note ≡ t.note
 
 -- the row, if there is one, has a promise

@@ -1,14 +1,17 @@
 //! What is in hand of one number: its proposal, if one is open, and the votes that were heard.
 
-ghost use Rattle.std.specs.Prelude.{◌≡◌, ◌≤◌, ℕ, List, ◌∷◌, Option, Some, None, IfOk, IfErr, IsTrue, IsSome, MatchBool, false};
+ghost use Rattle.std.specs.Prelude.{◌≡◌, ◌≤◌, ℕ, List, ◌∷◌, Option, Some, None, IfOk, IfErr, IsTrue, IsSome, MatchBool, false, option_map};
 ghost use Rattle.protocol.specs.Ballots.{next};
 ghost use Rattle.protocol.specs.Packets.{Accept as AcceptBody};
 ghost use Rattle.packets.specs.Rules.{keeps_rules};
-ghost use Rattle.protocol.specs.Rows.{Row as RowValue, Tape as TapeValue, raised};
+ghost use Rattle.protocol.specs.Entries.{Entry as EntryValue};
+ghost use Rattle.protocol.specs.Rows.{Row as RowValue, raised};
+ghost use Rattle.tape_frames.specs.Entries.{owned_entry, lent_entry};
 ghost use Rattle.protocol.specs.Marks.{Mark, Began, Proposed, Closed};
 ghost use Rattle.protocol.specs.Acceptor.{is_above};
 ghost use Rattle.protocol.specs.Proposals.{Opening, open_proposal, open_ballot, proposal_at, gathering_at, since_began, counted, pick, is_due_number};
 ghost use Rattle.protocol.specs.Turn.{number_of, hear, propose, begin, due_turn, promise_turn, nack_turn, accept_turn, accepted_turn, packet_turn};
+ghost use Rattle.proposer.specs.InHand.{StandsFor as ProposalStandsFor};
 ghost use Rattle.node_core.specs.Standing.{DeskStands, fresh, IsDeskOf, IsLeft, Answers};
 ghost use Rattle.node_core.specs.Calls.{IsForMember, MayCome, StartIs, RefusesToStart, IsRefused};
 ghost use Rattle.node_core.specs.Handling.{Handles, Starts, Takes};
@@ -25,7 +28,7 @@ use mail::{Letter, Mail, Seat};
 use packets::{BodyRef, PacketRef};
 use proposer::{Counted, DueAnswer, Proposal};
 use std::alloc::{AllocError, Global};
-use tape_frames::{Tape, TapeRef};
+use tape_frames::{Entry, EntryRef};
 
 /// One number's open proposal and heard votes. The number was not released.
 #[derive(Drop)]
@@ -33,6 +36,16 @@ pub(crate) struct Desk {
     pub number: Number,
     pub proposal: Option<Proposal>,
     pub heard: Heard,
+}
+
+/// The entry that the proposal picks, with frames of its own, if there is one.
+fn picked(alloc: Global, proposal: &Proposal) -> Result<Option<Entry>, AllocError>
+    ensures { IfOk result (λ entry. (n : ℕ) (marks : List Mark) (o : Opening) → ProposalStandsFor proposal.now n marks → open_proposal n marks ≡ Some o → option_map owned_entry entry ≡ pick o.own (counted proposal.now.me n o (since_began n marks))) }
+{
+    match proposal.pick() {
+        None => Ok(None),
+        Some(entry) => Ok(Some(entry.copy(alloc)?)),
+    }
 }
 
 impl Desk {
@@ -75,58 +88,58 @@ impl Desk {
         }
     }
 
-    /// Hears a member's vote, and answers the tape that is then released, if any: that of the least member at whose ballot a
+    /// Hears a member's vote, and answers the entry that is then released, if any: that of the least member at whose ballot a
     /// majority's votes stand.
     fn hear(
         &mut self,
         alloc: Global,
         member: Member,
         ballot: Ballot,
-        tape: TapeRef<'_>,
-    ) -> Result<Option<Tape>, AllocError>
+        entry: EntryRef<'_>,
+    ) -> Result<Option<Entry>, AllocError>
         requires { member ≤ self.old.heard.members }
-        ensures release { IfOk result (λ release. (marks : List Mark) → DeskStands self.old marks → release ≡ (hear self.old.heard.members self.old.number member ballot tape.entry marks).release) }
-        ensures left { IfOk result (λ release. (marks : List Mark) → DeskStands self.old marks → IsLeft self.new release (hear self.old.heard.members self.old.number member ballot tape.entry marks).marks) }
+        ensures release { IfOk result (λ release. (marks : List Mark) → DeskStands self.old marks → option_map owned_entry release ≡ (hear self.old.heard.members self.old.number member ballot (lent_entry entry.entry) marks).release) }
+        ensures left { IfOk result (λ release. (marks : List Mark) → DeskStands self.old marks → IsLeft self.new release (hear self.old.heard.members self.old.number member ballot (lent_entry entry.entry) marks).marks) }
         ensures of { (s : SeatValue) → IsDeskOf s self.old → IsDeskOf s self.new }
         ensures number { self.new.number ≡ self.old.number }
     {
         // A vote that is heard changes nothing of the proposal.
         proposer::laws::other_marks_pass();
-        let Some(chosen) = self.heard.hear(member, ballot, tape)? else {
+        let Some(chosen) = self.heard.hear(member, ballot, entry)? else {
             return Ok(None);
         };
         match self.heard.tape_at(chosen) {
             None => Ok(None),
-            Some(tape) => Ok(Some(tape.copy(alloc)?)),
+            Some(entry) => Ok(Some(entry.copy(alloc)?)),
         }
     }
 
-    /// Votes for the tape at the ballot at which it was just proposed.
+    /// Votes for the entry at the ballot at which it was just proposed.
     fn vote_for(
         &mut self,
         alloc: Global,
         seat: Seat,
         ballot: Ballot,
-        tape: Tape,
+        entry: Entry,
         row: &Row,
     ) -> Result<Turn, AllocError>
         requires of { IsDeskOf seat self.old }
         requires owner { ballot.owner ≡ seat.me }
-        ensures turn { IfOk result (λ x. (now : ℕ) (marks : List Mark) (before : RowValue) → DeskStands self.old (Proposed self.old.number ballot now ∷ marks) → Answers row.now (propose seat self.old.number ballot now marks before (Some tape)) x self.new) }
+        ensures turn { IfOk result (λ x. (now : ℕ) (marks : List Mark) (before : RowValue) → DeskStands self.old (Proposed self.old.number ballot now ∷ marks) → Answers row.now (propose seat self.old.number ballot now marks before (Some (owned_entry entry))) x self.new) }
         ensures orderly { IfOk result (λ x. IsOrderly x) }
         ensures of { IsDeskOf seat self.new }
         ensures number { self.new.number ≡ self.old.number }
     {
-        let release = self.hear(alloc, seat.me(), ballot, tape.lend())?;
+        let release = self.hear(alloc, seat.me(), ballot, entry.lend())?;
         Ok(Turn {
-            row: vote(row, ballot, tape),
+            row: vote(row, ballot, entry),
             mail: Some(Mail::new(seat, self.number, ballot, Letter::Proposal)),
             release,
             note: Note::Proposed { ballot },
         })
     }
 
-    /// Phase 2 (Lamport): proposes the tape that the proposal picks, or closes it where there is none.
+    /// Phase 2 (Lamport): proposes the entry that the proposal picks, or closes it where there is none.
     fn propose(
         &mut self,
         alloc: Global,
@@ -147,15 +160,14 @@ impl Desk {
         let Some(proposal) = &mut self.proposal else {
             unreachable!();
         };
-        match proposal.pick() {
+        match picked(alloc, proposal)? {
             None => {
                 let row = raise(alloc, row, ballot)?;
                 Ok(self.close(row, Note::Nothing { ballot }))
             }
-            Some(tape) => {
-                let tape = tape.copy(alloc)?;
+            Some(entry) => {
                 proposal.proposed(now);
-                self.vote_for(alloc, seat, ballot, tape, row)
+                self.vote_for(alloc, seat, ballot, entry, row)
             }
         }
     }
@@ -195,7 +207,7 @@ impl Desk {
         requires of { IsDeskOf seat self.old }
         requires open { IsSome self.old.proposal }
         requires owner { ballot.owner ≡ seat.me }
-        ensures turn { IfOk result (λ x. (marks : List Mark) (own : Option TapeValue) → is_above row.now.promised ballot ≡ false → DeskStands self.old (Began self.old.number ballot own row.now.vote now ∷ marks) → Answers row.now (begin seat self.old.number ballot own now marks row.now) x self.new) }
+        ensures turn { IfOk result (λ x. (marks : List Mark) (own : Option EntryValue) → is_above row.now.promised ballot ≡ false → DeskStands self.old (Began self.old.number ballot own row.now.vote now ∷ marks) → Answers row.now (begin seat self.old.number ballot own now marks row.now) x self.new) }
         ensures orderly { IfOk result (λ x. IsOrderly x) }
         ensures of { IsDeskOf seat self.new }
         ensures number { self.new.number ≡ self.old.number }
@@ -304,13 +316,13 @@ impl Desk {
         &mut self,
         alloc: Global,
         seat: Seat,
-        own: Option<Tape>,
+        own: Option<Entry>,
         now: u64,
         row: &Row,
     ) -> Result<Turn, AllocError>
         requires of { IsDeskOf seat self.old }
         requires next { IsSome (next row.now.promised seat.me) }
-        ensures turn { IfOk result (λ x. (marks : List Mark) → DeskStands self.old marks → open_proposal self.old.number marks ≡ None → StartIs seat self.old.number own now marks row.now (λ t. Answers row.now t x self.new)) }
+        ensures turn { IfOk result (λ x. (marks : List Mark) → DeskStands self.old marks → open_proposal self.old.number marks ≡ None → StartIs seat self.old.number (option_map owned_entry own) now marks row.now (λ t. Answers row.now t x self.new)) }
         ensures orderly { IfOk result (λ x. IsOrderly x) }
         ensures of { IsDeskOf seat self.new }
         ensures number { self.new.number ≡ self.old.number }
@@ -341,12 +353,12 @@ impl Desk {
         &mut self,
         alloc: Global,
         seat: Seat,
-        own: Option<Tape>,
+        own: Option<Entry>,
         now: u64,
         row: &Row,
     ) -> Result<Turn, CoreRefusal>
         requires { IsDeskOf seat self.old }
-        ensures turn { Starts seat self.old.number own now row.now result self.old self.new }
+        ensures turn { Starts seat self.old.number (option_map owned_entry own) now row.now result self.old self.new }
         ensures orderly { IfOk result (λ x. IsOrderly x) }
         ensures refused { IfErr result (λ e. RefusesToStart e (self.new ≡ self.old) (DeskStands self.old) seat.me self.old.number row.now) }
         ensures of { IsDeskOf seat self.new }
@@ -367,24 +379,24 @@ impl Desk {
         alloc: Global,
         seat: Seat,
         packet: &PacketRef<'_>,
-        tape: TapeRef<'_>,
+        entry: EntryRef<'_>,
         row: &Row,
     ) -> Result<Turn, AllocError>
         requires of { IsDeskOf seat self.old }
         requires number { packet.now.number ≡ self.old.number }
         requires arrived { IsForMember seat.me seat.members packet.now }
         requires rules { IsTrue (keeps_rules packet.now) }
-        requires kind { packet.now.body ≡ AcceptBody tape }
-        ensures turn { Handles row.now (λ marks. accept_turn seat marks row.now packet.now tape.entry) result self.old self.new }
+        requires kind { packet.now.body ≡ AcceptBody (lent_entry entry) }
+        ensures turn { Handles row.now (λ marks. accept_turn seat marks row.now packet.now (lent_entry entry.entry)) result self.old self.new }
         ensures orderly { IfOk result (λ x. IsOrderly x) }
         ensures of { IsDeskOf seat self.new }
         ensures number { self.new.number ≡ self.old.number }
     {
-        let Voting { turn, vote } = voting::accept(alloc, seat, packet, tape, row)?;
+        let Voting { turn, vote } = voting::accept(alloc, seat, packet, entry, row)?;
         match vote {
             None => Ok(turn),
-            Some(tape) => {
-                let release = self.hear(alloc, seat.me(), packet.ballot(), tape)?;
+            Some(entry) => {
+                let release = self.hear(alloc, seat.me(), packet.ballot(), entry)?;
                 Ok(Turn { release, ..turn })
             }
         }
@@ -396,18 +408,18 @@ impl Desk {
         alloc: Global,
         seat: Seat,
         packet: &PacketRef<'_>,
-        tape: TapeRef<'_>,
+        entry: EntryRef<'_>,
     ) -> Result<Turn, AllocError>
         requires of { IsDeskOf seat self.old }
         requires number { packet.now.number ≡ self.old.number }
         requires from { packet.now.from ≤ seat.members }
-        ensures turn { (row : RowValue) → Handles row (λ marks. accepted_turn seat marks row packet.now tape.entry) result self.old self.new }
+        ensures turn { (row : RowValue) → Handles row (λ marks. accepted_turn seat marks row packet.now (lent_entry entry.entry)) result self.old self.new }
         ensures orderly { IfOk result (λ x. IsOrderly x) }
         ensures of { IsDeskOf seat self.new }
         ensures number { self.new.number ≡ self.old.number }
     {
         let ballot = packet.ballot();
-        let release = self.hear(alloc, packet.from(), ballot, tape)?;
+        let release = self.hear(alloc, packet.from(), ballot, entry)?;
         Ok(Turn {
             row: None,
             mail: None,
@@ -436,8 +448,8 @@ impl Desk {
         match packet.body().lend() {
             BodyRef::Prepare => voting::prepare(alloc, seat, packet, row),
             BodyRef::Promise { report } => self.promise(alloc, seat, packet, report, now, row),
-            BodyRef::Accept { tape } => self.accept(alloc, seat, packet, tape, row),
-            BodyRef::Accepted { tape } => self.accepted(alloc, seat, packet, tape),
+            BodyRef::Accept { entry } => self.accept(alloc, seat, packet, entry, row),
+            BodyRef::Accepted { entry } => self.accepted(alloc, seat, packet, entry),
             BodyRef::Nack { promised } => Ok(self.nack(packet, promised)),
         }
     }
@@ -460,7 +472,7 @@ impl Desk {
         ensures number { self.new.number ≡ self.old.number }
     {
         match event {
-            Event::Offer { tape, now, .. } => self.start(alloc, seat, Some(tape), now, row),
+            Event::Offer { entry, now, .. } => self.start(alloc, seat, Some(entry), now, row),
             Event::Seek { now, .. } => self.start(alloc, seat, None, now, row),
             Event::Due { now, .. } => Ok(self.due(alloc, seat, now, row)?),
             Event::Arrived { packet, now } => Ok(self.receive(alloc, seat, &packet, now, row)?),

@@ -6,18 +6,18 @@ ghost use Rattle.node_core.specs.Turns.{event_value};
 
 use ballots::Number;
 use packets::PacketRef;
-use tape_frames::Tape;
+use tape_frames::Entry;
 
 /// An event of one number. `now` is its moment, in milliseconds.
 #[derive(Drop)]
 pub enum Event<'a> {
-    /// The tape is offered for the number.
+    /// The entry is offered for the number: a tape, or that the number is withdrawn.
     Offer {
         number: Number,
-        tape: Tape,
+        entry: Entry,
         now: u64,
     },
-    /// The number's tape is sought.
+    /// The number's entry is sought.
     Seek {
         number: Number,
         now: u64,

@@ -99,7 +99,7 @@ impl NodeCore {
         self.seat.members()
     }
 
-    /// Whether the number's tape was released since the start; `false` while the core is failed.
+    /// Whether the number's entry was released since the start; `false` while the core is failed.
     pub fn released(&self, number: Number) -> bool
         ensures failed { self.now.failed ≡ true → result ≡ false }
         ensures value { (marks : List Mark) → StandsFor self.now marks → result ≡ was_released number marks }
@@ -184,7 +184,7 @@ impl NodeCore {
         Ok(turn)
     }
 
-    /// Takes an event of the number; where its tape is released now, that is still to be noted.
+    /// Takes an event of the number; where its entry is released now, that is still to be noted.
     fn act(&mut self, number: Number, event: Event<'_>, row: &Row) -> Result<Turn, CoreRefusal>
         requires unfailed { self.old.failed ≡ false }
         requires arrived { MayCome self.old.me self.old.members event }

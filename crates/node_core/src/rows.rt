@@ -2,12 +2,13 @@
 
 ghost use Rattle.std.specs.Prelude.{◌≡◌, ◌↔◌, IsTrue, IfOk, Some, false, option_copied};
 ghost use Rattle.protocol.specs.Rows.{raised, voted};
+ghost use Rattle.tape_frames.specs.Entries.{owned_entry, lent_entry};
 ghost use Rattle.protocol.specs.Acceptor.{is_above};
 ghost use Rattle.node_core.specs.Turns.{IsRowAfter, HasPromise};
 
 use ballots::{Ballot, Row, Vote};
 use std::alloc::{AllocError, Global};
-use tape_frames::{Tape, TapeRef};
+use tape_frames::{Entry, EntryRef};
 
 /// A copy of the vote, if there is one.
 pub(crate) fn copied(alloc: Global, vote: Option<&Vote>) -> Result<Option<Vote>, AllocError>
@@ -29,13 +30,13 @@ pub(crate) fn is_promised(row: &Row, ballot: Ballot) -> bool
     }
 }
 
-/// Whether the row's vote is for this tape at this ballot.
-fn is_vote(row: &Row, ballot: Ballot, tape: TapeRef<'_>) -> bool
-    ensures { IsTrue result ↔ (row.now.vote ≡ Some (record { ballot = ballot; tape = tape.entry })) }
+/// Whether the row's vote is for this entry at this ballot.
+fn is_vote(row: &Row, ballot: Ballot, entry: EntryRef<'_>) -> bool
+    ensures { IsTrue result ↔ (row.now.vote ≡ Some (record { ballot = ballot; entry = lent_entry entry.entry })) }
 {
     match row.vote() {
         None => false,
-        Some(vote) => vote.ballot().is_same(ballot) && vote.tape().same(tape),
+        Some(vote) => vote.ballot().is_same(ballot) && vote.entry().same(entry),
     }
 }
 
@@ -51,15 +52,15 @@ pub(crate) fn raise(alloc: Global, row: &Row, ballot: Ballot) -> Result<Option<R
     Ok(Row::new(Some(ballot), vote))
 }
 
-/// The row with a vote for the tape at the ballot, where that changes it.
-pub(crate) fn vote(row: &Row, ballot: Ballot, tape: Tape) -> Option<Row>
-    ensures row { IsRowAfter row.now (voted ballot tape) result }
+/// The row with a vote for the entry at the ballot, where that changes it.
+pub(crate) fn vote(row: &Row, ballot: Ballot, entry: Entry) -> Option<Row>
+    ensures row { IsRowAfter row.now (voted ballot (owned_entry entry)) result }
     ensures promised { HasPromise result }
 {
-    if is_promised(row, ballot) && is_vote(row, ballot, tape.lend()) {
+    if is_promised(row, ballot) && is_vote(row, ballot, entry.lend()) {
         return None;
     }
-    match Row::new(Some(ballot), Some(Vote::new(ballot, tape))) {
+    match Row::new(Some(ballot), Some(Vote::new(ballot, entry))) {
         Some(after) => Some(after),
         None => unreachable!(),
     }

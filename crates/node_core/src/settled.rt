@@ -25,8 +25,8 @@ fn receive(alloc: Global, seat: Seat, packet: &PacketRef<'_>, row: &Row) -> Resu
     match packet.body().lend() {
         BodyRef::Prepare => voting::prepare(alloc, seat, packet, row),
         BodyRef::Promise { .. } => Ok(Turn::quiet(Note::Stale)),
-        BodyRef::Accept { tape } => {
-            let Voting { turn, .. } = voting::accept(alloc, seat, packet, tape, row)?;
+        BodyRef::Accept { entry } => {
+            let Voting { turn, .. } = voting::accept(alloc, seat, packet, entry, row)?;
             Ok(turn)
         }
         BodyRef::Accepted { .. } => Ok(Turn::quiet(Note::Settled)),

@@ -7,16 +7,16 @@ ghost use Rattle.node_core.specs.declared.turn.CoreRefusal.TheVariants.{OutOfMem
 use ballots::{Ballot, Row};
 use mail::{Mail, Outgoing};
 use std::alloc::AllocError;
-use tape_frames::Tape;
+use tape_frames::Entry;
 
 /// What a turn did.
 #[derive(Clone, Copy, PartialEq, Eq)]
 pub enum Note {
     /// It began a ballot, and asks the others for their promises.
     Began { ballot: Ballot },
-    /// There was no tape to propose: the proposal is closed.
+    /// There was no entry to propose: the proposal is closed.
     Nothing { ballot: Ballot },
-    /// It voted for a tape and proposes it.
+    /// It voted for an entry and proposes it.
     Proposed { ballot: Ballot },
     /// Nothing was due.
     Idle,
@@ -42,7 +42,7 @@ pub enum Note {
     Counted { ballot: Ballot },
     /// The Nack is kept.
     Denied { promised: Ballot },
-    /// The number's tape was released already.
+    /// The number's entry was released already.
     Settled,
     /// The vote was heard.
     Heard { ballot: Ballot },
@@ -53,16 +53,16 @@ pub enum Note {
 pub struct Turn {
     /// The number's row after it, where it changes: it has to be saved before anything is handed out.
     pub row: Option<Row>,
-    /// What goes out, beside the tapes of the row.
+    /// What goes out, beside the entry of the row.
     pub mail: Option<Mail>,
-    /// The tape that is released.
-    pub release: Option<Tape>,
+    /// The entry that is released.
+    pub release: Option<Entry>,
     /// What the turn did.
     pub note: Note,
 }
 
 impl Turn {
-    /// The packets that go out, in order, where the turn was taken at the row `before`. Their tapes are lent.
+    /// The packets that go out, in order, where the turn was taken at the row `before`. Their entries are lent.
     pub fn out<'a>(&'a self, before: &'a Row) -> Outgoing<'a>
         ensures { result ≡ sent before.now self.now }
     {
@@ -90,7 +90,7 @@ impl Turn {
 pub enum CoreRefusal {
     /// Memory was refused before, and the core was not cleared since.
     Failed,
-    /// The number's tape was released already.
+    /// The number's entry was released already.
     AlreadyReleased,
     /// A proposal of the number is open.
     AlreadyOpen,

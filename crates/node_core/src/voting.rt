@@ -4,6 +4,7 @@ ghost use Rattle.std.specs.Prelude.{◌≡◌, List, IfOk, OnErr, IsTrue};
 ghost use Rattle.protocol.specs.Marks.{Mark};
 ghost use Rattle.protocol.specs.Packets.{Prepare, Accept};
 ghost use Rattle.protocol.specs.Turn.{prepare_turn, accept_turn};
+ghost use Rattle.tape_frames.specs.Entries.{lent_entry};
 ghost use Rattle.packets.specs.Rules.{keeps_rules};
 ghost use Rattle.node_core.specs.Calls.{IsForMember};
 ghost use Rattle.mail.specs.Mails.{MayGo, IsFew};
@@ -17,13 +18,13 @@ use ballots::Row;
 use mail::{Letter, Mail, Seat};
 use packets::PacketRef;
 use std::alloc::{AllocError, Global};
-use tape_frames::TapeRef;
+use tape_frames::EntryRef;
 
-/// The answer to an Accept: what goes out, and the tape that it votes for, if it votes. The vote is still to be heard.
+/// The answer to an Accept: what goes out, and the entry that it votes for, if it votes. The vote is still to be heard.
 #[derive(Drop)]
 pub(crate) struct Voting<'a> {
     pub turn: Turn,
-    pub vote: Option<TapeRef<'a>>,
+    pub vote: Option<EntryRef<'a>>,
 }
 
 /// A turn that sends this letter about the packet's ballot, and releases nothing.
@@ -77,18 +78,18 @@ pub(crate) fn accept<'a>(
     alloc: Global,
     seat: Seat,
     packet: &PacketRef<'_>,
-    tape: TapeRef<'a>,
+    entry: EntryRef<'a>,
     row: &'a Row,
 ) -> Result<Voting<'a>, AllocError>
     requires arrived { IsForMember seat.me seat.members packet.now }
     requires rules { IsTrue (keeps_rules packet.now) }
-    requires kind { packet.now.body ≡ Accept tape }
-    ensures voting { IfOk result (λ v. IsVoting seat row.now packet.now tape.entry v.turn v.vote) }
+    requires kind { packet.now.body ≡ Accept (lent_entry entry) }
+    ensures voting { IfOk result (λ v. IsVoting seat row.now packet.now (lent_entry entry.entry) v.turn v.vote) }
     ensures orderly { IfOk result (λ v. IsOrderly v.turn) }
-    ensures stirs { (marks : List Mark) → Stirs (accept_turn seat marks row.now packet.now tape.entry) }
+    ensures stirs { (marks : List Mark) → Stirs (accept_turn seat marks row.now packet.now (lent_entry entry.entry)) }
 {
     let ballot = packet.ballot();
-    match acceptor::accept(alloc, row, ballot, tape.lend())? {
+    match acceptor::accept(alloc, row, ballot, entry.lend())? {
         AcceptAnswer::Nack { promised } => {
             let to = packet.from();
             let note = Note::Nacked { promised };
@@ -102,7 +103,7 @@ pub(crate) fn accept<'a>(
                 let turn = send(seat, packet, Letter::Vote, None, note);
                 Ok(Voting {
                     turn,
-                    vote: Some(vote.tape()),
+                    vote: Some(vote.entry()),
                 })
             }
         },
@@ -111,7 +112,7 @@ pub(crate) fn accept<'a>(
             let turn = send(seat, packet, Letter::Vote, Some(after), note);
             Ok(Voting {
                 turn,
-                vote: Some(tape),
+                vote: Some(entry),
             })
         }
     }

@@ -1,8 +1,8 @@
 pub mod Numbers
+pub mod Entries
 pub mod Tapes
 pub mod Written
 pub mod Again
 pub mod Taken
+pub mod Saying
 pub mod Unique
-pub mod EntryFronts
-pub mod EntrySpellings

@@ -1,18 +1,28 @@
--- Version 1 spells a tape exactly where nothing is wrong with its frames, and they are not too many for it.
+-- Version 1 spells a tape exactly where nothing is wrong with its frames, and they are not too many for it: where it fits.
 use Rattle.std.proofs.Common.{◌≡◌, ℕ, ◌+◌, ◌≤◌, Bool, true, false, cond, ltb, eqb, List, [], ◌∷◌, length, Option, Some, None, refl, arith}
 use Rattle.std.specs.Prelude.{is_some, option_map}
 use Rattle.std.specs.List.{position_from}
-use Rattle.std.proofs.lemmas.Bool.{le-ltb, ltb-false, ne_eqb, eqb-false}
+use Rattle.std.proofs.lemmas.Bool.{le-ltb, ltb-false, le-leb, leb-true, ne_eqb, eqb-false, and_parts}
 use Rattle.tape_frames.specs.Frames.{most_frames, AreFrames, IsTape, tape_fault}
 use Rattle.tape_frames.specs.declared.fault.TapeFault.TheVariants.{BadFrame}
-use Rattle.protocol.specs.Rows.{Tape}
-use Rattle.packets.specs.Grammar.{most_frames_one, IsTapeOne}
+use Rattle.tape_frames.specs.Entries.{most_frames_one}
+use Rattle.protocol.specs.Entries.{Tape, Taped}
+use Rattle.protocol.specs.Versions.{One}
+use Rattle.protocol.specs.Fitting.{Fits}
+use Rattle.packets.specs.Grammar.{IsTapeOne}
 
--- version 1 spells every tape, since a tape has no more frames than it
-pub every_tape : (tape : Tape) → IsTape tape → IsTapeOne tape
-every_tape tape is =
-    let few = is.few in
-    record { some = is.some; few = omega (arith, few); small = is.small }
+-- version 1 spells each tape that fits it
+pub tape_one : (tape : Tape) → IsTape tape → Fits One (Taped tape) → IsTapeOne tape
+tape_one tape is fit =
+    let bounds = and_parts _ _ fit in
+    record { some = is.some; few = leb-true (length tape) most_frames_one bounds.1; small = is.small }
+
+-- and what it spells is a tape
+pub one_tape : (tape : Tape) → IsTapeOne tape → IsTape tape
+one_tape tape is = let few = is.few in record { some = is.some; few = omega (arith, few); small = is.small }
+
+pub fits_one : (tape : Tape) → 1 ≤ length tape → length tape ≤ most_frames_one → Fits One (Taped tape)
+fits_one tape some few = rw (le-leb 1 (length tape) some, le-leb (length tape) most_frames_one few) refl
 
 none_bad : (i : ℕ) (xs : List ℕ) → AreFrames xs → position_from (λ f. ltb 63 f) i xs ≡ None
 none_bad i [] h = refl

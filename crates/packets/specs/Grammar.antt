@@ -1,15 +1,16 @@
--- The grammar of packets, version 1: which bytes spell which packet. Every number is big-endian.
+-- The grammar of packets, in either version: which bytes spell which packet. Every number is big-endian.
 -- It says what each field is, and neither how a packet is read nor how it is written.
-use Rattle.std.specs.Prelude.{◌≡◌, ℕ, ◌+◌, ◌*◌, ◌<◌, ◌≤◌, List, [], ◌∷◌, ◌++◌, length, slice_index, Some, None, IsTrue}
+-- Version 1 spells tapes alone, one frame a byte; version 2 spells each entry, its frames packed. Else they differ in one byte.
+use Rattle.std.specs.Prelude.{◌≡◌, ℕ, ◌+◌, ◌*◌, ◌<◌, ◌≤◌, ◌⊎◌, List, [], ◌∷◌, ◌++◌, length, slice_index, Some, None, IsTrue, ◌==◌, if◌then◌else◌}
 use Rattle.tape_frames.specs.Frames.{AreFrames}
+use Rattle.tape_frames.specs.Packing.{AreBytes, Packs}
+use Rattle.tape_frames.specs.Entries.{most_frames_one, entry_frames, IsEntry}
 use Rattle.protocol.specs.Ballots.{Ballot, IsBallot, IsMember}
-use Rattle.protocol.specs.Rows.{Tape, Vote}
+use Rattle.protocol.specs.Entries.{Tape, Entry, Void, Taped}
+use Rattle.protocol.specs.Rows.{Vote}
+use Rattle.protocol.specs.Versions.{Version, One, Two}
 use Rattle.protocol.specs.Packets.{Packet, Body, Prepare, Promise, Accept, Accepted, Nack}
 use Rattle.packets.specs.Rules.{keeps_rules}
-
--- the most frames of a tape that version 1 spells
-abbrev pub most_frames_one : ℕ
-most_frames_one = 4096
 
 -- a tape that version 1 spells: one frame or more, up to its most
 pub record IsTapeOne (tape : Tape) : Type 0 where
@@ -39,46 +40,69 @@ pub record SpellsBallot (bytes : List ℕ) (b : Ballot) : Type 0 where
   pub spells_round : SpellsFour round b.round
   pub is_ballot : IsBallot b
 
--- the length in two bytes, and the frames
+-- version 1: the length of a tape in two bytes, and its frames
 pub record SpellsTape (bytes : List ℕ) (tape : Tape) : Type 0 where
   pub count : List ℕ
   pub are : bytes ≡ count ++ tape
   pub spells_count : SpellsTwo count (length tape)
   pub is_tape : IsTapeOne tape
 
--- a 1, the ballot and the tape
-pub record SpellsVote (bytes : List ℕ) (vote : Vote) : Type 0 where
+-- version 2: how many frames the entry has, in two bytes, 0 for a withdrawal; and the frames packed
+pub record SpellsPacked (bytes : List ℕ) (entry : Entry) : Type 0 where
+  pub count : List ℕ
+  pub packed : List ℕ
+  pub are : bytes ≡ count ++ packed
+  pub spells_count : SpellsTwo count (length (entry_frames entry))
+  pub packs : Packs (entry_frames entry) packed
+  pub are_bytes : AreBytes packed
+  pub is_entry : IsEntry entry
+
+-- an entry in either version; version 1 spells no withdrawal
+abbrev pub SpellsEntry : Version → List ℕ → Entry → Type 0
+SpellsEntry One bytes Void = ⊥
+SpellsEntry One bytes (Taped tape) = SpellsTape bytes tape
+SpellsEntry Two bytes entry = SpellsPacked bytes entry
+
+-- a 1, the ballot and the entry
+pub record SpellsVote (v : Version) (bytes : List ℕ) (vote : Vote) : Type 0 where
   pub ballot : List ℕ
-  pub tape : List ℕ
-  pub are : bytes ≡ 1 ∷ ballot ++ tape
+  pub entry : List ℕ
+  pub are : bytes ≡ 1 ∷ ballot ++ entry
   pub spells_ballot : SpellsBallot ballot vote.ballot
-  pub spells_tape : SpellsTape tape vote.tape
+  pub spells_entry : SpellsEntry v entry vote.entry
+
+-- the number of a version
+abbrev pub number_of_version : Version → ℕ
+number_of_version One = 1
+number_of_version Two = 2
 
 -- the number of the kind
 abbrev pub number_of_kind : Body → ℕ
 number_of_kind Prepare = 1
 number_of_kind (Promise report) = 2
-number_of_kind (Accept tape) = 3
-number_of_kind (Accepted tape) = 4
+number_of_kind (Accept entry) = 3
+number_of_kind (Accepted entry) = 4
 number_of_kind (Nack promised) = 5
 
 -- what stands after the header
-abbrev pub SpellsBody : List ℕ → Body → Type 0
-SpellsBody bytes Prepare = bytes ≡ []
-SpellsBody bytes (Promise None) = bytes ≡ 0 ∷ []
-SpellsBody bytes (Promise (Some vote)) = SpellsVote bytes vote
-SpellsBody bytes (Accept tape) = SpellsTape bytes tape
-SpellsBody bytes (Accepted tape) = SpellsTape bytes tape
-SpellsBody bytes (Nack promised) = SpellsBallot bytes promised
+abbrev pub SpellsBody : Version → List ℕ → Body → Type 0
+SpellsBody v bytes Prepare = bytes ≡ []
+SpellsBody v bytes (Promise None) = bytes ≡ 0 ∷ []
+SpellsBody v bytes (Promise (Some vote)) = SpellsVote v bytes vote
+SpellsBody v bytes (Accept entry) = SpellsEntry v bytes entry
+SpellsBody v bytes (Accepted entry) = SpellsEntry v bytes entry
+SpellsBody v bytes (Nack promised) = SpellsBallot bytes promised
 
--- the bytes spell the packet: the mark TN, the version, the kind, the circuit, the sender, the addressee,
+-- the bytes spell the packet in this version: the mark TN, the version, the kind, the circuit, the sender, the addressee,
 -- the number and the ballot, and then the body
-pub record Spells (bytes : List ℕ) (p : Packet) : Type 0 where
+pub record Spells (v : Version) (bytes : List ℕ) (p : Packet) : Type 0 where
   pub circuit : List ℕ
   pub number : List ℕ
   pub ballot : List ℕ
   pub body : List ℕ
-  pub are : bytes ≡ 84 ∷ 78 ∷ 1 ∷ number_of_kind p.body ∷ [] ++ circuit ++ p.from ∷ p.to ∷ [] ++ number ++ ballot ++ body
+  pub are :
+      bytes
+      ≡ 84 ∷ 78 ∷ number_of_version v ∷ number_of_kind p.body ∷ [] ++ circuit ++ p.from ∷ p.to ∷ [] ++ number ++ ballot ++ body
   pub spells_circuit : SpellsTwo circuit p.circuit
   pub from_is_member : IsMember 15 p.from
   pub to_is_member : IsMember 15 p.to
@@ -86,19 +110,28 @@ pub record Spells (bytes : List ℕ) (p : Packet) : Type 0 where
   pub number_low : 1 ≤ p.number
   pub number_high : p.number ≤ 999999
   pub spells_ballot : SpellsBallot ballot p.ballot
-  pub spells_body : SpellsBody body p.body
+  pub spells_body : SpellsBody v body p.body
   pub rules : IsTrue (keeps_rules p)
 
--- the ballots and tapes of a body are such
+-- the bytes spell the packet in a version that a station of this version reads: at version 1 in that alone, at version 2 in either
+abbrev pub SpellsAt : Version → List ℕ → Packet → Type 0
+SpellsAt One bytes p = Spells One bytes p
+SpellsAt Two bytes p = Spells One bytes p ⊎ Spells Two bytes p
+
+-- of which version bytes say that they are: their third byte
+abbrev pub said_version : List ℕ → Version
+said_version bytes = if slice_index bytes 2 == 2 then Two else One
+
+-- the ballots and entries of a body are such
 abbrev pub IsBody : Body → Type 0
 IsBody Prepare = Unit {0}
 IsBody (Promise None) = Unit {0}
-IsBody (Promise (Some vote)) = IsBallot vote.ballot × IsTapeOne vote.tape
-IsBody (Accept tape) = IsTapeOne tape
-IsBody (Accepted tape) = IsTapeOne tape
+IsBody (Promise (Some vote)) = IsBallot vote.ballot × IsEntry vote.entry
+IsBody (Accept entry) = IsEntry entry
+IsBody (Accepted entry) = IsEntry entry
 IsBody (Nack promised) = IsBallot promised
 
--- what has a spelling: each field is in its range, and the rules are kept
+-- what has a spelling in some version: each field is in its range, and the rules are kept
 pub record IsPacket (p : Packet) : Type 0 where
   pub circuit : p.circuit < 65536
   pub from : IsMember 15 p.from
@@ -108,7 +141,3 @@ pub record IsPacket (p : Packet) : Type 0 where
   pub ballot : IsBallot p.ballot
   pub body : IsBody p.body
   pub rules : IsTrue (keeps_rules p)
-
--- each packet has a spelling, and only one
-abbrev pub HasOneSpelling : Packet → Type 0
-HasOneSpelling p = (bytes : List ℕ) × Spells bytes p × ((other : List ℕ) → Spells other p → other ≡ bytes)

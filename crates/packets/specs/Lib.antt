@@ -3,4 +3,4 @@ pub mod Rules
 pub mod Grammar
 pub mod Spelling
 pub mod Reading
-pub mod EntryGrammar
+pub mod Laws

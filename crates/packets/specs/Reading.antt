@@ -1,14 +1,18 @@
 -- Reading a packet from its front, with the first fault in the stated order.
 use Rattle.std.specs.Prelude.{◌≡◌, ℕ, zero, suc, ◌+◌, List, [], ◌∷◌, length, take, drop, slice_index, not, ◌&&◌, ◌==◌, Option, Some, None, is_some, Result, Ok, Err, nat_lt, nat_le, if◌then◌else◌}
 use Rattle.std.specs.Int.{w16, w32, from_be_bytes}
-use Rattle.tape_frames.specs.Frames.{tape_fault}
+use Rattle.tape_frames.specs.Frames.{most_frames, tape_fault}
+use Rattle.tape_frames.specs.Packing.{packed_len, pad_of, unpacked}
+use Rattle.tape_frames.specs.Entries.{most_frames_one}
 use Rattle.protocol.specs.Ballots.{Ballot, is_below}
-use Rattle.protocol.specs.Rows.{Tape, Vote, vote_for}
+use Rattle.protocol.specs.Entries.{Tape, Entry, Void, Taped}
+use Rattle.protocol.specs.Rows.{Vote, vote_for}
+use Rattle.protocol.specs.Versions.{Version, One, Two}
 use Rattle.protocol.specs.Packets.{Packet, Body, Prepare, Promise, Accept, Accepted, Nack}
 use Rattle.packets.specs.Rules.{may_send}
-use Rattle.packets.specs.Grammar.{most_frames_one}
+use Rattle.packets.specs.Grammar.{number_of_version, said_version}
 use Rattle.packets.specs.declared.fault.PacketFault.{PacketFault}
-use Rattle.packets.specs.declared.fault.PacketFault.TheVariants.{Short, BadMark, BadVersion, BadKind, BadMember, BadNumber, BadBallot, BadSender, BadReport, BadFrames, Long}
+use Rattle.packets.specs.declared.fault.PacketFault.TheVariants.{Short, BadMark, BadVersion, BadKind, BadMember, BadNumber, BadBallot, BadSender, BadReport, BadFrames, BadPad, Long}
 use Rattle.packets.specs.declared.body.Kind.{Kind}
 use Rattle.packets.specs.declared.body.Kind.TheVariants as kinds
 use Rattle.packets.specs.declared.header.Header.{Header}
@@ -47,11 +51,11 @@ kind_of_byte n =
     if n == 5 then Some kinds.Nack else None
 
 -- the length, the mark, the version and the kind
-unfoldable pub kind_at : List ℕ → Result Kind PacketFault
-kind_at bytes =
+unfoldable pub kind_at : Version → List ℕ → Result Kind PacketFault
+kind_at v bytes =
     if nat_lt (length bytes) 17 then Err Short else
     if not (slice_index bytes 0 == 84 && slice_index bytes 1 == 78) then Err BadMark else
-    if not (slice_index bytes 2 == 1) then Err BadVersion else
+    if not (slice_index bytes 2 == number_of_version v) then Err BadVersion else
     wanted BadKind (kind_of_byte (slice_index bytes 3))
 
 -- the member at this place
@@ -77,9 +81,9 @@ ballot_at bytes at =
     else None
 
 -- the header, its fields in order and then whose ballot it is
-unfoldable pub header_at : List ℕ → Result Header PacketFault
-header_at bytes = do
-  kind ← kind_at bytes
+unfoldable pub header_at : Version → List ℕ → Result Header PacketFault
+header_at v bytes = do
+  kind ← kind_at v bytes
   ends ← members_at bytes
   number ← number_at bytes
   ballot ← wanted BadBallot (ballot_at bytes 12)
@@ -96,32 +100,54 @@ frames_at bytes =
     if is_some (tape_fault (take (u16_at bytes 0) (drop 2 bytes))) then Err BadFrames else
     Ok (take (u16_at bytes 0) (drop 2 bytes), drop (u16_at bytes 0) (drop 2 bytes))
 
+-- the entry of so many packed frames, a withdrawal where there is none; no bit behind the last frame is set
+unfoldable pub packed_entry : ℕ → List ℕ → Result Entry PacketFault
+packed_entry count bytes =
+    if count == 0 then Ok Void else
+    if pad_of count bytes == 0 then Ok (Taped (unpacked count bytes)) else Err BadPad
+
+-- a length up to that of the longest tape and that many frames, packed, and what follows them
+unfoldable pub packed_at : List ℕ → Result (Entry × List ℕ) PacketFault
+packed_at bytes =
+    if nat_lt (length bytes) 2 then Err Short else
+    if nat_lt most_frames (u16_at bytes 0) then Err BadFrames else
+    if nat_lt (length (drop 2 bytes)) (packed_len (u16_at bytes 0)) then Err Short else
+    packed_entry (u16_at bytes 0) (take (packed_len (u16_at bytes 0)) (drop 2 bytes)) >>= λ entry.
+    Ok (entry, drop (packed_len (u16_at bytes 0)) (drop 2 bytes))
+
+-- an entry as this version spells it, and what follows it
+unfoldable pub entry_at : Version → List ℕ → Result (Entry × List ℕ) PacketFault
+entry_at One bytes = do
+  tape ← frames_at bytes
+  Ok (Taped tape.0, tape.1)
+entry_at Two bytes = packed_at bytes
+
 -- this, where no bytes follow
 abbrev pub ends : {A : Type 0} → A → List ℕ → Result A PacketFault
 ends x [] = Ok x
 ends x (b ∷ bytes) = Err Long
 
--- a tape and nothing after it
-unfoldable pub whole_tape_at : List ℕ → Result Tape PacketFault
-whole_tape_at bytes = do
-  tape ← frames_at bytes
-  ends tape.0 tape.1
+-- an entry and nothing after it
+unfoldable pub whole_entry_at : Version → List ℕ → Result Entry PacketFault
+whole_entry_at v bytes = do
+  entry ← entry_at v bytes
+  ends entry.0 entry.1
 
 -- a vote below the ballot, and what follows it
-unfoldable pub vote_at : Ballot → List ℕ → Result (Vote × List ℕ) PacketFault
-vote_at ballot bytes =
+unfoldable pub vote_at : Version → Ballot → List ℕ → Result (Vote × List ℕ) PacketFault
+vote_at v ballot bytes =
     if nat_lt (length bytes) 7 then Err Short else wanted BadReport (ballot_at bytes 0) >>= λ reported.
-    if not (is_below reported ballot) then Err BadReport else frames_at (drop 5 bytes) >>= λ tape.
-    Ok (vote_for reported tape.0, tape.1)
+    if not (is_below reported ballot) then Err BadReport else entry_at v (drop 5 bytes) >>= λ entry.
+    Ok (vote_for reported entry.0, entry.1)
 
 -- the body of a Promise: a flag, and behind a 1 the vote that it reports
-unfoldable pub promise_at : Ballot → List ℕ → Result Body PacketFault
-promise_at ballot [] = Err Short
-promise_at ballot (zero ∷ rest) = ends (Promise None) rest
-promise_at ballot (suc zero ∷ rest) = do
-  vote ← vote_at ballot rest
+unfoldable pub promise_at : Version → Ballot → List ℕ → Result Body PacketFault
+promise_at v ballot [] = Err Short
+promise_at v ballot (zero ∷ rest) = ends (Promise None) rest
+promise_at v ballot (suc zero ∷ rest) = do
+  vote ← vote_at v ballot rest
   ends (Promise (Some vote.0)) vote.1
-promise_at ballot (suc (suc n) ∷ rest) = Err BadReport
+promise_at v ballot (suc (suc n) ∷ rest) = Err BadReport
 
 -- the body of a Nack: a promise above the ballot
 unfoldable pub nack_at : Ballot → List ℕ → Result Body PacketFault
@@ -130,20 +156,25 @@ nack_at ballot bytes =
     if not (is_below ballot promised) then Err BadReport else ends (Nack promised) (drop 5 bytes)
 
 -- what stands after the header, by the kind
-unfoldable pub body_at : Kind → Ballot → List ℕ → Result Body PacketFault
-body_at kinds.Prepare ballot bytes = ends Prepare bytes
-body_at kinds.Promise ballot bytes = promise_at ballot bytes
-body_at kinds.Accept ballot bytes = do
-  tape ← whole_tape_at bytes
-  Ok (Accept tape)
-body_at kinds.Accepted ballot bytes = do
-  tape ← whole_tape_at bytes
-  Ok (Accepted tape)
-body_at kinds.Nack ballot bytes = nack_at ballot bytes
+unfoldable pub body_at : Version → Kind → Ballot → List ℕ → Result Body PacketFault
+body_at v kinds.Prepare ballot bytes = ends Prepare bytes
+body_at v kinds.Promise ballot bytes = promise_at v ballot bytes
+body_at v kinds.Accept ballot bytes = do
+  entry ← whole_entry_at v bytes
+  Ok (Accept entry)
+body_at v kinds.Accepted ballot bytes = do
+  entry ← whole_entry_at v bytes
+  Ok (Accepted entry)
+body_at v kinds.Nack ballot bytes = nack_at ballot bytes
 
--- the packet that the bytes spell, or their first fault
-unfoldable pub packet_at : List ℕ → Result Packet PacketFault
-packet_at bytes = do
-  header ← header_at bytes
-  body ← body_at header.kind header.ballot (drop 17 bytes)
+-- the packet that the bytes spell in this version, or their first fault
+unfoldable pub packet_in : Version → List ℕ → Result Packet PacketFault
+packet_in v bytes = do
+  header ← header_at v bytes
+  body ← body_at v header.kind header.ballot (drop 17 bytes)
   Ok (record { circuit = header.circuit; from = header.from; to = header.to; number = header.number; ballot = header.ballot; body = body })
+
+-- what a station of this version reads: version 1 alone at version 1, and at version 2 the version that the bytes say they are of
+abbrev pub packet_at : Version → List ℕ → Result Packet PacketFault
+packet_at One bytes = packet_in One bytes
+packet_at Two bytes = packet_in (said_version bytes) bytes

@@ -9,8 +9,8 @@ use Rattle.packets.specs.declared.body.Kind.TheVariants as kinds
 abbrev pub kind_of : Body → Kind
 kind_of Prepare = kinds.Prepare
 kind_of (Promise report) = kinds.Promise
-kind_of (Accept tape) = kinds.Accept
-kind_of (Accepted tape) = kinds.Accepted
+kind_of (Accept entry) = kinds.Accept
+kind_of (Accepted entry) = kinds.Accepted
 kind_of (Nack promised) = kinds.Nack
 
 -- a request is sent at a ballot of its sender's, and a Promise or a Nack answers one of its addressee's
@@ -26,8 +26,8 @@ abbrev pub may_say : Body → Ballot → Bool
 may_say Prepare b = true
 may_say (Promise None) b = true
 may_say (Promise (Some vote)) b = is_below vote.ballot b
-may_say (Accept tape) b = true
-may_say (Accepted tape) b = true
+may_say (Accept entry) b = true
+may_say (Accepted entry) b = true
 may_say (Nack promised) b = is_below b promised
 
 -- the rules of a packet: two members that differ, whose ballot it is, and what it reports

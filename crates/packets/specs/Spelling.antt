@@ -1,10 +1,15 @@
--- The bytes that a packet is written as, each number big-endian.
+-- The bytes that a packet is written as in a version, each number big-endian.
 use Rattle.std.specs.Prelude.{ℕ, List, [], ◌∷◌, ◌++◌, length, Option, Some, None}
 use Rattle.std.specs.Int.{w16, w32, to_be_bytes}
+use Rattle.tape_frames.specs.Entries.{entry_frames}
+use Rattle.tape_frames.specs.Packing.{packing_of}
 use Rattle.protocol.specs.Ballots.{Ballot}
-use Rattle.protocol.specs.Rows.{Tape, Vote}
+use Rattle.protocol.specs.Entries.{Entry}
+use Rattle.protocol.specs.Rows.{Vote}
+use Rattle.protocol.specs.Versions.{Version, One, Two}
 use Rattle.protocol.specs.Packets.{Packet, Body, Prepare, Promise, Accept, Accepted, Nack}
 use Rattle.packets.specs.Rules.{kind_of}
+use Rattle.packets.specs.Grammar.{number_of_version}
 use Rattle.packets.specs.declared.body.Kind.{Kind}
 use Rattle.packets.specs.declared.body.Kind.TheVariants as kinds
 
@@ -21,27 +26,32 @@ abbrev pub ballot_bytes : Ballot → List ℕ
 ballot_bytes b = to_be_bytes w32 b.round ++ b.owner ∷ []
 
 -- the header as far as the ballot
-abbrev pub header_bytes : Kind → ℕ → ℕ → ℕ → ℕ → List ℕ
-header_bytes kind circuit from to number =
-    84 ∷ 78 ∷ 1 ∷ kind_byte kind ∷ [] ++ to_be_bytes w16 circuit ++ from ∷ to ∷ [] ++ to_be_bytes w32 number
+abbrev pub header_bytes : Version → Kind → ℕ → ℕ → ℕ → ℕ → List ℕ
+header_bytes v kind circuit from to number =
+    84 ∷ 78 ∷ number_of_version v ∷ kind_byte kind ∷ [] ++ to_be_bytes w16 circuit ++ from ∷ to ∷ [] ++ to_be_bytes w32 number
 
--- the length of a tape and its frames
-abbrev pub tape_bytes : Tape → List ℕ
-tape_bytes tape = to_be_bytes w16 (length tape) ++ tape
+-- frames: one a byte in version 1, packed in version 2
+abbrev pub frame_bytes : Version → List ℕ → List ℕ
+frame_bytes One frames = frames
+frame_bytes Two frames = packing_of frames
+
+-- how many frames an entry has, none for a withdrawal, and the frames
+abbrev pub entry_bytes : Version → Entry → List ℕ
+entry_bytes v entry = to_be_bytes w16 (length (entry_frames entry)) ++ frame_bytes v (entry_frames entry)
 
 -- a flag, and behind a 1 the vote
-abbrev pub report_bytes : Option Vote → List ℕ
-report_bytes None = 0 ∷ []
-report_bytes (Some vote) = 1 ∷ [] ++ ballot_bytes vote.ballot ++ tape_bytes vote.tape
+abbrev pub report_bytes : Version → Option Vote → List ℕ
+report_bytes v None = 0 ∷ []
+report_bytes v (Some vote) = 1 ∷ [] ++ ballot_bytes vote.ballot ++ entry_bytes v vote.entry
 
 -- what stands after the header
-abbrev pub body_bytes : Body → List ℕ
-body_bytes Prepare = []
-body_bytes (Promise report) = report_bytes report
-body_bytes (Accept tape) = tape_bytes tape
-body_bytes (Accepted tape) = tape_bytes tape
-body_bytes (Nack promised) = ballot_bytes promised
+abbrev pub body_bytes : Version → Body → List ℕ
+body_bytes v Prepare = []
+body_bytes v (Promise report) = report_bytes v report
+body_bytes v (Accept entry) = entry_bytes v entry
+body_bytes v (Accepted entry) = entry_bytes v entry
+body_bytes v (Nack promised) = ballot_bytes promised
 
 -- the bytes that a packet is written as
-abbrev pub spelling : Packet → List ℕ
-spelling p = header_bytes (kind_of p.body) p.circuit p.from p.to p.number ++ ballot_bytes p.ballot ++ body_bytes p.body
+abbrev pub spelling : Version → Packet → List ℕ
+spelling v p = header_bytes v (kind_of p.body) p.circuit p.from p.to p.number ++ ballot_bytes p.ballot ++ body_bytes v p.body

@@ -1,12 +1,14 @@
 //! What a packet says: a body of one of five kinds.
 
-ghost use Rattle.std.specs.Prelude.{◌≡◌, IfOk, IsOk, false};
+ghost use Rattle.std.specs.Prelude.{◌≡◌, ◌↔◌, IfOk, IsOk, IsTrue, false};
+ghost use Rattle.tape_frames.specs.Entries.{version_of};
+ghost use Rattle.protocol.specs.Fitting.{BodyFits};
 ghost use Rattle.packets.specs.Bodies.{said, told, has_tape};
 ghost use Rattle.packets.specs.Rules.{kind_of, may_send, may_say};
 
 use ballots::{Ballot, Member, Vote, VoteRef};
 use std::alloc::{AllocError, Global};
-use tape_frames::{Tape, TapeRef};
+use tape_frames::{Entry, EntryRef, Version};
 
 /// The kind of a packet.
 #[derive(Clone, Copy, PartialEq, Eq)]
@@ -18,17 +20,17 @@ pub(crate) enum Kind {
     Nack,
 }
 
-/// What a packet says, its tapes lent.
+/// What a packet says, its entries lent.
 #[derive(Drop)]
 pub enum BodyRef<'a> {
     /// A request to promise.
     Prepare,
     /// The promise, with the highest vote below the ballot, if any.
     Promise { report: Option<VoteRef<'a>> },
-    /// A request to vote for the tape.
-    Accept { tape: TapeRef<'a> },
-    /// The news of a vote for the tape.
-    Accepted { tape: TapeRef<'a> },
+    /// A request to vote for the entry.
+    Accept { entry: EntryRef<'a> },
+    /// The news of a vote for the entry.
+    Accepted { entry: EntryRef<'a> },
     /// A refusal, with the higher promise that stands in the way.
     Nack { promised: Ballot },
 }
@@ -40,10 +42,10 @@ pub enum Body {
     Prepare,
     /// The promise, with the highest vote below the ballot, if any.
     Promise { report: Option<Vote> },
-    /// A request to vote for the tape.
-    Accept { tape: Tape },
-    /// The news of a vote for the tape.
-    Accepted { tape: Tape },
+    /// A request to vote for the entry.
+    Accept { entry: Entry },
+    /// The news of a vote for the entry.
+    Accepted { entry: Entry },
     /// A refusal, with the higher promise that stands in the way.
     Nack { promised: Ballot },
 }
@@ -84,6 +86,17 @@ impl<'a> BodyRef<'a> {
         }
     }
 
+    /// Whether the version has a spelling for the entry in it, if there is one.
+    pub(crate) fn fits(&self, version: Version) -> bool
+        ensures { IsTrue result ↔ BodyFits (version_of version) (said self.now) }
+    {
+        match self {
+            BodyRef::Promise { report: Some(vote) } => vote.fits(version),
+            BodyRef::Accept { entry } | BodyRef::Accepted { entry } => entry.fits(version),
+            _ => true,
+        }
+    }
+
     /// The same, lent once more.
     pub fn lend(&self) -> BodyRef<'a>
         ensures { said result ≡ said self.now }
@@ -94,8 +107,12 @@ impl<'a> BodyRef<'a> {
             BodyRef::Promise { report: Some(vote) } => BodyRef::Promise {
                 report: Some(vote.lend()),
             },
-            BodyRef::Accept { tape } => BodyRef::Accept { tape: tape.lend() },
-            BodyRef::Accepted { tape } => BodyRef::Accepted { tape: tape.lend() },
+            BodyRef::Accept { entry } => BodyRef::Accept {
+                entry: entry.lend(),
+            },
+            BodyRef::Accepted { entry } => BodyRef::Accepted {
+                entry: entry.lend(),
+            },
             BodyRef::Nack { promised } => BodyRef::Nack {
                 promised: *promised,
             },
@@ -113,11 +130,11 @@ impl<'a> BodyRef<'a> {
             BodyRef::Promise { report: Some(vote) } => Body::Promise {
                 report: Some(vote.copy(alloc)?),
             },
-            BodyRef::Accept { tape } => Body::Accept {
-                tape: tape.copy(alloc)?,
+            BodyRef::Accept { entry } => Body::Accept {
+                entry: entry.copy(alloc)?,
             },
-            BodyRef::Accepted { tape } => Body::Accepted {
-                tape: tape.copy(alloc)?,
+            BodyRef::Accepted { entry } => Body::Accepted {
+                entry: entry.copy(alloc)?,
             },
             BodyRef::Nack { promised } => Body::Nack {
                 promised: *promised,
@@ -128,7 +145,7 @@ impl<'a> BodyRef<'a> {
 }
 
 impl Body {
-    /// The same, its tapes lent.
+    /// The same, its entries lent.
     pub fn lend(&self) -> BodyRef<'_>
         ensures { said result ≡ told self.now }
     {
@@ -138,8 +155,12 @@ impl Body {
             Body::Promise { report: Some(vote) } => BodyRef::Promise {
                 report: Some(vote.lend()),
             },
-            Body::Accept { tape } => BodyRef::Accept { tape: tape.lend() },
-            Body::Accepted { tape } => BodyRef::Accepted { tape: tape.lend() },
+            Body::Accept { entry } => BodyRef::Accept {
+                entry: entry.lend(),
+            },
+            Body::Accepted { entry } => BodyRef::Accepted {
+                entry: entry.lend(),
+            },
             Body::Nack { promised } => BodyRef::Nack {
                 promised: *promised,
             },

@@ -1,19 +1,24 @@
 //! Writing a packet as bytes.
 
 ghost use Rattle.std.specs.Prelude.{◌≡◌, ◌++◌, ◌≤◌, ◌+◌, List, ℕ, length, IfOk, OnOk, Ok};
+ghost use Rattle.tape_frames.specs.Frames.{most_frames};
+ghost use Rattle.tape_frames.specs.Entries.{IsEntry, lent_entry, version_of};
 ghost use Rattle.protocol.specs.Ballots.{IsBallot};
+ghost use Rattle.protocol.specs.Fitting.{BodyFits};
 ghost use Rattle.protocol.specs.Packets.{Promise};
+ghost use Rattle.protocol.specs.Versions.{Two};
 ghost use Rattle.packets.specs.Bodies.{said};
-ghost use Rattle.packets.specs.Grammar.{most_frames_one, IsTapeOne, Spells, IsBody, IsPacket};
-ghost use Rattle.packets.specs.Reading.{packet_at};
-ghost use Rattle.packets.specs.Spelling.{kind_byte, ballot_bytes, header_bytes, tape_bytes, report_bytes, body_bytes, spelling};
+ghost use Rattle.packets.specs.Grammar.{Spells, IsBody, IsPacket};
+ghost use Rattle.packets.specs.Reading.{packet_in, packet_at};
+ghost use Rattle.packets.specs.Spelling.{kind_byte, ballot_bytes, header_bytes, entry_bytes, report_bytes, body_bytes, spelling};
 
 use crate::body::{BodyRef, Kind};
-use crate::header::HEADER_LEN;
+use crate::header::{HEADER_LEN, version_byte};
+use crate::laws::packings;
 use crate::packet::PacketRef;
 use ballots::{Ballot, VoteRef};
 use std::alloc::{AllocError, Global};
-use tape_frames::TapeRef;
+use tape_frames::{EntryRef, Version, packed_len};
 
 fn kind_byte(kind: Kind) -> u8
     ensures { result ≡ kind_byte kind }
@@ -36,20 +41,25 @@ fn put_ballot(out: &mut Vec<u8>, ballot: Ballot) -> Result<(), AllocError>
     Ok(())
 }
 
-#[tactic(auto, using(crate::proofs::Tapes::every_tape))]
-fn put_tape(out: &mut Vec<u8>, tape: &TapeRef<'_>) -> Result<(), AllocError>
-    ensures ok { OnOk result (out.new.items ≡ out.old.items ++ tape_bytes tape.now) }
-    ensures range { IsTapeOne tape.now }
+#[tactic(auto, using(crate::proofs::Entries::few_frames))]
+fn put_entry(out: &mut Vec<u8>, entry: &EntryRef<'_>, version: Version) -> Result<(), AllocError>
+    ensures ok { OnOk result (out.new.items ≡ out.old.items ++ entry_bytes (version_of version) (lent_entry entry.now)) }
+    ensures range { IsEntry (lent_entry entry.now) }
 {
-    let frames = tape.frames();
-    let count = frames.len() as u16;
+    let count = entry.len() as u16;
     out.extend_from_slice(&count.to_be_bytes())?;
-    out.extend_from_slice(frames)?;
-    Ok(())
+    match version {
+        Version::One => entry.put_plain(out),
+        Version::Two => entry.put_packed(out),
+    }
 }
 
-fn put_report(out: &mut Vec<u8>, report: &Option<VoteRef<'_>>) -> Result<(), AllocError>
-    ensures ok { OnOk result (out.new.items ≡ out.old.items ++ report_bytes report.now) }
+fn put_report(
+    out: &mut Vec<u8>,
+    report: &Option<VoteRef<'_>>,
+    version: Version,
+) -> Result<(), AllocError>
+    ensures ok { OnOk result (out.new.items ≡ out.old.items ++ report_bytes (version_of version) report.now) }
     ensures range { OnOk result (IsBody (Promise report.now)) }
 {
     match report {
@@ -57,74 +67,81 @@ fn put_report(out: &mut Vec<u8>, report: &Option<VoteRef<'_>>) -> Result<(), All
         Some(vote) => {
             out.push(1)?;
             put_ballot(out, vote.ballot())?;
-            put_tape(out, &vote.tape())?;
+            put_entry(out, &vote.entry(), version)?;
         }
     }
     Ok(())
 }
 
-fn put_body(out: &mut Vec<u8>, body: &BodyRef<'_>) -> Result<(), AllocError>
-    ensures ok { OnOk result (out.new.items ≡ out.old.items ++ body_bytes (said body.now)) }
+fn put_body(out: &mut Vec<u8>, body: &BodyRef<'_>, version: Version) -> Result<(), AllocError>
+    ensures ok { OnOk result (out.new.items ≡ out.old.items ++ body_bytes (version_of version) (said body.now)) }
     ensures range { OnOk result (IsBody (said body.now)) }
 {
     match body {
         BodyRef::Prepare => Ok(()),
-        BodyRef::Promise { report } => put_report(out, report),
-        BodyRef::Accept { tape } => put_tape(out, tape),
-        BodyRef::Accepted { tape } => put_tape(out, tape),
+        BodyRef::Promise { report } => put_report(out, report, version),
+        BodyRef::Accept { entry } => put_entry(out, entry, version),
+        BodyRef::Accepted { entry } => put_entry(out, entry, version),
         BodyRef::Nack { promised } => put_ballot(out, *promised),
     }
 }
 
 fn put_header(
     out: &mut Vec<u8>,
+    version: Version,
     kind: Kind,
     circuit: u16,
     from: u8,
     to: u8,
     number: u32,
 ) -> Result<(), AllocError>
-    ensures { OnOk result (out.new.items ≡ out.old.items ++ header_bytes kind circuit from to number) }
+    ensures { OnOk result (out.new.items ≡ out.old.items ++ header_bytes (version_of version) kind circuit from to number) }
 {
-    out.extend_from_slice(&[b'T', b'N', 1, kind_byte(kind)])?;
+    out.extend_from_slice(&[b'T', b'N', version_byte(version), kind_byte(kind)])?;
     out.extend_from_slice(&circuit.to_be_bytes())?;
     out.extend_from_slice(&[from, to])?;
     out.extend_from_slice(&number.to_be_bytes())?;
     Ok(())
 }
 
-/// How many bytes a tape takes: its length, and its frames.
-fn tape_len(tape: &TapeRef<'_>) -> usize
-    ensures value { result ≡ length (tape_bytes tape.now) }
-    ensures range { result ≤ 2 + most_frames_one }
+/// How many bytes an entry takes: its length, and its frames.
+#[tactic(auto, using(crate::proofs::Entries::few_frames, crate::proofs::Entries::packing_length))]
+fn entry_len(entry: &EntryRef<'_>, version: Version) -> usize
+    ensures value { result ≡ length (entry_bytes (version_of version) (lent_entry entry.now)) }
+    ensures range { result ≤ 2 + most_frames }
 {
-    2 + tape.frames().len()
+    let frames = entry.len();
+    match version {
+        Version::One => 2 + frames,
+        Version::Two => 2 + packed_len(frames as u16),
+    }
 }
 
 /// How many bytes the body takes.
-fn body_len(body: &BodyRef<'_>) -> usize
-    ensures value { result ≡ length (body_bytes (said body.now)) }
-    ensures range { result ≤ 8 + most_frames_one }
+fn body_len(body: &BodyRef<'_>, version: Version) -> usize
+    ensures value { result ≡ length (body_bytes (version_of version) (said body.now)) }
+    ensures range { result ≤ 8 + most_frames }
 {
     match body {
         BodyRef::Prepare => 0,
         BodyRef::Promise { report: None } => 1,
-        BodyRef::Promise { report: Some(vote) } => 6 + tape_len(&vote.tape()),
-        BodyRef::Accept { tape } => tape_len(tape),
-        BodyRef::Accepted { tape } => tape_len(tape),
+        BodyRef::Promise { report: Some(vote) } => 6 + entry_len(&vote.entry(), version),
+        BodyRef::Accept { entry } => entry_len(entry, version),
+        BodyRef::Accepted { entry } => entry_len(entry, version),
         BodyRef::Nack { .. } => 5,
     }
 }
 
-fn written(alloc: Global, packet: &PacketRef<'_>) -> Result<Vec<u8>, AllocError>
-    ensures exact { IfOk result (λ v. v.items ≡ spelling packet.now) }
+fn written(alloc: Global, packet: &PacketRef<'_>, version: Version) -> Result<Vec<u8>, AllocError>
+    ensures exact { IfOk result (λ v. v.items ≡ spelling (version_of version) packet.now) }
     ensures range { OnOk result (IsPacket packet.now) }
 {
     let body = packet.body();
     let (from, to) = (packet.from().get(), packet.to().get());
-    let mut out = Vec::with_capacity(alloc, HEADER_LEN + body_len(body))?;
+    let mut out = Vec::with_capacity(alloc, HEADER_LEN + body_len(body, version))?;
     put_header(
         &mut out,
+        version,
         body.kind(),
         packet.circuit(),
         from,
@@ -132,18 +149,27 @@ fn written(alloc: Global, packet: &PacketRef<'_>) -> Result<Vec<u8>, AllocError>
         packet.number().get(),
     )?;
     put_ballot(&mut out, packet.ballot())?;
-    put_body(&mut out, body)?;
+    put_body(&mut out, body, version)?;
     Ok(out)
 }
 
-/// The one spelling of a packet, 17 to 4,121 bytes. Its memory is asked for once.
-pub fn encode(alloc: Global, packet: &PacketRef<'_>) -> Result<Vec<u8>, AllocError>
-    ensures spelled { IfOk result (λ v. Spells v.items packet.now) }
-    // No other bytes spell the packet.
-    ensures only { IfOk result (λ v. (other : List ℕ) → Spells other packet.now → other ≡ v.items) }
-    // They are read again as the packet.
-    ensures again { IfOk result (λ v. packet_at v.items ≡ Ok packet.now) }
-    ensures exact { IfOk result (λ v. v.items ≡ spelling packet.now) }
+/// The one spelling of a packet in a version that has one for its entry, if it carries any: 17 bytes or more,
+/// in version 1 at most 4,121. Its memory is asked for once.
+pub fn encode(
+    alloc: Global,
+    packet: &PacketRef<'_>,
+    version: Version,
+) -> Result<Vec<u8>, AllocError>
+    requires { BodyFits (version_of version) packet.now.body }
+    ensures spelled { IfOk result (λ v. Spells (version_of version) v.items packet.now) }
+    // No other bytes spell the packet in this version.
+    ensures only { IfOk result (λ v. (other : List ℕ) → Spells (version_of version) other packet.now → other ≡ v.items) }
+    // They are read again as the packet, by a station of this version and by one of version 2.
+    ensures again { IfOk result (λ v. packet_in (version_of version) v.items ≡ Ok packet.now) }
+    ensures own { IfOk result (λ v. packet_at (version_of version) v.items ≡ Ok packet.now) }
+    ensures two { IfOk result (λ v. packet_at Two v.items ≡ Ok packet.now) }
+    ensures exact { IfOk result (λ v. v.items ≡ spelling (version_of version) packet.now) }
 {
-    written(alloc, packet)
+    packings();
+    written(alloc, packet, version)
 }

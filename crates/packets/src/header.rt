@@ -1,12 +1,15 @@
 //! The header of a packet, its first 17 bytes.
 
 ghost use Rattle.std.specs.Prelude.{◌≡◌, ◌≤◌, ◌+◌, ◌==◌, length, OnOk, IfOk, true, false};
+ghost use Rattle.tape_frames.specs.Entries.{version_of};
+ghost use Rattle.packets.specs.Grammar.{number_of_version};
 ghost use Rattle.packets.specs.Reading.{kind_of_byte, kind_at, u16_at, u32_at, member_at, members_at, number_at, ballot_at, header_at};
 ghost use Rattle.packets.specs.Rules.{may_send};
 
 use crate::body::{Kind, may_send};
 use crate::fault::PacketFault;
 use ballots::{Ballot, Member, Number};
+use tape_frames::Version;
 
 /// The length of a header.
 pub(crate) const HEADER_LEN: usize = 17;
@@ -35,9 +38,19 @@ fn kind_of_byte(byte: u8) -> Option<Kind>
     }
 }
 
+/// The number of a version.
+pub(crate) fn version_byte(version: Version) -> u8
+    ensures { result ≡ number_of_version (version_of version) }
+{
+    match version {
+        Version::One => 1,
+        Version::Two => 2,
+    }
+}
+
 #[tactic(auto, unfolding(crate::specs::Reading::kind_at))]
-fn kind_of(bytes: &[u8]) -> Result<Kind, PacketFault>
-    ensures exact { result ≡ kind_at bytes.now }
+fn kind_of(bytes: &[u8], version: Version) -> Result<Kind, PacketFault>
+    ensures exact { result ≡ kind_at (version_of version) bytes.now }
     ensures long { OnOk result (17 ≤ length bytes.now) }
 {
     if bytes.len() < HEADER_LEN {
@@ -46,7 +59,7 @@ fn kind_of(bytes: &[u8]) -> Result<Kind, PacketFault>
     if !(bytes[0] == b'T' && bytes[1] == b'N') {
         return Err(PacketFault::BadMark);
     }
-    if bytes[2] != 1 {
+    if bytes[2] != version_byte(version) {
         return Err(PacketFault::BadVersion);
     }
     match kind_of_byte(bytes[3]) {
@@ -119,15 +132,15 @@ pub(crate) fn ballot_of(bytes: &[u8], at: usize) -> Option<Ballot>
     Ballot::new(round, owner)
 }
 
-/// The header that the bytes begin with, or their first fault.
+/// The header that the bytes begin with in this version, or their first fault.
 #[tactic(auto, unfolding(crate::specs::Reading::header_at, crate::specs::Reading::kind_at))]
-pub(crate) fn header_of(bytes: &[u8]) -> Result<Header, PacketFault>
-    ensures exact { result ≡ header_at bytes.now }
+pub(crate) fn header_of(bytes: &[u8], version: Version) -> Result<Header, PacketFault>
+    ensures exact { result ≡ header_at (version_of version) bytes.now }
     ensures long { OnOk result (17 ≤ length bytes.now) }
     ensures differ { IfOk result (λ h. (h.from == h.to) ≡ false) }
     ensures sender { IfOk result (λ h. may_send h.kind h.ballot.owner h.from h.to ≡ true) }
 {
-    let kind = kind_of(bytes)?;
+    let kind = kind_of(bytes, version)?;
     let (from, to) = members_of(bytes)?;
     let number = number_of(bytes)?;
     let Some(ballot) = ballot_of(bytes, 12) else {

@@ -1,6 +1,8 @@
 //! Packets, owned and lent.
 
 ghost use Rattle.std.specs.Prelude.{◌≡◌, ◌↔◌, IsSome, IfSome, IfOk, IsOk, IsTrue, false};
+ghost use Rattle.tape_frames.specs.Entries.{version_of};
+ghost use Rattle.protocol.specs.Fitting.{BodyFits};
 ghost use Rattle.packets.specs.Bodies.{said, has_tape};
 ghost use Rattle.packets.specs.Rules.{keeps_rules};
 
@@ -8,8 +10,9 @@ use crate::body::{Body, BodyRef, may_send};
 use ballots::{Ballot, Member, Number};
 use std::alloc::{AllocError, Global};
 use std::marker::Model;
+use tape_frames::Version;
 
-/// A packet whose tape is lent. Clauses see the protocol's packet.
+/// A packet whose entry is lent. Clauses see the protocol's packet.
 ///
 /// Its sender and its addressee are two members. The ballot of a Prepare or an Accept is its sender's,
 /// and that of a Promise or a Nack its addressee's. A reported vote is below the ballot, and the promise
@@ -111,7 +114,7 @@ impl<'a> PacketRef<'a> {
         self.to
     }
 
-    /// The number whose tape it is about.
+    /// The number that it is about.
     pub fn number(&self) -> Number
         ensures { result ≡ self.now.number }
     {
@@ -131,6 +134,13 @@ impl<'a> PacketRef<'a> {
         ensures rules { IsTrue (keeps_rules self.now) }
     {
         &self.body
+    }
+
+    /// Whether the version has a spelling for it: it has one for the entry that the packet carries, if it carries any.
+    pub fn fits(&self, version: Version) -> bool
+        ensures { IsTrue result ↔ BodyFits (version_of version) self.now.body }
+    {
+        self.body.fits(version)
     }
 
     /// The same packet, lent once more.
@@ -166,7 +176,7 @@ impl<'a> PacketRef<'a> {
 }
 
 impl Packet {
-    /// The same packet, its tape lent.
+    /// The same packet, its entry lent.
     pub fn lend(&self) -> PacketRef<'_>
         ensures { result ≡ self.now }
     {

@@ -2,9 +2,10 @@
 use Rattle.std.proofs.Common.{◌≡◌, ℕ, ◌+◌, ◌-◌, ◌*◌, refl, sym, ap, subst, ◌∙◌, List, [], ◌∷◌, Option, Some, None, Bool, true, false, length, set}
 use Rattle.std.specs.Prelude.{count_by, nat_lt, is_some, filter_map, not, ◌&&◌}
 use Rattle.protocol.specs.Ballots.{Ballot, is_same, IsMember}
-use Rattle.protocol.specs.Rows.{Tape, Vote}
+use Rattle.protocol.specs.Entries.{Entry}
+use Rattle.protocol.specs.Rows.{Vote}
 use Rattle.protocol.specs.Marks.{Mark, Began, Promised}
-use Rattle.protocol.specs.Proposals.{Opening, Counted, promise_of, is_counted, counted, was_released, open_proposal, since_began, gathering_at, tape_or, pick}
+use Rattle.protocol.specs.Proposals.{Opening, Counted, promise_of, is_counted, counted, was_released, open_proposal, since_began, gathering_at, entry_or, pick}
 use Rattle.ballots.specs.Slots.{SlotForEachMember, SlotHoldsItsValue, OneSlotChanges, SlotsCountAsMembers}
 use Rattle.proposer.specs.InHand.{InHand, StandsFor, reports_of}
 use Rattle.proposer.specs.Greatest.{IsGreatest}
@@ -82,7 +83,7 @@ alone_in : OneSlotChanges (Option (Option Vote)) → (c me : ℕ) (report : Opti
 alone_in changes c me report slots i e f = e ∙ alone_counted changes c (record { member = me; report = report }) i ∙ ap (λ k. reports_of k (record { member = me; report = report } ∷ [])) (sym f)
 
 pub first_by_slots :
-    OneSlotChanges (Option (Option Vote)) → (me c n : ℕ) (b : Ballot) (own : Option Tape) (report : Option Vote) (now : ℕ) (marks : List Mark) (slots : List (Option (Option Vote)))
+    OneSlotChanges (Option (Option Vote)) → (me c n : ℕ) (b : Ballot) (own : Option Entry) (report : Option Vote) (now : ℕ) (marks : List Mark) (slots : List (Option (Option Vote)))
     → IsMember c me → was_released n marks ≡ false → open_proposal n marks ≡ None → slots ≡ set (nothing_counted c) (me - 1) (Some report) → length slots ≡ c
     → StandsFor (record { me = me; members = length slots; ballot = b; own = own; reports = slots; gathers = true; denied = None; begun = 1; moved = now }) n (Began n b own report now ∷ marks)
 first_by_slots changes me c n b own report now marks slots i r o e f =
@@ -90,17 +91,17 @@ first_by_slots changes me c n b own report now marks slots i r o e f =
     stands_first me (length slots) n b own report now marks slots member (alone_in changes c me report slots i e f) r o
 
 pub renewed_by_slots :
-    OneSlotChanges (Option (Option Vote)) → (q : InHand) (n : ℕ) (marks : List Mark) (h : StandsFor q n marks) (b : Ballot) (own : Option Tape) (report : Option Vote) (now c : ℕ) (slots : List (Option (Option Vote)))
+    OneSlotChanges (Option (Option Vote)) → (q : InHand) (n : ℕ) (marks : List Mark) (h : StandsFor q n marks) (b : Ballot) (own : Option Entry) (report : Option Vote) (now c : ℕ) (slots : List (Option (Option Vote)))
     → q.own ≡ own → c ≡ q.members → slots ≡ set (nothing_counted c) (q.me - 1) (Some report) → length slots ≡ c
     → StandsFor (record { me = q.me; members = length slots; ballot = b; own = q.own; reports = slots; gathers = true; denied = q.denied; begun = q.begun + 1; moved = now }) n (Began n b own report now ∷ marks)
 renewed_by_slots changes q n marks h b own report now c slots o g e f =
     let mine : IsMember q.members q.me = first_is_member q.members (record { member = q.me; report = h.opening.report }) (filter_map (promise_of n h.opening.ballot) (since_began n marks)) h.in_range in
     let within : IsMember c q.me = subst (λ k. IsMember k q.me) (sym g) mine in
     let member : IsMember (length slots) q.me = subst (λ k. IsMember k q.me) (sym f) within in
-    subst (λ (t : Option Tape). StandsFor (record { me = q.me; members = length slots; ballot = b; own = q.own; reports = slots; gathers = true; denied = q.denied; begun = q.begun + 1; moved = now }) n (Began n b t report now ∷ marks)) o
+    subst (λ (t : Option Entry). StandsFor (record { me = q.me; members = length slots; ballot = b; own = q.own; reports = slots; gathers = true; denied = q.denied; begun = q.begun + 1; moved = now }) n (Began n b t report now ∷ marks)) o
     (stands_renewed q n marks h (length slots) b report now slots member (alone_in changes c q.me report slots within e f))
 
 pub picked_by_slots :
     SlotHoldsItsValue (Option (Option Vote)) → (q : InHand) (n : ℕ) (marks : List Mark) (p : Opening) (o : Option Vote) → StandsFor q n marks → open_proposal n marks ≡ Some p
-    → IsGreatest (vote_at q.reports) q.members o → tape_or q.own o ≡ pick p.own (counted q.me n p (since_began n marks))
+    → IsGreatest (vote_at q.reports) q.members o → entry_or q.own o ≡ pick p.own (counted q.me n p (since_began n marks))
 picked_by_slots read q n marks p o h e g = picked q n marks h p o e (greatest_is q.members q.reports (counted q.me n h.opening (since_began n marks)) h.its_reports read o g)

@@ -6,7 +6,8 @@ use Rattle.std.proofs.lemmas.Bool.Decides.{nat_tests}
 use Rattle.std.proofs.lemmas.List.Sums.{sum_by-cons}
 use Rattle.protocol.specs.Lists.{has, first, greater}
 use Rattle.protocol.specs.Ballots.{Ballot, is_below, IsBelow, IsNoneOrBelow, last_round, next}
-use Rattle.protocol.specs.Rows.{Tape, Vote}
+use Rattle.protocol.specs.Entries.{Entry}
+use Rattle.protocol.specs.Rows.{Vote}
 use Rattle.protocol.specs.Marks.{Mark, Began, Promised, Proposed, Denied, Heard, Closed, Released, begins, closes}
 use Rattle.protocol.specs.Proposals.{Opening, opening_of, was_released, since_began, open_proposal, since_end, begun, denied}
 use Rattle.protocol.specs.Turn.{greater_ballot}
@@ -84,7 +85,7 @@ none_counted p (x ∷ xs) e =
     let parts = or_false (p x) (has p xs) e in
     sum_by-cons (λ y. cond (p y) 1 0) x xs ∙ ap (λ (b : Bool). cond b 1 0 + count_by p xs) (parts.0) ∙ ap (λ i. 0 + i) (none_counted p xs parts.1)
 
-module _ (n : ℕ) (b : Ballot) (own : Option Tape) (report : Option Vote) (now : ℕ) (marks : List Mark) where
+module _ (n : ℕ) (b : Ballot) (own : Option Entry) (report : Option Vote) (now : ℕ) (marks : List Mark) where
   pub one_more_ballot : begun n (Began n b own report now ∷ marks) ≡ 1 + begun n marks
   one_more_ballot = sum_by-cons (λ x. cond (begins n x) 1 0) (Began n b own report now) (since_end n marks) ∙ ap (λ (t : Bool). cond t 1 0 + begun n marks) (itself n)
 

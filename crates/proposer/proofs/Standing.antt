@@ -5,9 +5,10 @@ use Rattle.std.proofs.lemmas.Bool.{le-leb}
 use Rattle.std.proofs.lemmas.Bool.Decides.{nat_tests}
 use Rattle.protocol.specs.Lists.{has, greatest}
 use Rattle.protocol.specs.Ballots.{Ballot, is_same, IsMember}
-use Rattle.protocol.specs.Rows.{Tape, Vote}
+use Rattle.protocol.specs.Entries.{Entry}
+use Rattle.protocol.specs.Rows.{Vote}
 use Rattle.protocol.specs.Marks.{Mark, Began, Promised, Proposed, Denied, Heard, Closed, Released, begins, ends, proposes}
-use Rattle.protocol.specs.Proposals.{Opening, Counted, promise_of, is_counted, counted, was_released, open_proposal, since_began, since_end, begun, denied, denial_of, moved, gathering_at, reports_above, report_of, tape_or, pick}
+use Rattle.protocol.specs.Proposals.{Opening, Counted, promise_of, is_counted, counted, was_released, open_proposal, since_began, since_end, begun, denied, denial_of, moved, gathering_at, reports_above, report_of, entry_or, pick}
 use Rattle.protocol.specs.Turn.{greater_ballot}
 use Rattle.proposer.specs.InHand.{InHand, StandsFor, vote_in, reports_of, are_members, none_twice, OtherMarksPass}
 use Rattle.proposer.specs.Greatest.{IsGreatest}
@@ -143,7 +144,7 @@ on_err (Err e) h = h
 
 -- after a ballot was begun
 stands_began :
-    (me c n : ℕ) (b : Ballot) (own : Option Tape) (report : Option Vote) (now : ℕ) (marks : List Mark) (reports : List (Option (Option Vote))) (d : Option Ballot) (k : ℕ)
+    (me c n : ℕ) (b : Ballot) (own : Option Entry) (report : Option Vote) (now : ℕ) (marks : List Mark) (reports : List (Option (Option Vote))) (d : Option Ballot) (k : ℕ)
     → IsMember c me → reports ≡ reports_of c (record { member = me; report = report } ∷ []) → was_released n marks ≡ false → d ≡ denied n (Began n b own report now ∷ marks) → k ≡ begun n (Began n b own report now ∷ marks)
     → StandsFor (record { me = me; members = c; ballot = b; own = own; reports = reports; gathers = true; denied = d; begun = k; moved = now }) n (Began n b own report now ∷ marks)
 stands_began me c n b own report now marks reports d k i g r e f =
@@ -167,7 +168,7 @@ stands_began me c n b own report now marks reports d k i g r e f =
 
 -- a proposal that begins its first ballot
 pub stands_first :
-    (me c n : ℕ) (b : Ballot) (own : Option Tape) (report : Option Vote) (now : ℕ) (marks : List Mark) (reports : List (Option (Option Vote)))
+    (me c n : ℕ) (b : Ballot) (own : Option Entry) (report : Option Vote) (now : ℕ) (marks : List Mark) (reports : List (Option (Option Vote)))
     → IsMember c me → reports ≡ reports_of c (record { member = me; report = report } ∷ []) → was_released n marks ≡ false → open_proposal n marks ≡ None
     → StandsFor (record { me = me; members = c; ballot = b; own = own; reports = reports; gathers = true; denied = None; begun = 1; moved = now }) n (Began n b own report now ∷ marks)
 stands_first me c n b own report now marks reports i g r o =
@@ -185,13 +186,13 @@ stands_renewed q n marks h c b report now reports i g =
     stands_began q.me c n b q.own report now marks reports q.denied (q.begun + 1) i g (found n marks h.opening h.is_open).unreleased (h.its_denials ∙ sym (denials_stay n b q.own report now marks some)) k
 
 -- the greatest of the counted reports decides
-pub picked : (q : InHand) (n : ℕ) (marks : List Mark) (h : StandsFor q n marks) (p : Opening) (o : Option Vote) → open_proposal n marks ≡ Some p → IsGreatest (vote_in (counted q.me n h.opening (since_began n marks))) q.members o → tape_or q.own o ≡ pick p.own (counted q.me n p (since_began n marks))
+pub picked : (q : InHand) (n : ℕ) (marks : List Mark) (h : StandsFor q n marks) (p : Opening) (o : Option Vote) → open_proposal n marks ≡ Some p → IsGreatest (vote_in (counted q.me n h.opening (since_began n marks))) q.members o → entry_or q.own o ≡ pick p.own (counted q.me n p (since_began n marks))
 picked q n marks h p o e g =
     let both : Some h.opening ≡ Some p = sym h.is_open ∙ e in
     let same : h.opening ≡ p = cc in
     let all : List Counted = counted q.me n h.opening (since_began n marks) in
-    ap (λ (t : Option Tape). tape_or t o) h.its_own
-    ∙ ap (tape_or h.opening.own) (one_greatest (vote_in all) q.members o (report_of (greatest reports_above all)) g (marked_greatest q.members all h.in_range h.once))
+    ap (λ (t : Option Entry). entry_or t o) h.its_own
+    ∙ ap (entry_or h.opening.own) (one_greatest (vote_in all) q.members o (report_of (greatest reports_above all)) g (marked_greatest q.members all h.in_range h.once))
     ∙ ap (λ (x : Opening). pick x.own (counted q.me n x (since_began n marks))) same
 
 -- a mark of which the proposal says nothing

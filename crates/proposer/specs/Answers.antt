@@ -1,7 +1,8 @@
 -- What the answers of a proposal's calls say of the marks, and the marks after them.
 use Rattle.std.specs.Prelude.{◌≡◌, ℕ, List, ◌∷◌, Option, Some, None, Bool, true, false}
 use Rattle.protocol.specs.Ballots.{Ballot, IsNoneOrBelow, is_majority}
-use Rattle.protocol.specs.Rows.{Tape, Vote, Row}
+use Rattle.protocol.specs.Entries.{Entry}
+use Rattle.protocol.specs.Rows.{Vote, Row}
 use Rattle.protocol.specs.Marks.{Mark, Began, Promised}
 use Rattle.protocol.specs.Proposals.{Opening, gathering_at, since_began, counted, is_counted, is_due}
 use Rattle.protocol.specs.Turn.{next_ballot}
@@ -48,7 +49,7 @@ IsDueAnswer answers.GaveUp me n now p marks row = (is_due me n now (since_began 
 IsDueAnswer (answers.Began b) me n now p marks row = (is_due me n now (since_began n marks) (Some p) ≡ true) × (next_ballot me n marks row ≡ Some b)
 
 -- the marks after it
-abbrev pub marks_after_due : DueAnswer → ℕ → Option Tape → Option Vote → ℕ → List Mark → List Mark
+abbrev pub marks_after_due : DueAnswer → ℕ → Option Entry → Option Vote → ℕ → List Mark → List Mark
 marks_after_due answers.Wait n own report now marks = marks
 marks_after_due answers.GaveUp n own report now marks = marks
 marks_after_due (answers.Began b) n own report now marks = Began n b own report now ∷ marks

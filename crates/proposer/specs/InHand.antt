@@ -3,18 +3,19 @@ use Rattle.std.specs.Prelude.{◌≡◌, ℕ, List, [], ◌∷◌, Option, Some,
 use Rattle.std.specs.List.{list_all}
 use Rattle.protocol.specs.Lists.{has}
 use Rattle.protocol.specs.Ballots.{Ballot, members}
-use Rattle.protocol.specs.Rows.{Tape, Vote}
+use Rattle.protocol.specs.Entries.{Entry}
+use Rattle.protocol.specs.Rows.{Vote}
 use Rattle.protocol.specs.Marks.{Mark, Began, Promised, Proposed, Denied, Heard, Closed, Released, proposes}
 use Rattle.protocol.specs.Proposals.{Opening, Counted, is_counted, open_proposal, since_began, counted, denied, begun, moved}
 
--- a proposal in hand: whose it is, of how many members, its ballot and own tape;
+-- a proposal in hand: whose it is, of how many members, its ballot and own entry;
 -- of each member, in rising order, whether it is counted and what it then reported; whether promises are still gathered;
 -- the greatest Nack, how many ballots were begun, and when it last moved, in milliseconds
 pub record InHand : Type 0 where
   pub me : ℕ
   pub members : ℕ
   pub ballot : Ballot
-  pub own : Option Tape
+  pub own : Option Entry
   pub reports : List (Option (Option Vote))
   pub gathers : Bool
   pub denied : Option Ballot

@@ -1,12 +1,13 @@
 //! A proposal, with a slot for the promise of each member.
 
-ghost use Rattle.std.specs.Prelude.{◌≡◌, ◌≤◌, ◌<◌, ◌+◌, ◌*◌, ◌-◌, ◌^◌, ℕ, List, ◌∷◌, Option, Some, None, Ok, Err, IfOk, OnErr, IsOk, MatchResult, MatchBool, min, false, nat_le, option_copied, ◌&&◌, if◌then◌else◌};
+ghost use Rattle.std.specs.Prelude.{◌≡◌, ◌≤◌, ◌<◌, ◌+◌, ◌*◌, ◌-◌, ◌^◌, ℕ, List, ◌∷◌, Option, Some, None, Ok, Err, IfOk, OnErr, IsOk, MatchResult, MatchBool, min, false, nat_le, option_copied, option_map, ◌&&◌, if◌then◌else◌};
 ghost use Rattle.std.specs.Bool.{OnFalse};
 ghost use Rattle.protocol.specs.Ballots.{next, is_same};
 ghost use Rattle.protocol.specs.Rows.{Row};
 ghost use Rattle.protocol.specs.Marks.{Mark, Began, Proposed, Denied};
-ghost use Rattle.protocol.specs.Proposals.{Opening, was_released, open_proposal, open_ballot, proposal_at, gathering_at, since_began, counted, tape_or, pick, due_moment};
+ghost use Rattle.protocol.specs.Proposals.{Opening, was_released, open_proposal, open_ballot, proposal_at, gathering_at, since_began, counted, entry_or, pick, due_moment};
 ghost use Rattle.protocol.specs.Turn.{greater_ballot, most_ballots};
+ghost use Rattle.tape_frames.specs.Entries.{owned_entry, lent_entry};
 ghost use Rattle.proposer.specs.InHand.{StandsFor, IsOfTheSame};
 ghost use Rattle.proposer.specs.Answers.{IsNew, IsCountedAs, marks_after_promise, StaysWhereUncounted, IsDueAnswer, marks_after_due, StaysWhereNotBegun, IsOwnAndAbove};
 
@@ -16,21 +17,21 @@ use ballots::laws::slots_of_members;
 use ballots::{Ballot, Member, Vote, VoteRef};
 use std::alloc::{AllocError, Global};
 use std::marker::Model;
-use tape_frames::{Tape, TapeRef};
+use tape_frames::{Entry, EntryRef};
 
 /// How many ballots a proposal begins at most.
 const MOST_BALLOTS: u8 = 32;
 
 /// The proposal of one member for one number.
 ///
-/// Lamport, Paxos Made Simple: with the promises of a majority it proposes the tape of the highest vote that was
+/// Lamport, Paxos Made Simple: with the promises of a majority it proposes the entry of the highest vote that was
 /// reported, or its own where none was.
 #[derive(Drop)]
 pub struct Proposal {
     alloc: Global,
     me: Member,
     ballot: Ballot,
-    own: Option<Tape>,
+    own: Option<Entry>,
     slots: Slots,
     gathers: bool,
     denied: Option<Ballot>,
@@ -39,12 +40,13 @@ pub struct Proposal {
 }
 
 impl Model for Proposal {
-    ghost use Rattle.std.specs.Prelude.{◌≤◌, length};
+    ghost use Rattle.std.specs.Prelude.{◌≤◌, length, option_map};
+    ghost use Rattle.tape_frames.specs.Entries.{owned_entry};
     ghost use Rattle.proposer.specs.InHand.{InHand};
 
     ghost Value = { InHand };
 
-    ghost view = { λ p. record { me = p.me; members = length p.slots; ballot = p.ballot; own = p.own; reports = p.slots; gathers = p.gathers; denied = p.denied; begun = p.begun; moved = p.moved } };
+    ghost view = { λ p. record { me = p.me; members = length p.slots; ballot = p.ballot; own = option_map owned_entry p.own; reports = p.slots; gathers = p.gathers; denied = p.denied; begun = p.begun; moved = p.moved } };
 
     ghost invariant = { λ p. (length p.slots ≤ 15) × (p.me ≤ length p.slots) };
 }
@@ -60,22 +62,22 @@ fn greater(a: Option<Ballot>, b: Option<Ballot>) -> Option<Ballot>
     }
 }
 
-/// The tape, lent, where there is one.
-fn lent(tape: &Option<Tape>) -> Option<TapeRef<'_>>
-    ensures { result ≡ tape.now }
+/// The entry, lent, where there is one.
+fn lent(entry: &Option<Entry>) -> Option<EntryRef<'_>>
+    ensures { option_map lent_entry result ≡ option_map owned_entry entry.now }
 {
-    match tape {
+    match entry {
         None => None,
-        Some(tape) => Some(tape.lend()),
+        Some(entry) => Some(entry.lend()),
     }
 }
 
-/// The vote's tape, or the own one where there is no vote.
-fn tape_or<'a>(own: &'a Option<Tape>, vote: Option<&'a Vote>) -> Option<TapeRef<'a>>
-    ensures { result ≡ tape_or own.now (option_copied vote.entry) }
+/// The vote's entry, or the own one where there is no vote.
+fn entry_or<'a>(own: &'a Option<Entry>, vote: Option<&'a Vote>) -> Option<EntryRef<'a>>
+    ensures { option_map lent_entry result ≡ entry_or (option_map owned_entry own.now) (option_copied vote.entry) }
 {
     match vote {
-        Some(vote) => Some(vote.tape()),
+        Some(vote) => Some(vote.entry()),
         None => lent(own),
     }
 }
@@ -83,21 +85,21 @@ fn tape_or<'a>(own: &'a Option<Tape>, vote: Option<&'a Vote>) -> Option<TapeRef<
 impl Proposal {
     /// Begins the member's first ballot above the one that was seen. The own member counts as promised with `report`.
     ///
-    /// `RoundsSpent` where there is no such ballot; the tapes are given up then. No memory is taken.
+    /// `RoundsSpent` where there is no such ballot; the entries are given up then. No memory is taken.
     /// `now` is in milliseconds.
     pub fn begin(
         alloc: Global,
         seen: Option<Ballot>,
         me: Member,
         members: u8,
-        own: Option<Tape>,
+        own: Option<Entry>,
         report: Option<Vote>,
         now: u64,
     ) -> Result<Proposal, BeginRefusal>
         requires member { me ≤ members }
         requires few { members ≤ 15 }
         ensures ballot { MatchResult result (λ p. next seen me ≡ Some p.ballot) (λ e. (e ≡ BeginRefusal.RoundsSpent) × (next seen me ≡ None)) }
-        ensures stands { IfOk result (λ p. (n : ℕ) (marks : List Mark) → was_released n marks ≡ false → open_proposal n marks ≡ None → StandsFor p n (Began n p.ballot own report now ∷ marks)) }
+        ensures stands { IfOk result (λ p. (n : ℕ) (marks : List Mark) → was_released n marks ≡ false → open_proposal n marks ≡ None → StandsFor p n (Began n p.ballot (option_map owned_entry own) report now ∷ marks)) }
         ensures circuit { IfOk result (λ p. (p.me ≡ me) × (p.members ≡ members)) }
     {
         slots_of_members::<Option<Option<Vote>>>();
@@ -184,12 +186,12 @@ impl Proposal {
         true
     }
 
-    /// The tape to propose: that of the greatest reported vote (of the least member where equal), else the own one, if any.
-    pub fn pick(&self) -> Option<TapeRef<'_>>
-        ensures { (n : ℕ) (marks : List Mark) (p : Opening) → StandsFor self.now n marks → open_proposal n marks ≡ Some p → result ≡ pick p.own (counted self.now.me n p (since_began n marks)) }
+    /// The entry to propose: that of the greatest reported vote (of the least member where equal), else the own one, if any.
+    pub fn pick(&self) -> Option<EntryRef<'_>>
+        ensures { (n : ℕ) (marks : List Mark) (p : Opening) → StandsFor self.now n marks → open_proposal n marks ≡ Some p → option_map lent_entry result ≡ pick p.own (counted self.now.me n p (since_began n marks)) }
     {
         slots_of_members::<Option<Option<Vote>>>();
-        tape_or(&self.own, greatest_vote(&self.slots))
+        entry_or(&self.own, greatest_vote(&self.slots))
     }
 
     /// It was proposed at this moment, in milliseconds: it gathers no more promises, and its due moment is set anew.
@@ -223,7 +225,7 @@ impl Proposal {
 
     /// What it does at this moment, in milliseconds, where `promised` is the saved promise and `report` the saved vote.
     ///
-    /// Where it begins anew, the own tape is kept, and the own member counts as promised with `report`.
+    /// Where it begins anew, the own entry is kept, and the own member counts as promised with `report`.
     /// No memory is taken, and `Err` never comes.
     pub fn due(
         &mut self,

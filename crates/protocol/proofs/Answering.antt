@@ -23,4 +23,4 @@ replies seat marks row p Votes_again = votes seat marks row p (Note_voted_again 
 
 pub turns_are_an_acceptors : TurnsAreAnAcceptors
 turns_are_an_acceptors seat now marks row p =
-    (replies seat marks (next_row row (Prepares p.ballot)) p (reply_of row (Prepares p.ballot)), λ tape. replies seat marks (next_row row (Accepts p.ballot tape)) p (reply_of row (Accepts p.ballot tape)))
+    (replies seat marks (next_row row (Prepares p.ballot)) p (reply_of row (Prepares p.ballot)), λ entry. replies seat marks (next_row row (Accepts p.ballot entry)) p (reply_of row (Accepts p.ballot entry)))

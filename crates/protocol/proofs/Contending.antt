@@ -15,20 +15,20 @@ use Rattle.protocol.proofs.Steps.{heard_here}
 use Rattle.protocol.proofs.Rehearsing.{same, begins, of_count, at_count, changes}
 
 loses_what_is_unsaved : {D G F : Type 0} → of_count {D = D} {G = G} {F = F} 1 LosesWhatIsUnsaved
-loses_what_is_unsaved {D = D} {G = G} {F = F} k reads version_of sets says v tape slugs fit s =
+loses_what_is_unsaved {D = D} {G = G} {F = F} k reads version_of sets says v entry slugs fit s =
     let z : Circuit D G F = record { number = k; count = 1; reads = reads; version_of = version_of; sets = sets; says = says } in
     let me : IsMember 1 1 = (omega arith, omega arith) in
     let h1 : History z _ = goes_on (begins z v) (Balks 1 false) (Armed false) (is_armed 1 false me refl refl (same _)) in
-    let h2 : History z _ = goes_on h1 (Offers 1 12 tape 0) Torn_as_armed
-    (is_torn 1 (Offering 12 tape 0) (Offered 12 tape 0) blank None refl me refl (at_save _ (rw (fit, s) refl) refl (changes tape) (refl, refl) refl) (same _)) in
+    let h2 : History z _ = goes_on h1 (Offers 1 12 entry 0) Torn_as_armed
+    (is_torn 1 (Offering 12 entry 0) (Offered 12 entry 0) blank None refl me refl (at_save _ (rw (fit, s) refl) refl (changes entry) (refl, refl) refl) (same _)) in
     let h3 : History z _ = goes_on h2 (Restarts 1) Restarted (restarts 1 me refl refl (same _)) in
     let h4 : History z _ = goes_on h3 (Seeks 1 12 0) (Done (Note_nothing (ballot 1 1))) (is_done 1 (Seeking 12 0) (Sought 12 0) _ [] refl me refl refl refl tt (inl refl) refl (same _)) in
-    let h5 : History z _ = goes_on h4 (Offers 1 12 tape 0) Torn_by_memory
-    (is_torn 1 (Offering 12 tape 0) (Offered 12 tape 0) (raised blank (ballot 1 1)) None refl me refl (memory_before_save refl (rw fit refl) refl refl) (same _)) in
+    let h5 : History z _ = goes_on h4 (Offers 1 12 entry 0) Torn_by_memory
+    (is_torn 1 (Offering 12 entry 0) (Offered 12 entry 0) (raised blank (ballot 1 1)) None refl me refl (memory_before_save refl (rw fit refl) refl refl) (same _)) in
     let h6 : History z _ = goes_on h5 (Seeks 1 12 0) (Refused Stopped) (is_refused 1 (Seeking 12 0) Stopped refl me refl refl (same _)) in
     let h7 : History z _ = goes_on h6 (Restarts 1) Restarted (restarts 1 me refl refl (same _)) in
-    let h8 : History z _ = goes_on h7 (Offers 1 12 tape 0) (Done (Note_proposed (ballot 2 1)))
-    (is_done 1 (Offering 12 tape 0) (Offered 12 tape 0) _ [] refl me (rw (fit, s) refl) refl refl tt (inl refl) refl (same _)) in
+    let h8 : History z _ = goes_on h7 (Offers 1 12 entry 0) (Done (Note_proposed (ballot 2 1)))
+    (is_done 1 (Offering 12 entry 0) (Offered 12 entry 0) _ [] refl me (rw (fit, s) refl) refl refl tt (inl refl) refl (same _)) in
     let h9 : History z _ = goes_on h8 (Restarts 1) Restarted (restarts 1 me refl refl (same _)) in
     let h10 : History z _ = goes_on h9 (Seeks 1 12 0) (Done (Note_proposed (ballot 3 1))) (is_done 1 (Seeking 12 0) (Sought 12 0) _ [] refl me refl refl refl tt (inl refl) refl (same _)) in
     (_, h10, refl, refl, refl, refl)

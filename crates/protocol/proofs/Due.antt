@@ -4,7 +4,7 @@ use Rattle.std.specs.Prelude.{nat_lt, filter, filter_map, MatchOption}
 use Rattle.std.proofs.lemmas.Bool.{leb-true, leb-false, ltb-false}
 use Rattle.std.proofs.lemmas.Bool.Decides.{nat_tests}
 use Rattle.protocol.specs.Ballots.{Ballot}
-use Rattle.protocol.specs.Rows.{Tape}
+use Rattle.protocol.specs.Entries.{Entry}
 use Rattle.protocol.specs.Marks.{Mark, Began}
 use Rattle.protocol.specs.Lists.{IsAmong}
 use Rattle.protocol.specs.Proposals.{Opening, since_began, open_proposal, moved, due_moment, is_due, is_due_number, begun_number, next_due}
@@ -32,7 +32,7 @@ due_as m n now marks p o e = record {
 }
 
 -- one that is not read as due is not
-pub not_due : (m n now : ℕ) (marks : List Mark) (p : Opening) → open_proposal n marks ≡ Some p → is_due m n now (since_began n marks) (Some p) ≡ false → (b : Ballot) (own : Option Tape) → ¬ IsDue m marks now n b own
+pub not_due : (m n now : ℕ) (marks : List Mark) (p : Opening) → open_proposal n marks ≡ Some p → is_due m n now (since_began n marks) (Some p) ≡ false → (b : Ballot) (own : Option Entry) → ¬ IsDue m marks now n b own
 not_due m n now marks p e f b own d = early (open_read n marks b own d.report d.since d.is_open)
   where
     some_same : {A : Type 0} {x y : A} → Some x ≡ Some y → x ≡ y
@@ -50,17 +50,17 @@ not_due m n now marks p e f b own d = early (open_read n marks b own d.report d.
         omega (arith, h, i)
 
 -- nor is a number that is not open
-pub none_due : (m n now : ℕ) (marks : List Mark) → open_proposal n marks ≡ None → (b : Ballot) (own : Option Tape) → ¬ IsDue m marks now n b own
+pub none_due : (m n now : ℕ) (marks : List Mark) → open_proposal n marks ≡ None → (b : Ballot) (own : Option Entry) → ¬ IsDue m marks now n b own
 none_due m n now marks e b own d = some_none (sym (open_read n marks b own d.report d.since d.is_open).read ∙ e)
 
-due_number : (m now : ℕ) (marks : List Mark) (n : ℕ) → is_due_number m now marks n ≡ true → (b : Ballot) × (own : Option Tape) × IsDue m marks now n b own
+due_number : (m now : ℕ) (marks : List Mark) (n : ℕ) → is_due_number m now marks n ≡ true → (b : Ballot) × (own : Option Entry) × IsDue m marks now n b own
 due_number m now marks n e = go (open_proposal n marks) refl
   where
-    go : (r : Option Opening) → open_proposal n marks ≡ r → (b : Ballot) × (own : Option Tape) × IsDue m marks now n b own
+    go : (r : Option Opening) → open_proposal n marks ≡ r → (b : Ballot) × (own : Option Entry) × IsDue m marks now n b own
     go None f = let no : false ≡ true = rw f at e in absurd (false_true no)
     go (Some p) f = (p.ballot, p.own, due_as m n now marks p (open_is n marks p f) (rw f at e))
 
-is_due_read : (m now : ℕ) (marks : List Mark) (n : ℕ) (b : Ballot) (own : Option Tape) → IsDue m marks now n b own → is_due_number m now marks n ≡ true
+is_due_read : (m now : ℕ) (marks : List Mark) (n : ℕ) (b : Ballot) (own : Option Entry) → IsDue m marks now n b own → is_due_number m now marks n ≡ true
 is_due_read m now marks n b own d = go (open_proposal n marks) refl
   where
     decide : (p : Opening) → open_proposal n marks ≡ Some p → (t : Bool) → is_due m n now (since_began n marks) (Some p) ≡ t → is_due m n now (since_began n marks) (Some p) ≡ true
@@ -81,7 +81,7 @@ less = record {
 abbrev due_numbers : ℕ → ℕ → List Mark → List ℕ
 due_numbers m now marks = filter (is_due_number m now marks) (filter_map begun_number marks)
 
-among_due : (m now : ℕ) (marks : List Mark) (n : ℕ) (b : Ballot) (own : Option Tape) → IsDue m marks now n b own → IsAmong (due_numbers m now marks) n
+among_due : (m now : ℕ) (marks : List Mark) (n : ℕ) (b : Ballot) (own : Option Entry) → IsDue m marks now n b own → IsAmong (due_numbers m now marks) n
 among_due m now marks n b own d =
     let began = Began n b own d.report d.is_open.now in
     filter_among (is_due_number m now marks) (filter_map begun_number marks) n

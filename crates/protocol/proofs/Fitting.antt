@@ -1,10 +1,11 @@
--- A turn makes no tape up.
+-- A turn makes no entry up.
 use Rattle.std.proofs.Common.{◌≡◌, ℕ, inl, inr, sym, subst, List, [], ◌∷◌, Option, Some, None}
 use Rattle.std.specs.Prelude.{IfSome}
 use Rattle.protocol.specs.Lists.{IsAmong}
 use Rattle.protocol.specs.Seats.{Seat}
 use Rattle.protocol.specs.Ballots.{Ballot}
-use Rattle.protocol.specs.Rows.{Tape, Vote, Row}
+use Rattle.protocol.specs.Entries.{Entry}
+use Rattle.protocol.specs.Rows.{Vote, Row}
 use Rattle.protocol.specs.Versions.{Version}
 use Rattle.protocol.specs.Packets.{Packet, Body, Prepare, Promise, Accept, Accepted, Nack}
 use Rattle.protocol.specs.Marks.{Mark, Began, Promised, Proposed, Denied, Heard, Closed, Released}
@@ -25,11 +26,11 @@ module _ (v : Version) where
       each y (inl e) = subst (λ (z : Mark). MarkFits v z) (sym e) f
       each y (inr i) = h.each y i
 
-  if_some : {o : Option Tape} {x : Tape} → o ≡ Some x → Fits v x → IfSome o (Fits v)
-  if_some e f = subst (λ (o : Option Tape). IfSome o (Fits v)) (sym e) f
+  if_some : {o : Option Entry} {x : Entry} → o ≡ Some x → Fits v x → IfSome o (Fits v)
+  if_some e f = subst (λ (o : Option Entry). IfSome o (Fits v)) (sym e) f
 
-  if_none : {o : Option Tape} → o ≡ None → IfSome o (Fits v)
-  if_none e = subst (λ (o : Option Tape). IfSome o (Fits v)) (sym e) tt
+  if_none : {o : Option Entry} → o ≡ None → IfSome o (Fits v)
+  if_none e = subst (λ (o : Option Entry). IfSome o (Fits v)) (sym e) tt
 
   -- a turn that only adds marks
   stays_fit : {row : Row} {ms : List Mark} {t : Turn} {note : Note} → t ≡ stays row ms note → VoteFits v row.vote → MarksFit v ms → TurnFits v t
@@ -44,7 +45,7 @@ module _ (v : Version) where
   one_fits f p (inr e) = absurd e
 
   hears_fit :
-      {c n j : ℕ} {b : Ballot} {t : Tape} {marks after : List Mark} {release : Option Tape}
+      {c n j : ℕ} {b : Ballot} {t : Entry} {marks after : List Mark} {release : Option Entry}
       → Hears c n j b t marks release after → MarksFit v marks → Fits v t → MarksFit v after × IfSome release (Fits v)
   hears_fit (was_settled i er ea) h f = (subst (λ (l : List Mark). MarksFit v l) (sym ea) h, if_none er)
   hears_fit {n = n} {j = j} {b = b} {t = t} (waits i w er ea) h f = (subst (λ (l : List Mark). MarksFit v l) (sym ea) (and_mark (Heard n j b t) f h), if_none er)
@@ -55,31 +56,31 @@ module _ (v : Version) where
       (subst (λ (l : List Mark). MarksFit v l) (sym ea) (and_mark (Released n u) fu heard), if_some er fu)
 
   picks_fit :
-      {me n : ℕ} {b : Ballot} {own : Option Tape} {report : Option Vote} {since : List Mark} {pick : Option Tape}
+      {me n : ℕ} {b : Ballot} {own : Option Entry} {report : Option Vote} {since : List Mark} {pick : Option Entry}
       → Picks me n b own report since pick → IfSome own (Fits v) → VoteFits v report → MarksFit v since → IfSome pick (Fits v)
   picks_fit (the_own none is) fo fr fs = subst (λ o. IfSome o (Fits v)) (sym is) fo
   picks_fit {me = me} {n = n} {b = b} {report = report} {since = since} (the_reported k u counted top is) fo fr fs = if_some is (by counted)
     where
-      by : IsCounted me n b report since k (Some u) → Fits v u.tape
+      by : IsCounted me n b report since k (Some u) → Fits v u.entry
       by (inl (ek, er)) = subst (λ (o : Option Vote). VoteFits v o) (sym er) fr
       by (inr i) = fs.each (Promised n k b (Some u)) i
 
   proposes_fit :
-      {seat : Seat} {n : ℕ} {b : Ballot} {now : ℕ} {own : Option Tape} {report : Option Vote} {since : List Mark} {row : Row} {marks : List Mark} {t : Turn}
+      {seat : Seat} {n : ℕ} {b : Ballot} {now : ℕ} {own : Option Entry} {report : Option Vote} {since : List Mark} {row : Row} {marks : List Mark} {t : Turn}
       → Proposes seat n b now own report since row marks t → IfSome own (Fits v) → VoteFits v report → MarksFit v since → VoteFits v row.vote → MarksFit v marks → TurnFits v t
   proposes_fit {n = n} (nothing picks e) fo fr fs r h = stays_fit e r (and_mark (Closed n) tt h)
-  proposes_fit {seat = seat} {n = n} {b = b} {now = now} (proposes tape release after picks hearing e) fo fr fs r h =
-      let f : Fits v tape = picks_fit picks fo fr fs in
+  proposes_fit {seat = seat} {n = n} {b = b} {now = now} (proposes entry release after picks hearing e) fo fr fs r h =
+      let f : Fits v entry = picks_fit picks fo fr fs in
       let x = hears_fit hearing (and_mark (Proposed n b now) tt h) f in
       subst (λ (t : Turn). TurnFits v t) (sym e) (record {
         row = f;
         marks = x.0;
-        out = λ p i. elim (among-append (to_others seat n b (Accept tape)) (to_others seat n b (Accepted tape)) p i) [ inl y ↦ others_fit seat n b (Accept tape) f p y | inr y ↦ others_fit seat n b (Accepted tape) f p y ];
+        out = λ p i. elim (among-append (to_others seat n b (Accept entry)) (to_others seat n b (Accepted entry)) p i) [ inl y ↦ others_fit seat n b (Accept entry) f p y | inr y ↦ others_fit seat n b (Accepted entry) f p y ];
         release = x.1;
       })
 
   begins_fit :
-      {seat : Seat} {n : ℕ} {b : Ballot} {own : Option Tape} {now : ℕ} {row : Row} {marks : List Mark} {t : Turn}
+      {seat : Seat} {n : ℕ} {b : Ballot} {own : Option Entry} {now : ℕ} {row : Row} {marks : List Mark} {t : Turn}
       → Begins seat n b own now row marks t → IfSome own (Fits v) → VoteFits v row.vote → MarksFit v marks → TurnFits v t
   begins_fit {seat = seat} {n = n} {b = b} {own = own} {now = now} {row = row} (asks l e) fo r h =
       subst (λ (t : Turn). TurnFits v t) (sym e) (record { row = r; marks = and_mark (Began n b own row.vote now) (fo, r) h; out = others_fit seat n b Prepare tt; release = tt })
@@ -87,7 +88,7 @@ module _ (v : Version) where
       proposes_fit proposing fo r (record { each = λ x i. absurd i }) r (and_mark (Began n b own row.vote now) (fo, r) h)
 
   open_fits :
-      {marks : List Mark} {n : ℕ} {b : Ballot} {own : Option Tape} {report : Option Vote} {since : List Mark}
+      {marks : List Mark} {n : ℕ} {b : Ballot} {own : Option Entry} {report : Option Vote} {since : List Mark}
       → (o : IsOpen marks n b own report since) → MarksFit v marks → (IfSome own (Fits v) × VoteFits v report) × MarksFit v since
   open_fits {marks = marks} {n = n} {b = b} {own = own} {report = report} {since = since} o h = (
     h.each (Began n b own report o.now) (among_split marks since o.before (Began n b own report o.now) o.began),
@@ -118,16 +119,16 @@ module _ (v : Version) where
   answer_fits seat now marks row p Prepare t (is_silent same e) r h f = stays_fit e r h
   answer_fits seat now marks row p Prepare t (table.PrepareTurn.nacks a is up e) r h f = subst (λ (t : Turn). TurnFits v t) (sym e) (record { row = r; marks = h; out = one_fits tt; release = tt })
   answer_fits seat now marks row p (Promise report) t taken r h f = promise_fits taken r h f
-  answer_fits seat now marks row p (Accept tape) t (table.AcceptTurn.nacks a is up e) r h f = subst (λ (t : Turn). TurnFits v t) (sym e) (record { row = r; marks = h; out = one_fits tt; release = tt })
-  answer_fits seat now marks row p (Accept tape) t (votes_again own release after free at_it hearing e) r h f =
+  answer_fits seat now marks row p (Accept entry) t (table.AcceptTurn.nacks a is up e) r h f = subst (λ (t : Turn). TurnFits v t) (sym e) (record { row = r; marks = h; out = one_fits tt; release = tt })
+  answer_fits seat now marks row p (Accept entry) t (votes_again own release after free at_it hearing e) r h f =
       let fo : Fits v own = subst (λ (o : Option Vote). VoteFits v o) at_it r in
       let x = hears_fit hearing h fo in
       subst (λ (t : Turn). TurnFits v t) (sym e) (record { row = r; marks = x.0; out = others_fit seat p.number p.ballot (Accepted own) fo; release = x.1 })
-  answer_fits seat now marks row p (Accept tape) t (votes release after free unvoted hearing e) r h f =
+  answer_fits seat now marks row p (Accept entry) t (votes release after free unvoted hearing e) r h f =
       let x = hears_fit hearing h f in
-      subst (λ (t : Turn). TurnFits v t) (sym e) (record { row = f; marks = x.0; out = others_fit seat p.number p.ballot (Accepted tape) f; release = x.1 })
-  answer_fits seat now marks row p (Accepted tape) t (settles i e) r h f = stays_fit e r h
-  answer_fits seat now marks row p (Accepted tape) t (hears release after i hearing e) r h f =
+      subst (λ (t : Turn). TurnFits v t) (sym e) (record { row = f; marks = x.0; out = others_fit seat p.number p.ballot (Accepted entry) f; release = x.1 })
+  answer_fits seat now marks row p (Accepted entry) t (settles i e) r h f = stays_fit e r h
+  answer_fits seat now marks row p (Accepted entry) t (hears release after i hearing e) r h f =
       let x = hears_fit hearing h f in
       subst (λ (t : Turn). TurnFits v t) (sym e) (record { row = r; marks = x.0; out = λ p i. absurd i; release = x.1 })
   answer_fits seat now marks row p (Nack a) t (table.NackTurn.is_stale i e) r h f = stays_fit e r h
@@ -136,7 +137,7 @@ module _ (v : Version) where
   turn_fits :
       (seat : Seat) (marks : List Mark) (row : Row) (e : Event) (t : Turn)
       → IsTurn seat marks row e t → VoteFits v row.vote → MarksFit v marks → EventFits v e → TurnFits v t
-  turn_fits seat marks row (Offered n tape now) t (starts b i begins) r h f = begins_fit begins f r h
+  turn_fits seat marks row (Offered n entry now) t (starts b i begins) r h f = begins_fit begins f r h
   turn_fits seat marks row (Sought n now) t (starts b i begins) r h f = begins_fit begins tt r h
   turn_fits seat marks row (Came_due n now) t taken r h f = due_fits taken r h
   turn_fits seat marks row (Arrived p now) t taken r h f = answer_fits seat now marks row p p.body t taken r h f

@@ -1,4 +1,4 @@
--- Each step leaves each member with tapes that fit its version.
+-- Each step leaves each member with entries that fit its version.
 use Rattle.std.proofs.Common.{◌≡◌, ℕ, ◌⊎◌, inl, inr, refl, sym, ap, subst, ◌∙◌, List, [], Option, Some, None, Bool, true, false}
 use Rattle.std.specs.Prelude.{Result, Ok, Err, if◌then◌else◌}
 use Rattle.protocol.specs.Lists.{or_else}
@@ -44,8 +44,8 @@ vote_fits_two v (Some u) f = refl
 body_fits_two : (v : Version) (body : Body) → BodyFits v body → BodyFits Two body
 body_fits_two v Prepare f = tt
 body_fits_two v (Promise report) f = vote_fits_two v report f
-body_fits_two v (Accept tape) f = refl
-body_fits_two v (Accepted tape) f = refl
+body_fits_two v (Accept entry) f = refl
+body_fits_two v (Accepted entry) f = refl
 body_fits_two v (Nack p) f = tt
 
 module _ {D G F : Type 0} (z : Circuit D G F) (spells : SpellsWhatFits z) where
@@ -57,9 +57,9 @@ module _ {D G F : Type 0} (z : Circuit D G F) (spells : SpellsWhatFits z) where
   event_fits :
       (v : Version) (m : ℕ) (stopped : Bool) (marks : List Mark) (call : Call) (e : Event)
       → early_refusal (setup_of z v m) stopped marks call ≡ None → event_of (setup_of z v m) marks call ≡ Some e → EventFits v e
-  event_fits v m stopped marks (Offering n tape now) e un is =
-      let free = unstopped stopped (call_refusal (setup_of z v m) marks (Offering n tape now)) un in
-      let f : Fits v tape = not_too_old _ (second_none (number_refusal n marks) _ free) in
+  event_fits v m stopped marks (Offering n entry now) e un is =
+      let free = unstopped stopped (call_refusal (setup_of z v m) marks (Offering n entry now)) un in
+      let f : Fits v entry = not_too_old _ (second_none (number_refusal n marks) _ free) in
       subst (λ (x : Event). EventFits v x) (inj is) f
     where
       inj : {x y : Event} → Some x ≡ Some y → x ≡ y

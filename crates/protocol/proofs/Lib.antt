@@ -23,3 +23,4 @@ pub mod Rehearsing
 pub mod Contending
 pub mod Tearing
 pub mod Upgrading
+pub mod Withdrawing

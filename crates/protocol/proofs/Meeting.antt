@@ -4,7 +4,8 @@ use Rattle.std.specs.Prelude.{◌==◌, nat_le, if◌then◌else◌, MatchOption
 use Rattle.std.proofs.lemmas.Bool.{eqb-true, eqb-false, leb-true, leb-false}
 use Rattle.protocol.specs.Seats.{Seat}
 use Rattle.protocol.specs.Ballots.{Ballot, IsMember, IsNoneOrAtMost, next, is_same, is_below, is_majority}
-use Rattle.protocol.specs.Rows.{Tape, Vote, vote_for, Row, raised}
+use Rattle.protocol.specs.Entries.{Entry}
+use Rattle.protocol.specs.Rows.{Vote, vote_for, Row, raised}
 use Rattle.protocol.specs.Packets.{Packet, Body, Prepare, Promise, Accept, Accepted, Nack}
 use Rattle.protocol.specs.Acceptor.{is_above, is_at, vote_is_at}
 use Rattle.protocol.specs.Marks.{Mark, Began, Promised, Proposed, Heard}
@@ -24,12 +25,12 @@ some_none e = cc
 
 -- a vote that is heard
 
-pub hear_is : (c n k : ℕ) (b : Ballot) (t : Tape) (marks : List Mark) → Hears c n k b t marks (hear c n k b t marks).release (hear c n k b t marks).marks
+pub hear_is : (c n k : ℕ) (b : Ballot) (t : Entry) (marks : List Mark) → Hears c n k b t marks (hear c n k b t marks).release (hear c n k b t marks).marks
 hear_is c n k b t marks = go (was_released n marks) refl
   where
     settled : ¬ IsReleased marks n → (r : Option Vote) → ripe c n (Heard n k b t ∷ marks) ≡ r → Hears c n k b t marks (settle n (Heard n k b t ∷ marks) r).release (settle n (Heard n k b t ∷ marks) r).marks
     settled h None e = waits h (ripe_none c n (Heard n k b t ∷ marks) e) refl refl
-    settled h (Some v) e = releases v.ballot v.tape h (ripe_is c n (Heard n k b t ∷ marks) v e) refl refl
+    settled h (Some v) e = releases v.ballot v.entry h (ripe_is c n (Heard n k b t ∷ marks) v e) refl refl
 
     go : (s : Bool) → was_released n marks ≡ s → Hears c n k b t marks (hear c n k b t marks).release (hear c n k b t marks).marks
     go true e = rw e (was_settled (released_is n marks e) refl refl)
@@ -38,12 +39,12 @@ hear_is c n k b t marks = go (was_released n marks) refl
 -- propose and begin
 
 pub propose_is :
-    (seat : Seat) (n : ℕ) (b : Ballot) (now : ℕ) (own : Option Tape) (report : Option Vote) (since : List Mark) (row : Row) (marks : List Mark) (r : Option Tape)
+    (seat : Seat) (n : ℕ) (b : Ballot) (now : ℕ) (own : Option Entry) (report : Option Vote) (since : List Mark) (row : Row) (marks : List Mark) (r : Option Entry)
     → Picks seat.me n b own report since r → Proposes seat n b now own report since row marks (propose seat n b now marks row r)
 propose_is seat n b now own report since row marks None h = nothing h refl
-propose_is seat n b now own report since row marks (Some tape) h = proposes tape (hear seat.members n seat.me b tape (Proposed n b now ∷ marks)).release (hear seat.members n seat.me b tape (Proposed n b now ∷ marks)).marks h (hear_is seat.members n seat.me b tape (Proposed n b now ∷ marks)) refl
+propose_is seat n b now own report since row marks (Some entry) h = proposes entry (hear seat.members n seat.me b entry (Proposed n b now ∷ marks)).release (hear seat.members n seat.me b entry (Proposed n b now ∷ marks)).marks h (hear_is seat.members n seat.me b entry (Proposed n b now ∷ marks)) refl
 
-pub begin_is : (seat : Seat) (n : ℕ) (b : Ballot) (own : Option Tape) (now : ℕ) (row : Row) (marks : List Mark) → 1 ≤ seat.members → Begins seat n b own now row marks (begin seat n b own now marks row)
+pub begin_is : (seat : Seat) (n : ℕ) (b : Ballot) (own : Option Entry) (now : ℕ) (row : Row) (marks : List Mark) → 1 ≤ seat.members → Begins seat n b own now row marks (begin seat n b own now marks row)
 begin_is seat n b own now row marks l = go (seat.members == 1) refl
   where
     go : (s : Bool) → (seat.members == 1) ≡ s → Begins seat n b own now row marks (begin seat n b own now marks row)
@@ -52,7 +53,7 @@ begin_is seat n b own now row marks l = go (seat.members == 1) refl
         (pick_is seat.me n b (record { ballot = b; own = own; report = row.vote; now = now }) [] refl)))
     go false e = let h : seat.members ≡ 1 → ⊥ = eqb-false seat.members 1 e in rw e (asks (omega arith) refl)
 
-pub start_is : (seat : Seat) (n : ℕ) (own : Option Tape) (now : ℕ) (marks : List Mark) (row : Row) → 1 ≤ seat.members → (r : Option Ballot) → next row.promised seat.me ≡ r → MatchOption (start_turn seat n own now marks row r) (r ≡ None) (λ t. StartTurn seat n own now marks row t)
+pub start_is : (seat : Seat) (n : ℕ) (own : Option Entry) (now : ℕ) (marks : List Mark) (row : Row) → 1 ≤ seat.members → (r : Option Ballot) → next row.promised seat.me ≡ r → MatchOption (start_turn seat n own now marks row r) (r ≡ None) (λ t. StartTurn seat n own now marks row t)
 start_is seat n own now marks row l None e = refl
 start_is seat n own now marks row l (Some b) e = starts b e (begin_is seat n b own now row marks l)
 
@@ -104,22 +105,22 @@ prepare_is seat marks row p = at row.promised
             rw (f, g) (is_silent (ap Some same) (ap (λ (b : Ballot). stays (held (Some b)) marks Note_silent) (sym same)))
         go false f false g = rw (f, g) (promises (is_below-true a p.ballot (below_where a p.ballot f g)) refl)
 
-pub accept_is : (seat : Seat) (marks : List Mark) (row : Row) (p : Packet) (tape : Tape) → AcceptTurn seat marks row p tape (accept_turn seat marks row p tape)
-accept_is seat marks row p tape = at row.promised
+pub accept_is : (seat : Seat) (marks : List Mark) (row : Row) (p : Packet) (entry : Entry) → AcceptTurn seat marks row p entry (accept_turn seat marks row p entry)
+accept_is seat marks row p entry = at row.promised
   where
     Is : Option Ballot → Option Vote → Type 0
-    Is o v = AcceptTurn seat marks (record { promised = o; vote = v }) p tape (accept_turn seat marks (record { promised = o; vote = v }) p tape)
+    Is o v = AcceptTurn seat marks (record { promised = o; vote = v }) p entry (accept_turn seat marks (record { promised = o; vote = v }) p entry)
 
     -- a vote
-    new : (o : Option Ballot) (v : Option Vote) → IsNoneOrAtMost o p.ballot → is_above o p.ballot ≡ false → vote_is_at v p.ballot ≡ false → ((own : Tape) → ¬ (v ≡ Some (vote_for p.ballot own))) → Is o v
+    new : (o : Option Ballot) (v : Option Vote) → IsNoneOrAtMost o p.ballot → is_above o p.ballot ≡ false → vote_is_at v p.ballot ≡ false → ((own : Entry) → ¬ (v ≡ Some (vote_for p.ballot own))) → Is o v
     new o v l above f none =
-        rw (above, f) (votes (hear seat.members p.number seat.me p.ballot tape marks).release (hear seat.members p.number seat.me p.ballot tape marks).marks l none (hear_is seat.members p.number seat.me p.ballot tape marks) refl)
+        rw (above, f) (votes (hear seat.members p.number seat.me p.ballot entry marks).release (hear seat.members p.number seat.me p.ballot entry marks).marks l none (hear_is seat.members p.number seat.me p.ballot entry marks) refl)
 
     voting : (o : Option Ballot) (v : Option Vote) → IsNoneOrAtMost o p.ballot → is_above o p.ballot ≡ false → Is o v
     voting o None l above = new o None l above refl (λ own h. some_none (sym h))
     voting o (Some v) l above = go (is_same v.ballot p.ballot) refl
       where
-        other : is_same v.ballot p.ballot ≡ false → (own : Tape) → ¬ (Some v ≡ Some (vote_for p.ballot own))
+        other : is_same v.ballot p.ballot ≡ false → (own : Entry) → ¬ (Some v ≡ Some (vote_for p.ballot own))
         other f own h = false_true (sym f ∙ is_same-self v.ballot p.ballot (ap (λ (x : Vote). x.ballot) (some_same h)))
           where
             false_true : false ≡ true → ⊥
@@ -131,8 +132,8 @@ accept_is seat marks row p tape = at row.promised
         go : (s : Bool) → is_same v.ballot p.ballot ≡ s → Is o (Some v)
         go true f =
             let same : v.ballot ≡ p.ballot = is_same-true v.ballot p.ballot f in
-            rw (above, f) (votes_again v.tape (hear seat.members p.number seat.me p.ballot v.tape marks).release (hear seat.members p.number seat.me p.ballot v.tape marks).marks l
-            (ap (λ (b : Ballot). Some (vote_for b v.tape)) same) (hear_is seat.members p.number seat.me p.ballot v.tape marks) refl)
+            rw (above, f) (votes_again v.entry (hear seat.members p.number seat.me p.ballot v.entry marks).release (hear seat.members p.number seat.me p.ballot v.entry marks).marks l
+            (ap (λ (b : Ballot). Some (vote_for b v.entry)) same) (hear_is seat.members p.number seat.me p.ballot v.entry marks) refl)
         go false f = new o (Some v) l above f (other f)
 
     at : (o : Option Ballot) → Is o row.vote
@@ -143,13 +144,13 @@ accept_is seat marks row p tape = at row.promised
         go true f = rw f (table.AcceptTurn.nacks a refl (is_below-true p.ballot a f) refl)
         go false f = voting (Some a) row.vote (is_below-false p.ballot a f) f
 
-pub accepted_is : (seat : Seat) (marks : List Mark) (row : Row) (p : Packet) (tape : Tape) → AcceptedTurn seat marks row p tape (accepted_turn seat marks row p tape)
-accepted_is seat marks row p tape = go (was_released p.number marks) refl
+pub accepted_is : (seat : Seat) (marks : List Mark) (row : Row) (p : Packet) (entry : Entry) → AcceptedTurn seat marks row p entry (accepted_turn seat marks row p entry)
+accepted_is seat marks row p entry = go (was_released p.number marks) refl
   where
-    go : (s : Bool) → was_released p.number marks ≡ s → AcceptedTurn seat marks row p tape (accepted_turn seat marks row p tape)
+    go : (s : Bool) → was_released p.number marks ≡ s → AcceptedTurn seat marks row p entry (accepted_turn seat marks row p entry)
     go true e = settles (released_is p.number marks e) (rw e refl)
     go false e =
-        hears (hear seat.members p.number p.from p.ballot tape marks).release (hear seat.members p.number p.from p.ballot tape marks).marks (unreleased_is p.number marks e) (hear_is seat.members p.number p.from p.ballot tape marks) (rw e refl)
+        hears (hear seat.members p.number p.from p.ballot entry marks).release (hear seat.members p.number p.from p.ballot entry marks).marks (unreleased_is p.number marks e) (hear_is seat.members p.number p.from p.ballot entry marks) (rw e refl)
 
 pub nack_is : (marks : List Mark) (row : Row) (p : Packet) (a : Ballot) (r : Option Opening) → proposal_at p.number p.ballot marks ≡ r → NackTurn marks row p a (nack_turn marks row p a r)
 nack_is marks row p a None e = table.NackTurn.is_stale (proposal_none p.number p.ballot marks e) refl
@@ -217,12 +218,12 @@ promise_is seat now marks row p r (Some o) e = here (gathering_is p.number p.bal
 pub packet_is : (seat : Seat) (now : ℕ) (marks : List Mark) (row : Row) (p : Packet) (body : Body) → AnswerTurn seat now marks row p body (packet_turn seat now marks row p body)
 packet_is seat now marks row p Prepare = prepare_is seat marks row p
 packet_is seat now marks row p (Promise r) = promise_is seat now marks row p r (gathering_at p.number p.ballot marks) refl
-packet_is seat now marks row p (Accept tape) = accept_is seat marks row p tape
-packet_is seat now marks row p (Accepted tape) = accepted_is seat marks row p tape
+packet_is seat now marks row p (Accept entry) = accept_is seat marks row p entry
+packet_is seat now marks row p (Accepted entry) = accepted_is seat marks row p entry
 packet_is seat now marks row p (Nack a) = nack_is marks row p a (proposal_at p.number p.ballot marks) refl
 
 pub turns_are_of_the_table : TurnsAreOfTheTable
-turns_are_of_the_table seat marks row (Offered n tape now) i = start_is seat n (Some tape) now marks row (let l : 1 ≤ seat.members = omega (arith, i.0, i.1) in l) (next row.promised seat.me) refl
+turns_are_of_the_table seat marks row (Offered n entry now) i = start_is seat n (Some entry) now marks row (let l : 1 ≤ seat.members = omega (arith, i.0, i.1) in l) (next row.promised seat.me) refl
 turns_are_of_the_table seat marks row (Sought n now) i = start_is seat n None now marks row (let l : 1 ≤ seat.members = omega (arith, i.0, i.1) in l) (next row.promised seat.me) refl
 turns_are_of_the_table seat marks row (Came_due n now) i = due_is seat n now marks row (let l : 1 ≤ seat.members = omega (arith, i.0, i.1) in l)
 turns_are_of_the_table seat marks row (Arrived p now) i = packet_is seat now marks row p p.body

@@ -2,7 +2,8 @@
 use Rattle.std.proofs.Common.{◌≡◌, ℕ, inl, inr, refl, sym, subst, ◌∙◌, List, ◌∷◌, Option, Some, None}
 use Rattle.protocol.specs.Seats.{Seat}
 use Rattle.protocol.specs.Ballots.{Ballot}
-use Rattle.protocol.specs.Rows.{Tape, Vote, Row}
+use Rattle.protocol.specs.Entries.{Entry}
+use Rattle.protocol.specs.Rows.{Vote, Row}
 use Rattle.protocol.specs.Packets.{Packet, Body, Prepare, Promise, Accept, Accepted, Nack}
 use Rattle.protocol.specs.Marks.{Mark, Began, Promised, Proposed, Denied, Heard, Closed, Released}
 use Rattle.protocol.specs.Readings.{IsReleased}
@@ -16,10 +17,10 @@ and_mark : (ms : List Mark) (x : Mark) (j : ℕ) → IsReleased ms j → IsRelea
 and_mark ms x j (t, i) = (t, inr i)
 
 -- what marks, a number's release and the marks after have to do with one another
-record Once (marks : List Mark) (n : ℕ) (release : Option Tape) (after : List Mark) : Type 0 where
+record Once (marks : List Mark) (n : ℕ) (release : Option Entry) (after : List Mark) : Type 0 where
   pub again : IsReleased marks n → release ≡ None
   pub stay : (j : ℕ) → IsReleased marks j → IsReleased after j
-  pub noted : (tape : Tape) → release ≡ Some tape → IsReleased after n
+  pub noted : (entry : Entry) → release ≡ Some entry → IsReleased after n
 
 of_turn : {marks : List Mark} {n : ℕ} (t : Turn) → Once marks n t.release t.marks → ReleasesOnce marks n t
 of_turn t h = record { again = h.again; stay = h.stay; noted = h.noted }
@@ -36,14 +37,14 @@ one_more : {marks : List Mark} (n : ℕ) (x : Mark) → Once marks n None (x ∷
 one_more n x = record { again = λ i. refl; stay = λ j i. and_mark _ x j i; noted = λ u e. cc }
 
 -- with a mark in between
-behind : {marks after : List Mark} {n : ℕ} {release : Option Tape} (x : Mark) → Once (x ∷ marks) n release after → Once marks n release after
+behind : {marks after : List Mark} {n : ℕ} {release : Option Entry} (x : Mark) → Once (x ∷ marks) n release after → Once marks n release after
 behind x h = record { again = λ i. h.again (and_mark _ x _ i); stay = λ j i. h.stay j (and_mark _ x j i); noted = h.noted }
 
 -- of a turn too
 turn_behind : {marks : List Mark} {n : ℕ} {t : Turn} (x : Mark) → ReleasesOnce (x ∷ marks) n t → ReleasesOnce marks n t
 turn_behind x h = record { again = λ i. h.again (and_mark _ x _ i); stay = λ j i. h.stay j (and_mark _ x j i); noted = h.noted }
 
-hears_once : {c n j : ℕ} {b : Ballot} {t : Tape} {marks after : List Mark} {release : Option Tape} → Hears c n j b t marks release after → Once marks n release after
+hears_once : {c n j : ℕ} {b : Ballot} {t : Entry} {marks after : List Mark} {release : Option Entry} → Hears c n j b t marks release after → Once marks n release after
 hears_once {n = n} {marks = marks} {after = after} (was_settled i er ea) =
     record { again = λ r. er; stay = λ k r. subst (λ (l : List Mark). IsReleased l k) (sym ea) r; noted = λ u e. subst (λ (l : List Mark). IsReleased l n) (sym ea) i }
 hears_once {n = n} {j = j} {b = b} {t = t} {marks = marks} (waits i w er ea) =
@@ -60,13 +61,13 @@ hears_once {n = n} {j = j} {b = b} {t = t} {marks = marks} (releases a u i ripe 
     }
 
 proposes_once :
-    {seat : Seat} {n : ℕ} {b : Ballot} {now : ℕ} {own : Option Tape} {report : Option Vote} {since : List Mark} {row : Row} {marks : List Mark} {t : Turn}
+    {seat : Seat} {n : ℕ} {b : Ballot} {now : ℕ} {own : Option Entry} {report : Option Vote} {since : List Mark} {row : Row} {marks : List Mark} {t : Turn}
     → Proposes seat n b now own report since row marks t → ReleasesOnce marks n t
 proposes_once {n = n} (nothing picks e) = by_turn _ e (one_more n (Closed n))
-proposes_once {n = n} {b = b} {now = now} (proposes tape release after picks hearing e) = by_turn _ e (behind (Proposed n b now) (hears_once hearing))
+proposes_once {n = n} {b = b} {now = now} (proposes entry release after picks hearing e) = by_turn _ e (behind (Proposed n b now) (hears_once hearing))
 
 begins_once :
-    {seat : Seat} {n : ℕ} {b : Ballot} {own : Option Tape} {now : ℕ} {row : Row} {marks : List Mark} {t : Turn} → Begins seat n b own now row marks t → ReleasesOnce marks n t
+    {seat : Seat} {n : ℕ} {b : Ballot} {own : Option Entry} {now : ℕ} {row : Row} {marks : List Mark} {t : Turn} → Begins seat n b own now row marks t → ReleasesOnce marks n t
 begins_once {n = n} {b = b} {own = own} {now = now} {row = row} (asks l e) = by_turn _ e (one_more n (Began n b own row.vote now))
 begins_once {n = n} {b = b} {own = own} {now = now} {row = row} (alone e proposing) = turn_behind (Began n b own row.vote now) (proposes_once proposing)
 
@@ -87,16 +88,16 @@ answer_once seat now marks row p Prepare t (promises free e) = by_turn _ e (same
 answer_once seat now marks row p Prepare t (is_silent same e) = by_turn _ e (same_marks p.number)
 answer_once seat now marks row p Prepare t (table.PrepareTurn.nacks a is up e) = by_turn _ e (same_marks p.number)
 answer_once seat now marks row p (Promise report) t taken = promise_once taken
-answer_once seat now marks row p (Accept tape) t (table.AcceptTurn.nacks a is up e) = by_turn _ e (same_marks p.number)
-answer_once seat now marks row p (Accept tape) t (votes_again own release after free at_it hearing e) = by_turn _ e (hears_once hearing)
-answer_once seat now marks row p (Accept tape) t (votes release after free unvoted hearing e) = by_turn _ e (hears_once hearing)
-answer_once seat now marks row p (Accepted tape) t (settles i e) = by_turn _ e (same_marks p.number)
-answer_once seat now marks row p (Accepted tape) t (hears release after i hearing e) = by_turn _ e (hears_once hearing)
+answer_once seat now marks row p (Accept entry) t (table.AcceptTurn.nacks a is up e) = by_turn _ e (same_marks p.number)
+answer_once seat now marks row p (Accept entry) t (votes_again own release after free at_it hearing e) = by_turn _ e (hears_once hearing)
+answer_once seat now marks row p (Accept entry) t (votes release after free unvoted hearing e) = by_turn _ e (hears_once hearing)
+answer_once seat now marks row p (Accepted entry) t (settles i e) = by_turn _ e (same_marks p.number)
+answer_once seat now marks row p (Accepted entry) t (hears release after i hearing e) = by_turn _ e (hears_once hearing)
 answer_once seat now marks row p (Nack a) t (table.NackTurn.is_stale i e) = by_turn _ e (same_marks p.number)
 answer_once seat now marks row p (Nack a) t (is_denied own mine since o e) = by_turn _ e (one_more p.number (Denied p.number a))
 
 turn_once : (seat : Seat) (marks : List Mark) (row : Row) (e : Event) (t : Turn) → IsTurn seat marks row e t → ReleasesOnce marks (number_of e) t
-turn_once seat marks row (Offered n tape now) t (starts b i begins) = begins_once begins
+turn_once seat marks row (Offered n entry now) t (starts b i begins) = begins_once begins
 turn_once seat marks row (Sought n now) t (starts b i begins) = begins_once begins
 turn_once seat marks row (Came_due n now) t taken = due_once taken
 turn_once seat marks row (Arrived p now) t taken = answer_once seat now marks row p p.body t taken

@@ -4,7 +4,8 @@ use Rattle.std.specs.Prelude.{◌==◌, ◌||◌, ◌&&◌, nat_lt, filter_map, 
 use Rattle.std.proofs.lemmas.Bool.{eqb-true, eq-eqb, ltb-true, ltb-false}
 use Rattle.std.proofs.lemmas.Bool.Decides.{nat_tests}
 use Rattle.protocol.specs.Ballots.{Ballot, IsBelow, IsAtMost, IsMember, Majority, members, is_same, is_below, is_majority}
-use Rattle.protocol.specs.Rows.{Tape, Vote}
+use Rattle.protocol.specs.Entries.{Entry}
+use Rattle.protocol.specs.Rows.{Vote}
 use Rattle.protocol.specs.Lists.{has, until, or_else, first, greatest, IsAmong}
 use Rattle.protocol.specs.Marks.{Mark, Began, Promised, Proposed, Denied, Heard, Closed, Released, begins, closes, releases, proposes}
 use Rattle.protocol.specs.Readings.{IsReleased, IsOpen, Gathers, IsCounted, Picks, the_reported, the_own, Latest, Ripe, GreatestDenied, undenied, denied_by, LastMoved, at_begin, at_propose}
@@ -38,7 +39,7 @@ impossible e = cc
 
 -- kinds of marks
 
-pub is_began : (n : ℕ) (x : Mark) → begins n x ≡ true → (b : Ballot) × (o : Option Tape) × (r : Option Vote) × (i : ℕ) × (x ≡ Began n b o r i)
+pub is_began : (n : ℕ) (x : Mark) → begins n x ≡ true → (b : Ballot) × (o : Option Entry) × (r : Option Vote) × (i : ℕ) × (x ≡ Began n b o r i)
 is_began n (Began k b o r i) e = (b, o, r, i, ap (λ j. Began j b o r i) (eqb-true k n e))
 is_began n (Promised k m b r) e = absurd (impossible e)
 is_began n (Proposed k b i) e = absurd (impossible e)
@@ -56,7 +57,7 @@ is_closed n (Denied k p) e = absurd (impossible e)
 is_closed n (Heard k m b t) e = absurd (impossible e)
 is_closed n (Released k t) e = absurd (impossible e)
 
-pub is_released : (n : ℕ) (x : Mark) → releases n x ≡ true → (t : Tape) × (x ≡ Released n t)
+pub is_released : (n : ℕ) (x : Mark) → releases n x ≡ true → (t : Entry) × (x ≡ Released n t)
 is_released n (Released k t) e = (t, ap (λ j. Released j t) (eqb-true k n e))
 is_released n (Began k b o r i) e = absurd (impossible e)
 is_released n (Promised k m b r) e = absurd (impossible e)
@@ -187,7 +188,7 @@ pub record ReadAs (marks : List Mark) (n : ℕ) (p : Opening) (since : List Mark
   pub read : open_proposal n marks ≡ Some p
   pub since_is : since_began n marks ≡ since
 
-pub open_read : (n : ℕ) (marks : List Mark) (b : Ballot) (o : Option Tape) (r : Option Vote) (since : List Mark) (h : IsOpen marks n b o r since) → ReadAs marks n (record { ballot = b; own = o; report = r; now = h.now }) since
+pub open_read : (n : ℕ) (marks : List Mark) (b : Ballot) (o : Option Entry) (r : Option Vote) (since : List Mark) (h : IsOpen marks n b o r since) → ReadAs marks n (record { ballot = b; own = o; report = r; now = h.now }) since
 open_read n marks b o r since h =
     let p : Opening = record { ballot = b; own = o; report = r; now = h.now } in
     let f : (first (opening_of n) (since ++ Began n b o r h.now ∷ h.before) ≡ Some p) × (until (begins n) (since ++ Began n b o r h.now ∷ h.before) ≡ since) =
@@ -215,7 +216,7 @@ where_is b (Some q) p e = go (is_same q.ballot b) refl
 pub proposal_is : (n : ℕ) (b : Ballot) (marks : List Mark) (p : Opening) → proposal_at n b marks ≡ Some p → (p.ballot ≡ b) × OpenAs marks n p
 proposal_is n b marks p e = let (f, g) = where_is b (open_proposal n marks) p e in (g, open_is n marks p f)
 
-pub proposal_none : (n : ℕ) (b : Ballot) (marks : List Mark) → proposal_at n b marks ≡ None → (own : Option Tape) (report : Option Vote) (since : List Mark) → ¬ IsOpen marks n b own report since
+pub proposal_none : (n : ℕ) (b : Ballot) (marks : List Mark) → proposal_at n b marks ≡ None → (own : Option Entry) (report : Option Vote) (since : List Mark) → ¬ IsOpen marks n b own report since
 proposal_none n b marks e own report since h =
     let r = open_read n marks b own report since h in
     let t : is_same b b ≡ true = same b in
@@ -237,7 +238,7 @@ gathering_is n b marks p e = go (has (proposes n b) (since_began n marks)) refl
           },
         )
 
-pub gathering_none : (n : ℕ) (b : Ballot) (marks : List Mark) → gathering_at n b marks ≡ None → (own : Option Tape) (report : Option Vote) (since : List Mark) → ¬ Gathers marks n b own report since
+pub gathering_none : (n : ℕ) (b : Ballot) (marks : List Mark) → gathering_at n b marks ≡ None → (own : Option Entry) (report : Option Vote) (since : List Mark) → ¬ Gathers marks n b own report since
 gathering_none n b marks e own report since h =
     let r = open_read n marks b own report since h.is_open in
     let t : has (proposes n b) (since_began n marks) ≡ false = has_none (proposes n b) (since_began n marks) (λ x i f. let (j, g) = is_proposed n b x f in h.unproposed j (subst (λ (y : Mark). IsAmong since y) g (subst (λ (l : List Mark). IsAmong l x) r.since_is i))) in
@@ -483,15 +484,15 @@ vote_order = record {
   level = λ x y z e f. above_order.level x.ballot y.ballot z.ballot e f;
 }
 
-vote_speaks : (n m : ℕ) (x : Mark) (v : Vote) → vote_of n m x ≡ Some v → x ≡ Heard n m v.ballot v.tape
+vote_speaks : (n m : ℕ) (x : Mark) (v : Vote) → vote_of n m x ≡ Some v → x ≡ Heard n m v.ballot v.entry
 vote_speaks n m (Heard k j b t) v e = go ((k == n) && (j == m)) refl
   where
-    go : (s : Bool) → ((k == n) && (j == m)) ≡ s → Heard k j b t ≡ Heard n m v.ballot v.tape
+    go : (s : Bool) → ((k == n) && (j == m)) ≡ s → Heard k j b t ≡ Heard n m v.ballot v.entry
     go true s =
-        let f : Some (record { ballot = b; tape = t }) ≡ Some v = rw s at e in
-        let g : record { ballot = b; tape = t } ≡ v = cc in
+        let f : Some (record { ballot = b; entry = t }) ≡ Some v = rw s at e in
+        let g : record { ballot = b; entry = t } ≡ v = cc in
         let (u, w) = both_true (k == n) (j == m) s in
-        ap (λ q. Heard q j b t) (eqb-true k n u) ∙ ap (λ q. Heard n q b t) (eqb-true j m w) ∙ ap (λ (q : Vote). Heard n m q.ballot q.tape) g
+        ap (λ q. Heard q j b t) (eqb-true k n u) ∙ ap (λ q. Heard n q b t) (eqb-true j m w) ∙ ap (λ (q : Vote). Heard n m q.ballot q.entry) g
     go false s = let f : None ≡ Some v = rw s at e in absurd (none_some f)
 vote_speaks n m (Began k a o r i) v e = absurd (none_some e)
 vote_speaks n m (Promised k j a r) v e = absurd (none_some e)
@@ -500,28 +501,28 @@ vote_speaks n m (Denied k p) v e = absurd (none_some e)
 vote_speaks n m (Closed k) v e = absurd (none_some e)
 vote_speaks n m (Released k t) v e = absurd (none_some e)
 
-vote_own : (n m : ℕ) (b : Ballot) (t : Tape) → vote_of n m (Heard n m b t) ≡ Some (record { ballot = b; tape = t })
+vote_own : (n m : ℕ) (b : Ballot) (t : Entry) → vote_of n m (Heard n m b t) ≡ Some (record { ballot = b; entry = t })
 vote_own n m b t = let e : (n == n) ≡ true = self n in let f : (m == m) ≡ true = self m in rw (e, f) refl
 
-pub latest_is : (n m : ℕ) (marks : List Mark) (v : Vote) → latest n marks m ≡ Some v → Latest marks n m v.ballot v.tape
+pub latest_is : (n m : ℕ) (marks : List Mark) (v : Vote) → latest n marks m ≡ Some v → Latest marks n m v.ballot v.entry
 latest_is n m marks v e =
     let s : Stands (vote_of n m) (λ (v u : Vote). is_below u.ballot v.ballot) marks v = greatest_stands (vote_of n m) (λ (v u : Vote). is_below u.ballot v.ballot) vote_order marks v e in
     record {
       after = s.after;
       before = s.before;
       heard = s.stands ∙ ap (λ (y : Mark). s.after ++ y ∷ s.before) (vote_speaks n m s.item v s.gives);
-      above_before = λ a u i. is_below-true a v.ballot (s.above_before (Heard n m a u) (record { ballot = a; tape = u }) i (vote_own n m a u));
-      above_after = λ a u i. is_below-false v.ballot a (s.above_after (Heard n m a u) (record { ballot = a; tape = u }) i (vote_own n m a u));
+      above_before = λ a u i. is_below-true a v.ballot (s.above_before (Heard n m a u) (record { ballot = a; entry = u }) i (vote_own n m a u));
+      above_after = λ a u i. is_below-false v.ballot a (s.above_after (Heard n m a u) (record { ballot = a; entry = u }) i (vote_own n m a u));
     }
 
 -- a latest vote is read, at its ballot
-pub latest_at : (n m : ℕ) (marks : List Mark) (b : Ballot) (t : Tape) → Latest marks n m b t → (v : Vote) × (latest n marks m ≡ Some v) × (v.ballot ≡ b)
+pub latest_at : (n m : ℕ) (marks : List Mark) (b : Ballot) (t : Entry) → Latest marks n m b t → (v : Vote) × (latest n marks m ≡ Some v) × (v.ballot ≡ b)
 latest_at n m marks b t l = go (latest n marks m) refl
   where
-    heard : IsAmong (filter_map (vote_of n m) marks) (record { ballot = b; tape = t })
-    heard = filter_map_among (vote_of n m) marks (Heard n m b t) (record { ballot = b; tape = t }) (among_split marks l.after l.before (Heard n m b t) l.heard) (vote_own n m b t)
+    heard : IsAmong (filter_map (vote_of n m) marks) (record { ballot = b; entry = t })
+    heard = filter_map_among (vote_of n m) marks (Heard n m b t) (record { ballot = b; entry = t }) (among_split marks l.after l.before (Heard n m b t) l.heard) (vote_own n m b t)
 
-    at_most : (a : Ballot) (u : Tape) → IsAmong (l.after ++ Heard n m b t ∷ l.before) (Heard n m a u) → IsAtMost a b
+    at_most : (a : Ballot) (u : Entry) → IsAmong (l.after ++ Heard n m b t ∷ l.before) (Heard n m a u) → IsAtMost a b
     at_most a u i = elim (among-append l.after (Heard n m b t ∷ l.before) (Heard n m a u) i) [
       | inl j ↦ l.above_after a u j
       | inr j ↦ elim j [ inl e ↦ same_at_most e | inr k ↦ below_weaken a b (l.above_before a u k) ]
@@ -531,12 +532,12 @@ latest_at n m marks b t l = go (latest n marks m) refl
         same_at_most e = let f : a ≡ b = cc in subst (λ (x : Ballot). IsAtMost a x) f (at_most_refl a)
 
     go : (r : Option Vote) → latest n marks m ≡ r → (v : Vote) × (latest n marks m ≡ Some v) × (v.ballot ≡ b)
-    go None e = absurd (greatest_none (λ (v u : Vote). is_below u.ballot v.ballot) (filter_map (vote_of n m) marks) (record { ballot = b; tape = t }) e heard)
+    go None e = absurd (greatest_none (λ (v u : Vote). is_below u.ballot v.ballot) (filter_map (vote_of n m) marks) (record { ballot = b; entry = t }) e heard)
     go (Some v) e =
         let top : IsTop (λ (v u : Vote). is_below u.ballot v.ballot) (filter_map (vote_of n m) marks) v = greatest_top (λ (v u : Vote). is_below u.ballot v.ballot) vote_order (filter_map (vote_of n m) marks) v e in
         let (x, i, f) = among_filter_map (vote_of n m) marks v top.is_among in
-        let below : IsAtMost v.ballot b = at_most v.ballot v.tape (subst (λ (l : List Mark). IsAmong l (Heard n m v.ballot v.tape)) l.heard (subst (λ (y : Mark). IsAmong marks y) (vote_speaks n m x v f) i)) in
-        let over : IsAtMost b v.ballot = at_most_otherwise v.ballot b (λ k. top.none_above (record { ballot = b; tape = t }) heard (below-is v.ballot b k)) in
+        let below : IsAtMost v.ballot b = at_most v.ballot v.entry (subst (λ (l : List Mark). IsAmong l (Heard n m v.ballot v.entry)) l.heard (subst (λ (y : Mark). IsAmong marks y) (vote_speaks n m x v f) i)) in
+        let over : IsAtMost b v.ballot = at_most_otherwise v.ballot b (λ k. top.none_above (record { ballot = b; entry = t }) heard (below-is v.ballot b k)) in
         (v, e, both_at_most v.ballot b below over)
 
 -- the first of the members that passes
@@ -594,37 +595,37 @@ found_member (suc c) f p =
 abbrev stands_at : ℕ → List Mark → Ballot → ℕ → Bool
 stands_at n marks b m = votes_at b (latest n marks m)
 
-at_ballot : (n m : ℕ) (marks : List Mark) (b : Ballot) → votes_at b (latest n marks m) ≡ true → (u : Tape) × Latest marks n m b u
+at_ballot : (n m : ℕ) (marks : List Mark) (b : Ballot) → votes_at b (latest n marks m) ≡ true → (u : Entry) × Latest marks n m b u
 at_ballot n m marks b e = go (latest n marks m) refl
   where
-    go : (r : Option Vote) → latest n marks m ≡ r → (u : Tape) × Latest marks n m b u
+    go : (r : Option Vote) → latest n marks m ≡ r → (u : Entry) × Latest marks n m b u
     go None f = let g : false ≡ true = rw f at e in absurd (impossible g)
     go (Some v) f =
         let g : is_same v.ballot b ≡ true = rw f at e in
-        (v.tape, subst (λ (a : Ballot). Latest marks n m a v.tape) (is_same-true v.ballot b g) (latest_is n m marks v f))
+        (v.entry, subst (λ (a : Ballot). Latest marks n m a v.entry) (is_same-true v.ballot b g) (latest_is n m marks v f))
 
-stands : (n m : ℕ) (marks : List Mark) (b : Ballot) (t : Tape) → Latest marks n m b t → stands_at n marks b m ≡ true
+stands : (n m : ℕ) (marks : List Mark) (b : Ballot) (t : Entry) → Latest marks n m b t → stands_at n marks b m ≡ true
 stands n m marks b t l = let (v, e, f) = latest_at n m marks b t l in rw e (is_same-self v.ballot b f)
 
 abbrev is_ripe : ℕ → ℕ → List Mark → Vote → Bool
 is_ripe c n marks v = is_majority c (stands_at n marks v.ballot)
 
-pub ripe_is : (c n : ℕ) (marks : List Mark) (v : Vote) → ripe c n marks ≡ Some v → Ripe c marks n v.ballot v.tape
+pub ripe_is : (c n : ℕ) (marks : List Mark) (v : Vote) → ripe c n marks ≡ Some v → Ripe c marks n v.ballot v.entry
 ripe_is c n marks v e = of_least (subst (FoundAs c (latest n marks) (is_ripe c n marks)) e (found_member c (latest n marks) (is_ripe c n marks)))
   where
-    of_least : LeastMember c (latest n marks) (is_ripe c n marks) v → Ripe c marks n v.ballot v.tape
+    of_least : LeastMember c (latest n marks) (is_ripe c n marks) v → Ripe c marks n v.ballot v.entry
     of_least l = record {
-      many = majority_of c (stands_at n marks v.ballot) (λ m. (u : Tape) × Latest marks n m v.ballot u) (λ m i t. at_ballot n m marks v.ballot t) l.passes;
+      many = majority_of c (stands_at n marks v.ballot) (λ m. (u : Entry) × Latest marks n m v.ballot u) (λ m i t. at_ballot n m marks v.ballot t) l.passes;
       least = l.least;
       is_member = l.is_member;
       is_latest = latest_is n l.least marks v l.gives;
       is_least = λ m u i k. least m u i k (latest_at n m marks v.ballot u k);
     }
       where
-        least : (m : ℕ) (u : Tape) → IsMember c m → Latest marks n m v.ballot u → (w : Vote) × (latest n marks m ≡ Some w) × (w.ballot ≡ v.ballot) → l.least ≤ m
+        least : (m : ℕ) (u : Entry) → IsMember c m → Latest marks n m v.ballot u → (w : Vote) × (latest n marks m ≡ Some w) × (w.ballot ≡ v.ballot) → l.least ≤ m
         least m u i k (w, f, g) = l.is_least m w i f (subst (λ (b : Ballot). is_majority c (stands_at n marks b) ≡ true) (sym g) l.passes)
 
-pub ripe_none : (c n : ℕ) (marks : List Mark) → ripe c n marks ≡ None → (b : Ballot) (t : Tape) → ¬ Ripe c marks n b t
+pub ripe_none : (c n : ℕ) (marks : List Mark) → ripe c n marks ≡ None → (b : Ballot) (t : Entry) → ¬ Ripe c marks n b t
 ripe_none c n marks e b t r = of_none (subst (FoundAs c (latest n marks) (is_ripe c n marks)) e (found_member c (latest n marks) (is_ripe c n marks)))
   where
     of_none : NoMember c (latest n marks) (is_ripe c n marks) → ⊥
@@ -632,7 +633,7 @@ ripe_none c n marks e b t r = of_none (subst (FoundAs c (latest n marks) (is_rip
       where
         majority : (x : Bool) → is_majority c (stands_at n marks b) ≡ x → is_majority c (stands_at n marks b) ≡ true
         majority true f = f
-        majority false f = absurd (no_majority_of c (stands_at n marks b) (λ m. (u : Tape) × Latest marks n m b u) (λ m i k. stands n m marks b k.0 k.1) f r.many)
+        majority false f = absurd (no_majority_of c (stands_at n marks b) (λ m. (u : Entry) × Latest marks n m b u) (λ m i k. stands n m marks b k.0 k.1) f r.many)
 
         go : (w : Vote) × (latest n marks r.least ≡ Some w) × (w.ballot ≡ b) → ⊥
         go (w, f, g) = none.no_one r.least w r.is_member f (subst (λ (a : Ballot). is_majority c (stands_at n marks a) ≡ true) (sym g) (majority (is_majority c (stands_at n marks b)) refl))

@@ -3,7 +3,8 @@ use Rattle.std.proofs.Common.{◌≡◌, List, [], ◌∷◌, ◌++◌, Bool, tr
 use Rattle.std.specs.List.{list_any}
 use Rattle.std.proofs.lemmas.List.{append-nil}
 use Rattle.protocol.specs.Ballots.{Ballot, is_below, is_same}
-use Rattle.protocol.specs.Rows.{Tape, Vote, vote_for, voted}
+use Rattle.protocol.specs.Entries.{Entry}
+use Rattle.protocol.specs.Rows.{Vote, vote_for, voted}
 use Rattle.protocol.specs.Acceptor.{Request, Prepares, Accepts, Votes, Votes_again, ballot_of, higher, greatest_from, greatest_ballot, has_above, votes_after, votes_of, later, greatest_vote_from, greatest_vote, row_after, is_above, vote_is_at, has_vote_at, nack_of, reply_of, next_row, reply_after, StepsAreOfTheWhole}
 use Rattle.protocol.proofs.Order.{or_false, or_assoc, or_parts, below_later, not_both, same_where, same_after, below_where, not_below_same, irrefl, below_at}
 
@@ -108,7 +109,7 @@ higher_stays : (o : Option Ballot) (b : Ballot) → is_above o b ≡ true → hi
 higher_stays None b h = absurd cc
 higher_stays (Some p) b h = rw (not_both p b h) refl
 
-later_is : (o : Option Vote) (b : Ballot) (t : Tape) → vote_is_above o b ≡ false → later o (vote_for b t) ≡ cond (vote_is_at o b) o (Some (vote_for b t))
+later_is : (o : Option Vote) (b : Ballot) (t : Entry) → vote_is_above o b ≡ false → later o (vote_for b t) ≡ cond (vote_is_at o b) o (Some (vote_for b t))
 later_is None b t h = refl
 later_is (Some w) b t h =
     elim (is_same w.ballot b) as (λ q. is_same w.ballot b ≡ q → later (Some w) (vote_for b t) ≡ cond q (Some w) (Some (vote_for b t))) [
@@ -117,7 +118,7 @@ later_is (Some w) b t h =
     ] refl
 
 -- the vote after an accept
-voted_more : (before : List Request) (b : Ballot) (t : Tape) → greatest_vote (votes_of (before ++ Accepts b t ∷ [])) ≡ cond (is_above (greatest_ballot before) b) (greatest_vote (votes_of before)) (cond (vote_is_at (greatest_vote (votes_of before)) b) (greatest_vote (votes_of before)) (Some (vote_for b t)))
+voted_more : (before : List Request) (b : Ballot) (t : Entry) → greatest_vote (votes_of (before ++ Accepts b t ∷ [])) ≡ cond (is_above (greatest_ballot before) b) (greatest_vote (votes_of before)) (cond (vote_is_at (greatest_vote (votes_of before)) b) (greatest_vote (votes_of before)) (Some (vote_for b t)))
 voted_more before b t =
     let f = facts before b in
     rw (votes_more [] before (Accepts b t)) (

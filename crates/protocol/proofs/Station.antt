@@ -2,7 +2,8 @@
 use Rattle.std.proofs.Common.{◌≡◌, ℕ, ◌⊎◌, inl, inr, sym, ap, subst, ◌∙◌, List, [], ◌∷◌, Option, Some}
 use Rattle.protocol.specs.Seats.{Seat}
 use Rattle.protocol.specs.Ballots.{Ballot, IsAtMost, IsNoneOrBelow, IsNoneOrAtMost, Majority}
-use Rattle.protocol.specs.Rows.{Tape, Vote, Row, raised}
+use Rattle.protocol.specs.Entries.{Entry}
+use Rattle.protocol.specs.Rows.{Vote, Row, raised}
 use Rattle.protocol.specs.Packets.{Packet}
 use Rattle.protocol.specs.Marks.{Mark, Began, Heard, Released}
 use Rattle.protocol.specs.Lists.{IsAmong}
@@ -45,7 +46,7 @@ at_raise {z = z} {V = V} {row = row} b h free = record { sound = raise h.sound (
 
 pub at_mark :
     {z : Setting} {V : Votes} {row : Row} {ms : List Mark} (x : Mark) → At z V row ms → MarkHolds V (rows_with z row) z.offers z.seat.me x
-    → ((n : ℕ) (b : Ballot) (own : Option Tape) (report : Option Vote) (now : ℕ) → x ≡ Began n b own report now → NoVote V z.seat.me n b)
+    → ((n : ℕ) (b : Ballot) (own : Option Entry) (report : Option Vote) (now : ℕ) → x ≡ Began n b own report now → NoVote V z.seat.me n b)
     → At z V row (x ∷ ms)
 at_mark {z = z} {V = V} {row = row} {ms = ms} x h holds unvoted = record { sound = mark h.sound (with_at z.marks z.seat.me (x ∷ ms)) change }
   where
@@ -62,28 +63,28 @@ at_mark {z = z} {V = V} {row = row} {ms = ms} x h holds unvoted = record { sound
 
 -- what the station's own row says
 
-pub row_kept : {z : Setting} {V : Votes} {row : Row} {ms : List Mark} (v : Vote) → At z V row ms → row.vote ≡ Some v → V z.seat.me z.number v.ballot v.tape
+pub row_kept : {z : Setting} {V : Votes} {row : Row} {ms : List Mark} (v : Vote) → At z V row ms → row.vote ≡ Some v → V z.seat.me z.number v.ballot v.entry
 row_kept {z = z} {row = row} v h e = h.sound.kept z.seat.me z.number v (ap (λ x. x.vote) (saved-same z.rows z.seat.me z.number row) ∙ e)
 
 pub row_valid : {z : Setting} {V : Votes} {row : Row} {ms : List Mark} (v : Vote) → At z V row ms → row.vote ≡ Some v → IsPromisedTo row v.ballot
 row_valid {z = z} {row = row} v h e =
     subst (λ (x : Row). IsPromisedTo x v.ballot) (saved-same z.rows z.seat.me z.number row) (h.sound.valid z.seat.me z.number v (ap (λ x. x.vote) (saved-same z.rows z.seat.me z.number row) ∙ e))
 
-pub row_last : {z : Setting} {V : Votes} {row : Row} {ms : List Mark} (b : Ballot) (t : Tape) → At z V row ms → V z.seat.me z.number b t → (v : Vote) × (row.vote ≡ Some v) × IsAtMost b v.ballot
+pub row_last : {z : Setting} {V : Votes} {row : Row} {ms : List Mark} (b : Ballot) (t : Entry) → At z V row ms → V z.seat.me z.number b t → (v : Vote) × (row.vote ≡ Some v) × IsAtMost b v.ballot
 row_last {z = z} {row = row} b t h v = let l = h.sound.last z.seat.me z.number b t v in (l.0, sym (ap (λ x. x.vote) (saved-same z.rows z.seat.me z.number row)) ∙ l.1, l.2)
 
 pub marks_hold : {z : Setting} {V : Votes} {row : Row} {ms : List Mark} (x : Mark) → At z V row ms → IsAmong ms x → MarkHolds V (rows_with z row) z.offers z.seat.me x
 marks_hold {z = z} {ms = ms} x h i = h.sound.marked z.seat.me x (subst (λ (l : List Mark). IsAmong l x) (sym (with_at-same z.marks z.seat.me ms)) i)
 
 pub gather_unvoted :
-    {z : Setting} {V : Votes} {row : Row} {ms : List Mark} {n : ℕ} {b : Ballot} {own : Option Tape} {report : Option Vote} {since : List Mark}
+    {z : Setting} {V : Votes} {row : Row} {ms : List Mark} {n : ℕ} {b : Ballot} {own : Option Entry} {report : Option Vote} {since : List Mark}
     → At z V row ms → Gathers ms n b own report since → NoVote V z.seat.me n b
 gather_unvoted {z = z} {ms = ms} {n = n} {b = b} {own = own} {report = report} {since = since} h g =
     (h.sound.gathering z.seat.me).unvoted n b own report g.is_open.now since g.is_open.before (with_at-same z.marks z.seat.me ms ∙ g.is_open.began) g.unproposed
 
--- all votes of one number and ballot carry one tape
-pub one_tape : {z : Setting} {V : Votes} {row : Row} {ms : List Mark} (k j n : ℕ) (b : Ballot) (t u : Tape) → At z V row ms → V k n b t → V j n b u → t ≡ u
-one_tape k j n b t u h v w = h.sound.one b.owner n b t u (h.sound.owned k n b t v) (h.sound.owned j n b u w)
+-- all votes of one number and ballot carry one entry
+pub one_entry : {z : Setting} {V : Votes} {row : Row} {ms : List Mark} (k j n : ℕ) (b : Ballot) (t u : Entry) → At z V row ms → V k n b t → V j n b u → t ≡ u
+one_entry k j n b t u h v w = h.sound.one b.owner n b t u (h.sound.owned k n b t v) (h.sound.owned j n b u w)
 
 -- a ballot above the promise has no vote of ours
 pub unvoted_above : {z : Setting} {V : Votes} {row : Row} {ms : List Mark} (b : Ballot) → At z V row ms → IsNoneOrBelow row.promised b → NoVote V z.seat.me z.number b
@@ -101,13 +102,13 @@ promise_now {z = z} {row = row} b h free = record {
 }
 
 pub at_begin :
-    {z : Setting} {V : Votes} {row : Row} {ms : List Mark} (b : Ballot) (own : Option Tape) (now : ℕ) → At z V row ms → IsNoneOrBelow row.promised b → b.owner ≡ z.seat.me
-    → ((t : Tape) → own ≡ Some t → IsOffered z.offers z.number t)
+    {z : Setting} {V : Votes} {row : Row} {ms : List Mark} (b : Ballot) (own : Option Entry) (now : ℕ) → At z V row ms → IsNoneOrBelow row.promised b → b.owner ≡ z.seat.me
+    → ((t : Entry) → own ≡ Some t → IsOffered z.offers z.number t)
     → At z V (raised row b) (Began z.number b own row.vote now ∷ ms)
 at_begin {z = z} {V = V} {row = row} b own now h free owner offered =
     at_mark (Began z.number b own row.vote now) (at_raise b h (below_to_at_most row.promised b free)) (owner, promise_now b h free, offered) unvoted
   where
-    unvoted : (n : ℕ) (a : Ballot) (o : Option Tape) (r : Option Vote) (i : ℕ) → Began z.number b own row.vote now ≡ Began n a o r i → NoVote V z.seat.me n a
+    unvoted : (n : ℕ) (a : Ballot) (o : Option Entry) (r : Option Vote) (i : ℕ) → Began z.number b own row.vote now ≡ Began n a o r i → NoVote V z.seat.me n a
     unvoted n a o r i e =
         let en : z.number ≡ n = cc in
         let eb : b ≡ a = cc in
@@ -116,9 +117,9 @@ at_begin {z = z} {V = V} {row = row} b own now h free owner offered =
 -- a vote is heard
 
 pub at_hear :
-    {z : Setting} {V : Votes} {row : Row} {ms : List Mark} (k : ℕ) (b : Ballot) (t : Tape) (release : Option Tape) (after : List Mark)
+    {z : Setting} {V : Votes} {row : Row} {ms : List Mark} (k : ℕ) (b : Ballot) (t : Entry) (release : Option Entry) (after : List Mark)
     → At z V row ms → V k z.number b t → Hears z.seat.members z.number k b t ms release after
-    → At z V row after × ((u : Tape) → release ≡ Some u → (a : Ballot) × Majority z.seat.members (λ m. V m z.number a u))
+    → At z V row after × ((u : Entry) → release ≡ Some u → (a : Ballot) × Majority z.seat.members (λ m. V m z.number a u))
 at_hear {z = z} {V = V} {row = row} {ms = ms} k b t release after h v hears = (stands, chosen)
   where
     with_heard : At z V row (Heard z.number k b t ∷ ms)
@@ -134,17 +135,17 @@ at_hear {z = z} {V = V} {row = row} {ms = ms} k b t release after h v hears = (s
       | releases a u i j e f ↦ move (Released z.number u ∷ Heard z.number k b t ∷ ms) f (at_mark (Released z.number u) with_heard tt (λ n a o r i e. cc))
     ]
 
-    latest_held : (m : ℕ) (a : Ballot) (u : Tape) → Latest (Heard z.number k b t ∷ ms) z.number m a u → V m z.number a u
+    latest_held : (m : ℕ) (a : Ballot) (u : Entry) → Latest (Heard z.number k b t ∷ ms) z.number m a u → V m z.number a u
     latest_held m a u l = marks_hold (Heard z.number m a u) with_heard (among_split (Heard z.number k b t ∷ ms) l.after l.before (Heard z.number m a u) l.heard)
 
-    ripe_chosen : (a : Ballot) (u : Tape) → Ripe z.seat.members (Heard z.number k b t ∷ ms) z.number a u → Majority z.seat.members (λ m. V m z.number a u)
+    ripe_chosen : (a : Ballot) (u : Entry) → Ripe z.seat.members (Heard z.number k b t ∷ ms) z.number a u → Majority z.seat.members (λ m. V m z.number a u)
     ripe_chosen a u ripe =
         let least : V ripe.least z.number a u = latest_held ripe.least a u ripe.is_latest in
-        weaker (λ m i w. subst (λ (x : Tape). V m z.number a x) (one_tape m ripe.least z.number a w.0 u with_heard (latest_held m a w.0 w.1) least) (latest_held m a w.0 w.1)) ripe.many
+        weaker (λ m i w. subst (λ (x : Entry). V m z.number a x) (one_entry m ripe.least z.number a w.0 u with_heard (latest_held m a w.0 w.1) least) (latest_held m a w.0 w.1)) ripe.many
 
-    chosen : (u : Tape) → release ≡ Some u → (a : Ballot) × Majority z.seat.members (λ m. V m z.number a u)
+    chosen : (u : Entry) → release ≡ Some u → (a : Ballot) × Majority z.seat.members (λ m. V m z.number a u)
     chosen u e = elim hears [
       | was_settled i f g ↦ cc
       | waits i j f g ↦ cc
-      | releases a w i j f g ↦ let same : w ≡ u = some_inj (sym f ∙ e) in (a, subst (λ (x : Tape). Majority z.seat.members (λ m. V m z.number a x)) same (ripe_chosen a w j))
+      | releases a w i j f g ↦ let same : w ≡ u = some_inj (sym f ∙ e) in (a, subst (λ (x : Entry). Majority z.seat.members (λ m. V m z.number a x)) same (ripe_chosen a w j))
     ]

@@ -3,7 +3,8 @@ use Rattle.std.proofs.Common.{◌≡◌, ℕ, ◌⊎◌, inl, inr, refl, sym, ap
 use Rattle.std.specs.Prelude.{◌==◌, ◌-◌, Result, Ok, Err}
 use Rattle.std.specs.List.{AllZip}
 use Rattle.protocol.specs.Ballots.{Ballot, Majority, IsMember}
-use Rattle.protocol.specs.Rows.{Tape, Vote, vote_for, Row}
+use Rattle.protocol.specs.Entries.{Entry}
+use Rattle.protocol.specs.Rows.{Vote, vote_for, Row}
 use Rattle.protocol.specs.Packets.{Packet}
 use Rattle.protocol.specs.Versions.{Version, One, Two}
 use Rattle.protocol.specs.Marks.{Mark, Began}
@@ -62,29 +63,29 @@ all_go z v (p ∷ ps) (d ∷ ds) h = ((h.0.0, spelled_heard z v d.bytes p h.0.1)
 
 -- t stands among the releases for n
 abbrev pub released_in : {G F : Type 0} → List (Release G F) → Releases
-released_in {G = G} {F = F} releases n t = (x : Release G F) × IsAmong releases x × (x.number ≡ n) × (x.tape ≡ t)
+released_in {G = G} {F = F} releases n t = (x : Release G F) × IsAmong releases x × (x.number ≡ n) × (x.entry ≡ t)
 
 -- a state whose datagrams spell packets, which with the rest are sound, and whose releases are set as their member sets them
 pub record SoundState {D G F : Type 0} (z : Circuit D G F) (V : Votes) (w : State G F) : Type 0 where
   pub packets : List Packet
   pub spelled : AllZip (Goes z) packets w.sent
   pub sound : Sound z.count V w.rows w.marks packets w.offers (released_in w.releases)
-  pub set : (x : Release G F) → IsAmong w.releases x → x.set ≡ z.sets x.member x.tape
+  pub set : (x : Release G F) → IsAmong w.releases x → x.set ≡ z.sets x.member x.entry
 
 -- the votes before, and those that the state after holds
 pub record Follows {G F : Type 0} (V W : Votes) (after : State G F) : Type 0 where
-  pub stay : (m n : ℕ) (b : Ballot) (t : Tape) → V m n b t → W m n b t
-  pub taken : (m n : ℕ) (b : Ballot) (t : Tape) → HoldsVote after m n b t → W m n b t
-  pub only : (m n : ℕ) (b : Ballot) (t : Tape) → W m n b t → V m n b t ⊎ HoldsVote after m n b t
+  pub stay : (m n : ℕ) (b : Ballot) (t : Entry) → V m n b t → W m n b t
+  pub taken : (m n : ℕ) (b : Ballot) (t : Entry) → HoldsVote after m n b t → W m n b t
+  pub only : (m n : ℕ) (b : Ballot) (t : Entry) → W m n b t → V m n b t ⊎ HoldsVote after m n b t
 
 -- what is sound of the votes of the state after makes it a sound state
 settle :
     {D G F : Type 0} {z : Circuit D G F} {V X : Votes} (W : Votes) (after : State G F) (packets : List Packet) → Follows V W after
     → AllZip (Goes z) packets after.sent
     → Sound z.count X after.rows after.marks packets after.offers (released_in after.releases)
-    → ((m n : ℕ) (b : Ballot) (t : Tape) → V m n b t → X m n b t)
-    → ((m n : ℕ) (b : Ballot) (t : Tape) → X m n b t → V m n b t ⊎ VotedAt (after.rows m n) b t)
-    → ((x : Release G F) → IsAmong after.releases x → x.set ≡ z.sets x.member x.tape)
+    → ((m n : ℕ) (b : Ballot) (t : Entry) → V m n b t → X m n b t)
+    → ((m n : ℕ) (b : Ballot) (t : Entry) → X m n b t → V m n b t ⊎ VotedAt (after.rows m n) b t)
+    → ((x : Release G F) → IsAmong after.releases x → x.set ≡ z.sets x.member x.entry)
     → SoundState z W after
 settle W after packets f spelled s grows held set = record {
   packets = packets;
@@ -104,21 +105,21 @@ clear :
 clear {marks = marks} m s = mark s (with_at marks m []) (λ k. elim (cleared marks m k) [ inl e ↦ inl e | inr e ↦ inr (inl e) ])
 
 more_offers : (offers : List Offer) (m : ℕ) (e : Event) (x : Offer) → IsAmong offers x → IsAmong (offers_with offers m e) x
-more_offers offers m (Offered n tape now) x i = among_left offers (record { member = m; number = n; tape = tape } ∷ []) x i
+more_offers offers m (Offered n entry now) x i = among_left offers (record { member = m; number = n; entry = entry } ∷ []) x i
 more_offers offers m (Sought n now) x i = i
 more_offers offers m (Came_due n now) x i = i
 more_offers offers m (Arrived p now) x i = i
 
 more_releases :
-    {D G F : Type 0} (z : Circuit D G F) (releases : List (Release G F)) (m n : ℕ) (r : Option Tape) (x : Release G F) → IsAmong (releases_with z releases m n r) x
-    → IsAmong releases x ⊎ (r ≡ Some x.tape) × (x.number ≡ n) × (x.set ≡ z.sets x.member x.tape)
+    {D G F : Type 0} (z : Circuit D G F) (releases : List (Release G F)) (m n : ℕ) (r : Option Entry) (x : Release G F) → IsAmong (releases_with z releases m n r) x
+    → IsAmong releases x ⊎ (r ≡ Some x.entry) × (x.number ≡ n) × (x.set ≡ z.sets x.member x.entry)
 more_releases z releases m n None x i = inl i
-more_releases {G = G} {F = F} z releases m n (Some t) x i = elim (among-append releases (record { member = m; number = n; tape = t; set = z.sets m t } ∷ []) x i) [
+more_releases {G = G} {F = F} z releases m n (Some t) x i = elim (among-append releases (record { member = m; number = n; entry = t; set = z.sets m t } ∷ []) x i) [
   | inl h ↦ inl h
-  | inr h ↦ elim h [ inl e ↦ inr (ap (λ (y : Release G F). Some y.tape) (sym e), ap (λ (y : Release G F). y.number) e, set_so e) | inr none ↦ absurd none ]
+  | inr h ↦ elim h [ inl e ↦ inr (ap (λ (y : Release G F). Some y.entry) (sym e), ap (λ (y : Release G F). y.number) e, set_so e) | inr none ↦ absurd none ]
 ]
   where
-    set_so : {y : Release G F} → y ≡ record { member = m; number = n; tape = t; set = z.sets m t } → y.set ≡ z.sets y.member y.tape
+    set_so : {y : Release G F} → y ≡ record { member = m; number = n; entry = t; set = z.sets m t } → y.set ≡ z.sets y.member y.entry
     set_so e = rw e refl
 
 -- the packet that a datagram among them spells is one of the packets
@@ -158,7 +159,7 @@ delivered sent (Some d) i j m bytes among e =
     bytes_same e = cc
 
 received_sent : (sent : List Datagram) (s : Step) (m : ℕ) (bytes : List ℕ) (j : ℕ) → task_of sent s ≡ Some (record { member = m; call = Receiving bytes j }) → (d : Datagram) × IsAmong sent d × (d.bytes ≡ bytes)
-received_sent sent (Offers k n tape i) m bytes j e = let other : Offering n tape i ≡ Receiving bytes j = ap (λ (x : Task). x.call) (some_inj e) in cc
+received_sent sent (Offers k n entry i) m bytes j e = let other : Offering n entry i ≡ Receiving bytes j = ap (λ (x : Task). x.call) (some_inj e) in cc
 received_sent sent (Seeks k n i) m bytes j e = let other : Seeking n i ≡ Receiving bytes j = ap (λ (x : Task). x.call) (some_inj e) in cc
 received_sent sent (Falls_due k i) m bytes j e = let other : Falling_due i ≡ Receiving bytes j = ap (λ (x : Task). x.call) (some_inj e) in cc
 received_sent sent (Delivers k i) m bytes j e = delivered sent (datagram_at sent k) i j m bytes (λ d f. datagram_among sent k d f) e
@@ -179,7 +180,7 @@ due_arrives (Some n) i p now e = cc
 arrived_sent :
     {D G F : Type 0} (z : Circuit D G F) (w : State G F) (s : Step) (m : ℕ) (call : Call) (p : Packet) (now : ℕ) (packets : List Packet) → AllZip (Goes z) packets w.sent
     → task_of w.sent s ≡ Some (record { member = m; call = call }) → event_of (setup_of z (w.version m) m) (w.marks m) call ≡ Some (Arrived p now) → IsAmong packets p
-arrived_sent z w s m (Offering n tape i) p now ps e task event = cc
+arrived_sent z w s m (Offering n entry i) p now ps e task event = cc
 arrived_sent z w s m (Seeking n i) p now ps e task event = cc
 arrived_sent z w s m (Falling_due i) p now ps e task event = absurd (due_arrives (next_due m i (w.marks m)) i p now event)
 arrived_sent z w s m (Receiving bytes i) p now ps e task event =
@@ -195,7 +196,7 @@ event_holds :
     → task_of w.sent s ≡ Some (record { member = m; call = call }) → event_of (setup_of z (w.version m) m) (w.marks m) call ≡ Some e
     → ((p : Packet) → IsAmong packets p → PacketHolds V rows p)
     → EventHolds V rows (offers_with w.offers m e) e
-event_holds z V w s m call (Offered n tape now) rows ps same task event sent = (m, among_right w.offers (record { member = m; number = n; tape = tape } ∷ []) (record { member = m; number = n; tape = tape }) (inl refl))
+event_holds z V w s m call (Offered n entry now) rows ps same task event sent = (m, among_right w.offers (record { member = m; number = n; entry = entry } ∷ []) (record { member = m; number = n; entry = entry }) (inl refl))
 event_holds z V w s m call (Sought n now) rows ps same task event sent = tt
 event_holds z V w s m call (Came_due n now) rows ps same task event sent = tt
 event_holds z V w s m call (Arrived p now) rows ps same task event sent = sent p (arrived_sent z w s m call p now ps same task event)
@@ -242,7 +243,7 @@ done_sound {G = G} {F = F} {z = z} {V = V} W w m e t out after h ts carried is f
     went_out : Sound z.count ts.votes end.rows end.marks (h.packets ++ t.out) end.offers (released_in w.releases)
     went_out = send ts.stands.sound (h.packets ++ t.out) (λ p i. elim (among-append h.packets t.out p i) [ inl x ↦ inl x | inr x ↦ inr (ts.out p x) ])
 
-    adds : (n : ℕ) (u : Tape) → released_in end.releases n u → released_in w.releases n u ⊎ ((b : Ballot) × Majority z.count (λ k. ts.votes k n b u))
+    adds : (n : ℕ) (u : Entry) → released_in end.releases n u → released_in w.releases n u ⊎ ((b : Ballot) × Majority z.count (λ k. ts.votes k n b u))
     adds n u (x, i, en, eu) = elim (more_releases z w.releases m (number_of e) t.release x i) [
       | inl y ↦ inl (x, y, en, eu)
       | inr y ↦ (let r = ts.release u (y.0 ∙ ap Some eu) in inr (r.0, subst (λ (n : ℕ). Majority z.count (λ k. ts.votes k n r.0 u)) (sym y.1 ∙ en) r.1))
@@ -251,7 +252,7 @@ done_sound {G = G} {F = F} {z = z} {V = V} W w m e t out after h ts carried is f
     released : Sound z.count ts.votes end.rows end.marks (h.packets ++ t.out) end.offers (released_in end.releases)
     released = release went_out (released_in end.releases) adds
 
-    set : (x : Release G F) → IsAmong end.releases x → x.set ≡ z.sets x.member x.tape
+    set : (x : Release G F) → IsAmong end.releases x → x.set ≡ z.sets x.member x.entry
     set x i = elim (more_releases z w.releases m (number_of e) t.release x i) [ inl y ↦ h.set x y | inr y ↦ y.2 ]
 
 -- the same rows and votes
@@ -306,7 +307,7 @@ torn_sound {D = D} {G = G} {F = F} {z = z} {V = V} W w s m call e o row armed af
         settle W end h.packets follows h.spelled
         (subst (λ (r : Row). Sound z.count ts.votes (saved w.rows m (number_of e) r) end.marks h.packets end.offers (released_in end.releases)) (sym same) saved_it)
         ts.grows
-        (subst (λ (r : Row). (k j : ℕ) (b : Ballot) (u : Tape) → ts.votes k j b u → V k j b u ⊎ VotedAt (saved w.rows m (number_of e) r k j) b u) (sym same) ts.held)
+        (subst (λ (r : Row). (k j : ℕ) (b : Ballot) (u : Entry) → ts.votes k j b u → V k j b u ⊎ VotedAt (saved w.rows m (number_of e) r k j) b u) (sym same) ts.held)
         h.set
 
     may : (armed' : Option Bool) (t : Turn) → IsTurn (seat_at z m) (w.marks m) (w.rows m (number_of e)) e t → MayLeave armed' o (w.rows m (number_of e)) t.row row → SoundState z W end

@@ -96,27 +96,27 @@ torn_as_it_was_armed z w after s m call e (upgrade_is_torn k v member is_upgrade
 torn_as_it_was_armed z w after s m call e (is_armed k b member is_balk how is) asked event = absurd (not_as_armed (Armed b) how refl)
 
 memory_ends_setting : {D G F : Type 0} → of_count {D = D} {G = G} {F = F} 1 MemoryEndsSetting
-memory_ends_setting {D = D} {G = G} {F = F} k reads version_of sets says v tape fault fit s =
+memory_ends_setting {D = D} {G = G} {F = F} k reads version_of sets says v entry fault fit s =
     let z : Circuit D G F = record { number = k; count = 1; reads = reads; version_of = version_of; sets = sets; says = says } in
     let me : IsMember 1 1 = (omega arith, omega arith) in
-    let h1 : History z _ = goes_on (begins z v) (Offers 1 12 tape 0) (Refused (Tape_faulty fault)) (is_refused 1 (Offering 12 tape 0) (Tape_faulty fault) refl me (rw (fit, s) refl) refl (same _)) in
-    let h2 : History z _ = goes_on h1 (Offers 1 12 tape 0) Torn_by_memory
-    (is_torn 1 (Offering 12 tape 0) (Offered 12 tape 0) blank None refl me refl (memory_before_save refl (rw fit refl) refl refl) (same _)) in
+    let h1 : History z _ = goes_on (begins z v) (Offers 1 12 entry 0) (Refused (Tape_faulty fault)) (is_refused 1 (Offering 12 entry 0) (Tape_faulty fault) refl me (rw (fit, s) refl) refl (same _)) in
+    let h2 : History z _ = goes_on h1 (Offers 1 12 entry 0) Torn_by_memory
+    (is_torn 1 (Offering 12 entry 0) (Offered 12 entry 0) blank None refl me refl (memory_before_save refl (rw fit refl) refl refl) (same _)) in
     (_, h2, refl, refl, refl, refl)
 
 pub setting_wants_memory : {D G F : Type 0} → SettingWantsMemory D G F
 setting_wants_memory z one = at_count 1 MemoryEndsSetting memory_ends_setting z one
 
 stays_armed : {D G F : Type 0} → of_count {D = D} {G = G} {F = F} 1 StaysArmed
-stays_armed {D = D} {G = G} {F = F} k reads version_of sets says v tape slugs fit s =
+stays_armed {D = D} {G = G} {F = F} k reads version_of sets says v entry slugs fit s =
     let z : Circuit D G F = record { number = k; count = 1; reads = reads; version_of = version_of; sets = sets; says = says } in
     let me : IsMember 1 1 = (omega arith, omega arith) in
     let h1 : History z _ = goes_on (begins z v) (Balks 1 true) (Armed true) (is_armed 1 true me refl refl (same _)) in
-    let h2 : History z _ = goes_on h1 (Offers 1 12 tape 0) Torn_by_store
-    (is_torn 1 (Offering 12 tape 0) (Offered 12 tape 0) blank (Some true) refl me refl (store_before_save refl (rw (fit, s) refl) refl refl) (same _)) in
+    let h2 : History z _ = goes_on h1 (Offers 1 12 entry 0) Torn_by_store
+    (is_torn 1 (Offering 12 entry 0) (Offered 12 entry 0) blank (Some true) refl me refl (store_before_save refl (rw (fit, s) refl) refl refl) (same _)) in
     let h3 : History z _ = goes_on h2 (Restarts 1) Restarted (restarts 1 me refl refl (same _)) in
-    let h4 : History z _ = goes_on h3 (Offers 1 12 tape 0) Torn_as_armed
-    (is_torn 1 (Offering 12 tape 0) (Offered 12 tape 0) (voted (ballot 1 1) tape) None refl me refl (at_save _ (rw (fit, s) refl) refl (changes tape) (inl (refl, refl)) refl) (same _)) in
+    let h4 : History z _ = goes_on h3 (Offers 1 12 entry 0) Torn_as_armed
+    (is_torn 1 (Offering 12 entry 0) (Offered 12 entry 0) (voted (ballot 1 1) entry) None refl me refl (at_save _ (rw (fit, s) refl) refl (changes entry) (inl (refl, refl)) refl) (same _)) in
     let h5 : History z _ = goes_on h4 (Restarts 1) Restarted (restarts 1 me refl refl (same _)) in
     let h6 : History z _ = goes_on h5 (Seeks 1 12 0) (Done (Note_proposed (ballot 2 1))) (is_done 1 (Seeking 12 0) (Sought 12 0) _ [] refl me refl refl refl tt (inl refl) refl (same _)) in
     (_, h6, refl, refl, refl, refl)
@@ -125,16 +125,16 @@ pub reading_leaves_armed : {D G F : Type 0} → ReadingLeavesArmed D G F
 reading_leaves_armed z one = at_count 1 StaysArmed stays_armed z one
 
 save_is_refused_twice : {D G F : Type 0} → of_count {D = D} {G = G} {F = F} 1 SaveIsRefusedTwice
-save_is_refused_twice {D = D} {G = G} {F = F} k reads version_of sets says v tape slugs fit s =
+save_is_refused_twice {D = D} {G = G} {F = F} k reads version_of sets says v entry slugs fit s =
     let z : Circuit D G F = record { number = k; count = 1; reads = reads; version_of = version_of; sets = sets; says = says } in
     let me : IsMember 1 1 = (omega arith, omega arith) in
     let h1 : History z _ = goes_on (begins z v) (Balks 1 true) (Armed true) (is_armed 1 true me refl refl (same _)) in
-    let h2 : History z _ = goes_on h1 (Offers 1 12 tape 0) Torn_by_store
-    (is_torn 1 (Offering 12 tape 0) (Offered 12 tape 0) blank None refl me refl (at_save _ (rw (fit, s) refl) refl (changes tape) (inr (refl, inl refl)) refl) (same _)) in
+    let h2 : History z _ = goes_on h1 (Offers 1 12 entry 0) Torn_by_store
+    (is_torn 1 (Offering 12 entry 0) (Offered 12 entry 0) blank None refl me refl (at_save _ (rw (fit, s) refl) refl (changes entry) (inr (refl, inl refl)) refl) (same _)) in
     let h3 : History z _ = goes_on h2 (Restarts 1) Restarted (restarts 1 me refl refl (same _)) in
     let h4 : History z _ = goes_on h3 (Seeks 1 12 0) (Done (Note_nothing (ballot 1 1))) (is_done 1 (Seeking 12 0) (Sought 12 0) _ [] refl me refl refl refl tt (inl refl) refl (same _)) in
-    let h5 : History z _ = goes_on h4 (Offers 1 12 tape 0) (Done (Note_proposed (ballot 2 1)))
-    (is_done 1 (Offering 12 tape 0) (Offered 12 tape 0) _ [] refl me (rw (fit, s) refl) refl refl tt (inl refl) refl (same _)) in
+    let h5 : History z _ = goes_on h4 (Offers 1 12 entry 0) (Done (Note_proposed (ballot 2 1)))
+    (is_done 1 (Offering 12 entry 0) (Offered 12 entry 0) _ [] refl me (rw (fit, s) refl) refl refl tt (inl refl) refl (same _)) in
     (_, h5, refl, refl, refl, refl)
 
 pub store_refuses_too : {D G F : Type 0} → StoreRefusesToo D G F

@@ -2,7 +2,8 @@
 use Rattle.std.proofs.Common.{◌≡◌, ℕ, suc, ◌⊎◌, inl, inr, refl, sym, ap, subst, ◌∙◌, arith, List, [], ◌∷◌, ◌++◌, Option, Some, None, Bool, true, false}
 use Rattle.std.specs.Prelude.{nat_lt}
 use Rattle.protocol.specs.Ballots.{Ballot, IsBelow, IsNoneOrBelow, IsNoneOrAtMost, Majority, IsMember, next, last_round}
-use Rattle.protocol.specs.Rows.{Tape, Vote, Row, raised, voted}
+use Rattle.protocol.specs.Entries.{Entry}
+use Rattle.protocol.specs.Rows.{Vote, Row, raised, voted}
 use Rattle.protocol.specs.Packets.{Packet, Body, Prepare, Promise, Accept, Accepted, Nack}
 use Rattle.protocol.specs.Marks.{Mark, Began, Promised, Proposed, Denied, Closed}
 use Rattle.protocol.specs.Lists.{IsAmong}
@@ -48,9 +49,9 @@ one_of_one c m n b report e i = record {
 }
 
 begin_sound :
-    {z : Setting} {V : Votes} {row : Row} {ms : List Mark} (b : Ballot) (own : Option Tape) (now : ℕ) (t : Turn)
+    {z : Setting} {V : Votes} {row : Row} {ms : List Mark} (b : Ballot) (own : Option Entry) (now : ℕ) (t : Turn)
     → At z V row ms → IsMember z.seat.members z.seat.me → IsNoneOrBelow row.promised b → b.owner ≡ z.seat.me
-    → ((u : Tape) → own ≡ Some u → IsOffered z.offers z.number u)
+    → ((u : Entry) → own ≡ Some u → IsOffered z.offers z.number u)
     → Begins z.seat z.number b own now row ms t → TurnSound z V t
 begin_sound {z = z} {V = V} {row = row} b own now t h member free owner offered (asks l e) =
     subst (λ (x : Turn). TurnSound z V x) (sym e) (quiet _ (at_begin b own now h free owner offered) out (λ u f. cc))
@@ -63,8 +64,8 @@ begin_sound {z = z} {V = V} {row = row} {ms = ms} b own now t h member free owne
     (one_of_one z.seat.members z.seat.me z.number b row.vote e member) proposing
 
 start_sound :
-    {z : Setting} {V : Votes} {row : Row} {ms : List Mark} (own : Option Tape) (now : ℕ) (t : Turn)
-    → At z V row ms → IsMember z.seat.members z.seat.me → ((u : Tape) → own ≡ Some u → IsOffered z.offers z.number u)
+    {z : Setting} {V : Votes} {row : Row} {ms : List Mark} (own : Option Entry) (now : ℕ) (t : Turn)
+    → At z V row ms → IsMember z.seat.members z.seat.me → ((u : Entry) → own ≡ Some u → IsOffered z.offers z.number u)
     → StartTurn z.seat z.number own now ms row t → TurnSound z V t
 start_sound {z = z} {row = row} own now t h member offered (starts b e begins) =
     let up = next_above row.promised z.seat.me b e in begin_sound b own now t h member up.0 up.1 offered begins
@@ -79,7 +80,7 @@ due_sound {z = z} {V = V} {row = row} {ms = ms} now t h member (begins_anew b ow
     let up = next_above seen z.seat.me a e in
     begin_sound a own now t h member (greater_below row.promised denied seen a g up.0) up.1 offered begins
   where
-    offered : (u : Tape) → own ≡ Some u → IsOffered z.offers z.number u
+    offered : (u : Entry) → own ≡ Some u → IsOffered z.offers z.number u
     offered = (marks_hold (Began z.number b own due.report due.is_open.now) h (among_split ms due.since due.is_open.before (Began z.number b own due.report due.is_open.now) due.is_open.began)).2
 
 one_packet : (V : Votes) (rows : Rows) (q p : Packet) → PacketHolds V rows q → IsAmong (q ∷ []) p → PacketHolds V rows p
@@ -97,46 +98,46 @@ prepare_sound z {V = V} {row = row} p t h (table.PrepareTurn.nacks a is up e) =
     subst (λ (x : Turn). TurnSound (here z p.number) V x) (sym e) (quiet _ h (λ q i. one_packet V (rows_with (here z p.number) row) _ q tt i) (λ u f. cc))
 
 accept_sound :
-    (z : Setting) {V : Votes} {row : Row} {ms : List Mark} (p : Packet) (tape : Tape) (t : Turn)
-    → At (here z p.number) V row ms → V p.ballot.owner p.number p.ballot tape
-    → AcceptTurn z.seat ms row p tape t → TurnSound (here z p.number) V t
-accept_sound z {V = V} {row = row} p tape t h ours (table.AcceptTurn.nacks a is up e) =
+    (z : Setting) {V : Votes} {row : Row} {ms : List Mark} (p : Packet) (entry : Entry) (t : Turn)
+    → At (here z p.number) V row ms → V p.ballot.owner p.number p.ballot entry
+    → AcceptTurn z.seat ms row p entry t → TurnSound (here z p.number) V t
+accept_sound z {V = V} {row = row} p entry t h ours (table.AcceptTurn.nacks a is up e) =
     subst (λ (x : Turn). TurnSound (here z p.number) V x) (sym e) (quiet _ h (λ q i. one_packet V (rows_with (here z p.number) row) _ q tt i) (λ u f. cc))
-accept_sound z {V = V} {row = row} p tape t h ours (votes_again own release after free at_it hearing e) =
+accept_sound z {V = V} {row = row} p entry t h ours (votes_again own release after free at_it hearing e) =
     subst (λ (x : Turn). TurnSound (here z p.number) V x) (sym e) (quiet _ heard.0 out heard.1)
   where
     held : V z.seat.me p.number p.ballot own
-    held = row_kept (record { ballot = p.ballot; tape = own }) h at_it
+    held = row_kept (record { ballot = p.ballot; entry = own }) h at_it
 
-    heard : At (here z p.number) V row after × ((u : Tape) → release ≡ Some u → (a : Ballot) × Majority z.seat.members (λ m. V m p.number a u))
+    heard : At (here z p.number) V row after × ((u : Entry) → release ≡ Some u → (a : Ballot) × Majority z.seat.members (λ m. V m p.number a u))
     heard = at_hear z.seat.me p.ballot own release after h held hearing
 
     out : (q : Packet) → IsAmong (to_others z.seat p.number p.ballot (Accepted own)) q → PacketHolds V (rows_with (here z p.number) row) q
     out q i = let y = among-map (packet_to z.seat p.number p.ballot (Accepted own)) (others z.seat) q i in subst (λ (x : Packet). PacketHolds V (rows_with (here z p.number) row) x) (sym y.1) held
-accept_sound z {V = V} {row = row} {ms = ms} p tape t h ours (votes release after free unvoted hearing e) =
+accept_sound z {V = V} {row = row} {ms = ms} p entry t h ours (votes release after free unvoted hearing e) =
     subst (λ (x : Turn). TurnSound (here z p.number) V x) (sym e)
     (record { votes = W; stands = heard.0; grows = λ k j a u v. old v; held = helds; out = out; release = heard.1 })
   where
     W : Votes
-    W = WithVote V z.seat.me p.number p.ballot tape
+    W = WithVote V z.seat.me p.number p.ballot entry
 
     before : Rows
     before = rows_with (here z p.number) row
 
     rows : Rows
-    rows = rows_with (here z p.number) (voted p.ballot tape)
+    rows = rows_with (here z p.number) (voted p.ballot entry)
 
-    ups : (k j : ℕ) → (rows k j ≡ before k j) ⊎ (k ≡ z.seat.me) × (j ≡ p.number) × (rows k j ≡ voted p.ballot tape)
-    ups k j = elim (saved_cases z.rows z.seat.me p.number row (voted p.ballot tape) k j) [ inl f ↦ inl f | inr f ↦ inr (f.0, f.1, f.3) ]
+    ups : (k j : ℕ) → (rows k j ≡ before k j) ⊎ (k ≡ z.seat.me) × (j ≡ p.number) × (rows k j ≡ voted p.ballot entry)
+    ups k j = elim (saved_cases z.rows z.seat.me p.number row (voted p.ballot entry) k j) [ inl f ↦ inl f | inr f ↦ inr (f.0, f.1, f.3) ]
 
     unopened :
-        (own : Option Tape) (report : Option Vote) (now : ℕ) (since past : List Mark)
+        (own : Option Entry) (report : Option Vote) (now : ℕ) (since past : List Mark)
         → with_at z.marks z.seat.me ms z.seat.me ≡ since ++ Began p.number p.ballot own report now ∷ past → ¬ NotProposed since p.number p.ballot
     unopened own report now since past f np =
         let owner : p.ballot.owner ≡ z.seat.me = (marks_hold (Began p.number p.ballot own report now) h (among_split ms since past (Began p.number p.ballot own report now) (sym (with_at-same z.marks z.seat.me ms) ∙ f))).0 in
-        (h.sound.gathering z.seat.me).unvoted p.number p.ballot own report now since past f np tape (subst (λ (x : ℕ). V x p.number p.ballot tape) owner ours)
+        (h.sound.gathering z.seat.me).unvoted p.number p.ballot own report now since past f np entry (subst (λ (x : ℕ). V x p.number p.ballot entry) owner ours)
 
-    is_vote : IsVote V before (with_at z.marks z.seat.me ms) z.seat.me p.number p.ballot tape
+    is_vote : IsVote V before (with_at z.marks z.seat.me ms) z.seat.me p.number p.ballot entry
     is_vote = record {
       free = subst (λ (x : Row). IsNoneOrAtMost x.promised p.ballot) (sym (saved-same z.rows z.seat.me p.number row)) free;
       unvoted = λ u f. unvoted u (ap (λ x. x.vote) (sym (saved-same z.rows z.seat.me p.number row)) ∙ f);
@@ -144,18 +145,18 @@ accept_sound z {V = V} {row = row} {ms = ms} p tape t h ours (votes release afte
       unopened = unopened;
     }
 
-    has_voted : At (here z p.number) W (voted p.ballot tape) ms
-    has_voted = record { sound = vote h.sound rows z.seat.me p.number p.ballot tape (saved-same z.rows z.seat.me p.number (voted p.ballot tape)) ups is_vote (h.sound.safe p.ballot.owner p.number p.ballot tape ours) (h.sound.offered p.ballot.owner p.number p.ballot tape ours) }
+    has_voted : At (here z p.number) W (voted p.ballot entry) ms
+    has_voted = record { sound = vote h.sound rows z.seat.me p.number p.ballot entry (saved-same z.rows z.seat.me p.number (voted p.ballot entry)) ups is_vote (h.sound.safe p.ballot.owner p.number p.ballot entry ours) (h.sound.offered p.ballot.owner p.number p.ballot entry ours) }
 
-    heard : At (here z p.number) W (voted p.ballot tape) after × ((u : Tape) → release ≡ Some u → (a : Ballot) × Majority z.seat.members (λ m. W m p.number a u))
-    heard = at_hear z.seat.me p.ballot tape release after has_voted (new refl refl refl refl) hearing
+    heard : At (here z p.number) W (voted p.ballot entry) after × ((u : Entry) → release ≡ Some u → (a : Ballot) × Majority z.seat.members (λ m. W m p.number a u))
+    heard = at_hear z.seat.me p.ballot entry release after has_voted (new refl refl refl refl) hearing
 
-    helds : (k j : ℕ) (a : Ballot) (u : Tape) → W k j a u → V k j a u ⊎ VotedAt (rows k j) a u
+    helds : (k j : ℕ) (a : Ballot) (u : Entry) → W k j a u → V k j a u ⊎ VotedAt (rows k j) a u
     helds k j a u (old v) = inl v
-    helds k j a u (new f g i l) = inr (rw (f, g, i, l) (ap (λ x. x.vote) (saved-same z.rows z.seat.me p.number (voted p.ballot tape))))
+    helds k j a u (new f g i l) = inr (rw (f, g, i, l) (ap (λ x. x.vote) (saved-same z.rows z.seat.me p.number (voted p.ballot entry))))
 
-    out : (q : Packet) → IsAmong (to_others z.seat p.number p.ballot (Accepted tape)) q → PacketHolds W rows q
-    out q i = let y = among-map (packet_to z.seat p.number p.ballot (Accepted tape)) (others z.seat) q i in subst (λ (x : Packet). PacketHolds W rows x) (sym y.1) (new refl refl refl refl)
+    out : (q : Packet) → IsAmong (to_others z.seat p.number p.ballot (Accepted entry)) q → PacketHolds W rows q
+    out q i = let y = among-map (packet_to z.seat p.number p.ballot (Accepted entry)) (others z.seat) q i in subst (λ (x : Packet). PacketHolds W rows x) (sym y.1) (new refl refl refl refl)
 
 promise_sound :
     (z : Setting) {V : Votes} {row : Row} {ms : List Mark} (now : ℕ) (p : Packet) (r : Option Vote) (t : Turn)
@@ -185,12 +186,12 @@ nack_sound z {V = V} p a t h (is_denied own report since g e) =
     subst (λ (x : Turn). TurnSound (here z p.number) V x) (sym e) (silent (stays _ _ _) refl refl (at_mark (Denied p.number a) h tt (λ n b w q j f. cc)))
 
 accepted_sound :
-    (z : Setting) {V : Votes} {row : Row} {ms : List Mark} (p : Packet) (tape : Tape) (t : Turn)
-    → At (here z p.number) V row ms → V p.from p.number p.ballot tape
-    → AcceptedTurn z.seat ms row p tape t → TurnSound (here z p.number) V t
-accepted_sound z {V = V} p tape t h ours (settles released e) = subst (λ (x : Turn). TurnSound (here z p.number) V x) (sym e) (silent (stays _ _ _) refl refl h)
-accepted_sound z {V = V} p tape t h ours (hears release after unreleased hearing e) =
-    let heard = at_hear p.from p.ballot tape release after h ours hearing in
+    (z : Setting) {V : Votes} {row : Row} {ms : List Mark} (p : Packet) (entry : Entry) (t : Turn)
+    → At (here z p.number) V row ms → V p.from p.number p.ballot entry
+    → AcceptedTurn z.seat ms row p entry t → TurnSound (here z p.number) V t
+accepted_sound z {V = V} p entry t h ours (settles released e) = subst (λ (x : Turn). TurnSound (here z p.number) V x) (sym e) (silent (stays _ _ _) refl refl h)
+accepted_sound z {V = V} p entry t h ours (hears release after unreleased hearing e) =
+    let heard = at_hear p.from p.ballot entry release after h ours hearing in
     subst (λ (x : Turn). TurnSound (here z p.number) V x) (sym e) (quiet _ heard.0 (λ q i. absurd i) heard.1)
 
 answer_sound :
@@ -199,13 +200,13 @@ answer_sound :
     → AnswerTurn z.seat now ms row p body t → TurnSound (here z p.number) V t
 answer_sound z now p Prepare t h holds turn = prepare_sound z p t h turn
 answer_sound z now p (Promise r) t h holds turn = promise_sound z now p r t h holds turn
-answer_sound z now p (Accept tape) t h holds turn = accept_sound z p tape t h holds turn
-answer_sound z now p (Accepted tape) t h holds turn = accepted_sound z p tape t h holds turn
+answer_sound z now p (Accept entry) t h holds turn = accept_sound z p entry t h holds turn
+answer_sound z now p (Accepted entry) t h holds turn = accepted_sound z p entry t h holds turn
 answer_sound z now p (Nack a) t h holds turn = nack_sound z p a t h turn
 
 -- what an event brings: an offer is among the offers, a packet_to was sent
 abbrev pub EventHolds : Votes → Rows → List Offer → Event → Type 0
-EventHolds V rows offers (Offered n tape now) = IsOffered offers n tape
+EventHolds V rows offers (Offered n entry now) = IsOffered offers n entry
 EventHolds V rows offers (Sought n now) = Unit {0}
 EventHolds V rows offers (Came_due n now) = Unit {0}
 EventHolds V rows offers (Arrived p now) = PacketHolds V rows p
@@ -214,8 +215,8 @@ pub turn_sound :
     (z : Setting) {V : Votes} {row : Row} {ms : List Mark} (e : Event) (t : Turn)
     → At (here z (number_of e)) V row ms → IsMember z.seat.members z.seat.me → EventHolds V (rows_with (here z (number_of e)) row) z.offers e
     → IsTurn z.seat ms row e t → TurnSound (here z (number_of e)) V t
-turn_sound z (Offered n tape now) t h member holds turn =
-    start_sound (Some tape) now t h member (λ u f. subst (λ (x : Tape). IsOffered z.offers n x) (some_inj f) holds) turn
+turn_sound z (Offered n entry now) t h member holds turn =
+    start_sound (Some entry) now t h member (λ u f. subst (λ (x : Entry). IsOffered z.offers n x) (some_inj f) holds) turn
 turn_sound z (Sought n now) t h member holds turn = start_sound None now t h member (λ u f. let no : None ≡ Some u = f in cc) turn
 turn_sound z (Came_due n now) t h member holds turn = due_sound now t h member turn
 turn_sound z (Arrived p now) t h member holds turn = answer_sound z now p p.body t h holds turn

@@ -4,12 +4,13 @@
 use Rattle.std.specs.Prelude.{◌≡◌, List, [], ◌∷◌, ◌++◌, Bool, false, Option, Some, None, if◌then◌else◌}
 use Rattle.std.specs.List.{list_any}
 use Rattle.protocol.specs.Ballots.{Ballot, is_below, is_same}
-use Rattle.protocol.specs.Rows.{Tape, Vote, vote_for, Row, raised, voted}
+use Rattle.protocol.specs.Entries.{Entry}
+use Rattle.protocol.specs.Rows.{Vote, vote_for, Row, raised, voted}
 
 -- what an acceptor is asked
 pub data Request : Type 0 where
   Prepares : (ballot : Ballot) → Request
-  Accepts : (ballot : Ballot) → (tape : Tape) → Request
+  Accepts : (ballot : Ballot) → (entry : Entry) → Request
 
 -- what it answers
 pub data Reply : Type 0 where

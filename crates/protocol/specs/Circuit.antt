@@ -3,7 +3,8 @@ use Rattle.std.specs.Prelude.{◌≡◌, ℕ, ◌⊎◌, ◌-◌, List, [], ◌�
 use Rattle.std.specs.List.{AllZip}
 use Rattle.protocol.specs.Seats.{Seat, sits}
 use Rattle.protocol.specs.Ballots.{IsMember}
-use Rattle.protocol.specs.Rows.{Tape, Row, blank}
+use Rattle.protocol.specs.Entries.{Entry}
+use Rattle.protocol.specs.Rows.{Row, blank}
 use Rattle.protocol.specs.Packets.{Packet}
 use Rattle.protocol.specs.Versions.{Version, One, Two, fits}
 use Rattle.protocol.specs.Marks.{Mark}
@@ -11,14 +12,14 @@ use Rattle.protocol.specs.Turn.{Event, Offered, Sought, Came_due, Arrived, numbe
 use Rattle.protocol.specs.Refusals.{Setup, Call, Offering, Seeking, Falling_due, Receiving, Refusal, Rounds_spent, refusal, early_refusal, event_of}
 
 -- what a circuit is given: its number, how many members it has, which packet bytes spell in a version or why they spell none in it,
--- of which version bytes say that they are, and what each member's table and widths make of a tape.
+-- of which version bytes say that they are, and what each member's table and widths make of an entry.
 -- Bytes that spell a packet in a version say that they are of that version.
 pub record Circuit (D G F : Type 0) : Type 0 where
   pub number : ℕ
   pub count : ℕ
   pub reads : Version → List ℕ → Result Packet D
   pub version_of : List ℕ → Version
-  pub sets : ℕ → Tape → Result G F
+  pub sets : ℕ → Entry → Result G F
   pub says : (v : Version) (bytes : List ℕ) (p : Packet) → reads v bytes ≡ Ok p → version_of bytes ≡ v
 
 -- what a station of this version takes bytes for: at version 1 what they spell in version 1,
@@ -40,17 +41,17 @@ pub record Datagram : Type 0 where
   pub to : ℕ
   pub bytes : List ℕ
 
--- a tape that a member offered for a number
+-- an entry that a member offered for a number
 pub record Offer : Type 0 where
   pub member : ℕ
   pub number : ℕ
-  pub tape : Tape
+  pub entry : Entry
 
--- a tape that a member released for a number, and what its table and widths made of it
+-- an entry that a member released for a number, and what its table and widths made of it
 pub record Release (G F : Type 0) : Type 0 where
   pub member : ℕ
   pub number : ℕ
-  pub tape : Tape
+  pub entry : Entry
   pub set : Result G F
 
 -- where a circuit stands: of each member the version, the rows by number, the marks, whether it is stopped,
@@ -84,7 +85,7 @@ fresh version = record { version = version; rows = λ m n. blank; marks = λ m. 
 -- a step: a member is asked something, the k-th datagram ever sent (from 1) is delivered to its addressee,
 -- a member starts again, goes over to version 2, or its store is armed to refuse the next save
 pub data Step : Type 0 where
-  Offers : (member : ℕ) → (number : ℕ) → (tape : Tape) → (now : ℕ) → Step
+  Offers : (member : ℕ) → (number : ℕ) → (entry : Entry) → (now : ℕ) → Step
   Seeks : (member : ℕ) → (number : ℕ) → (now : ℕ) → Step
   Falls_due : (member : ℕ) → (now : ℕ) → Step
   Delivers : (which : ℕ) → (now : ℕ) → Step
@@ -130,7 +131,7 @@ delivery (Some d) now = Some (record { member = d.to; call = Receiving d.bytes n
 
 -- what a step asks of a station, if it does
 abbrev pub task_of : List Datagram → Step → Option Task
-task_of sent (Offers m n tape now) = Some (record { member = m; call = Offering n tape now })
+task_of sent (Offers m n entry now) = Some (record { member = m; call = Offering n entry now })
 task_of sent (Seeks m n now) = Some (record { member = m; call = Seeking n now })
 task_of sent (Falls_due m now) = Some (record { member = m; call = Falling_due now })
 task_of sent (Delivers k now) = delivery (datagram_at sent k) now
@@ -140,15 +141,15 @@ task_of sent (Balks m saved) = None
 
 -- the offers with that of an event, if it is one
 abbrev pub offers_with : List Offer → ℕ → Event → List Offer
-offers_with offers m (Offered n tape now) = offers ++ record { member = m; number = n; tape = tape } ∷ []
+offers_with offers m (Offered n entry now) = offers ++ record { member = m; number = n; entry = entry } ∷ []
 offers_with offers m (Sought n now) = offers
 offers_with offers m (Came_due n now) = offers
 offers_with offers m (Arrived p now) = offers
 
 -- the releases with that of a turn, if it has one
-abbrev pub releases_with : {D G F : Type 0} → Circuit D G F → List (Release G F) → ℕ → ℕ → Option Tape → List (Release G F)
+abbrev pub releases_with : {D G F : Type 0} → Circuit D G F → List (Release G F) → ℕ → ℕ → Option Entry → List (Release G F)
 releases_with z releases m n None = releases
-releases_with z releases m n (Some t) = releases ++ record { member = m; number = n; tape = t; set = z.sets m t } ∷ []
+releases_with z releases m n (Some t) = releases ++ record { member = m; number = n; entry = t; set = z.sets m t } ∷ []
 
 -- what a refused save leaves of a row, or a refused upgrade of a version, and how that step ends.
 -- An armed store refuses by itself: as unsaved it leaves what was before, as saved what comes after.
@@ -160,7 +161,7 @@ MayLeave None o before after now = (o ≡ Torn_by_store) × ((now ≡ before) �
 
 -- what a step that is torn leaves of the row of the event's number and of the armed flag.
 -- Before any save both are as they were: where nothing refuses the call the member's own store may fail as it is read,
--- and memory may be wanted before that, while an offered tape is set. At the save a row that it may leave, unarmed
+-- and memory may be wanted before that, while an offered entry is set. At the save a row that it may leave, unarmed
 pub data Leaves {D G F : Type 0} (z : Circuit D G F) (w : State G F) (m : ℕ) (call : Call) (e : Event) (o : Outcome D F) (row : Row) (armed : Option Bool) : Type 0 where
   store_before_save :
       o ≡ Torn_by_store → refusal (setup_of z (w.version m) m) (w.is_stopped m) (w.marks m) call ≡ None
@@ -265,7 +266,7 @@ datagram_missing c (Some d) = member_missing c d.to
 
 -- why a circuit of c members has no such step after these datagrams
 abbrev pub missing : ℕ → List Datagram → Step → Option Missing
-missing c sent (Offers m n tape now) = member_missing c m
+missing c sent (Offers m n entry now) = member_missing c m
 missing c sent (Seeks m n now) = member_missing c m
 missing c sent (Falls_due m now) = member_missing c m
 missing c sent (Delivers k now) = datagram_missing c (datagram_at sent k)

@@ -1,15 +1,11 @@
--- Entries: what stations agree on where a number can be withdrawn too.
-use Rattle.std.specs.Prelude.{Bool, true, false}
-use Rattle.protocol.specs.Rows.{Tape}
-use Rattle.protocol.specs.Versions.{Version, One, Two, fits}
+-- Entries: what stations agree on for a number.
+use Rattle.std.specs.Prelude.{ℕ, List}
+
+-- a tape is the list of its frames
+abbrev pub Tape : Type 0
+Tape = List ℕ
 
 -- what is agreed on for a number: its tape, or that it is withdrawn; to Lamport either is a value
 pub data Entry : Type 0 where
   Void : Entry
   Taped : (tape : Tape) → Entry
-
--- the version has a spelling and a row for the entry: for a withdrawal version 2 alone
-abbrev pub entry_fits : Version → Entry → Bool
-entry_fits One Void = false
-entry_fits Two Void = true
-entry_fits v (Taped tape) = fits v tape

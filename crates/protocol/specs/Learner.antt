@@ -1,5 +1,5 @@
 -- The votes that were heard, read from marks: they stand newest first.
--- Lamport, learning a chosen value: a tape is known as chosen where a majority is heard to have voted at one ballot.
+-- Lamport, learning a chosen value: an entry is known as chosen where a majority is heard to have voted at one ballot.
 use Rattle.std.specs.Prelude.{ℕ, List, Option, Some, None, Bool, false, ◌==◌, ◌&&◌, filter_map, find, if◌then◌else◌}
 use Rattle.protocol.specs.Lists.{greatest}
 use Rattle.protocol.specs.Ballots.{Ballot, is_same, is_below, is_majority, members}

@@ -1,11 +1,10 @@
 pub mod Lists
 pub mod Seats
 pub mod Ballots
+pub mod Entries
 pub mod Rows
 pub mod Versions
-pub mod Entries
 pub mod Packets
-pub mod EntryPackets
 pub mod Acceptor
 pub mod Marks
 pub mod Proposals

@@ -1,15 +1,16 @@
 -- A number's proposal, read from marks by looking back over them: they stand newest first.
--- Lamport, the proposer: it asks a majority in phase 1, and proposes the tape of the highest reported vote in phase 2.
+-- Lamport, the proposer: it asks a majority in phase 1, and proposes the entry of the highest reported vote in phase 2.
 use Rattle.std.specs.Prelude.{ℕ, ◌+◌, ◌*◌, ◌-◌, ◌^◌, min, List, ◌∷◌, Option, Some, None, Bool, true, false, ◌==◌, ◌&&◌, ◌||◌, nat_lt, nat_le, count_by, filter, filter_map, unwrap_or, if◌then◌else◌}
 use Rattle.protocol.specs.Lists.{has, until, before_last, first, greatest}
 use Rattle.protocol.specs.Ballots.{Ballot, is_same, is_below}
-use Rattle.protocol.specs.Rows.{Tape, Vote}
+use Rattle.protocol.specs.Entries.{Entry}
+use Rattle.protocol.specs.Rows.{Vote}
 use Rattle.protocol.specs.Marks.{Mark, Began, Promised, Proposed, Denied, begins, closes, releases, ends, proposes}
 
 -- what a proposal began with
 pub record Opening : Type 0 where
   pub ballot : Ballot
-  pub own : Option Tape
+  pub own : Option Entry
   pub report : Option Vote
   pub now : ℕ
 
@@ -85,14 +86,14 @@ abbrev pub report_of : Option Counted → Option Vote
 report_of None = None
 report_of (Some x) = x.report
 
--- the vote's tape, else the own one
-abbrev pub tape_or : Option Tape → Option Vote → Option Tape
-tape_or own None = own
-tape_or own (Some v) = Some v.tape
+-- the vote's entry, else the own one
+abbrev pub entry_or : Option Entry → Option Vote → Option Entry
+entry_or own None = own
+entry_or own (Some v) = Some v.entry
 
--- the tape to propose: that of the counted report of greatest ballot (least member where equal), else the own tape
-abbrev pub pick : Option Tape → List Counted → Option Tape
-pick own all = tape_or own (report_of (greatest reports_above all))
+-- the entry to propose: that of the counted report of greatest ballot (least member where equal), else the own entry
+abbrev pub pick : Option Entry → List Counted → Option Entry
+pick own all = entry_or own (report_of (greatest reports_above all))
 
 -- the marks since n was last closed or released
 abbrev pub since_end : ℕ → List Mark → List Mark

@@ -2,24 +2,24 @@
 use Rattle.std.specs.Prelude.{ℕ, List, Option, Some, None, Result, Ok, Err, Bool, false, ◌==◌, ◌&&◌, ◌||◌, not, nat_lt, nat_le, is_some, if◌then◌else◌}
 use Rattle.protocol.specs.Lists.{or_else}
 use Rattle.protocol.specs.Seats.{Seat}
-use Rattle.protocol.specs.Rows.{Tape}
+use Rattle.protocol.specs.Entries.{Entry}
 use Rattle.protocol.specs.Packets.{Packet, Body, Prepare, Promise, Accept, Accepted, Nack}
 use Rattle.protocol.specs.Marks.{Mark}
 use Rattle.protocol.specs.Proposals.{was_released, open_proposal, next_due}
 use Rattle.protocol.specs.Turn.{Event, Offered, Sought, Came_due, Arrived}
 
 -- how a station is set up: where it sits,
--- which packet it reads in bytes or why it reads none, whether its version has a spelling for a tape,
--- and what its table and widths make of a tape
+-- which packet it reads in bytes or why it reads none, whether its version has a spelling for an entry,
+-- and what its table and widths make of an entry
 pub record Setup (D G F : Type 0) : Type 0 where
   pub seat : Seat
   pub reads : List ℕ → Result Packet D
-  pub fits : Tape → Bool
-  pub sets : Tape → Result G F
+  pub fits : Entry → Bool
+  pub sets : Entry → Result G F
 
--- what a station is asked: to offer a tape for a number, to seek a number's tape, to see to what is due, to receive bytes
+-- what a station is asked: to offer an entry for a number, to seek a number's entry, to see to what is due, to receive bytes
 pub data Call : Type 0 where
-  Offering : (number : ℕ) → (tape : Tape) → (now : ℕ) → Call
+  Offering : (number : ℕ) → (entry : Entry) → (now : ℕ) → Call
   Seeking : (number : ℕ) → (now : ℕ) → Call
   Falling_due : (now : ℕ) → Call
   Receiving : (bytes : List ℕ) → (now : ℕ) → Call
@@ -60,7 +60,7 @@ abbrev pub reading_refusal : {D F : Type 0} → Seat → Result Packet D → Opt
 reading_refusal s (Err fault) = Some (Bad_datagram fault)
 reading_refusal s (Ok p) = packet_refusal s p
 
--- numbers of tapes are 1 to 999,999
+-- numbers are 1 to 999,999
 abbrev pub is_number : ℕ → Bool
 is_number n = nat_le 1 n && nat_le n 999999
 
@@ -72,29 +72,29 @@ number_refusal n marks =
     else if is_some (open_proposal n marks) then Some Already_open
     else None
 
--- why it refuses to offer a tape, by whether its version has a spelling for it
+-- why it refuses to offer an entry, by whether its version has a spelling for it
 abbrev pub wire_refusal : {D F : Type 0} → Bool → Option (Refusal D F)
 wire_refusal fits = if fits then None else Some Wire_too_old
 
--- why it refuses a call, but for a tape's own fault
+-- why it refuses a call, but for an entry's own fault
 abbrev pub call_refusal : {D G F : Type 0} → Setup D G F → List Mark → Call → Option (Refusal D F)
-call_refusal s marks (Offering n tape now) = or_else (number_refusal n marks) (wire_refusal (s.fits tape))
+call_refusal s marks (Offering n entry now) = or_else (number_refusal n marks) (wire_refusal (s.fits entry))
 call_refusal s marks (Seeking n now) = number_refusal n marks
 call_refusal s marks (Falling_due now) = None
 call_refusal s marks (Receiving bytes now) = reading_refusal s.seat (s.reads bytes)
 
--- the first refusal that holds before an offered tape is set: a station that is stopped refuses each call
+-- the first refusal that holds before an offered entry is set: a station that is stopped refuses each call
 abbrev pub early_refusal : {D G F : Type 0} → Setup D G F → Bool → List Mark → Call → Option (Refusal D F)
 early_refusal s stopped marks call = if stopped then Some Stopped else call_refusal s marks call
 
--- why it refuses what setting a tape gave
+-- why it refuses what setting an entry gave
 abbrev pub setting_refusal : {D G F : Type 0} → Result G F → Option (Refusal D F)
 setting_refusal (Err fault) = Some (Tape_faulty fault)
 setting_refusal (Ok slugs) = None
 
--- an offered tape is one that sets here
+-- an offered entry is one that sets here
 abbrev pub tape_refusal : {D G F : Type 0} → Setup D G F → Call → Option (Refusal D F)
-tape_refusal s (Offering n tape now) = setting_refusal (s.sets tape)
+tape_refusal s (Offering n entry now) = setting_refusal (s.sets entry)
 tape_refusal s (Seeking n now) = None
 tape_refusal s (Falling_due now) = None
 tape_refusal s (Receiving bytes now) = None
@@ -115,7 +115,7 @@ arrival (Ok p) now = Some (Arrived p now)
 
 -- the event that a call brings: what is due is the least number that is, and where none is there is no event
 abbrev pub event_of : {D G F : Type 0} → Setup D G F → List Mark → Call → Option Event
-event_of s marks (Offering n tape now) = Some (Offered n tape now)
+event_of s marks (Offering n entry now) = Some (Offered n entry now)
 event_of s marks (Seeking n now) = Some (Sought n now)
 event_of s marks (Falling_due now) = due_event (next_due s.seat.me now marks) now
 event_of s marks (Receiving bytes now) = arrival (s.reads bytes) now

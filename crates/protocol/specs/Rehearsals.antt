@@ -2,21 +2,22 @@
 use Rattle.std.specs.Prelude.{◌≡◌, ℕ, List, [], ◌∷◌, ◌++◌, Some, None, Ok, Err, Bool, true, false, map}
 use Rattle.std.specs.List.{AllZip}
 use Rattle.protocol.specs.Seats.{sits}
-use Rattle.protocol.specs.Rows.{Tape, vote_for}
+use Rattle.protocol.specs.Entries.{Entry, Void, Taped}
+use Rattle.protocol.specs.Rows.{vote_for}
 use Rattle.protocol.specs.Packets.{Packet, Prepare, Promise, Accept, Accepted, Nack}
 use Rattle.protocol.specs.Turn.{Offered, Note_began, Note_nothing, Note_promised, Note_silent, Note_nacked, Note_denied, Note_idle, Note_proposed, Note_heard, Note_voted, packet_to}
 use Rattle.protocol.specs.Runs.{ballot, run_of}
-use Rattle.protocol.specs.Refusals.{Setup, Offering, Receiving, Stopped, Wrong_circuit, Not_for_me, Stranger, Bad_number, Already_released, Already_open, Wire_too_old, Tape_faulty, Bad_datagram, packet_refusal, number_refusal, refusal}
+use Rattle.protocol.specs.Refusals.{Setup, Offering, Receiving, Stopped, Wrong_circuit, Not_for_me, Stranger, Bad_number, Already_released, Already_open, Wire_too_old, Tape_faulty, Bad_datagram, packet_refusal, number_refusal, early_refusal, refusal}
 use Rattle.protocol.specs.Versions.{Version, One, Two, fits}
-use Rattle.protocol.specs.Circuit.{Circuit, Carries, Datagram, Offer, Release, State, Step, Offers, Seeks, Falls_due, Delivers, Restarts, Upgrades, Balks, Outcome, Done, Refused, Torn_by_store, Torn_as_armed, Torn_by_memory, Restarted, Upgraded, Armed, History, starts, goes_on}
+use Rattle.protocol.specs.Circuit.{Circuit, setup_of, Carries, Datagram, Offer, Release, State, with_at, Step, Offers, Seeks, Falls_due, Delivers, Restarts, Upgrades, Balks, Outcome, Done, Refused, Torn_by_store, Torn_as_armed, Torn_by_memory, Restarted, Upgraded, Armed, History, starts, goes_on}
 
 -- a member of 3 refuses packets of another circuit, for another, and of strangers: the sender, the owner of the ballot, of a reported vote, of a Nack's promise
 pub record PacketsAreRefused (D F : Type 0) : Type 0 where
   pub circuit : packet_refusal {D = D} {F = F} (sits 7 2 3) (packet_to (sits 8 1 3) 12 (ballot 1 1) Prepare 2) ≡ Some Wrong_circuit
   pub addressee : packet_refusal {D = D} {F = F} (sits 7 2 3) (packet_to (sits 7 1 3) 12 (ballot 1 1) Prepare 3) ≡ Some Not_for_me
   pub sender : packet_refusal {D = D} {F = F} (sits 7 2 3) (packet_to (sits 7 4 3) 12 (ballot 1 2) (Promise None) 2) ≡ Some Stranger
-  pub owner : packet_refusal {D = D} {F = F} (sits 7 2 3) (packet_to (sits 7 1 3) 12 (ballot 1 4) (Accepted (1 ∷ [])) 2) ≡ Some Stranger
-  pub reported : packet_refusal {D = D} {F = F} (sits 7 2 3) (packet_to (sits 7 1 3) 12 (ballot 2 2) (Promise (Some (vote_for (ballot 1 4) (1 ∷ [])))) 2) ≡ Some Stranger
+  pub owner : packet_refusal {D = D} {F = F} (sits 7 2 3) (packet_to (sits 7 1 3) 12 (ballot 1 4) (Accepted (Taped (1 ∷ []))) 2) ≡ Some Stranger
+  pub reported : packet_refusal {D = D} {F = F} (sits 7 2 3) (packet_to (sits 7 1 3) 12 (ballot 2 2) (Promise (Some (vote_for (ballot 1 4) (Taped (1 ∷ []))))) 2) ≡ Some Stranger
   pub denied : packet_refusal {D = D} {F = F} (sits 7 2 3) (packet_to (sits 7 1 3) 12 (ballot 1 2) (Nack (ballot 1 4)) 2) ≡ Some Stranger
   pub first : packet_refusal {D = D} {F = F} (sits 7 2 3) (packet_to (sits 8 4 3) 12 (ballot 1 4) Prepare 3) ≡ Some Wrong_circuit
   pub none : packet_refusal {D = D} {F = F} (sits 7 2 3) (packet_to (sits 7 3 3) 12 (ballot 1 3) Prepare 2) ≡ None
@@ -27,37 +28,43 @@ pub record NumbersAreRefused (D F : Type 0) : Type 0 where
   pub least : number_refusal {D = D} {F = F} 1 [] ≡ None
   pub most : number_refusal {D = D} {F = F} 999999 [] ≡ None
   pub high : number_refusal {D = D} {F = F} 1000000 [] ≡ Some Bad_number
-  pub released : (tape : Tape) → number_refusal {D = D} {F = F} 12 (run_of (sits 7 1 1) (Offered 12 tape 0 ∷ [])).marks ≡ Some Already_released
-  pub open_one : (tape : Tape) → number_refusal {D = D} {F = F} 12 (run_of (sits 7 1 3) (Offered 12 tape 0 ∷ [])).marks ≡ Some Already_open
-  pub other : (tape : Tape) → number_refusal {D = D} {F = F} 13 (run_of (sits 7 1 3) (Offered 12 tape 0 ∷ [])).marks ≡ None
+  pub released : (entry : Entry) → number_refusal {D = D} {F = F} 12 (run_of (sits 7 1 1) (Offered 12 entry 0 ∷ [])).marks ≡ Some Already_released
+  pub open_one : (entry : Entry) → number_refusal {D = D} {F = F} 12 (run_of (sits 7 1 3) (Offered 12 entry 0 ∷ [])).marks ≡ Some Already_open
+  pub other : (entry : Entry) → number_refusal {D = D} {F = F} 13 (run_of (sits 7 1 3) (Offered 12 entry 0 ∷ [])).marks ≡ None
 
--- 2 of 3 to which no bytes spell a packet and at which no tape sets; its version has a spelling for each tape, or for none
+-- 2 of 3 to which no bytes spell a packet and at which no entry sets; its version has a spelling for each entry, or for none
 abbrev pub faulty_setup : {D G F : Type 0} → D → F → Bool → Setup D G F
-faulty_setup d f fits = record { seat = sits 7 2 3; reads = λ bytes. Err d; fits = λ tape. fits; sets = λ tape. Err f }
+faulty_setup d f fits = record { seat = sits 7 2 3; reads = λ bytes. Err d; fits = λ entry. fits; sets = λ entry. Err f }
 
--- a station that is stopped says so, whatever else is wrong: bytes that it can't read, a tape that doesn't set
+-- a station that is stopped says so, whatever else is wrong: bytes that it can't read, an entry that doesn't set
 abbrev pub StoppedIsToldFirst : (D G F : Type 0) → Type 0
 StoppedIsToldFirst D G F =
-    (d : D) (f : F) (tape : Tape)
+    (d : D) (f : F) (entry : Entry)
     → (refusal {G = G} (faulty_setup d f true) true [] (Receiving [] 0) ≡ Some Stopped)
-    × (refusal {G = G} (faulty_setup d f true) true [] (Offering 12 tape 0) ≡ Some Stopped)
+    × (refusal {G = G} (faulty_setup d f true) true [] (Offering 12 entry 0) ≡ Some Stopped)
     × (refusal {G = G} (faulty_setup d f true) false [] (Receiving [] 0) ≡ Some (Bad_datagram d))
-    × (refusal {G = G} (faulty_setup d f true) false [] (Offering 12 tape 0) ≡ Some (Tape_faulty f))
+    × (refusal {G = G} (faulty_setup d f true) false [] (Offering 12 entry 0) ≡ Some (Tape_faulty f))
 
 -- a stranger's packet for another member is one for another member
 abbrev pub AddresseeIsToldFirst : (D F : Type 0) → Type 0
 AddresseeIsToldFirst D F = packet_refusal {D = D} {F = F} (sits 7 2 3) (packet_to (sits 7 4 3) 12 (ballot 1 4) Prepare 3) ≡ Some Not_for_me
 
--- a number out of range, and one that is open, is told before what is wrong with the tape
+-- a number out of range, and one that is open, is told before what is wrong with the entry
 abbrev pub NumberIsToldFirst : (D G F : Type 0) → Type 0
 NumberIsToldFirst D G F =
-    (d : D) (f : F) (tape : Tape)
-    → (refusal {G = G} (faulty_setup d f true) false [] (Offering 0 tape 0) ≡ Some Bad_number)
-    × (refusal {G = G} (faulty_setup d f false) false (run_of (sits 7 2 3) (Offered 12 tape 0 ∷ [])).marks (Offering 12 tape 0) ≡ Some Already_open)
+    (d : D) (f : F) (entry : Entry)
+    → (refusal {G = G} (faulty_setup d f true) false [] (Offering 0 entry 0) ≡ Some Bad_number)
+    × (refusal {G = G} (faulty_setup d f false) false (run_of (sits 7 2 3) (Offered 12 entry 0 ∷ [])).marks (Offering 12 entry 0) ≡ Some Already_open)
 
--- that a version has no spelling for a tape is told before the tape's own fault
+-- that a version has no spelling for an entry is told before the entry's own fault
 abbrev pub VersionIsToldFirst : (D G F : Type 0) → Type 0
-VersionIsToldFirst D G F = (d : D) (f : F) (tape : Tape) → refusal {G = G} (faulty_setup d f false) false [] (Offering 12 tape 0) ≡ Some Wire_too_old
+VersionIsToldFirst D G F = (d : D) (f : F) (entry : Entry) → refusal {G = G} (faulty_setup d f false) false [] (Offering 12 entry 0) ≡ Some Wire_too_old
+
+-- a station at version 1 refuses to withdraw a number; at version 2 nothing refuses before the withdrawal is set
+abbrev pub WithdrawalWantsVersionTwo : (D G F : Type 0) → Type 0
+WithdrawalWantsVersionTwo D G F =
+    (z : Circuit D G F) (m : ℕ)
+    → (refusal (setup_of z One m) false [] (Offering 12 Void 0) ≡ Some Wire_too_old) × (early_refusal (setup_of z Two m) false [] (Offering 12 Void 0) ≡ None)
 
 -- a step that was taken, and how it ended
 pub record Taken (D F : Type 0) : Type 0 where
@@ -69,107 +76,138 @@ abbrev pub steps_of : {D G F : Type 0} {z : Circuit D G F} {w : State G F} → H
 steps_of (starts version f) = []
 steps_of (goes_on h s o st) = steps_of h ++ record { step = s; outcome = o } ∷ []
 
--- a member's release of a tape, set as it sets it
-abbrev pub release_by : {D G F : Type 0} → Circuit D G F → ℕ → Tape → Release G F
-release_by z m tape = record { member = m; number = 12; tape = tape; set = z.sets m tape }
+-- a member's release of an entry, set as it sets it
+abbrev pub release_by : {D G F : Type 0} → Circuit D G F → ℕ → Entry → Release G F
+release_by z m entry = record { member = m; number = 12; entry = entry; set = z.sets m entry }
 
 -- the versions at which a history started
 abbrev pub started_at : {D G F : Type 0} {z : Circuit D G F} {w : State G F} → History z w → ℕ → Version
 started_at (starts version f) = version
 started_at (goes_on h s o st) = started_at h
 
--- 1 of 1 that is offered a tape that fits its version and sets releases it
+-- 1 of 1 that is offered an entry that fits its version and sets releases it
 abbrev pub OneMemberReleases : (D G F : Type 0) → Type 0
 OneMemberReleases D G F =
-    (z : Circuit D G F) (v : Version) (tape : Tape) (slugs : G) → z.count ≡ 1 → fits v tape ≡ true → z.sets 1 tape ≡ Ok slugs
-    → (w : State G F) × (h : History z w) × (started_at h 1 ≡ v) × (w.releases ≡ release_by z 1 tape ∷ [])
-    × (steps_of h ≡ record { step = Offers 1 12 tape 0; outcome = Done (Note_proposed (ballot 1 1)) } ∷ [])
+    (z : Circuit D G F) (v : Version) (entry : Entry) (slugs : G) → z.count ≡ 1 → fits v entry ≡ true → z.sets 1 entry ≡ Ok slugs
+    → (w : State G F) × (h : History z w) × (started_at h 1 ≡ v) × (w.releases ≡ release_by z 1 entry ∷ [])
+    × (steps_of h ≡ record { step = Offers 1 12 entry 0; outcome = Done (Note_proposed (ballot 1 1)) } ∷ [])
 
 -- a vote that was saved as the store failed is released after the restart:
 -- the station is stopped in between, and finds it as its own report by a search
 abbrev pub SavedVoteIsReleased : (D G F : Type 0) → Type 0
 SavedVoteIsReleased D G F =
-    (z : Circuit D G F) (v : Version) (tape : Tape) (slugs : G) → z.count ≡ 1 → fits v tape ≡ true → z.sets 1 tape ≡ Ok slugs
-    → (w : State G F) × (h : History z w) × (started_at h 1 ≡ v) × (w.releases ≡ release_by z 1 tape ∷ [])
+    (z : Circuit D G F) (v : Version) (entry : Entry) (slugs : G) → z.count ≡ 1 → fits v entry ≡ true → z.sets 1 entry ≡ Ok slugs
+    → (w : State G F) × (h : History z w) × (started_at h 1 ≡ v) × (w.releases ≡ release_by z 1 entry ∷ [])
     × (steps_of h
     ≡ record { step = Balks 1 true; outcome = Armed true }
-    ∷ record { step = Offers 1 12 tape 0; outcome = Torn_as_armed }
+    ∷ record { step = Offers 1 12 entry 0; outcome = Torn_as_armed }
     ∷ record { step = Seeks 1 12 0; outcome = Refused Stopped }
     ∷ record { step = Restarts 1; outcome = Restarted }
     ∷ record { step = Seeks 1 12 0; outcome = Done (Note_proposed (ballot 2 1)) } ∷ [])
 
--- what goes out as 1 of 3 is offered a tape and 2 promises and votes
-abbrev pub packets_of_three : ℕ → Tape → List Packet
-packets_of_three k tape =
+-- what goes out as 1 of 3 is offered an entry and 2 promises and votes
+abbrev pub packets_of_three : ℕ → Entry → List Packet
+packets_of_three k entry =
     packet_to (sits k 1 3) 12 (ballot 1 1) Prepare 2 ∷ packet_to (sits k 1 3) 12 (ballot 1 1) Prepare 3
     ∷ packet_to (sits k 2 3) 12 (ballot 1 1) (Promise None) 1
-    ∷ packet_to (sits k 1 3) 12 (ballot 1 1) (Accept tape) 2 ∷ packet_to (sits k 1 3) 12 (ballot 1 1) (Accept tape) 3
-    ∷ packet_to (sits k 1 3) 12 (ballot 1 1) (Accepted tape) 2 ∷ packet_to (sits k 1 3) 12 (ballot 1 1) (Accepted tape) 3
-    ∷ packet_to (sits k 2 3) 12 (ballot 1 1) (Accepted tape) 1 ∷ packet_to (sits k 2 3) 12 (ballot 1 1) (Accepted tape) 3 ∷ []
+    ∷ packet_to (sits k 1 3) 12 (ballot 1 1) (Accept entry) 2 ∷ packet_to (sits k 1 3) 12 (ballot 1 1) (Accept entry) 3
+    ∷ packet_to (sits k 1 3) 12 (ballot 1 1) (Accepted entry) 2 ∷ packet_to (sits k 1 3) 12 (ballot 1 1) (Accepted entry) 3
+    ∷ packet_to (sits k 2 3) 12 (ballot 1 1) (Accepted entry) 1 ∷ packet_to (sits k 2 3) 12 (ballot 1 1) (Accepted entry) 3 ∷ []
 
 -- the packet, spelled and on its way
 abbrev pub datagram_of : (Packet → List ℕ) → Packet → Datagram
 datagram_of spell p = record { to = p.to; bytes = spell p }
 
--- of three members at one version, of which the first is offered a tape, all release it, though the third never voted:
--- 2 as it votes, 1 as it hears the vote of 2, and 3 as it has heard both
-abbrev pub ThreeMembersRelease : (D G F : Type 0) → Type 0
-ThreeMembersRelease D G F =
-    (z : Circuit D G F) (v : Version) (spell : Packet → List ℕ) (tape : Tape) (slugs : G) → z.count ≡ 3 → fits v tape ≡ true → z.sets 1 tape ≡ Ok slugs
-    → AllZip (Carries z v) (packets_of_three z.number tape) (map (datagram_of spell) (packets_of_three z.number tape))
-    → (w : State G F) × (h : History z w) × ((m : ℕ) → started_at h m ≡ v) × (w.releases ≡ release_by z 2 tape ∷ release_by z 1 tape ∷ release_by z 3 tape ∷ [])
-    × (w.sent ≡ map (datagram_of spell) (packets_of_three z.number tape))
-    × (steps_of h
-    ≡ record { step = Offers 1 12 tape 0; outcome = Done (Note_began (ballot 1 1)) }
+-- the steps in which 1 of three is offered an entry, 2 promises and votes for it, and each hears the two votes
+abbrev pub steps_of_three : {D F : Type 0} → Entry → List (Taken D F)
+steps_of_three entry =
+    record { step = Offers 1 12 entry 0; outcome = Done (Note_began (ballot 1 1)) }
     ∷ record { step = Delivers 1 0; outcome = Done (Note_promised (ballot 1 1)) }
     ∷ record { step = Delivers 3 0; outcome = Done (Note_proposed (ballot 1 1)) }
     ∷ record { step = Delivers 6 0; outcome = Done (Note_heard (ballot 1 1)) }
     ∷ record { step = Delivers 4 0; outcome = Done (Note_voted (ballot 1 1)) }
     ∷ record { step = Delivers 8 0; outcome = Done (Note_heard (ballot 1 1)) }
     ∷ record { step = Delivers 9 0; outcome = Done (Note_heard (ballot 1 1)) }
-    ∷ record { step = Delivers 7 0; outcome = Done (Note_heard (ballot 1 1)) } ∷ [])
+    ∷ record { step = Delivers 7 0; outcome = Done (Note_heard (ballot 1 1)) } ∷ []
 
--- 1 of 1, at version 1, is offered a tape that version 1 has no spelling for, after an upgrade that its store refused.
--- Where the store stayed at version 1 the tape is refused; where it went over all the same, the tape is released
+-- of three members at one version, of which the first is offered an entry, all release it, though the third never voted:
+-- 2 as it votes, 1 as it hears the vote of 2, and 3 as it has heard both
+abbrev pub ThreeMembersRelease : (D G F : Type 0) → Type 0
+ThreeMembersRelease D G F =
+    (z : Circuit D G F) (v : Version) (spell : Packet → List ℕ) (entry : Entry) (slugs : G) → z.count ≡ 3 → fits v entry ≡ true → z.sets 1 entry ≡ Ok slugs
+    → AllZip (Carries z v) (packets_of_three z.number entry) (map (datagram_of spell) (packets_of_three z.number entry))
+    → (w : State G F) × (h : History z w) × ((m : ℕ) → started_at h m ≡ v) × (w.releases ≡ release_by z 2 entry ∷ release_by z 1 entry ∷ release_by z 3 entry ∷ [])
+    × (w.sent ≡ map (datagram_of spell) (packets_of_three z.number entry))
+    × (steps_of h ≡ steps_of_three entry)
+
+-- three members at version 2, the first of which is to withdraw the number, agree on that and release it
+abbrev pub NumberIsWithdrawn : (D G F : Type 0) → Type 0
+NumberIsWithdrawn D G F =
+    (z : Circuit D G F) (spell : Packet → List ℕ) (nothing : G) → z.count ≡ 3 → z.sets 1 Void ≡ Ok nothing
+    → AllZip (Carries z Two) (packets_of_three z.number Void) (map (datagram_of spell) (packets_of_three z.number Void))
+    → (w : State G F) × (h : History z w) × ((m : ℕ) → started_at h m ≡ Two) × (w.releases ≡ release_by z 2 Void ∷ release_by z 1 Void ∷ release_by z 3 Void ∷ [])
+    × (w.sent ≡ map (datagram_of spell) (packets_of_three z.number Void))
+    × (steps_of h ≡ steps_of_three Void)
+
+-- 1 and 2 of three are at version 2, and 3 is at version 1. 1 is offered an entry, and 2 votes for it and releases it;
+-- 3 can read neither what 1 asks nor what 1 tells of its vote
+abbrev pub MixedMembersRelease : (D G F : Type 0) → Type 0
+MixedMembersRelease D G F =
+    (z : Circuit D G F) (spell : Packet → List ℕ) (entry : Entry) (slugs : G) (asked told : D) → z.count ≡ 3 → z.sets 1 entry ≡ Ok slugs
+    → AllZip (Carries z Two) (packets_of_three z.number entry) (map (datagram_of spell) (packets_of_three z.number entry))
+    → z.reads One (spell (packet_to (sits z.number 1 3) 12 (ballot 1 1) Prepare 3)) ≡ Err asked
+    → z.reads One (spell (packet_to (sits z.number 1 3) 12 (ballot 1 1) (Accepted entry) 3)) ≡ Err told
+    → (w : State G F) × (h : History z w) × ((m : ℕ) → started_at h m ≡ with_at (λ k. Two) 3 One m) × (w.releases ≡ release_by z 2 entry ∷ [])
+    × (steps_of h
+    ≡ record { step = Offers 1 12 entry 0; outcome = Done (Note_began (ballot 1 1)) }
+    ∷ record { step = Delivers 2 0; outcome = Refused (Bad_datagram asked) }
+    ∷ record { step = Delivers 1 0; outcome = Done (Note_promised (ballot 1 1)) }
+    ∷ record { step = Delivers 3 0; outcome = Done (Note_proposed (ballot 1 1)) }
+    ∷ record { step = Delivers 6 0; outcome = Done (Note_heard (ballot 1 1)) }
+    ∷ record { step = Delivers 4 0; outcome = Done (Note_voted (ballot 1 1)) }
+    ∷ record { step = Delivers 7 0; outcome = Refused (Bad_datagram told) } ∷ [])
+
+-- 1 of 1, at version 1, is offered an entry that version 1 has no spelling for, after an upgrade that its store refused.
+-- Where the store stayed at version 1 the entry is refused; where it went over all the same, the entry is released
 abbrev pub TornUpgrades : (D G F : Type 0) → Type 0
 TornUpgrades D G F =
-    (z : Circuit D G F) (tape : Tape) (slugs : G) → z.count ≡ 1 → fits One tape ≡ false → z.sets 1 tape ≡ Ok slugs
+    (z : Circuit D G F) (entry : Entry) (slugs : G) → z.count ≡ 1 → fits One entry ≡ false → z.sets 1 entry ≡ Ok slugs
     → ((w : State G F) × (h : History z w) × (started_at h 1 ≡ One) × (w.version 1 ≡ One)
     × (steps_of h
     ≡ record { step = Balks 1 false; outcome = Armed false }
     ∷ record { step = Upgrades 1; outcome = Torn_as_armed }
     ∷ record { step = Restarts 1; outcome = Restarted }
-    ∷ record { step = Offers 1 12 tape 0; outcome = Refused Wire_too_old } ∷ []))
-    × ((w : State G F) × (h : History z w) × (started_at h 1 ≡ One) × (w.releases ≡ release_by z 1 tape ∷ [])
+    ∷ record { step = Offers 1 12 entry 0; outcome = Refused Wire_too_old } ∷ []))
+    × ((w : State G F) × (h : History z w) × (started_at h 1 ≡ One) × (w.releases ≡ release_by z 1 entry ∷ [])
     × (steps_of h
     ≡ record { step = Balks 1 true; outcome = Armed true }
     ∷ record { step = Upgrades 1; outcome = Torn_as_armed }
     ∷ record { step = Restarts 1; outcome = Restarted }
-    ∷ record { step = Offers 1 12 tape 0; outcome = Done (Note_proposed (ballot 1 1)) } ∷ []))
+    ∷ record { step = Offers 1 12 entry 0; outcome = Done (Note_proposed (ballot 1 1)) } ∷ []))
 
 -- what goes out at version 2 after 2 and 3 of three went over: 3 asks for a ballot, 2 reports its vote of before,
--- and 3 proposes the tape of that vote
-abbrev pub packets_after : ℕ → Tape → List Packet
-packets_after k tape =
+-- and 3 proposes the entry of that vote
+abbrev pub packets_after : ℕ → Entry → List Packet
+packets_after k entry =
     packet_to (sits k 3 3) 12 (ballot 1 3) Prepare 1 ∷ packet_to (sits k 3 3) 12 (ballot 1 3) Prepare 2
-    ∷ packet_to (sits k 2 3) 12 (ballot 1 3) (Promise (Some (vote_for (ballot 1 1) tape))) 3
-    ∷ packet_to (sits k 3 3) 12 (ballot 1 3) (Accept tape) 1 ∷ packet_to (sits k 3 3) 12 (ballot 1 3) (Accept tape) 2
-    ∷ packet_to (sits k 3 3) 12 (ballot 1 3) (Accepted tape) 1 ∷ packet_to (sits k 3 3) 12 (ballot 1 3) (Accepted tape) 2
-    ∷ packet_to (sits k 2 3) 12 (ballot 1 3) (Accepted tape) 1 ∷ packet_to (sits k 2 3) 12 (ballot 1 3) (Accepted tape) 3 ∷ []
+    ∷ packet_to (sits k 2 3) 12 (ballot 1 3) (Promise (Some (vote_for (ballot 1 1) entry))) 3
+    ∷ packet_to (sits k 3 3) 12 (ballot 1 3) (Accept entry) 1 ∷ packet_to (sits k 3 3) 12 (ballot 1 3) (Accept entry) 2
+    ∷ packet_to (sits k 3 3) 12 (ballot 1 3) (Accepted entry) 1 ∷ packet_to (sits k 3 3) 12 (ballot 1 3) (Accepted entry) 2
+    ∷ packet_to (sits k 2 3) 12 (ballot 1 3) (Accepted entry) 1 ∷ packet_to (sits k 2 3) 12 (ballot 1 3) (Accepted entry) 3 ∷ []
 
--- 2 and 3 of three go over after 1 and 2 voted for a tape at version 1. 3 hears a vote that was sent at version 1,
--- is offered a tape of its own, finds the vote of 2, and releases the tape of that vote;
+-- 2 and 3 of three go over after 1 and 2 voted for an entry at version 1. 3 hears a vote that was sent at version 1,
+-- is offered an entry of its own, finds the vote of 2, and releases the entry of that vote;
 -- 1, which has not gone over, can't read what 3 asks
 abbrev pub VoteOutlivesUpgrades : (D G F : Type 0) → Type 0
 VoteOutlivesUpgrades D G F =
-    (z : Circuit D G F) (spell : Version → Packet → List ℕ) (tape own : Tape) (slugs : G) (fault : D)
-    → z.count ≡ 3 → fits One tape ≡ true → z.sets 1 tape ≡ Ok slugs → z.sets 3 own ≡ Ok slugs
-    → AllZip (Carries z One) (packets_of_three z.number tape) (map (datagram_of (spell One)) (packets_of_three z.number tape))
-    → AllZip (Carries z Two) (packets_after z.number tape) (map (datagram_of (spell Two)) (packets_after z.number tape))
+    (z : Circuit D G F) (spell : Version → Packet → List ℕ) (entry own : Entry) (slugs : G) (fault : D)
+    → z.count ≡ 3 → fits One entry ≡ true → z.sets 1 entry ≡ Ok slugs → z.sets 3 own ≡ Ok slugs
+    → AllZip (Carries z One) (packets_of_three z.number entry) (map (datagram_of (spell One)) (packets_of_three z.number entry))
+    → AllZip (Carries z Two) (packets_after z.number entry) (map (datagram_of (spell Two)) (packets_after z.number entry))
     → z.reads One (spell Two (packet_to (sits z.number 3 3) 12 (ballot 1 3) Prepare 1)) ≡ Err fault
-    → (w : State G F) × (h : History z w) × ((m : ℕ) → started_at h m ≡ One) × (w.releases ≡ release_by z 3 tape ∷ [])
+    → (w : State G F) × (h : History z w) × ((m : ℕ) → started_at h m ≡ One) × (w.releases ≡ release_by z 3 entry ∷ [])
     × (steps_of h
-    ≡ record { step = Offers 1 12 tape 0; outcome = Done (Note_began (ballot 1 1)) }
+    ≡ record { step = Offers 1 12 entry 0; outcome = Done (Note_began (ballot 1 1)) }
     ∷ record { step = Delivers 1 0; outcome = Done (Note_promised (ballot 1 1)) }
     ∷ record { step = Delivers 3 0; outcome = Done (Note_proposed (ballot 1 1)) }
     ∷ record { step = Delivers 4 0; outcome = Done (Note_voted (ballot 1 1)) }
@@ -183,27 +221,27 @@ VoteOutlivesUpgrades D G F =
     ∷ record { step = Delivers 14 0; outcome = Done (Note_voted (ballot 1 3)) }
     ∷ record { step = Delivers 18 0; outcome = Done (Note_heard (ballot 1 3)) } ∷ [])
 
--- a member's offer of a tape
-abbrev pub offer_by : ℕ → Tape → Offer
-offer_by m tape = record { member = m; number = 12; tape = tape }
+-- a member's offer of an entry
+abbrev pub offer_by : ℕ → Entry → Offer
+offer_by m entry = record { member = m; number = 12; entry = entry }
 
 -- 1 of 1 whose store refuses the save of its first offer, as unsaved, has no vote after the restart: a search finds nothing, at 1.1.
--- Its next offer ends in want of memory, which leaves the row and stops the station. After a restart an offer releases the tape at 2.1,
+-- Its next offer ends in want of memory, which leaves the row and stops the station. After a restart an offer releases the entry at 2.1,
 -- and after one more a search releases it again
 abbrev pub LosesWhatIsUnsaved : {D G F : Type 0} → Circuit D G F → Type 0
 LosesWhatIsUnsaved {D = D} {G = G} {F = F} z =
-    (v : Version) (tape : Tape) (slugs : G) → fits v tape ≡ true → z.sets 1 tape ≡ Ok slugs
+    (v : Version) (entry : Entry) (slugs : G) → fits v entry ≡ true → z.sets 1 entry ≡ Ok slugs
     → (w : State G F) × (h : History z w) × (started_at h 1 ≡ v)
-    × (w.releases ≡ release_by z 1 tape ∷ release_by z 1 tape ∷ []) × (w.offers ≡ offer_by 1 tape ∷ offer_by 1 tape ∷ offer_by 1 tape ∷ [])
+    × (w.releases ≡ release_by z 1 entry ∷ release_by z 1 entry ∷ []) × (w.offers ≡ offer_by 1 entry ∷ offer_by 1 entry ∷ offer_by 1 entry ∷ [])
     × (steps_of h
     ≡ record { step = Balks 1 false; outcome = Armed false }
-    ∷ record { step = Offers 1 12 tape 0; outcome = Torn_as_armed }
+    ∷ record { step = Offers 1 12 entry 0; outcome = Torn_as_armed }
     ∷ record { step = Restarts 1; outcome = Restarted }
     ∷ record { step = Seeks 1 12 0; outcome = Done (Note_nothing (ballot 1 1)) }
-    ∷ record { step = Offers 1 12 tape 0; outcome = Torn_by_memory }
+    ∷ record { step = Offers 1 12 entry 0; outcome = Torn_by_memory }
     ∷ record { step = Seeks 1 12 0; outcome = Refused Stopped }
     ∷ record { step = Restarts 1; outcome = Restarted }
-    ∷ record { step = Offers 1 12 tape 0; outcome = Done (Note_proposed (ballot 2 1)) }
+    ∷ record { step = Offers 1 12 entry 0; outcome = Done (Note_proposed (ballot 2 1)) }
     ∷ record { step = Restarts 1; outcome = Restarted }
     ∷ record { step = Seeks 1 12 0; outcome = Done (Note_proposed (ballot 3 1)) } ∷ [])
 
@@ -211,15 +249,15 @@ LosesWhatIsUnsaved {D = D} {G = G} {F = F} z =
 abbrev pub UnsavedVoteIsLost : (D G F : Type 0) → Type 0
 UnsavedVoteIsLost D G F = (z : Circuit D G F) → z.count ≡ 1 → LosesWhatIsUnsaved z
 
--- 1 of 1 is offered a tape that doesn't set. It is refused; but memory may be refused first, while the tape is set,
+-- 1 of 1 is offered an entry that doesn't set. It is refused; but memory may be refused first, while the entry is set,
 -- and then the station stops, and the offer counts as one that was made
 abbrev pub MemoryEndsSetting : {D G F : Type 0} → Circuit D G F → Type 0
 MemoryEndsSetting {D = D} {G = G} {F = F} z =
-    (v : Version) (tape : Tape) (fault : F) → fits v tape ≡ true → z.sets 1 tape ≡ Err fault
-    → (w : State G F) × (h : History z w) × (started_at h 1 ≡ v) × (w.is_stopped 1 ≡ true) × (w.offers ≡ offer_by 1 tape ∷ [])
+    (v : Version) (entry : Entry) (fault : F) → fits v entry ≡ true → z.sets 1 entry ≡ Err fault
+    → (w : State G F) × (h : History z w) × (started_at h 1 ≡ v) × (w.is_stopped 1 ≡ true) × (w.offers ≡ offer_by 1 entry ∷ [])
     × (steps_of h
-    ≡ record { step = Offers 1 12 tape 0; outcome = Refused (Tape_faulty fault) }
-    ∷ record { step = Offers 1 12 tape 0; outcome = Torn_by_memory } ∷ [])
+    ≡ record { step = Offers 1 12 entry 0; outcome = Refused (Tape_faulty fault) }
+    ∷ record { step = Offers 1 12 entry 0; outcome = Torn_by_memory } ∷ [])
 
 -- each circuit of one is such
 abbrev pub SettingWantsMemory : (D G F : Type 0) → Type 0
@@ -229,14 +267,14 @@ SettingWantsMemory D G F = (z : Circuit D G F) → z.count ≡ 1 → MemoryEndsS
 -- and the vote was saved, which a search finds after one more restart
 abbrev pub StaysArmed : {D G F : Type 0} → Circuit D G F → Type 0
 StaysArmed {D = D} {G = G} {F = F} z =
-    (v : Version) (tape : Tape) (slugs : G) → fits v tape ≡ true → z.sets 1 tape ≡ Ok slugs
+    (v : Version) (entry : Entry) (slugs : G) → fits v entry ≡ true → z.sets 1 entry ≡ Ok slugs
     → (w : State G F) × (h : History z w) × (started_at h 1 ≡ v)
-    × (w.releases ≡ release_by z 1 tape ∷ []) × (w.offers ≡ offer_by 1 tape ∷ offer_by 1 tape ∷ [])
+    × (w.releases ≡ release_by z 1 entry ∷ []) × (w.offers ≡ offer_by 1 entry ∷ offer_by 1 entry ∷ [])
     × (steps_of h
     ≡ record { step = Balks 1 true; outcome = Armed true }
-    ∷ record { step = Offers 1 12 tape 0; outcome = Torn_by_store }
+    ∷ record { step = Offers 1 12 entry 0; outcome = Torn_by_store }
     ∷ record { step = Restarts 1; outcome = Restarted }
-    ∷ record { step = Offers 1 12 tape 0; outcome = Torn_as_armed }
+    ∷ record { step = Offers 1 12 entry 0; outcome = Torn_as_armed }
     ∷ record { step = Restarts 1; outcome = Restarted }
     ∷ record { step = Seeks 1 12 0; outcome = Done (Note_proposed (ballot 2 1)) } ∷ [])
 
@@ -248,15 +286,15 @@ ReadingLeavesArmed D G F = (z : Circuit D G F) → z.count ≡ 1 → StaysArmed 
 -- and the next offer is not torn
 abbrev pub SaveIsRefusedTwice : {D G F : Type 0} → Circuit D G F → Type 0
 SaveIsRefusedTwice {D = D} {G = G} {F = F} z =
-    (v : Version) (tape : Tape) (slugs : G) → fits v tape ≡ true → z.sets 1 tape ≡ Ok slugs
+    (v : Version) (entry : Entry) (slugs : G) → fits v entry ≡ true → z.sets 1 entry ≡ Ok slugs
     → (w : State G F) × (h : History z w) × (started_at h 1 ≡ v)
-    × (w.releases ≡ release_by z 1 tape ∷ []) × (w.offers ≡ offer_by 1 tape ∷ offer_by 1 tape ∷ [])
+    × (w.releases ≡ release_by z 1 entry ∷ []) × (w.offers ≡ offer_by 1 entry ∷ offer_by 1 entry ∷ [])
     × (steps_of h
     ≡ record { step = Balks 1 true; outcome = Armed true }
-    ∷ record { step = Offers 1 12 tape 0; outcome = Torn_by_store }
+    ∷ record { step = Offers 1 12 entry 0; outcome = Torn_by_store }
     ∷ record { step = Restarts 1; outcome = Restarted }
     ∷ record { step = Seeks 1 12 0; outcome = Done (Note_nothing (ballot 1 1)) }
-    ∷ record { step = Offers 1 12 tape 0; outcome = Done (Note_proposed (ballot 2 1)) } ∷ [])
+    ∷ record { step = Offers 1 12 entry 0; outcome = Done (Note_proposed (ballot 2 1)) } ∷ [])
 
 -- each circuit of one is such
 abbrev pub StoreRefusesToo : (D G F : Type 0) → Type 0
@@ -275,7 +313,7 @@ packets_denied k =
 -- 1 is not due at 289, and at 290 it begins 2.1, above the Nack. Nobody votes, so nothing is released
 abbrev pub DeniesTheLower : {D G F : Type 0} → Circuit D G F → Type 0
 DeniesTheLower {D = D} {G = G} {F = F} z =
-    (v : Version) (spell : Packet → List ℕ) (x y : Tape) (one three : G) → fits v x ≡ true → fits v y ≡ true → z.sets 3 x ≡ Ok three → z.sets 1 y ≡ Ok one
+    (v : Version) (spell : Packet → List ℕ) (x y : Entry) (one three : G) → fits v x ≡ true → fits v y ≡ true → z.sets 3 x ≡ Ok three → z.sets 1 y ≡ Ok one
     → AllZip (Carries z v) (packets_denied z.number) (map (datagram_of spell) (packets_denied z.number))
     → (w : State G F) × (h : History z w) × ((m : ℕ) → started_at h m ≡ v) × (w.releases ≡ []) × (w.sent ≡ map (datagram_of spell) (packets_denied z.number))
     × (steps_of h
@@ -292,15 +330,15 @@ DeniesTheLower {D = D} {G = G} {F = F} z =
 abbrev pub LowerIsDenied : (D G F : Type 0) → Type 0
 LowerIsDenied D G F = (z : Circuit D G F) → z.count ≡ 3 → DeniesTheLower z
 
--- what goes out in a fight of two proposers: 1 of 3 proposes its tape, for which 2 votes, and 3 proposes it anew
-abbrev pub packets_of_fight : ℕ → Tape → List Packet
-packets_of_fight k tape = packets_of_three k tape ++ packets_after k tape
+-- what goes out in a fight of two proposers: 1 of 3 proposes its entry, for which 2 votes, and 3 proposes it anew
+abbrev pub packets_of_fight : ℕ → Entry → List Packet
+packets_of_fight k entry = packets_of_three k entry ++ packets_after k entry
 
--- a fight of two proposers. 2 of three has voted for the tape of 1 at 1.1, and no one knows that it is chosen, when 3 is offered a tape of its own.
--- 2 reports its vote as it promises 1.3, so 3 proposes the tape of 1 and not its own, and releases it once 2 has voted at 1.3
+-- a fight of two proposers. 2 of three has voted for the entry of 1 at 1.1, and no one knows that it is chosen, when 3 is offered an entry of its own.
+-- 2 reports its vote as it promises 1.3, so 3 proposes the entry of 1 and not its own, and releases it once 2 has voted at 1.3
 abbrev pub FightsForOne : {D G F : Type 0} → Circuit D G F → Type 0
 FightsForOne {D = D} {G = G} {F = F} z =
-    (v : Version) (spell : Packet → List ℕ) (x y : Tape) (one three : G) → fits v x ≡ true → fits v y ≡ true → z.sets 1 x ≡ Ok one → z.sets 3 y ≡ Ok three
+    (v : Version) (spell : Packet → List ℕ) (x y : Entry) (one three : G) → fits v x ≡ true → fits v y ≡ true → z.sets 1 x ≡ Ok one → z.sets 3 y ≡ Ok three
     → AllZip (Carries z v) (packets_of_fight z.number x) (map (datagram_of spell) (packets_of_fight z.number x))
     → (w : State G F) × (h : History z w) × ((m : ℕ) → started_at h m ≡ v)
     × (w.releases ≡ release_by z 3 x ∷ []) × (w.offers ≡ offer_by 1 x ∷ offer_by 3 y ∷ []) × (w.sent ≡ map (datagram_of spell) (packets_of_fight z.number x))

@@ -1,19 +1,16 @@
 -- Votes, and the row that an acceptor keeps of one number.
-use Rattle.std.specs.Prelude.{ℕ, List, Bool, true, false, not, Option, Some, None}
+use Rattle.std.specs.Prelude.{Bool, true, false, not, Option, Some, None}
 use Rattle.protocol.specs.Ballots.{Ballot, is_below}
+use Rattle.protocol.specs.Entries.{Entry}
 
--- a tape is the list of its frames
-abbrev pub Tape : Type 0
-Tape = List ℕ
-
--- a proposal that was accepted: its ballot and its tape
+-- a proposal that was accepted: its ballot and its entry
 pub record Vote : Type 0 where
   pub ballot : Ballot
-  pub tape : Tape
+  pub entry : Entry
 
--- a vote for the tape at the ballot
-abbrev pub vote_for : Ballot → Tape → Vote
-vote_for b t = record { ballot = b; tape = t }
+-- a vote for the entry at the ballot
+abbrev pub vote_for : Ballot → Entry → Vote
+vote_for b t = record { ballot = b; entry = t }
 
 -- what an acceptor keeps in stable storage for one number: its highest promise, and its highest vote
 pub record Row : Type 0 where
@@ -35,5 +32,5 @@ abbrev pub raised : Row → Ballot → Row
 raised row b = record { promised = Some b; vote = row.vote }
 
 -- the row of an acceptor that votes for t at b: the vote raises the promise too
-abbrev pub voted : Ballot → Tape → Row
+abbrev pub voted : Ballot → Entry → Row
 voted b t = record { promised = Some b; vote = Some (vote_for b t) }

@@ -3,7 +3,8 @@
 use Rattle.std.specs.Prelude.{◌≡◌, ℕ, zero, suc, ◌*◌, List, [], ◌∷◌, ◌++◌, Option, Some, None, ◌==◌, map, if◌then◌else◌}
 use Rattle.protocol.specs.Seats.{Seat, sits}
 use Rattle.protocol.specs.Ballots.{Ballot}
-use Rattle.protocol.specs.Rows.{Tape, Row, vote_for, raised, blank}
+use Rattle.protocol.specs.Entries.{Entry}
+use Rattle.protocol.specs.Rows.{Row, vote_for, raised, blank}
 use Rattle.protocol.specs.Packets.{Packet, Body, Prepare, Promise, Accept, Accepted, Nack}
 use Rattle.protocol.specs.Marks.{Mark}
 use Rattle.protocol.specs.Proposals.{open_ballot}
@@ -13,7 +14,7 @@ use Rattle.protocol.specs.Turn.{Event, Offered, Sought, Came_due, Arrived, numbe
 pub record Shown : Type 0 where
   pub note : Note
   pub out : List Packet
-  pub release : Option Tape
+  pub release : Option Entry
 
 -- where a station stands, and what it has shown so far, the first first
 pub record Run : Type 0 where
@@ -44,7 +45,7 @@ abbrev pub notes_of : Run → List Note
 notes_of r = map (λ (s : Shown). s.note) r.shown
 
 -- what each turn of a run released
-abbrev pub releases_of : Run → List (Option Tape)
+abbrev pub releases_of : Run → List (Option Entry)
 releases_of r = map (λ (s : Shown). s.release) r.shown
 
 -- the ballot of this round and owner
@@ -63,61 +64,61 @@ gets from b body to = Arrived (sends from b body to) 0
 abbrev pub shows : Note → List Packet → Shown
 shows note out = record { note = note; out = out; release = None }
 
--- 1 of 1 that is offered a tape releases it at once
+-- 1 of 1 that is offered an entry releases it at once
 abbrev pub OneReleases : Type 0
 OneReleases =
-    (tape : Tape)
-    → (run_of (sits 7 1 1) (Offered 12 tape 0 ∷ [])).shown
-    ≡ record { note = Note_proposed (ballot 1 1); out = []; release = Some tape } ∷ []
+    (entry : Entry)
+    → (run_of (sits 7 1 1) (Offered 12 entry 0 ∷ [])).shown
+    ≡ record { note = Note_proposed (ballot 1 1); out = []; release = Some entry } ∷ []
 
--- 1 of 1 that seeks a tape of which nobody voted closes its proposal
+-- 1 of 1 that seeks an entry of which nobody voted closes its proposal
 abbrev pub OneFindsNothing : Type 0
 OneFindsNothing =
     (run_of (sits 7 1 1) (Sought 12 0 ∷ Came_due 12 1000 ∷ [])).shown
     ≡ shows (Note_nothing (ballot 1 1)) [] ∷ shows Note_idle [] ∷ []
 
--- 1 of 2, which is offered a tape, releases it once 2 has promised and voted
+-- 1 of 2, which is offered an entry, releases it once 2 has promised and voted
 abbrev pub FirstOfTwoReleases : Type 0
 FirstOfTwoReleases =
-    (tape : Tape)
-    → (run_of (sits 7 1 2) (Offered 12 tape 0 ∷ gets 2 (ballot 1 1) (Promise None) 1 ∷ gets 2 (ballot 1 1) (Accepted tape) 1 ∷ [])).shown
+    (entry : Entry)
+    → (run_of (sits 7 1 2) (Offered 12 entry 0 ∷ gets 2 (ballot 1 1) (Promise None) 1 ∷ gets 2 (ballot 1 1) (Accepted entry) 1 ∷ [])).shown
     ≡ shows (Note_began (ballot 1 1)) (sends 1 (ballot 1 1) Prepare 2 ∷ [])
-    ∷ shows (Note_proposed (ballot 1 1)) (sends 1 (ballot 1 1) (Accept tape) 2 ∷ sends 1 (ballot 1 1) (Accepted tape) 2 ∷ [])
-    ∷ record { note = Note_heard (ballot 1 1); out = []; release = Some tape } ∷ []
+    ∷ shows (Note_proposed (ballot 1 1)) (sends 1 (ballot 1 1) (Accept entry) 2 ∷ sends 1 (ballot 1 1) (Accepted entry) 2 ∷ [])
+    ∷ record { note = Note_heard (ballot 1 1); out = []; release = Some entry } ∷ []
 
 -- 2 of 2 promises, hears the vote of 1, and releases once it has voted itself
 abbrev pub SecondOfTwoReleases : Type 0
 SecondOfTwoReleases =
-    (tape : Tape)
-    → (run_of (sits 7 2 2) (gets 1 (ballot 1 1) Prepare 2 ∷ gets 1 (ballot 1 1) (Accepted tape) 2 ∷ gets 1 (ballot 1 1) (Accept tape) 2 ∷ [])).shown
+    (entry : Entry)
+    → (run_of (sits 7 2 2) (gets 1 (ballot 1 1) Prepare 2 ∷ gets 1 (ballot 1 1) (Accepted entry) 2 ∷ gets 1 (ballot 1 1) (Accept entry) 2 ∷ [])).shown
     ≡ shows (Note_promised (ballot 1 1)) (sends 2 (ballot 1 1) (Promise None) 1 ∷ [])
     ∷ shows (Note_heard (ballot 1 1)) []
-    ∷ record { note = Note_voted (ballot 1 1); out = sends 2 (ballot 1 1) (Accepted tape) 1 ∷ []; release = Some tape } ∷ []
+    ∷ record { note = Note_voted (ballot 1 1); out = sends 2 (ballot 1 1) (Accepted entry) 1 ∷ []; release = Some entry } ∷ []
 
--- 3 of 3 is told that 2 voted at 1.1, and proposes that tape and not its own
+-- 3 of 3 is told that 2 voted at 1.1, and proposes that entry and not its own
 abbrev pub ThirdTakesOver : Type 0
 ThirdTakesOver =
-    (own tape : Tape)
-    → (run_of (sits 7 3 3) (Offered 12 own 0 ∷ gets 2 (ballot 1 3) (Promise (Some (vote_for (ballot 1 1) tape))) 3 ∷ gets 2 (ballot 1 3) (Accepted tape) 3 ∷ [])).shown
+    (own entry : Entry)
+    → (run_of (sits 7 3 3) (Offered 12 own 0 ∷ gets 2 (ballot 1 3) (Promise (Some (vote_for (ballot 1 1) entry))) 3 ∷ gets 2 (ballot 1 3) (Accepted entry) 3 ∷ [])).shown
     ≡ shows (Note_began (ballot 1 3)) (sends 3 (ballot 1 3) Prepare 1 ∷ sends 3 (ballot 1 3) Prepare 2 ∷ [])
     ∷ shows (Note_proposed (ballot 1 3))
-    (sends 3 (ballot 1 3) (Accept tape) 1 ∷ sends 3 (ballot 1 3) (Accept tape) 2
-    ∷ sends 3 (ballot 1 3) (Accepted tape) 1 ∷ sends 3 (ballot 1 3) (Accepted tape) 2 ∷ [])
-    ∷ record { note = Note_heard (ballot 1 3); out = []; release = Some tape } ∷ []
+    (sends 3 (ballot 1 3) (Accept entry) 1 ∷ sends 3 (ballot 1 3) (Accept entry) 2
+    ∷ sends 3 (ballot 1 3) (Accepted entry) 1 ∷ sends 3 (ballot 1 3) (Accepted entry) 2 ∷ [])
+    ∷ record { note = Note_heard (ballot 1 3); out = []; release = Some entry } ∷ []
 
 -- 3 of 5 takes the greater of two reports, whichever came first
 abbrev pub GreaterReportIsTaken : Type 0
 GreaterReportIsTaken =
-    (own x y : Tape)
+    (own x y : Entry)
     → ((run_of (sits 7 3 5) (Offered 12 own 0 ∷ gets 1 (ballot 1 3) (Promise (Some (vote_for (ballot 1 1) x))) 3 ∷ gets 2 (ballot 1 3) (Promise (Some (vote_for (ballot 1 2) y))) 3 ∷ [])).row.vote
     ≡ Some (vote_for (ballot 1 3) y))
     × ((run_of (sits 7 3 5) (Offered 12 own 0 ∷ gets 2 (ballot 1 3) (Promise (Some (vote_for (ballot 1 2) y))) 3 ∷ gets 1 (ballot 1 3) (Promise (Some (vote_for (ballot 1 1) x))) 3 ∷ [])).row.vote
     ≡ Some (vote_for (ballot 1 3) y))
 
--- of reports at one ballot 3 of 5 takes that of the least member, and of votes heard at one ballot its tape
+-- of reports at one ballot 3 of 5 takes that of the least member, and of votes heard at one ballot its entry
 abbrev pub LeastMemberDecides : Type 0
 LeastMemberDecides =
-    (own x y : Tape)
+    (own x y : Entry)
     → ((run_of (sits 7 3 5) (Offered 12 own 0 ∷ gets 1 (ballot 1 3) (Promise (Some (vote_for (ballot 1 1) x))) 3 ∷ gets 2 (ballot 1 3) (Promise (Some (vote_for (ballot 1 1) y))) 3 ∷ [])).row.vote
     ≡ Some (vote_for (ballot 1 3) x))
     × ((run_of (sits 7 3 5) (Offered 12 own 0 ∷ gets 2 (ballot 1 3) (Promise (Some (vote_for (ballot 1 1) y))) 3 ∷ gets 1 (ballot 1 3) (Promise (Some (vote_for (ballot 1 1) x))) 3 ∷ [])).row.vote
@@ -128,24 +129,24 @@ LeastMemberDecides =
 -- 2 of 3 that voted at 1.1 reports that vote as it promises 1.3
 abbrev pub VoteIsReported : Type 0
 VoteIsReported =
-    (tape : Tape)
-    → (run_of (sits 7 2 3) (gets 1 (ballot 1 1) (Accept tape) 2 ∷ gets 3 (ballot 1 3) Prepare 2 ∷ [])).shown
-    ≡ shows (Note_voted (ballot 1 1)) (sends 2 (ballot 1 1) (Accepted tape) 1 ∷ sends 2 (ballot 1 1) (Accepted tape) 3 ∷ [])
-    ∷ shows (Note_promised (ballot 1 3)) (sends 2 (ballot 1 3) (Promise (Some (vote_for (ballot 1 1) tape))) 3 ∷ []) ∷ []
+    (entry : Entry)
+    → (run_of (sits 7 2 3) (gets 1 (ballot 1 1) (Accept entry) 2 ∷ gets 3 (ballot 1 3) Prepare 2 ∷ [])).shown
+    ≡ shows (Note_voted (ballot 1 1)) (sends 2 (ballot 1 1) (Accepted entry) 1 ∷ sends 2 (ballot 1 1) (Accepted entry) 3 ∷ [])
+    ∷ shows (Note_promised (ballot 1 3)) (sends 2 (ballot 1 3) (Promise (Some (vote_for (ballot 1 1) entry))) 3 ∷ []) ∷ []
 
 -- 1 of 3 that promised 1.3 while it gathered at 1.1 counts no promise at 1.1, and gathers on
 abbrev pub PassedIsOvertaken : Type 0
 PassedIsOvertaken =
-    (tape : Tape)
-    → (notes_of (run_of (sits 7 1 3) (Offered 12 tape 0 ∷ gets 3 (ballot 1 3) Prepare 1 ∷ gets 2 (ballot 1 1) (Promise None) 1 ∷ []))
+    (entry : Entry)
+    → (notes_of (run_of (sits 7 1 3) (Offered 12 entry 0 ∷ gets 3 (ballot 1 3) Prepare 1 ∷ gets 2 (ballot 1 1) (Promise None) 1 ∷ []))
     ≡ Note_began (ballot 1 1) ∷ Note_promised (ballot 1 3) ∷ Note_overtaken (ballot 1 1) ∷ [])
-    × (open_ballot 12 (run_of (sits 7 1 3) (Offered 12 tape 0 ∷ gets 3 (ballot 1 3) Prepare 1 ∷ gets 2 (ballot 1 1) (Promise None) 1 ∷ [])).marks ≡ Some (ballot 1 1))
+    × (open_ballot 12 (run_of (sits 7 1 3) (Offered 12 entry 0 ∷ gets 3 (ballot 1 3) Prepare 1 ∷ gets 2 (ballot 1 1) (Promise None) 1 ∷ [])).marks ≡ Some (ballot 1 1))
 
 -- 2 of 3 that promised 1.3 answers a Prepare and an Accept of 1.1 with a Nack, and a Prepare of 1.3 again with nothing
 abbrev pub LowerIsNacked : Type 0
 LowerIsNacked =
-    (tape : Tape)
-    → (run_of (sits 7 2 3) (gets 3 (ballot 1 3) Prepare 2 ∷ gets 1 (ballot 1 1) Prepare 2 ∷ gets 1 (ballot 1 1) (Accept tape) 2 ∷ gets 3 (ballot 1 3) Prepare 2 ∷ [])).shown
+    (entry : Entry)
+    → (run_of (sits 7 2 3) (gets 3 (ballot 1 3) Prepare 2 ∷ gets 1 (ballot 1 1) Prepare 2 ∷ gets 1 (ballot 1 1) (Accept entry) 2 ∷ gets 3 (ballot 1 3) Prepare 2 ∷ [])).shown
     ≡ shows (Note_promised (ballot 1 3)) (sends 2 (ballot 1 3) (Promise None) 3 ∷ [])
     ∷ shows (Note_nacked (ballot 1 3)) (sends 2 (ballot 1 1) (Nack (ballot 1 3)) 1 ∷ [])
     ∷ shows (Note_nacked (ballot 1 3)) (sends 2 (ballot 1 1) (Nack (ballot 1 3)) 1 ∷ [])
@@ -154,39 +155,39 @@ LowerIsNacked =
 -- 1 of 3 is due 290 after it began, and begins above the Nack of 6.2
 abbrev pub FallsDueAbove : Type 0
 FallsDueAbove =
-    (tape : Tape)
-    → notes_of (run_of (sits 7 1 3) (Offered 12 tape 0 ∷ gets 2 (ballot 1 1) (Nack (ballot 6 2)) 1 ∷ Came_due 12 289 ∷ Came_due 12 290 ∷ []))
+    (entry : Entry)
+    → notes_of (run_of (sits 7 1 3) (Offered 12 entry 0 ∷ gets 2 (ballot 1 1) (Nack (ballot 6 2)) 1 ∷ Came_due 12 289 ∷ Came_due 12 290 ∷ []))
     ≡ Note_began (ballot 1 1) ∷ Note_denied (ballot 6 2) ∷ Note_idle ∷ Note_began (ballot 7 1) ∷ []
 
 -- 1 of 3 that starts with a promise of 1.1 begins above it
 abbrev pub BeginsAbovePromise : Type 0
 BeginsAbovePromise =
-    (tape : Tape)
-    → (run_from (sits 7 1 3) (raised blank (ballot 1 1)) (Offered 12 tape 0 ∷ [])).shown
+    (entry : Entry)
+    → (run_from (sits 7 1 3) (raised blank (ballot 1 1)) (Offered 12 entry 0 ∷ [])).shown
     ≡ shows (Note_began (ballot 2 1)) (sends 1 (ballot 2 1) Prepare 2 ∷ sends 1 (ballot 2 1) Prepare 3 ∷ []) ∷ []
 
 -- 1 of 3 that promised the last round has no turn for an offer
 abbrev pub LastRoundIsSpent : Type 0
-LastRoundIsSpent = (tape : Tape) → turn (sits 7 1 3) [] (raised blank (ballot 4294967295 2)) (Offered 12 tape 0) ≡ None
+LastRoundIsSpent = (entry : Entry) → turn (sits 7 1 3) [] (raised blank (ballot 4294967295 2)) (Offered 12 entry 0) ≡ None
 
 -- votes of two ballots aren't added up at 3 of 3, and a later vote of a lesser ballot changes nothing
 abbrev pub BallotsStandApart : Type 0
 BallotsStandApart =
-    (x y : Tape)
+    (x y : Entry)
     → releases_of (run_of (sits 7 3 3) (gets 2 (ballot 1 1) (Accepted x) 3 ∷ gets 1 (ballot 1 2) (Accepted y) 3 ∷ gets 1 (ballot 1 1) (Accepted x) 3 ∷ gets 2 (ballot 1 2) (Accepted y) 3 ∷ []))
     ≡ None ∷ None ∷ None ∷ Some y ∷ []
 
 -- one member's vote that comes three times counts once at 3 of 3
 abbrev pub RepeatedVoteCountsOnce : Type 0
 RepeatedVoteCountsOnce =
-    (tape : Tape)
-    → (run_of (sits 7 3 3) (gets 1 (ballot 1 1) (Accepted tape) 3 ∷ gets 1 (ballot 1 1) (Accepted tape) 3 ∷ gets 1 (ballot 1 1) (Accepted tape) 3 ∷ [])).shown
+    (entry : Entry)
+    → (run_of (sits 7 3 3) (gets 1 (ballot 1 1) (Accepted entry) 3 ∷ gets 1 (ballot 1 1) (Accepted entry) 3 ∷ gets 1 (ballot 1 1) (Accepted entry) 3 ∷ [])).shown
     ≡ shows (Note_heard (ballot 1 1)) [] ∷ shows (Note_heard (ballot 1 1)) [] ∷ shows (Note_heard (ballot 1 1)) [] ∷ []
 
 -- of two Accepts at one ballot the first stands at 2 of 3, and is what it votes again
 abbrev pub FirstAcceptStands : Type 0
 FirstAcceptStands =
-    (x y : Tape)
+    (x y : Entry)
     → (run_of (sits 7 2 3) (gets 1 (ballot 1 1) (Accept x) 2 ∷ gets 1 (ballot 1 1) (Accept y) 2 ∷ [])).shown
     ≡ shows (Note_voted (ballot 1 1)) (sends 2 (ballot 1 1) (Accepted x) 1 ∷ sends 2 (ballot 1 1) (Accepted x) 3 ∷ [])
     ∷ shows (Note_voted_again (ballot 1 1)) (sends 2 (ballot 1 1) (Accepted x) 1 ∷ sends 2 (ballot 1 1) (Accepted x) 3 ∷ []) ∷ []
@@ -194,8 +195,8 @@ FirstAcceptStands =
 -- a vote that comes after the release settles nothing more at 3 of 3
 abbrev pub ReleasedIsSettled : Type 0
 ReleasedIsSettled =
-    (tape : Tape)
-    → notes_of (run_of (sits 7 3 3) (gets 1 (ballot 1 1) (Accepted tape) 3 ∷ gets 2 (ballot 1 1) (Accepted tape) 3 ∷ gets 1 (ballot 1 1) (Accepted tape) 3 ∷ []))
+    (entry : Entry)
+    → notes_of (run_of (sits 7 3 3) (gets 1 (ballot 1 1) (Accepted entry) 3 ∷ gets 2 (ballot 1 1) (Accepted entry) 3 ∷ gets 1 (ballot 1 1) (Accepted entry) 3 ∷ []))
     ≡ Note_heard (ballot 1 1) ∷ Note_heard (ballot 1 1) ∷ Note_settled ∷ []
 
 -- the due moments 290, 580 and on, this many
@@ -210,10 +211,10 @@ begins_at n = shows (Note_began (ballot n 1)) (sends 1 (ballot n 1) Prepare 2 �
 -- 1 of 2 that hears nothing begins 32 ballots, and then gives up
 abbrev pub GivesUp : Type 0
 GivesUp =
-    (tape : Tape)
-    → ((run_of (sits 7 1 2) (Offered 12 tape 0 ∷ dues 32)).shown ≡ (run_of (sits 7 1 2) (Offered 12 tape 0 ∷ dues 31)).shown ++ shows (Note_gave_up (ballot 32 1)) [] ∷ [])
-    × ((run_of (sits 7 1 2) (Offered 12 tape 0 ∷ dues 31)).shown ≡ (run_of (sits 7 1 2) (Offered 12 tape 0 ∷ dues 30)).shown ++ begins_at 32 ∷ [])
-    × (open_ballot 12 (run_of (sits 7 1 2) (Offered 12 tape 0 ∷ dues 32)).marks ≡ None)
+    (entry : Entry)
+    → ((run_of (sits 7 1 2) (Offered 12 entry 0 ∷ dues 32)).shown ≡ (run_of (sits 7 1 2) (Offered 12 entry 0 ∷ dues 31)).shown ++ shows (Note_gave_up (ballot 32 1)) [] ∷ [])
+    × ((run_of (sits 7 1 2) (Offered 12 entry 0 ∷ dues 31)).shown ≡ (run_of (sits 7 1 2) (Offered 12 entry 0 ∷ dues 30)).shown ++ begins_at 32 ∷ [])
+    × (open_ballot 12 (run_of (sits 7 1 2) (Offered 12 entry 0 ∷ dues 32)).marks ≡ None)
 
 -- where a station stands with the rows of all its numbers, and what it has shown so far, the first first
 pub record Station : Type 0 where
@@ -243,15 +244,15 @@ notes_over seat es = map (λ (s : Shown). s.note) (takes_on seat (record { marks
 -- at its due moment it is denied by nothing, so it goes on above the row's own promise of 2.1 and not above 6.2
 abbrev pub ClosedIsForgotten : Type 0
 ClosedIsForgotten =
-    (tape : Tape)
-    → notes_of (run_of (sits 7 1 3) (Sought 12 0 ∷ gets 2 (ballot 1 1) (Nack (ballot 6 2)) 1 ∷ gets 3 (ballot 1 1) (Promise None) 1 ∷ Offered 12 tape 0 ∷ Came_due 12 290 ∷ []))
+    (entry : Entry)
+    → notes_of (run_of (sits 7 1 3) (Sought 12 0 ∷ gets 2 (ballot 1 1) (Nack (ballot 6 2)) 1 ∷ gets 3 (ballot 1 1) (Promise None) 1 ∷ Offered 12 entry 0 ∷ Came_due 12 290 ∷ []))
     ≡ Note_began (ballot 1 1) ∷ Note_denied (ballot 6 2) ∷ Note_nothing (ballot 1 1) ∷ Note_began (ballot 2 1) ∷ Note_began (ballot 3 1) ∷ []
 
--- 1 of 3 seeks 13 while it offers a tape for 12. As 13 is closed, 12 stays open and denied by 6.2, so it goes on above 6.2;
+-- 1 of 3 seeks 13 while it offers an entry for 12. As 13 is closed, 12 stays open and denied by 6.2, so it goes on above 6.2;
 -- and as 13 is released, 12 stays open too
 abbrev pub NumbersStandApart : Type 0
 NumbersStandApart =
-    (x y : Tape)
+    (x y : Entry)
     → notes_over (sits 7 1 3) (
     Sought 13 0 ∷ Offered 12 x 0 ∷ gets 2 (ballot 1 1) (Nack (ballot 6 2)) 1
     ∷ Arrived (packet_to (sits 7 2 3) 13 (ballot 1 1) (Promise None) 1) 0 ∷ Came_due 13 290 ∷ Came_due 12 290
@@ -262,19 +263,19 @@ NumbersStandApart =
     ∷ Note_nothing (ballot 1 1) ∷ Note_idle ∷ Note_began (ballot 7 1)
     ∷ Note_heard (ballot 1 2) ∷ Note_heard (ballot 1 2) ∷ Note_settled ∷ Note_began (ballot 8 1) ∷ []
 
--- 1 of 2 that gave up at 32.1 is offered a tape again: it begins above its saved promise, and counts its ballots from the first
+-- 1 of 2 that gave up at 32.1 is offered an entry again: it begins above its saved promise, and counts its ballots from the first
 abbrev pub OfferedAfterGivingUp : Type 0
 OfferedAfterGivingUp =
-    (tape : Tape)
-    → notes_of (run_of (sits 7 1 2) ((Offered 12 tape 0 ∷ dues 32) ++ Offered 12 tape 9280 ∷ Came_due 12 9570 ∷ []))
-    ≡ notes_of (run_of (sits 7 1 2) (Offered 12 tape 0 ∷ dues 32)) ++ Note_began (ballot 33 1) ∷ Note_began (ballot 34 1) ∷ []
+    (entry : Entry)
+    → notes_of (run_of (sits 7 1 2) ((Offered 12 entry 0 ∷ dues 32) ++ Offered 12 entry 9280 ∷ Came_due 12 9570 ∷ []))
+    ≡ notes_of (run_of (sits 7 1 2) (Offered 12 entry 0 ∷ dues 32)) ++ Note_began (ballot 33 1) ∷ Note_began (ballot 34 1) ∷ []
 
 -- 1 of 3 that promised the last round but one begins the last, gives up as that falls due, and has no turn for an offer then;
 -- one that is denied by the last round gives up at once
 abbrev pub LastRoundIsBegun : Type 0
 LastRoundIsBegun =
-    (tape : Tape)
-    → (notes_of (run_from (sits 7 1 3) (raised blank (ballot 4294967294 2)) (Offered 12 tape 0 ∷ Came_due 12 290 ∷ Offered 12 tape 300 ∷ []))
+    (entry : Entry)
+    → (notes_of (run_from (sits 7 1 3) (raised blank (ballot 4294967294 2)) (Offered 12 entry 0 ∷ Came_due 12 290 ∷ Offered 12 entry 300 ∷ []))
     ≡ Note_began (ballot 4294967295 1) ∷ Note_gave_up (ballot 4294967295 1) ∷ [])
-    × (notes_of (run_of (sits 7 1 3) (Offered 12 tape 0 ∷ gets 2 (ballot 1 1) (Nack (ballot 4294967295 2)) 1 ∷ Came_due 12 290 ∷ []))
+    × (notes_of (run_of (sits 7 1 3) (Offered 12 entry 0 ∷ gets 2 (ballot 1 1) (Nack (ballot 4294967295 2)) 1 ∷ Came_due 12 290 ∷ []))
     ≡ Note_began (ballot 1 1) ∷ Note_denied (ballot 4294967295 2) ∷ Note_gave_up (ballot 1 1) ∷ [])

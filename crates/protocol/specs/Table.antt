@@ -3,7 +3,8 @@
 use Rattle.std.specs.Prelude.{◌≡◌, ℕ, ◌<◌, ◌≤◌, ◌⊎◌, List, [], ◌∷◌, ◌++◌, Option, Some, None, MatchOption}
 use Rattle.protocol.specs.Seats.{Seat}
 use Rattle.protocol.specs.Ballots.{Ballot, IsBelow, IsNoneOrBelow, IsNoneOrAtMost, IsMember, next, Majority}
-use Rattle.protocol.specs.Rows.{Tape, Vote, vote_for, Row, raised, voted}
+use Rattle.protocol.specs.Entries.{Entry}
+use Rattle.protocol.specs.Rows.{Vote, vote_for, Row, raised, voted}
 use Rattle.protocol.specs.Packets.{Packet, Body, Prepare, Promise, Accept, Accepted, Nack}
 use Rattle.protocol.specs.Acceptor.{Request, Prepares, Accepts, Reply, Promises, Nacks, Says_nothing, Votes, Votes_again, reply_of, next_row}
 use Rattle.protocol.specs.Marks.{Mark, Began, Promised, Proposed, Denied, Heard, Closed, Released}
@@ -12,29 +13,29 @@ use Rattle.protocol.specs.Readings.{IsReleased, IsOpen, Gathers, IsCounted, Pick
 use Rattle.protocol.specs.Turn.{Event, Offered, Sought, Came_due, Arrived, number_of, Note, Note_began, Note_proposed, Note_nothing, Note_gave_up, Note_promised, Note_voted_again, Note_voted, Note_counted, Note_heard, Note_denied, Note_nacked, Note_overtaken, Note_idle, Note_silent, Note_stale, Note_repeated, Note_settled, Turn, stays, packet_to, to_others, packet_turn, turn}
 
 -- the vote of a member for n is heard
-pub data Hears (c n j : ℕ) (b : Ballot) (t : Tape) (marks : List Mark) (release : Option Tape) (after : List Mark) : Type 0 where
+pub data Hears (c n j : ℕ) (b : Ballot) (t : Entry) (marks : List Mark) (release : Option Entry) (after : List Mark) : Type 0 where
   was_settled : IsReleased marks n → release ≡ None → after ≡ marks → Hears c n j b t marks release after
   waits :
-      ¬ IsReleased marks n → ((a : Ballot) (u : Tape) → ¬ Ripe c (Heard n j b t ∷ marks) n a u)
+      ¬ IsReleased marks n → ((a : Ballot) (u : Entry) → ¬ Ripe c (Heard n j b t ∷ marks) n a u)
       → release ≡ None → after ≡ Heard n j b t ∷ marks → Hears c n j b t marks release after
   releases :
-      (a : Ballot) (u : Tape) → ¬ IsReleased marks n → Ripe c (Heard n j b t ∷ marks) n a u
+      (a : Ballot) (u : Entry) → ¬ IsReleased marks n → Ripe c (Heard n j b t ∷ marks) n a u
       → release ≡ Some u → after ≡ Released n u ∷ Heard n j b t ∷ marks → Hears c n j b t marks release after
 
--- the station proposes at b, with what its proposal has: its own tape, its own report and what came since it began
-pub data Proposes (s : Seat) (n : ℕ) (b : Ballot) (now : ℕ) (own : Option Tape) (report : Option Vote) (since : List Mark) (row : Row) (marks : List Mark) (t : Turn) : Type 0 where
+-- the station proposes at b, with what its proposal has: its own entry, its own report and what came since it began
+pub data Proposes (s : Seat) (n : ℕ) (b : Ballot) (now : ℕ) (own : Option Entry) (report : Option Vote) (since : List Mark) (row : Row) (marks : List Mark) (t : Turn) : Type 0 where
   nothing :
       Picks s.me n b own report since None
       → t ≡ stays row (Closed n ∷ marks) (Note_nothing b) → Proposes s n b now own report since row marks t
   proposes :
-      (tape : Tape) (release : Option Tape) (after : List Mark)
-      → Picks s.me n b own report since (Some tape)
-      → Hears s.members n s.me b tape (Proposed n b now ∷ marks) release after
-      → t ≡ record { row = voted b tape; marks = after; out = to_others s n b (Accept tape) ++ to_others s n b (Accepted tape); release = release; note = Note_proposed b }
+      (entry : Entry) (release : Option Entry) (after : List Mark)
+      → Picks s.me n b own report since (Some entry)
+      → Hears s.members n s.me b entry (Proposed n b now ∷ marks) release after
+      → t ≡ record { row = voted b entry; marks = after; out = to_others s n b (Accept entry) ++ to_others s n b (Accepted entry); release = release; note = Note_proposed b }
       → Proposes s n b now own report since row marks t
 
 -- the station begins ballot b
-pub data Begins (s : Seat) (n : ℕ) (b : Ballot) (own : Option Tape) (now : ℕ) (row : Row) (marks : List Mark) (t : Turn) : Type 0 where
+pub data Begins (s : Seat) (n : ℕ) (b : Ballot) (own : Option Entry) (now : ℕ) (row : Row) (marks : List Mark) (t : Turn) : Type 0 where
   asks :
       1 < s.members
       → t ≡ record { row = raised row b; marks = Began n b own row.vote now ∷ marks; out = to_others s n b Prepare; release = None; note = Note_began b }
@@ -44,7 +45,7 @@ pub data Begins (s : Seat) (n : ℕ) (b : Ballot) (own : Option Tape) (now : ℕ
       → Begins s n b own now row marks t
 
 -- an offer or a search
-pub data StartTurn (s : Seat) (n : ℕ) (own : Option Tape) (now : ℕ) (marks : List Mark) (row : Row) (t : Turn) : Type 0 where
+pub data StartTurn (s : Seat) (n : ℕ) (own : Option Entry) (now : ℕ) (marks : List Mark) (row : Row) (t : Turn) : Type 0 where
   starts : (b : Ballot) → next row.promised s.me ≡ Some b → Begins s n b own now row marks t → StartTurn s n own now marks row t
 
 -- the greater of two ballots that may be none
@@ -55,15 +56,15 @@ IsGreater p q (Some s) = (p ≡ Some s) × IsNoneOrAtMost q s ⊎ (q ≡ Some s)
 -- the due moment of n
 pub data DueTurn (s : Seat) (n now : ℕ) (marks : List Mark) (row : Row) (t : Turn) : Type 0 where
   is_idle :
-      ((b : Ballot) (own : Option Tape) → ¬ IsDue s.me marks now n b own)
+      ((b : Ballot) (own : Option Entry) → ¬ IsDue s.me marks now n b own)
       → t ≡ stays row marks Note_idle → DueTurn s n now marks row t
   gives_up :
-      (b : Ballot) (own : Option Tape) (denied seen : Option Ballot) → IsDue s.me marks now n b own
+      (b : Ballot) (own : Option Entry) (denied seen : Option Ballot) → IsDue s.me marks now n b own
       → GreatestDenied marks n denied → IsGreater row.promised denied seen
       → (32 ≤ begun n marks) ⊎ (next seen s.me ≡ None)
       → t ≡ stays row (Closed n ∷ marks) (Note_gave_up b) → DueTurn s n now marks row t
   begins_anew :
-      (b : Ballot) (own : Option Tape) (denied seen : Option Ballot) (a : Ballot) → IsDue s.me marks now n b own
+      (b : Ballot) (own : Option Entry) (denied seen : Option Ballot) (a : Ballot) → IsDue s.me marks now n b own
       → GreatestDenied marks n denied → IsGreater row.promised denied seen
       → begun n marks < 32 → next seen s.me ≡ Some a
       → Begins s n a own now row marks t → DueTurn s n now marks row t
@@ -80,49 +81,49 @@ pub data PrepareTurn (s : Seat) (marks : List Mark) (row : Row) (p : Packet) (t 
       → t ≡ record { row = row; marks = marks; out = packet_to s p.number p.ballot (Nack a) p.from ∷ []; release = None; note = Note_nacked a }
       → PrepareTurn s marks row p t
 
--- the row has a vote for the tape at b
-abbrev pub VotedAt : Row → Ballot → Tape → Type 0
-VotedAt row b tape = row.vote ≡ Some (vote_for b tape)
+-- the row has a vote for the entry at b
+abbrev pub VotedAt : Row → Ballot → Entry → Type 0
+VotedAt row b entry = row.vote ≡ Some (vote_for b entry)
 
 -- an Accept
-pub data AcceptTurn (s : Seat) (marks : List Mark) (row : Row) (p : Packet) (tape : Tape) (t : Turn) : Type 0 where
+pub data AcceptTurn (s : Seat) (marks : List Mark) (row : Row) (p : Packet) (entry : Entry) (t : Turn) : Type 0 where
   nacks :
       (a : Ballot) → row.promised ≡ Some a → IsBelow p.ballot a
       → t ≡ record { row = row; marks = marks; out = packet_to s p.number p.ballot (Nack a) p.from ∷ []; release = None; note = Note_nacked a }
-      → AcceptTurn s marks row p tape t
+      → AcceptTurn s marks row p entry t
   votes_again :
-      (own : Tape) (release : Option Tape) (after : List Mark)
+      (own : Entry) (release : Option Entry) (after : List Mark)
       → IsNoneOrAtMost row.promised p.ballot → VotedAt row p.ballot own
       → Hears s.members p.number s.me p.ballot own marks release after
       → t ≡ record { row = row; marks = after; out = to_others s p.number p.ballot (Accepted own); release = release; note = Note_voted_again p.ballot }
-      → AcceptTurn s marks row p tape t
+      → AcceptTurn s marks row p entry t
   votes :
-      (release : Option Tape) (after : List Mark)
-      → IsNoneOrAtMost row.promised p.ballot → ((own : Tape) → ¬ VotedAt row p.ballot own)
-      → Hears s.members p.number s.me p.ballot tape marks release after
-      → t ≡ record { row = voted p.ballot tape; marks = after; out = to_others s p.number p.ballot (Accepted tape); release = release; note = Note_voted p.ballot }
-      → AcceptTurn s marks row p tape t
+      (release : Option Entry) (after : List Mark)
+      → IsNoneOrAtMost row.promised p.ballot → ((own : Entry) → ¬ VotedAt row p.ballot own)
+      → Hears s.members p.number s.me p.ballot entry marks release after
+      → t ≡ record { row = voted p.ballot entry; marks = after; out = to_others s p.number p.ballot (Accepted entry); release = release; note = Note_voted p.ballot }
+      → AcceptTurn s marks row p entry t
 
 -- a Promise
 pub data PromiseTurn (s : Seat) (now : ℕ) (marks : List Mark) (row : Row) (p : Packet) (r : Option Vote) (t : Turn) : Type 0 where
   is_stale :
-      ((own : Option Tape) (report : Option Vote) (since : List Mark) → ¬ Gathers marks p.number p.ballot own report since)
+      ((own : Option Entry) (report : Option Vote) (since : List Mark) → ¬ Gathers marks p.number p.ballot own report since)
       → t ≡ stays row marks Note_stale → PromiseTurn s now marks row p r t
   is_overtaken :
-      (own : Option Tape) (report : Option Vote) (since : List Mark) → Gathers marks p.number p.ballot own report since
+      (own : Option Entry) (report : Option Vote) (since : List Mark) → Gathers marks p.number p.ballot own report since
       → ¬ (row.promised ≡ Some p.ballot)
       → t ≡ stays row marks (Note_overtaken p.ballot) → PromiseTurn s now marks row p r t
   is_repeated :
-      (own : Option Tape) (report : Option Vote) (since : List Mark) (v : Option Vote) → Gathers marks p.number p.ballot own report since
+      (own : Option Entry) (report : Option Vote) (since : List Mark) (v : Option Vote) → Gathers marks p.number p.ballot own report since
       → row.promised ≡ Some p.ballot → IsCounted s.me p.number p.ballot report since p.from v
       → t ≡ stays row marks Note_repeated → PromiseTurn s now marks row p r t
   counts :
-      (own : Option Tape) (report : Option Vote) (since : List Mark) → Gathers marks p.number p.ballot own report since
+      (own : Option Entry) (report : Option Vote) (since : List Mark) → Gathers marks p.number p.ballot own report since
       → row.promised ≡ Some p.ballot → ((v : Option Vote) → ¬ IsCounted s.me p.number p.ballot report since p.from v)
       → ¬ Majority s.members (λ j. (v : Option Vote) × IsCounted s.me p.number p.ballot report (Promised p.number p.from p.ballot r ∷ since) j v)
       → t ≡ stays row (Promised p.number p.from p.ballot r ∷ marks) (Note_counted p.ballot) → PromiseTurn s now marks row p r t
   completes :
-      (own : Option Tape) (report : Option Vote) (since : List Mark) → Gathers marks p.number p.ballot own report since
+      (own : Option Entry) (report : Option Vote) (since : List Mark) → Gathers marks p.number p.ballot own report since
       → row.promised ≡ Some p.ballot → ((v : Option Vote) → ¬ IsCounted s.me p.number p.ballot report since p.from v)
       → Majority s.members (λ j. (v : Option Vote) × IsCounted s.me p.number p.ballot report (Promised p.number p.from p.ballot r ∷ since) j v)
       → Proposes s p.number p.ballot now own report (Promised p.number p.from p.ballot r ∷ since) row (Promised p.number p.from p.ballot r ∷ marks) t → PromiseTurn s now marks row p r t
@@ -130,39 +131,39 @@ pub data PromiseTurn (s : Seat) (now : ℕ) (marks : List Mark) (row : Row) (p :
 -- a Nack
 pub data NackTurn (marks : List Mark) (row : Row) (p : Packet) (a : Ballot) (t : Turn) : Type 0 where
   is_stale :
-      ((own : Option Tape) (report : Option Vote) (since : List Mark) → ¬ IsOpen marks p.number p.ballot own report since)
+      ((own : Option Entry) (report : Option Vote) (since : List Mark) → ¬ IsOpen marks p.number p.ballot own report since)
       → t ≡ stays row marks Note_stale → NackTurn marks row p a t
   is_denied :
-      (own : Option Tape) (report : Option Vote) (since : List Mark) → IsOpen marks p.number p.ballot own report since
+      (own : Option Entry) (report : Option Vote) (since : List Mark) → IsOpen marks p.number p.ballot own report since
       → t ≡ stays row (Denied p.number a ∷ marks) (Note_denied a) → NackTurn marks row p a t
 
 -- an Accepted
-pub data AcceptedTurn (s : Seat) (marks : List Mark) (row : Row) (p : Packet) (tape : Tape) (t : Turn) : Type 0 where
-  settles : IsReleased marks p.number → t ≡ stays row marks Note_settled → AcceptedTurn s marks row p tape t
+pub data AcceptedTurn (s : Seat) (marks : List Mark) (row : Row) (p : Packet) (entry : Entry) (t : Turn) : Type 0 where
+  settles : IsReleased marks p.number → t ≡ stays row marks Note_settled → AcceptedTurn s marks row p entry t
   hears :
-      (release : Option Tape) (after : List Mark) → ¬ IsReleased marks p.number
-      → Hears s.members p.number p.from p.ballot tape marks release after
+      (release : Option Entry) (after : List Mark) → ¬ IsReleased marks p.number
+      → Hears s.members p.number p.from p.ballot entry marks release after
       → t ≡ record { row = row; marks = after; out = []; release = release; note = Note_heard p.ballot }
-      → AcceptedTurn s marks row p tape t
+      → AcceptedTurn s marks row p entry t
 
 -- a packet, by its body
 abbrev pub AnswerTurn : Seat → ℕ → List Mark → Row → Packet → Body → Turn → Type 0
 AnswerTurn s now marks row p Prepare t = PrepareTurn s marks row p t
 AnswerTurn s now marks row p (Promise r) t = PromiseTurn s now marks row p r t
-AnswerTurn s now marks row p (Accept tape) t = AcceptTurn s marks row p tape t
-AnswerTurn s now marks row p (Accepted tape) t = AcceptedTurn s marks row p tape t
+AnswerTurn s now marks row p (Accept entry) t = AcceptTurn s marks row p entry t
+AnswerTurn s now marks row p (Accepted entry) t = AcceptedTurn s marks row p entry t
 AnswerTurn s now marks row p (Nack a) t = NackTurn marks row p a t
 
 -- the station of this seat, with these marks and this row of the event's number, takes turn t
 abbrev pub IsTurn : Seat → List Mark → Row → Event → Turn → Type 0
-IsTurn s marks row (Offered n tape now) t = StartTurn s n (Some tape) now marks row t
+IsTurn s marks row (Offered n entry now) t = StartTurn s n (Some entry) now marks row t
 IsTurn s marks row (Sought n now) t = StartTurn s n None now marks row t
 IsTurn s marks row (Came_due n now) t = DueTurn s n now marks row t
 IsTurn s marks row (Arrived p now) t = AnswerTurn s now marks row p p.body t
 
 -- an offer or a search to which no ballot is left
 abbrev pub IsSpent : ℕ → Row → Event → Type 0
-IsSpent m row (Offered n tape now) = next row.promised m ≡ None
+IsSpent m row (Offered n entry now) = next row.promised m ≡ None
 IsSpent m row (Sought n now) = next row.promised m ≡ None
 IsSpent m row (Came_due n now) = ⊥
 IsSpent m row (Arrived p now) = ⊥
@@ -181,13 +182,13 @@ note_on b Says_nothing = Note_silent
 note_on b Votes = Note_voted b
 note_on b Votes_again = Note_voted_again b
 
--- a vote's tape, to all others
+-- a vote's entry, to all others
 abbrev pub tells_vote : Seat → Packet → Option Vote → List Packet
 tells_vote s p None = []
-tells_vote s p (Some v) = to_others s p.number p.ballot (Accepted v.tape)
+tells_vote s p (Some v) = to_others s p.number p.ballot (Accepted v.entry)
 
 -- what goes out on an acceptor's reply to the request in p, with the vote of its row after it: to the sender the report in a Promise,
--- or the promise that stands in the way in a Nack; to all others the tape that the row has a vote for
+-- or the promise that stands in the way in a Nack; to all others the entry that the row has a vote for
 abbrev pub out_on : Seat → Packet → Option Vote → Reply → List Packet
 out_on s p vote (Promises report) = packet_to s p.number p.ballot (Promise report) p.from ∷ []
 out_on s p vote (Nacks a) = packet_to s p.number p.ballot (Nack a) p.from ∷ []
@@ -205,13 +206,13 @@ abbrev pub TurnsAreAnAcceptors : Type 0
 TurnsAreAnAcceptors =
     (s : Seat) (now : ℕ) (marks : List Mark) (row : Row) (p : Packet)
     → IsAcceptors s row p (Prepares p.ballot) (packet_turn s now marks row p Prepare)
-    × ((tape : Tape) → IsAcceptors s row p (Accepts p.ballot tape) (packet_turn s now marks row p (Accept tape)))
+    × ((entry : Entry) → IsAcceptors s row p (Accepts p.ballot entry) (packet_turn s now marks row p (Accept entry)))
 
 -- a turn about n doesn't release it where it was released before; what was released stays so, and what the turn releases is so from then on
 pub record ReleasesOnce (marks : List Mark) (n : ℕ) (t : Turn) : Type 0 where
   pub again : IsReleased marks n → t.release ≡ None
   pub stay : (j : ℕ) → IsReleased marks j → IsReleased t.marks j
-  pub noted : (tape : Tape) → t.release ≡ Some tape → IsReleased t.marks n
+  pub noted : (entry : Entry) → t.release ≡ Some entry → IsReleased t.marks n
 
 -- where a number was released since the start, no turn releases it again
 abbrev pub NumbersAreReleasedOnce : Type 0

@@ -15,7 +15,7 @@ by_store Restarted = false
 by_store Upgraded = false
 by_store (Armed saved) = false
 
--- what a member was asked where its store tore the step, nothing refuses: the number is free, the packet is for it, the tape that is offered sets.
+-- what a member was asked where its store tore the step, nothing refuses: the number is free, the packet is for it, the entry that is offered sets.
 -- A spent round alone comes after the row is read
 abbrev pub StoreTearsTheUnrefused : (D G F : Type 0) → Type 0
 StoreTearsTheUnrefused D G F =

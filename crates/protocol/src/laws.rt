@@ -1,12 +1,12 @@
 //! Laws over the definitions. The functions do nothing: their contracts are the laws.
-//! Those over histories are for any circuit: `D` is what a datagram's fault is, `G` what setting a tape gives, `F` its fault.
+//! Those over histories are for any circuit: `D` is what a datagram's fault is, `G` what setting an entry gives, `F` its fault.
 
 ghost use Rattle.protocol.specs.Acceptor.{StepsAreOfTheWhole};
-ghost use Rattle.protocol.specs.Agreement.{BallotsHaveOneTape, ChosenIsOne, HeardIsVoted, HistoriesAgree, PromisesBind, ReportsAreGreatest, RipeIsChosen, VotesAreBacked, VotesAreOffered};
+ghost use Rattle.protocol.specs.Agreement.{BallotsHaveOneEntry, ChosenIsOne, HeardIsVoted, HistoriesAgree, PromisesBind, ReportsAreGreatest, RipeIsChosen, VotesAreBacked, VotesAreOffered};
 ghost use Rattle.protocol.specs.Fitting.{HistoriesFit, TurnsFit, VersionTwoReadsBoth};
 ghost use Rattle.protocol.specs.NextDue.{NextDueIsLeastNumber};
 ghost use Rattle.protocol.specs.Readings.{NextDueIsLeast};
-ghost use Rattle.protocol.specs.Rehearsals.{AddresseeIsToldFirst, LowerIsDenied, NumberIsToldFirst, NumbersAreRefused, OneMemberReleases, PacketsAreRefused, ReadingLeavesArmed, SavedVoteIsReleased, SettingWantsMemory, StoppedIsToldFirst, StoreRefusesToo, ThreeMembersRelease, TornUpgrades, TwoProposersFight, UnsavedVoteIsLost, VersionIsToldFirst, VoteOutlivesUpgrades};
+ghost use Rattle.protocol.specs.Rehearsals.{AddresseeIsToldFirst, LowerIsDenied, MixedMembersRelease, NumberIsToldFirst, NumberIsWithdrawn, NumbersAreRefused, OneMemberReleases, PacketsAreRefused, ReadingLeavesArmed, SavedVoteIsReleased, SettingWantsMemory, StoppedIsToldFirst, StoreRefusesToo, ThreeMembersRelease, TornUpgrades, TwoProposersFight, UnsavedVoteIsLost, VersionIsToldFirst, VoteOutlivesUpgrades, WithdrawalWantsVersionTwo};
 ghost use Rattle.protocol.specs.Runs.{BallotsStandApart, BeginsAbovePromise, ClosedIsForgotten, FallsDueAbove, FirstAcceptStands, FirstOfTwoReleases, GivesUp, GreaterReportIsTaken, LastRoundIsBegun, LastRoundIsSpent, LeastMemberDecides, LowerIsNacked, NumbersStandApart, OfferedAfterGivingUp, OneFindsNothing, OneReleases, PassedIsOvertaken, ReleasedIsSettled, RepeatedVoteCountsOnce, SecondOfTwoReleases, ThirdTakesOver, VoteIsReported};
 ghost use Rattle.protocol.specs.Table.{NumbersAreReleasedOnce, TurnsAreAnAcceptors, TurnsAreOfTheTable};
 ghost use Rattle.protocol.specs.Tearing.{StoreTearsTheUnrefused, TornAsItWasArmed};
@@ -17,7 +17,7 @@ pub fn acceptor_steps()
 {}
 
 /// A station answers each Prepare and Accept as an acceptor with its row does: it leaves the row that the acceptor does, and what goes out is
-/// the acceptor's report, the promise that stands in the way, or the tape that the acceptor has voted for.
+/// the acceptor's report, the promise that stands in the way, or the entry that the acceptor has voted for.
 pub fn turns_are_an_acceptors()
     ensures { TurnsAreAnAcceptors }
 {}
@@ -43,12 +43,12 @@ pub fn version_two_reads_both<D, G, F>()
     ensures { VersionTwoReadsBoth D G F }
 {}
 
-/// A turn makes no tape up: where what it was given fits a version, what it saves, keeps in mind, sends and releases does.
+/// A turn makes no entry up: where what it was given fits a version, what it saves, keeps in mind, sends and releases does.
 pub fn turns_fit()
     ensures { TurnsFit }
 {}
 
-/// In every history, with upgrades and torn ones among its steps, each member holds only tapes that its version can save and send.
+/// In every history, with upgrades and torn ones among its steps, each member holds only entries that its version can save and send.
 pub fn histories_fit<D, G, F>()
     ensures { HistoriesFit D G F }
 {}
@@ -60,12 +60,12 @@ pub fn what_the_store_tears<D, G, F>()
     ensures armed { TornAsItWasArmed D G F }
 {}
 
-/// All votes and Accepts of one number and ballot carry one tape.
-pub fn one_tape<D, G, F>()
-    ensures { BallotsHaveOneTape D G F }
+/// All votes and Accepts of one number and ballot carry one entry.
+pub fn one_entry<D, G, F>()
+    ensures { BallotsHaveOneEntry D G F }
 {}
 
-/// Every voted tape was offered.
+/// Every voted entry was offered.
 pub fn votes_are_offered<D, G, F>()
     ensures { VotesAreOffered D G F }
 {}
@@ -86,13 +86,13 @@ pub fn heard_is_voted<D, G, F>()
     ensures { HeardIsVoted D G F }
 {}
 
-/// What is ripe is chosen, and two chosen tapes of one number are equal.
+/// What is ripe is chosen, and two chosen entries of one number are equal.
 pub fn chosen_is_one<D, G, F>()
     ensures ripe { RipeIsChosen D G F }
     ensures one { ChosenIsOne D G F }
 {}
 
-/// Over every history no two releases of one number differ, each released tape was offered for its number,
+/// Over every history no two releases of one number differ, each released entry was offered for its number,
 /// and what is made of it is what its member's table and widths make of it.
 pub fn agreement<D, G, F>()
     ensures { HistoriesAgree D G F }
@@ -161,7 +161,7 @@ pub fn unsaved_vote_is_lost<D, G, F>()
     ensures { UnsavedVoteIsLost D G F }
 {}
 
-/// Torn steps that are not as their store was armed: memory that is refused while a tape is set, a store that fails as it is read and stays armed,
+/// Torn steps that are not as their store was armed: memory that is refused while an entry is set, a store that fails as it is read and stays armed,
 /// and one that refuses the save that an armed store passes on.
 pub fn torn_otherwise<D, G, F>()
     ensures setting { SettingWantsMemory D G F }
@@ -180,12 +180,23 @@ pub fn three_members_release<D, G, F>()
     ensures { ThreeMembersRelease D G F }
 {}
 
+/// Three members at version 2 withdraw a number as they release a tape. At version 1 a withdrawal is refused.
+pub fn number_is_withdrawn<D, G, F>()
+    ensures withdrawn { NumberIsWithdrawn D G F }
+    ensures wants { WithdrawalWantsVersionTwo D G F }
+{}
+
+/// Of three members two at version 2 agree, while the third, at version 1, can't read what they send.
+pub fn mixed_members_release<D, G, F>()
+    ensures { MixedMembersRelease D G F }
+{}
+
 /// A torn upgrade leaves a station at version 1, or at version 2.
 pub fn torn_upgrades<D, G, F>()
     ensures { TornUpgrades D G F }
 {}
 
-/// A vote that was saved at version 1 is found after its member went over to version 2, and its tape is released.
+/// A vote that was saved at version 1 is found after its member went over to version 2, and its entry is released.
 pub fn vote_outlives_upgrades<D, G, F>()
     ensures { VoteOutlivesUpgrades D G F }
 {}

@@ -6,6 +6,7 @@ use Rattle.std.proofs.KnownBytes.{Appends-trans}
 use Rattle.std.proofs.lemmas.List.{take-append-drop, length-take, length-append, take_more, append-nil}
 use Rattle.streams.specs.Fronts.{AppendsFront}
 use Rattle.streams.proofs.Parts.{front_then, front_of}
+use Rattle.protocol.specs.Versions.{Two}
 use Rattle.protocol.specs.Packets.{Packet}
 use Rattle.protocol.specs.Circuit.{Datagram}
 use Rattle.packets.specs.Reading.{packet_at}
@@ -14,8 +15,8 @@ use Rattle.rehearse_command.specs.Lines.{packet_line, spelled_line, datagram_lin
 use Rattle.rehearse_command.specs.Scenes.{Scene, scene_text, scenes_text}
 
 -- a line of what bytes spell is that of their datagram
-pub datagram_is : (k : ℕ) (d : Datagram) (bytes : List ℕ) (p : Packet) (text : List ℕ) → bytes ≡ d.bytes → Ok p ≡ packet_at bytes → text ≡ packet_line k p → text ≡ datagram_line k d
-datagram_is k d bytes p text same exact is = is ∙ ap (λ (r : Result Packet PacketFault). spelled_line k r) (exact ∙ ap packet_at same)
+pub datagram_is : (k : ℕ) (d : Datagram) (bytes : List ℕ) (p : Packet) (text : List ℕ) → bytes ≡ d.bytes → Ok p ≡ packet_at Two bytes → text ≡ packet_line k p → text ≡ datagram_line k d
+datagram_is k d bytes p text same exact is = is ∙ ap (λ (r : Result Packet PacketFault). spelled_line k r) (exact ∙ ap (packet_at Two) same)
 
 datagrams_append : (before : ℕ) (xs ys : List Datagram) → datagrams_text before (xs ++ ys) ≡ datagrams_text before xs ++ datagrams_text (before + length xs) ys
 datagrams_append before [] ys = ap (λ m. datagrams_text m ys) (omega arith)

@@ -1,5 +1,5 @@
 -- What is shown of a world, step by step.
-use Rattle.std.proofs.Common.{◌≡◌, ℕ, ◌+◌, List, [], ◌∷◌, ◌++◌, length, drop, Option, Some, None, Result, Ok, Err, refl, sym, ap, subst, ◌∙◌, inl, inr, arith}
+use Rattle.std.proofs.Common.{◌≡◌, ℕ, ◌+◌, List, [], ◌∷◌, ◌++◌, length, drop, Option, Some, None, Result, Ok, Err, refl, sym, ap, subst, ◌∙◌, inl, inr, arith, true, false, true≢false}
 use Rattle.std.specs.Prelude.{flat_map}
 use Rattle.std.specs.List.{All}
 use Rattle.std.specs.Io.KnownBytes.{Appends, Keeps}
@@ -9,9 +9,9 @@ use Rattle.std.proofs.lemmas.List.{append-nil, drop_at}
 use Rattle.streams.specs.Fronts.{AppendsFront}
 use Rattle.streams.proofs.Fronts.{front_of_all}
 use Rattle.protocol.specs.Lists.{IsAmong}
-use Rattle.protocol.specs.Versions.{One}
+use Rattle.protocol.specs.Versions.{Version}
 use Rattle.protocol.specs.Circuit.{Datagram, Release, fresh}
-use Rattle.saved_rows.specs.declared.memory.MemoryRows.{MemoryRows}
+use Rattle.saved_rows.specs.Memory.{MemoryOf}
 use Rattle.saved_rows.specs.contracts.memory.MemoryRowsRows.TheImpl.{ghosts}
 use Rattle.line_check.specs.declared.slug.Slug.{Slug}
 use Rattle.line_check.specs.declared.fault.SetFault.{SetFault}
@@ -27,7 +27,7 @@ use Rattle.world.specs.declared.step.WorldRefusal.{WorldRefusal}
 use Rattle.world.specs.Worlds.{GoesOn}
 use Rattle.world.proofs.Asking.{ends_more}
 use Rattle.rehearse_command.specs.Scenes.{Scene, ArePlayed, TakesAs, Takes, scene_text, scenes_text}
-use Rattle.rehearse_command.specs.Rehearsals.{Inputs, IsSetUpBy, Shows, Stands, StandsFront, IsStaged, Rehearses}
+use Rattle.rehearse_command.specs.Rehearsals.{Inputs, IsSetUpBy, Shows, Stands, StandsFront, IsOn, IsStaged, Rehearses}
 use Rattle.rehearse_command.specs.declared.rehearsing.Stage.{Stage}
 use Rattle.rehearse_command.proofs.Listing.{sent_in, scenes_more}
 
@@ -47,13 +47,13 @@ takes_more z w mid after [] s step t acts steps =
 takes_more z w mid after (x ∷ scenes) s step t acts steps = (t.0, t.1, t.2, t.3, takes_more z t.1 mid after scenes s step t.4 acts steps)
 
 -- in each circuit and state that the first world stands for, the step leads on as the second says
-abbrev pub MovesOn : World MemoryRows → World MemoryRows → Step → Result Seen WorldRefusal → Type 0
-MovesOn v w step result = AllKept ghosts.kept w → (z : StationCircuit) (at : StationState) → StandsFor ghosts.is_open ghosts.saved z v at → Moves ghosts.is_open ghosts.saved ghosts.refusals z at step v w result
+abbrev pub MovesOn : World MemoryOf → World MemoryOf → Step → Result Seen WorldRefusal → Type 0
+MovesOn v w step result = AllKept ghosts.kept w → (z : StationCircuit) (at : StationState) → StandsFor ghosts.is_open ghosts.saved ghosts.version z v at → Moves ghosts.is_open ghosts.saved ghosts.version ghosts.refusals z at step v w result
 
 module _ (by : Inputs) where
   -- the same scenes, of which something else was written
-  pub shown_as : (P Q : List ℕ → Type 0) (v : World MemoryRows) → ((text : List ℕ) → P text → Q text) → Shows by v P → Shows by v Q
-  shown_as P Q v turn s = record { reached = s.reached; agreed = s.agreed; scenes = s.scenes; are_of = s.are_of; number = s.number; members = s.members; set_up = s.set_up; played = s.played; written = turn (scenes_text 0 s.scenes) s.written }
+  pub shown_as : (P Q : List ℕ → Type 0) (v : World MemoryOf) → ((text : List ℕ) → P text → Q text) → Shows by v P → Shows by v Q
+  shown_as P Q v turn s = record { reached = s.reached; agreed = s.agreed; scenes = s.scenes; are_of = s.are_of; number = s.number; members = s.members; version = s.version; set_up = s.set_up; played = s.played; written = turn (scenes_text 0 s.scenes) s.written }
 
   pub rehearsed_as : (P Q : List ℕ → Type 0) → ((text : List ℕ) → P text → Q text) → Rehearses by P → Rehearses by Q
   rehearsed_as P Q turn (inl nothing) = inl (turn [] nothing)
@@ -64,8 +64,8 @@ module _ (by : Inputs) where
   all_set_up member members same set_up = λ k d lt. subst (IsSetUpBy by) (sym (same k d lt)) set_up
 
   -- nothing has happened yet
-  pub shown_new : (start now : Option (List ℕ)) (k : ℕ) (members : List Given) (v : World MemoryRows) → All (IsSetUpBy by) members → IsBeginning k members v → IsFresh ghosts k members v → IsReached ghosts v → Appends start now [] → Stands by start now v
-  shown_new start now k members v set_up begins stands reached written =
+  pub shown_new : (start now : Option (List ℕ)) (k : ℕ) (members : List Given) (version : Version) (v : World MemoryOf) → All (IsSetUpBy by) members → IsBeginning ghosts k members v → IsFresh ghosts k members (λ m. version) v → IsReached ghosts v → Appends start now [] → Stands by start now v
+  shown_new start now k members version v set_up begins stands reached written =
       let none : (x : Release (List Slug) SetFault) → IsAmong v.releases.items x → ⊥ = λ x among. subst (λ (l : List (Release (List Slug) SetFault)). IsAmong l x) begins.2.releases among in
       record {
         reached = reached;
@@ -74,14 +74,15 @@ module _ (by : Inputs) where
         are_of = record { sent = sym begins.2.sent; releases = sym begins.2.releases };
         number = k;
         members = members;
+        version = version;
         set_up = set_up;
-        played = λ z of. (fresh (λ m. One), stands z of, refl);
+        played = λ z of. (fresh (λ m. version), stands z of, refl);
         written = written;
       }
 
   -- one step more was taken, and so much of what it shows was written
-  pub shown_more : (P Q : List ℕ → Type 0) (v w : World MemoryRows) (scene : Scene) (s : Shows by v P) → IsReached ghosts w → Agreed w
-      → ArePlayed s.number s.members w (s.scenes ++ scene ∷ []) → v.sent.items ++ scene.sent ≡ w.sent.items → v.releases.items ++ scene.releases ≡ w.releases.items
+  pub shown_more : (P Q : List ℕ → Type 0) (v w : World MemoryOf) (scene : Scene) (s : Shows by v P) → IsReached ghosts w → Agreed w
+      → ArePlayed s.number s.members s.version w (s.scenes ++ scene ∷ []) → v.sent.items ++ scene.sent ≡ w.sent.items → v.releases.items ++ scene.releases ≡ w.releases.items
       → ((text : List ℕ) → P text → Q (text ++ scene_text (length v.sent.items) scene)) → Shows by w Q
   shown_more P Q v w scene s reached agreed played sent releases more =
       let released_in : List Scene → List (Release (List Slug) SetFault) = λ scenes. flat_map (λ (x : Scene). x.releases) scenes in
@@ -102,13 +103,14 @@ module _ (by : Inputs) where
         };
         number = s.number;
         members = s.members;
+        version = s.version;
         set_up = s.set_up;
         played = played;
         written = subst Q (sym text) (more (scenes_text 0 s.scenes) s.written);
       }
 
   -- a step was taken, and so much of what it shows was written
-  pub shown_step : (P Q : List ℕ → Type 0) (v w : World MemoryRows) (step : Step) (seen : Seen) (before : ℕ) (sent : List Datagram) (releases : List (Release (List Slug) SetFault))
+  pub shown_step : (P Q : List ℕ → Type 0) (v w : World MemoryOf) (step : Step) (seen : Seen) (before : ℕ) (sent : List Datagram) (releases : List (Release (List Slug) SetFault))
       → Shows by v P → MovesOn v w step (Ok seen) → actor v.sent.items step ≡ Some seen.member
       → (IsReached ghosts v → IsReached ghosts w) → (IsReached ghosts w → AllHonest ghosts.honest w → Agreed w)
       → before ≡ length v.sent.items → v.sent.items ++ sent ≡ w.sent.items → v.releases.items ++ releases ≡ w.releases.items
@@ -121,12 +123,12 @@ module _ (by : Inputs) where
       let p = s.played z of in
       let m = moves (λ m t is. tt) z p.0 p.1 in
       let acts_there : actor (p.0).sent step ≡ Some seen.member = ap (λ (l : List Datagram). actor l step) (p.1).sent ∙ acts in
-      (m.0, m.1, takes_more z (fresh (λ m. One)) p.0 m.0 s.scenes scene step p.2 acts_there (m.2, ends_more seen.outcome _ (Unit {0}) (λ own. tt) m.2 m.3, m.4)))
+      (m.0, m.1, takes_more z (fresh (λ m. s.version)) p.0 m.0 s.scenes scene step p.2 acts_there (m.2, ends_more seen.outcome _ (Unit {0}) (λ own. tt) m.2 m.3, m.4)))
       all_sent all_released
       (λ text h. subst (λ (n : ℕ). Q (text ++ scene_text n scene)) first (more text h))
 
   -- no step was taken
-  pub shown_still : (P : List ℕ → Type 0) (v w : World MemoryRows) (step : Step) (refusal : WorldRefusal) → Shows by v P → MovesOn v w step (Err refusal)
+  pub shown_still : (P : List ℕ → Type 0) (v w : World MemoryOf) (step : Step) (refusal : WorldRefusal) → Shows by v P → MovesOn v w step (Err refusal)
       → (IsReached ghosts v → IsReached ghosts w) → (IsReached ghosts w → AllHonest ghosts.honest w → Agreed w)
       → w.sent.items ≡ v.sent.items → w.releases.items ≡ v.releases.items → Shows by w P
   shown_still P v w step refusal s moves reached agreed sent releases = record {
@@ -136,6 +138,7 @@ module _ (by : Inputs) where
     are_of = record { sent = s.are_of.sent ∙ sym sent; releases = s.are_of.releases ∙ sym releases };
     number = s.number;
     members = s.members;
+    version = s.version;
     set_up = s.set_up;
     played = λ z of.
         let p = s.played z of in
@@ -144,16 +147,20 @@ module _ (by : Inputs) where
   }
 
   -- all of a text is a front of it
-  pub front_shown : (start now : Option (List ℕ)) (v : World MemoryRows) → Stands by start now v → StandsFront by start now v
+  pub front_shown : (start now : Option (List ℕ)) (v : World MemoryOf) → Stands by start now v → StandsFront by start now v
   front_shown start now v s = shown_as (Appends start now) (AppendsFront start now) v (λ text h. front_of_all start now text h) s
 
   pub front_rehearsed : (start now : Option (List ℕ)) → Rehearses by (Appends start now) → Rehearses by (AppendsFront start now)
   front_rehearsed start now r = rehearsed_as (Appends start now) (AppendsFront start now) (λ text h. front_of_all start now text h) r
 
+  -- what stands on a stage that is no more new is on it
+  pub played_on : (start now : Option (List ℕ)) (stage : Stage) → stage.is_new ≡ false → Stands by start now stage.world → IsOn by start now stage
+  played_on start now stage played s = (s, λ new. absurd (true≢false (sym new ∙ played)))
+
   -- what stands on the stage, and nothing where there is none, was rehearsed
   pub staged_rehearsed : (start now : Option (List ℕ)) (stage : Option Stage) → IsStaged by start now stage → Rehearses by (Appends start now)
   staged_rehearsed start now None h = inl h
-  staged_rehearsed start now (Some stage) h = inr (stage.world, h)
+  staged_rehearsed start now (Some stage) h = inr (stage.world, h.0)
 
   -- a flush leaves what was written
   pub kept_rehearsed : (start now later : Option (List ℕ)) → Keeps now later → Rehearses by (Appends start now) → Rehearses by (Appends start later)

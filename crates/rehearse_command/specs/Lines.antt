@@ -1,5 +1,6 @@
 -- The lines of a rehearsal: how a step ended, each datagram that it sent, and what it released.
 use Rattle.std.specs.Prelude.{ℕ, ◌+◌, List, [], ◌∷◌, ◌++◌, Result, Ok, Err, codes, decimal}
+use Rattle.protocol.specs.Versions.{Two}
 use Rattle.protocol.specs.Packets.{Body, Prepare, Promise, Accept, Accepted, Nack, Packet}
 use Rattle.protocol.specs.Circuit.{Datagram, Release}
 use Rattle.packets.specs.Reading.{packet_at}
@@ -18,8 +19,8 @@ outcome_line member outcome = decimal member ++ (codes " " ++ (outcome_text outc
 abbrev pub kind_word : Body → List ℕ
 kind_word Prepare = codes "prepare"
 kind_word (Promise report) = codes "promise"
-kind_word (Accept tape) = codes "accept"
-kind_word (Accepted tape) = codes "accepted"
+kind_word (Accept entry) = codes "accept"
+kind_word (Accepted entry) = codes "accepted"
 kind_word (Nack promised) = codes "nack"
 
 -- from whom to whom, as `1>2`
@@ -36,15 +37,15 @@ abbrev pub spelled_line : ℕ → Result Packet PacketFault → List ℕ
 spelled_line k (Ok p) = packet_line k p
 spelled_line k (Err fault) = []
 
--- the line of the k-th datagram ever sent
+-- the line of the k-th datagram ever sent, in either version
 abbrev pub datagram_line : ℕ → Datagram → List ℕ
-datagram_line k d = spelled_line k (packet_at d.bytes)
+datagram_line k d = spelled_line k (packet_at Two d.bytes)
 
 -- a line for each of these datagrams, before which so many were sent
 abbrev pub datagrams_text : ℕ → List Datagram → List ℕ
 datagrams_text before [] = []
 datagrams_text before (d ∷ ds) = datagram_line (before + 1) d ++ datagrams_text (before + 1) ds
 
--- a release, behind a blank: its number, its frames, and what its member's table and widths made of them
+-- a release, behind a blank: its number, its frames, and what its member's table and widths made of them; or that it is withdrawn
 abbrev pub released_text : Release (List Slug) SetFault → List ℕ
-released_text r = release_text (codes " ") r.number r.tape r.set
+released_text r = release_text (codes " ") r.number r.entry r.set

@@ -1,15 +1,17 @@
 -- What a rehearsal has written: what is shown of a circuit that agrees.
-use Rattle.std.specs.Prelude.{◌≡◌, ℕ, ◌⊎◌, List, [], Option, Some, None, Ok, IfSome}
+use Rattle.std.specs.Prelude.{◌≡◌, ℕ, ◌⊎◌, List, [], Option, Some, None, Ok, true, IfSome}
 use Rattle.std.specs.List.{All}
 use Rattle.std.specs.Io.KnownBytes.{Appends}
 use Rattle.toml.specs.Parse.{parse_document}
 use Rattle.streams.specs.Fronts.{AppendsFront}
 use Rattle.code_table.specs.Reading.{read_table}
 use Rattle.widths.specs.Reading.{read_widths}
-use Rattle.saved_rows.specs.declared.memory.MemoryRows.{MemoryRows}
+use Rattle.protocol.specs.Versions.{Version}
+use Rattle.saved_rows.specs.Memory.{MemoryOf}
 use Rattle.saved_rows.specs.contracts.memory.MemoryRowsRows.TheImpl.{ghosts}
 use Rattle.world.specs.declared.world.World.{World}
 use Rattle.world.specs.Founding.{Given}
+use Rattle.world.specs.Playing.{IsFresh}
 use Rattle.world.specs.Reach.{Agreed, IsReached}
 use Rattle.rehearse_command.specs.Scenes.{Scene, AreOf, ArePlayed, scenes_text}
 use Rattle.rehearse_command.specs.declared.rehearsing.Stage.{Stage}
@@ -27,32 +29,41 @@ abbrev pub IsSetUpBy : Inputs → Given → Type 0
 IsSetUpBy by member =
     IfSome by.table (λ text. read_table (parse_document text) ≡ Ok member.0) × IfSome by.widths (λ text. read_widths (parse_document text) ≡ Ok member.1)
 
--- the world was reached by steps of members that are set up by these texts, from their beginning, and what is released in it is agreed;
+-- the world was reached by steps of members that are set up by these texts, from their beginning in one version, and what is released in it is agreed;
 -- the scenes are those steps and all that happened in them, and what is shown of them is what was written
-pub record Shows (by : Inputs) (v : World MemoryRows) (IsWritten : List ℕ → Type 0) : Type 0 where
+pub record Shows (by : Inputs) (v : World MemoryOf) (IsWritten : List ℕ → Type 0) : Type 0 where
   pub reached : IsReached ghosts v
   pub agreed : Agreed v
   pub scenes : List Scene
   pub are_of : AreOf v scenes
   pub number : ℕ
   pub members : List Given
+  pub version : Version
   pub set_up : All (IsSetUpBy by) members
-  pub played : ArePlayed number members v scenes
+  pub played : ArePlayed number members version v scenes
   pub written : IsWritten (scenes_text 0 scenes)
 
 -- since the start all was written that is shown of this world
-abbrev pub Stands : Inputs → Option (List ℕ) → Option (List ℕ) → World MemoryRows → Type 0
+abbrev pub Stands : Inputs → Option (List ℕ) → Option (List ℕ) → World MemoryOf → Type 0
 Stands by start now v = Shows by v (Appends start now)
 
 -- the same of a front of it
-abbrev pub StandsFront : Inputs → Option (List ℕ) → Option (List ℕ) → World MemoryRows → Type 0
+abbrev pub StandsFront : Inputs → Option (List ℕ) → Option (List ℕ) → World MemoryOf → Type 0
 StandsFront by start now v = Shows by v (AppendsFront start now)
+
+-- nothing has happened yet, and all members are in this version
+abbrev pub BeginsIn : Version → World MemoryOf → Type 0
+BeginsIn version v = (k : ℕ) × (members : List Given) × IsFresh ghosts k members (λ m. version) v
+
+-- on a stage that is new nothing was written
+abbrev pub IsOn : Inputs → Option (List ℕ) → Option (List ℕ) → Stage → Type 0
+IsOn by start now stage = Stands by start now stage.world × (stage.is_new ≡ true → Appends start now [])
 
 -- before there is a circuit nothing was written
 abbrev pub IsStaged : Inputs → Option (List ℕ) → Option (List ℕ) → Option Stage → Type 0
 IsStaged by start now None = Appends start now []
-IsStaged by start now (Some stage) = Stands by start now stage.world
+IsStaged by start now (Some stage) = IsOn by start now stage
 
 -- nothing was written, or what is shown of some world that agrees
 abbrev pub Rehearses : Inputs → (List ℕ → Type 0) → Type 0
-Rehearses by IsWritten = IsWritten [] ⊎ ((v : World MemoryRows) × Shows by v IsWritten)
+Rehearses by IsWritten = IsWritten [] ⊎ ((v : World MemoryOf) × Shows by v IsWritten)

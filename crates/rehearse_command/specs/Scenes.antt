@@ -1,10 +1,10 @@
 -- What is shown of a circuit, step by step.
 use Rattle.std.specs.Prelude.{◌≡◌, ℕ, ◌+◌, List, [], ◌∷◌, ◌++◌, Some, length, flat_map}
-use Rattle.protocol.specs.Versions.{One}
+use Rattle.protocol.specs.Versions.{Version}
 use Rattle.protocol.specs.Circuit.{Datagram, Release, StepsTo, fresh}
 use Rattle.protocol.specs.Circuit as circuit
 use Rattle.packets.specs.declared.fault.PacketFault.{PacketFault}
-use Rattle.saved_rows.specs.declared.memory.MemoryRows.{MemoryRows}
+use Rattle.saved_rows.specs.Memory.{MemoryOf}
 use Rattle.saved_rows.specs.contracts.memory.MemoryRowsRows.TheImpl.{ghosts}
 use Rattle.line_check.specs.declared.slug.Slug.{Slug}
 use Rattle.line_check.specs.declared.fault.SetFault.{SetFault}
@@ -17,7 +17,7 @@ use Rattle.world.specs.Reach.{StandsFor}
 use Rattle.world.specs.Taking.{actor, step_value, EndsAs}
 use Rattle.rehearse_command.specs.Lines.{outcome_line, datagrams_text, released_text}
 
--- one step: who acted and how it ended, the datagrams that were sent in it and the tapes that were released
+-- one step: who acted and how it ended, the datagrams that were sent in it and the entries that were released
 pub record Scene : Type 0 where
   pub member : ℕ
   pub outcome : Outcome
@@ -34,7 +34,7 @@ scenes_text before [] = []
 scenes_text before (s ∷ scenes) = scene_text before s ++ scenes_text (before + length s.sent) scenes
 
 -- the scenes are of this world, and of all of it: each datagram and each release of it stands in them, once, in order
-pub record AreOf (v : World MemoryRows) (scenes : List Scene) : Type 0 where
+pub record AreOf (v : World MemoryOf) (scenes : List Scene) : Type 0 where
   pub sent : flat_map (λ (s : Scene). s.sent) scenes ≡ v.sent.items
   pub releases : flat_map (λ (s : Scene). s.releases) scenes ≡ v.releases.items
 
@@ -48,8 +48,8 @@ Takes z w [] after = after ≡ w
 Takes z w (s ∷ scenes) after =
     (step : Step) × (mid : StationState) × (actor w.sent step ≡ Some s.member) × TakesAs z w step s.outcome mid × Takes z mid scenes after
 
--- from the fresh state of the circuit of these members, all at version 1, the scenes lead to a state that the world stands for
-abbrev pub ArePlayed : ℕ → List Given → World MemoryRows → List Scene → Type 0
-ArePlayed k members v scenes =
+-- from the fresh state of the circuit of these members, all at this version, the scenes lead to a state that the world stands for
+abbrev pub ArePlayed : ℕ → List Given → Version → World MemoryOf → List Scene → Type 0
+ArePlayed k members version v scenes =
     (z : StationCircuit) → IsCircuitOf k members z
-    → (w : StationState) × StandsFor ghosts.is_open ghosts.saved z v w × Takes z (fresh (λ m. One)) scenes w
+    → (w : StationState) × StandsFor ghosts.is_open ghosts.saved ghosts.version z v w × Takes z (fresh (λ m. version)) scenes w

@@ -1,15 +1,22 @@
 -- The words for what a station did in a step, and for how the step ended.
 use Rattle.std.specs.Prelude.{ℕ, List, ◌++◌, Option, Some, None, true, false, codes, decimal}
 use Rattle.protocol.specs.Ballots.{Ballot}
+use Rattle.tape_frames.specs.declared.version.Version.{Version}
+use Rattle.tape_frames.specs.declared.version.Version.TheVariants as versions
 use Rattle.node_core.specs.declared.turn.Note.{Note}
 use Rattle.node_core.specs.declared.turn.Note.TheVariants as notes
 use Rattle.saved_rows.specs.declared.fault.RowsFault.{RowsFault}
 use Rattle.saved_rows.specs.declared.fault.RowsFault.TheVariants as rows
-use Rattle.station.specs.declared.refusal.StepRefusal.{StepRefusal}
-use Rattle.station.specs.declared.refusal.StepRefusal.TheVariants as steps
+use Rattle.refusals.specs.declared.refusal.StepRefusal.{StepRefusal}
+use Rattle.refusals.specs.declared.refusal.StepRefusal.TheVariants as steps
 use Rattle.world.specs.declared.step.Outcome.{Outcome}
 use Rattle.world.specs.declared.step.Outcome.TheVariants as outcomes
 use Rattle.command_ends.specs.RefusalWords.{refusal_text}
+
+-- the number of a version
+abbrev pub version_word : Version → List ℕ
+version_word versions.One = codes "1"
+version_word versions.Two = codes "2"
 
 -- a ballot, as `round.owner`
 abbrev pub ballot_text : Ballot → List ℕ
@@ -82,6 +89,7 @@ refused_text steps.Stranger = codes "refused " ++ refusal_text steps.Stranger
 refused_text steps.BadNumber = codes "refused " ++ refusal_text steps.BadNumber
 refused_text steps.AlreadyReleased = codes "refused " ++ refusal_text steps.AlreadyReleased
 refused_text steps.AlreadyOpen = codes "refused " ++ refusal_text steps.AlreadyOpen
+refused_text steps.WireTooOld = codes "refused " ++ refusal_text steps.WireTooOld
 refused_text (steps.TapeFaulty fault) = codes "refused " ++ refusal_text (steps.TapeFaulty fault)
 refused_text steps.RoundsSpent = codes "refused " ++ refusal_text steps.RoundsSpent
 refused_text (steps.Store fault) = stopped_by fault

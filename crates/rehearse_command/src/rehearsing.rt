@@ -1,11 +1,13 @@
 //! The command `rehearse`: a whole circuit in one process, driven by a script.
 
-ghost use Rattle.std.specs.Prelude.{◌≡◌, ℕ, List, [], Option, OnOk, OnErr, IfOk};
+ghost use Rattle.std.specs.Prelude.{◌≡◌, ℕ, List, [], Option, OnOk, OnErr, IfOk, true, false};
 ghost use Rattle.std.specs.List.{All};
 ghost use Rattle.std.specs.Io.KnownBytes.{Appends};
 ghost use Rattle.streams.specs.Fronts.{AppendsFront};
 ghost use Rattle.command_ends.specs.declared.end.End.TheVariants.{Done};
-ghost use Rattle.rehearse_command.specs.Rehearsals.{Inputs, IsSetUpBy, IsStaged, inputs, Rehearses, Stands, StandsFront};
+ghost use Rattle.protocol.specs.Versions.{One};
+ghost use Rattle.tape_frames.specs.Entries.{version_of};
+ghost use Rattle.rehearse_command.specs.Rehearsals.{BeginsIn, Inputs, IsOn, IsSetUpBy, IsStaged, inputs, Rehearses, Stands, StandsFront};
 
 use crate::script::{LineFault, Order, is_ignored, order_of};
 use crate::showing::put_scene;
@@ -14,18 +16,22 @@ use command_ends::{End, Fault, ScriptPaths, read_table, read_text, read_widths};
 use saved_rows::MemoryRows;
 use std::alloc::{AllocError, Global};
 use std::io::{Read, Write};
+use tape_frames::Version;
 use widths::Widths;
 use world::{PlayFault, Step, World, WorldRefusal, circuit_in_memory};
 
 /// The number of the circuit that is rehearsed.
 const CIRCUIT: u16 = 7;
 
-/// A circuit that is rehearsed, the moment that it has reached, in milliseconds, and room for the lines that are shown.
+/// A circuit of so many members that is rehearsed, the moment that it has reached, in milliseconds, and room for the lines
+/// that are shown. It is new until a line is played that does more than set it.
 #[derive(Drop)]
 struct Stage {
     world: World<MemoryRows>,
     now: u64,
     text: String,
+    count: u8,
+    is_new: bool,
 }
 
 /// What each member sets tapes by.
@@ -52,23 +58,27 @@ fn members_of(
     Ok(members)
 }
 
-/// A circuit of so many members, in which nothing has happened yet.
+/// A circuit of so many members in this version, in which nothing has happened yet.
 fn stage_of<'a>(
     alloc: Global,
     setting: Setting<'_>,
     line: usize,
     count: u8,
+    version: Version,
 ) -> Result<Stage, Fault<'a>>
-    ensures { IfOk result (λ stage. (by : Inputs) (start now : Option (List ℕ)) → IsSetUpBy by (setting.entry.table.now, setting.entry.widths.now) → Appends start now [] → Stands by start now stage.world) }
+    ensures begins { IfOk result (λ stage. BeginsIn (version_of version) stage.world) }
+    ensures stands { IfOk result (λ stage. (by : Inputs) (start now : Option (List ℕ)) → IsSetUpBy by (setting.entry.table.now, setting.entry.widths.now) → Appends start now [] → Stands by start now stage.world) }
 {
     let Ok(members) = members_of(alloc, setting, count) else {
         return Err(Fault::OutOfMemory);
     };
-    match circuit_in_memory(alloc, CIRCUIT, members) {
+    match circuit_in_memory(alloc, CIRCUIT, version, members) {
         Ok(world) => Ok(Stage {
             world,
             now: 0,
             text: String::new(alloc),
+            count,
+            is_new: true,
         }),
         Err(PlayFault::BadCount) => Err(Fault::script(line, "bad line")),
         Err(PlayFault::OutOfMemory) => Err(Fault::OutOfMemory),
@@ -79,6 +89,7 @@ fn stage_of<'a>(
 fn step_of(order: Order, now: u64) -> Option<Step> {
     match order {
         Order::Members(_) => None,
+        Order::Wire(_) => None,
         Order::At(_) => None,
         Order::Offer {
             member,
@@ -88,6 +99,11 @@ fn step_of(order: Order, now: u64) -> Option<Step> {
             member,
             number,
             tape,
+            now,
+        }),
+        Order::Withdraw { member, number } => Some(Step::Withdraw {
+            member,
+            number,
             now,
         }),
         Order::Seek { member, number } => Some(Step::Seek {
@@ -135,6 +151,29 @@ fn show_step<'a, W: Write>(
 }
 
 impl Stage {
+    /// Sets the stage anew with its members in this version, as long as it is new.
+    fn turn_to<'a>(
+        &mut self,
+        alloc: Global,
+        setting: Setting<'_>,
+        line: usize,
+        version: Version,
+    ) -> Result<(), Fault<'a>>
+        ensures early { OnOk result (self.old.is_new ≡ true) }
+        ensures begins { OnOk result (BeginsIn (version_of version) self.new.world) }
+        ensures goes_on { (by : Inputs) (start now : Option (List ℕ)) → IsSetUpBy by (setting.entry.table.now, setting.entry.widths.now) → IsOn by start now self.old → OnOk result (IsOn by start now self.new) }
+        ensures stops { OnErr result (self.new.world ≡ self.old.world) }
+        ensures no_more { OnOk result (self.new.is_new ≡ false) }
+    {
+        if !self.is_new {
+            return Err(Fault::script(line, "bad line"));
+        }
+        let mut stage = stage_of(alloc, setting, line, self.count, version)?;
+        stage.is_new = false;
+        *self = stage;
+        Ok(())
+    }
+
     /// Takes the step that a line orders, and shows what it did.
     fn play<'a, W: Write>(
         &mut self,
@@ -145,7 +184,9 @@ impl Stage {
     ) -> Result<(), Fault<'a>>
         ensures goes_on { (by : Inputs) (start : Option (List ℕ)) → Stands by start (W.contents out.old) self.old.world → OnOk result (Stands by start (W.contents out.new) self.new.world) }
         ensures stops { (by : Inputs) (start : Option (List ℕ)) → Stands by start (W.contents out.old) self.old.world → OnErr result (StandsFront by start (W.contents out.new) self.new.world) }
+        ensures no_more { self.new.is_new ≡ false }
     {
+        self.is_new = false;
         if let Order::At(moment) = order {
             self.now = moment;
             return Ok(());
@@ -157,17 +198,18 @@ impl Stage {
     }
 }
 
-/// Sets the stage by the first line that is not ignored.
+/// Sets the stage by the first line that is not ignored. Its members are in version 1 until the next line says else.
 fn set_stage<'a>(
     alloc: Global,
     setting: Setting<'_>,
     line: usize,
     order: Result<Order, LineFault>,
 ) -> Result<Stage, Fault<'a>>
-    ensures { IfOk result (λ stage. (by : Inputs) (start now : Option (List ℕ)) → IsSetUpBy by (setting.entry.table.now, setting.entry.widths.now) → Appends start now [] → Stands by start now stage.world) }
+    ensures begins { IfOk result (λ stage. BeginsIn One stage.world) }
+    ensures stands { IfOk result (λ stage. (by : Inputs) (start now : Option (List ℕ)) → IsSetUpBy by (setting.entry.table.now, setting.entry.widths.now) → Appends start now [] → IsOn by start now stage) }
 {
     match order {
-        Ok(Order::Members(count)) => stage_of(alloc, setting, line, count),
+        Ok(Order::Members(count)) => stage_of(alloc, setting, line, count, Version::One),
         Err(LineFault::OutOfMemory) => Err(Fault::OutOfMemory),
         _ => Err(Fault::script(line, "bad line")),
     }
@@ -176,15 +218,17 @@ fn set_stage<'a>(
 /// Plays a line on the stage that is set.
 fn play_order<'a, W: Write>(
     alloc: Global,
+    setting: Setting<'_>,
     stage: &mut Stage,
     line: usize,
     order: Result<Order, LineFault>,
     out: &mut W,
 ) -> Result<(), Fault<'a>>
-    ensures goes_on { (by : Inputs) (start : Option (List ℕ)) → Stands by start (W.contents out.old) stage.old.world → OnOk result (Stands by start (W.contents out.new) stage.new.world) }
-    ensures stops { (by : Inputs) (start : Option (List ℕ)) → Stands by start (W.contents out.old) stage.old.world → OnErr result (StandsFront by start (W.contents out.new) stage.new.world) }
+    ensures goes_on { (by : Inputs) (start : Option (List ℕ)) → IsSetUpBy by (setting.entry.table.now, setting.entry.widths.now) → IsOn by start (W.contents out.old) stage.old → OnOk result (IsOn by start (W.contents out.new) stage.new) }
+    ensures stops { (by : Inputs) (start : Option (List ℕ)) → IsOn by start (W.contents out.old) stage.old → OnErr result (StandsFront by start (W.contents out.new) stage.new.world) }
 {
     match order {
+        Ok(Order::Wire(version)) => stage.turn_to(alloc, setting, line, version),
         Ok(order) => stage.play(alloc, order, line, out),
         Err(LineFault::OutOfMemory) => Err(Fault::OutOfMemory),
         Err(LineFault::BadTape) => Err(Fault::script(line, "bad tape")),
@@ -206,7 +250,7 @@ fn play_line<'a, W: Write>(
 {
     let order = order_of(alloc, words);
     match stage {
-        Some(stage) => play_order(alloc, stage, line, order, out),
+        Some(stage) => play_order(alloc, setting, stage, line, order, out),
         None => {
             *stage = Some(set_stage(alloc, setting, line, order)?);
             Ok(())
@@ -285,8 +329,9 @@ fn rehearsed<'a, R: Read, S: Read, T: Read, W: Write>(
 /// The table is read and taken before the widths are read, and the widths before the script. The first fault ends it;
 /// a faulty line leaves what the lines before it wrote.
 ///
-/// Whatever the lines are, what is written is what a circuit did, step by step, whose members are set up by these texts,
-/// and its releases agree: no two of one number differ, and each released tape was offered for its number.
+/// Whatever the lines are, what is written is what a circuit did, step by step, whose members are set up by these texts
+/// and begin in one version, and its releases agree: no two of one number differ, and each released entry was offered for
+/// its number.
 pub fn rehearse<R: Read, S: Read, T: Read, W: Write, E: Write>(
     alloc: Global,
     paths: &ScriptPaths<'_>,

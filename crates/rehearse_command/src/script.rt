@@ -1,18 +1,24 @@
 //! The lines of a rehearsal script.
 
+ghost use Rattle.std.specs.Prelude.{◌≡◌, IfOk, OnErr, codes};
+ghost use Rattle.rehearse_command.specs.Words.{version_word};
+
 use hex::FromHexError;
 use std::alloc::{AllocError, Global};
 use std::str;
-use tape_frames::{Tape, TapeFault};
+use tape_frames::{Tape, TapeFault, Version};
 
 /// What one line of a script asks for.
 #[derive(Drop)]
 pub enum Order {
     /// The circuit has so many members, 1 to 15. It is the first line that is not ignored, and stands once.
     Members(u8),
+    /// All members are in this version. It stands directly behind the members, and once.
+    Wire(Version),
     /// The moment from here on, in milliseconds.
     At(u64),
     Offer { member: u8, number: u32, tape: Tape },
+    Withdraw { member: u8, number: u32 },
     Seek { member: u8, number: u32 },
     Due { member: u8 },
     /// The k-th datagram ever sent, from 1, goes to its addressee.
@@ -94,10 +100,23 @@ fn members(word: &str) -> Result<u8, LineFault> {
     }
 }
 
+/// The version of which this is the number, without leading zeros.
+fn version(word: &str) -> Result<Version, LineFault>
+    ensures some { IfOk result (λ v. word.now ≡ version_word v) }
+    ensures none { OnErr result ((¬ (word.now ≡ codes "1")) × (¬ (word.now ≡ codes "2"))) }
+{
+    match word {
+        "1" => Ok(Version::One),
+        "2" => Ok(Version::Two),
+        _ => Err(LineFault::BadLine),
+    }
+}
+
 /// What a name with one word behind it asks for.
 fn order_of_one(name: &str, word: &str) -> Result<Order, LineFault> {
     match name {
         "members" => Ok(Order::Members(members(word)?)),
+        "wire" => Ok(Order::Wire(version(word)?)),
         "at" => Ok(Order::At(number(word)?)),
         "due" => Ok(Order::Due {
             member: member(word)?,
@@ -113,6 +132,10 @@ fn order_of_one(name: &str, word: &str) -> Result<Order, LineFault> {
 /// What a name with a member and one word behind it asks for.
 fn order_of_two(name: &str, who: &str, word: &str) -> Result<Order, LineFault> {
     match name {
+        "withdraw" => Ok(Order::Withdraw {
+            member: member(who)?,
+            number: small(word)?,
+        }),
         "seek" => Ok(Order::Seek {
             member: member(who)?,
             number: small(word)?,

@@ -15,6 +15,7 @@ use std::alloc::{AllocError, Global};
 use std::fmt;
 use std::io::Write;
 use streams::put_all;
+use tape_frames::Version;
 use world::{Outcome, ReleaseLog, Seen};
 
 /// Makes `line` the line for what became of a member's step.
@@ -96,7 +97,7 @@ fn put_outcome<'a, W: Write>(
     }
 }
 
-/// Writes the `k`-th datagram ever sent. Each spells a packet, for a station sent it.
+/// Writes the `k`-th datagram ever sent. Each spells a packet, for a station sent it, in its own version.
 fn put_datagram<'a, W: Write>(
     line: &mut String,
     k: usize,
@@ -106,7 +107,7 @@ fn put_datagram<'a, W: Write>(
     ensures ok { OnOk result (Appends (W.contents out.old) (W.contents out.new) (datagram_line k datagram.now)) }
     ensures err { OnErr result (AppendsFront (W.contents out.old) (W.contents out.new) (datagram_line k datagram.now)) }
 {
-    let Ok(packet) = decode(datagram.bytes()) else {
+    let Ok(packet) = decode(datagram.bytes(), Version::Two) else {
         return Ok(());
     };
     match packet_line(line, k, &packet) {
@@ -142,10 +143,11 @@ fn put_released<'a, W: Write>(
     ensures err { OnErr result (AppendsFront (W.contents out.old) (W.contents out.new) (released_text release.now)) }
 {
     let number = release.number();
-    put_release(alloc, " ", number, release.tape(), release.set(), out)
+    let entry = release.entry().lend();
+    put_release(alloc, " ", number, &entry, release.set(), out)
 }
 
-/// Writes the releases of a step: one at most, as a station releases one tape at a time.
+/// Writes the releases of a step: one at most, as a station releases one entry at a time.
 fn put_releases<'a, W: Write>(
     alloc: Global,
     releases: &[ReleaseLog],

@@ -1,12 +1,12 @@
 -- What `rows` writes: whose rows they are, and a line for each.
 use Rattle.std.specs.Prelude.{ℕ, List, ◌++◌, Option, Some, None, codes, decimal, flat_map}
 use Rattle.std.specs.Io.KnownBytes.{Appends}
-use Rattle.hex.specs.Hex.{encode_lower}
 use Rattle.protocol.specs.Ballots.{Ballot}
 use Rattle.protocol.specs.Rows.{Vote, Row}
 use Rattle.streams.specs.Fronts.{AppendsFront}
 use Rattle.saved_rows.specs.Saved.{Saved, IsListOf}
 use Rattle.saved_rows.specs.declared.identity.Identity.{Identity}
+use Rattle.command_ends.specs.EntryText.{entry_text}
 
 -- a ballot is its round, a dot and its owner
 abbrev pub ballot_text : Ballot → List ℕ
@@ -17,10 +17,10 @@ abbrev pub promise_text : Option Ballot → List ℕ
 promise_text None = codes "-"
 promise_text (Some b) = ballot_text b
 
--- a vote is its ballot, and its frames in hex
+-- a vote is its ballot, and the frames of its tape in hex or the word for a withdrawal
 abbrev pub vote_text : Option Vote → List ℕ
 vote_text None = codes "- -"
-vote_text (Some v) = ballot_text v.ballot ++ (codes " " ++ encode_lower v.tape)
+vote_text (Some v) = ballot_text v.ballot ++ (codes " " ++ entry_text v.entry)
 
 -- the line of a number and its row
 abbrev pub row_line : ℕ × Row → List ℕ

@@ -11,7 +11,7 @@ ghost use Rattle.command_ends.specs.declared.end.End.TheVariants.{Done};
 
 use acceptor_store::SqliteRows;
 use ballots::{Ballot, Number, Row, Vote};
-use command_ends::{End, Fault};
+use command_ends::{End, Fault, entry_text};
 use saved_rows::Identity;
 use sqlite::Alter;
 use std::alloc::{AllocError, Global};
@@ -35,7 +35,7 @@ fn promise_text(alloc: Global, promise: Option<Ballot>) -> Result<String, AllocE
     }
 }
 
-/// The ballot of a vote and its frames in hex, or a mark for each where there is none.
+/// The ballot of a vote and the text of its entry, or a mark for each where there is none.
 fn vote_text(alloc: Global, vote: Option<&Vote>) -> Result<String, AllocError>
     ensures { IfOk result (λ t. string_bytes t ≡ vote_text (option_copied vote.entry)) }
 {
@@ -43,8 +43,8 @@ fn vote_text(alloc: Global, vote: Option<&Vote>) -> Result<String, AllocError>
         return String::from_str(alloc, "- -");
     };
     let ballot = ballot_text(alloc, vote.ballot())?;
-    let frames = hex::encode(alloc, vote.tape().frames())?;
-    format!(in alloc; "{ballot} {frames}")
+    let entry = entry_text(alloc, &vote.entry())?;
+    format!(in alloc; "{ballot} {entry}")
 }
 
 /// The line of a number and its row.
@@ -147,7 +147,8 @@ fn put_and_flush<'a, W: Write>(
 }
 
 /// Writes `station M of C circuit K`, and then for each row that is saved, in order of the numbers, a line
-/// `NUMBER PROMISED VOTE FRAMES`: the ballots as `round.owner`, the frames in lower-case hex, `-` where there is none.
+/// `NUMBER PROMISED VOTE FRAMES`: the ballots as `round.owner`, the frames in lower-case hex, `-` where there is none. For
+/// a withdrawal `void` stands in the place of the frames.
 ///
 /// All rows are read before anything is written, and no row is changed. Where memory or the writer fails, a front
 /// of the text was written, and `err` has the fault; where the rows can't be read, nothing was.

@@ -1,7 +1,9 @@
--- Saved rows: a map from numbers to rows, blank where none is saved, with a count of refusals.
+-- Saved rows: a map from numbers to rows, blank where none is saved, with a version and a count of refusals.
 use Rattle.std.specs.Prelude.{◌≡◌, ◌⊎◌, ◌<◌, ◌≤◌, ◌-◌, ◌^◌, ◌==◌, ℕ, if◌then◌else◌, List, [], ◌∷◌, Option, Some, None, IsSome}
 use Rattle.std.specs.List.{AllByRecursion}
 use Rattle.protocol.specs.Rows.{Row, blank}
+use Rattle.protocol.specs.Versions.{Version}
+use Rattle.protocol.specs.Fitting.{VoteFits}
 
 -- the row of each number
 abbrev pub Saved : Type 0
@@ -35,6 +37,18 @@ Rises old new = (old < new) ⊎ (2 ^ 64 - 1 ≤ old)
 -- the acceptor has promised a ballot
 abbrev pub HasPromise : Row → Type 0
 HasPromise row = IsSome row.promised
+
+-- the version has a row for it: there is no vote, or the version has one for the vote's entry
+abbrev pub RowFits : Version → Row → Type 0
+RowFits v row = VoteFits v row.vote
+
+-- the version has one for the row of each number
+abbrev pub AllFit : Version → Saved → Type 0
+AllFit v saved = (n : ℕ) → RowFits v (saved n)
+
+-- the version has one for each row of a list
+abbrev pub AreFitting : Version → List (ℕ × Row) → Type 0
+AreFitting v items = AllByRecursion (λ p. RowFits v p.1) items
 
 -- the map that a list of numbers and rows is: the first row under a number
 abbrev pub saved_by : List (ℕ × Row) → Saved

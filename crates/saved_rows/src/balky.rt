@@ -1,11 +1,12 @@
 //! Rows of which one save can be refused.
 
 ghost use Rattle.std.specs.Prelude.{◌≡◌, ◌≤◌, ◌⊎◌, ◌+◌, None, Some, true, false, IsSome, IfErr, Err, OnOk, OnErr};
-ghost use Rattle.saved_rows.specs.Saved.{WithRow, IsEither, HasPromise, Rises};
+ghost use Rattle.saved_rows.specs.Saved.{WithRow, IsEither, HasPromise, RowFits, Rises};
 
 use crate::fault::RowsFault;
 use crate::rows::Rows;
 use ballots::{Number, Row};
+use tape_frames::Version;
 
 /// Rows whose next save can be made to be refused, to rehearse a store that fails.
 /// Clauses see the rows inside, how it is armed, and how many saves it refused itself.
@@ -69,6 +70,8 @@ impl<R: Rows> Rows for Balky<R> {
 
     ghost saved = { λ s. R.saved s.rows };
 
+    ghost version = { λ s. R.version s.rows };
+
     ghost refusals = { λ s. R.refusals s.rows + s.refusals };
 
     // A reading leaves it armed as it was.
@@ -94,14 +97,20 @@ impl<R: Rows> Rows for Balky<R> {
 
     ghost halves = { λ s. R.halves s.rows };
 
+    fn version(&self) -> Version {
+        self.rows.version()
+    }
+
     fn get(&mut self, number: Number) -> Result<Row, RowsFault> {
         self.rows.get(number)
     }
 
     fn put(&mut self, number: Number, row: &Row) -> Result<(), RowsFault>
-        requires { HasPromise row.now }
+        requires promise { HasPromise row.now }
+        requires fits { RowFits (R.version self.old.rows) row.now }
         ensures row { R.kept self.new.rows → OnOk result (WithRow (R.saved self.old.rows) number row.now (R.saved self.new.rows)) }
         ensures open { R.kept self.new.rows → OnOk result (R.is_open self.new.rows) }
+        ensures version { R.version self.new.rows ≡ R.version self.old.rows }
         ensures passes { OnOk result ((self.old.armed ≡ None) × (self.new.armed ≡ None) × R.passes self.old.rows self.new.rows) }
         ensures either { R.kept self.new.rows → OnErr result ((¬ R.is_open self.new.rows) ⊎ IsEither (R.saved self.old.rows) number row.now (R.saved self.new.rows)) }
         ensures tells { OnErr result ((self.new.armed ≡ None)

@@ -2,33 +2,61 @@
 
 ghost use Rattle.std.specs.Prelude.{◌≡◌, ◌≤◌, ℕ, None, IfOk, IsOk, OnOk, OnErr, IfErr, option_copied};
 ghost use Rattle.protocol.specs.Rows.{blank};
-ghost use Rattle.saved_rows.specs.Saved.{SameRows, WithRow, Rises, or_blank};
+ghost use Rattle.protocol.specs.Versions.{One};
+ghost use Rattle.tape_frames.specs.Entries.{version_of};
+ghost use Rattle.saved_rows.specs.Saved.{SameRows, WithRow, RowFits, Rises, or_blank};
 
 use crate::fault::RowsFault;
 use crate::rows::Rows;
 use ballots::{Number, Row};
 use std::alloc::{AllocError, Global};
 use std::collections::HashMap;
+use std::marker::Model;
 use std::mem;
+use tape_frames::Version;
 
-/// Rows that last as long as the program. Clauses see the map `saved`.
+/// Rows that last as long as the program, each one that their version has. Clauses see the map `saved`.
 #[derive(Drop)]
 pub struct MemoryRows {
     rows: HashMap<u32, Row>,
+    version: Version,
     refusals: u64,
     alloc: Global,
+}
+
+impl Model for MemoryRows {
+    ghost use Rattle.tape_frames.specs.Entries.{version_of};
+    ghost use Rattle.saved_rows.specs.Saved.{AllFit};
+    ghost use Rattle.saved_rows.specs.Memory.{MemoryOf, saved_among};
+
+    ghost Value = { MemoryOf };
+
+    ghost view = { λ s. record { entries = s.rows.entries; version = version_of s.version; refusals = s.refusals } };
+
+    ghost invariant = { λ s. AllFit (version_of s.version) (saved_among s.rows.entries) };
 }
 
 impl MemoryRows {
     ghost use Rattle.saved_rows.specs.Memory.{saved};
 
-    /// The empty map.
+    /// The empty map, at version 1.
     pub fn new(alloc: Global) -> MemoryRows
         ensures blank { (n : ℕ) → saved result n ≡ blank }
+        ensures version { result.version ≡ One }
+        ensures refusals { result.refusals ≡ 0 }
+    {
+        MemoryRows::at(alloc, Version::One)
+    }
+
+    /// The empty map, at this version.
+    pub fn at(alloc: Global, version: Version) -> MemoryRows
+        ensures blank { (n : ℕ) → saved result n ≡ blank }
+        ensures version { result.version ≡ version_of version }
         ensures refusals { result.refusals ≡ 0 }
     {
         MemoryRows {
             rows: HashMap::new(alloc),
+            version,
             refusals: 0,
             alloc,
         }
@@ -36,7 +64,8 @@ impl MemoryRows {
 
     /// The row of a number, lent; `None` where none is saved.
     pub fn row(&self, number: Number) -> Option<&Row>
-        ensures { or_blank (option_copied result) ≡ saved self.now number }
+        ensures row { or_blank (option_copied result) ≡ saved self.now number }
+        ensures fits { RowFits self.now.version (saved self.now number) }
     {
         let key = number.get();
         self.rows.get(&key)
@@ -47,7 +76,9 @@ impl MemoryRows {
     /// With [`MemoryRows::save`] a row is changed without a copy of its tape.
     pub fn take(&mut self, number: Number) -> Row
         ensures row { result ≡ saved self.old number }
+        ensures fits { RowFits self.old.version result }
         ensures blank { WithRow (saved self.old) number blank (saved self.new) }
+        ensures version { self.new.version ≡ self.old.version }
         ensures refusals { self.new.refusals ≡ self.old.refusals }
     {
         let key = number.get();
@@ -57,12 +88,14 @@ impl MemoryRows {
         }
     }
 
-    /// Saves the row of a number in place of the one before, and takes no copy of it.
+    /// Saves the row of a number, one that the version has, in place of the one before, and takes no copy of it.
     ///
     /// Where memory is refused the row is given up and the rows stay.
     pub fn save(&mut self, number: Number, row: Row) -> Result<(), AllocError>
+        requires { RowFits self.old.version row }
         ensures ok { OnOk result (WithRow (saved self.old) number row (saved self.new)) }
         ensures err { OnErr result (SameRows (saved self.old) (saved self.new)) }
+        ensures version { self.new.version ≡ self.old.version }
         ensures cause { OnErr result (Rises self.old.refusals self.new.refusals) }
         ensures counts { self.old.refusals ≤ self.new.refusals }
     {
@@ -90,15 +123,23 @@ impl Rows for MemoryRows {
 
     ghost saved = { saved };
 
+    ghost version = { λ s. s.version };
+
     ghost refusals = { λ s. s.refusals };
 
     ghost blames = { λ _ _ fault. fault ≡ OutOfMemory };
 
     ghost halves = { λ _. (λ _. (tt, tt), λ _. tt) };
 
+    fn version(&self) -> Version {
+        self.version
+    }
+
     fn get(&mut self, number: Number) -> Result<Row, RowsFault>
         ensures row { IfOk result (λ row. row ≡ saved self.old number) }
         ensures same { SameRows (saved self.old) (saved self.new) }
+        ensures fits { IfOk result (RowFits self.old.version) }
+        ensures version { self.new.version ≡ self.old.version }
         ensures err { IfErr result (λ e. e ≡ RowsFault.OutOfMemory) }
         ensures no_memory { (saved self.old number).vote ≡ None → IsOk result }
         ensures cause { OnErr result (Rises self.old.refusals self.new.refusals) }
@@ -117,8 +158,10 @@ impl Rows for MemoryRows {
     }
 
     fn put(&mut self, number: Number, row: &Row) -> Result<(), RowsFault>
+        requires { RowFits self.old.version row.now }
         ensures row { OnOk result (WithRow (saved self.old) number row.now (saved self.new)) }
         ensures same { OnErr result (SameRows (saved self.old) (saved self.new)) }
+        ensures version { self.new.version ≡ self.old.version }
         ensures err { IfErr result (λ e. e ≡ RowsFault.OutOfMemory) }
         ensures cause { OnErr result (Rises self.old.refusals self.new.refusals) }
         ensures counts { self.old.refusals ≤ self.new.refusals }

@@ -2,20 +2,25 @@
 
 ghost use Rattle.std.specs.Prelude.{◌≡◌, ◌≤◌, ◌⊎◌, ◌↔◌, ℕ, IfOk, IfErr, OnOk, OnErr};
 ghost use Rattle.protocol.specs.Rows.{Row as RowValue};
-ghost use Rattle.saved_rows.specs.Saved.{Saved, SameRows, WithRow, IsEither, HasPromise, Rises};
+ghost use Rattle.saved_rows.specs.Saved.{Saved, SameRows, WithRow, IsEither, HasPromise, RowFits, Rises};
 ghost use Rattle.saved_rows.specs.declared.fault.RowsFault.{RowsFault as FaultValue};
 
 use crate::fault::RowsFault;
 use ballots::{Number, Row};
+use tape_frames::Version;
 
 /// A finite map from numbers to rows, blank where none is saved, with a count of the calls that it refused.
-/// It is the stable storage of an acceptor (Lamport 2001): what `put` saved, a later `get` finds.
+/// It is the stable storage of an acceptor (Lamport 2001): what `put` saved, a later `get` finds. Each row is one that the
+/// version of the rows has.
 ///
 /// The clauses on the map speak of rows that are kept, which has two halves. The store owes the one: what the
 /// rows lie in, as the tables of a database, was made for them; rows that begin so stay so through each call.
 /// The host owes the other: nobody else writes there, and what was written is read back. No call can give
 /// that, so it is asked of the rows as a call leaves them, and then it held before.
 pub trait Rows: Drop {
+    ghost use Rattle.protocol.specs.Versions.{Version as VersionValue};
+    ghost use Rattle.tape_frames.specs.Entries.{version_of};
+
     // What the store owes: what the rows lie in was made for them.
     ghost made: { Self → Type 0 };
 
@@ -31,6 +36,9 @@ pub trait Rows: Drop {
     // The map, while it is open.
     ghost saved: { Self → Saved };
 
+    // The version that it has rows of, also where it is shut.
+    ghost version: { Self → VersionValue };
+
     // How many calls it refused.
     ghost refusals: { Self → ℕ };
 
@@ -45,13 +53,19 @@ pub trait Rows: Drop {
     // Which fault a refused call answers, for such a caller.
     ghost blames: { Self → Self → FaultValue → Type 0 } = { λ _ _ _. Unit {0} };
 
-    /// The row of a number, blank where none is saved. No row is changed.
+    /// The version of its rows. No row is read, and no memory is taken.
+    fn version(&self) -> Version
+        ensures { version_of result ≡ version self.now };
+
+    /// The row of a number, blank where none is saved; the version has it. No row is changed.
     ///
     /// A refusal is counted. `Damaged` comes only where another wrote to the store.
     fn get(&mut self, number: Number) -> Result<Row, RowsFault>
         ensures row { kept self.new → IfOk result (λ row. row ≡ saved self.old number) }
         ensures open { kept self.new → OnOk result (is_open self.new) }
         ensures same { kept self.new → is_open self.new → SameRows (saved self.old) (saved self.new) }
+        ensures fits { IfOk result (RowFits (version self.old)) }
+        ensures version { version self.new ≡ version self.old }
         ensures alike { alike self.old self.new }
 
         // It is refused only where the count rises.
@@ -66,13 +80,15 @@ pub trait Rows: Drop {
         ensures was_kept { kept self.new → kept self.old }
         ensures was_open { kept self.new → is_open self.new → is_open self.old };
 
-    /// Saves the row of a number in place of the one before. No other row is changed.
+    /// Saves the row of a number, one that the version has, in place of the one before. No other row is changed.
     ///
     /// A refusal is counted; it leaves the rows as they were, or with this one saved.
     fn put(&mut self, number: Number, row: &Row) -> Result<(), RowsFault>
-        requires { HasPromise row.now }
+        requires promise { HasPromise row.now }
+        requires fits { RowFits (version self.old) row.now }
         ensures row { kept self.new → OnOk result (WithRow (saved self.old) number row.now (saved self.new)) }
         ensures open { kept self.new → OnOk result (is_open self.new) }
+        ensures version { version self.new ≡ version self.old }
         ensures passes { OnOk result (passes self.old self.new) }
 
         // Where it is refused and still open, the map is one of two.

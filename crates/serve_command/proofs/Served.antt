@@ -10,8 +10,8 @@ use Rattle.protocol.specs.Refusals.{Call}
 use Rattle.saved_rows.specs.declared.fault.RowsFault.TheVariants as row_faults
 use Rattle.saved_rows.specs.declared.rows.Rows.{Ghosts}
 use Rattle.station.specs.declared.answer.Answer.{Answer}
-use Rattle.station.specs.declared.refusal.StepRefusal.{StepRefusal}
-use Rattle.station.specs.declared.refusal.StepRefusal.TheVariants as steps
+use Rattle.refusals.specs.declared.refusal.StepRefusal.{StepRefusal}
+use Rattle.refusals.specs.declared.refusal.StepRefusal.TheVariants as steps
 use Rattle.station.specs.declared.station.Station.{Station}
 use Rattle.station.specs.Steps.{tears, stopped_after}
 use Rattle.wire.specs.Passing.{Passed, told, Passes}
@@ -110,6 +110,7 @@ refused_cause call steps.Stranger old new p = p
 refused_cause call steps.BadNumber old new p = p
 refused_cause call steps.AlreadyReleased old new p = p
 refused_cause call steps.AlreadyOpen old new p = p
+refused_cause call steps.WireTooOld old new p = p
 refused_cause call (steps.TapeFaulty fault) old new p = p
 refused_cause call steps.RoundsSpent old new p = p
 refused_cause call (steps.Store row_faults.Store) old new p = stops_now call (steps.Store row_faults.Store) new IsByStore (λ e. cc) p

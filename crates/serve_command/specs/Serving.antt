@@ -2,21 +2,20 @@
 use Rattle.std.specs.Prelude.{◌≡◌, ◌⊎◌, ◌+◌, ℕ, List, [], ◌∷◌, ◌++◌, map, flat_map, Bool, true, Option, Some, None, Result, Ok, Err}
 use Rattle.std.specs.Io.KnownBytes.{Appends}
 use Rattle.streams.specs.Fronts.{AppendsFront}
-use Rattle.protocol.specs.Rows.{Tape}
-use Rattle.protocol.specs.Marks.{Mark}
+use Rattle.protocol.specs.Entries.{Entry, Tape, Void, Taped}
 use Rattle.protocol.specs.Circuit.{Datagram}
 use Rattle.protocol.specs.Refusals.{Call, Offering, Seeking, Falling_due, Receiving}
 use Rattle.saved_rows.specs.declared.fault.RowsFault.TheVariants as row_faults
 use Rattle.saved_rows.specs.declared.rows.Rows.{Ghosts}
-use Rattle.node_core.specs.Standing.{StandsFor}
+use Rattle.tape_frames.specs.Entries.{owned_entry}
 use Rattle.station.specs.declared.answer.Answer.{Answer}
 use Rattle.station.specs.declared.answer.Release.{Release}
-use Rattle.station.specs.declared.refusal.StepRefusal.{StepRefusal}
-use Rattle.station.specs.declared.refusal.StepRefusal.TheVariants.{Store, OutOfMemory}
+use Rattle.refusals.specs.declared.refusal.StepRefusal.{StepRefusal}
+use Rattle.refusals.specs.declared.refusal.StepRefusal.TheVariants.{Store, OutOfMemory}
 use Rattle.station.specs.declared.station.Station.{Station}
 use Rattle.station.specs.Readiness.{slugs_of}
 use Rattle.station.specs.Stations.{sight}
-use Rattle.station.specs.Steps.{Steps}
+use Rattle.station.specs.Steps.{TakesStep}
 use Rattle.wire.specs.Passing.{Passed, came, sent, told, Passes}
 use Rattle.command_ends.specs.ReleaseText.{release_text}
 use Rattle.command_ends.specs.Ends.{end_of}
@@ -31,7 +30,7 @@ pub data Event : Type 0 where
 
 -- a datagram that comes is the one that the station is called with
 abbrev pub coming : Call → List Passed
-coming (Offering n tape now) = []
+coming (Offering n entry now) = []
 coming (Seeking n now) = []
 coming (Falling_due now) = []
 coming (Receiving bytes now) = came bytes ∷ []
@@ -50,9 +49,9 @@ abbrev pub passing : Event → List Passed
 passing (asked moment) = told moment ∷ []
 passing (took call answer) = coming call ++ going answer
 
--- a release is written as its line and its galley
+-- a release is written as its line, and its galley where its tape sets
 abbrev pub release_of : Release → List ℕ
-release_of r = release_text [] r.number r.tape (slugs_of r.set)
+release_of r = release_text [] r.number (owned_entry r.entry) (slugs_of r.set)
 
 -- what is written of a release, if there is one
 abbrev pub printing : Option Release → List ℕ
@@ -69,9 +68,9 @@ abbrev pub writing : Event → List ℕ
 writing (asked moment) = []
 writing (took call answer) = written answer
 
--- one step by this call, for all marks that the station's core stands for
+-- one step by this call
 abbrev pub IsStep : {R : Type 0} → Ghosts R → Call → Station R → Station R → Result Answer StepRefusal → Type 0
-IsStep g call old new answer = (marks : List Mark) → StandsFor old.core marks → Steps (sight g) call old new marks answer
+IsStep g call old new answer = TakesStep (sight g) call old new answer
 
 -- these calls, one after the other, and nothing else changed the station
 abbrev pub Takes : {R : Type 0} → Ghosts R → Station R → Station R → List Event → Type 0
@@ -154,18 +153,23 @@ IsSeeingToDue now log = (answer : Result Answer StepRefusal) × (log ≡ took (F
 abbrev pub AtClock : (ℕ → List Event → Type 0) → List Event → Type 0
 AtClock Form log = (now : ℕ) × (rest : List Event) × Form now rest × (log ≡ asked now ∷ rest)
 
--- the tape was taken
-abbrev pub IsOffering : ℕ → Tape → ℕ → List Event → Type 0
-IsOffering n tape now log = (answer : Answer) × (log ≡ took (Offering n tape now) (Ok answer) ∷ [])
+-- the entry was taken
+abbrev pub IsOffering : ℕ → Entry → ℕ → List Event → Type 0
+IsOffering n entry now log = (answer : Answer) × (log ≡ took (Offering n entry now) (Ok answer) ∷ [])
 
 -- the search was begun
 abbrev pub IsSeeking : ℕ → ℕ → List Event → Type 0
 IsSeeking n now log = (answer : Answer) × (log ≡ took (Seeking n now) (Ok answer) ∷ [])
 
--- the offer was made, if there is one
+-- the tape was offered, if there is one
 abbrev pub IsOffer : Option (ℕ × Tape) → List Event → Type 0
 IsOffer None log = log ≡ []
-IsOffer (Some offer) log = AtClock (IsOffering offer.0 offer.1) log
+IsOffer (Some offer) log = AtClock (IsOffering offer.0 (Taped offer.1)) log
+
+-- the withdrawal was offered, if there is one
+abbrev pub IsWithdrawal : Option ℕ → List Event → Type 0
+IsWithdrawal None log = log ≡ []
+IsWithdrawal (Some number) log = AtClock (IsOffering number Void) log
 
 -- the search was made, if there is one
 abbrev pub IsSearch : Option ℕ → List Event → Type 0
@@ -189,6 +193,10 @@ pub data AreTurns : ℕ → List Event → Type 0 where
   none : AreTurns 0 []
   one_more : (n m : ℕ) (before last log : List Event) → m ≡ n + 1 → AreTurns n before → AtClock IsTurn last → log ≡ before ++ last → AreTurns m log
 
--- the offer, then the search, then so many turns
-abbrev pub IsRun : Option (ℕ × Tape) → Option ℕ → ℕ → List Event → Type 0
-IsRun offer seek turns log = Then (Then (IsOffer offer) (IsSearch seek)) (AreTurns turns) log
+-- the offer, then the withdrawal, then the search
+abbrev pub IsAsking : Option (ℕ × Tape) → Option ℕ → Option ℕ → List Event → Type 0
+IsAsking offer withdraw seek log = Then (IsOffer offer) (Then (IsWithdrawal withdraw) (IsSearch seek)) log
+
+-- what is asked first, and then so many turns
+abbrev pub IsRun : Option (ℕ × Tape) → Option ℕ → Option ℕ → ℕ → List Event → Type 0
+IsRun offer withdraw seek turns log = Then (IsAsking offer withdraw seek) (AreTurns turns) log

@@ -16,7 +16,7 @@ use std::alloc::Global;
 use std::io::Write;
 use wire::Wire;
 
-/// What setting the tape of a release gave, its slugs lent.
+/// What setting the entry of a release gave, its slugs lent.
 fn lent_slugs(release: &Release) -> Result<&[Slug], SetFault>
     ensures { lent result ≡ slugs_of release.now.set }
 {
@@ -33,7 +33,7 @@ fn put<W: Write>(alloc: Global, release: &Release, out: &mut W) -> Result<(), Fa
 {
     let number = release.number.get();
     let set = lent_slugs(release);
-    put_release(alloc, "", number, &release.tape, set, out)
+    put_release(alloc, "", number, &release.entry.lend(), set, out)
 }
 
 /// Writes a release and hands it on at once.

@@ -2,7 +2,7 @@
 
 ghost use Rattle.std.specs.Prelude.{◌≡◌, false, OnOk, IfErr};
 ghost use Rattle.station.specs.Steps.{tears};
-ghost use Rattle.serve_command.specs.Serving.{Serves, known, post, ended, IsTakingIn, IsSeeingToDue, IsTurn, IsOffer, IsSearch, AtClock, Then, AreTurns, IsRun};
+ghost use Rattle.serve_command.specs.Serving.{Serves, known, post, ended, IsTakingIn, IsSeeingToDue, IsTurn, IsOffer, IsWithdrawal, IsSearch, IsAsking, AtClock, Then, AreTurns, IsRun};
 ghost use Rattle.command_ends.specs.Ends.{end_of, end_of_step};
 ghost use Rattle.command_ends.specs.declared.end.End.TheVariants.{Done};
 
@@ -16,7 +16,7 @@ use tape_frames::Tape;
 use wire::{Arrival, Wire};
 
 /// The room for one datagram. The longest that is a packet has a byte less, so one that was cut is none.
-const BUFFER: usize = 4122;
+const BUFFER: usize = 12_314;
 
 /// Passes over a refusal after which the station goes on as it was; any other is the fault that it has stopped for.
 fn pass_over(refusal: StepRefusal) -> Result<(), Fault<'static>>
@@ -155,7 +155,29 @@ fn make_offer<R: Rows, N: Wire, W: Write, E: Write>(
     }
 }
 
-/// Seeks the tape of a number, where there is one to seek.
+/// Offers the withdrawal of a number, where there is one to withdraw.
+fn make_withdrawal<R: Rows, N: Wire, W: Write, E: Write>(
+    alloc: Global,
+    station: &mut Station<R>,
+    wire: &mut N,
+    withdraw: Option<u32>,
+    out: &mut W,
+    err: &mut E,
+) -> Result<(), Fault<'static>>
+    ensures was_kept { R.kept station.new.rows → R.kept station.old.rows }
+    ensures serves { Serves (known R.Rows N.passed W.contents) (post station.old wire.old out.old) (post station.new wire.new out.new) (ended result) (IsWithdrawal withdraw) }
+{
+    let Some(number) = withdraw else {
+        return Ok(());
+    };
+    let now = wire.now();
+    match station.withdraw(number, now) {
+        Ok(answer) => hand_on(alloc, &answer, wire, out, err),
+        Err(refusal) => Err(Fault::of_step(refusal)),
+    }
+}
+
+/// Seeks what was agreed on for a number, where there is one to seek.
 fn make_search<R: Rows, N: Wire, W: Write, E: Write>(
     alloc: Global,
     station: &mut Station<R>,
@@ -177,21 +199,39 @@ fn make_search<R: Rows, N: Wire, W: Write, E: Write>(
     }
 }
 
-/// Makes the offer, and then the search.
-fn ask<R: Rows, N: Wire, W: Write, E: Write>(
+/// Makes the withdrawal, and then the search.
+fn withdraw_and_seek<R: Rows, N: Wire, W: Write, E: Write>(
     alloc: Global,
     station: &mut Station<R>,
     wire: &mut N,
-    offer: Option<(u32, Tape)>,
+    withdraw: Option<u32>,
     seek: Option<u32>,
     out: &mut W,
     err: &mut E,
 ) -> Result<(), Fault<'static>>
     ensures was_kept { R.kept station.new.rows → R.kept station.old.rows }
-    ensures serves { Serves (known R.Rows N.passed W.contents) (post station.old wire.old out.old) (post station.new wire.new out.new) (ended result) (Then (IsOffer offer) (IsSearch seek)) }
+    ensures serves { Serves (known R.Rows N.passed W.contents) (post station.old wire.old out.old) (post station.new wire.new out.new) (ended result) (Then (IsWithdrawal withdraw) (IsSearch seek)) }
+{
+    make_withdrawal(alloc, station, wire, withdraw, out, err)?;
+    make_search(alloc, station, wire, seek, out, err)
+}
+
+/// Makes the offer, then the withdrawal, and then the search.
+fn ask<R: Rows, N: Wire, W: Write, E: Write>(
+    alloc: Global,
+    station: &mut Station<R>,
+    wire: &mut N,
+    offer: Option<(u32, Tape)>,
+    withdraw: Option<u32>,
+    seek: Option<u32>,
+    out: &mut W,
+    err: &mut E,
+) -> Result<(), Fault<'static>>
+    ensures was_kept { R.kept station.new.rows → R.kept station.old.rows }
+    ensures serves { Serves (known R.Rows N.passed W.contents) (post station.old wire.old out.old) (post station.new wire.new out.new) (ended result) (IsAsking offer withdraw seek) }
 {
     make_offer(alloc, station, wire, offer, out, err)?;
-    make_search(alloc, station, wire, seek, out, err)
+    withdraw_and_seek(alloc, station, wire, withdraw, seek, out, err)
 }
 
 /// The turns of a station, one after the other, up to the first that does not end well.
@@ -216,22 +256,24 @@ fn take_turns<R: Rows, N: Wire, W: Write, E: Write>(
     End::Done
 }
 
-/// Serves a station: the offer, then the search, if given, and then so many turns, up to the first that does not
-/// end well. The buffer for what comes is made before all of them.
+/// Serves a station: the offer, then the withdrawal, then the search, if given, and then so many turns, up to the first
+/// that does not end well. The buffer for what comes is made before all of them.
 ///
-/// An offer or a search that the station refuses ends it, and so does that it has stopped; `err` has the word.
+/// An offer, a withdrawal or a search that the station refuses ends it, and so does that it has stopped; `err` has the
+/// word. A station at version 1 refuses each withdrawal.
 pub fn serve_run<R: Rows, N: Wire, W: Write, E: Write>(
     alloc: Global,
     station: &mut Station<R>,
     wire: &mut N,
     offer: Option<(u32, Tape)>,
+    withdraw: Option<u32>,
     seek: Option<u32>,
     turns: u32,
     out: &mut W,
     err: &mut E,
 ) -> End
     ensures was_kept { R.kept station.new.rows → R.kept station.old.rows }
-    ensures serves { Serves (known R.Rows N.passed W.contents) (post station.old wire.old out.old) (post station.new wire.new out.new) result (IsRun offer seek turns) }
+    ensures serves { Serves (known R.Rows N.passed W.contents) (post station.old wire.old out.old) (post station.new wire.new out.new) result (IsRun offer withdraw seek turns) }
     ensures goes_on { result ≡ Done → station.new.stopped ≡ false }
 {
     if station.stopped() {
@@ -240,7 +282,7 @@ pub fn serve_run<R: Rows, N: Wire, W: Write, E: Write>(
     let Ok(mut buffer) = vec![in alloc; 0u8; BUFFER] else {
         return Fault::OutOfMemory.tell(err);
     };
-    match ask(alloc, station, wire, offer, seek, out, err) {
+    match ask(alloc, station, wire, offer, withdraw, seek, out, err) {
         Ok(()) => take_turns(alloc, station, wire, turns, &mut buffer, out, err),
         Err(fault) => fault.tell(err),
     }

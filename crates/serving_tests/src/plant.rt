@@ -10,8 +10,8 @@ use std::alloc::Global;
 use tape_frames::{Tape, TapeFault};
 use wire::Wire;
 
-/// What happens to a station, then a run of it: the offer of these frames, a search, and so many turns; how it has to
-/// end, what it has to print, and how many datagrams have then been sent.
+/// What happens to a station, then a run of it: the offer of these frames, a withdrawal, a search, and so many turns; how
+/// it has to end, what it has to print, and how many datagrams have then been sent.
 #[derive(Clone, Copy)]
 pub struct Run {
     /// Its next save is refused, after it was passed on.
@@ -22,6 +22,7 @@ pub struct Run {
     /// The datagrams that come, in hexadecimal digits.
     pub coming: &'static [&'static [u8]],
     pub offer: Option<(u32, &'static [u8])>,
+    pub withdraw: Option<u32>,
     pub seek: Option<u32>,
     pub turns: u32,
     pub end: End,
@@ -37,6 +38,7 @@ pub const TURN: Run = Run {
     at: 0,
     coming: &[],
     offer: None,
+    withdraw: None,
     seek: None,
     turns: 1,
     end: End::Done,
@@ -48,6 +50,12 @@ pub const TURN: Run = Run {
 /// The offer of the story for number 12, and a turn.
 pub const OFFER: Run = Run {
     offer: Some((12, FLOOD)),
+    ..TURN
+};
+
+/// The withdrawal of number 12, and a turn.
+pub const WITHDRAWAL: Run = Run {
+    withdraw: Some(12),
     ..TURN
 };
 
@@ -98,6 +106,7 @@ impl<R: Rows, N: Wire + Drop> Plant<R, N> {
             &mut self.station,
             &mut self.wire,
             offer,
+            run.withdraw,
             run.seek,
             run.turns,
             &mut self.out,

@@ -6,12 +6,14 @@ use crate::wires::{Manner, Scripted};
 use ballots::{Number, Row};
 use saved_rows::{Balky, MemoryRows};
 use std::alloc::Global;
+use tape_frames::Version;
 
-/// A station of circuit 7, the ballot that it promised for number 12 before, its wire, and what happens to it.
+/// A station of circuit 7, its version, the ballot that it promised for number 12 before, its wire, and what happens to it.
 #[derive(Clone, Copy)]
 pub struct Story {
     pub me: u8,
     pub members: u8,
+    pub version: Version,
     pub promised: Option<(u32, u8)>,
     pub manner: Manner,
     pub steps: &'static [Run],
@@ -32,21 +34,21 @@ fn takes(bench: &mut Bench, step: &Run) -> bool {
     bench.wire.bring_all(step.coming) && bench.takes(step) && bench.wire.sent == step.sent
 }
 
-/// Blank rows, or with this promise for number 12.
-fn rows_with(alloc: Global, promised: Option<(u32, u8)>) -> Option<MemoryRows> {
+/// Blank rows at a version, or with this promise for number 12.
+fn rows_with(alloc: Global, version: Version, promised: Option<(u32, u8)>) -> Option<MemoryRows> {
+    let mut rows = MemoryRows::at(alloc, version);
     let Some((round, owner)) = promised else {
-        return Some(MemoryRows::new(alloc));
+        return Some(rows);
     };
     let number = Number::new(12)?;
     let row = Row::new(Some(ballot(round, owner)?), None)?;
-    let mut rows = MemoryRows::new(alloc);
     rows.save(number, row).ok()?;
     Some(rows)
 }
 
 /// The station of a story, before its steps.
 pub fn bench_of(alloc: Global, story: &Story) -> Option<Bench> {
-    let rows = Balky::new(rows_with(alloc, story.promised)?);
+    let rows = Balky::new(rows_with(alloc, story.version, story.promised)?);
     let wire = Scripted::new(alloc, story.manner);
     Plant::new(alloc, story.me, story.members, rows, wire)
 }

@@ -2,7 +2,9 @@
 
 mod agreeing;
 mod failing;
+mod longest;
 mod printing;
 mod refusing;
 mod sending;
 mod sockets;
+mod withdrawing;

@@ -73,10 +73,10 @@ fn fixed_spaces(rt: HostRuntime) {
     assert!(rt; sets_with_en(rt.alloc(), &[1, 10, 2, 7, 5, 10, 6, 0, 4], text));
 }
 
-/// The flood story again and again, and ignored frames up to the most frames of a tape: 585 times, and one.
+/// The flood story again and again, and ignored frames up to the most frames of a tape: 2,340 times, and four.
 fn longest(alloc: Global) -> Option<Vec<u8>> {
-    let mut frames = FLOOD.repeat(alloc, 585).ok()?;
-    frames.resize(4096, 63).ok()?;
+    let mut frames = FLOOD.repeat(alloc, 2340).ok()?;
+    frames.resize(16_384, 63).ok()?;
     Some(frames)
 }
 
@@ -104,8 +104,8 @@ fn longest_measured(alloc: Global, first: &str, last: &str) -> Option<(usize, us
 #[test]
 fn the_longest_tape(rt: HostRuntime) {
     let first = "0001 J 0 0 a b _4 a _4 b\n0002 J 0 0 a b _4 a _4 b\n";
-    let last = "\n0584 J 0 0 a b _4 a _4 b\n0585 J 0 0 a b _4 a _4 b\n";
-    assert!(rt; longest_measured(rt.alloc(), first, last) == Some((585, 14_625)));
+    let last = "\n2339 J 0 0 a b _4 a _4 b\n2340 J 0 0 a b _4 a _4 b\n";
+    assert!(rt; longest_measured(rt.alloc(), first, last) == Some((2340, 58_500)));
 }
 
 /// A slug that no width file gives: the longest name on the upper rail, a band without width and the widest space.

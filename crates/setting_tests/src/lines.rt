@@ -144,7 +144,7 @@ fn make_a_line(alloc: Global, bands: usize, make: bool) -> bool {
 
 #[test]
 fn items_of_a_line(rt: HostRuntime) {
-    for (bands, make) in &[(0, false), (1, true), (4096, true), (4097, false)] {
+    for (bands, make) in &[(0, false), (1, true), (16_384, true), (16_385, false)] {
         assert!(rt; make_a_line(rt.alloc(), *bands, *make), "{bands}");
     }
 }

@@ -3,6 +3,7 @@
 use crate::files::Job;
 use crate::galleys::{GALLEYS, is_galley};
 use crate::slugs::FAULTS;
+use fixtures::LONGEST;
 use line_check::{Cause, LineFault, Slug, check};
 use slug_reader::{Line, ReadFault, Reader};
 use std::alloc::Global;
@@ -123,14 +124,14 @@ fn is_too_long(alloc: Global, frames: &[u8], last: u8) -> bool {
     };
     let mut reader = Reader::new(alloc, &job.table, &job.widths);
     let taken = reader.push(frames).is_ok() && reader.finish().is_ok();
-    taken && reader.push(&[last]).err() == Some(ReadFault::TooLong { at: 4096 })
+    taken && reader.push(&[last]).err() == Some(ReadFault::TooLong { at: 16_384 })
 }
 
-/// A tape has 4,096 frames. What comes behind them is too long whatever it is.
+/// A tape has 16,384 frames. What comes behind them is too long whatever it is.
 #[test]
 fn one_frame_too_many(rt: HostRuntime) {
     for last in &[0, 12, 0x40] {
-        assert!(rt; is_too_long(rt.alloc(), &[0; 4096], *last), "{last}");
+        assert!(rt; is_too_long(rt.alloc(), LONGEST, *last), "{last}");
     }
 }
 

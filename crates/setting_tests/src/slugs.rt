@@ -57,6 +57,32 @@ fn first_faults(rt: HostRuntime) {
     }
 }
 
+/// Matrices as far as the last frame of the longest tape, which cuts their line.
+fn longest(alloc: Global) -> Option<Vec<u8>> {
+    let mut frames = vec![in alloc; 1u8; 16_383].ok()?;
+    frames.push(4).ok()?;
+    Some(frames)
+}
+
+/// Whether this is the fault of that tape.
+fn longest_has_fault(alloc: Global, fault: SetFault) -> bool {
+    match longest(alloc) {
+        Some(frames) => has_fault(alloc, true, &frames, fault),
+        None => false,
+    }
+}
+
+/// 16,383 matrices of 5 units, which are 81,915, by a measure of 30.
+#[test]
+fn the_longest_line(rt: HostRuntime) {
+    let fault = SetFault {
+        at: 16_383,
+        line: 1,
+        cause: Cause::Overset { over: 81_885 },
+    };
+    assert!(rt; longest_has_fault(rt.alloc(), fault));
+}
+
 /// The slug of the line, where there is one line.
 fn cast(alloc: Global, lines: &[Line], widths: &Widths) -> Option<Slug> {
     match lines {

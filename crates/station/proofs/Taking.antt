@@ -3,21 +3,24 @@ use Rattle.std.proofs.Common.{◌≡◌, ℕ, ◌⊎◌, inl, inr, refl, sym, ap
 use Rattle.std.specs.Prelude.{Result, Ok, Err, ◌==◌}
 use Rattle.std.specs.List.{AllZip}
 use Rattle.std.proofs.lemmas.Bool.{eqb-true}
-use Rattle.protocol.specs.Rows.{Tape, Row}
+use Rattle.protocol.specs.Entries.{Entry}
+use Rattle.protocol.specs.Rows.{Row}
 use Rattle.protocol.specs.Packets.{Packet}
+use Rattle.protocol.specs.Versions.{Version}
 use Rattle.protocol.specs.Marks.{Mark}
 use Rattle.protocol.specs.Turn as said
 use Rattle.saved_rows.specs.Saved.{Saved, SameRows, WithRow, with_row}
 use Rattle.saved_rows.specs.declared.fault.RowsFault.{RowsFault}
-use Rattle.node_core.specs.Standing.{Core, StandsFor, IsSameSeat, seat_of}
+use Rattle.node_core.specs.Standing.{StandsFor, IsSameSeat, seat_of}
 use Rattle.node_core.specs.Turns.{event_value, note_value, is_quiet, Stirs, HandsNothing, IsTurn, IsRowAfter}
 use Rattle.node_core.specs.declared.event.Event.{Event}
 use Rattle.node_core.specs.declared.turn.Turn.{Turn}
 use Rattle.node_core.specs.Calls.{MayTakeMemory}
 use Rattle.station.specs.declared.answer.Answer.{Answer}
 use Rattle.station.specs.declared.station.Station.{Station}
-use Rattle.station.specs.declared.refusal.StepRefusal.{StepRefusal}
-use Rattle.station.specs.declared.refusal.StepRefusal.TheVariants.{Stopped, BadDatagram, WrongCircuit, NotForMe, Stranger, BadNumber, AlreadyReleased, AlreadyOpen, TapeFaulty, RoundsSpent, Store, OutOfMemory}
+use Rattle.refusals.specs.declared.refusal.StepRefusal.{StepRefusal}
+use Rattle.refusals.specs.declared.refusal.StepRefusal.TheVariants.{Stopped, BadDatagram, WrongCircuit, NotForMe, Stranger, BadNumber, AlreadyReleased, AlreadyOpen, WireTooOld, TapeFaulty, RoundsSpent, Store, OutOfMemory}
+use Rattle.station.specs.Speaking.{Speaking}
 use Rattle.station.specs.Stations.{Sight, IsFixed}
 use Rattle.station.specs.Readiness.{Carries, IsReleased, RowSaved, RowBalked, Saves}
 use Rattle.station.specs.Steps.{WasRead, WasSaved, turn_of, Done, AtSave, Ends}
@@ -40,17 +43,17 @@ some_is e = cc
 -- the turn that memory was refused to, at the row that was read
 pub refused_stirs :
     {R : Type 0} (x : Sight R) (event : Event) (s : Station R) (marks : List Mark) (row : Row) (n : ℕ) → said.number_of (event_value event) ≡ n → row ≡ x.saved s.rows n
-    → MayTakeMemory s.core event marks row → (t : said.Turn) → turn_of x s marks (event_value event) ≡ Some t → Stirs t
+    → MayTakeMemory s.speaker.core event marks row → (t : said.Turn) → turn_of x s marks (event_value event) ≡ Some t → Stirs t
 refused_stirs x event s marks row n number is h t e =
-    let here = subst (λ (r : Row). said.turn (seat_of s.core) marks r (event_value event) ≡ Some h.turn) (is ∙ ap (x.saved s.rows) (sym number)) h.is_the_turn in
+    let here = subst (λ (r : Row). said.turn (seat_of s.speaker.core) marks r (event_value event) ≡ Some h.turn) (is ∙ ap (x.saved s.rows) (sym number)) h.is_the_turn in
     subst Stirs (some_is (sym here ∙ e)) h.holds
 
 -- a station whose core wanted memory
 pub wanted :
-    {R : Type 0} (x : Sight R) (event : Event) (old after : Station R) (marks : List Mark) (mid : R) (core : Core) (row : Row) (n : ℕ) (q : StepRefusal)
-    → q ≡ OutOfMemory → IsSameSeat old.core core → IsFixed (record old { rows = mid; core = core }) after → after ≡ record old { rows = mid; core = after.core; stopped = true } → StandsFor after.core []
-    → WasRead x old.rows mid → said.number_of (event_value event) ≡ n → row ≡ x.saved old.rows n → MayTakeMemory old.core event marks row → Ends x (event_value event) old after marks (Err q)
-wanted {R = R} x event old after marks mid core row n q same seat f is none read number its_row h =
+    {R : Type 0} (x : Sight R) (event : Event) (old after : Station R) (marks : List Mark) (mid : R) (speaker : Speaking) (row : Row) (n : ℕ) (q : StepRefusal)
+    → q ≡ OutOfMemory → IsSameSeat old.speaker.core speaker.core → IsFixed (record old { rows = mid; speaker = speaker }) after → after ≡ record old { rows = mid; speaker = after.speaker; stopped = true } → StandsFor after.speaker.core []
+    → WasRead x old.rows mid → said.number_of (event_value event) ≡ n → row ≡ x.saved old.rows n → MayTakeMemory old.speaker.core event marks row → Ends x (event_value event) old after marks (Err q)
+wanted {R = R} x event old after marks mid speaker row n q same seat f is none read number its_row h =
     subst (λ (t : StepRefusal). Ends x (event_value event) old after marks (Err t)) (sym same) (record {
       fixed = record { circuit = f.circuit ∙ seat.circuit; members = f.members ∙ seat.members; me = f.me ∙ seat.me; table = f.table; widths = f.widths };
       stops = ap (λ (t : Station R). t.stopped) is;
@@ -60,22 +63,21 @@ wanted {R = R} x event old after marks mid core row n q same seat f is none read
     })
 
 -- what is known of a station whose core took a turn of the row that was read
-pub record Taking {R : Type 0} (x : Sight R) (e : said.Event) (old : Station R) (marks : List Mark) (mid : R) (core : Core) (move : Turn) (row : Row) (n : ℕ) : Type 0 where
+pub record Taking {R : Type 0} (x : Sight R) (e : said.Event) (old : Station R) (marks : List Mark) (mid : R) (speaker : Speaking) (move : Turn) (row : Row) (n : ℕ) : Type 0 where
   pub number : said.number_of e ≡ n
   pub goes : old.stopped ≡ false
   pub read : WasRead x old.rows mid
   pub is_open : x.is_open mid
   pub is_row : row ≡ x.saved old.rows n
   pub taken : said.Turn
-  pub is_turn : said.turn (seat_of old.core) marks row e ≡ Some taken
+  pub is_turn : said.turn (seat_of old.speaker.core) marks row e ≡ Some taken
   pub gives : IsTurn row taken move
   pub quiet : is_quiet (note_value move.note) ≡ true → HandsNothing move
-  pub stands : StandsFor core taken.marks
-  pub circuit : core.circuit ≡ old.core.circuit
-  pub members : core.members ≡ old.core.members
-  pub me : core.me ≡ old.core.me
+  pub stands : StandsFor speaker.core taken.marks
+  pub seat : IsSameSeat old.speaker.core speaker.core
+  pub version : x.version mid ≡ old.speaker.wire
 
-module _ {R : Type 0} (x : Sight R) (e : said.Event) (old : Station R) (marks : List Mark) (mid new : R) (core : Core) (move : Turn) (row : Row) (n : ℕ) (k : Taking x e old marks mid core move row n) where
+module _ {R : Type 0} (x : Sight R) (e : said.Event) (old : Station R) (marks : List Mark) (mid new : R) (speaker : Speaking) (move : Turn) (row : Row) (n : ℕ) (k : Taking x e old marks mid speaker move row n) where
   is_its_row : row ≡ x.saved old.rows (said.number_of e)
   is_its_row = k.is_row ∙ ap (x.saved old.rows) (sym k.number)
 
@@ -83,7 +85,7 @@ module _ {R : Type 0} (x : Sight R) (e : said.Event) (old : Station R) (marks : 
   its_save r s = subst (λ (i : ℕ). Saves x old.table old.widths i row move mid new r) (sym k.number) s
 
   is_saved_turn : turn_of x old marks e ≡ Some k.taken
-  is_saved_turn = subst (λ (r : Row). said.turn (seat_of old.core) marks r e ≡ Some k.taken) is_its_row k.is_turn
+  is_saved_turn = subst (λ (r : Row). said.turn (seat_of old.speaker.core) marks r e ≡ Some k.taken) is_its_row k.is_turn
 
   saves_row :
       (o : Option Row) → IsRowAfter row k.taken.row o → RowSaved x (said.number_of e) o mid new
@@ -102,22 +104,22 @@ module _ {R : Type 0} (x : Sight R) (e : said.Event) (old : Station R) (marks : 
     inr (record { mid = mid; read = k.read; passes = s.0 }),
   )
 
-  pub done : (a : Answer) → Saves x old.table old.widths n row move mid new (Ok a) → Done x e old (record old { rows = new; core = core }) marks a
+  pub done : (a : Answer) → Saves x old.table old.widths n row move mid new (Ok a) → Done x e old (record old { rows = new; speaker = speaker }) marks a
   done a given =
       let s : Saves x old.table old.widths (said.number_of e) row move mid new (Ok a) = its_save (Ok a) given in
       let rows = saves_row move.row k.gives.row_after s.0 in
       record {
         taken = k.taken;
         is_turn = is_saved_turn;
-        fixed = record { circuit = k.circuit; members = k.members; me = k.me; table = refl; widths = refl };
+        fixed = record { circuit = k.seat.circuit; members = k.seat.members; me = k.seat.me; table = refl; widths = refl };
         goes_on = k.goes;
         stands_for = k.stands;
         was_open = k.read.was_open k.is_open;
         is_open = rows.1;
         rows = rows.0;
         told = rows.2;
-        out = subst (λ (l : List Packet). AllZip Carries l a.out.items) k.gives.out s.1;
-        release = subst (λ (o : Option Tape). IsReleased old.table old.widths (said.number_of e) o a.release) k.gives.release s.2;
+        out = subst (λ (v : Version). AllZip (Carries v) k.taken.out a.out.items) k.version (subst (λ (l : List Packet). AllZip (Carries (x.version mid)) l a.out.items) k.gives.out s.1);
+        release = subst (λ (o : Option Entry). IsReleased old.table old.widths (said.number_of e) o a.release) k.gives.release s.2;
         note = ap note_value s.3 ∙ k.gives.note;
       }
 
@@ -149,7 +151,7 @@ module _ {R : Type 0} (x : Sight R) (e : said.Event) (old : Station R) (marks : 
 
   -- the station that stopped with this refusal
   torn :
-      (after : Station R) (r : StepRefusal) → IsFixed old after → after.stopped ≡ true → StandsFor after.core [] → after.rows ≡ new
+      (after : Station R) (r : StepRefusal) → IsFixed old after → after.stopped ≡ true → StandsFor after.speaker.core [] → after.rows ≡ new
       → Saves x old.table old.widths (said.number_of e) row move mid new (Err r) → Ends x e old after marks (Err r)
   torn after (Store fault) fixed stops none rows s =
       record { fixed = fixed; stops = stops; stands_for = none; at = inr (subst (λ (q : R). AtSave x e old marks q fault) (sym rows) (balked move.row fault k.gives.row_after s)) }
@@ -163,17 +165,18 @@ module _ {R : Type 0} (x : Sight R) (e : said.Event) (old : Station R) (marks : 
   torn after BadNumber fixed stops none rows s = absurd s
   torn after AlreadyReleased fixed stops none rows s = absurd s
   torn after AlreadyOpen fixed stops none rows s = absurd s
+  torn after WireTooOld fixed stops none rows s = absurd s
   torn after (TapeFaulty fault) fixed stops none rows s = absurd s
   torn after RoundsSpent fixed stops none rows s = absurd s
 
   -- the same, of a station that the code stopped
   pub ended :
-      (before after : Station R) (r q : StepRefusal) → before ≡ record old { rows = new; core = core } → IsFixed before after
-      → after ≡ record before { core = after.core; stopped = true } → q ≡ r → StandsFor after.core []
+      (before after : Station R) (r q : StepRefusal) → before ≡ record old { rows = new; speaker = speaker } → IsFixed before after
+      → after ≡ record before { speaker = after.speaker; stopped = true } → q ≡ r → StandsFor after.speaker.core []
       → Saves x old.table old.widths n row move mid new (Err r) → Ends x e old after marks (Err q)
   ended before after r q was fixed is same none s =
-      let f : IsFixed (record old { rows = new; core = core }) after = subst (λ (t : Station R). IsFixed t after) was fixed in
+      let f : IsFixed (record old { rows = new; speaker = speaker }) after = subst (λ (t : Station R). IsFixed t after) was fixed in
       subst (λ (t : StepRefusal). Ends x e old after marks (Err t)) (sym same)
       (torn after r
-      (record { circuit = f.circuit ∙ k.circuit; members = f.members ∙ k.members; me = f.me ∙ k.me; table = f.table; widths = f.widths })
+      (record { circuit = f.circuit ∙ k.seat.circuit; members = f.members ∙ k.seat.members; me = f.me ∙ k.seat.me; table = f.table; widths = f.widths })
       (ap (λ (t : Station R). t.stopped) is) none (ap (λ (t : Station R). t.rows) is ∙ ap (λ (t : Station R). t.rows) was) (its_save (Err r) s))

@@ -1,6 +1,8 @@
--- Two lists, place by place.
-use Rattle.std.proofs.Common.{◌≡◌, ◌<◌, ◌≤◌, ◌+◌, ℕ, List, [], ◌∷◌, ◌++◌, length, take, get_or, sym, ap, subst, ◌∙◌}
+-- Lists, place by place.
+use Rattle.std.proofs.Common.{◌≡◌, ◌<◌, ◌≤◌, ◌+◌, ℕ, zero, suc, inl, inr, List, [], ◌∷◌, ◌++◌, Some, length, take, get_or, sym, ap, subst, ◌∙◌}
+use Rattle.std.specs.Prelude.{slice_get}
 use Rattle.std.specs.List.{AllZip}
+use Rattle.protocol.specs.Lists.{IsAmong}
 use Rattle.std.proofs.lemmas.List.{take_more, take_all}
 use Rattle.std.proofs.lemmas.Slice.Zip.{AllZip-long}
 
@@ -23,3 +25,9 @@ whole R xs ys i past h = subst (λ l. AllZip R l ys) (take_all i xs past) h
 
 pub as_long : {A B : Type 0} (R : A → B → Type 0) (xs : List A) (ys : List B) (i : ℕ) → length xs ≤ i → AllZip R (take i xs) ys → length ys ≡ length xs
 as_long R xs ys i past h = AllZip-long R xs ys (whole R xs ys i past h)
+
+-- what stands at a place is among them
+pub among : {A : Type 0} (xs : List A) (i : ℕ) (x : A) → slice_get xs i ≡ Some x → IsAmong xs x
+among [] i x h = absurd cc
+among (y ∷ ys) zero x h = let e : x ≡ y = cc in inl e
+among (y ∷ ys) (suc i) x h = inr (among ys i x h)

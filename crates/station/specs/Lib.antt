@@ -1,4 +1,5 @@
 pub mod Refusing
+pub mod Speaking
 pub mod Stations
 pub mod Readiness
 pub mod Steps

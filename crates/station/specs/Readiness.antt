@@ -1,15 +1,20 @@
 -- What a turn hands out, made ready before its row is saved; and what the save leaves.
-use Rattle.std.specs.Prelude.{◌≡◌, ◌⊎◌, ℕ, List, Option, Some, None, Result, Ok, Err}
+use Rattle.std.specs.Prelude.{◌≡◌, ◌⊎◌, ℕ, List, [], Option, Some, None, Result, Ok, Err, option_map}
 use Rattle.std.specs.List.{AllZip}
 use Rattle.std.specs.declared.vec.Vec.{Vec}
 use Rattle.std.specs.Global.{Global}
-use Rattle.protocol.specs.Rows.{Tape, Row}
+use Rattle.protocol.specs.Entries.{Entry, Void, Taped}
+use Rattle.protocol.specs.Rows.{Row}
 use Rattle.protocol.specs.Packets.{Packet}
+use Rattle.protocol.specs.Versions.{Version}
 use Rattle.protocol.specs.Circuit.{Datagram}
 use Rattle.saved_rows.specs.Saved.{WithRow, IsEither}
 use Rattle.saved_rows.specs.declared.fault.RowsFault.{RowsFault}
-use Rattle.packets.specs.Reading.{packet_at}
+use Rattle.tape_frames.specs.Entries.{owned_entry}
+use Rattle.packets.specs.Reading.{packet_in}
 use Rattle.code_table.specs.Tables.{Places, mean}
+use Rattle.code_table.specs.declared.case.Case.{Case}
+use Rattle.code_table.specs.declared.meaning.Meaning.{Meaning}
 use Rattle.widths.specs.Widths.{WidthFile}
 use Rattle.line_check.specs.Sets.{Sets}
 use Rattle.line_check.specs.declared.fault.SetFault.{SetFault}
@@ -19,30 +24,35 @@ use Rattle.node_core.specs.declared.turn.Turn.{Turn}
 use Rattle.station.specs.declared.answer.Answer.{Answer}
 use Rattle.station.specs.declared.answer.Release.{Release}
 use Rattle.station.specs.declared.setting.Checked.{Checked}
-use Rattle.station.specs.declared.refusal.StepRefusal.{StepRefusal}
-use Rattle.station.specs.declared.refusal.StepRefusal.TheVariants.{Store, OutOfMemory}
+use Rattle.refusals.specs.declared.refusal.StepRefusal.{StepRefusal}
+use Rattle.refusals.specs.declared.refusal.StepRefusal.TheVariants.{Store, OutOfMemory}
 use Rattle.station.specs.Stations.{Sight}
 
--- the datagram spells the packet, and goes to its addressee
-abbrev pub Carries : Packet → Datagram → Type 0
-Carries p d = (d.to ≡ p.to) × (packet_at d.bytes ≡ Ok p)
+-- the datagram spells the packet in this version, and goes to its addressee
+abbrev pub Carries : Version → Packet → Datagram → Type 0
+Carries v p d = (d.to ≡ p.to) × (packet_in v d.bytes ≡ Ok p)
 
 -- what setting a tape gave, its slugs as a list
 abbrev pub slugs_of : Result (Vec Slug Global) SetFault → Result (List Slug) SetFault
 slugs_of (Ok slugs) = Ok slugs.items
 slugs_of (Err fault) = Err fault
 
+-- what the meanings of frames and the widths make of an entry: of a tape its slugs or its first fault, of a withdrawal no slug
+abbrev pub SetsEntry : (Case → ℕ → Option Meaning) → WidthFile → Entry → Result (List Slug) SetFault → Type 0
+SetsEntry means widths Void set = set ≡ Ok []
+SetsEntry means widths (Taped tape) set = Sets means widths tape set
+
 -- a tape that was set before gave these slugs
 abbrev pub WasChecked : Places → WidthFile → Option Checked → Type 0
 WasChecked table widths None = Unit {0}
 WasChecked table widths (Some c) = Sets (mean table) widths c.tape.now (Ok c.slugs.items)
 
--- what is handed out of a released tape: its number, the tape, and what the code table and the widths make of it
-abbrev pub IsReleased : Places → WidthFile → ℕ → Option Tape → Option Release → Type 0
+-- what is handed out of a released entry: its number, the entry, and what the code table and the widths make of it
+abbrev pub IsReleased : Places → WidthFile → ℕ → Option Entry → Option Release → Type 0
 IsReleased table widths n None None = Unit {0}
 IsReleased table widths n None (Some r) = ⊥
-IsReleased table widths n (Some tape) None = ⊥
-IsReleased table widths n (Some tape) (Some r) = (r.number ≡ n) × (r.tape ≡ tape) × Sets (mean table) widths tape (slugs_of r.set)
+IsReleased table widths n (Some entry) None = ⊥
+IsReleased table widths n (Some entry) (Some r) = (r.number ≡ n) × (owned_entry r.entry ≡ entry) × SetsEntry (mean table) widths entry (slugs_of r.set)
 
 -- the rows after a save of the turn's row that was done; where it has none, the rows stay
 abbrev pub RowSaved : {R : Type 0} → Sight R → ℕ → Option Row → R → R → Type 0
@@ -59,7 +69,8 @@ RowBalked x n (Some row) fault old new =
 -- what is handed out, of a turn that was taken at this row, was ready before the row was saved; that takes memory only where something is handed out
 abbrev pub Saves : {R : Type 0} → Sight R → Places → WidthFile → ℕ → Row → Turn → R → R → Result Answer StepRefusal → Type 0
 Saves x table widths n row turn old new (Ok a) =
-    RowSaved x n turn.row old new × AllZip Carries (sent row turn) a.out.items × IsReleased table widths n turn.release a.release × (a.note ≡ turn.note)
+    RowSaved x n turn.row old new × AllZip (Carries (x.version old)) (sent row turn) a.out.items
+    × IsReleased table widths n (option_map owned_entry turn.release) a.release × (a.note ≡ turn.note)
 Saves x table widths n row turn old new (Err (Store fault)) = RowBalked x n turn.row fault old new
 Saves x table widths n row turn old new (Err OutOfMemory) = (new ≡ old) × ¬ HandsNothing turn
 Saves x table widths n row turn old new (Err _) = ⊥

@@ -1,13 +1,16 @@
 -- A station's refusals, as the protocol's.
 use Rattle.std.specs.Prelude.{◌≡◌, ℕ, List, Option, Some, None, Result, Ok, Err}
+use Rattle.protocol.specs.Lists.{or_else}
 use Rattle.protocol.specs.Seats.{Seat}
+use Rattle.protocol.specs.Entries.{Entry}
 use Rattle.protocol.specs.Packets.{Packet}
+use Rattle.protocol.specs.Versions.{Version, fits}
 use Rattle.protocol.specs.Marks.{Mark}
 use Rattle.protocol.specs.Refusals as refusals
 use Rattle.packets.specs.declared.fault.PacketFault.{PacketFault}
 use Rattle.line_check.specs.declared.fault.SetFault.{SetFault}
-use Rattle.station.specs.declared.refusal.StepRefusal.{StepRefusal}
-use Rattle.station.specs.declared.refusal.StepRefusal.TheVariants.{Stopped, BadDatagram, WrongCircuit, NotForMe, Stranger, BadNumber, AlreadyReleased, AlreadyOpen, TapeFaulty, RoundsSpent, Store, OutOfMemory}
+use Rattle.refusals.specs.declared.refusal.StepRefusal.{StepRefusal}
+use Rattle.refusals.specs.declared.refusal.StepRefusal.TheVariants.{Stopped, BadDatagram, WrongCircuit, NotForMe, Stranger, BadNumber, AlreadyReleased, AlreadyOpen, WireTooOld, TapeFaulty, RoundsSpent, Store, OutOfMemory}
 
 -- why the protocol has a station refuse
 abbrev pub Refusal : Type 0
@@ -23,6 +26,7 @@ IsRefusal o Stranger = o ≡ Some refusals.Stranger
 IsRefusal o BadNumber = o ≡ Some refusals.Bad_number
 IsRefusal o AlreadyReleased = o ≡ Some refusals.Already_released
 IsRefusal o AlreadyOpen = o ≡ Some refusals.Already_open
+IsRefusal o WireTooOld = o ≡ Some refusals.Wire_too_old
 IsRefusal o (TapeFaulty fault) = o ≡ Some (refusals.Tape_faulty fault)
 IsRefusal o RoundsSpent = ⊥
 IsRefusal o (Store fault) = ⊥
@@ -40,3 +44,7 @@ ChecksPacket s p r = Checks (refusals.packet_refusal s p) r
 -- a number that is offered or sought, checked
 abbrev pub ChecksNumber : {A : Type 0} → ℕ → List Mark → Result A StepRefusal → Type 0
 ChecksNumber n marks r = Checks (refusals.number_refusal n marks) r
+
+-- a number for which an entry is offered, checked by a station that speaks this version
+abbrev pub ChecksOffer : {A : Type 0} → Version → ℕ → Entry → List Mark → Result A StepRefusal → Type 0
+ChecksOffer v n entry marks r = Checks (or_else (refusals.number_refusal n marks) (refusals.wire_refusal (fits v entry))) r

@@ -12,10 +12,10 @@ use Rattle.node_core.specs.Standing.{StandsFor, seat_of}
 use Rattle.node_core.specs.Turns.{note_value, Stirs}
 use Rattle.station.specs.declared.answer.Answer.{Answer}
 use Rattle.station.specs.declared.station.Station.{Station}
-use Rattle.station.specs.declared.refusal.StepRefusal.{StepRefusal}
-use Rattle.station.specs.declared.refusal.StepRefusal.TheVariants.{Stopped, BadDatagram, WrongCircuit, NotForMe, Stranger, BadNumber, AlreadyReleased, AlreadyOpen, TapeFaulty, RoundsSpent, Store, OutOfMemory}
+use Rattle.refusals.specs.declared.refusal.StepRefusal.{StepRefusal}
+use Rattle.refusals.specs.declared.refusal.StepRefusal.TheVariants.{Stopped, BadDatagram, WrongCircuit, NotForMe, Stranger, BadNumber, AlreadyReleased, AlreadyOpen, WireTooOld, TapeFaulty, RoundsSpent, Store, OutOfMemory}
 use Rattle.station.specs.Refusing.{IsRefusal}
-use Rattle.station.specs.Stations.{Sight, setup_of, IsFixed}
+use Rattle.station.specs.Stations.{Sight, setup_of, IsFixed, Follows}
 use Rattle.station.specs.Readiness.{Carries, IsReleased}
 
 -- rows that were read, and no more
@@ -42,7 +42,7 @@ pub record WasBalked {R : Type 0} (x : Sight R) (old new : R) (n : ℕ) (row : R
 
 -- the turn of this event at the saved row of its number, if there is one
 abbrev pub turn_of : {R : Type 0} → Sight R → Station R → List Mark → Event → Option Turn
-turn_of x s marks e = turn (seat_of s.core) marks (x.saved s.rows (number_of e)) e
+turn_of x s marks e = turn (seat_of s.speaker.core) marks (x.saved s.rows (number_of e)) e
 
 -- the turn is taken: its row is saved, and what it sends and releases is handed out
 pub record Done {R : Type 0} (x : Sight R) (e : Event) (old new : Station R) (marks : List Mark) (a : Answer) : Type 0 where
@@ -50,12 +50,12 @@ pub record Done {R : Type 0} (x : Sight R) (e : Event) (old new : Station R) (ma
   pub is_turn : turn_of x old marks e ≡ Some taken
   pub fixed : IsFixed old new
   pub goes_on : new.stopped ≡ false
-  pub stands_for : StandsFor new.core taken.marks
+  pub stands_for : StandsFor new.speaker.core taken.marks
   pub was_open : x.is_open old.rows
   pub is_open : x.is_open new.rows
   pub rows : WithRow (x.saved old.rows) (number_of e) taken.row (x.saved new.rows)
   pub told : (x.alike old.rows new.rows × (taken.row ≡ x.saved old.rows (number_of e))) ⊎ WasSaved x old.rows new.rows
-  pub out : AllZip Carries taken.out a.out.items
+  pub out : AllZip (Carries old.speaker.wire) taken.out a.out.items
   pub release : IsReleased old.table old.widths (number_of e) taken.release a.release
   pub note : note_value a.note ≡ taken.note
 
@@ -71,14 +71,14 @@ pub record AtSave {R : Type 0} (x : Sight R) (e : Event) (old : Station R) (mark
 pub record TornByStore {R : Type 0} (x : Sight R) (e : Event) (old new : Station R) (marks : List Mark) (fault : RowsFault) : Type 0 where
   pub fixed : IsFixed old new
   pub stops : new.stopped ≡ true
-  pub stands_for : StandsFor new.core []
+  pub stands_for : StandsFor new.speaker.core []
   pub at : (WasRead x old.rows new.rows × x.blames old.rows new.rows fault) ⊎ AtSave x e old marks new.rows fault
 
 -- memory was refused before any save, to a turn that is not quiet: the station stops and forgets what it took in
 pub record TornByMemory {R : Type 0} (x : Sight R) (e : Event) (old new : Station R) (marks : List Mark) : Type 0 where
   pub fixed : IsFixed old new
   pub stops : new.stopped ≡ true
-  pub stands_for : StandsFor new.core []
+  pub stands_for : StandsFor new.speaker.core []
   pub rows : (new.rows ≡ old.rows) ⊎ WasRead x old.rows new.rows
   pub stirs : (t : Turn) → turn_of x old marks e ≡ Some t → Stirs t
 
@@ -91,7 +91,7 @@ pub record Spent {R : Type 0} (x : Sight R) (e : Event) (old new : Station R) (m
 
 -- an offer or a search is of a number that is neither released nor open
 abbrev pub IsFree : List Mark → Event → Type 0
-IsFree marks (Offered n tape now) = (was_released n marks ≡ false) × (open_proposal n marks ≡ None)
+IsFree marks (Offered n entry now) = (was_released n marks ≡ false) × (open_proposal n marks ≡ None)
 IsFree marks (Sought n now) = (was_released n marks ≡ false) × (open_proposal n marks ≡ None)
 IsFree marks (Came_due n now) = Unit {0}
 IsFree marks (Arrived p now) = Unit {0}
@@ -141,7 +141,14 @@ Steps x call old new marks (Err Stranger) = Refuses old new marks call Stranger
 Steps x call old new marks (Err BadNumber) = Refuses old new marks call BadNumber
 Steps x call old new marks (Err AlreadyReleased) = Refuses old new marks call AlreadyReleased
 Steps x call old new marks (Err AlreadyOpen) = Refuses old new marks call AlreadyOpen
+Steps x call old new marks (Err WireTooOld) = Refuses old new marks call WireTooOld
 Steps x call old new marks (Err (TapeFaulty fault)) = Refuses old new marks call (TapeFaulty fault)
+
+-- a step of a station: it takes the version of its rows over, and then goes by the marks that its core stands for
+pub record TakesStep {R : Type 0} (x : Sight R) (call : Call) (old new : Station R) (result : Result Answer StepRefusal) : Type 0 where
+  pub found : Station R
+  pub follows : Follows x old found
+  pub steps : (marks : List Mark) → StandsFor found.speaker.core marks → Steps x call found new marks result
 
 -- what holds where the store refused
 abbrev pub OnStore : {A : Type 0} → Result A StepRefusal → Type 0 → Type 0
@@ -167,6 +174,7 @@ tears Stranger = false
 tears BadNumber = false
 tears AlreadyReleased = false
 tears AlreadyOpen = false
+tears WireTooOld = false
 tears (TapeFaulty fault) = false
 tears RoundsSpent = false
 tears (Store fault) = true

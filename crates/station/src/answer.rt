@@ -7,13 +7,14 @@ use ballots::Number;
 use line_check::{SetFault, Slug};
 use node_core::Note;
 use std::alloc::Global;
-use tape_frames::Tape;
+use tape_frames::Entry;
 
-/// A tape that was released, and what the station's own code table and widths make of it.
+/// An entry that was released, and what the station's own code table and widths make of it: of a tape its slugs or
+/// its first fault, of a withdrawal no slug.
 #[derive(Drop)]
 pub struct Release {
     pub number: Number,
-    pub tape: Tape,
+    pub entry: Entry,
     pub set: Result<Vec<Slug>, SetFault>,
 }
 

@@ -1,18 +1,16 @@
-//! Whether a packet is one for this station, and whether a tape can be spelled.
+//! Whether a packet is one for this station.
 
 ghost use Rattle.std.specs.Prelude.{◌≡◌, ◌≤◌, OnOk, IfErr, true, false};
 ghost use Rattle.node_core.specs.Calls.{IsForMember};
 ghost use Rattle.protocol.specs.Seats.{sits};
 ghost use Rattle.protocol.specs.Refusals.{names_stranger, is_of_stranger};
-ghost use Rattle.protocol.specs.Versions.{One, fits};
 ghost use Rattle.packets.specs.Bodies.{said};
 ghost use Rattle.station.specs.Refusing.{ChecksPacket};
 ghost use Rattle.station.specs.Steps.{tears};
 
-use crate::refusal::StepRefusal;
 use ballots::Member;
 use packets::{BodyRef, PacketRef};
-use tape_frames::Tape;
+use refusals::StepRefusal;
 
 fn names_stranger(members: u8, body: &BodyRef<'_>) -> bool
     ensures { result ≡ names_stranger members (said body.now) }
@@ -55,12 +53,4 @@ pub(crate) fn check_packet(
         return Err(StepRefusal::Stranger);
     }
     Ok(())
-}
-
-/// Version 1 of packets and rows has a spelling for each tape: it has 1 to 4,096 frames. Nothing is done.
-#[tactic(auto, using(crate::proofs::Asking::fits_one))]
-pub(crate) fn fits_version_one(tape: &Tape)
-    ensures { fits One tape.now ≡ true }
-{
-    let _ = tape.frames();
 }

@@ -1,39 +1,46 @@
 //! What a turn hands out is made ready, and then its row is saved.
 
-ghost use Rattle.std.specs.Prelude.{◌≡◌, ◌≤◌, [], None, IfOk, IfErr, OnErr, IfSome, true, length};
+ghost use Rattle.std.specs.Prelude.{◌≡◌, ◌≤◌, [], None, IfOk, IfErr, OnErr, IfSome, true, length, option_map};
 ghost use Rattle.std.specs.List.{AllZip};
+ghost use Rattle.protocol.specs.Fitting.{BodyFits};
+ghost use Rattle.tape_frames.specs.Entries.{owned_entry, version_of};
 ghost use Rattle.saved_rows.specs.Saved.{HasPromise, Rises};
 ghost use Rattle.node_core.specs.Turns.{sent};
+ghost use Rattle.station.specs.Speaking.{AllFit, TurnSpeaks};
 ghost use Rattle.station.specs.Stations.{sight};
 ghost use Rattle.station.specs.Readiness.{Carries, IsReleased, Saves, WasChecked};
 ghost use Rattle.station.specs.Steps.{OnStore, IfStore, tears};
 
 use crate::answer::{Answer, Release};
 use crate::datagram::Datagram;
-use crate::refusal::StepRefusal;
-use crate::setting::{Checked, set_once};
+use crate::setting::{Checked, set_entry};
 use ballots::{Number, Row};
 use code_table::CodeTable;
 use node_core::{Outgoing, Turn};
-use packets::laws::reading;
 use packets::{PacketRef, encode};
+use refusals::StepRefusal;
 use saved_rows::Rows;
 use std::alloc::{AllocError, Global};
-use tape_frames::Tape;
+use tape_frames::{Entry, Version};
 use widths::Widths;
 
-/// The datagram of a packet.
-fn spell(alloc: Global, packet: &PacketRef<'_>) -> Result<Datagram, AllocError>
-    ensures { IfOk result (λ d. Carries packet.now d) }
+/// The datagram of a packet, spelled in this version.
+fn spell(alloc: Global, packet: &PacketRef<'_>, version: Version) -> Result<Datagram, AllocError>
+    requires { BodyFits (version_of version) packet.now.body }
+    ensures { IfOk result (λ d. Carries (version_of version) packet.now d) }
 {
-    reading();
-    let bytes = encode(alloc, packet)?;
+    let bytes = encode(alloc, packet, version)?;
     Ok(Datagram::new(packet.to(), bytes))
 }
 
-/// The datagrams of packets, in order. No memory is taken where there is none.
-fn spell_all(alloc: Global, packets: &Outgoing<'_>) -> Result<Vec<Datagram>, AllocError>
-    ensures carry { IfOk result (λ v. AllZip Carries packets.now v.items) }
+/// The datagrams of packets, in order, spelled in this version. No memory is taken where there is none.
+fn spell_all(
+    alloc: Global,
+    packets: &Outgoing<'_>,
+    version: Version,
+) -> Result<Vec<Datagram>, AllocError>
+    requires { AllFit (version_of version) packets.now }
+    ensures carry { IfOk result (λ v. AllZip (Carries (version_of version)) packets.now v.items) }
     ensures many { IfOk result (λ v. length v.items ≡ length packets.now) }
     ensures memory { OnErr result (packets.now ≡ [] → ⊥) }
 {
@@ -45,33 +52,34 @@ fn spell_all(alloc: Global, packets: &Outgoing<'_>) -> Result<Vec<Datagram>, All
     for place in 0..count {
         match packets.get(place) {
             None => unreachable!(),
-            Some(packet) => out.push(spell(alloc, &packet)?)?,
+            Some(packet) => out.push(spell(alloc, &packet, version)?)?,
         }
     }
     Ok(out)
 }
 
-/// A released tape, set by the code table and the widths. No memory is taken where there is none.
+/// A released entry, set by the code table and the widths. No memory is taken where there is none.
 fn release(
     alloc: Global,
     table: &CodeTable,
     widths: &Widths,
     number: Number,
-    tape: Option<Tape>,
+    entry: Option<Entry>,
     checked: Option<Checked<'_>>,
 ) -> Result<Option<Release>, AllocError>
     requires { WasChecked table.now widths.now checked }
-    ensures released { IfOk result (IsReleased table.now widths.now number tape) }
-    ensures memory { OnErr result (tape ≡ None → ⊥) }
+    ensures released { IfOk result (IsReleased table.now widths.now number (option_map owned_entry entry)) }
+    ensures memory { OnErr result (entry ≡ None → ⊥) }
 {
-    let Some(tape) = tape else {
+    let Some(entry) = entry else {
         return Ok(None);
     };
-    let set = set_once(alloc, table, widths, &tape, checked)?;
-    Ok(Some(Release { number, tape, set }))
+    let set = set_entry(alloc, table, widths, &entry, checked)?;
+    Ok(Some(Release { number, entry, set }))
 }
 
-/// Makes ready what a turn hands out that was taken at the row `before`, and then saves its row where it has one.
+/// Makes ready what a turn hands out that was taken at the row `before`, spelled in the version of the rows, and then saves
+/// its row where it has one.
 pub(crate) fn save<R: Rows>(
     rows: &mut R,
     alloc: Global,
@@ -83,8 +91,10 @@ pub(crate) fn save<R: Rows>(
     checked: Option<Checked<'_>>,
 ) -> Result<Answer, StepRefusal>
     requires promised { IfSome turn.row HasPromise }
+    requires fits { TurnSpeaks (R.version rows.old) before.now turn }
     requires checked { WasChecked table.now widths.now checked }
     ensures saves { R.kept rows.new → Saves (sight R.Rows) table.now widths.now number before.now turn rows.old rows.new result }
+    ensures version { R.version rows.new ≡ R.version rows.old }
     ensures was_kept { R.kept rows.new → R.kept rows.old }
     ensures made { R.made rows.old → R.made rows.new }
     ensures many { IfOk result (λ a. length a.out.items ≡ length (sent before.now turn)) }
@@ -93,7 +103,7 @@ pub(crate) fn save<R: Rows>(
     ensures counts { R.refusals rows.old ≤ R.refusals rows.new }
     ensures tears { IfErr result (λ r. tears r ≡ true) }
 {
-    let Ok(out) = spell_all(alloc, &turn.out(before)) else {
+    let Ok(out) = spell_all(alloc, &turn.out(before), rows.version()) else {
         return Err(StepRefusal::OutOfMemory);
     };
     let Ok(release) = release(alloc, table, widths, number, turn.release, checked) else {

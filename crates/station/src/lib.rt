@@ -5,12 +5,12 @@ mod answer;
 mod checks;
 mod datagram;
 mod getting_ready;
-mod refusal;
 mod setting;
+mod speaker;
 mod station;
 mod steps;
 
 pub use answer::{Answer, Release};
 pub use datagram::Datagram;
-pub use refusal::StepRefusal;
+pub use refusals::StepRefusal;
 pub use station::{BadMember, Station};

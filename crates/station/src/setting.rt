@@ -1,14 +1,16 @@
-//! A tape, set by the station's own code table and widths.
+//! An entry, set by the station's own code table and widths.
 
-ghost use Rattle.std.specs.Prelude.{◌≡◌, IfOk};
+ghost use Rattle.std.specs.Prelude.{◌≡◌, IfOk, IsOk};
+ghost use Rattle.protocol.specs.Entries.{Void};
 ghost use Rattle.code_table.specs.Tables.{mean};
 ghost use Rattle.line_check.specs.Sets.{Sets};
-ghost use Rattle.station.specs.Readiness.{slugs_of, WasChecked};
+ghost use Rattle.tape_frames.specs.Entries.{owned_entry};
+ghost use Rattle.station.specs.Readiness.{slugs_of, SetsEntry, WasChecked};
 
 use code_table::CodeTable;
 use line_check::{SetError, SetFault, Slug, set};
 use std::alloc::{AllocError, Global};
-use tape_frames::Tape;
+use tape_frames::{Entry, Tape};
 use widths::Widths;
 
 /// A tape that was set before, and its slugs.
@@ -35,7 +37,7 @@ pub(crate) fn setting(
 }
 
 /// The same, where the tape is not set again that was set before.
-pub(crate) fn set_once(
+fn set_once(
     alloc: Global,
     table: &CodeTable,
     widths: &Widths,
@@ -51,4 +53,22 @@ pub(crate) fn set_once(
         }
     }
     setting(alloc, table, widths, tape)
+}
+
+/// The slugs of an entry that is released: of a tape so, of a withdrawal none, which takes no memory.
+pub(crate) fn set_entry(
+    alloc: Global,
+    table: &CodeTable,
+    widths: &Widths,
+    entry: &Entry,
+    checked: Option<Checked<'_>>,
+) -> Result<Result<Vec<Slug>, SetFault>, AllocError>
+    requires { WasChecked table.now widths.now checked }
+    ensures sets { IfOk result (λ given. SetsEntry (mean table.now) widths.now (owned_entry entry.now) (slugs_of given)) }
+    ensures no_memory { owned_entry entry.now ≡ Void → IsOk result }
+{
+    match entry {
+        Entry::Void => Ok(Ok(Vec::new(alloc))),
+        Entry::Tape(tape) => set_once(alloc, table, widths, tape, checked),
+    }
 }

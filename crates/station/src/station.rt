@@ -4,22 +4,22 @@ ghost use Rattle.std.specs.Prelude.{◌≡◌, ◌≤◌, ◌↔◌, List, [], t
 ghost use Rattle.std.specs.Borrow.{Lends, sem};
 ghost use Rattle.protocol.specs.Marks.{Mark};
 ghost use Rattle.protocol.specs.Proposals.{was_released, open_ballot};
-ghost use Rattle.node_core.specs.Standing.{StandsFor};
-ghost use Rattle.station.specs.Stations.{IsFixed, with_rows};
+ghost use Rattle.node_core.specs.Standing.{StandsFor, IsSameSeat};
+ghost use Rattle.station.specs.Stations.{sight, IsFixed, Follows, with_rows};
 ghost use Rattle.station.specs.contracts.station.Station.{the_row};
 
+use crate::speaker::Speaker;
 use ballots::{Ballot, Member, Number};
 use code_table::CodeTable;
-use node_core::NodeCore;
 use saved_rows::Rows;
 use std::alloc::Global;
 use widths::Widths;
 
-/// A member of a circuit: its core, its code table and widths, and its saved rows.
-/// Clauses see these, and whether it has stopped.
+/// A member of a circuit: its core, its code table and widths, and its saved rows, whose version is its own.
+/// Clauses see these, whether it has stopped, and the version in which it spoke last.
 #[derive(Drop)]
 pub struct Station<R: Rows> {
-    pub(crate) core: NodeCore,
+    pub(crate) speaker: Speaker,
     pub(crate) table: CodeTable,
     pub(crate) widths: Widths,
     pub(crate) rows: R,
@@ -36,7 +36,7 @@ pub struct BadMember<R: Rows> {
 }
 
 impl<R: Rows> Station<R> {
-    /// Member `me` of the `members` of a circuit, over these rows. It has taken nothing in.
+    /// Member `me` of the `members` of a circuit, over these rows and in their version. It has taken nothing in.
     ///
     /// Refused unless `1 <= me <= members <= 15`.
     pub fn new(
@@ -49,19 +49,20 @@ impl<R: Rows> Station<R> {
         rows: R,
     ) -> Result<Station<R>, BadMember<R>>
         ensures some { IsOk result ↔ ((1 ≤ me) × (me ≤ members) × (members ≤ 15)) }
-        ensures circuit { IfOk result (λ s. s.core.circuit ≡ circuit) }
-        ensures me { IfOk result (λ s. s.core.me ≡ me) }
-        ensures members { IfOk result (λ s. s.core.members ≡ members) }
+        ensures circuit { IfOk result (λ s. s.speaker.core.circuit ≡ circuit) }
+        ensures me { IfOk result (λ s. s.speaker.core.me ≡ me) }
+        ensures members { IfOk result (λ s. s.speaker.core.members ≡ members) }
         ensures table { IfOk result (λ s. s.table ≡ table) }
         ensures widths { IfOk result (λ s. s.widths ≡ widths) }
         ensures rows { IfOk result (λ s. s.rows ≡ rows) }
         ensures stopped { IfOk result (λ s. s.stopped ≡ false) }
-        ensures stands { IfOk result (λ s. StandsFor s.core []) }
+        ensures stands { IfOk result (λ s. StandsFor s.speaker.core []) }
+        ensures wire { IfOk result (λ s. s.speaker.wire ≡ R.version rows) }
         ensures back { IfErr result (λ b. b ≡ record { table = table; widths = widths; rows = rows }) }
     {
         match Member::new(me) {
             Some(member) if me <= members && members <= Member::LAST => Ok(Station {
-                core: NodeCore::new(alloc, circuit, member, members),
+                speaker: Speaker::new(alloc, circuit, member, members, rows.version()),
                 table,
                 widths,
                 rows,
@@ -76,14 +77,28 @@ impl<R: Rows> Station<R> {
         }
     }
 
-    /// Starts again: it forgets what it took in, and keeps its rows, its code table and its widths.
+    /// Starts again, in the version of its rows: it forgets what it took in, and keeps its rows, its code table and
+    /// its widths.
     pub fn restart(&mut self)
-        ensures stands { StandsFor self.new.core [] }
+        ensures stands { StandsFor self.new.speaker.core [] }
+        ensures wire { self.new.speaker.wire ≡ R.version self.old.rows }
         ensures fixed { IsFixed self.old self.new }
-        ensures starts { self.new ≡ record self.old { core = self.new.core; stopped = false } }
+        ensures starts { self.new ≡ record self.old { speaker = self.new.speaker; stopped = false } }
     {
-        self.core.clear();
+        self.follow_rows();
+        self.speaker.clear();
         self.stopped = false;
+    }
+
+    /// Speaks the version of its rows from now on, as each step does before all else. Where another left the rows at a
+    /// lower version, it forgets what it took in.
+    pub(crate) fn follow_rows(&mut self)
+        ensures same { self.new ≡ record self.old { speaker = self.new.speaker } }
+        ensures wire { self.new.speaker.wire ≡ R.version self.old.rows }
+        ensures seat { IsSameSeat self.old.speaker.core self.new.speaker.core }
+        ensures follows { self.old.stopped ≡ false → Follows (sight R.Rows) self.old self.new }
+    {
+        self.speaker.follow(self.rows.version());
     }
 
     /// Whether a step stopped it, and it was not restarted since.
@@ -93,23 +108,23 @@ impl<R: Rows> Station<R> {
         self.stopped
     }
 
-    /// Whether the number's tape was released since the station started; false while it is stopped.
+    /// Whether the number's entry was released since the station started; false while it is stopped.
     pub fn released(&self, number: Number) -> bool
         ensures stopped { self.now.stopped ≡ true → result ≡ false }
-        ensures released { self.now.stopped ≡ false → (marks : List Mark) → StandsFor self.now.core marks → result ≡ was_released number marks }
+        ensures released { self.now.stopped ≡ false → (marks : List Mark) → StandsFor self.now.speaker.core marks → result ≡ was_released number marks }
     {
-        !self.stopped && self.core.released(number)
+        !self.stopped && self.speaker.core().released(number)
     }
 
     /// The ballot of the number's open proposal; `None` while the station is stopped.
     pub fn open_ballot(&self, number: Number) -> Option<Ballot>
         ensures stopped { self.now.stopped ≡ true → result ≡ None }
-        ensures opened { self.now.stopped ≡ false → (marks : List Mark) → StandsFor self.now.core marks → result ≡ open_ballot number marks }
+        ensures opened { self.now.stopped ≡ false → (marks : List Mark) → StandsFor self.now.speaker.core marks → result ≡ open_ballot number marks }
     {
         if self.stopped {
             return None;
         }
-        self.core.open_ballot(number)
+        self.speaker.core().open_ballot(number)
     }
 
     /// The saved rows.
@@ -119,7 +134,8 @@ impl<R: Rows> Station<R> {
         &self.rows
     }
 
-    /// The saved rows, to be changed beside the steps, as to arm them.
+    /// The saved rows, to be changed beside the steps, as to arm them. They are to be left at no lower version than they
+    /// were; else the next step forgets what the station took in.
     pub fn rows_mut(&mut self) -> &mut R
         ensures* writes_back { sem 𝓛 (Lends (the_row R.row) R.row self.entry result (with_rows self.old)) }
         ensures value { result.now ≡ self.old.rows }
@@ -132,7 +148,7 @@ impl<R: Rows> Station<R> {
         ensures { result ≡ self.rows }
     {
         let Station {
-            core: _,
+            speaker: _,
             table: _,
             widths: _,
             rows,

@@ -1,51 +1,55 @@
 //! The steps of a station.
 
-ghost use Rattle.std.specs.Prelude.{◌≡◌, ◌≤◌, List, [], true, false, Err, IfOk, IfErr, length};
+ghost use Rattle.std.specs.Prelude.{◌≡◌, ◌≤◌, List, [], true, false, Err, IfOk, OnOk, IfErr, length};
+ghost use Rattle.protocol.specs.Entries.{Void, Taped};
+ghost use Rattle.protocol.specs.Versions.{fits};
 ghost use Rattle.protocol.specs.Marks.{Mark};
 ghost use Rattle.protocol.specs.Turn.{number_of};
 ghost use Rattle.protocol.specs.Refusals.{Offering, Seeking, Falling_due, Receiving};
+ghost use Rattle.protocol.specs.Fitting.{EventFits};
+ghost use Rattle.tape_frames.specs.Entries.{lent_entry};
 ghost use Rattle.saved_rows.specs.Saved.{Rises};
 ghost use Rattle.node_core.specs.Standing.{StandsFor};
 ghost use Rattle.node_core.specs.Calls.{MayCome};
 ghost use Rattle.node_core.specs.Turns.{event_value};
 ghost use Rattle.station.specs.Readiness.{WasChecked};
-ghost use Rattle.station.specs.Refusing.{ChecksNumber};
-ghost use Rattle.station.specs.Stations.{sight, IsFixed};
-ghost use Rattle.station.specs.Steps.{Ends, IsFree, Steps, OnStore, IfStore, IsBlamed, tears, stopped_after};
+ghost use Rattle.station.specs.Refusing.{ChecksNumber, ChecksOffer};
+ghost use Rattle.station.specs.Stations.{sight, IsFixed, wire_at};
+ghost use Rattle.station.specs.Steps.{Ends, IsFree, TakesStep, OnStore, IfStore, IsBlamed, tears, stopped_after};
 
 use crate::answer::Answer;
-use crate::checks::{check_packet, fits_version_one};
+use crate::checks::check_packet;
 use crate::getting_ready::save;
-use crate::refusal::StepRefusal;
 use crate::setting::{Checked, setting};
 use crate::station::Station;
 use ballots::Number;
 use node_core::{CoreRefusal, Event};
-use packets::decode;
+use refusals::StepRefusal;
 use saved_rows::Rows;
-use tape_frames::Tape;
+use tape_frames::{Entry, EntryRef, Tape};
 
 impl<R: Rows> Station<R> {
     /// Offers a tape for a number, at a moment in milliseconds.
     ///
-    /// Refused, in this order: `Stopped`, `BadNumber`, `AlreadyReleased`, `AlreadyOpen`,
+    /// Refused, in this order: `Stopped`, `BadNumber`, `AlreadyReleased`, `AlreadyOpen`, `WireTooOld`,
     /// `TapeFaulty`, `RoundsSpent`; `Store` and `OutOfMemory` stop the station.
     pub fn offer(&mut self, number: u32, tape: &Tape, now: u64) -> Result<Answer, StepRefusal>
-        ensures steps { R.kept self.new.rows → (marks : List Mark) → StandsFor self.old.core marks
-            → Steps (sight R.Rows) (Offering number tape.now now) self.old self.new marks result }
+        ensures steps { R.kept self.new.rows → TakesStep (sight R.Rows) (Offering number (Taped tape.now) now) self.old self.new result }
         ensures was_kept { R.kept self.new.rows → R.kept self.old.rows }
         ensures made { R.made self.old.rows → R.made self.new.rows }
         ensures few { IfOk result (λ a. length a.out.items ≤ 28) }
         ensures cause { OnStore result (Rises (R.refusals self.old.rows) (R.refusals self.new.rows)) }
         ensures blames { IfStore result (IsBlamed (sight R.Rows) self.old.rows self.new.rows) }
+        ensures version { R.version self.new.rows ≡ R.version self.old.rows }
+        ensures wire { self.new.speaker.wire ≡ wire_at (sight R.Rows) self.old }
         ensures stops { self.new.stopped ≡ stopped_after self.old.stopped result }
         ensures stopped { self.old.stopped ≡ true → (result ≡ Err StepRefusal.Stopped) × (self.new ≡ self.old) }
     {
         if self.stopped {
             return Err(StepRefusal::Stopped);
         }
-        let number = self.check_number(number)?;
-        fits_version_one(tape);
+        self.follow_rows();
+        let number = self.check_offer(number, EntryRef::Plain(tape.lend()))?;
         let slugs = match setting(self.alloc, &self.table, &self.widths, tape) {
             Ok(Ok(slugs)) => slugs,
             Ok(Err(fault)) => return Err(StepRefusal::TapeFaulty(fault)),
@@ -53,29 +57,59 @@ impl<R: Rows> Station<R> {
         };
         let checked = Checked { tape, slugs };
         match tape.copy(self.alloc) {
-            Ok(tape) => self.take(number, Event::Offer { number, tape, now }, Some(checked)),
+            Ok(tape) => {
+                let entry = Entry::Tape(tape);
+                self.take(number, Event::Offer { number, entry, now }, Some(checked))
+            }
             Err(_) => Err(self.stop(StepRefusal::OutOfMemory)),
         }
     }
 
-    /// Seeks the tape of a number, at a moment in milliseconds.
+    /// Withdraws a number, at a moment in milliseconds: it offers that the number has no tape.
     ///
-    /// Refused, in this order: `Stopped`, `BadNumber`, `AlreadyReleased`, `AlreadyOpen`,
+    /// Refused, in this order: `Stopped`, `BadNumber`, `AlreadyReleased`, `AlreadyOpen`, `WireTooOld`,
     /// `RoundsSpent`; `Store` and `OutOfMemory` stop the station.
-    pub fn seek(&mut self, number: u32, now: u64) -> Result<Answer, StepRefusal>
-        ensures steps { R.kept self.new.rows → (marks : List Mark) → StandsFor self.old.core marks
-            → Steps (sight R.Rows) (Seeking number now) self.old self.new marks result }
+    pub fn withdraw(&mut self, number: u32, now: u64) -> Result<Answer, StepRefusal>
+        ensures steps { R.kept self.new.rows → TakesStep (sight R.Rows) (Offering number Void now) self.old self.new result }
         ensures was_kept { R.kept self.new.rows → R.kept self.old.rows }
         ensures made { R.made self.old.rows → R.made self.new.rows }
         ensures few { IfOk result (λ a. length a.out.items ≤ 28) }
         ensures cause { OnStore result (Rises (R.refusals self.old.rows) (R.refusals self.new.rows)) }
         ensures blames { IfStore result (IsBlamed (sight R.Rows) self.old.rows self.new.rows) }
+        ensures version { R.version self.new.rows ≡ R.version self.old.rows }
+        ensures wire { self.new.speaker.wire ≡ wire_at (sight R.Rows) self.old }
         ensures stops { self.new.stopped ≡ stopped_after self.old.stopped result }
         ensures stopped { self.old.stopped ≡ true → (result ≡ Err StepRefusal.Stopped) × (self.new ≡ self.old) }
     {
         if self.stopped {
             return Err(StepRefusal::Stopped);
         }
+        self.follow_rows();
+        let number = self.check_offer(number, EntryRef::Void)?;
+        let entry = Entry::Void;
+        self.take(number, Event::Offer { number, entry, now }, None)
+    }
+
+    /// Seeks the entry of a number, at a moment in milliseconds.
+    ///
+    /// Refused, in this order: `Stopped`, `BadNumber`, `AlreadyReleased`, `AlreadyOpen`,
+    /// `RoundsSpent`; `Store` and `OutOfMemory` stop the station.
+    pub fn seek(&mut self, number: u32, now: u64) -> Result<Answer, StepRefusal>
+        ensures steps { R.kept self.new.rows → TakesStep (sight R.Rows) (Seeking number now) self.old self.new result }
+        ensures was_kept { R.kept self.new.rows → R.kept self.old.rows }
+        ensures made { R.made self.old.rows → R.made self.new.rows }
+        ensures few { IfOk result (λ a. length a.out.items ≤ 28) }
+        ensures cause { OnStore result (Rises (R.refusals self.old.rows) (R.refusals self.new.rows)) }
+        ensures blames { IfStore result (IsBlamed (sight R.Rows) self.old.rows self.new.rows) }
+        ensures version { R.version self.new.rows ≡ R.version self.old.rows }
+        ensures wire { self.new.speaker.wire ≡ wire_at (sight R.Rows) self.old }
+        ensures stops { self.new.stopped ≡ stopped_after self.old.stopped result }
+        ensures stopped { self.old.stopped ≡ true → (result ≡ Err StepRefusal.Stopped) × (self.new ≡ self.old) }
+    {
+        if self.stopped {
+            return Err(StepRefusal::Stopped);
+        }
+        self.follow_rows();
         let number = self.check_number(number)?;
         self.take(number, Event::Seek { number, now }, None)
     }
@@ -85,48 +119,54 @@ impl<R: Rows> Station<R> {
     ///
     /// Refused as `Stopped`; `Store` and `OutOfMemory` stop the station.
     pub fn due(&mut self, now: u64) -> Result<Answer, StepRefusal>
-        ensures steps { R.kept self.new.rows → (marks : List Mark) → StandsFor self.old.core marks
-            → Steps (sight R.Rows) (Falling_due now) self.old self.new marks result }
+        ensures steps { R.kept self.new.rows → TakesStep (sight R.Rows) (Falling_due now) self.old self.new result }
         ensures was_kept { R.kept self.new.rows → R.kept self.old.rows }
         ensures made { R.made self.old.rows → R.made self.new.rows }
         ensures few { IfOk result (λ a. length a.out.items ≤ 28) }
         ensures cause { OnStore result (Rises (R.refusals self.old.rows) (R.refusals self.new.rows)) }
         ensures blames { IfStore result (IsBlamed (sight R.Rows) self.old.rows self.new.rows) }
+        ensures version { R.version self.new.rows ≡ R.version self.old.rows }
+        ensures wire { self.new.speaker.wire ≡ wire_at (sight R.Rows) self.old }
         ensures stops { self.new.stopped ≡ stopped_after self.old.stopped result }
         ensures stopped { self.old.stopped ≡ true → (result ≡ Err StepRefusal.Stopped) × (self.new ≡ self.old) }
     {
         if self.stopped {
             return Err(StepRefusal::Stopped);
         }
-        match self.core.next_due(now) {
+        self.follow_rows();
+        match self.speaker.core().next_due(now) {
             None => Ok(Answer::idle(self.alloc)),
             Some(number) => self.take(number, Event::Due { number, now }, None),
         }
     }
 
-    /// Takes in the bytes of a datagram that came, at a moment in milliseconds.
+    /// Takes in the bytes of a datagram that came, at a moment in milliseconds. At version 1 it reads packets of version 1
+    /// alone, at version 2 those of both.
     ///
     /// Refused, in this order: `Stopped`, `BadDatagram`, `WrongCircuit`, `NotForMe`, `Stranger`;
     /// `Store` and `OutOfMemory` stop the station.
     pub fn receive(&mut self, bytes: &[u8], now: u64) -> Result<Answer, StepRefusal>
-        ensures steps { R.kept self.new.rows → (marks : List Mark) → StandsFor self.old.core marks
-            → Steps (sight R.Rows) (Receiving bytes.now now) self.old self.new marks result }
+        ensures steps { R.kept self.new.rows → TakesStep (sight R.Rows) (Receiving bytes.now now) self.old self.new result }
         ensures was_kept { R.kept self.new.rows → R.kept self.old.rows }
         ensures made { R.made self.old.rows → R.made self.new.rows }
         ensures few { IfOk result (λ a. length a.out.items ≤ 28) }
         ensures cause { OnStore result (Rises (R.refusals self.old.rows) (R.refusals self.new.rows)) }
         ensures blames { IfStore result (IsBlamed (sight R.Rows) self.old.rows self.new.rows) }
+        ensures version { R.version self.new.rows ≡ R.version self.old.rows }
+        ensures wire { self.new.speaker.wire ≡ wire_at (sight R.Rows) self.old }
         ensures stops { self.new.stopped ≡ stopped_after self.old.stopped result }
         ensures stopped { self.old.stopped ≡ true → (result ≡ Err StepRefusal.Stopped) × (self.new ≡ self.old) }
     {
         if self.stopped {
             return Err(StepRefusal::Stopped);
         }
-        let packet = match decode(bytes) {
+        self.follow_rows();
+        let packet = match self.speaker.read(bytes) {
             Ok(packet) => packet,
             Err(fault) => return Err(StepRefusal::BadDatagram(fault)),
         };
-        let (circuit, members, me) = (self.core.circuit(), self.core.members(), self.core.me());
+        let core = self.speaker.core();
+        let (circuit, members, me) = (core.circuit(), core.members(), core.me());
         check_packet(circuit, members, me, &packet)?;
         let number = packet.number();
         self.take(number, Event::Arrived { packet, now }, None)
@@ -135,7 +175,7 @@ impl<R: Rows> Station<R> {
     /// The number, where it is one that can be asked for.
     fn check_number(&self, number: u32) -> Result<Number, StepRefusal>
         ensures value { IfOk result (λ n. n ≡ number) }
-        ensures checks { (marks : List Mark) → StandsFor self.now.core marks → ChecksNumber number marks result }
+        ensures checks { (marks : List Mark) → StandsFor self.now.speaker.core marks → ChecksNumber number marks result }
         ensures cause { OnStore result ⊥ }
         ensures blames { IfStore result (λ fault. ⊥) }
         ensures goes_on { IfErr result (λ r. tears r ≡ false) }
@@ -143,18 +183,35 @@ impl<R: Rows> Station<R> {
         let Some(number) = Number::new(number) else {
             return Err(StepRefusal::BadNumber);
         };
-        if self.core.released(number) {
+        let core = self.speaker.core();
+        if core.released(number) {
             return Err(StepRefusal::AlreadyReleased);
         }
-        if self.core.open_ballot(number).is_some() {
+        if core.open_ballot(number).is_some() {
             return Err(StepRefusal::AlreadyOpen);
+        }
+        Ok(number)
+    }
+
+    /// The number, where it is one that can be asked for, and the station has a spelling for the entry that is offered.
+    fn check_offer(&self, number: u32, entry: EntryRef<'_>) -> Result<Number, StepRefusal>
+        ensures value { IfOk result (λ n. n ≡ number) }
+        ensures fits { OnOk result (fits self.now.speaker.wire (lent_entry entry.entry) ≡ true) }
+        ensures checks { (marks : List Mark) → StandsFor self.now.speaker.core marks → ChecksOffer self.now.speaker.wire number (lent_entry entry.entry) marks result }
+        ensures cause { OnStore result ⊥ }
+        ensures blames { IfStore result (λ fault. ⊥) }
+        ensures goes_on { IfErr result (λ r. tears r ≡ false) }
+    {
+        let number = self.check_number(number)?;
+        if !self.speaker.has_spelling(&entry) {
+            return Err(StepRefusal::WireTooOld);
         }
         Ok(number)
     }
 
     /// Takes the turn of an event at its number's saved row, and saves the row before anything is handed out.
     /// A tape that was checked is not set again.
-    #[tactic(auto, using(crate::proofs::Refused::spent_stays, crate::proofs::Refused::spent_none, crate::proofs::Refused::not_released, crate::proofs::Refused::not_open))]
+    #[tactic(auto, using(crate::proofs::Refused::spent_stays, crate::proofs::Refused::spent_none, crate::proofs::Refused::not_released, crate::proofs::Refused::not_open, crate::proofs::Refused::not_failed))]
     fn take(
         &mut self,
         number: Number,
@@ -162,23 +219,27 @@ impl<R: Rows> Station<R> {
         checked: Option<Checked<'_>>,
     ) -> Result<Answer, StepRefusal>
         requires goes { self.old.stopped ≡ false }
+        requires wire { self.old.speaker.wire ≡ R.version self.old.rows }
         requires number { number_of (event_value event) ≡ number }
-        requires arrived { MayCome self.old.core.me self.old.core.members event }
+        requires arrived { MayCome self.old.speaker.core.me self.old.speaker.core.members event }
+        requires fits { EventFits self.old.speaker.wire (event_value event) }
         requires checked { WasChecked self.old.table self.old.widths checked }
-        ensures takes { R.kept self.new.rows → (marks : List Mark) → StandsFor self.old.core marks → IsFree marks (event_value event.entry)
+        ensures takes { R.kept self.new.rows → (marks : List Mark) → StandsFor self.old.speaker.core marks → IsFree marks (event_value event.entry)
             → Ends (sight R.Rows) (event_value event.entry) self.old self.new marks result }
         ensures was_kept { R.kept self.new.rows → R.kept self.old.rows }
         ensures made { R.made self.old.rows → R.made self.new.rows }
         ensures few { IfOk result (λ a. length a.out.items ≤ 28) }
         ensures cause { OnStore result (Rises (R.refusals self.old.rows) (R.refusals self.new.rows)) }
         ensures blames { IfStore result (IsBlamed (sight R.Rows) self.old.rows self.new.rows) }
+        ensures version { R.version self.new.rows ≡ R.version self.old.rows }
+        ensures wire { self.new.speaker.wire ≡ self.old.speaker.wire }
         ensures stops { self.new.stopped ≡ stopped_after self.old.stopped result }
     {
         let row = match self.rows.get(number) {
             Ok(row) => row,
             Err(fault) => return Err(self.stop(StepRefusal::Store(fault))),
         };
-        match self.core.handle(event, &row) {
+        match self.speaker.handle(event, &row) {
             Ok(turn) => match save(
                 &mut self.rows,
                 self.alloc,
@@ -203,11 +264,12 @@ impl<R: Rows> Station<R> {
     /// Stops: it forgets what it took in, and takes no step until it is restarted.
     fn stop(&mut self, refusal: StepRefusal) -> StepRefusal
         ensures same { result ≡ refusal }
-        ensures stands { StandsFor self.new.core [] }
+        ensures stands { StandsFor self.new.speaker.core [] }
+        ensures wire { self.new.speaker.wire ≡ self.old.speaker.wire }
         ensures fixed { IsFixed self.old self.new }
-        ensures stopped { self.new ≡ record self.old { core = self.new.core; stopped = true } }
+        ensures stopped { self.new ≡ record self.old { speaker = self.new.speaker; stopped = true } }
     {
-        self.core.clear();
+        self.speaker.clear();
         self.stopped = true;
         refusal
     }

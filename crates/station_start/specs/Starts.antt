@@ -18,11 +18,11 @@ identity_of config = record { circuit = config.circuit; member = config.member; 
 
 -- the station of this circuit and member, of so many members, that has taken nothing in
 pub record IsStationOf {R : Type 0} (i : Identity) (station : Station R) : Type 0 where
-  pub circuit : station.core.circuit ≡ i.circuit
-  pub member : station.core.me ≡ i.member
-  pub members : station.core.members ≡ i.members
+  pub circuit : station.speaker.core.circuit ≡ i.circuit
+  pub member : station.speaker.core.me ≡ i.member
+  pub members : station.speaker.core.members ≡ i.members
   pub goes : station.stopped ≡ false
-  pub fresh : StandsFor station.core []
+  pub fresh : StandsFor station.speaker.core []
 
 -- the table is the one in the text at this path, where that is known
 abbrev pub IsTableAt : (List ℕ → Option (List ℕ)) → List ℕ → Places → Type 0

@@ -38,6 +38,7 @@ fn serve_from<F: RowFiles, W: Write, E: Write>(
         &mut station,
         &mut wire,
         offer,
+        plan.withdraw,
         plan.seek,
         plan.turns,
         out,

@@ -95,6 +95,7 @@ fn station_of<R: Rows>(
     ensures table { result.table ≡ table }
     ensures widths { result.widths ≡ widths }
     ensures rows { result.rows ≡ rows }
+    ensures version { result.speaker.wire ≡ R.version rows }
 {
     let Identity {
         circuit,
@@ -121,6 +122,7 @@ fn start_over<'f, H: Host, R: Rows>(
     ensures widths { IfOk result (λ s. s.station.widths ≡ files.widths) }
     ensures offer { IfOk result (λ s. s.offer ≡ files.offer) }
     ensures rows { IfOk result (λ s. s.station.rows ≡ rows) }
+    ensures version { IfOk result (λ s. s.station.speaker.wire ≡ R.version rows) }
     ensures wire { IfOk result (λ s. IsWireOf H.is_bound (file_of config) s.wire) }
 {
     let identity = identity_of(&config);
@@ -138,8 +140,8 @@ fn start_over<'f, H: Host, R: Rows>(
     })
 }
 
-/// The station of a configuration, over its saved rows in one of the files, made or taken up, with its wire and the tape
-/// that it offers first, if a number and a path are given.
+/// The station of a configuration, over its saved rows in one of the files, made or taken up, and in their version, with
+/// its wire and the tape that it offers first, if a number and a path are given.
 ///
 /// What it starts from is looked for in this order, and the first fault ends it and is told to `err`: the code table, the
 /// widths, the tape, the saved rows, the socket.
@@ -158,6 +160,7 @@ pub fn start<H: Host, F: RowFiles, E: Write>(
     ensures widths { IfOk result (λ s. AreWidthsAt (H.text host.now) (string_bytes config.widths) s.station.widths) }
     ensures offer { IfOk result (λ s. IsOffer (H.text host.now) (option_map (λ o. (o.0, o.1.now)) offer.entry) s.offer) }
     ensures rows { IfOk result (λ s. AreRowsOf create (F.makes row_files.now (string_bytes config.rows)) (F.takes_up row_files.now (string_bytes config.rows)) (identity_of (file_of config)) s.station.rows) }
+    ensures version { IfOk result (λ s. s.station.speaker.wire ≡ F.Rows.version s.station.rows) }
     ensures wire { IfOk result (λ s. IsWireOf H.is_bound (file_of config) s.wire) }
 {
     let files = match read_files(rt.alloc(), host, &config, offer) {

@@ -5,7 +5,7 @@ use crate::circuits::{
     CALM, FLOOD_BODY, FLOOD_REPORT, FLOOD_SET, LIGATURE_BODY, LIGATURE_SET, Line, NO_REPORT,
     Offered, PREPARE, Released, Sent, Story, WIDTHS_WITHOUT_FI, Way, fails_at, plays,
 };
-use fixtures::{FLOOD, LIGATURE};
+use crate::entries::{FLOOD, LIGATURE};
 use line_check::{Cause, SetFault};
 
 /// Member 1 of three offers a story, and all three release it.

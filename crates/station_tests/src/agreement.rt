@@ -1,17 +1,34 @@
 //! Whatever the steps are, the releases agree.
 
-use crate::scripts::{IDLE, first_broken};
+use crate::circuits::{MIXED, NEW, OLD};
+use crate::scripts::{IDLE, Kind, first_broken};
 
 /// How many scripts are taken of each kind of circuit.
-const SCRIPTS: usize = 300;
+const SCRIPTS: usize = 200;
+
+/// Circuits in version 1, circuits in version 2, and circuits of which the last member is left in version 1.
+const KINDS: &[Kind] = &[
+    Kind {
+        members: 3,
+        versions: OLD,
+    },
+    Kind {
+        members: 5,
+        versions: NEW,
+    },
+    Kind {
+        members: 4,
+        versions: MIXED,
+    },
+];
 
 #[test]
 fn members_agree(rt: HostRuntime) {
-    for members in &[3, 5] {
+    for (place, kind) in KINDS.iter().enumerate() {
         let mut tally = IDLE;
-        let broken = first_broken(rt.alloc(), *members, SCRIPTS, &mut tally);
+        let broken = first_broken(rt.alloc(), *kind, SCRIPTS, &mut tally);
         let (seed, fault) = broken.unwrap_or((0, ""));
-        assert!(rt; broken.is_none(), "{members} members, seed {seed}: {fault}");
-        assert!(rt; tally.is_busy(SCRIPTS), "{members} members");
+        assert!(rt; broken.is_none(), "circuits {place}, seed {seed}: {fault}");
+        assert!(rt; tally.is_busy(SCRIPTS, kind), "circuits {place}");
     }
 }

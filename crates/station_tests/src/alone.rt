@@ -1,15 +1,16 @@
 //! One station: what it answers, what it refuses, and what its saved rows make of a restart.
 
-use crate::benches::Act::{Arm, Due, Offer, Receive, Refuse, Restart, Seek};
+use crate::benches::Act::{Arm, Due, Offer, Receive, Refuse, Replace, Restart, Seek, Withdraw};
 use crate::benches::Ends::{Always, Done, Refused};
 use crate::benches::{
-    ALONE, FIRST, Left, OFFER, Open, QUIET, SECOND, Story, Turn, are_no_members, fails_at,
+    ALONE, FIRST, Handed, Left, OFFER, Open, QUIET, SECOND, Story, Turn, are_no_members, fails_at,
 };
-use fixtures::FLOOD;
+use fixtures::{FLOOD, LONGEST, LONGEST_ONE};
 use line_check::{Cause, SetFault};
 use packets::PacketFault;
 use saved_rows::RowsFault;
 use station::StepRefusal;
+use tape_frames::Version;
 
 /// A Prepare at 1.1 from member 1 to member 2 of circuit 7, for number 12.
 const PREPARE: [u8; 17] = [0x54, 0x4e, 1, 1, 0, 7, 1, 2, 0, 0, 0, 12, 0, 0, 0, 1, 1];
@@ -26,10 +27,23 @@ const OF_ANOTHER: [u8; 17] = [0x54, 0x4e, 1, 1, 0, 7, 1, 2, 0, 0, 0, 12, 0, 0, 0
 /// The promise of that ballot, with no report.
 const PROMISE: [u8; 18] = [0x54, 0x4e, 1, 2, 0, 7, 2, 1, 0, 0, 0, 12, 0, 0, 0, 1, 1, 0];
 
+/// The same Prepare and the same promise in version 2.
+const PREPARE_TWO: [u8; 17] = [0x54, 0x4e, 2, 1, 0, 7, 1, 2, 0, 0, 0, 12, 0, 0, 0, 1, 1];
+
+const PROMISE_TWO: [u8; 18] = [0x54, 0x4e, 2, 2, 0, 7, 2, 1, 0, 0, 0, 12, 0, 0, 0, 1, 1, 0];
+
+/// What member 1 asks member 2 to vote for then, the flood story, in version 2.
+const ACCEPT_TWO: [u8; 25] = [
+    0x54, 0x4e, 2, 3, 0, 7, 1, 2, 0, 0, 0, 12, 0, 0, 0, 1, 1, 0, 7, 0x04, 0x20, 0xc1, 0x0c, 0x21, 0,
+];
+
+/// One frame more than a tape of version 1 has, in a line that does not end.
+const LONG_AND_FAULTY: &[u8] = &[1; 4097];
+
 /// The flood story is released.
 const RELEASED: Turn = Turn {
     ends: Done("proposed 1.1"),
-    releases: true,
+    releases: Handed::Flood,
     released: true,
     open: Open::Unasked,
     ..QUIET
@@ -55,7 +69,7 @@ const SAVES: &[Story] = &[
             Turn {
                 act: Offer(12, FLOOD),
                 ends: Refused(StepRefusal::AlreadyReleased),
-                releases: false,
+                releases: Handed::Nothing,
                 ..RELEASED
             },
         ],
@@ -338,6 +352,261 @@ const STEPS: &[Story] = &[
         ..FIRST
     },
 ];
+
+/// The number is withdrawn.
+const WITHDRAWN: Turn = Turn {
+    act: Withdraw(12),
+    releases: Handed::Withdrawal,
+    ..RELEASED
+};
+
+/// The version of the rows does not have what is offered.
+const TOO_OLD: Turn = Turn {
+    act: Withdraw(12),
+    ends: Refused(StepRefusal::WireTooOld),
+    ..QUIET
+};
+
+/// Why an offer of the long and faulty tape is refused.
+const LONG: Turn = Turn {
+    act: Offer(12, LONG_AND_FAULTY),
+    ..TOO_OLD
+};
+
+const FAULTY: Turn = Turn {
+    ends: Refused(StepRefusal::TapeFaulty(SetFault {
+        at: 4097,
+        line: 1,
+        cause: Cause::Unfinished,
+    })),
+    ..LONG
+};
+
+/// What a station is offered at version 1 and at version 2.
+const OFFERS: &[Story] = &[
+    // Version 1 has no withdrawal and no longer tape: that is told behind the number and what is open, and before the
+    // fault of the tape.
+    Story {
+        turns: &[
+            TOO_OLD,
+            LONG,
+            Turn {
+                act: Offer(12, LONGEST),
+                ..TOO_OLD
+            },
+            Turn {
+                act: Withdraw(0),
+                ends: Refused(StepRefusal::BadNumber),
+                ..QUIET
+            },
+            Turn {
+                act: Offer(1_000_000, LONG_AND_FAULTY),
+                ends: Refused(StepRefusal::BadNumber),
+                ..QUIET
+            },
+            Turn {
+                act: Offer(12, LONGEST_ONE),
+                ..OFFER
+            },
+            Turn {
+                act: Withdraw(12),
+                ends: Refused(StepRefusal::AlreadyOpen),
+                open: Open::At(1, 1),
+                ..QUIET
+            },
+            Turn {
+                act: Offer(12, LONG_AND_FAULTY),
+                ends: Refused(StepRefusal::AlreadyOpen),
+                open: Open::At(1, 1),
+                ..QUIET
+            },
+        ],
+        ..FIRST
+    },
+    // It is told behind what was released.
+    Story {
+        turns: &[
+            Turn {
+                act: Offer(12, FLOOD),
+                ..RELEASED
+            },
+            Turn {
+                act: Withdraw(12),
+                ends: Refused(StepRefusal::AlreadyReleased),
+                releases: Handed::Nothing,
+                ..RELEASED
+            },
+        ],
+        ..ALONE
+    },
+    // And before the ballots that are left.
+    Story {
+        promised: Some((4_294_967_295, 2)),
+        turns: &[TOO_OLD],
+        ..FIRST
+    },
+    Story {
+        version: Version::Two,
+        promised: Some((4_294_967_295, 2)),
+        turns: &[
+            FAULTY,
+            Turn {
+                act: Withdraw(12),
+                ends: Refused(StepRefusal::RoundsSpent),
+                ..QUIET
+            },
+        ],
+        ..FIRST
+    },
+    // Version 2 has both.
+    Story {
+        version: Version::Two,
+        turns: &[
+            FAULTY,
+            Turn {
+                act: Offer(12, LONGEST),
+                ..OFFER
+            },
+        ],
+        ..FIRST
+    },
+    Story {
+        version: Version::Two,
+        turns: &[Turn {
+            act: Withdraw(12),
+            ..OFFER
+        }],
+        ..FIRST
+    },
+    // A member of one releases the withdrawal, once, and finds it again after a restart.
+    Story {
+        version: Version::Two,
+        turns: &[
+            WITHDRAWN,
+            Turn {
+                act: Offer(12, FLOOD),
+                ends: Refused(StepRefusal::AlreadyReleased),
+                releases: Handed::Nothing,
+                ..WITHDRAWN
+            },
+            Turn {
+                act: Restart,
+                ..QUIET
+            },
+            Turn {
+                act: Seek,
+                ends: Done("proposed 2.1"),
+                ..WITHDRAWN
+            },
+        ],
+        ..ALONE
+    },
+];
+
+/// What a station reads and speaks at version 1 and at version 2.
+const VERSIONS: &[Story] = &[
+    Story {
+        turns: &[
+            Turn {
+                act: Receive(&PREPARE_TWO),
+                ends: Refused(StepRefusal::BadDatagram(PacketFault::BadVersion)),
+                ..QUIET
+            },
+            Turn {
+                act: Receive(&PREPARE),
+                ends: Done("promised 1.1"),
+                sent: 1,
+                datagram: Some((1, &PROMISE)),
+                ..QUIET
+            },
+        ],
+        ..SECOND
+    },
+    // At version 2 it reads both, and answers in its own.
+    Story {
+        version: Version::Two,
+        turns: &[
+            Turn {
+                act: Receive(&PREPARE),
+                ends: Done("promised 1.1"),
+                sent: 1,
+                datagram: Some((1, &PROMISE_TWO)),
+                ..QUIET
+            },
+            Turn {
+                act: Receive(&PREPARE_TWO),
+                ends: Done("silent"),
+                ..QUIET
+            },
+        ],
+        ..SECOND
+    },
+    // It speaks the version of its rows: what is open stays so at a higher version, and goes on in that.
+    Story {
+        turns: &[
+            OFFER,
+            Turn {
+                act: Receive(&PROMISE_TWO),
+                ends: Refused(StepRefusal::BadDatagram(PacketFault::BadVersion)),
+                sent: 0,
+                ..OFFER
+            },
+            Turn {
+                act: Replace(Version::Two, Some((1, 1))),
+                ends: Always,
+                ..OFFER
+            },
+            Turn {
+                act: Withdraw(12),
+                ends: Refused(StepRefusal::AlreadyOpen),
+                ..OFFER
+            },
+            Turn {
+                act: Receive(&PROMISE_TWO),
+                ends: Done("proposed 1.1"),
+                sent: 4,
+                datagram: Some((2, &ACCEPT_TWO)),
+                ..OFFER
+            },
+            Turn {
+                act: Withdraw(13),
+                ..OFFER
+            },
+        ],
+        ..FIRST
+    },
+    // At a lower one it is forgotten.
+    Story {
+        version: Version::Two,
+        turns: &[
+            Turn {
+                act: Withdraw(12),
+                ..OFFER
+            },
+            Turn {
+                act: Replace(Version::One, None),
+                ends: Always,
+                ..OFFER
+            },
+            TOO_OLD,
+        ],
+        ..FIRST
+    },
+];
+
+#[test]
+fn what_a_version_is_offered(rt: HostRuntime) {
+    for (place, story) in OFFERS.iter().enumerate() {
+        assert!(rt; fails_at(rt.alloc(), story).is_none(), "{place}");
+    }
+}
+
+#[test]
+fn what_a_version_says(rt: HostRuntime) {
+    for (place, story) in VERSIONS.iter().enumerate() {
+        assert!(rt; fails_at(rt.alloc(), story).is_none(), "{place}");
+    }
+}
 
 #[test]
 fn what_was_saved_is_found(rt: HostRuntime) {

@@ -8,13 +8,14 @@ use fixtures::{CODES, FLOOD, WIDTHS};
 use saved_rows::{Balky, MemoryRows, RowsFault};
 use station::{Answer, BadMember, Datagram, Release, Station, StepRefusal};
 use std::alloc::Global;
-use tape_frames::Tape;
+use tape_frames::{Entry, Tape, Version};
 use widths::Widths;
 
 /// What is done to a station, for number 12 and at moment 0 where nothing else is said.
 #[derive(Clone, Copy)]
 pub enum Act {
     Offer(u32, &'static [u8]),
+    Withdraw(u32),
     Seek,
     Due(u64),
     Receive(&'static [u8]),
@@ -22,7 +23,19 @@ pub enum Act {
     Arm(bool),
     /// Its rows are then not read, for this reason.
     Refuse(RowsFault),
+    /// Rows at this version take the place of its own, blank or with this promise for number 12.
+    Replace(Version, Option<(u32, u8)>),
     Restart,
+}
+
+/// What is released for number 12.
+#[derive(Clone, Copy)]
+pub enum Handed {
+    Nothing,
+    /// The flood story, as one slug.
+    Flood,
+    /// That it is withdrawn, with no slug.
+    Withdrawal,
 }
 
 /// How it ends.
@@ -54,8 +67,7 @@ pub struct Turn {
     pub sent: usize,
     /// The member that the first of them goes to, and its bytes, where they are asked.
     pub datagram: Option<(u8, &'static [u8])>,
-    /// Whether it releases the flood story for number 12, as one slug; else it releases nothing.
-    pub releases: bool,
+    pub releases: Handed,
     /// Whether the station is then stopped.
     pub stopped: bool,
     /// Whether it has then released number 12 since it started.
@@ -69,7 +81,7 @@ pub const OFFER: Turn = Turn {
     ends: Ends::Done("began 1.1"),
     sent: 2,
     datagram: None,
-    releases: false,
+    releases: Handed::Nothing,
     stopped: false,
     released: false,
     open: Open::At(1, 1),
@@ -94,20 +106,22 @@ pub enum Left {
     Promise(u32, u8),
 }
 
-/// A station of circuit 7, the ballot that it promised for number 12 before, and what is done to it.
+/// A station of circuit 7, the version of its rows, the ballot that it promised for number 12 before, and what is done to it.
 #[derive(Clone, Copy)]
 pub struct Story {
     pub me: u8,
     pub members: u8,
+    pub version: Version,
     pub promised: Option<(u32, u8)>,
     pub turns: &'static [Turn],
     pub left: Left,
 }
 
-/// A member of one with blank rows.
+/// A member of one with blank rows, at version 1.
 pub const ALONE: Story = Story {
     me: 1,
     members: 1,
+    version: Version::One,
     promised: None,
     turns: &[],
     left: Left::Unasked,
@@ -128,14 +142,14 @@ fn ballot(round: u32, owner: u8) -> Option<Ballot> {
     Ballot::new(round, Member::new(owner)?)
 }
 
-/// Blank rows, or with this promise for number 12.
-fn rows_with(alloc: Global, promised: Option<(u32, u8)>) -> Option<MemoryRows> {
+/// Rows at this version, blank or with this promise for number 12.
+fn rows_with(alloc: Global, version: Version, promised: Option<(u32, u8)>) -> Option<MemoryRows> {
+    let mut rows = MemoryRows::at(alloc, version);
     let Some((round, owner)) = promised else {
-        return Some(MemoryRows::new(alloc));
+        return Some(rows);
     };
     let number = Number::new(12)?;
     let row = Row::new(Some(ballot(round, owner)?), None)?;
-    let mut rows = MemoryRows::new(alloc);
     rows.save(number, row).ok()?;
     Some(rows)
 }
@@ -150,7 +164,8 @@ fn setting(alloc: Global) -> Option<(CodeTable, Widths)> {
 /// The station of a story, before its turns.
 fn bench_of(alloc: Global, story: &Story) -> Option<Bench> {
     let (table, widths) = setting(alloc)?;
-    let rows = Unread::new(Balky::new(rows_with(alloc, story.promised)?));
+    let rows = rows_with(alloc, story.version, story.promised)?;
+    let rows = Unread::new(Balky::new(rows));
     Station::new(alloc, 7, story.me, story.members, table, widths, rows).ok()
 }
 
@@ -165,21 +180,32 @@ fn is_first(out: &[Datagram], told: Option<(u8, &[u8])>) -> bool {
     }
 }
 
-/// Whether this is a release of the flood story for number 12, as one slug.
-fn is_flood(release: &Release) -> bool {
-    match &release.set {
-        Ok(slugs) => {
-            release.number.get() == 12 && release.tape.frames() == FLOOD && slugs.len() == 1
-        }
-        Err(_) => false,
+/// Whether an entry is the flood story.
+fn is_flood(entry: &Entry) -> bool {
+    match entry {
+        Entry::Void => false,
+        Entry::Tape(tape) => tape.frames() == FLOOD,
     }
+}
+
+/// Whether this is a release for number 12 of what is told.
+fn is_handed(release: &Release, told: Handed) -> bool {
+    let Ok(slugs) = &release.set else {
+        return false;
+    };
+    release.number.get() == 12
+        && match told {
+            Handed::Nothing => false,
+            Handed::Flood => is_flood(&release.entry) && slugs.len() == 1,
+            Handed::Withdrawal => matches!(&release.entry, Entry::Void) && slugs.is_empty(),
+        }
 }
 
 /// Whether an answer is the one that is told.
 fn answers(alloc: Global, answer: &Answer, turn: &Turn, note: &str) -> bool {
     let same_release = match &answer.release {
-        Some(release) => turn.releases && is_flood(release),
-        None => !turn.releases,
+        Some(release) => is_handed(release, turn.releases),
+        None => matches!(turn.releases, Handed::Nothing),
     };
     same_release
         && answer.out.len() == turn.sent
@@ -205,6 +231,7 @@ fn acts(alloc: Global, bench: &mut Bench, turn: &Turn) -> bool {
             };
             bench.offer(number, &tape, 0)
         }
+        Act::Withdraw(number) => bench.withdraw(number, 0),
         Act::Seek => bench.seek(12, 0),
         Act::Due(now) => bench.due(now),
         Act::Receive(bytes) => bench.receive(bytes, 0),
@@ -214,6 +241,13 @@ fn acts(alloc: Global, bench: &mut Bench, turn: &Turn) -> bool {
         }
         Act::Refuse(fault) => {
             bench.rows_mut().refuse(fault);
+            return true;
+        }
+        Act::Replace(version, promised) => {
+            let Some(rows) = rows_with(alloc, version, promised) else {
+                return false;
+            };
+            *bench.rows_mut() = Unread::new(Balky::new(rows));
             return true;
         }
         Act::Restart => {

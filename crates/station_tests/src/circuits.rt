@@ -1,14 +1,15 @@
 //! Stories of a circuit over rows in memory: the steps, what has to be seen of each, and what the logs have to say.
 
 use crate::endings::{is_end, is_refusal};
+use crate::entries::{Given, is_given};
 use ballots::Number;
 use code_table::CodeTable;
-use fixtures::{CODES, FLOOD, LIGATURE, WIDTHS};
+use fixtures::{CODES, FLOOD, LIGATURE, LONGEST, WIDTHS};
 use line_check::{SetFault, galley};
 use saved_rows::MemoryRows;
 use station::Datagram;
 use std::alloc::Global;
-use tape_frames::Tape;
+use tape_frames::{Tape, Version};
 use widths::Widths;
 use world::{
     NewWorldFault, OfferLog, PlayFault, ReleaseLog, RunStop, Seen, Step, World, WorldRefusal,
@@ -30,6 +31,8 @@ pub const LIGATURE_SET: &str = "0001 J 0 0 a b _4 a _3 fi\n";
 pub enum Act {
     OfferFlood(u8),
     OfferLigature(u8),
+    OfferLongest(u8),
+    Withdraw(u8),
     Seek(u8),
     Due(u8, u64),
     Deliver(usize),
@@ -37,7 +40,7 @@ pub enum Act {
     Balk(u8, bool),
 }
 
-/// A step, and what is to be seen of it: who acted, the first datagram, how many were sent, whether a tape was released,
+/// A step, and what is to be seen of it: who acted, the first datagram, how many were sent, whether an entry was released,
 /// and how it ended.
 #[derive(Clone, Copy)]
 pub struct Line(
@@ -49,11 +52,12 @@ pub struct Line(
     pub &'static str,
 );
 
-/// A datagram of number 12: its kind, its sender, its addressee, the round and owner of its ballot, and its body.
+/// A datagram of number 12, in the version of its sender: its kind, its sender, its addressee, the round and owner of its
+/// ballot, and its body.
 #[derive(Clone, Copy)]
 pub struct Sent(pub u8, pub u8, pub u8, pub (u8, u8), pub &'static [u8]);
 
-/// The bodies of datagrams. A Prepare has none; a Promise reports no vote, or one for the flood story at 1.1.
+/// The bodies of datagrams of version 1. A Prepare has none; a Promise reports no vote, or one for the flood story at 1.1.
 pub const PREPARE: &[u8] = &[];
 
 pub const NO_REPORT: &[u8] = &[0];
@@ -67,23 +71,36 @@ pub const LIGATURE_BODY: &[u8] = &[0, 7, 1, 2, 3, 1, 3, 11, 4];
 
 pub const PROMISED_1_3: &[u8] = &[0, 0, 0, 1, 3];
 
-/// An offer for number 12: the member and the frames.
-#[derive(Clone, Copy)]
-pub struct Offered(pub u8, pub &'static [u8]);
+/// Those of version 2, whose tapes are packed; a withdrawal has no length and no frames.
+pub const FLOOD_PACKED: &[u8] = &[0, 7, 0x04, 0x20, 0xc1, 0x0c, 0x21, 0x00];
 
-/// A release of number 12: the member, the frames and what they set as.
-#[derive(Clone, Copy)]
-pub struct Released(
-    pub u8,
-    pub &'static [u8],
-    pub Result<&'static str, SetFault>,
-);
+pub const WITHDRAWAL: &[u8] = &[0, 0];
 
-/// A circuit of so many members, the last with these widths; its steps; and what its logs then have: all datagrams in
-/// order, all offers and all releases; and the open ballot of member 1.
+pub const WITHDRAWAL_REPORT: &[u8] = &[1, 0, 0, 0, 1, 1, 0, 0];
+
+/// An offer for number 12: the member and the entry.
+#[derive(Clone, Copy)]
+pub struct Offered(pub u8, pub Given);
+
+/// A release of number 12: the member, the entry and what it sets as, which is nothing of a withdrawal.
+#[derive(Clone, Copy)]
+pub struct Released(pub u8, pub Given, pub Result<&'static str, SetFault>);
+
+/// The version of all members but the last, and that of the last.
+pub type Versions = (Version, Version);
+
+pub const OLD: Versions = (Version::One, Version::One);
+
+pub const NEW: Versions = (Version::Two, Version::Two);
+
+pub const MIXED: Versions = (Version::Two, Version::One);
+
+/// A circuit of so many members at these versions, the last with these widths; its steps; and what its logs then have: all
+/// datagrams in order, all offers and all releases; and the open ballot of member 1.
 #[derive(Clone, Copy)]
 pub struct Story {
     pub members: u8,
+    pub versions: Versions,
     pub last: &'static str,
     pub lines: &'static [Line],
     pub sent: &'static [Sent],
@@ -94,9 +111,10 @@ pub struct Story {
     pub stop: Option<RunStop>,
 }
 
-/// A circuit of three to which nothing happens.
+/// A circuit of three at version 1 to which nothing happens.
 pub const CALM: Story = Story {
     members: 3,
+    versions: OLD,
     last: WIDTHS,
     lines: &[],
     sent: &[],
@@ -126,38 +144,58 @@ pub fn settings(alloc: Global, members: u8, last: &str) -> Option<Vec<(CodeTable
     Some(pairs)
 }
 
-/// The same, each with blank rows.
+/// The version of a member.
+fn version_of(versions: Versions, members: u8, member: u8) -> Version {
+    if member == members {
+        versions.1
+    } else {
+        versions.0
+    }
+}
+
+/// The same, each with blank rows at its version.
 pub fn parts(
     alloc: Global,
     members: u8,
+    versions: Versions,
     last: &str,
 ) -> Option<Vec<(CodeTable, Widths, MemoryRows)>> {
     let mut parts = Vec::new(alloc);
+    let mut member = 0u8;
     for (table, widths) in settings(alloc, members, last)? {
-        parts.push((table, widths, MemoryRows::new(alloc))).ok()?;
+        member = member.saturating_add(1);
+        let rows = MemoryRows::at(alloc, version_of(versions, members, member));
+        parts.push((table, widths, rows)).ok()?;
     }
     Some(parts)
 }
 
 /// The circuit of a story, before its steps.
 fn circuit(alloc: Global, story: &Story) -> Option<Circuit> {
-    let parts = parts(alloc, story.members, story.last)?;
+    let parts = parts(alloc, story.members, story.versions, story.last)?;
     World::new(alloc, 7, parts).ok()
 }
 
 /// The step of an act.
 fn step_of(alloc: Global, act: Act) -> Option<Step> {
     let (number, now) = (12, 0);
-    let frames = if let Act::OfferFlood(_) = act {
-        FLOOD
-    } else {
-        LIGATURE
+    let frames = match act {
+        Act::OfferFlood(_) => FLOOD,
+        Act::OfferLongest(_) => LONGEST,
+        _ => LIGATURE,
     };
     Some(match act {
-        Act::OfferFlood(member) | Act::OfferLigature(member) => Step::Offer {
+        Act::OfferFlood(member) | Act::OfferLigature(member) | Act::OfferLongest(member) => {
+            Step::Offer {
+                member,
+                number,
+                tape: Tape::from_bytes(alloc, frames).ok()?,
+                now,
+            }
+        }
+        Act::Withdraw(member) => Step::Withdraw {
             member,
             number,
-            tape: Tape::from_bytes(alloc, frames).ok()?,
             now,
         },
         Act::Seek(member) => Step::Seek {
@@ -204,7 +242,7 @@ fn taken(alloc: Global, world: &mut Circuit, lines: &[Line]) -> usize {
 }
 
 /// The steps of a story.
-fn steps_of(alloc: Global, lines: &[Line]) -> Option<Vec<Step>> {
+pub fn steps_of(alloc: Global, lines: &[Line]) -> Option<Vec<Step>> {
     let mut steps = Vec::new(alloc);
     for line in lines {
         steps.push(step_of(alloc, line.0)?).ok()?;
@@ -212,11 +250,20 @@ fn steps_of(alloc: Global, lines: &[Line]) -> Option<Vec<Step>> {
     Some(steps)
 }
 
+/// The number of the version that a member speaks.
+fn spoken(story: &Story, member: u8) -> u8 {
+    match version_of(story.versions, story.members, member) {
+        Version::One => 1,
+        Version::Two => 2,
+    }
+}
+
 /// Whether this is the datagram that is told, byte for byte.
-fn is_told(datagram: &Datagram, told: &Sent) -> bool {
+fn is_told(datagram: &Datagram, story: &Story, told: &Sent) -> bool {
     let Sent(kind, from, to, (round, owner), body) = *told;
+    let version = spoken(story, from);
     let head = [
-        0x54, 0x4e, 1, kind, 0, 7, from, to, 0, 0, 0, 12, 0, 0, 0, round, owner,
+        0x54, 0x4e, version, kind, 0, 7, from, to, 0, 0, 0, 12, 0, 0, 0, round, owner,
     ];
     let bytes = datagram.bytes();
     datagram.to().get() == to
@@ -226,20 +273,20 @@ fn is_told(datagram: &Datagram, told: &Sent) -> bool {
 }
 
 /// Whether these are the datagrams.
-fn are_sent(datagrams: &[Datagram], told: &[Sent]) -> bool {
-    for (datagram, told) in datagrams.iter().zip(told) {
-        if !is_told(datagram, told) {
+fn are_sent(datagrams: &[Datagram], story: &Story) -> bool {
+    for (datagram, told) in datagrams.iter().zip(story.sent) {
+        if !is_told(datagram, story, told) {
             return false;
         }
     }
-    datagrams.len() == told.len()
+    datagrams.len() == story.sent.len()
 }
 
 /// Whether these are the offers.
 fn are_offers(logs: &[OfferLog], told: &[Offered]) -> bool {
     for (log, offered) in logs.iter().zip(told) {
         let same = log.member() == offered.0 && log.number() == 12;
-        if !same || log.tape().frames() != offered.1 {
+        if !same || !is_given(log.entry(), offered.1) {
             return false;
         }
     }
@@ -259,10 +306,10 @@ pub fn is_set(alloc: Global, log: &ReleaseLog, told: Result<&str, SetFault>) -> 
 }
 
 /// Whether these are the releases.
-fn are_releases(alloc: Global, logs: &[ReleaseLog], told: &[Released]) -> bool {
+pub fn are_releases(alloc: Global, logs: &[ReleaseLog], told: &[Released]) -> bool {
     for (log, released) in logs.iter().zip(told) {
         let same = log.member() == released.0 && log.number() == 12;
-        if !same || log.tape().frames() != released.1 || !is_set(alloc, log, released.2) {
+        if !same || !is_given(log.entry(), released.1) || !is_set(alloc, log, released.2) {
             return false;
         }
     }
@@ -290,7 +337,7 @@ fn has_logged(alloc: Global, world: &Circuit, story: &Story) -> bool {
     };
     same_open
         && has_members(world, story.members)
-        && are_sent(world.sent(), story.sent)
+        && are_sent(world.sent(), story)
         && are_offers(world.offers(), story.offers)
         && are_releases(alloc, world.releases(), story.releases)
 }
@@ -396,18 +443,19 @@ pub fn fails_at(alloc: Global, story: &Story, way: Way) -> Option<usize> {
     }
 }
 
-/// Whether the steps of a story, played from the beginning of its circuit, leave the logs as they have to be.
+/// Whether the steps of a story whose members have one version, played from the beginning of its circuit, leave the logs
+/// as they have to be.
 pub fn plays(alloc: Global, story: &Story) -> Option<bool> {
     let members = settings(alloc, story.members, story.last)?;
     let steps = steps_of(alloc, story.lines)?;
-    let played = play_in_memory(alloc, 7, members, steps.as_slice()).ok()?;
+    let played = play_in_memory(alloc, 7, story.versions.0, members, steps.as_slice()).ok()?;
     Some(played.run.err() == story.stop && has_logged(alloc, &played.world, story))
 }
 
 /// Whether a circuit of this many members is not played, for their count.
 pub fn is_unplayed(alloc: Global, members: u8) -> Option<bool> {
     let members = settings(alloc, members, WIDTHS)?;
-    match play_in_memory(alloc, 7, members, &[]) {
+    match play_in_memory(alloc, 7, Version::One, members, &[]) {
         Err(fault) => Some(fault == PlayFault::BadCount),
         Ok(_) => Some(false),
     }
@@ -415,7 +463,7 @@ pub fn is_unplayed(alloc: Global, members: u8) -> Option<bool> {
 
 /// Whether a circuit of this many members is refused, and all of them are handed back.
 pub fn is_handed_back(alloc: Global, members: u8) -> Option<bool> {
-    let given = parts(alloc, members, WIDTHS)?;
+    let given = parts(alloc, members, OLD, WIDTHS)?;
     let count = usize::from(members);
     match World::new(alloc, 7, given) {
         Err(NewWorldFault::BadCount(back)) => Some(back.len() == count),

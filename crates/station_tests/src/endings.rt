@@ -2,6 +2,7 @@
 
 use ballots::Ballot;
 use node_core::Note;
+use packets::PacketFault;
 use saved_rows::RowsFault;
 use station::StepRefusal;
 use std::alloc::Global;
@@ -35,7 +36,11 @@ fn ended(outcome: Outcome) -> (&'static str, Option<Ballot>) {
     match outcome {
         Outcome::Done(note) => noted(note),
         Outcome::Refused(StepRefusal::Stopped) => ("refused stopped", None),
+        Outcome::Refused(StepRefusal::BadDatagram(PacketFault::BadVersion)) => {
+            ("refused bad-version", None)
+        }
         Outcome::Refused(StepRefusal::AlreadyOpen) => ("refused already-open", None),
+        Outcome::Refused(StepRefusal::WireTooOld) => ("refused wire-too-old", None),
         Outcome::Refused(StepRefusal::TapeFaulty(_)) => ("refused tape-faulty", None),
         Outcome::Refused(StepRefusal::Store(RowsFault::Store)) => ("stopped store", None),
         Outcome::Refused(_) => ("refused", None),

@@ -5,7 +5,7 @@ use crate::circuits::Act::{Balk, OfferFlood, OfferLigature, Restart, Seek};
 use crate::circuits::{
     CALM, FLOOD_SET, Line, Offered, Released, Story, WIDTHS_WITHOUT_FI, Way, fails_at,
 };
-use fixtures::FLOOD;
+use crate::entries::FLOOD;
 
 /// The row was saved as the store failed: it is released after the restart.
 const SAVED: Story = Story {

@@ -16,7 +16,11 @@ mod dice;
 #[cfg(test)]
 mod endings;
 #[cfg(test)]
+mod entries;
+#[cfg(test)]
 mod failing;
+#[cfg(test)]
+mod lengths;
 #[cfg(test)]
 mod passing;
 #[cfg(test)]
@@ -25,3 +29,5 @@ mod refusing;
 mod scripts;
 #[cfg(test)]
 mod unread;
+#[cfg(test)]
+mod versions;

@@ -4,7 +4,7 @@ use crate::circuits::Act::{Deliver, Due, OfferFlood, OfferLigature, Restart};
 use crate::circuits::{
     CALM, FLOOD_BODY, Line, NO_REPORT, Offered, PREPARE, PROMISED_1_3, Sent, Story, Way, fails_at,
 };
-use fixtures::{FLOOD, LIGATURE};
+use crate::entries::{FLOOD, LIGATURE};
 
 /// The ballot after a restart is above the one that the restart forgot.
 const AFRESH: Story = Story {

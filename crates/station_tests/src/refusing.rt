@@ -5,7 +5,7 @@ use crate::circuits::{
     CALM, Line, NO_REPORT, Offered, PREPARE, Sent, Story, Way, fails_at, is_handed_back,
     is_unplayed, plays,
 };
-use fixtures::FLOOD;
+use crate::entries::FLOOD;
 use world::{RunStop, WorldRefusal};
 
 #[test]

@@ -1,14 +1,15 @@
-//! Scripts of random steps, of offers, searches and due moments, of datagrams that are lost, repeated and come in any
-//! order, of saves that are refused and of restarts: what has to hold whatever the steps are.
+//! Scripts of random steps, of offers, withdrawals, searches and due moments, of datagrams that are lost, repeated and come
+//! in any order, of saves that are refused and of restarts: what has to hold whatever the steps are.
 
-use crate::circuits::{Circuit, FLOOD_SET, LIGATURE_SET, is_set, parts, settings};
+use crate::circuits::{Circuit, FLOOD_SET, LIGATURE_SET, Versions, is_set, parts};
 use crate::dice::Dice;
 use ballots::Number;
 use fixtures::{FLOOD, HARVEST, LIGATURE, WIDTHS};
+use packets::{BodyRef, decode};
 use station::Datagram;
 use std::alloc::Global;
-use tape_frames::Tape;
-use world::{OfferLog, ReleaseLog, Step, World, play_in_memory};
+use tape_frames::{Entry, EntryRef, Tape, Version};
+use world::{OfferLog, ReleaseLog, Step, World, play};
 
 /// The seed of the scripts' seeds.
 const SEED: u64 = 20_010_512;
@@ -29,32 +30,57 @@ const STEPS: usize = 30;
 /// How many datagrams go out at most between two steps of a member, where all that goes out comes.
 const MOST: usize = 200;
 
+/// Circuits of so many members at these versions.
+#[derive(Clone, Copy)]
+pub struct Kind {
+    pub members: u8,
+    pub versions: Versions,
+}
+
+impl Kind {
+    /// How many members, from the first on, read what all others say.
+    fn readers(&self) -> u8 {
+        if self.versions.0 == self.versions.1 {
+            self.members
+        } else {
+            self.members.saturating_sub(1)
+        }
+    }
+}
+
 /// What scripts came to, to tell that they are no idle ones.
 #[derive(Clone, Copy)]
 pub struct Tally {
     /// How many releases there were among the random steps.
     pub releases: usize,
-    /// How many numbers were released that were offered more than one story.
+    /// How many numbers were released that were offered more than one entry.
     pub rivals: usize,
+    /// How many releases of a withdrawal there were.
+    pub withdrawals: usize,
 }
 
 /// Before any script.
 pub const IDLE: Tally = Tally {
     releases: 0,
     rivals: 0,
+    withdrawals: 0,
 };
 
 impl Tally {
-    /// Whether there was a release for each script, and a number with rivals for each third.
-    pub fn is_busy(&self, scripts: usize) -> bool {
-        self.releases >= scripts && self.rivals >= scripts / 3
+    /// Whether there was a release for each script, and a number with rivals for each third; and withdrawals were released
+    /// where the circuits have a version that has them, and only there.
+    pub fn is_busy(&self, scripts: usize, kind: &Kind) -> bool {
+        let withdraws = kind.versions.0 == Version::Two;
+        self.releases >= scripts
+            && self.rivals >= scripts / 3
+            && (self.withdrawals > 0) == withdraws
     }
 }
 
 /// A script, as far as it is taken: its steps, and the datagram that comes next where all come in order.
 #[derive(Drop)]
 struct Script {
-    members: u8,
+    kind: Kind,
     world: Circuit,
     taken: Vec<Step>,
     dice: Dice,
@@ -77,11 +103,12 @@ fn offer(alloc: Global, dice: &mut Dice, member: u8, now: u64) -> Option<Step> {
     })
 }
 
-/// A script of a circuit of so many members, of which no step is taken.
-fn untaken(alloc: Global, members: u8, seed: u64) -> Option<Script> {
-    let world = World::new(alloc, 7, parts(alloc, members, WIDTHS)?).ok()?;
+/// A script of a circuit of this kind, of which no step is taken.
+fn untaken(alloc: Global, kind: Kind, seed: u64) -> Option<Script> {
+    let parts = parts(alloc, kind.members, kind.versions, WIDTHS)?;
+    let world = World::new(alloc, 7, parts).ok()?;
     Some(Script {
-        members,
+        kind,
         world,
         taken: Vec::new(alloc),
         dice: Dice::new(seed),
@@ -119,7 +146,7 @@ impl Script {
 
     /// A random step.
     fn draw(&mut self, alloc: Global) -> Option<Step> {
-        let last = u8::try_from(self.dice.below(usize::from(self.members))).ok()?;
+        let last = u8::try_from(self.dice.below(usize::from(self.kind.members))).ok()?;
         let (member, now) = (last.saturating_add(1), self.now);
         let nothing_sent = self.world.sent().is_empty();
         match self.dice.below(32) {
@@ -135,6 +162,11 @@ impl Script {
                 saved: self.dice.below(2) == 0,
             }),
             5 | 6 => offer(alloc, &mut self.dice, member, now),
+            7 => Some(Step::Withdraw {
+                member,
+                number: picked(&mut self.dice, NUMBERS)?,
+                now,
+            }),
             _ if nothing_sent => offer(alloc, &mut self.dice, member, now),
             _ => Some(self.delivery()),
         }
@@ -142,7 +174,7 @@ impl Script {
 
     /// Takes random steps, at moments that are up to 99 milliseconds apart.
     fn stir(&mut self, alloc: Global) -> Option<()> {
-        for _ in 0..STEPS.saturating_mul(usize::from(self.members)) {
+        for _ in 0..STEPS.saturating_mul(usize::from(self.kind.members)) {
             let step = self.draw(alloc)?;
             self.take(step)?;
             let pause = self.dice.below(100) as u64;
@@ -171,7 +203,7 @@ impl Script {
 
     /// All members start again. Member 1 seeks each number, and begins anew where it was denied; nothing is lost.
     fn calm(&mut self) -> Option<()> {
-        for member in 1..=self.members {
+        for member in 1..=self.kind.members {
             self.take(Step::Restart { member })?;
         }
         for number in NUMBERS {
@@ -189,10 +221,11 @@ impl Script {
         Some(())
     }
 
-    /// Whether all members have released each number, since they started, that any member ever released.
+    /// Whether all members that read the others have released each number, since they started, that any member ever
+    /// released.
     fn are_found(&self) -> bool {
         for log in self.world.releases() {
-            for member in 1..=self.members {
+            for member in 1..=self.kind.readers() {
                 if !has_released(&self.world, member, log.number()) {
                     return false;
                 }
@@ -223,11 +256,16 @@ fn has_released(world: &Circuit, member: u8, number: u32) -> bool {
     }
 }
 
-/// Whether each number has one tape.
+/// Whether two entries are the same.
+fn are_same(one: &Entry, other: &Entry) -> bool {
+    one.lend().same(other.lend())
+}
+
+/// Whether each number has one entry.
 fn are_one(releases: &[ReleaseLog]) -> bool {
     for one in releases {
         for other in releases {
-            if one.number() == other.number() && one.tape().frames() != other.tape().frames() {
+            if one.number() == other.number() && !are_same(one.entry(), other.entry()) {
                 return false;
             }
         }
@@ -235,12 +273,12 @@ fn are_one(releases: &[ReleaseLog]) -> bool {
     true
 }
 
-/// How many offers there were of a number with these frames, and how many with others.
-fn offered(offers: &[OfferLog], number: u32, frames: &[u8]) -> (usize, usize) {
+/// How many offers there were of a number with this entry, and how many with others.
+fn offered(offers: &[OfferLog], number: u32, entry: &Entry) -> (usize, usize) {
     let (mut same, mut others) = (0usize, 0usize);
     for log in offers {
         if log.number() == number {
-            if log.tape().frames() == frames {
+            if are_same(log.entry(), entry) {
                 same = same.saturating_add(1);
             } else {
                 others = others.saturating_add(1);
@@ -250,51 +288,73 @@ fn offered(offers: &[OfferLog], number: u32, frames: &[u8]) -> (usize, usize) {
     (same, others)
 }
 
-/// Whether each tape that was released was offered for its number.
+/// Whether each entry that was released was offered for its number.
 fn were_offered(world: &Circuit) -> bool {
     for log in world.releases() {
-        if offered(world.offers(), log.number(), log.tape().frames()).0 == 0 {
+        if offered(world.offers(), log.number(), log.entry()).0 == 0 {
             return false;
         }
     }
     true
 }
 
-/// Whether a release is one of the stories, set as it sets.
-fn is_story(alloc: Global, log: &ReleaseLog) -> bool {
+/// Whether the release of a tape is one of the stories, set as it sets.
+fn is_story(alloc: Global, log: &ReleaseLog, tape: &Tape) -> bool {
     for (frames, text) in STORIES {
-        if log.tape().frames() == *frames {
+        if tape.frames() == *frames {
             return is_set(alloc, log, Ok(*text));
         }
     }
     false
 }
 
+/// Whether each release is a story, or a withdrawal, which sets as nothing.
 fn are_stories(alloc: Global, releases: &[ReleaseLog]) -> bool {
     for log in releases {
-        if !is_story(alloc, log) {
+        let is_whole = match log.entry() {
+            Entry::Void => is_set(alloc, log, Ok("")),
+            Entry::Tape(tape) => is_story(alloc, log, tape),
+        };
+        if !is_whole {
             return false;
         }
     }
     true
 }
 
-/// The number and the ballot of a datagram that carries a proposal, an Accept or an Accepted, and the proposal.
-fn proposal(datagram: &Datagram) -> Option<(&[u8], &[u8])> {
+/// The number and the ballot of a datagram that carries a proposal, an Accept or an Accepted.
+fn proposed(datagram: &Datagram) -> Option<&[u8]> {
     let bytes = datagram.bytes();
     match bytes.get(3) {
-        Some(3 | 4) => Some((bytes.get(8..17)?, bytes.get(17..)?)),
+        Some(3 | 4) => bytes.get(8..17),
         _ => None,
     }
 }
 
+/// The entry of a datagram that carries a proposal.
+fn entry_in(datagram: &Datagram) -> Option<EntryRef<'_>> {
+    match decode(datagram.bytes(), Version::Two) {
+        Ok(packet) => match packet.body() {
+            BodyRef::Accept { entry } | BodyRef::Accepted { entry } => Some(entry.lend()),
+            _ => None,
+        },
+        Err(_) => None,
+    }
+}
+
+/// Whether two datagrams carry the same entry, each in the version that it is in.
+fn is_same_entry(one: &Datagram, other: &Datagram) -> bool {
+    match (entry_in(one), entry_in(other)) {
+        (Some(one), Some(other)) => one.same(other),
+        _ => false,
+    }
+}
+
 /// Whether a proposal is that of the last of these datagrams with its number and ballot, where there is one.
-fn is_repeated((ballot, tape): (&[u8], &[u8]), before: &[Datagram]) -> bool {
+fn is_repeated(proposal: &Datagram, ballot: &[u8], before: &[Datagram]) -> bool {
     for datagram in before.iter().rev() {
-        if let Some((same, told)) = proposal(datagram) {
-            if same == ballot {
-                return told == tape;
-            }
+        if proposed(datagram) == Some(ballot) {
+            return is_same_entry(datagram, proposal);
         }
     }
     true
@@ -306,8 +366,8 @@ fn have_one_proposal(sent: &[Datagram]) -> bool {
         let Some(before) = sent.get(..place) else {
             return false;
         };
-        if let Some(proposal) = proposal(datagram) {
-            if !is_repeated(proposal, before) {
+        if let Some(ballot) = proposed(datagram) {
+            if !is_repeated(datagram, ballot, before) {
                 return false;
             }
         }
@@ -334,18 +394,19 @@ fn are_alike(one: &Circuit, other: &Circuit) -> bool {
 
 /// Whether the same steps, played from the beginning, come to the same.
 fn is_played(alloc: Global, script: &Script) -> Option<bool> {
-    let members = settings(alloc, script.members, WIDTHS)?;
-    let played = play_in_memory(alloc, 7, members, script.taken.as_slice()).ok()?;
+    let kind = script.kind;
+    let members = parts(alloc, kind.members, kind.versions, WIDTHS)?;
+    let played = play(alloc, 7, members, script.taken.as_slice()).ok()?;
     Some(played.run.is_ok() && are_alike(&played.world, &script.world))
 }
 
 /// What does not hold of a script that was taken; nothing where all holds.
 fn fault_of(alloc: Global, script: &Script) -> Option<&'static str> {
     if !are_one(script.world.releases()) {
-        return Some("a number has two stories");
+        return Some("a number has two entries");
     }
     if !were_offered(&script.world) {
-        return Some("a story was not offered for its number");
+        return Some("an entry was not offered for its number");
     }
     if !are_stories(alloc, script.world.releases()) {
         return Some("a story is set otherwise");
@@ -359,11 +420,11 @@ fn fault_of(alloc: Global, script: &Script) -> Option<&'static str> {
     None
 }
 
-/// Whether a number was released that was offered another story too.
+/// Whether a number was released that was offered another entry too.
 fn had_rivals(world: &Circuit, number: u32) -> bool {
     for log in world.releases() {
         if log.number() == number {
-            return offered(world.offers(), number, log.tape().frames()).1 > 0;
+            return offered(world.offers(), number, log.entry()).1 > 0;
         }
     }
     false
@@ -372,6 +433,11 @@ fn had_rivals(world: &Circuit, number: u32) -> bool {
 /// Adds what the random steps of a script came to.
 fn count(world: &Circuit, tally: &mut Tally) {
     tally.releases = tally.releases.saturating_add(world.releases().len());
+    for log in world.releases() {
+        if let Entry::Void = log.entry() {
+            tally.withdrawals = tally.withdrawals.saturating_add(1);
+        }
+    }
     for number in NUMBERS {
         if had_rivals(world, *number) {
             tally.rivals = tally.rivals.saturating_add(1);
@@ -379,9 +445,9 @@ fn count(world: &Circuit, tally: &mut Tally) {
     }
 }
 
-/// What does not hold of the script of this seed, of a circuit of so many members; nothing where all holds.
-fn fault_of_seed(alloc: Global, members: u8, seed: u64, tally: &mut Tally) -> Option<&'static str> {
-    let Some(mut script) = untaken(alloc, members, seed) else {
+/// What does not hold of the script of this seed, of a circuit of this kind; nothing where all holds.
+fn fault_of_seed(alloc: Global, kind: Kind, seed: u64, tally: &mut Tally) -> Option<&'static str> {
+    let Some(mut script) = untaken(alloc, kind, seed) else {
         return Some("there is no circuit");
     };
     if script.stir(alloc).is_none() {
@@ -397,14 +463,14 @@ fn fault_of_seed(alloc: Global, members: u8, seed: u64, tally: &mut Tally) -> Op
 /// The seed of the first of so many scripts of which not all holds, and what does not; nothing where all holds.
 pub fn first_broken(
     alloc: Global,
-    members: u8,
+    kind: Kind,
     scripts: usize,
     tally: &mut Tally,
 ) -> Option<(u64, &'static str)> {
     let mut seeds = Dice::new(SEED);
     for _ in 0..scripts {
         let seed = seeds.next();
-        if let Some(fault) = fault_of_seed(alloc, members, seed, tally) {
+        if let Some(fault) = fault_of_seed(alloc, kind, seed, tally) {
             return Some((seed, fault));
         }
     }

@@ -4,6 +4,7 @@ ghost use Rattle.std.specs.Prelude.{◌+◌};
 
 use ballots::{Number, Row};
 use saved_rows::{Balky, Rows, RowsFault};
+use tape_frames::Version;
 
 /// Rows whose next reading can be made to be refused, for any reason.
 /// Clauses see the rows inside, why the next reading is refused, and how many they refused themselves.
@@ -53,9 +54,15 @@ impl<R: Rows> Rows for Unread<R> {
 
     ghost saved = { λ s. R.saved s.rows };
 
+    ghost version = { λ s. R.version s.rows };
+
     ghost refusals = { λ s. R.refusals s.rows + s.refusals };
 
     ghost halves = { λ s. R.halves s.rows };
+
+    fn version(&self) -> Version {
+        self.rows.version()
+    }
 
     fn get(&mut self, number: Number) -> Result<Row, RowsFault> {
         let Some(fault) = self.fault else {

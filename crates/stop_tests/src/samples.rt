@@ -6,7 +6,7 @@ ghost use Rattle.saved_rows.specs.Saved.{HasPromise};
 use ballots::{Ballot, Member, Number, Row, Vote};
 use saved_rows::Rows;
 use std::alloc::Global;
-use tape_frames::Tape;
+use tape_frames::{Entry, EntryRef, Tape};
 
 /// A row under its number: its promise, and its vote, if any, with the frames of its tape.
 #[derive(Clone, Copy)]
@@ -46,10 +46,18 @@ fn row_of(alloc: Global, sample: &Sample) -> Option<Row>
         None => None,
         Some(numbers) => {
             let tape = Tape::from_bytes(alloc, sample.frames).ok()?;
-            Some(Vote::new(ballot_of(numbers)?, tape))
+            Some(Vote::new(ballot_of(numbers)?, Entry::Tape(tape)))
         }
     };
     Row::new(Some(promise), vote)
+}
+
+/// Whether an entry is the tape of these frames.
+fn is_tape(entry: &EntryRef<'_>, frames: &[u8]) -> bool {
+    match entry {
+        EntryRef::Plain(tape) => tape.frames() == frames,
+        _ => false,
+    }
 }
 
 /// Whether a row is that of a sample.
@@ -57,7 +65,7 @@ fn is_row(row: &Row, sample: &Sample) -> bool {
     let votes = match (row.vote(), sample.vote) {
         (None, None) => true,
         (Some(vote), Some(numbers)) => ballot_of(numbers) == Some(vote.ballot())
-            && vote.tape().frames() == sample.frames,
+            && is_tape(&vote.entry(), sample.frames),
         _ => false,
     };
     votes && row.promised().is_some() && row.promised() == ballot_of(sample.promised)
@@ -67,6 +75,9 @@ fn is_row(row: &Row, sample: &Sample) -> bool {
 pub fn puts<R: Rows>(alloc: Global, rows: &mut R, sample: &Sample) -> Option<bool> {
     let number = Number::new(sample.number)?;
     let row = row_of(alloc, sample)?;
+    if !row.fits(rows.version()) {
+        return None;
+    }
     if rows.put(number, &row).is_ok() {
         return Some(true);
     }

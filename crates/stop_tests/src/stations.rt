@@ -8,7 +8,7 @@ use saved_rows::Rows;
 use serve_command::serve_run;
 use station::{Answer, Station, StepRefusal};
 use std::alloc::Global;
-use tape_frames::Tape;
+use tape_frames::{Entry, Tape};
 use widths::Widths;
 use wire::{Arrival, Wire};
 
@@ -22,13 +22,21 @@ fn station_over<R: Rows>(alloc: Global, rows: R) -> Option<Station<R>> {
     Station::new(alloc, 7, 1, 1, table, widths, rows).ok()
 }
 
+/// Whether an entry is the tape of these frames.
+fn is_tape(entry: &Entry, frames: &[u8]) -> bool {
+    match entry {
+        Entry::Tape(tape) => tape.frames() == frames,
+        Entry::Void => false,
+    }
+}
+
 /// Whether a step released the tape of these frames.
 fn releases(step: &Result<Answer, StepRefusal>, frames: &[u8]) -> bool {
     let Ok(answer) = step else {
         return false;
     };
     match &answer.release {
-        Some(release) => release.tape.frames() == frames,
+        Some(release) => is_tape(&release.entry, frames),
         None => false,
     }
 }
@@ -107,6 +115,7 @@ fn serves<R: Rows>(alloc: Global, station: &mut Station<R>, frames: &[u8]) -> Op
         station,
         &mut wire,
         Some((12, tape)),
+        None,
         None,
         1,
         &mut out,

@@ -1,4 +1,4 @@
-//! A circuit over databases in memory logs what it logs over rows in memory.
+//! A circuit over databases in memory logs what it logs over rows in memory at version 1.
 
 use acceptor_store::SqliteRows;
 use code_table::CodeTable;
@@ -33,7 +33,7 @@ fn circuit<R: Rows>(alloc: Global, rows: Vec<R>) -> Option<World<R>> {
     World::new(alloc, 7, parts).ok()
 }
 
-/// The offer and the deliveries.
+/// The offer and the deliveries, and a withdrawal of another number, which version 1 does not have.
 fn steps(alloc: Global) -> Option<Vec<Step>> {
     let mut steps = Vec::new(alloc);
     let offer = Step::Offer {
@@ -46,6 +46,12 @@ fn steps(alloc: Global) -> Option<Vec<Step>> {
     for k in DELIVERED {
         steps.push(Step::Deliver { k: *k, now: 0 }).ok()?;
     }
+    let withdrawal = Step::Withdraw {
+        member: 2,
+        number: 13,
+        now: 0,
+    };
+    steps.push(withdrawal).ok()?;
     Some(steps)
 }
 
@@ -95,7 +101,7 @@ fn are_same_datagrams(left: &[Datagram], right: &[Datagram]) -> bool {
 fn are_same_offers(left: &[OfferLog], right: &[OfferLog]) -> bool {
     for (one, other) in left.iter().zip(right) {
         let same = one.member() == other.member() && one.number() == other.number();
-        if !same || one.tape().frames() != other.tape().frames() {
+        if !same || !one.entry().lend().same(other.entry().lend()) {
             return false;
         }
     }
@@ -120,7 +126,7 @@ fn is_same_text(alloc: Global, one: &ReleaseLog, other: &ReleaseLog) -> bool {
 fn are_same_releases(alloc: Global, left: &[ReleaseLog], right: &[ReleaseLog]) -> bool {
     for (one, other) in left.iter().zip(right) {
         let same = one.member() == other.member() && one.number() == other.number();
-        if !same || one.tape().frames() != other.tape().frames() {
+        if !same || !one.entry().lend().same(other.entry().lend()) {
             return false;
         }
         if !is_same_text(alloc, one, other) {

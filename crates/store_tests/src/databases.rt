@@ -119,7 +119,7 @@ const STATED: &[Session] = &[
     },
 ];
 
-/// The longest tape is saved, and is there again.
+/// The longest tape of layout 1 is saved, and is there again.
 const LONGEST: &[Session] = &[
     Session {
         deeds: &[Deed::PutLong(12, 4096), Deed::GetLong(12, 4096)],
@@ -144,11 +144,21 @@ const LONGEST_STATED: &[Session] = &[
     },
 ];
 
-/// With one frame more it is no tape.
+/// With one frame more it is none of layout 1.
 const TOO_LONG: &[Session] = &[
     MADE,
     Session {
         frames: 4097,
+        refusal: Some(RowsFault::Damaged { number: 12 }),
+        ..OPENED
+    },
+];
+
+/// Nor is a tape that is as long as a tape can be.
+const FAR_TOO_LONG: &[Session] = &[
+    MADE,
+    Session {
+        frames: 16_384,
         refusal: Some(RowsFault::Damaged { number: 12 }),
         ..OPENED
     },
@@ -164,6 +174,7 @@ const STORIES: &[&[Session]] = &[
     LONGEST,
     LONGEST_STATED,
     TOO_LONG,
+    FAR_TOO_LONG,
 ];
 
 #[test]

@@ -31,13 +31,19 @@ fn refusal_of<R: Rows>(
 ) -> Option<Option<RowsFault>> {
     let number = Number::new(number)?;
     let row = row_of(alloc, sample)?;
+    if !row.fits(rows.version()) {
+        return None;
+    }
     Some(rows.put(number, &row).err())
 }
 
-/// Whether a row with a long tape is saved.
+/// Whether a row with a long tape is saved; nothing where it does not fit the version of the rows.
 fn puts_long<R: Rows>(alloc: Global, rows: &mut R, number: u32, frames: usize) -> Option<bool> {
     let number = Number::new(number)?;
     let row = long_row(alloc, frames)?;
+    if !row.fits(rows.version()) {
+        return None;
+    }
     Some(rows.put(number, &row).is_ok())
 }
 

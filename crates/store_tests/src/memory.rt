@@ -1,10 +1,14 @@
 //! Rows in memory, and rows whose next save is refused.
 
+ghost use Rattle.std.specs.Prelude.{IfSome};
+ghost use Rattle.saved_rows.specs.Saved.{HasPromise};
+
 use crate::deeds::{Deed, done};
 use crate::samples::{PROMISED, Sample, VOTED, is_row};
-use ballots::Number;
-use saved_rows::{Balky, MemoryRows, RowsFault};
+use ballots::{Ballot, Member, Number, Row, Vote};
+use saved_rows::{Balky, MemoryRows, Rows, RowsFault};
 use std::alloc::Global;
+use tape_frames::{Entry, EntryRef, Version};
 
 /// Two rows are saved and read back, and none is there under 4.
 pub const TWO: &[Deed] = &[
@@ -26,14 +30,17 @@ fn gives_and_takes(alloc: Global, rows: &mut MemoryRows) -> Option<bool> {
     let twelve = Number::new(12)?;
     let row = rows.take(twelve);
     let taken = is_row(&row, Some(&VOTED)) && done(alloc, rows, &[Deed::Get(12, None)]) == 1;
+    if !row.fits(rows.version()) {
+        return None;
+    }
     rows.save(twelve, row).ok()?;
     Some(taken)
 }
 
-/// The longest tape is saved, and read back.
+/// The longest tape of version 1 is saved, and read back.
 const LONG: &[Deed] = &[Deed::PutLong(13, 4096), Deed::GetLong(13, 4096)];
 
-/// Whether two rows are saved in memory, lent, taken out and saved again, and then one with the longest tape.
+/// Whether two rows are saved in memory, lent, taken out and saved again, and then one with that tape.
 fn keeps_in_memory(alloc: Global) -> Option<bool> {
     let mut rows = MemoryRows::new(alloc);
     let saved = done(alloc, &mut rows, TWO) == TWO.len() && are_lent(&rows)?;
@@ -44,6 +51,54 @@ fn keeps_in_memory(alloc: Global) -> Option<bool> {
 #[test]
 fn in_memory(rt: HostRuntime) {
     assert!(rt; keeps_in_memory(rt.alloc()) == Some(true));
+}
+
+/// A promise of 1.1 beside a vote at it for a withdrawal.
+fn withdrawn() -> Option<Row>
+    ensures { IfSome result HasPromise }
+{
+    let ballot = Ballot::new(1, Member::new(1)?)?;
+    Row::new(Some(ballot), Some(Vote::new(ballot, Entry::Void)))
+}
+
+/// Whether the row of 12 that these rows give is that of a withdrawal.
+fn has_withdrawal<R: Rows>(rows: &mut R) -> Option<bool> {
+    match rows.get(Number::new(12)?) {
+        Ok(row) => Some(matches!(row.vote()?.entry(), EntryRef::Void)),
+        Err(_) => None,
+    }
+}
+
+/// Whether a withdrawal is saved and read back; nothing where it does not fit the version of the rows.
+fn keeps_withdrawal<R: Rows>(rows: &mut R) -> Option<bool> {
+    let row = withdrawn()?;
+    if !row.fits(rows.version()) {
+        return None;
+    }
+    Some(rows.put(Number::new(12)?, &row).is_ok() && has_withdrawal(rows)?)
+}
+
+#[test]
+fn withdrawals(rt: HostRuntime) {
+    let mut old = MemoryRows::new(rt.alloc());
+    assert!(rt; keeps_withdrawal(&mut old) == None);
+    let mut rows = Balky::new(MemoryRows::at(rt.alloc(), Version::Two));
+    assert!(rt; keeps_withdrawal(&mut rows) == Some(true));
+}
+
+/// The longest tape of all is saved, and read back.
+const LONGEST: &[Deed] = &[Deed::PutLong(13, 16_384), Deed::GetLong(13, 16_384)];
+
+/// How many of these are done with rows at this version: the first, which saves it, only where it fits.
+fn lengthened(alloc: Global, version: Version) -> usize {
+    let mut rows = MemoryRows::at(alloc, version);
+    done(alloc, &mut rows, LONGEST)
+}
+
+#[test]
+fn longer_tapes(rt: HostRuntime) {
+    assert!(rt; lengthened(rt.alloc(), Version::One) == 0);
+    assert!(rt; lengthened(rt.alloc(), Version::Two) == LONGEST.len());
 }
 
 const HIGHER: Sample = Sample {

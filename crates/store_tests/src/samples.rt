@@ -5,7 +5,7 @@ ghost use Rattle.saved_rows.specs.Saved.{HasPromise};
 
 use ballots::{Ballot, Member, Row, Vote};
 use std::alloc::Global;
-use tape_frames::Tape;
+use tape_frames::{Entry, EntryRef, Tape};
 
 /// A row that is no blank one: its promise, and its vote, if any, with the frames of its tape.
 #[derive(Clone, Copy)]
@@ -42,15 +42,23 @@ pub fn row_of(alloc: Global, sample: &Sample) -> Option<Row>
         None => None,
         Some(numbers) => {
             let tape = Tape::from_bytes(alloc, sample.frames).ok()?;
-            Some(Vote::new(ballot_of(numbers)?, tape))
+            Some(Vote::new(ballot_of(numbers)?, Entry::Tape(tape)))
         }
     };
     Row::new(Some(promise), vote)
 }
 
+/// Whether an entry is the tape of these frames.
+fn is_tape(entry: &EntryRef<'_>, frames: &[u8]) -> bool {
+    match entry {
+        EntryRef::Plain(tape) => tape.frames() == frames,
+        _ => false,
+    }
+}
+
 /// Whether a vote is at this ballot, for these frames.
 fn is_vote(vote: &Vote, numbers: (u32, u8), frames: &[u8]) -> bool {
-    ballot_of(numbers) == Some(vote.ballot()) && vote.tape().frames() == frames
+    ballot_of(numbers) == Some(vote.ballot()) && is_tape(&vote.entry(), frames)
 }
 
 /// Whether a row is this one; the blank one with `None`.
@@ -69,7 +77,7 @@ pub fn is_row(row: &Row, sample: Option<&Sample>) -> bool {
 /// Whether a copy of a vote is that vote.
 fn is_vote_copied(alloc: Global, vote: &Vote) -> bool {
     match vote.copy(alloc) {
-        Ok(other) => other.ballot() == vote.ballot() && other.tape().same(vote.tape()),
+        Ok(other) => other.ballot() == vote.ballot() && other.entry().same(vote.entry()),
         Err(_) => false,
     }
 }
@@ -96,12 +104,19 @@ fn are_long(frames: &[u8], count: usize) -> bool {
     frames.len() == count
 }
 
+/// Whether an entry is the tape of so many frames 63.
+fn is_long(entry: &EntryRef<'_>, count: usize) -> bool {
+    match entry {
+        EntryRef::Plain(tape) => are_long(tape.frames(), count),
+        _ => false,
+    }
+}
+
 /// Whether a row is that of [`long_row`].
 pub fn is_long_row(row: &Row, count: usize) -> bool {
     let votes = match row.vote() {
         None => false,
-        Some(vote) => ballot_of((1, 1)) == Some(vote.ballot())
-            && are_long(vote.tape().frames(), count),
+        Some(vote) => ballot_of((1, 1)) == Some(vote.ballot()) && is_long(&vote.entry(), count),
     };
     votes && row.promised().is_some() && row.promised() == ballot_of((1, 1))
 }
@@ -125,5 +140,5 @@ pub fn long_row(alloc: Global, frames: usize) -> Option<Row>
     let frames = vec![in alloc; 63u8; frames].ok()?;
     let tape = Tape::from_bytes(alloc, &frames).ok()?;
     let ballot = ballot_of((1, 1))?;
-    Row::new(Some(ballot), Some(Vote::new(ballot, tape)))
+    Row::new(Some(ballot), Some(Vote::new(ballot, Entry::Tape(tape))))
 }

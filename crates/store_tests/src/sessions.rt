@@ -6,11 +6,12 @@ use acceptor_store::SqliteRows;
 use ballots::{Number, Row};
 use command_ends::End;
 use rows_command::print_rows;
-use saved_rows::{Identity, RowsFault};
+use saved_rows::{Identity, Rows, RowsFault};
 use sqlite::{Connection, MemStore, params};
 use std::alloc::Global;
 use std::io;
 use std::io::Write;
+use tape_frames::Version;
 
 /// Member 2 of 3 of circuit 7.
 pub const STATION: Identity = Identity {
@@ -149,9 +150,10 @@ fn are_printed(alloc: Global, rows: &mut SqliteRows<MemStore>, prints: &[Print])
     true
 }
 
-/// Whether the rows are the station's, and answer, list and print as a session says.
+/// Whether the rows are the station's, at version 1, and answer, list and print as a session says.
 fn serves(alloc: Global, rows: &mut SqliteRows<MemStore>, session: &Session) -> bool {
     rows.identity() == STATION
+        && rows.version() == Version::One
         && done(alloc, rows, session.deeds) == session.deeds.len()
         && is_listed(rows.all(), &session.listing)
         && are_printed(alloc, rows, session.prints)

@@ -219,7 +219,7 @@ pub fn add_slugs(
     top: u64,
     slugs: &[Slug],
 ) -> Result<(), AllocError>
-    requires { (1 ≤ measure) × AllByRecursion (IsFull measure) slugs.now × (length slugs.now ≤ 4096) × (top ≤ 2 ^ 58) }
+    requires { (1 ≤ measure) × AllByRecursion (IsFull measure) slugs.now × (length slugs.now ≤ 16384) × (top ≤ 2 ^ 58) }
     ensures { OnOk result (text.new.items ≡ text.old.items ++ text_of (slugs_from measure top 0 slugs.now)) }
 {
     for (before, slug) in slugs.iter().enumerate() {

@@ -1,8 +1,8 @@
 -- The laws of packings.
 use Rattle.std.proofs.Common.{◌≡◌, ℕ, zero, suc, ◌+◌, ◌*◌, ◌-◌, ◌/◌, ◌%◌, ◌^◌, ◌<◌, List, [], ◌∷◌, length, refl, sym, ap, subst, ◌∙◌, arith}
 use Rattle.std.specs.Prelude.{slice_index}
-use Rattle.tape_frames.specs.Frames.{AreFrames}
-use Rattle.tape_frames.specs.Packing.{AreBytes, Packs, none, one, two, three, four, packed_len, unpacked, pad_of, OnePacking, OneUnpacking, PackedLength, HasPacking, UnpackingUndoes, TapesArePacked, PackedAreTapes, OnePacked}
+use Rattle.tape_frames.specs.Frames.{AreFrames, IsTape}
+use Rattle.tape_frames.specs.Packing.{AreBytes, Packs, none, one, two, three, four, packed_len, packing_of, unpacked, pad_of, IsPacked, OnePacking, OneUnpacking, PackedLength, HasPacking, PackingIsGiven, UnpackingUndoes, TapesArePacked, PackedAreTapes, OnePacked}
 
 cons : {x y : ℕ} {xs ys : List ℕ} → x ≡ y → xs ≡ ys → x ∷ xs ≡ y ∷ ys
 cons e f = λ i. e i ∷ f i
@@ -30,22 +30,20 @@ packed_length frames bytes (two a b x y p) = refl
 packed_length frames bytes (three a b c x y z p) = refl
 packed_length frames bytes (four a b c d x y z fs bs p ps) = let e = packed_length fs bs ps in omega (arith, e)
 
-pub has_packing : HasPacking
-has_packing [] h = ([], none, tt)
-has_packing (a ∷ []) (ha, _) = (4 * a ∷ [], one a (4 * a) refl, (omega (arith, ha), tt))
-has_packing (a ∷ b ∷ []) (ha, (hb, _)) =
-    let n = 1024 * a + 16 * b in
-    (n / 256 ∷ n % 256 ∷ [], two a b (n / 256) (n % 256) (omega arith), (omega (arith, ha, hb), (omega (arith, ha, hb), tt)))
-has_packing (a ∷ b ∷ c ∷ []) (ha, (hb, (hc, _))) =
-    let n = 262144 * a + 4096 * b + 64 * c in
-    (n / 65536 ∷ n / 256 % 256 ∷ n % 256 ∷ [], three a b c (n / 65536) (n / 256 % 256) (n % 256) (omega arith), (omega (arith, ha, hb, hc), (omega (arith, ha, hb, hc), (omega (arith, ha, hb, hc), tt))))
-has_packing (a ∷ b ∷ c ∷ d ∷ frames) (ha, (hb, (hc, (hd, h)))) =
-    let n = 262144 * a + 4096 * b + 64 * c + d in
-    let more = has_packing frames h in (
-      n / 65536 ∷ n / 256 % 256 ∷ n % 256 ∷ more.0,
-      four a b c d (n / 65536) (n / 256 % 256) (n % 256) frames more.0 (omega arith) more.1,
-      (omega (arith, ha, hb, hc, hd), (omega (arith, ha, hb, hc, hd), (omega (arith, ha, hb, hc, hd), more.2))),
+pub packing_is_given : PackingIsGiven
+packing_is_given [] h = (none, tt)
+packing_is_given (a ∷ []) (ha, _) = (one a (a * 4) (omega arith), (omega (arith, ha), tt))
+packing_is_given (a ∷ b ∷ []) (ha, (hb, _)) = (two a b (a * 4 + b / 16) (b % 16 * 16) (omega arith), (omega (arith, ha, hb), (omega (arith, hb), tt)))
+packing_is_given (a ∷ b ∷ c ∷ []) (ha, (hb, (hc, _))) =
+    (three a b c (a * 4 + b / 16) (b % 16 * 16 + c / 4) (c % 4 * 64) (omega arith), (omega (arith, ha, hb), (omega (arith, hb, hc), (omega (arith, hc), tt))))
+packing_is_given (a ∷ b ∷ c ∷ d ∷ frames) (ha, (hb, (hc, (hd, h)))) =
+    let more = packing_is_given frames h in (
+      four a b c d (a * 4 + b / 16) (b % 16 * 16 + c / 4) (c % 4 * 64 + d) frames (packing_of frames) (omega arith) more.0,
+      (omega (arith, ha, hb), (omega (arith, hb, hc), (omega (arith, hc, hd), more.1))),
     )
+
+pub has_packing : HasPacking
+has_packing frames h = let given = packing_is_given frames h in (packing_of frames, given.0, given.1)
 
 unpacking_by : (frames other bytes : List ℕ) → Packs frames bytes → Packs other bytes → length frames ≡ length other → AreFrames frames → AreFrames other → frames ≡ other
 unpacking_by frames other bytes none none l h k = refl
@@ -142,6 +140,14 @@ packed_are_tapes n bytes is =
     let few = is.few in
     let many = t.many in
     (record { some = omega (arith, some, many); few = omega (arith, few, many); small = t.small }, t.many, t.packs)
+
+-- and it is the packing that is given
+pub packed_are_packing : (frames : ℕ) (bytes : List ℕ) → IsPacked frames bytes → bytes ≡ packing_of (unpacked frames bytes)
+packed_are_packing frames bytes is =
+    let t = packed_are_tapes frames bytes is in
+    let tape : IsTape (unpacked frames bytes) = t.0 in
+    let given = packing_is_given (unpacked frames bytes) tape.small in
+    one_packing (unpacked frames bytes) bytes (packing_of (unpacked frames bytes)) is.small given.1 t.2 given.0
 
 pub one_packed : OnePacked
 one_packed frames others bytes other is are e =

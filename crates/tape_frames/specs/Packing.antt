@@ -33,6 +33,14 @@ frames_in (x ∷ y ∷ z ∷ bytes) = (x / 4) ∷ (x % 4 * 16 + y / 16) ∷ (y %
 abbrev pub unpacked : ℕ → List ℕ → List ℕ
 unpacked frames bytes = take frames (frames_in bytes)
 
+-- the packing of frames, each four of them in three bytes
+abbrev pub packing_of : List ℕ → List ℕ
+packing_of [] = []
+packing_of (a ∷ []) = (a * 4) ∷ []
+packing_of (a ∷ b ∷ []) = (a * 4 + b / 16) ∷ (b % 16 * 16) ∷ []
+packing_of (a ∷ b ∷ c ∷ []) = (a * 4 + b / 16) ∷ (b % 16 * 16 + c / 4) ∷ (c % 4 * 64) ∷ []
+packing_of (a ∷ b ∷ c ∷ d ∷ frames) = (a * 4 + b / 16) ∷ (b % 16 * 16 + c / 4) ∷ (c % 4 * 64 + d) ∷ packing_of frames
+
 -- the bits of the last byte behind the last frame, two for each frame after the last whole group of four
 abbrev pub pad_of : ℕ → List ℕ → ℕ
 pad_of frames bytes = slice_index bytes (length bytes - 1) % 4 ^ (frames % 4)
@@ -66,6 +74,10 @@ PackedLength = (frames bytes : List ℕ) → Packs frames bytes → length bytes
 -- every list of frames has a packing
 abbrev pub HasPacking : Type 0
 HasPacking = (frames : List ℕ) → AreFrames frames → (bytes : List ℕ) × Packs frames bytes × AreBytes bytes
+
+-- and that is its packing
+abbrev pub PackingIsGiven : Type 0
+PackingIsGiven = (frames : List ℕ) → AreFrames frames → Packs frames (packing_of frames) × AreBytes (packing_of frames)
 
 -- what is taken out of a packing is what was packed
 abbrev pub UnpackingUndoes : Type 0

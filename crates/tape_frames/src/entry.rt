@@ -1,9 +1,10 @@
 //! Entries, owned and lent: what stations agree on for a number.
 
-ghost use Rattle.std.specs.Prelude.{◌≡◌, ◌↔◌, IfOk, IsOk, IsTrue};
-ghost use Rattle.protocol.specs.Entries.{entry_fits, Void, Taped};
-ghost use Rattle.protocol.specs.Versions.{One};
-ghost use Rattle.tape_frames.specs.Entries.{version_of, owned_entry, lent_entry};
+ghost use Rattle.std.specs.Prelude.{◌≡◌, ◌↔◌, ◌++◌, length, IfOk, IsOk, IsTrue, OnOk};
+ghost use Rattle.protocol.specs.Entries.{Void, Taped};
+ghost use Rattle.protocol.specs.Versions.{One, fits};
+ghost use Rattle.tape_frames.specs.Entries.{version_of, owned_entry, lent_entry, entry_frames, IsEntry};
+ghost use Rattle.tape_frames.specs.Packing.{packing_of};
 
 use crate::packed::PackedRef;
 use crate::tape::{Tape, TapeRef};
@@ -74,7 +75,7 @@ impl<'a> EntryRef<'a> {
     /// Whether the version has a spelling and a row for it: version 1 for a tape of at most 4,096 frames,
     /// version 2 for each entry. It takes no memory.
     pub fn fits(&self, version: Version) -> bool
-        ensures { result ≡ entry_fits (version_of version) (lent_entry self.now) }
+        ensures { result ≡ fits (version_of version) (lent_entry self.now) }
     {
         match version {
             Version::One => self.fits_one(),
@@ -84,12 +85,48 @@ impl<'a> EntryRef<'a> {
 
     /// Whether version 1 has a spelling and a row for it.
     fn fits_one(&self) -> bool
-        ensures { result ≡ entry_fits One (lent_entry self.now) }
+        ensures { result ≡ fits One (lent_entry self.now) }
     {
         match self {
             EntryRef::Void => false,
             EntryRef::Plain(tape) => fits_one(tape.len()),
             EntryRef::Packed(tape) => fits_one(tape.len()),
+        }
+    }
+
+    /// How many frames it has, none where it is a withdrawal.
+    pub fn len(&self) -> usize
+        ensures len { result ≡ length (entry_frames (lent_entry self.now)) }
+        ensures is_entry { IsEntry (lent_entry self.now) }
+    {
+        match self {
+            EntryRef::Void => 0,
+            EntryRef::Plain(tape) => tape.frames().len(),
+            EntryRef::Packed(tape) => tape.len(),
+        }
+    }
+
+    /// Writes its frames, one a byte, behind what is written; nothing of a withdrawal.
+    /// It takes no memory where there is room for them.
+    pub fn put_plain(&self, out: &mut Vec<u8>) -> Result<(), AllocError>
+        ensures { OnOk result (out.new.items ≡ out.old.items ++ entry_frames (lent_entry self.now)) }
+    {
+        match self {
+            EntryRef::Void => Ok(()),
+            EntryRef::Plain(tape) => out.extend_from_slice(tape.frames()),
+            EntryRef::Packed(tape) => tape.put_plain(out),
+        }
+    }
+
+    /// Writes its frames packed, behind what is written; nothing of a withdrawal. It takes no memory where there is room
+    /// for the [`packed_len`](crate::packed_len) bytes of its length.
+    pub fn put_packed(&self, out: &mut Vec<u8>) -> Result<(), AllocError>
+        ensures { OnOk result (out.new.items ≡ out.old.items ++ packing_of (entry_frames (lent_entry self.now))) }
+    {
+        match self {
+            EntryRef::Void => Ok(()),
+            EntryRef::Plain(tape) => tape.put_packed(out),
+            EntryRef::Packed(tape) => out.extend_from_slice(tape.bytes()),
         }
     }
 

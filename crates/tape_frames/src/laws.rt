@@ -1,11 +1,12 @@
 //! Laws over packings. The functions do nothing: their contracts are the laws.
 
 ghost use Rattle.std.specs.Prelude.{[], ◌∷◌};
-ghost use Rattle.tape_frames.specs.Packing.{OnePacking, OneUnpacking, PackedLength, HasPacking, UnpackingUndoes, TapesArePacked, PackedAreTapes, OnePacked, Packs};
+ghost use Rattle.tape_frames.specs.Packing.{OnePacking, OneUnpacking, PackedLength, HasPacking, PackingIsGiven, UnpackingUndoes, TapesArePacked, PackedAreTapes, OnePacked, Packs};
 
 /// Frames have a packing, only one, and of a known length.
 pub fn packing()
     ensures some { HasPacking }
+    ensures given { PackingIsGiven }
     ensures one { OnePacking }
     ensures lengths { PackedLength }
 {}

@@ -1,8 +1,8 @@
 //! Packed tapes: six bits a frame.
 
-ghost use Rattle.std.specs.Prelude.{◌≡◌, ◌≤◌, ◌↔◌, length, slice_get, IsSome, IfSome, IfOk, IsTrue};
+ghost use Rattle.std.specs.Prelude.{◌≡◌, ◌≤◌, ◌↔◌, ◌++◌, length, slice_get, IsSome, IfSome, IfOk, OnOk, IsTrue};
 ghost use Rattle.tape_frames.specs.Frames.{IsTape};
-ghost use Rattle.tape_frames.specs.Packing.{Packs, IsWhole, IsPacked, packed_len, pad_of, unpacked};
+ghost use Rattle.tape_frames.specs.Packing.{Packs, IsWhole, IsPacked, packed_len, packing_of, pad_of, unpacked};
 
 use crate::tape::{MAX_FRAMES, Tape};
 use crate::unpacking::frames_of;
@@ -109,6 +109,7 @@ impl<'a> PackedRef<'a> {
         ensures packed { IsPacked (length self.now) result.now }
         ensures unpacked { unpacked (length self.now) result.now ≡ self.now }
         ensures packs { Packs self.now result.now }
+        ensures exact { result.now ≡ packing_of self.now }
     {
         self.bytes
     }
@@ -143,6 +144,18 @@ impl<'a> PackedRef<'a> {
             }
         }
         true
+    }
+
+    /// Writes its frames, one a byte, behind what is written. It takes no memory where there is room for them.
+    pub(crate) fn put_plain(&self, out: &mut Vec<u8>) -> Result<(), AllocError>
+        ensures { OnOk result (out.new.items ≡ out.old.items ++ self.now) }
+    {
+        for i in 0..self.len() {
+            if let Some(frame) = self.frame(i) {
+                out.push(frame)?;
+            }
+        }
+        Ok(())
     }
 
     /// The tape with frames of its own, one a byte. Its memory is asked for once.

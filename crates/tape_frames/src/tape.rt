@@ -10,7 +10,7 @@ use std::alloc::{AllocError, Global};
 use std::marker::Model;
 
 /// The most frames that a tape has.
-pub const MAX_FRAMES: usize = 4096;
+pub const MAX_FRAMES: usize = 16_384;
 
 /// A tape that owns its frames: 1 to [`MAX_FRAMES`] of them, each below 64. Clauses see the list of its frames.
 #[derive(Drop)]

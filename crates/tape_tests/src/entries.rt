@@ -1,6 +1,6 @@
 //! Entries: withdrawals and tapes, packed or not.
 
-use fixtures::{FLOOD, HARVEST, LONGEST};
+use fixtures::{FLOOD, HARVEST, LONGEST, LONGEST_ONE};
 use std::alloc::Global;
 use tape_frames::{EntryRef, PackedRef, TapeRef, Version};
 
@@ -22,6 +22,8 @@ const ALIKE: &[(Form, Form)] = &[
     ),
     (Form::Plain(&[63, 63]), Form::Packed(2, &[0xff, 0xf0])),
     (Form::Packed(1, &[0x04]), Form::Packed(1, &[0x04])),
+    // frames with all holes set each bit
+    (Form::Plain(LONGEST), Form::Packed(16_384, &[255; 12_288])),
 ];
 
 // Entries that are not: three frames and the same three with an empty one behind them take the same bytes.
@@ -37,14 +39,20 @@ const OTHERS: &[(Form, Form)] = &[
         Form::Packed(4, &[0x04, 0x20, 0xc0]),
     ),
     (Form::Packed(1, &[0x04]), Form::Packed(1, &[0x08])),
+    (Form::Plain(LONGEST), Form::Plain(LONGEST_ONE)),
 ];
 
 // Entries, and whether version 1 has a spelling for them. Version 2 has one for each.
 const FITS: &[(Form, bool)] = &[
     (Form::Void, false),
     (Form::Plain(&[1]), true),
-    (Form::Plain(LONGEST), true),
+    (Form::Plain(LONGEST_ONE), true),
+    (Form::Plain(&[63; 4097]), false),
+    (Form::Plain(LONGEST), false),
     (Form::Packed(1, &[0x04]), true),
+    (Form::Packed(4096, &[255; 3072]), true),
+    (Form::Packed(4097, &[0; 3073]), false),
+    (Form::Packed(16_384, &[255; 12_288]), false),
 ];
 
 fn plain(frames: &[u8]) -> Option<EntryRef<'_>> {
@@ -128,5 +136,62 @@ fn copied(rt: HostRuntime) {
 fn fitting(rt: HostRuntime) {
     for (form, at_one) in FITS {
         assert!(rt; fits(*form, *at_one));
+    }
+}
+
+// Entries, their frames, and their frames packed.
+const FRAMES: &[(Form, &[u8], &[u8])] = &[
+    (Form::Void, &[], &[]),
+    (Form::Plain(&[1, 2, 3]), &[1, 2, 3], &[0x04, 0x20, 0xc0]),
+    (
+        Form::Packed(3, &[0x04, 0x20, 0xc0]),
+        &[1, 2, 3],
+        &[0x04, 0x20, 0xc0],
+    ),
+    (Form::Plain(LONGEST), LONGEST, &[255; 12_288]),
+    (
+        Form::Packed(16_384, &[255; 12_288]),
+        LONGEST,
+        &[255; 12_288],
+    ),
+];
+
+// Whether the entry writes its frames so: packed, and behind them plain.
+fn puts(alloc: Global, entry: &EntryRef<'_>, frames: &[u8], packed: &[u8]) -> bool {
+    let mut out = Vec::new(alloc);
+    let is_put = entry.put_packed(&mut out).is_ok() && entry.put_plain(&mut out).is_ok();
+    is_put
+        && out.len() == packed.len() + frames.len()
+        && out.starts_with(packed)
+        && out.ends_with(frames)
+}
+
+// How many frames it has.
+fn len_of(form: Form) -> Option<usize> {
+    match entry_of(form) {
+        Some(entry) => Some(entry.len()),
+        None => None,
+    }
+}
+
+#[test]
+fn lengths(rt: HostRuntime) {
+    for (form, frames, _) in FRAMES {
+        assert!(rt; len_of(*form) == Some(frames.len()));
+    }
+}
+
+// Whether the entry of the form writes these.
+fn puts_frames(alloc: Global, form: Form, frames: &[u8], packed: &[u8]) -> bool {
+    match entry_of(form) {
+        Some(entry) => puts(alloc, &entry, frames, packed),
+        None => false,
+    }
+}
+
+#[test]
+fn written(rt: HostRuntime) {
+    for (form, frames, packed) in FRAMES {
+        assert!(rt; puts_frames(rt.alloc(), *form, frames, packed));
     }
 }

@@ -1,10 +1,13 @@
 //! The first fault of bytes that are no packet. Where two faults stand, the one that comes first in the order is answered.
 
 use crate::samples::{
-    ACCEPT, ACCEPTED, LONG_REPORT, NACK, PREPARE, PROMISE, REPORT, SHORT_REPORT, fails, long_packet,
+    ACCEPT, ACCEPT_TWO, ACCEPT_VOID, ACCEPTED, ACCEPTED_TWO, ACCEPTED_VOID, LONG_REPORT, NACK,
+    PREPARE, PREPARE_TWO, PROMISE, REPORT, REPORT_TWO, REPORT_VOID, SHORT_REPORT, fails,
+    long_packet,
 };
 use packets::PacketFault;
 use std::alloc::Global;
+use tape_frames::Version;
 
 // A packet, what is changed of it, the bytes behind it, and the fault.
 type Row = (
@@ -14,17 +17,18 @@ type Row = (
     Option<PacketFault>,
 );
 
+// Packets of version 1, which a station of either version reads alike.
 const ROWS: &[Row] = &[
     (
         PREPARE,
-        &[(0, 0x55), (2, 2)],
+        &[(0, 0x55), (2, 3)],
         &[],
         Some(PacketFault::BadMark),
     ),
     (PREPARE, &[(1, 0x4d)], &[], Some(PacketFault::BadMark)),
     (
         PREPARE,
-        &[(2, 2), (3, 0)],
+        &[(2, 3), (3, 0)],
         &[],
         Some(PacketFault::BadVersion),
     ),
@@ -138,16 +142,125 @@ const ROWS: &[Row] = &[
     (NACK, &[(21, 16)], &[0], Some(PacketFault::BadReport)),
 ];
 
+// Whether a station of either version finds this fault first.
+fn fails_at_both(
+    alloc: Global,
+    bytes: &[u8],
+    changes: &[(usize, u8)],
+    more: &[u8],
+    fault: Option<PacketFault>,
+) -> bool {
+    fails(alloc, Version::One, bytes, changes, more, fault)
+        && fails(alloc, Version::Two, bytes, changes, more, fault)
+}
+
 #[test]
 fn first_faults(rt: HostRuntime) {
     for (bytes, changes, more, fault) in ROWS {
-        assert!(rt; fails(rt.alloc(), bytes, changes, more, *fault));
+        assert!(rt; fails_at_both(rt.alloc(), bytes, changes, more, *fault));
+    }
+}
+
+// Packets of version 2, as a station of version 2 reads them. A station of version 1 reads none.
+const ROWS_TWO: &[Row] = &[
+    (PREPARE_TWO, &[(3, 0)], &[], Some(PacketFault::BadKind)),
+    (PREPARE_TWO, &[], &[0], Some(PacketFault::Long)),
+    // a pad bit of the third byte is set, the lowest and the highest; above it are the last two bits of a frame
+    (ACCEPT_TWO, &[(21, 0x01)], &[], Some(PacketFault::BadPad)),
+    (ACCEPT_TWO, &[(21, 0x20)], &[], Some(PacketFault::BadPad)),
+    (ACCEPT_TWO, &[(21, 0x40)], &[], None),
+    (ACCEPT_TWO, &[(21, 0x01)], &[0], Some(PacketFault::BadPad)),
+    (ACCEPT_TWO, &[], &[0], Some(PacketFault::Long)),
+    // one frame leaves two pad bits, two frames four, four frames none
+    (ACCEPT_TWO, &[(18, 1)], &[], Some(PacketFault::Long)),
+    (
+        ACCEPT_TWO,
+        &[(18, 1), (19, 0x02)],
+        &[],
+        Some(PacketFault::BadPad),
+    ),
+    (ACCEPT_TWO, &[(18, 2)], &[], Some(PacketFault::BadPad)),
+    (
+        ACCEPT_TWO,
+        &[(18, 2), (20, 0x20)],
+        &[],
+        Some(PacketFault::Long),
+    ),
+    (ACCEPT_TWO, &[(18, 4), (21, 0xff)], &[], None),
+    (ACCEPT_TWO, &[(18, 5)], &[], Some(PacketFault::Short)),
+    // a withdrawal has no frames behind it
+    (ACCEPT_TWO, &[(18, 0)], &[], Some(PacketFault::Long)),
+    (ACCEPT_VOID, &[(18, 1)], &[], Some(PacketFault::Short)),
+    (ACCEPT_VOID, &[], &[0], Some(PacketFault::Long)),
+    // 16,385 frames, of which three are there, or none
+    (
+        ACCEPT_TWO,
+        &[(17, 0x40), (18, 1)],
+        &[],
+        Some(PacketFault::BadFrames),
+    ),
+    (
+        ACCEPT_VOID,
+        &[(17, 0x40), (18, 1)],
+        &[],
+        Some(PacketFault::BadFrames),
+    ),
+    (
+        ACCEPTED_TWO,
+        &[(17, 0xff), (18, 0xff)],
+        &[],
+        Some(PacketFault::BadFrames),
+    ),
+    (ACCEPTED_TWO, &[(21, 0x01)], &[], Some(PacketFault::BadPad)),
+    (ACCEPTED_VOID, &[], &[0], Some(PacketFault::Long)),
+    // the ballot of a report comes before its entry
+    (
+        REPORT_TWO,
+        &[(22, 3), (27, 1)],
+        &[],
+        Some(PacketFault::BadReport),
+    ),
+    (REPORT_TWO, &[(27, 0x01)], &[], Some(PacketFault::BadPad)),
+    (REPORT_TWO, &[(24, 0)], &[], Some(PacketFault::Long)),
+    (
+        REPORT_TWO,
+        &[(23, 0x40), (24, 1)],
+        &[],
+        Some(PacketFault::BadFrames),
+    ),
+    (REPORT_VOID, &[(22, 3)], &[], Some(PacketFault::BadReport)),
+    (REPORT_VOID, &[(24, 1)], &[], Some(PacketFault::Short)),
+];
+
+// Whether a station of version 2 finds this fault first, and one of version 1 that they are of another version.
+fn fails_at_two(
+    alloc: Global,
+    bytes: &[u8],
+    changes: &[(usize, u8)],
+    more: &[u8],
+    fault: Option<PacketFault>,
+) -> bool {
+    fails(alloc, Version::Two, bytes, changes, more, fault)
+        && fails(
+            alloc,
+            Version::One,
+            bytes,
+            changes,
+            more,
+            Some(PacketFault::BadVersion),
+        )
+}
+
+#[test]
+fn first_faults_of_version_two(rt: HostRuntime) {
+    for (bytes, changes, more, fault) in ROWS_TWO {
+        assert!(rt; fails_at_two(rt.alloc(), bytes, changes, more, *fault));
     }
 }
 
 fn long_fails(alloc: Global, frames: usize, changes: &[(usize, u8)], fault: PacketFault) -> bool {
     match long_packet(alloc, LONG_REPORT, frames) {
-        Some(bytes) => fails(alloc, &bytes, changes, &[], Some(fault)),
+        Some(bytes) => fails_at_both(alloc, &bytes, changes, &[], Some(fault)),
         None => false,
     }
 }

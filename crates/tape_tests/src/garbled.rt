@@ -1,10 +1,11 @@
 //! Datagrams that were changed on their way. What a plain reading of the fields, one after another, says of each.
 
-use crate::samples::{ALL, changed, fault_of};
+use crate::samples::{ALL, ALL_TWO, changed, fault_of};
 use crate::spellings::is_one;
 use fixtures::Dice;
 use packets::PacketFault;
 use std::alloc::Global;
+use tape_frames::Version;
 
 /// A ballot: its round and its owner.
 type At = (u32, u8);
@@ -34,8 +35,8 @@ fn end_fault(rest: &[u8]) -> Option<PacketFault> {
     }
 }
 
-/// Frames of which so many have to be there, and nothing behind them.
-fn counted_fault(count: usize, rest: &[u8]) -> Option<PacketFault> {
+/// Frames, one a byte, of which so many have to be there, and nothing behind them.
+fn plain_frames_fault(count: usize, rest: &[u8]) -> Option<PacketFault> {
     if count < 1 || count > 4096 {
         return Some(PacketFault::BadFrames);
     }
@@ -49,21 +50,57 @@ fn counted_fault(count: usize, rest: &[u8]) -> Option<PacketFault> {
     end_fault(rest)
 }
 
-fn tape_fault(body: &[u8]) -> Option<PacketFault> {
+/// Whether so many frames of six bits leave a bit of these bytes that is set.
+fn leaves_a_bit(count: usize, packed: &[u8]) -> bool {
+    match packed.last() {
+        None => false,
+        Some(last) => match count % 4 {
+            1 => *last % 4 != 0,
+            2 => *last % 16 != 0,
+            3 => *last % 64 != 0,
+            _ => false,
+        },
+    }
+}
+
+/// Frames of six bits, of which so many have to be there, and nothing behind them.
+fn packed_frames_fault(count: usize, rest: &[u8]) -> Option<PacketFault> {
+    if count > 16_384 {
+        return Some(PacketFault::BadFrames);
+    }
+    let len = (6 * count + 7) / 8;
+    if rest.len() < len {
+        return Some(PacketFault::Short);
+    }
+    let (packed, rest) = rest.split_at(len);
+    if leaves_a_bit(count, packed) {
+        return Some(PacketFault::BadPad);
+    }
+    end_fault(rest)
+}
+
+/// The frames of so many, as the version spells them.
+fn counted_fault(version: Version, high: u8, low: u8, rest: &[u8]) -> Option<PacketFault> {
+    let count = 256 * usize::from(high) + usize::from(low);
+    match version {
+        Version::One => plain_frames_fault(count, rest),
+        Version::Two => packed_frames_fault(count, rest),
+    }
+}
+
+fn entry_fault(version: Version, body: &[u8]) -> Option<PacketFault> {
     match body {
-        [high, low, rest @ ..] => {
-            counted_fault(256 * usize::from(*high) + usize::from(*low), rest)
-        }
+        [high, low, rest @ ..] => counted_fault(version, *high, *low, rest),
         _ => Some(PacketFault::Short),
     }
 }
 
-fn vote_fault(ballot: At, vote: &[u8]) -> Option<PacketFault> {
+fn vote_fault(version: Version, ballot: At, vote: &[u8]) -> Option<PacketFault> {
     match vote {
         [a, b, c, d, owner, high, low, rest @ ..] => {
             let voted = (number_of([*a, *b, *c, *d]), *owner);
             if is_ballot(voted) && is_below(voted, ballot) {
-                counted_fault(256 * usize::from(*high) + usize::from(*low), rest)
+                counted_fault(version, *high, *low, rest)
             } else {
                 Some(PacketFault::BadReport)
             }
@@ -86,20 +123,21 @@ fn nack_fault(ballot: At, body: &[u8]) -> Option<PacketFault> {
     }
 }
 
-fn body_fault(kind: u8, ballot: At, body: &[u8]) -> Option<PacketFault> {
+fn body_fault(version: Version, kind: u8, ballot: At, body: &[u8]) -> Option<PacketFault> {
     match (kind, body) {
         (1, _) => end_fault(body),
         (2, []) => Some(PacketFault::Short),
         (2, [0, rest @ ..]) => end_fault(rest),
-        (2, [1, vote @ ..]) => vote_fault(ballot, vote),
+        (2, [1, vote @ ..]) => vote_fault(version, ballot, vote),
         (2, _) => Some(PacketFault::BadReport),
         (5, _) => nack_fault(ballot, body),
-        _ => tape_fault(body),
+        _ => entry_fault(version, body),
     }
 }
 
 /// The first fault of the fields that a header has behind its mark, its version and its kind, and of the body.
 fn field_fault(
+    version: Version,
     kind: u8,
     ends: (u8, u8),
     number: u32,
@@ -124,16 +162,25 @@ fn field_fault(
     if ballot.1 != sender {
         return Some(PacketFault::BadSender);
     }
-    body_fault(kind, ballot, body)
+    body_fault(version, kind, ballot, body)
 }
 
-/// The first fault of the bytes.
-fn plain_fault(bytes: &[u8]) -> Option<PacketFault> {
+/// The version of this number, where a station of the version reads it.
+fn read_version(version: Version, number: u8) -> Option<Version> {
+    match (version, number) {
+        (_, 1) => Some(Version::One),
+        (Version::Two, 2) => Some(Version::Two),
+        _ => None,
+    }
+}
+
+/// The first fault of the bytes, as a station of this version reads them.
+fn plain_fault(version: Version, bytes: &[u8]) -> Option<PacketFault> {
     match bytes {
         [
             mark,
             more,
-            version,
+            said,
             kind,
             _,
             _,
@@ -153,15 +200,15 @@ fn plain_fault(bytes: &[u8]) -> Option<PacketFault> {
             if *mark != 0x54 || *more != 0x4e {
                 return Some(PacketFault::BadMark);
             }
-            if *version != 1 {
+            let Some(spelled) = read_version(version, *said) else {
                 return Some(PacketFault::BadVersion);
-            }
+            };
             if *kind < 1 || *kind > 5 {
                 return Some(PacketFault::BadKind);
             }
             let number = number_of([*a, *b, *c, *d]);
             let ballot = (number_of([*e, *f, *g, *h]), *owner);
-            field_fault(*kind, (*from, *to), number, ballot, body)
+            field_fault(spelled, *kind, (*from, *to), number, ballot, body)
         }
         _ => Some(PacketFault::Short),
     }
@@ -179,9 +226,18 @@ fn change(dice: &mut Dice, len: usize) -> (usize, u8) {
     }
 }
 
+/// One of the packets of either version.
+fn packet(dice: &mut Dice) -> Option<&'static [u8]> {
+    let packet = match dice.throw(2) {
+        0 => ALL.get(dice.throw(7) as usize)?,
+        _ => ALL_TWO.get(dice.throw(9) as usize)?,
+    };
+    Some(*packet)
+}
+
 /// One of the packets with up to three bytes changed, and now and then with one more behind it or with a few left out.
 fn datagram(alloc: Global, dice: &mut Dice) -> Option<Vec<u8>> {
-    let bytes = ALL.get(dice.throw(7) as usize)?;
+    let bytes = packet(dice)?;
     let changes = [
         change(dice, bytes.len()),
         change(dice, bytes.len()),
@@ -198,20 +254,27 @@ fn datagram(alloc: Global, dice: &mut Dice) -> Option<Vec<u8>> {
 
 const SEED: u64 = 1961;
 
-const CASES: u32 = 4000;
+const CASES: u32 = 6000;
 
-/// Whether the bytes have the fault that the plain reading finds, and are the spelling of the packet that they are, if any.
-pub fn is_read(alloc: Global, bytes: &[u8]) -> bool {
-    fault_of(bytes) == plain_fault(bytes) && is_one(alloc, bytes)
+/// Whether a station of this version finds the fault that the plain reading finds, and the bytes are the spelling of the
+/// packet that they are, if any.
+pub fn is_read(alloc: Global, version: Version, bytes: &[u8]) -> bool {
+    fault_of(version, bytes) == plain_fault(version, bytes) && is_one(alloc, version, bytes)
 }
 
-/// How many datagrams are read as they have to be, up to the first that isn't, and how many of them are packets.
+/// Whether stations of both versions read the bytes so.
+fn is_read_by_both(alloc: Global, bytes: &[u8]) -> bool {
+    is_read(alloc, Version::One, bytes) && is_read(alloc, Version::Two, bytes)
+}
+
+/// How many datagrams are read as they have to be, up to the first that isn't, and how many of them are packets to a
+/// station of version 2.
 fn read(alloc: Global, dice: &mut Dice) -> (u32, u32) {
     let mut packets = 0u32;
     for case in 0..CASES {
         match datagram(alloc, dice) {
-            Some(bytes) if is_read(alloc, &bytes) => {
-                if fault_of(&bytes).is_none() {
+            Some(bytes) if is_read_by_both(alloc, &bytes) => {
+                if fault_of(Version::Two, &bytes).is_none() {
                     packets = packets.saturating_add(1);
                 }
             }
@@ -227,7 +290,7 @@ fn changed_bytes(rt: HostRuntime) {
     assert!(rt; cases == CASES, "seed {SEED}, case {cases}");
     // some of either kind, or there is nothing to be seen
     assert!(rt;
-        packets > 1000 && packets < 3000,
+        packets > 1500 && packets < 4500,
         "seed {SEED}: {packets} packets"
     );
 }

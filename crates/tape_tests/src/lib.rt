@@ -19,3 +19,5 @@ mod sent;
 mod spellings;
 #[cfg(test)]
 mod tapes;
+#[cfg(test)]
+mod version_two;

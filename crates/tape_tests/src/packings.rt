@@ -57,7 +57,10 @@ fn are_frames(packed: &PackedRef<'_>, frames: &[u8]) -> bool {
     packed.len() == frames.len() && packed.frame(frames.len()).is_none()
 }
 
-fn unpacks(length: u16, frames: &[u8], bytes: &[u8]) -> bool {
+fn unpacks(frames: &[u8], bytes: &[u8]) -> bool {
+    let Ok(length) = u16::try_from(frames.len()) else {
+        return false;
+    };
     match PackedRef::new(length, bytes) {
         Some(packed) => are_frames(&packed, frames),
         None => false,
@@ -65,10 +68,7 @@ fn unpacks(length: u16, frames: &[u8], bytes: &[u8]) -> bool {
 }
 
 fn goes_both_ways(alloc: Global, frames: &[u8], bytes: &[u8]) -> bool {
-    match u16::try_from(frames.len()) {
-        Ok(length) => packs(alloc, frames, bytes) && unpacks(length, frames, bytes),
-        Err(_) => false,
-    }
+    packs(alloc, frames, bytes) && unpacks(frames, bytes)
 }
 
 fn is_packed(length: u16, bytes: &[u8]) -> bool {
@@ -84,16 +84,24 @@ fn zeros_are_packed(alloc: Global, length: u16, bytes: usize) -> Option<bool> {
 
 // Whether the most frames, of which each has all holes, are packed in bytes of which each bit is set, and unpacked again.
 fn longest_goes_both_ways(alloc: Global) -> Option<bool> {
-    match (vec![in alloc; 63u8; 4096], vec![in alloc; 255u8; 3072]) {
+    match (vec![in alloc; 63u8; 16_384], vec![in alloc; 255u8; 12_288]) {
         (Ok(frames), Ok(bytes)) => Some(goes_both_ways(alloc, &frames, &bytes)),
         _ => None,
     }
 }
 
 #[test]
-fn both_ways(rt: HostRuntime) {
+fn packed(rt: HostRuntime) {
     for (frames, bytes) in PACKINGS {
-        assert!(rt; goes_both_ways(rt.alloc(), frames, bytes));
+        assert!(rt; packs(rt.alloc(), frames, bytes));
+    }
+}
+
+// Which takes no memory.
+#[test]
+fn unpacked(rt: HostRuntime) {
+    for (frames, bytes) in PACKINGS {
+        assert!(rt; unpacks(frames, bytes));
     }
 }
 
@@ -106,8 +114,8 @@ const LENGTHS: &[(u16, usize)] = &[
     (4, 3),
     (5, 4),
     (4096, 3072),
-    (16384, 12288),
-    (65535, 49152),
+    (16_384, 12_288),
+    (65_535, 49_152),
 ];
 
 #[test]
@@ -124,10 +132,21 @@ fn no_packed_tapes(rt: HostRuntime) {
     }
 }
 
-// 4,096 frames and one more, each in their number of bytes.
+// So many frames, the number of bytes that they are packed in, and whether a tape has so many.
+const MOST: &[(u16, usize, bool)] = &[
+    (4097, 3073, true),
+    (16_384, 12_288, true),
+    (16_385, 12_289, false),
+    (65_535, 49_152, false),
+];
+
 #[test]
 fn most_frames(rt: HostRuntime) {
-    assert!(rt; zeros_are_packed(rt.alloc(), 4096, 3072) == Some(true));
-    assert!(rt; zeros_are_packed(rt.alloc(), 4097, 3073) == Some(false));
+    for (frames, bytes, is_tape) in MOST {
+        assert!(rt;
+            zeros_are_packed(rt.alloc(), *frames, *bytes) == Some(*is_tape),
+            "{frames}"
+        );
+    }
     assert!(rt; longest_goes_both_ways(rt.alloc()) == Some(true));
 }

@@ -2,7 +2,7 @@
 
 use ballots::{Ballot, Member, Number, VoteRef};
 use packets::{BodyRef, PacketRef};
-use tape_frames::TapeRef;
+use tape_frames::{EntryRef, TapeRef};
 
 #[derive(Clone, Copy)]
 enum Says {
@@ -32,15 +32,15 @@ fn ballot(round: u32, owner: u8) -> Option<Ballot> {
     Ballot::new(round, Member::new(owner)?)
 }
 
-fn of_tape(says: Says, own: Ballot, above: Ballot, tape: TapeRef<'_>) -> BodyRef<'_> {
+fn of_entry(says: Says, own: Ballot, above: Ballot, entry: EntryRef<'_>) -> BodyRef<'_> {
     match says {
         Says::Prepare => BodyRef::Prepare,
         Says::Promise => BodyRef::Promise { report: None },
         Says::Report => BodyRef::Promise {
-            report: Some(VoteRef::new(own, tape)),
+            report: Some(VoteRef::new(own, entry)),
         },
-        Says::Accept => BodyRef::Accept { tape },
-        Says::Accepted => BodyRef::Accepted { tape },
+        Says::Accept => BodyRef::Accept { entry },
+        Says::Accepted => BodyRef::Accepted { entry },
         Says::NackAbove => BodyRef::Nack { promised: above },
         Says::NackOwn => BodyRef::Nack { promised: own },
     }
@@ -49,7 +49,7 @@ fn of_tape(says: Says, own: Ballot, above: Ballot, tape: TapeRef<'_>) -> BodyRef
 fn body(says: Says) -> Option<BodyRef<'static>> {
     let (own, above) = (ballot(1, 1)?, ballot(1, 2)?);
     match TapeRef::from_bytes(TAPE) {
-        Ok(tape) => Some(of_tape(says, own, above, tape)),
+        Ok(tape) => Some(of_entry(says, own, above, EntryRef::Plain(tape))),
         Err(_) => None,
     }
 }

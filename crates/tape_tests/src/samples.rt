@@ -2,6 +2,7 @@
 
 use packets::{PacketFault, decode};
 use std::alloc::Global;
+use tape_frames::{EntryRef, TapeRef, Version};
 
 /// 1 asks 2 for a promise at 1.1.
 pub const PREPARE: &[u8] = &[0x54, 0x4e, 1, 1, 0, 7, 1, 2, 0, 0, 0, 12, 0, 0, 0, 1, 1];
@@ -51,7 +52,7 @@ pub const NACK: &[u8] = &[
     0x54, 0x4e, 1, 5, 0, 7, 2, 1, 0, 0, 0, 12, 0, 0, 0, 1, 1, 0, 0, 0, 1, 3,
 ];
 
-/// All of them.
+/// All of version 1.
 pub const ALL: &[&[u8]] = &[
     PREPARE,
     PROMISE,
@@ -62,9 +63,79 @@ pub const ALL: &[&[u8]] = &[
     NACK,
 ];
 
-/// The first fault of the bytes; `None` where they are a packet.
-pub fn fault_of(bytes: &[u8]) -> Option<PacketFault> {
-    decode(bytes).err()
+/// The same in version 2. The frames 1 2 4 are packed to 04 21 00, six bits each and six zero bits behind them.
+pub const PREPARE_TWO: &[u8] = &[0x54, 0x4e, 2, 1, 0, 7, 1, 2, 0, 0, 0, 12, 0, 0, 0, 1, 1];
+
+pub const PROMISE_TWO: &[u8] = &[0x54, 0x4e, 2, 2, 0, 7, 2, 1, 0, 0, 0, 12, 0, 0, 0, 1, 1, 0];
+
+pub const ACCEPT_TWO: &[u8] = &[
+    0x54, 0x4e, 2, 3, 0, 7, 1, 2, 0, 0, 0, 12, 0, 0, 0, 1, 1, 0, 3, 0x04, 0x21, 0x00,
+];
+
+pub const ACCEPTED_TWO: &[u8] = &[
+    0x54, 0x4e, 2, 4, 0, 7, 2, 1, 0, 0, 0, 12, 0, 0, 0, 1, 1, 0, 3, 0x04, 0x21, 0x00,
+];
+
+pub const REPORT_TWO: &[u8] = &[
+    0x54, 0x4e, 2, 2, 0, 7, 2, 3, 0, 0, 0, 12, 0, 0, 0, 1, 3, 1, 0, 0, 0, 1, 1, 0, 3, 0x04, 0x21,
+    0x00,
+];
+
+pub const NACK_TWO: &[u8] = &[
+    0x54, 0x4e, 2, 5, 0, 7, 2, 1, 0, 0, 0, 12, 0, 0, 0, 1, 1, 0, 0, 0, 1, 3,
+];
+
+/// 1 asks 2 to vote for a withdrawal at 1.1, 2 tells 1 of that vote, and reports it to 3 at 1.3.
+pub const ACCEPT_VOID: &[u8] = &[
+    0x54, 0x4e, 2, 3, 0, 7, 1, 2, 0, 0, 0, 12, 0, 0, 0, 1, 1, 0, 0,
+];
+
+pub const ACCEPTED_VOID: &[u8] = &[
+    0x54, 0x4e, 2, 4, 0, 7, 2, 1, 0, 0, 0, 12, 0, 0, 0, 1, 1, 0, 0,
+];
+
+pub const REPORT_VOID: &[u8] = &[
+    0x54, 0x4e, 2, 2, 0, 7, 2, 3, 0, 0, 0, 12, 0, 0, 0, 1, 3, 1, 0, 0, 0, 1, 1, 0, 0,
+];
+
+/// All of version 2.
+pub const ALL_TWO: &[&[u8]] = &[
+    PREPARE_TWO,
+    PROMISE_TWO,
+    ACCEPT_TWO,
+    ACCEPTED_TWO,
+    REPORT_TWO,
+    NACK_TWO,
+    ACCEPT_VOID,
+    ACCEPTED_VOID,
+    REPORT_VOID,
+];
+
+/// The frames of a tape; `None` where the number is withdrawn.
+pub type Agreed<'a> = Option<&'a [u8]>;
+
+/// The entry, its frames lent.
+pub fn lent(agreed: Agreed<'_>) -> Option<EntryRef<'_>> {
+    match agreed {
+        None => Some(EntryRef::Void),
+        Some(frames) => match TapeRef::from_bytes(frames) {
+            Ok(tape) => Some(EntryRef::Plain(tape)),
+            Err(_) => None,
+        },
+    }
+}
+
+/// Whether the entry is this one.
+pub fn is_entry(entry: &EntryRef<'_>, agreed: Agreed<'_>) -> bool {
+    match lent(agreed) {
+        Some(other) => entry.same(other),
+        None => false,
+    }
+}
+
+/// The first fault of the bytes, as a station of this version reads them; `None` where they are a packet.
+pub fn fault_of(version: Version, bytes: &[u8]) -> Option<PacketFault> {
+    decode(bytes, version).err()
 }
 
 fn change(bytes: &mut Vec<u8>, changes: &[(usize, u8)]) {
@@ -93,13 +164,14 @@ pub fn changed(
 /// Whether the bytes, changed so and with these behind them, have this fault first.
 pub fn fails(
     alloc: Global,
+    version: Version,
     bytes: &[u8],
     changes: &[(usize, u8)],
     more: &[u8],
     fault: Option<PacketFault>,
 ) -> bool {
     match changed(alloc, bytes, changes, more) {
-        Some(other) => fault_of(&other) == fault,
+        Some(other) => fault_of(version, &other) == fault,
         None => false,
     }
 }

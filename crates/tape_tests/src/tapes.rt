@@ -59,7 +59,7 @@ fn wrong_fault(alloc: Global) -> u32 {
     if fault_of(alloc, &[1, 0x40]) != Some(TapeFault::BadFrame { at: 1 }) {
         return 2;
     }
-    if fault_of_zeros(alloc, 4097) != Some(TapeFault::TooLong { len: 4097 }) {
+    if fault_of_zeros(alloc, 16_385) != Some(TapeFault::TooLong { len: 16_385 }) {
         return 3;
     }
     0
@@ -74,7 +74,7 @@ fn faults(rt: HostRuntime) {
 #[test]
 fn copied(rt: HostRuntime) {
     assert!(rt; is_kept(rt.alloc(), &[1]));
-    assert!(rt; are_kept(rt.alloc(), 4096));
+    assert!(rt; are_kept(rt.alloc(), 16_384));
 }
 
 fn has_holes(frame: u8, row: &[u8]) -> bool {

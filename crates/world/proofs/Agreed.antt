@@ -5,7 +5,7 @@ use Rattle.packets.specs.declared.fault.PacketFault.{PacketFault}
 use Rattle.code_table.specs.Tables.{mean}
 use Rattle.line_check.specs.declared.slug.Slug.{Slug}
 use Rattle.line_check.specs.declared.fault.SetFault.{SetFault}
-use Rattle.line_check.specs.Sets.{Sets}
+use Rattle.station.specs.Readiness.{SetsEntry}
 use Rattle.world.specs.Laws.{StationsAgree}
 
 pub agreed : HistoriesAgree PacketFault (List Slug) SetFault → StationsAgree
@@ -14,5 +14,5 @@ agreed histories tables files z is_set_up w h =
     record {
       one = a.one;
       offered = a.offered;
-      set = λ x i. let P : Result (List Slug) SetFault → Type 0 = λ r. Sets (mean (tables x.member)) (files x.member) x.tape r in subst P (sym (a.set x i)) (is_set_up.sets x.member x.tape);
+      set = λ x i. let P : Result (List Slug) SetFault → Type 0 = λ r. SetsEntry (mean (tables x.member)) (files x.member) x.entry r in subst P (sym (a.set x i)) (is_set_up.sets x.member x.entry);
     }

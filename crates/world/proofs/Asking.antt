@@ -3,6 +3,8 @@ use Rattle.std.proofs.Common.{◌≡◌, ℕ, zero, suc, ◌-◌, ◌+◌, ◌<�
 use Rattle.std.specs.Prelude.{Result, Ok, Err, IsSome, slice_get, slice_set, ◌==◌, option_map, is_some, if◌then◌else◌}
 use Rattle.std.proofs.lemmas.Bool.{eqb-true}
 use Rattle.std.proofs.lemmas.Option.{slice_get-get_or}
+use Rattle.protocol.specs.Entries.{Entry, Void, Taped}
+use Rattle.protocol.specs.Versions.{Version}
 use Rattle.protocol.specs.Marks.{Mark}
 use Rattle.protocol.specs.Refusals.{Call, Offering, Seeking, Falling_due, Receiving}
 use Rattle.protocol.specs.Circuit as circuit
@@ -18,10 +20,10 @@ use Rattle.node_core.specs.Standing.{StandsFor as CoreStandsFor}
 use Rattle.station.specs.declared.station.Station.{Station}
 use Rattle.station.specs.declared.answer.Answer.{Answer}
 use Rattle.station.specs.declared.answer.Release.{Release}
-use Rattle.station.specs.declared.refusal.StepRefusal.{StepRefusal}
-use Rattle.station.specs.declared.refusal.StepRefusal.TheVariants.{Stopped, BadDatagram, WrongCircuit, NotForMe, Stranger, BadNumber, AlreadyReleased, AlreadyOpen, TapeFaulty, RoundsSpent, Store, OutOfMemory}
-use Rattle.station.specs.Stations.{Sight, sight}
-use Rattle.station.specs.Steps.{Steps, IfStore, IsBlamed}
+use Rattle.refusals.specs.declared.refusal.StepRefusal.{StepRefusal}
+use Rattle.refusals.specs.declared.refusal.StepRefusal.TheVariants.{Stopped, BadDatagram, WrongCircuit, NotForMe, Stranger, BadNumber, AlreadyReleased, AlreadyOpen, WireTooOld, TapeFaulty, RoundsSpent, Store, OutOfMemory}
+use Rattle.station.specs.Stations.{Sight, sight, wire_at}
+use Rattle.station.specs.Steps.{Steps, TakesStep, IfStore, IsBlamed}
 use Rattle.world.specs.declared.world.World.{World}
 use Rattle.world.specs.declared.step.Step.{Step}
 use Rattle.world.specs.declared.step.Step.TheVariants as steps
@@ -31,11 +33,11 @@ use Rattle.world.specs.declared.step.Outcome.TheVariants as outcomes
 use Rattle.world.specs.declared.step.WorldRefusal.{WorldRefusal}
 use Rattle.world.specs.Setups.{StationCircuit, StationState}
 use Rattle.world.specs.Worlds.{count_of, IsSame, station_at}
-use Rattle.world.specs.Taking.{step_value, EndsAs, RefusedAs, RowsRefused, IsCause, WasTorn, IfTorn, TellsWhy, was_taken, offers_after, actor, missing_in, IsReason, Tells}
+use Rattle.world.specs.Taking.{step_value, EndsAs, RefusedAs, RowsRefused, IsCause, WasTorn, IfTorn, TellsWhy, was_taken, offered_after, offers_after, actor, missing_in, IsReason, Tells}
 use Rattle.world.specs.Reach.{AllKept, AllMade, StandsFor, Moves}
 use Rattle.world.specs.Logging.{logged, offered_of, out_of, outcome_of, released_of, seen_of, was_released}
-use Rattle.world.proofs.Members.{Changes, here, kept_here, kept_before, made_after, some_is}
-use Rattle.world.proofs.Turning.{balky_sight, rises_before, stood}
+use Rattle.world.proofs.Members.{Changes, here, kept_here, kept_before, made_after, shown, some_is}
+use Rattle.world.proofs.Turning.{balky_sight, followed, goes_on_at, rises_before}
 use Rattle.world.proofs.Stepping.{offers_of, answered}
 
 -- one station was changed where it stands
@@ -49,14 +51,13 @@ changed v v' i m s s' is_m within is stations = record {
 }
 
 -- a world that is the same stands for the same state
-pub still : {R : Type 0} (is_open : R → Type 0) (saved : R → Saved) (v v' : World R) → IsSame v v' → (z : StationCircuit) (w : StationState) → StandsFor is_open saved z v w → StandsFor is_open saved z v' w
-still {R = R} is_open saved v v' same z w h = record {
+pub still : {R : Type 0} (is_open : R → Type 0) (saved : R → Saved) (version : R → Version) (v v' : World R) → IsSame v v' → (z : StationCircuit) (w : StationState) → StandsFor is_open saved version z v w → StandsFor is_open saved version z v' w
+still {R = R} is_open saved version v v' same z w h = record {
   tables = h.tables;
   files = h.files;
   set_up = h.set_up;
   count = h.count ∙ ap (λ (l : List (Station (Balky R))). length l) (sym stations);
   each = λ m s at_m. h.each m s (station_is m s at_m);
-  one = h.one;
   sent = h.sent ∙ sym same.sent;
   offers = h.offers ∙ sym same.offers;
   releases = h.releases ∙ sym same.releases;
@@ -90,18 +91,21 @@ pub record Brings {R : Type 0} (v : World R) (step : Step) (m : ℕ) (call : Cal
   pub there : missing_in v step ≡ None
   pub logs : (os : List circuit.Offer) (r : Result Answer StepRefusal) → os ++ offers_of m call r ≡ offers_after os step (outcome_of r)
 
-logs_offer : (m n now : ℕ) (tape : List ℕ) (os : List circuit.Offer) (o : Outcome) → os ++ offered_of m n tape o ≡ offers_after os (steps.Offer m n tape now) o
-logs_offer m n now tape os o = go (was_taken o)
+logs_offer : (m n : ℕ) (entry : Entry) (os : List circuit.Offer) (o : Outcome) → os ++ offered_of m n entry o ≡ offered_after os m n entry o
+logs_offer m n entry os o = go (was_taken o)
   where
     one : List circuit.Offer
-    one = record { member = m; number = n; tape = tape } ∷ []
+    one = record { member = m; number = n; entry = entry } ∷ []
 
     go : (b : Bool) → os ++ (if b then one else []) ≡ (if b then os ++ one else os)
     go true = refl
     go false = append-nil os
 
-pub offer_brings : {R : Type 0} (v : World R) (m n now : ℕ) (tape : List ℕ) → member_missing (count_of v) m ≡ None → Brings v (steps.Offer m n tape now) m (Offering n tape now)
-offer_brings v m n now tape there = record { task = refl; acts = refl; there = there; logs = λ os r. logs_offer m n now tape os (outcome_of r) }
+pub offer_brings : {R : Type 0} (v : World R) (m n now : ℕ) (tape : List ℕ) → member_missing (count_of v) m ≡ None → Brings v (steps.Offer m n tape now) m (Offering n (Taped tape) now)
+offer_brings v m n now tape there = record { task = refl; acts = refl; there = there; logs = λ os r. logs_offer m n (Taped tape) os (outcome_of r) }
+
+pub withdraw_brings : {R : Type 0} (v : World R) (m n now : ℕ) → member_missing (count_of v) m ≡ None → Brings v (steps.Withdraw m n now) m (Offering n Void now)
+withdraw_brings v m n now there = record { task = refl; acts = refl; there = there; logs = λ os r. logs_offer m n Void os (outcome_of r) }
 
 pub seek_brings : {R : Type 0} (v : World R) (m n now : ℕ) → member_missing (count_of v) m ≡ None → Brings v (steps.Seek m n now) m (Seeking n now)
 seek_brings v m n now there = record { task = refl; acts = refl; there = there; logs = λ os r. append-nil os }
@@ -153,6 +157,7 @@ refused_more Stranger P Q f o e = e
 refused_more BadNumber P Q f o e = e
 refused_more AlreadyReleased P Q f o e = e
 refused_more AlreadyOpen P Q f o e = e
+refused_more WireTooOld P Q f o e = e
 refused_more (TapeFaulty fault) P Q f o e = e
 refused_more RoundsSpent P Q f o e = e
 refused_more (Store fault) P Q f o e = elim e [ inl armed ↦ inl armed | inr own ↦ inr (own.0, f own.1) ]
@@ -175,6 +180,7 @@ seen_torn (Err Stranger) P Q f e = tt
 seen_torn (Err BadNumber) P Q f e = tt
 seen_torn (Err AlreadyReleased) P Q f e = tt
 seen_torn (Err AlreadyOpen) P Q f e = tt
+seen_torn (Err WireTooOld) P Q f e = tt
 seen_torn (Err (TapeFaulty fault)) P Q f e = tt
 seen_torn (Err RoundsSpent) P Q f e = tt
 seen_torn (Err (Store fault)) P Q f e = f fault e
@@ -235,14 +241,18 @@ module _ {R : Type 0} (v v1 v' : World R) (step : Step) (m : ℕ) (call : Call) 
   module _ (x : Sight R) (count : R → ℕ) (i : ℕ) (s s' : Station (Balky R)) (ch : Changes v1 v' i m s s') where
     -- it is a step of every state that the world stands for
     pub asked :
-        OneSetting → (x.kept s'.rows.rows → (marks : List Mark) → CoreStandsFor s.core marks → Steps (balky_sight x count) call s s' marks r)
-        → AllKept x.kept v' → (z : StationCircuit) (w : StationState) → StandsFor x.is_open x.saved z v w → Moves x.is_open x.saved count z w step v v' (Ok seen)
-    asked one answers kept z w h =
-        let h1 = still x.is_open x.saved v v1 same z w h in
+        OneSetting → x.version s'.rows.rows ≡ x.version s.rows.rows → s'.speaker.wire ≡ wire_at (balky_sight x count) s
+        → (x.kept s'.rows.rows → TakesStep (balky_sight x count) call s s' r) → AllKept x.kept v' → (z : StationCircuit) (w : StationState) → StandsFor x.is_open x.saved x.version z v w → Moves x.is_open x.saved x.version count z w step v v' (Ok seen)
+    asked one version wire answers kept z w h =
+        let h1 = still x.is_open x.saved x.version v v1 same z w h in
+        let old = shown v1 v' i m s s' ch x.is_open x.saved x.version z w h1 in
+        let at = goes_on_at x count (w.version m) s s' old.is_at version wire in
         let task = ap (λ (l : List Datagram). task_of l (step_value step)) h.sent ∙ brings.task in
-        let marks = stood x count z v1 v' w i m s s' ch h1 in
-        let did = answers (kept_here v1 v' i m s s' ch x.kept kept) (w.marks m) marks in
-        let ended = answered x count one z v1 v' w i m s s' ch h1 (step_value step) call task (kept_here v1 v' i m s s' ch x.kept kept) r did (record { sent = sent; offers = offers; releases = releases }) in
+        let takes = answers (kept_here v1 v' i m s s' ch x.kept kept) in
+        let found : takes.found ≡ s = followed x count (w.version m) s takes.found old.is_at takes.follows in
+        let Does : Station (Balky R) → Type 0 = λ t. (marks : List Mark) → CoreStandsFor t.speaker.core marks → Steps (balky_sight x count) call t s' marks r in
+        let did = subst Does found takes.steps (w.marks m) old.marks in
+        let ended = answered x count one z v1 v' w i m s s' ch h1 at (step_value step) call task (kept_here v1 v' i m s s' ch x.kept kept) r did (record { sent = sent; offers = offers; releases = releases }) in
         let comes = ended.2 in
         let own : Rises (count s.rows.rows) (count s'.rows.rows) → RowsRefused count v v' m = λ rises. record {
           before = s;
@@ -251,7 +261,7 @@ module _ {R : Type 0} (v v1 v' : World R) (step : Step) (m : ℕ) (call : Call) 
           at_new = after_at v1 v' i m s s' ch;
           rises = rises;
         } in
-        let P : Seen → Type 0 = λ q. (after : StationState) × StandsFor x.is_open x.saved z v' after
+        let P : Seen → Type 0 = λ q. (after : StationState) × StandsFor x.is_open x.saved x.version z v' after
         × (o : circuit.Outcome PacketFault SetFault) × EndsAs q.outcome (RowsRefused count v v' q.member) o × circuit.StepsTo z w (step_value step) o after in
         subst P (sym is_seen) (comes.0, comes.1, ended.0, ends_more (outcome_of r) _ _ own ended.0 ended.1, comes.2)
 

@@ -5,6 +5,7 @@ use Rattle.std.proofs.lemmas.Bool.{eqb-true, eqb-false, eq-eqb}
 use Rattle.std.proofs.lemmas.Option.{slice_get_within, slice_get_read, slice_get_cases, slice_get_past}
 use Rattle.std.proofs.lemmas.List.{get_or-set_same, get_or-set_other}
 use Rattle.std.proofs.Math.ListN.{length-set}
+use Rattle.protocol.specs.Versions.{Version}
 use Rattle.protocol.specs.Circuit.{with_at}
 use Rattle.saved_rows.specs.Saved.{Saved}
 use Rattle.saved_rows.specs.declared.balky.Balky.{Balky}
@@ -13,7 +14,7 @@ use Rattle.station.specs.declared.station.Station.{Station}
 use Rattle.world.specs.declared.world.World.{World}
 use Rattle.world.specs.Setups.{StationCircuit, StationState}
 use Rattle.world.specs.Worlds.{station_at}
-use Rattle.world.specs.Reach.{AllKept, AllMade, Shows, StandsFor}
+use Rattle.world.specs.Reach.{AllKept, AllMade, IsAt, Shows, StandsFor}
 
 got_same : {X : Type 0} (xs : List X) (i : ℕ) (y : X) → i < length xs → slice_get (slice_set xs i y) i ≡ Some y
 got_same xs i y l =
@@ -107,21 +108,21 @@ module _ {R : Type 0} (v v' : World R) (i m : ℕ) (s s' : Station (Balky R)) (c
   made_after made stays all zero t at_k = absurd (no_station at_k)
   made_after made stays all (suc j) t at_k = made_at made stays all j t at_k
 
-  module _ (is_open : R → Type 0) (saved : R → Saved) (z : StationCircuit) (w : StationState) (h : StandsFor is_open saved z v w) where
-    pub shown : Shows is_open saved h.tables h.files z w m s
-    shown = subst (λ (k : ℕ). Shows is_open saved h.tables h.files z w k s) ch.is_member (h.each (suc i) s ch.at_i)
+  module _ (is_open : R → Type 0) (saved : R → Saved) (version : R → Version) (z : StationCircuit) (w : StationState) (h : StandsFor is_open saved version z v w) where
+    pub shown : Shows is_open saved version h.tables h.files z w m s
+    shown = subst (λ (k : ℕ). Shows is_open saved version h.tables h.files z w k s) ch.is_member (h.each (suc i) s ch.at_i)
 
-    module _ (after : StationState) (new : Shows is_open saved h.tables h.files z after m s') (others : Elsewhere w after m) where
-      at_place : (j : ℕ) (t : Station (Balky R)) → slice_get v'.stations.items j ≡ Some t → Shows is_open saved h.tables h.files z after (suc j) t
+    module _ (after : StationState) (new : Shows is_open saved version h.tables h.files z after m s') (others : Elsewhere w after m) where
+      at_place : (j : ℕ) (t : Station (Balky R)) → slice_get v'.stations.items j ≡ Some t → Shows is_open saved version h.tables h.files z after (suc j) t
       at_place j t at_j = go (j == i) refl
         where
-          go : (b : Bool) → (j == i) ≡ b → Shows is_open saved h.tables h.files z after (suc j) t
+          go : (b : Bool) → (j == i) ≡ b → Shows is_open saved version h.tables h.files z after (suc j) t
           go true e =
               let same : j ≡ i = eqb-true j i e in
               let is : Some s' ≡ Some t = sym here ∙ (ap (slice_get v'.stations.items) (sym same) ∙ at_j) in
               let number : m ≡ suc j = sym ch.is_member ∙ ap suc (sym same) in
-              subst (λ (u : Station (Balky R)). Shows is_open saved h.tables h.files z after (suc j) u) (some_is is)
-              (subst (λ (k : ℕ). Shows is_open saved h.tables h.files z after k s') number new)
+              subst (λ (u : Station (Balky R)). Shows is_open saved version h.tables h.files z after (suc j) u) (some_is is)
+              (subst (λ (k : ℕ). Shows is_open saved version h.tables h.files z after k s') number new)
           go false e =
               let ne : j ≢ i = eqb-false j i e in
               let is_m : suc i ≡ m = ch.is_member in
@@ -133,24 +134,24 @@ module _ {R : Type 0} (v v' : World R) (i m : ℕ) (s s' : Station (Balky R)) (c
                 me = old.me;
                 table = old.table;
                 widths = old.widths;
+                is_at = subst (λ (a : Version). IsAt version a t) (sym (others.version (suc j))) old.is_at;
                 rows = λ open_now n. old.rows open_now n ∙ sym (others.rows (suc j) far n);
-                marks = subst (λ (ms : _). CoreStandsFor t.core ms) (sym (others.marks (suc j) far)) old.marks;
+                marks = subst (λ (ms : _). CoreStandsFor t.speaker.core ms) (sym (others.marks (suc j) far)) old.marks;
                 stopped = old.stopped ∙ sym (others.stopped (suc j) far);
                 armed = old.armed ∙ sym (others.armed (suc j) far);
               }
 
-      each_after : (k : ℕ) (t : Station (Balky R)) → station_at v' k ≡ Some t → Shows is_open saved h.tables h.files z after k t
+      each_after : (k : ℕ) (t : Station (Balky R)) → station_at v' k ≡ Some t → Shows is_open saved version h.tables h.files z after k t
       each_after zero t at_k = absurd (no_station at_k)
       each_after (suc j) t at_k = at_place j t at_k
 
-      pub stands_after : after.sent ≡ v'.sent.items → after.offers ≡ v'.offers.items → after.releases ≡ v'.releases.items → StandsFor is_open saved z v' after
+      pub stands_after : after.sent ≡ v'.sent.items → after.offers ≡ v'.offers.items → after.releases ≡ v'.releases.items → StandsFor is_open saved version z v' after
       stands_after sent offers releases = record {
         tables = h.tables;
         files = h.files;
         set_up = h.set_up;
         count = h.count ∙ (sym (length-set v.stations.items i s') ∙ ap length (sym ch.stations));
         each = each_after;
-        one = λ k. others.version k ∙ h.one k;
         sent = sent;
         offers = offers;
         releases = releases;

@@ -2,7 +2,8 @@
 use Rattle.std.proofs.Common.{◌≡◌, ℕ, zero, suc, ◌<◌, ◌≤◌, ◌⊎◌, inl, inr, refl, sym, ap, subst, arith, List, [], ◌∷◌, ◌++◌, Some, None, Option, length}
 use Rattle.std.specs.Prelude.{◌↔◌, Result, Ok, Err, slice_get}
 use Rattle.protocol.specs.Ballots.{IsMember}
-use Rattle.protocol.specs.Rows.{Tape}
+use Rattle.protocol.specs.Entries.{Entry}
+use Rattle.protocol.specs.Versions.{Version}
 use Rattle.protocol.specs.Lists.{IsAmong}
 use Rattle.protocol.specs.Turn.{number_of}
 use Rattle.protocol.specs.Circuit as circuit
@@ -10,13 +11,13 @@ use Rattle.protocol.specs.Circuit.{Release, Outcome, releases_with, StepsTo, is_
 use Rattle.packets.specs.declared.fault.PacketFault.{PacketFault}
 use Rattle.code_table.specs.Tables.{Places, mean}
 use Rattle.widths.specs.Widths.{WidthFile}
-use Rattle.line_check.specs.Sets.{Sets}
 use Rattle.line_check.specs.declared.slug.Slug.{Slug}
 use Rattle.line_check.specs.declared.fault.SetFault.{SetFault}
 use Rattle.saved_rows.specs.Saved.{Saved}
 use Rattle.saved_rows.specs.declared.balky.Balky.{Balky}
 use Rattle.saved_rows.specs.declared.rows.Rows.{Ghosts}
 use Rattle.station.specs.declared.station.Station.{Station}
+use Rattle.station.specs.Readiness.{SetsEntry}
 use Rattle.world.specs.declared.world.World.{World}
 use Rattle.world.specs.declared.step.Step.{Step}
 use Rattle.world.specs.declared.step.Seen.{Seen}
@@ -37,7 +38,7 @@ module _ (z : StationCircuit) where
   abbrev OfMembers : List (Release (List Slug) SetFault) → Type 0
   OfMembers rs = (x : Release (List Slug) SetFault) → IsAmong rs x → IsMember z.count x.member
 
-  with_release : (rs : List (Release (List Slug) SetFault)) (m n : ℕ) (o : Option Tape) → IsMember z.count m → OfMembers rs → OfMembers (releases_with z rs m n o)
+  with_release : (rs : List (Release (List Slug) SetFault)) (m n : ℕ) (o : Option Entry) → IsMember z.count m → OfMembers rs → OfMembers (releases_with z rs m n o)
   with_release rs m n None is all x i = all x i
   with_release rs m n (Some t) is all x i = elim (among-append rs _ x i) [
     | inl before ↦ all x before
@@ -74,14 +75,14 @@ stationed v zero low high = absurd (omega arith)
 stationed v (suc j) low high = found v.stations.items j (omega arith)
 
 -- what is released in a reached world is agreed
-pub agreed : {R : Type 0} (is_open : R → Type 0) (saved : R → Saved) → StationsAgree → (z : StationCircuit) (v : World R) → Reached is_open saved z v → Agreed v
-agreed {R = R} is_open saved law z v r = record {
+pub agreed : {R : Type 0} (is_open : R → Type 0) (saved : R → Saved) (version : R → Version) → StationsAgree → (z : StationCircuit) (v : World R) → Reached is_open saved version z v → Agreed v
+agreed {R = R} is_open saved version law z v r = record {
   one = λ x y i j same. a.one x y (in_state x i) (in_state y j) same;
-  offered = λ x i. (let o = a.offered x (in_state x i) in (o.0, subst (λ (l : List circuit.Offer). IsAmong l (record { member = o.0; number = x.number; tape = x.tape })) h.offers o.1));
+  offered = λ x i. (let o = a.offered x (in_state x i) in (o.0, subst (λ (l : List circuit.Offer). IsAmong l (record { member = o.0; number = x.number; entry = x.entry })) h.offers o.1));
   set = λ x i. set x (in_state x i);
 }
   where
-    h : StandsFor is_open saved z v r.0
+    h : StandsFor is_open saved version z v r.0
     h = r.1
 
     a : AreAgreed h.tables h.files r.0
@@ -90,22 +91,22 @@ agreed {R = R} is_open saved law z v r = record {
     in_state : (x : Release (List Slug) SetFault) → IsAmong v.releases.items x → IsAmong r.0.releases x
     in_state x i = subst (λ (l : List (Release (List Slug) SetFault)). IsAmong l x) (sym h.releases) i
 
-    set : (x : Release (List Slug) SetFault) → IsAmong r.0.releases x → (s : Station (Balky R)) × (station_at v x.member ≡ Some s) × SetsAs s x.tape x.set
+    set : (x : Release (List Slug) SetFault) → IsAmong r.0.releases x → (s : Station (Balky R)) × (station_at v x.member ≡ Some s) × SetsAs s x.entry x.set
     set x i =
         let is : IsMember z.count x.member = of_members z r.2 x i in
         let s = stationed v x.member is.0 (let c = h.count in omega (arith, is.1)) in
         let shows = h.each x.member s.0 s.1 in
-        let with_table = subst (λ (t : Places). Sets (mean t) (h.files x.member) x.tape x.set) (sym shows.table) (a.set x i) in
-        (s.0, s.1, subst (λ (f : WidthFile). Sets (mean s.0.table) f x.tape x.set) (sym shows.widths) with_table)
+        let with_table = subst (λ (t : Places). SetsEntry (mean t) (h.files x.member) x.entry x.set) (sym shows.table) (a.set x i) in
+        (s.0, s.1, subst (λ (f : WidthFile). SetsEntry (mean s.0.table) f x.entry x.set) (sym shows.widths) with_table)
 
 -- what is released in a world that is reached, and whose hosts were honest, is agreed
 pub reached_agreed : {R : Type 0} (g : Ghosts R) → StationsAgree → (v : World R) → IsReached g v → AllHonest g.honest v → Agreed v
-reached_agreed g law v r honest = let at = r.reached honest in agreed g.is_open g.saved law at.0 v at.1
+reached_agreed g law v r honest = let at = r.reached honest in agreed g.is_open g.saved g.version law at.0 v at.1
 
 -- a world that is reached stays so, where what was made stays and what is kept was kept
 pub stays_reached :
     {R : Type 0} (g : Ghosts R) → ((s : R) → g.kept s ↔ (g.honest s × g.made s)) → (v v' : World R) → (AllMade g.made v → AllMade g.made v') → (AllKept g.kept v' → AllKept g.kept v)
-    → (AllKept g.kept v' → (z : StationCircuit) → Reached g.is_open g.saved z v → Reached g.is_open g.saved z v') → IsReached g v → IsReached g v'
+    → (AllKept g.kept v' → (z : StationCircuit) → Reached g.is_open g.saved g.version z v → Reached g.is_open g.saved g.version z v') → IsReached g v → IsReached g v'
 stays_reached g halves v v' stays was moves r =
     let made = stays r.made in record {
       made = made;
@@ -116,9 +117,9 @@ stays_reached g halves v v' stays was moves r =
     }
 
 -- a world that moved is reached
-pub goes : {R : Type 0} (is_open : R → Type 0) (saved : R → Saved) (count : R → ℕ) (z : StationCircuit) (v v' : World R) (r : Reached is_open saved z v) (step : Step) (q : Result Seen WorldRefusal) → Moves is_open saved count z r.0 step v v' q → Reached is_open saved z v'
-goes is_open saved count z v v' r step (Ok seen) m = (m.0, m.1, goes_on r.2 (step_value step) m.2 m.4)
-goes is_open saved count z v v' r step (Err refusal) m = (r.0, m, r.2)
+pub goes : {R : Type 0} (is_open : R → Type 0) (saved : R → Saved) (version : R → Version) (count : R → ℕ) (z : StationCircuit) (v v' : World R) (r : Reached is_open saved version z v) (step : Step) (q : Result Seen WorldRefusal) → Moves is_open saved version count z r.0 step v v' q → Reached is_open saved version z v'
+goes is_open saved version count z v v' r step (Ok seen) m = (m.0, m.1, goes_on r.2 (step_value step) m.2 m.4)
+goes is_open saved version count z v v' r step (Err refusal) m = (r.0, m, r.2)
 
 -- one step more
 pub leads_more :

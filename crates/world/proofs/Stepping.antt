@@ -18,14 +18,14 @@ use Rattle.saved_rows.specs.declared.fault.RowsFault.{RowsFault}
 use Rattle.line_check.specs.declared.fault.SetFault.{SetFault}
 use Rattle.station.specs.declared.answer.Answer.{Answer}
 use Rattle.station.specs.declared.answer.Release.{Release}
-use Rattle.station.specs.declared.refusal.StepRefusal.{StepRefusal}
-use Rattle.station.specs.declared.refusal.StepRefusal.TheVariants.{Stopped, BadDatagram, WrongCircuit, NotForMe, Stranger, BadNumber, AlreadyReleased, AlreadyOpen, TapeFaulty, RoundsSpent, Store, OutOfMemory}
+use Rattle.refusals.specs.declared.refusal.StepRefusal.{StepRefusal}
+use Rattle.refusals.specs.declared.refusal.StepRefusal.TheVariants.{Stopped, BadDatagram, WrongCircuit, NotForMe, Stranger, BadNumber, AlreadyReleased, AlreadyOpen, WireTooOld, TapeFaulty, RoundsSpent, Store, OutOfMemory}
 use Rattle.node_core.specs.Turns.{note_value}
 use Rattle.station.specs.Stations.{Sight, setup_of}
 use Rattle.station.specs.Steps.{Steps}
 use Rattle.world.specs.declared.world.World.{World}
 use Rattle.world.specs.Setups.{StationCircuit, StationState}
-use Rattle.world.specs.Reach.{StandsFor}
+use Rattle.world.specs.Reach.{IsAt, StandsFor}
 use Rattle.world.specs.Taking.{EndsAs, is_torn}
 use Rattle.world.specs.Logging.{logged, offered_of, out_of, outcome_of, released_of}
 use Rattle.world.proofs.Members.{Changes, some_is}
@@ -33,7 +33,7 @@ use Rattle.world.proofs.Turning.{balky_sight, Comes, Own, Sends, refused_comes, 
 
 -- what a call adds to the offers where it ended so
 abbrev pub offers_of : ℕ → Call → Result Answer StepRefusal → List circuit.Offer
-offers_of m (Offering n tape now) r = offered_of m n tape (outcome_of r)
+offers_of m (Offering n entry now) r = offered_of m n entry (outcome_of r)
 offers_of m (Seeking n now) r = []
 offers_of m (Falling_due now) r = []
 offers_of m (Receiving bytes now) r = []
@@ -55,42 +55,42 @@ arrived_offers os m now (Ok p) e is = append-nil os ∙ ap (offers_with os m) (s
 module _ {R : Type 0} (s : Station R) (marks : List Mark) (os : List circuit.Offer) (m : ℕ) where
   -- the offers with that of a step that was done or torn
   with_done : (call : Call) (e : Event) (a : Answer) → event_of (setup_of s) marks call ≡ Some e → os ++ offers_of m call (Ok a) ≡ offers_with os m e
-  with_done (Offering n tape now) e a is = ap (offers_with os m) (some_is is)
+  with_done (Offering n entry now) e a is = ap (offers_with os m) (some_is is)
   with_done (Seeking n now) e a is = append-nil os ∙ ap (offers_with os m) (some_is is)
-  with_done (Falling_due now) e a is = due_offers os m now (next_due s.core.me now marks) e is
-  with_done (Receiving bytes now) e a is = arrived_offers os m now (packet_at bytes) e is
+  with_done (Falling_due now) e a is = due_offers os m now (next_due s.speaker.core.me now marks) e is
+  with_done (Receiving bytes now) e a is = arrived_offers os m now (packet_at s.speaker.wire bytes) e is
 
   with_store : (call : Call) (e : Event) (fault : RowsFault) → event_of (setup_of s) marks call ≡ Some e → os ++ offers_of m call (Err (Store fault)) ≡ offers_with os m e
-  with_store (Offering n tape now) e fault is = ap (offers_with os m) (some_is is)
+  with_store (Offering n entry now) e fault is = ap (offers_with os m) (some_is is)
   with_store (Seeking n now) e fault is = append-nil os ∙ ap (offers_with os m) (some_is is)
-  with_store (Falling_due now) e fault is = due_offers os m now (next_due s.core.me now marks) e is
-  with_store (Receiving bytes now) e fault is = arrived_offers os m now (packet_at bytes) e is
+  with_store (Falling_due now) e fault is = due_offers os m now (next_due s.speaker.core.me now marks) e is
+  with_store (Receiving bytes now) e fault is = arrived_offers os m now (packet_at s.speaker.wire bytes) e is
 
   with_memory : (call : Call) (e : Event) → event_of (setup_of s) marks call ≡ Some e → os ++ offers_of m call (Err OutOfMemory) ≡ offers_with os m e
-  with_memory (Offering n tape now) e is = ap (offers_with os m) (some_is is)
+  with_memory (Offering n entry now) e is = ap (offers_with os m) (some_is is)
   with_memory (Seeking n now) e is = append-nil os ∙ ap (offers_with os m) (some_is is)
-  with_memory (Falling_due now) e is = due_offers os m now (next_due s.core.me now marks) e is
-  with_memory (Receiving bytes now) e is = arrived_offers os m now (packet_at bytes) e is
+  with_memory (Falling_due now) e is = due_offers os m now (next_due s.speaker.core.me now marks) e is
+  with_memory (Receiving bytes now) e is = arrived_offers os m now (packet_at s.speaker.wire bytes) e is
 
   -- a refused offer is not logged
   with_refused : (call : Call) (q : StepRefusal) → is_torn q ≡ false → os ++ offers_of m call (Err q) ≡ os
-  with_refused (Offering n tape now) q un = rw un (append-nil os)
+  with_refused (Offering n entry now) q un = rw un (append-nil os)
   with_refused (Seeking n now) q un = append-nil os
   with_refused (Falling_due now) q un = append-nil os
   with_refused (Receiving bytes now) q un = append-nil os
 
   -- a step without an event is no offer
   with_none : (call : Call) (a : Answer) → event_of (setup_of s) marks call ≡ None → os ++ offers_of m call (Ok a) ≡ os
-  with_none (Offering n tape now) a is = absurd (no_error is)
+  with_none (Offering n entry now) a is = absurd (no_error is)
   with_none (Seeking n now) a is = append-nil os
   with_none (Falling_due now) a is = append-nil os
   with_none (Receiving bytes now) a is = append-nil os
 
 module _ {R : Type 0} (x : Sight R) (count : R → ℕ) (one : OneSetting) (z : StationCircuit) (v v' : World R) (w : StationState) (i m : ℕ) (s s' : Station (Balky R))
-    (ch : Changes v v' i m s s') (h : StandsFor x.is_open x.saved z v w) (step : circuit.Step) (call : Call)
-    (task : Sends x count z v v' w i m s s' ch h step call) where
+    (ch : Changes v v' i m s s') (h : StandsFor x.is_open x.saved x.version z v w) (at : IsAt x.version (w.version m) s') (step : circuit.Step) (call : Call)
+    (task : Sends x count z v v' w i m s s' ch h at step call) where
   abbrev To : circuit.Outcome PacketFault SetFault → Type 0
-  To o = Comes x count z v v' w i m s s' ch h step o
+  To o = Comes x count z v v' w i m s s' ch h at step o
 
   -- the logs after an answer
   pub record Logs (r : Result Answer StepRefusal) : Type 0 where
@@ -102,19 +102,19 @@ module _ {R : Type 0} (x : Sight R) (count : R → ℕ) (one : OneSetting) (z : 
       (r : refusals.Refusal PacketFault SetFault) (q : StepRefusal) → is_torn q ≡ false → refusals.refusal (setup_of s) s.stopped (w.marks m) call ≡ Some r → s' ≡ s → Logs (Err q)
       → To (circuit.Refused r)
   refused r q un is same l =
-      refused_comes x count z v v' w i m s s' ch h step call r task is same
+      refused_comes x count z v v' w i m s s' ch h at step call r task is same
       (l.sent ∙ append-nil v.sent.items) (l.offers ∙ with_refused s (w.marks m) v.offers.items m call q un) (l.releases ∙ append-nil v.releases.items)
 
   -- the step ended as what is seen of it
   abbrev pub Ended : Result Answer StepRefusal → Type 0
-  Ended r = (o : circuit.Outcome PacketFault SetFault) × EndsAs (outcome_of r) (Own x count z v v' w i m s s' ch h) o × To o
+  Ended r = (o : circuit.Outcome PacketFault SetFault) × EndsAs (outcome_of r) (Own x count z v v' w i m s s' ch h at) o × To o
 
   pub answered : x.kept s'.rows.rows → (r : Result Answer StepRefusal) → Steps (balky_sight x count) call s s' (w.marks m) r → Logs r → Ended r
   answered kept (Ok a) (inl d) l = (
     circuit.Done (note_value a.note),
     refl,
     subst (λ (o : circuit.Outcome PacketFault SetFault). To o) (ap circuit.Done (sym d.note))
-        (idle_comes x count z v v' w i m s s' ch h step call task d.unrefused d.no_event d.same
+        (idle_comes x count z v v' w i m s s' ch h at step call task d.unrefused d.no_event d.same
         (l.sent ∙ (ap (λ (g : List circuit.Datagram). v.sent.items ++ g) d.out ∙ append-nil v.sent.items))
         (l.offers ∙ with_none s (w.marks m) v.offers.items m call a d.no_event)
         (l.releases ∙ (ap (λ (o : Option Release). v.releases.items ++ logged m o) d.release ∙ append-nil v.releases.items))),
@@ -122,7 +122,7 @@ module _ {R : Type 0} (x : Sight R) (count : R → ℕ) (one : OneSetting) (z : 
   answered kept (Ok a) (inr d) l = (
     circuit.Done (note_value a.note),
     refl,
-    done_comes x count z v v' w i m s s' ch h one step call d.0 a task d.1 d.2 l.sent (l.offers ∙ with_done s (w.marks m) v.offers.items m call d.0 a d.1.event) l.releases,
+    done_comes x count z v v' w i m s s' ch h at one step call d.0 a task d.1 d.2 l.sent (l.offers ∙ with_done s (w.marks m) v.offers.items m call d.0 a d.1.event) l.releases,
   )
   answered kept (Err Stopped) d l = (_, refl, refused refusals.Stopped Stopped refl d.0 d.1 l)
   answered kept (Err (BadDatagram fault)) d l = (_, refl, refused (refusals.Bad_datagram fault) (BadDatagram fault) refl d.0 d.1 l)
@@ -132,19 +132,20 @@ module _ {R : Type 0} (x : Sight R) (count : R → ℕ) (one : OneSetting) (z : 
   answered kept (Err BadNumber) d l = (_, refl, refused refusals.Bad_number BadNumber refl d.0 d.1 l)
   answered kept (Err AlreadyReleased) d l = (_, refl, refused refusals.Already_released AlreadyReleased refl d.0 d.1 l)
   answered kept (Err AlreadyOpen) d l = (_, refl, refused refusals.Already_open AlreadyOpen refl d.0 d.1 l)
+  answered kept (Err WireTooOld) d l = (_, refl, refused refusals.Wire_too_old WireTooOld refl d.0 d.1 l)
   answered kept (Err (TapeFaulty fault)) d l = (_, refl, refused (refusals.Tape_faulty fault) (TapeFaulty fault) refl d.0 d.1 l)
   answered kept (Err RoundsSpent) d l = (
     _,
     refl,
-    spent_comes x count z v v' w i m s s' ch h step call d.0 task d.1 d.2
+    spent_comes x count z v v' w i m s s' ch h at step call d.0 task d.1 d.2
         (l.sent ∙ append-nil v.sent.items) (l.offers ∙ with_refused s (w.marks m) v.offers.items m call RoundsSpent refl) (l.releases ∙ append-nil v.releases.items),
   )
   answered kept (Err (Store fault)) d l =
-      store_comes x count z v v' w i m s s' ch h step call d.0 task d.1 kept d.2
+      store_comes x count z v v' w i m s s' ch h at step call d.0 task d.1 kept d.2
       (l.sent ∙ append-nil v.sent.items) (l.offers ∙ with_store s (w.marks m) v.offers.items m call d.0 fault d.1.event) (l.releases ∙ append-nil v.releases.items)
   answered kept (Err OutOfMemory) d l = (
     _,
     refl,
-    memory_comes x count z v v' w i m s s' ch h step call d.0 task d.1 d.2
+    memory_comes x count z v v' w i m s s' ch h at step call d.0 task d.1 d.2
         (l.sent ∙ append-nil v.sent.items) (l.offers ∙ with_memory s (w.marks m) v.offers.items m call d.0 d.1.event) (l.releases ∙ append-nil v.releases.items),
   )

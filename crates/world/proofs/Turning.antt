@@ -1,22 +1,23 @@
 -- What a station did is a step of the state that its world stands for: done, idle, spent, refused or torn.
 use Rattle.std.proofs.Common.{◌≡◌, ◌≢◌, ℕ, suc, ◌<◌, ◌≤◌, ◌⊎◌, inl, inr, refl, sym, ap, subst, ◌∙◌, arith, List, [], ◌∷◌, ◌++◌, Some, None, Option, Bool, true, false, length, append-nil}
-use Rattle.std.specs.Prelude.{Result, Ok, IsSome}
+use Rattle.std.specs.Prelude.{Result, Ok, IsSome, if◌then◌else◌}
 use Rattle.std.proofs.lemmas.Bool.{cases_lt}
 use Rattle.std.specs.List.{AllZip}
 use Rattle.protocol.specs.Ballots.{IsMember}
 use Rattle.protocol.specs.Seats.{sits}
-use Rattle.protocol.specs.Rows.{Tape, Row}
+use Rattle.protocol.specs.Entries.{Entry}
+use Rattle.protocol.specs.Rows.{Row}
 use Rattle.protocol.specs.Packets.{Packet}
-use Rattle.protocol.specs.Versions.{Version, One}
+use Rattle.protocol.specs.Versions.{Version, One, Two, fits}
 use Rattle.protocol.specs.Marks.{Mark}
 use Rattle.protocol.specs.Turn.{Event, number_of, Note_idle, Turn, turn}
-use Rattle.protocol.specs.Refusals.{Call, Refusal, Rounds_spent, refusal, early_refusal, event_of}
+use Rattle.protocol.specs.Refusals.{Call, Refusal, Rounds_spent, refusal, early_refusal, setting_refusal, event_of}
 use Rattle.protocol.specs.Circuit as circuit
-use Rattle.protocol.specs.Circuit.{Datagram, Release, IsSameState, Outcome, Task, task_of, with_at, saved, offers_with, releases_with, MayLeave, Leaves, store_before_save, memory_before_save, at_save, StepsTo, is_refused, is_idle, is_spent, is_done, is_torn}
+use Rattle.protocol.specs.Circuit.{hears, Datagram, Release, IsSameState, Outcome, Task, task_of, with_at, saved, offers_with, releases_with, MayLeave, Leaves, store_before_save, memory_before_save, at_save, StepsTo, is_refused, is_idle, is_spent, is_done, is_torn}
+use Rattle.packets.specs.Reading.{packet_in, packet_at}
 use Rattle.packets.specs.declared.fault.PacketFault.{PacketFault}
 use Rattle.code_table.specs.Tables.{Places, mean}
 use Rattle.widths.specs.Widths.{WidthFile}
-use Rattle.line_check.specs.Sets.{Sets}
 use Rattle.line_check.specs.Laws.{OneSetting}
 use Rattle.line_check.specs.declared.slug.Slug.{Slug}
 use Rattle.line_check.specs.declared.fault.SetFault.{SetFault}
@@ -29,16 +30,17 @@ use Rattle.node_core.specs.Turns.{note_value}
 use Rattle.station.specs.declared.station.Station.{Station}
 use Rattle.station.specs.declared.answer.Answer.{Answer}
 use Rattle.station.specs.declared.answer.Release.{Release as Handed}
-use Rattle.station.specs.Readiness.{IsReleased, slugs_of}
-use Rattle.station.specs.Stations.{Sight, IsFixed}
+use Rattle.station.specs.Readiness.{IsReleased, SetsEntry, slugs_of}
+use Rattle.station.specs.Speaking.{is_lower}
+use Rattle.station.specs.Stations.{Sight, IsFixed, Follows, wire_at}
 use Rattle.station.specs.Stations as stations
 use Rattle.station.specs.Steps.{WasRead, turn_of, Done, AtSave, TornByStore, TornByMemory, Spent, Asks, AsksEarly}
 use Rattle.world.specs.declared.world.World.{World}
-use Rattle.world.specs.Setups.{StationCircuit, StationState}
-use Rattle.world.specs.Reach.{Shows, StandsFor}
+use Rattle.world.specs.Setups.{StationCircuit, StationState, IsSetUp}
+use Rattle.world.specs.Reach.{IsAt, Shows, StandsFor}
 use Rattle.world.specs.Logging.{logged}
 use Rattle.world.proofs.Members.{Changes, Elsewhere, with_at-other, with_at-same, with_at-self, within, shown, stands_after}
-use Rattle.world.proofs.Alike.{faulty_alike, refusal_alike, early_alike, event_alike, unstopped}
+use Rattle.world.proofs.Alike.{entry_alike, one_entry_setting, refusal_alike, early_alike, event_alike, unstopped}
 
 -- the words of rows that can balk, as their trait has them there
 abbrev pub balky_sight : {R : Type 0} → Sight R → (R → ℕ) → Sight (Balky R)
@@ -46,6 +48,7 @@ balky_sight x refusals = record {
   kept = λ s. x.kept s.rows;
   is_open = λ s. x.is_open s.rows;
   saved = λ s. x.saved s.rows;
+  version = λ s. x.version s.rows;
   alike = λ old new. (new.armed ≡ old.armed) × (refusals old.rows ≤ refusals new.rows) × x.alike old.rows new.rows;
   passes = λ old new. (old.armed ≡ None) × (new.armed ≡ None) × x.passes old.rows new.rows;
   tells = λ old new number row. (new.armed ≡ None)
@@ -79,29 +82,59 @@ saved_here rows m n row j = ap (λ (f : ℕ → Row). f j) (with_at-same rows m 
 
 -- what is logged of a release is what the state logs
 logs_release :
-    (z : StationCircuit) (one : OneSetting) (table : Places) (widths : WidthFile) (m n : ℕ) (rs : List (Release (List Slug) SetFault)) (o : Option Tape) (q : Option Handed)
-    → ((t : Tape) → Sets (mean table) widths t (z.sets m t)) → IsReleased table widths n o q → releases_with z rs m n o ≡ rs ++ logged m q
+    (z : StationCircuit) (one : OneSetting) (table : Places) (widths : WidthFile) (m n : ℕ) (rs : List (Release (List Slug) SetFault)) (o : Option Entry) (q : Option Handed)
+    → ((t : Entry) → SetsEntry (mean table) widths t (z.sets m t)) → IsReleased table widths n o q → releases_with z rs m n o ≡ rs ++ logged m q
 logs_release z one table widths m n rs None None sets h = sym (append-nil rs)
 logs_release z one table widths m n rs None (Some r) sets h = absurd h
 logs_release z one table widths m n rs (Some t) None sets h = absurd h
 logs_release z one table widths m n rs (Some t) (Some r) sets h =
-    let set : z.sets m t ≡ slugs_of r.set = one (mean table) widths t (z.sets m t) (slugs_of r.set) (sets t) h.2 in
-    λ i. rs ++ record { member = m; number = sym h.0 i; tape = sym h.1 i; set = set i } ∷ []
+    let set : z.sets m t ≡ slugs_of r.set = one_entry_setting one (mean table) widths t (z.sets m t) (slugs_of r.set) (sets t) h.2 in
+    λ i. rs ++ record { member = m; number = sym h.0 i; entry = sym h.1 i; set = set i } ∷ []
+
+-- a station that speaks the version of its rows goes on in it, stopped or not
+wire_stays : {R : Type 0} (x : Sight R) (refusals : R → ℕ) (v : Version) (s : Station (Balky R)) → IsAt x.version v s → wire_at (balky_sight x refusals) s ≡ s.speaker.wire
+wire_stays x refusals v s at = go s.stopped
+  where
+    go : (b : Bool) → (if b then s.speaker.wire else x.version s.rows.rows) ≡ s.speaker.wire
+    go true = refl
+    go false = at.rows ∙ sym at.wire
+
+-- it does so where a step keeps the version of its rows
+pub goes_on_at :
+    {R : Type 0} (x : Sight R) (refusals : R → ℕ) (v : Version) (s s' : Station (Balky R)) → IsAt x.version v s → x.version s'.rows.rows ≡ x.version s.rows.rows
+    → s'.speaker.wire ≡ wire_at (balky_sight x refusals) s → IsAt x.version v s'
+goes_on_at x refusals v s s' at rows wire = record { wire = wire ∙ (wire_stays x refusals v s at ∙ at.wire); rows = rows ∙ at.rows }
+
+-- a member reads what the grammar of its version gives
+hears_at : {tables : ℕ → Places} {files : ℕ → WidthFile} (z : StationCircuit) → IsSetUp tables files z → (v : Version) (bytes : List ℕ) → hears z v bytes ≡ packet_at v bytes
+hears_at z set_up One bytes = set_up.reads One bytes
+hears_at z set_up Two bytes = set_up.reads (z.version_of bytes) bytes ∙ ap (λ (v : Version). packet_in v bytes) (set_up.version_of bytes)
+
+never_lower : (v : Version) → is_lower v v ≡ false
+never_lower One = refl
+never_lower Two = refl
+
+-- a station that speaks the version of its rows takes over what it spoke
+pub followed : {R : Type 0} (x : Sight R) (refusals : R → ℕ) (v : Version) (s found : Station (Balky R)) → IsAt x.version v s → Follows (balky_sight x refusals) s found → found ≡ s
+followed {R = R} x refusals v s found at f =
+    let wire : wire_at (balky_sight x refusals) s ≡ s.speaker.wire = wire_stays x refusals v s at in
+    let core : found.speaker.core ≡ s.speaker.core = f.keeps (ap (λ (a : Version). is_lower a s.speaker.wire) wire ∙ never_lower s.speaker.wire) in
+    f.same ∙ (λ i. record s { speaker = record { core = core i; wire = (f.wire ∙ wire) i } })
 
 module _ {R : Type 0} (x : Sight R) (refusals : R → ℕ) (z : StationCircuit) (v v' : World R) (w : StationState) (i m : ℕ) (s s' : Station (Balky R))
-    (ch : Changes v v' i m s s') (h : StandsFor x.is_open x.saved z v w) where
+    (ch : Changes v v' i m s s') (h : StandsFor x.is_open x.saved x.version z v w) (at : IsAt x.version (w.version m) s') where
   -- it takes this step, ends so, and stands for the state that this leads to
   abbrev pub Comes : circuit.Step → Outcome PacketFault SetFault → Type 0
-  Comes step o = (after : StationState) × StandsFor x.is_open x.saved z v' after × StepsTo z w step o after
+  Comes step o = (after : StationState) × StandsFor x.is_open x.saved x.version z v' after × StepsTo z w step o after
 
   -- the step asks this member so
   abbrev pub Sends : circuit.Step → Call → Type 0
   Sends step call = task_of w.sent step ≡ Some (record { member = m; call = call })
 
-  old : Shows x.is_open x.saved h.tables h.files z w m s
-  old = shown v v' i m s s' ch x.is_open x.saved z w h
+  old : Shows x.is_open x.saved x.version h.tables h.files z w m s
+  old = shown v v' i m s s' ch x.is_open x.saved x.version z w h
 
-  pub stood : CoreStandsFor s.core (w.marks m)
+  pub stood : CoreStandsFor s.speaker.core (w.marks m)
   stood = old.marks
 
   pub member : IsMember z.count m
@@ -111,33 +144,36 @@ module _ {R : Type 0} (x : Sight R) (refusals : R → ℕ) (z : StationCircuit) 
       let c : z.count ≡ length v.stations.items = h.count in
       (omega arith, omega arith)
 
-  sets : (tape : Tape) → Sets (mean s.table) s.widths tape (z.sets m tape)
-  sets tape =
-      let a = subst (λ (t : Places). Sets (mean t) (h.files m) tape (z.sets m tape)) (sym old.table) (h.set_up.sets m tape) in
-      subst (λ (f : WidthFile). Sets (mean s.table) f tape (z.sets m tape)) (sym old.widths) a
+  sets : (entry : Entry) → SetsEntry (mean s.table) s.widths entry (z.sets m entry)
+  sets entry =
+      let a = subst (λ (t : Places). SetsEntry (mean t) (h.files m) entry (z.sets m entry)) (sym old.table) (h.set_up.sets m entry) in
+      subst (λ (f : WidthFile). SetsEntry (mean s.table) f entry (z.sets m entry)) (sym old.widths) a
 
-  seat_is : circuit.seat_at z m ≡ seat_of s.core
+  -- the member reads bytes, and has spellings for entries, as the station does in the version that it speaks
+  reads : (bytes : List ℕ) → hears z (w.version m) bytes ≡ packet_at s.speaker.wire bytes
+  reads bytes = hears_at z h.set_up (w.version m) bytes ∙ ap (λ (a : Version). packet_at a bytes) (sym old.is_at.wire)
+
+  spells : (entry : Entry) → fits (w.version m) entry ≡ fits s.speaker.wire entry
+  spells entry = ap (λ (a : Version). fits a entry) (sym old.is_at.wire)
+
+  faults : (entry : Entry) → setting_refusal {D = PacketFault} (z.sets m entry) ≡ setting_refusal {D = PacketFault} (stations.sets_entry s.table s.widths entry)
+  faults entry = entry_alike s.table s.widths entry (z.sets m entry) (sets entry)
+
+  seat_is : circuit.seat_at z m ≡ seat_of s.speaker.core
   seat_is = λ j. sits (sym old.circuit j) (sym old.me j) (sym old.members j)
 
   refusal_is : (call : Call) → refusal (circuit.setup_of z (w.version m) m) (w.is_stopped m) (w.marks m) call ≡ refusal (stations.setup_of s) s.stopped (w.marks m) call
   refusal_is call =
       ap (λ (b : Bool). refusal (circuit.setup_of z (w.version m) m) b (w.marks m) call) (sym old.stopped)
-      ∙ ap (λ (v : Version). refusal (circuit.setup_of z v m) s.stopped (w.marks m) call) (h.one m)
-      ∙ refusal_alike (circuit.setup_of z One m) (stations.setup_of s) seat_is h.set_up.reads (λ tape. refl)
-      (λ tape. faulty_alike (mean s.table) s.widths tape (z.sets m tape) (sets tape)) s.stopped (w.marks m) call
+      ∙ refusal_alike (circuit.setup_of z (w.version m) m) (stations.setup_of s) seat_is reads spells faults s.stopped (w.marks m) call
 
   early_is : (call : Call) → early_refusal (circuit.setup_of z (w.version m) m) (w.is_stopped m) (w.marks m) call ≡ early_refusal (stations.setup_of s) s.stopped (w.marks m) call
   early_is call =
       ap (λ (b : Bool). early_refusal (circuit.setup_of z (w.version m) m) b (w.marks m) call) (sym old.stopped)
-      ∙ ap (λ (v : Version). early_refusal (circuit.setup_of z v m) s.stopped (w.marks m) call) (h.one m)
-      ∙ early_alike (circuit.setup_of z One m) (stations.setup_of s) seat_is h.set_up.reads (λ tape. refl)
-      (λ tape. faulty_alike (mean s.table) s.widths tape (z.sets m tape) (sets tape)) s.stopped (w.marks m) call
+      ∙ early_alike (circuit.setup_of z (w.version m) m) (stations.setup_of s) seat_is reads spells faults s.stopped (w.marks m) call
 
   event_is : (call : Call) → event_of (circuit.setup_of z (w.version m) m) (w.marks m) call ≡ event_of (stations.setup_of s) (w.marks m) call
-  event_is call =
-      ap (λ (v : Version). event_of (circuit.setup_of z v m) (w.marks m) call) (h.one m)
-      ∙ event_alike (circuit.setup_of z One m) (stations.setup_of s) seat_is h.set_up.reads (λ tape. refl)
-      (λ tape. faulty_alike (mean s.table) s.widths tape (z.sets m tape) (sets tape)) (w.marks m) call
+  event_is call = event_alike (circuit.setup_of z (w.version m) m) (stations.setup_of s) seat_is reads spells faults (w.marks m) call
 
   -- a turn of the station's is one of the state's
   turns : (e : Event) (o : Option Turn) → x.is_open s.rows.rows → turn_of (balky_sight x refusals) s (w.marks m) e ≡ o → turn (circuit.seat_at z m) (w.marks m) (w.rows m (number_of e)) e ≡ o
@@ -145,11 +181,11 @@ module _ {R : Type 0} (x : Sight R) (refusals : R → ℕ) (z : StationCircuit) 
 
   -- a state that differs in nothing is shown by a station that differs in its rows' reading alone
   read_alone :
-      IsFixed s s' → s'.stopped ≡ s.stopped → CoreStandsFor s'.core (w.marks m)
+      IsFixed s s' → s'.stopped ≡ s.stopped → CoreStandsFor s'.speaker.core (w.marks m)
       → (s'.rows ≡ s.rows) ⊎ WasRead (balky_sight x refusals) s.rows s'.rows
-      → v'.sent.items ≡ v.sent.items → v'.offers.items ≡ v.offers.items → v'.releases.items ≡ v.releases.items → StandsFor x.is_open x.saved z v' w
+      → v'.sent.items ≡ v.sent.items → v'.offers.items ≡ v.offers.items → v'.releases.items ≡ v.releases.items → StandsFor x.is_open x.saved x.version z v' w
   read_alone fixed stopped stands read sent offers releases =
-      stands_after v v' i m s s' ch x.is_open x.saved z w h w new others (h.sent ∙ sym sent) (h.offers ∙ sym offers) (h.releases ∙ sym releases)
+      stands_after v v' i m s s' ch x.is_open x.saved x.version z w h w new others (h.sent ∙ sym sent) (h.offers ∙ sym offers) (h.releases ∙ sym releases)
     where
       others : Elsewhere w w m
       others = record { version = λ k. refl; rows = λ k ne j. refl; marks = λ k ne. refl; stopped = λ k ne. refl; armed = λ k ne. refl }
@@ -160,13 +196,14 @@ module _ {R : Type 0} (x : Sight R) (refusals : R → ℕ) (z : StationCircuit) 
         | inr r ↦ (λ here j. r.same here j ∙ old.rows (r.was_open here) j, r.alike.0 ∙ old.armed)
       ]
 
-      new : Shows x.is_open x.saved h.tables h.files z w m s'
+      new : Shows x.is_open x.saved x.version h.tables h.files z w m s'
       new = record {
         circuit = fixed.circuit ∙ old.circuit;
         members = fixed.members ∙ old.members;
         me = fixed.me ∙ old.me;
         table = fixed.table ∙ old.table;
         widths = fixed.widths ∙ old.widths;
+        is_at = at;
         rows = rows.0;
         marks = stands;
         stopped = stopped ∙ old.stopped;
@@ -175,17 +212,17 @@ module _ {R : Type 0} (x : Sight R) (refusals : R → ℕ) (z : StationCircuit) 
 
   same_fixed : s' ≡ s → IsFixed s s'
   same_fixed is = record {
-    circuit = ap (λ (t : Station (Balky R)). t.core.circuit) is;
-    members = ap (λ (t : Station (Balky R)). t.core.members) is;
-    me = ap (λ (t : Station (Balky R)). t.core.me) is;
+    circuit = ap (λ (t : Station (Balky R)). t.speaker.core.circuit) is;
+    members = ap (λ (t : Station (Balky R)). t.speaker.core.members) is;
+    me = ap (λ (t : Station (Balky R)). t.speaker.core.me) is;
     table = ap (λ (t : Station (Balky R)). t.table) is;
     widths = ap (λ (t : Station (Balky R)). t.widths) is;
   }
 
   -- the station stayed, and so does the state
-  stayed : s' ≡ s → v'.sent.items ≡ v.sent.items → v'.offers.items ≡ v.offers.items → v'.releases.items ≡ v.releases.items → StandsFor x.is_open x.saved z v' w
+  stayed : s' ≡ s → v'.sent.items ≡ v.sent.items → v'.offers.items ≡ v.offers.items → v'.releases.items ≡ v.releases.items → StandsFor x.is_open x.saved x.version z v' w
   stayed is =
-      read_alone (same_fixed is) (ap (λ (t : Station (Balky R)). t.stopped) is) (subst (λ (t : Station (Balky R)). CoreStandsFor t.core (w.marks m)) (sym is) old.marks)
+      read_alone (same_fixed is) (ap (λ (t : Station (Balky R)). t.stopped) is) (subst (λ (t : Station (Balky R)). CoreStandsFor t.speaker.core (w.marks m)) (sym is) old.marks)
       (inl (ap (λ (t : Station (Balky R)). t.rows) is))
 
   pub refused_comes :
@@ -205,15 +242,15 @@ module _ {R : Type 0} (x : Sight R) (refusals : R → ℕ) (z : StationCircuit) 
       → v'.sent.items ≡ v.sent.items → v'.offers.items ≡ v.offers.items → v'.releases.items ≡ v.releases.items → Comes step (circuit.Refused Rounds_spent)
   spent_comes step call e task asks d sent offers releases = (
     w,
-    read_alone fixed (ap (λ (t : Station (Balky R)). t.stopped) d.same) (subst (λ (t : Station (Balky R)). CoreStandsFor t.core (w.marks m)) (sym d.same) old.marks) (inr d.read) sent offers releases,
+    read_alone fixed (ap (λ (t : Station (Balky R)). t.stopped) d.same) (subst (λ (t : Station (Balky R)). CoreStandsFor t.speaker.core (w.marks m)) (sym d.same) old.marks) (inr d.read) sent offers releases,
     is_spent m call e task member (refusal_is call ∙ asks.unrefused) (event_is call ∙ asks.event) (turns e None d.was_open d.none) refl (same_state w),
   )
     where
       fixed : IsFixed s s'
       fixed = record {
-        circuit = ap (λ (t : Station (Balky R)). t.core.circuit) d.same;
-        members = ap (λ (t : Station (Balky R)). t.core.members) d.same;
-        me = ap (λ (t : Station (Balky R)). t.core.me) d.same;
+        circuit = ap (λ (t : Station (Balky R)). t.speaker.core.circuit) d.same;
+        members = ap (λ (t : Station (Balky R)). t.speaker.core.members) d.same;
+        me = ap (λ (t : Station (Balky R)). t.speaker.core.me) d.same;
         table = ap (λ (t : Station (Balky R)). t.table) d.same;
         widths = ap (λ (t : Station (Balky R)). t.widths) d.same;
       }
@@ -224,7 +261,7 @@ module _ {R : Type 0} (x : Sight R) (refusals : R → ℕ) (z : StationCircuit) 
       → Comes step (circuit.Done (note_value a.note))
   done_comes one step call e a task asks d sent offers releases = (
     after,
-    stands_after v v' i m s s' ch x.is_open x.saved z w h after new others
+    stands_after v v' i m s s' ch x.is_open x.saved x.version z w h after new others
         (ap (λ (l : List Datagram). l ++ a.out.items) h.sent ∙ sym sent)
         (ap (λ (l : List circuit.Offer). offers_with l m e) h.offers ∙ sym offers)
         (ap (λ (l : List (Release (List Slug) SetFault)). releases_with z l m (number_of e) d.taken.release) h.releases
@@ -252,7 +289,9 @@ module _ {R : Type 0} (x : Sight R) (refusals : R → ℕ) (z : StationCircuit) 
       }
 
       carried : AllZip (circuit.Carries z (w.version m)) d.taken.out a.out.items
-      carried = subst (λ (rd : List ℕ → Result Packet PacketFault). AllZip (λ (p : Packet) (g : Datagram). (g.to ≡ p.to) × (rd g.bytes ≡ Ok p)) d.taken.out a.out.items) (λ j bytes. sym (ap (λ (v : Version). z.reads v bytes) (h.one m) ∙ h.set_up.reads bytes) j) d.out
+      carried =
+          subst (λ (rd : List ℕ → Result Packet PacketFault). AllZip (λ (p : Packet) (g : Datagram). (g.to ≡ p.to) × (rd g.bytes ≡ Ok p)) d.taken.out a.out.items)
+          (λ j bytes. sym (h.set_up.reads (w.version m) bytes ∙ ap (λ (v : Version). packet_in v bytes) (sym old.is_at.wire)) j) d.out
 
       told : (w.armed m ≡ None) ⊎ (d.taken.row ≡ w.rows m (number_of e))
       told = elim d.told [
@@ -272,15 +311,16 @@ module _ {R : Type 0} (x : Sight R) (refusals : R → ℕ) (z : StationCircuit) 
       goes : s.stopped ≡ false
       goes = unstopped (stations.setup_of s) s.stopped (w.marks m) call asks.unrefused
 
-      new : Shows x.is_open x.saved h.tables h.files z after m s'
+      new : Shows x.is_open x.saved x.version h.tables h.files z after m s'
       new = record {
         circuit = d.fixed.circuit ∙ old.circuit;
         members = d.fixed.members ∙ old.members;
         me = d.fixed.me ∙ old.me;
         table = d.fixed.table ∙ old.table;
         widths = d.fixed.widths ∙ old.widths;
+        is_at = at;
         rows = λ here j. now_rows j;
-        marks = subst (λ (l : List Mark). CoreStandsFor s'.core l) (sym (with_at-same w.marks m d.taken.marks)) d.stands_for;
+        marks = subst (λ (l : List Mark). CoreStandsFor s'.speaker.core l) (sym (with_at-same w.marks m d.taken.marks)) d.stands_for;
         stopped = d.goes_on ∙ (sym goes ∙ old.stopped);
         armed = armed;
       }
@@ -289,12 +329,12 @@ module _ {R : Type 0} (x : Sight R) (refusals : R → ℕ) (z : StationCircuit) 
   torn_to :
       (step : circuit.Step) (call : Call) (e : Event) (o : Outcome PacketFault SetFault) (row : Row) → Sends step call
       → event_of (stations.setup_of s) (w.marks m) call ≡ Some e
-      → Leaves z w m call e o row s'.rows.armed → IsFixed s s' → s'.stopped ≡ true → CoreStandsFor s'.core []
+      → Leaves z w m call e o row s'.rows.armed → IsFixed s s' → s'.stopped ≡ true → CoreStandsFor s'.speaker.core []
       → (x.is_open s'.rows.rows → (j : ℕ) → x.saved s'.rows.rows j ≡ with_at (w.rows m) (number_of e) row j)
       → v'.sent.items ≡ v.sent.items → v'.offers.items ≡ offers_with v.offers.items m e → v'.releases.items ≡ v.releases.items → Comes step o
   torn_to step call e o row task event leaves fixed stops stands rows sent offers releases = (
     after,
-    stands_after v v' i m s s' ch x.is_open x.saved z w h after new others (h.sent ∙ sym sent) (ap (λ (l : List circuit.Offer). offers_with l m e) h.offers ∙ sym offers) (h.releases ∙ sym releases),
+    stands_after v v' i m s s' ch x.is_open x.saved x.version z w h after new others (h.sent ∙ sym sent) (ap (λ (l : List circuit.Offer). offers_with l m e) h.offers ∙ sym offers) (h.releases ∙ sym releases),
     is_torn m call e row s'.rows.armed task member (event_is call ∙ event) leaves (same_state after),
   )
     where
@@ -316,15 +356,16 @@ module _ {R : Type 0} (x : Sight R) (refusals : R → ℕ) (z : StationCircuit) 
         armed = λ k ne. with_at-other w.armed m s'.rows.armed k ne;
       }
 
-      new : Shows x.is_open x.saved h.tables h.files z after m s'
+      new : Shows x.is_open x.saved x.version h.tables h.files z after m s'
       new = record {
         circuit = fixed.circuit ∙ old.circuit;
         members = fixed.members ∙ old.members;
         me = fixed.me ∙ old.me;
         table = fixed.table ∙ old.table;
         widths = fixed.widths ∙ old.widths;
+        is_at = at;
         rows = λ here j. rows here j ∙ sym (saved_here w.rows m (number_of e) row j);
-        marks = subst (λ (l : List Mark). CoreStandsFor s'.core l) (sym (with_at-same w.marks m [])) stands;
+        marks = subst (λ (l : List Mark). CoreStandsFor s'.speaker.core l) (sym (with_at-same w.marks m [])) stands;
         stopped = stops ∙ sym (with_at-same w.is_stopped m true);
         armed = sym (with_at-same w.armed m s'.rows.armed);
       }

@@ -2,20 +2,20 @@
 use Rattle.std.specs.Prelude.{◌≡◌, ℕ, List}
 use Rattle.protocol.specs.Lists.{IsAmong}
 use Rattle.protocol.specs.Circuit.{Release, State, History}
-use Rattle.protocol.specs.Agreement.{BallotsHaveOneTape, ChosenIsOne, HeardIsVoted, PromisesBind, ReportsAreGreatest, RipeIsChosen, VotesAreBacked, VotesAreOffered, WasOffered}
+use Rattle.protocol.specs.Agreement.{BallotsHaveOneEntry, ChosenIsOne, HeardIsVoted, PromisesBind, ReportsAreGreatest, RipeIsChosen, VotesAreBacked, VotesAreOffered, WasOffered}
 use Rattle.packets.specs.declared.fault.PacketFault.{PacketFault}
 use Rattle.code_table.specs.Tables.{Places, mean}
 use Rattle.widths.specs.Widths.{WidthFile}
 use Rattle.line_check.specs.declared.slug.Slug.{Slug}
 use Rattle.line_check.specs.declared.fault.SetFault.{SetFault}
-use Rattle.line_check.specs.Sets.{Sets}
+use Rattle.station.specs.Readiness.{SetsEntry}
 use Rattle.world.specs.Setups.{StationCircuit, IsSetUp}
 
--- all votes and Accepts of one number and ballot carry one tape
-abbrev pub OneTape : Type 0
-OneTape = BallotsHaveOneTape PacketFault (List Slug) SetFault
+-- all votes and Accepts of one number and ballot carry one entry
+abbrev pub OneEntry : Type 0
+OneEntry = BallotsHaveOneEntry PacketFault (List Slug) SetFault
 
--- every voted tape was offered
+-- every voted entry was offered
 abbrev pub VotesOffered : Type 0
 VotesOffered = VotesAreOffered PacketFault (List Slug) SetFault
 
@@ -39,16 +39,16 @@ HeardVoted = HeardIsVoted PacketFault (List Slug) SetFault
 abbrev pub RipeChosen : Type 0
 RipeChosen = RipeIsChosen PacketFault (List Slug) SetFault
 
--- two tapes that are chosen for one number are equal
+-- two entries that are chosen for one number are equal
 abbrev pub OneChosen : Type 0
 OneChosen = ChosenIsOne PacketFault (List Slug) SetFault
 
--- any two releases of one number have equal tapes; each released tape was offered for its number,
--- and what was made of it is what its member's table and widths make of it: its slugs, or its fault
+-- any two releases of one number have equal entries; each released entry was offered for its number,
+-- and what was made of it is what its member's table and widths make of it: a tape's slugs, or its fault
 pub record AreAgreed (tables : ℕ → Places) (files : ℕ → WidthFile) (w : State (List Slug) SetFault) : Type 0 where
-  pub one : (x y : Release (List Slug) SetFault) → IsAmong w.releases x → IsAmong w.releases y → x.number ≡ y.number → x.tape ≡ y.tape
-  pub offered : (x : Release (List Slug) SetFault) → IsAmong w.releases x → WasOffered w x.number x.tape
-  pub set : (x : Release (List Slug) SetFault) → IsAmong w.releases x → Sets (mean (tables x.member)) (files x.member) x.tape x.set
+  pub one : (x y : Release (List Slug) SetFault) → IsAmong w.releases x → IsAmong w.releases y → x.number ≡ y.number → x.entry ≡ y.entry
+  pub offered : (x : Release (List Slug) SetFault) → IsAmong w.releases x → WasOffered w x.number x.entry
+  pub set : (x : Release (List Slug) SetFault) → IsAmong w.releases x → SetsEntry (mean (tables x.member)) (files x.member) x.entry x.set
 
 -- there is a circuit of stations of any number and member count, whatever their tables and width files
 abbrev pub CircuitsExist : Type 0

@@ -1,11 +1,13 @@
 -- What a world logs of a station's answer.
 use Rattle.std.specs.Prelude.{ℕ, ◌+◌, ◌≤◌, ◌<◌, List, [], ◌∷◌, Option, Some, None, Result, Ok, Err, Bool, false, length, is_some, vec_len, vec_capacity, if◌then◌else◌}
+use Rattle.protocol.specs.Entries.{Entry}
 use Rattle.protocol.specs.Circuit as circuit
+use Rattle.tape_frames.specs.Entries.{owned_entry}
 use Rattle.line_check.specs.declared.slug.Slug.{Slug}
 use Rattle.line_check.specs.declared.fault.SetFault.{SetFault}
 use Rattle.station.specs.declared.answer.Answer.{Answer}
 use Rattle.station.specs.declared.answer.Release.{Release}
-use Rattle.station.specs.declared.refusal.StepRefusal.{StepRefusal}
+use Rattle.refusals.specs.declared.refusal.StepRefusal.{StepRefusal}
 use Rattle.station.specs.Readiness.{slugs_of}
 use Rattle.world.specs.declared.step.Outcome.{Outcome}
 use Rattle.world.specs.declared.step.Outcome.TheVariants as outcomes
@@ -21,7 +23,7 @@ out_of (Err refusal) = []
 -- the log of a release by member m
 abbrev pub logged : ℕ → Option Release → List (circuit.Release (List Slug) SetFault)
 logged m None = []
-logged m (Some r) = record { member = m; number = r.number; tape = r.tape; set = slugs_of r.set } ∷ []
+logged m (Some r) = record { member = m; number = r.number; entry = owned_entry r.entry; set = slugs_of r.set } ∷ []
 
 -- the log of an answer's release
 abbrev pub released_of : ℕ → Result Answer StepRefusal → List (circuit.Release (List Slug) SetFault)
@@ -39,8 +41,8 @@ outcome_of (Ok a) = outcomes.Done a.note
 outcome_of (Err refusal) = outcomes.Refused refusal
 
 -- the log of an offer to member m
-abbrev pub offered_of : ℕ → ℕ → List ℕ → Outcome → List circuit.Offer
-offered_of m n tape o = if was_taken o then record { member = m; number = n; tape = tape } ∷ [] else []
+abbrev pub offered_of : ℕ → ℕ → Entry → Outcome → List circuit.Offer
+offered_of m n entry o = if was_taken o then record { member = m; number = n; entry = entry } ∷ [] else []
 
 -- what is seen of an answer of member m, before which so many datagrams were sent
 abbrev pub seen_of : ℕ → ℕ → Result Answer StepRefusal → Seen

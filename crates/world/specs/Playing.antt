@@ -1,6 +1,6 @@
 -- A circuit that is played from its beginning: where its steps lead, and why it is not played.
 use Rattle.std.specs.Prelude.{◌≡◌, ℕ, List, Result, map}
-use Rattle.protocol.specs.Versions.{One}
+use Rattle.protocol.specs.Versions.{Version}
 use Rattle.protocol.specs.Circuit.{fresh}
 use Rattle.saved_rows.specs.declared.rows.Rows.{Ghosts}
 use Rattle.world.specs.declared.world.World.{World}
@@ -12,10 +12,10 @@ use Rattle.world.specs.Setups.{StationCircuit}
 use Rattle.world.specs.Founding.{Part, Given, given_of, IsCount, IsFounded, IsCircuitOf}
 use Rattle.world.specs.Reach.{Runs, StandsFor}
 
--- from the fresh state of the circuit of these members, all at version 1, the steps lead to a state that the world stands for,
+-- from the fresh state of the circuit of these members, each at its version, the steps lead to a state that the world stands for,
 -- or those before the one that was refused do
-abbrev pub Plays : {R A : Type 0} → Ghosts R → ℕ → List Given → List Step → World R → Result A RunStop → Type 0
-Plays g k members steps v run = (z : StationCircuit) → IsCircuitOf k members z → Runs g.is_open g.saved z (fresh (λ _. One)) steps v run
+abbrev pub Plays : {R A : Type 0} → Ghosts R → ℕ → List Given → (ℕ → Version) → List Step → World R → Result A RunStop → Type 0
+Plays g k members at steps v run = (z : StationCircuit) → IsCircuitOf k members z → Runs g.is_open g.saved g.version z (fresh at) steps v run
 
 -- it is not played since no circuit has so many members; or one has, and memory was refused
 abbrev pub IsUnplayed : ℕ → PlayFault → Type 0
@@ -23,9 +23,9 @@ IsUnplayed count BadCount = ¬ IsCount count
 IsUnplayed count OutOfMemory = IsCount count
 
 -- circuit k of these members, whatever their rows, and nothing went between them
-abbrev pub IsBeginning : {R : Type 0} → ℕ → List Given → World R → Type 0
-IsBeginning {R = R} k members v = (parts : List (Part R)) × (map given_of parts ≡ members) × IsFounded k parts v
+abbrev pub IsBeginning : {R : Type 0} → Ghosts R → ℕ → List Given → World R → Type 0
+IsBeginning {R = R} g k members v = (parts : List (Part R)) × (map given_of parts ≡ members) × IsFounded g.version k parts v
 
--- the world stands for the fresh state of the circuit of these members, all at version 1
-abbrev pub IsFresh : {R : Type 0} → Ghosts R → ℕ → List Given → World R → Type 0
-IsFresh g k members v = (z : StationCircuit) → IsCircuitOf k members z → StandsFor g.is_open g.saved z v (fresh (λ _. One))
+-- the world stands for the fresh state of the circuit of these members, each at its version
+abbrev pub IsFresh : {R : Type 0} → Ghosts R → ℕ → List Given → (ℕ → Version) → World R → Type 0
+IsFresh g k members at v = (z : StationCircuit) → IsCircuitOf k members z → StandsFor g.is_open g.saved g.version z v (fresh at)

@@ -1,12 +1,12 @@
 -- The states of a circuit that a world stands for, where its steps lead, and what is agreed in it.
 use Rattle.std.specs.Prelude.{◌≡◌, ℕ, List, [], ◌∷◌, Some, Result, Ok, Err, take}
 use Rattle.protocol.specs.Lists.{IsAmong}
-use Rattle.protocol.specs.Versions.{One}
+use Rattle.protocol.specs.Entries.{Entry}
+use Rattle.protocol.specs.Versions.{Version}
 use Rattle.protocol.specs.Circuit.{Release, Outcome, StepsTo, History}
 use Rattle.packets.specs.declared.fault.PacketFault.{PacketFault}
 use Rattle.code_table.specs.Tables.{Places, mean}
 use Rattle.widths.specs.Widths.{WidthFile}
-use Rattle.line_check.specs.Sets.{Sets}
 use Rattle.line_check.specs.declared.slug.Slug.{Slug}
 use Rattle.line_check.specs.declared.fault.SetFault.{SetFault}
 use Rattle.saved_rows.specs.Saved.{Saved}
@@ -14,6 +14,7 @@ use Rattle.saved_rows.specs.declared.balky.Balky.{Balky}
 use Rattle.saved_rows.specs.declared.rows.Rows.{Ghosts}
 use Rattle.node_core.specs.Standing.{StandsFor as CoreStandsFor}
 use Rattle.station.specs.declared.station.Station.{Station}
+use Rattle.station.specs.Readiness.{SetsEntry}
 use Rattle.world.specs.declared.world.World.{World}
 use Rattle.world.specs.declared.step.Step.{Step}
 use Rattle.world.specs.declared.step.Seen.{Seen}
@@ -35,37 +36,41 @@ AllMade {R = R} made v = (m : ℕ) (s : Station (Balky R)) → station_at v m �
 abbrev pub AllHonest : {R : Type 0} → (R → Type 0) → World R → Type 0
 AllHonest {R = R} honest v = (m : ℕ) (s : Station (Balky R)) → station_at v m ≡ Some s → honest s.rows.rows
 
+-- the station speaks this version, and its rows are at it
+pub record IsAt {R : Type 0} (version : R → Version) (v : Version) (s : Station (Balky R)) : Type 0 where
+  pub wire : s.speaker.wire ≡ v
+  pub rows : version s.rows.rows ≡ v
+
 -- a station is what the state has of member m, with its table and its width file
-pub record Shows {R : Type 0} (is_open : R → Type 0) (saved : R → Saved) (tables : ℕ → Places) (files : ℕ → WidthFile) (z : StationCircuit) (w : StationState) (m : ℕ) (s : Station (Balky R)) : Type 0 where
-  pub circuit : s.core.circuit ≡ z.number
-  pub members : s.core.members ≡ z.count
-  pub me : s.core.me ≡ m
+pub record Shows {R : Type 0} (is_open : R → Type 0) (saved : R → Saved) (version : R → Version) (tables : ℕ → Places) (files : ℕ → WidthFile) (z : StationCircuit) (w : StationState) (m : ℕ) (s : Station (Balky R)) : Type 0 where
+  pub circuit : s.speaker.core.circuit ≡ z.number
+  pub members : s.speaker.core.members ≡ z.count
+  pub me : s.speaker.core.me ≡ m
   pub table : s.table ≡ tables m
   pub widths : s.widths ≡ files m
+  pub is_at : IsAt version (w.version m) s
   pub rows : is_open s.rows.rows → (n : ℕ) → saved s.rows.rows n ≡ w.rows m n
-  pub marks : CoreStandsFor s.core (w.marks m)
+  pub marks : CoreStandsFor s.speaker.core (w.marks m)
   pub stopped : s.stopped ≡ w.is_stopped m
   pub armed : s.rows.armed ≡ w.armed m
 
--- the world stands for this state of this circuit: each station is what the state has of its member, all are at version 1,
--- and the logs are the state's
-pub record StandsFor {R : Type 0} (is_open : R → Type 0) (saved : R → Saved) (z : StationCircuit) (v : World R) (w : StationState) : Type 0 where
+-- the world stands for this state of this circuit: each station is what the state has of its member, and the logs are the state's
+pub record StandsFor {R : Type 0} (is_open : R → Type 0) (saved : R → Saved) (version : R → Version) (z : StationCircuit) (v : World R) (w : StationState) : Type 0 where
   pub tables : ℕ → Places
   pub files : ℕ → WidthFile
   pub set_up : IsSetUp tables files z
   pub count : z.count ≡ count_of v
-  pub each : (m : ℕ) (s : Station (Balky R)) → station_at v m ≡ Some s → Shows is_open saved tables files z w m s
-  pub one : (m : ℕ) → w.version m ≡ One
+  pub each : (m : ℕ) (s : Station (Balky R)) → station_at v m ≡ Some s → Shows is_open saved version tables files z w m s
   pub sent : w.sent ≡ v.sent.items
   pub offers : w.offers ≡ v.offers.items
   pub releases : w.releases ≡ v.releases.items
 
 -- the state goes on by this step, which ends as what was seen of it; where the step was refused the state stays
-abbrev pub Moves : {R : Type 0} → (R → Type 0) → (R → Saved) → (R → ℕ) → StationCircuit → StationState → Step → World R → World R → Result Seen WorldRefusal → Type 0
-Moves is_open saved count z w step old new (Ok seen) =
-    (after : StationState) × StandsFor is_open saved z new after
+abbrev pub Moves : {R : Type 0} → (R → Type 0) → (R → Saved) → (R → Version) → (R → ℕ) → StationCircuit → StationState → Step → World R → World R → Result Seen WorldRefusal → Type 0
+Moves is_open saved version count z w step old new (Ok seen) =
+    (after : StationState) × StandsFor is_open saved version z new after
     × (o : Outcome PacketFault SetFault) × EndsAs seen.outcome (RowsRefused count old new seen.member) o × StepsTo z w (step_value step) o after
-Moves is_open saved count z w step old new (Err refusal) = StandsFor is_open saved z new w
+Moves is_open saved version count z w step old new (Err refusal) = StandsFor is_open saved version z new w
 
 -- these steps, one after the other, lead from one state to another
 abbrev pub Leads : StationCircuit → StationState → List Step → StationState → Type 0
@@ -74,31 +79,31 @@ Leads z w (step ∷ steps) after =
     (o : Outcome PacketFault SetFault) × (mid : StationState) × StepsTo z w (step_value step) o mid × Leads z mid steps after
 
 -- the steps, or those before the one that was refused, lead to a state that the world stands for
-abbrev pub Runs : {R A : Type 0} → (R → Type 0) → (R → Saved) → StationCircuit → StationState → List Step → World R → Result A RunStop → Type 0
-Runs is_open saved z w steps new (Ok x) = (after : StationState) × StandsFor is_open saved z new after × Leads z w steps after
-Runs is_open saved z w steps new (Err stop) = (after : StationState) × StandsFor is_open saved z new after × Leads z w (take stop.at steps) after
+abbrev pub Runs : {R A : Type 0} → (R → Type 0) → (R → Saved) → (R → Version) → StationCircuit → StationState → List Step → World R → Result A RunStop → Type 0
+Runs is_open saved version z w steps new (Ok x) = (after : StationState) × StandsFor is_open saved version z new after × Leads z w steps after
+Runs is_open saved version z w steps new (Err stop) = (after : StationState) × StandsFor is_open saved version z new after × Leads z w (take stop.at steps) after
 
 -- some history of the circuit leads to a state that the world stands for
-abbrev pub Reached : {R : Type 0} → (R → Type 0) → (R → Saved) → StationCircuit → World R → Type 0
-Reached is_open saved z v = (w : StationState) × StandsFor is_open saved z v w × History z w
+abbrev pub Reached : {R : Type 0} → (R → Type 0) → (R → Saved) → (R → Version) → StationCircuit → World R → Type 0
+Reached is_open saved version z v = (w : StationState) × StandsFor is_open saved version z v w × History z w
 
 -- what each member's rows stand on was made for it; and where their hosts were honest, some history of some circuit
 -- leads to a state that the world stands for
 pub record IsReached {R : Type 0} (g : Ghosts R) (v : World R) : Type 0 where
   pub made : AllMade g.made v
-  pub reached : AllHonest g.honest v → (z : StationCircuit) × Reached g.is_open g.saved z v
+  pub reached : AllHonest g.honest v → (z : StationCircuit) × Reached g.is_open g.saved g.version z v
 
--- a tape was offered to some member for this number
-abbrev pub IsOffered : {R : Type 0} → World R → ℕ → List ℕ → Type 0
-IsOffered v n tape = (k : ℕ) × IsAmong v.offers.items (record { member = k; number = n; tape = tape })
+-- an entry was offered to some member for this number
+abbrev pub IsOffered : {R : Type 0} → World R → ℕ → Entry → Type 0
+IsOffered v n entry = (k : ℕ) × IsAmong v.offers.items (record { member = k; number = n; entry = entry })
 
--- the slugs, or the fault, are what this station's own code table and widths make of the tape
-abbrev pub SetsAs : {R : Type 0} → Station (Balky R) → List ℕ → Result (List Slug) SetFault → Type 0
-SetsAs s tape set = Sets (mean s.table) s.widths tape set
+-- the slugs, or the fault, are what this station's own code table and widths make of the entry: of a withdrawal no slug
+abbrev pub SetsAs : {R : Type 0} → Station (Balky R) → Entry → Result (List Slug) SetFault → Type 0
+SetsAs s entry set = SetsEntry (mean s.table) s.widths entry set
 
--- the headline, of a world's own logs: any two releases of one number have equal tapes; each released tape was offered for its
+-- the headline, of a world's own logs: any two releases of one number have equal entries; each released entry was offered for its
 -- number; and each was released by a member, whose station's table and widths give it these slugs, or this fault
 pub record Agreed {R : Type 0} (v : World R) : Type 0 where
-  pub one : (x y : Release (List Slug) SetFault) → IsAmong v.releases.items x → IsAmong v.releases.items y → x.number ≡ y.number → x.tape ≡ y.tape
-  pub offered : (x : Release (List Slug) SetFault) → IsAmong v.releases.items x → IsOffered v x.number x.tape
-  pub set : (x : Release (List Slug) SetFault) → IsAmong v.releases.items x → (s : Station (Balky R)) × (station_at v x.member ≡ Some s) × SetsAs s x.tape x.set
+  pub one : (x y : Release (List Slug) SetFault) → IsAmong v.releases.items x → IsAmong v.releases.items y → x.number ≡ y.number → x.entry ≡ y.entry
+  pub offered : (x : Release (List Slug) SetFault) → IsAmong v.releases.items x → IsOffered v x.number x.entry
+  pub set : (x : Release (List Slug) SetFault) → IsAmong v.releases.items x → (s : Station (Balky R)) × (station_at v x.member ≡ Some s) × SetsAs s x.entry x.set

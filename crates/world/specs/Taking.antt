@@ -1,5 +1,6 @@
 -- Steps, outcomes and refusals of a world in the protocol's words, and what a step adds to the logs.
 use Rattle.std.specs.Prelude.{◌≡◌, ◌⊎◌, ℕ, ◌+◌, List, [], ◌∷◌, ◌++◌, Option, Some, None, IsSome, Result, Ok, Err, Bool, true, false, length, option_map, slice_get, take, if◌then◌else◌}
+use Rattle.protocol.specs.Entries.{Entry, Void, Taped}
 use Rattle.protocol.specs.Circuit as circuit
 use Rattle.protocol.specs.Refusals as refusals
 use Rattle.packets.specs.declared.fault.PacketFault.{PacketFault}
@@ -13,8 +14,8 @@ use Rattle.node_core.specs.Turns.{note_value}
 use Rattle.station.specs.declared.station.Station.{Station}
 use Rattle.station.specs.Stations.{sight}
 use Rattle.station.specs.Steps.{IsBlamed}
-use Rattle.station.specs.declared.refusal.StepRefusal.{StepRefusal}
-use Rattle.station.specs.declared.refusal.StepRefusal.TheVariants.{Stopped, BadDatagram, WrongCircuit, NotForMe, Stranger, BadNumber, AlreadyReleased, AlreadyOpen, TapeFaulty, RoundsSpent, Store, OutOfMemory}
+use Rattle.refusals.specs.declared.refusal.StepRefusal.{StepRefusal}
+use Rattle.refusals.specs.declared.refusal.StepRefusal.TheVariants.{Stopped, BadDatagram, WrongCircuit, NotForMe, Stranger, BadNumber, AlreadyReleased, AlreadyOpen, WireTooOld, TapeFaulty, RoundsSpent, Store, OutOfMemory}
 use Rattle.world.specs.declared.step.Step.{Step}
 use Rattle.world.specs.declared.step.Step.TheVariants as steps
 use Rattle.world.specs.declared.step.Outcome.{Outcome}
@@ -28,7 +29,8 @@ use Rattle.world.specs.Worlds.{count_of, station_at, IsSame, GoesOn}
 
 -- the step of the circuit
 abbrev pub step_value : Step → circuit.Step
-step_value (steps.Offer member number tape now) = circuit.Offers member number tape now
+step_value (steps.Offer member number tape now) = circuit.Offers member number (Taped tape) now
+step_value (steps.Withdraw member number now) = circuit.Offers member number Void now
 step_value (steps.Seek member number now) = circuit.Seeks member number now
 step_value (steps.Due member now) = circuit.Falls_due member now
 step_value (steps.Deliver k now) = circuit.Delivers k now
@@ -46,6 +48,7 @@ RefusedAs Stranger own o = o ≡ circuit.Refused refusals.Stranger
 RefusedAs BadNumber own o = o ≡ circuit.Refused refusals.Bad_number
 RefusedAs AlreadyReleased own o = o ≡ circuit.Refused refusals.Already_released
 RefusedAs AlreadyOpen own o = o ≡ circuit.Refused refusals.Already_open
+RefusedAs WireTooOld own o = o ≡ circuit.Refused refusals.Wire_too_old
 RefusedAs (TapeFaulty fault) own o = o ≡ circuit.Refused (refusals.Tape_faulty fault)
 RefusedAs RoundsSpent own o = o ≡ circuit.Refused refusals.Rounds_spent
 RefusedAs (Store fault) own o = (o ≡ circuit.Torn_as_armed) ⊎ ((o ≡ circuit.Torn_by_store) × own)
@@ -101,6 +104,7 @@ is_torn Stranger = false
 is_torn BadNumber = false
 is_torn AlreadyReleased = false
 is_torn AlreadyOpen = false
+is_torn WireTooOld = false
 is_torn (TapeFaulty fault) = false
 is_torn RoundsSpent = false
 is_torn (Store fault) = true
@@ -113,10 +117,15 @@ was_taken (outcomes.Refused refusal) = is_torn refusal
 was_taken outcomes.Restarted = false
 was_taken (outcomes.Armed saved) = false
 
+-- the offers with this one, where its step ended so
+abbrev pub offered_after : List circuit.Offer → ℕ → ℕ → Entry → Outcome → List circuit.Offer
+offered_after offers member number entry o =
+    if was_taken o then offers ++ record { member = member; number = number; entry = entry } ∷ [] else offers
+
 -- the offers after a step that ended so
 abbrev pub offers_after : List circuit.Offer → Step → Outcome → List circuit.Offer
-offers_after offers (steps.Offer member number tape now) o =
-    if was_taken o then offers ++ record { member = member; number = number; tape = tape } ∷ [] else offers
+offers_after offers (steps.Offer member number tape now) o = offered_after offers member number (Taped tape) o
+offers_after offers (steps.Withdraw member number now) o = offered_after offers member number Void o
 offers_after offers (steps.Seek member number now) o = offers
 offers_after offers (steps.Due member now) o = offers
 offers_after offers (steps.Deliver k now) o = offers
@@ -126,6 +135,7 @@ offers_after offers (steps.Balk member saved) o = offers
 -- who acts in a step: of a delivery the addressee
 abbrev pub actor : List circuit.Datagram → Step → Option ℕ
 actor sent (steps.Offer member number tape now) = Some member
+actor sent (steps.Withdraw member number now) = Some member
 actor sent (steps.Seek member number now) = Some member
 actor sent (steps.Due member now) = Some member
 actor sent (steps.Deliver k now) = option_map (λ d. d.to) (circuit.datagram_at sent k)

@@ -1,8 +1,8 @@
-//! The laws over every history, at the packets' own reading and at what tables and widths make of tapes.
+//! The laws over every history, at the packets' own reading and at what tables and widths make of entries.
 //! The functions do nothing but cite the laws that they rest on.
 
 ghost use Rattle.world.specs.Taking.{TearsForMemory};
-ghost use Rattle.world.specs.Laws.{OneTape, VotesOffered, PromisesKept, ReportsGreatest, VotesBacked, HeardVoted, RipeChosen, OneChosen, CircuitsExist, StationsAgree};
+ghost use Rattle.world.specs.Laws.{OneEntry, VotesOffered, PromisesKept, ReportsGreatest, VotesBacked, HeardVoted, RipeChosen, OneChosen, CircuitsExist, StationsAgree};
 
 use crate::slugs::Slugs;
 use line_check::SetFault;
@@ -10,14 +10,14 @@ use packets::PacketFault;
 use protocol::laws;
 use saved_rows::{MemoryRows, Rows};
 
-/// All votes and Accepts of one number and ballot carry one tape.
-pub fn one_tape()
-    ensures { OneTape }
+/// All votes and Accepts of one number and ballot carry one entry.
+pub fn one_entry()
+    ensures { OneEntry }
 {
-    laws::one_tape::<PacketFault, Slugs, SetFault>();
+    laws::one_entry::<PacketFault, Slugs, SetFault>();
 }
 
-/// Every voted tape was offered.
+/// Every voted entry was offered.
 pub fn votes_are_offered()
     ensures { VotesOffered }
 {
@@ -46,7 +46,7 @@ pub fn heard_is_voted()
     laws::heard_is_voted::<PacketFault, Slugs, SetFault>();
 }
 
-/// What is ripe is chosen, and two chosen tapes of one number are equal.
+/// What is ripe is chosen, and two chosen entries of one number are equal.
 pub fn chosen_is_one()
     ensures ripe { RipeChosen }
     ensures one { OneChosen }
@@ -60,15 +60,17 @@ pub fn rows_in_memory_want_memory()
     ensures { TearsForMemory ⟦<MemoryRows as Rows>⟧ }
 {}
 
-/// There is a circuit of stations, whatever their tables and widths: each tape sets in one way.
+/// There is a circuit of stations, whatever their tables and widths: each tape sets in one way, and what spells a packet
+/// in a version says that it is of it.
 pub fn circuits_exist()
     ensures { CircuitsExist }
 {
     line_check::laws::has_setting();
+    packets::laws::reading_by_version();
 }
 
-/// Over every history no two releases of one number differ, each released tape was offered for its number,
-/// and its slugs are those that its member's table and widths give it, or its fault is.
+/// Over every history no two releases of one number differ, each released entry was offered for its number,
+/// and the slugs of a tape are those that its member's table and widths give it, or its fault is; a withdrawal has none.
 pub fn agreement()
     ensures { StationsAgree }
 {

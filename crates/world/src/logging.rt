@@ -1,6 +1,7 @@
 //! The logs of a world: they grow before a station is asked, and take in what it answers.
 
 ghost use Rattle.std.specs.Prelude.{◌≡◌, ◌+◌, ◌<◌, ◌≤◌, ◌∷◌, [], ◌++◌, OnOk, IfErr, length, vec_len, vec_capacity};
+ghost use Rattle.tape_frames.specs.Entries.{owned_entry};
 ghost use Rattle.world.specs.Taking.{was_taken};
 ghost use Rattle.world.specs.Logging.{HasRoom, logged, offered_of, out_of, outcome_of, released_of, seen_of};
 ghost use Rattle.world.specs.Worlds.{IsSame};
@@ -10,7 +11,7 @@ use crate::step::{Outcome, Seen, WorldRefusal};
 use crate::world::World;
 use saved_rows::Rows;
 use station::{Answer, Datagram, Release, StepRefusal};
-use tape_frames::Tape;
+use tape_frames::Entry;
 
 /// The greatest number of datagrams that a station sends in one step.
 const MOST: usize = 28;
@@ -46,7 +47,7 @@ fn log_release(releases: &mut Vec<ReleaseLog>, member: u8, release: Option<Relea
         None => (),
         Some(release) => log(
             releases,
-            ReleaseLog::new(member, release.number.get(), release.tape, release.set),
+            ReleaseLog::new(member, release.number.get(), release.entry, release.set),
         ),
     }
 }
@@ -68,14 +69,14 @@ pub(crate) fn log_offer(
     offers: &mut Vec<OfferLog>,
     member: u8,
     number: u32,
-    tape: Tape,
+    entry: Entry,
     step: &Result<Answer, StepRefusal>,
 )
     requires { vec_len offers.old < vec_capacity offers.old }
-    ensures { offers.new.items ≡ offers.old.items ++ offered_of member number tape (outcome_of step.now) }
+    ensures { offers.new.items ≡ offers.old.items ++ offered_of member number (owned_entry entry) (outcome_of step.now) }
 {
     if is_taken(step) {
-        log(offers, OfferLog::new(member, number, tape));
+        log(offers, OfferLog::new(member, number, entry));
     }
 }
 

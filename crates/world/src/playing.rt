@@ -1,7 +1,9 @@
 //! A circuit that is played from its beginning.
 
-ghost use Rattle.std.specs.Prelude.{◌≡◌, None, IfOk, IfErr, IfSome, OnOk, length, map};
-ghost use Rattle.world.specs.Founding.{AreBlank, AreNewlyMade, IsCount, IsUnfounded, given_of};
+ghost use Rattle.std.specs.Prelude.{◌≡◌, ℕ, None, IfOk, IfErr, IfSome, OnOk, length, map};
+ghost use Rattle.protocol.specs.Versions.{Version as VersionValue};
+ghost use Rattle.tape_frames.specs.Entries.{version_of};
+ghost use Rattle.world.specs.Founding.{AreAt, AreBlank, AreNewlyMade, IsCount, IsUnfounded, given_of};
 ghost use Rattle.world.specs.Playing.{IsBeginning, IsFresh, IsUnplayed, Plays};
 ghost use Rattle.world.specs.Reach.{Agreed, AllHonest, AllKept, IsReached};
 ghost use Rattle.world.specs.Taking.{StopsAt};
@@ -11,6 +13,7 @@ use crate::world::{NewWorldFault, World};
 use code_table::CodeTable;
 use saved_rows::{MemoryRows, Rows};
 use std::alloc::{AllocError, Global};
+use tape_frames::Version;
 use widths::Widths;
 
 /// A circuit that was played.
@@ -35,8 +38,8 @@ pub enum PlayFault {
 /// refused.
 ///
 /// Where the rows were just made for the members, nobody else writes to them, and they read back what was saved, then,
-/// whatever the steps are, the releases agree: no two of one number differ, each released tape was offered for its
-/// number, and its slugs are what its member's code table and widths make of it.
+/// whatever the steps and the versions of the rows are, the releases agree: no two of one number differ, each released
+/// entry was offered for its number, and the slugs of a tape are what its member's code table and widths make of it.
 ///
 /// It is not played where [`World::new`] answers a fault, and in no other case.
 pub fn play<R: Rows>(
@@ -47,8 +50,8 @@ pub fn play<R: Rows>(
 ) -> Result<Played<R>, NewWorldFault<R>>
     ensures unfounded { IfErr result (IsUnfounded members.items) }
     ensures count { IfOk result (λ _. IsCount (length members.items)) }
-    // The world is what these steps make of these members.
-    ensures plays { IfOk result (λ p. AreBlank R.is_open R.saved members.items → AllKept R.kept p.world → Plays R.Rows circuit (map given_of members.items) steps.now p.world p.run) }
+    // The world is what these steps make of these members, each at the version of its rows.
+    ensures plays { IfOk result (λ p. AreBlank R.is_open R.saved members.items → AllKept R.kept p.world → (at : ℕ → VersionValue) → AreAt R.version at members.items → Plays R.Rows circuit (map given_of members.items) at steps.now p.world p.run) }
     ensures stops { IfOk result (λ p. IfErr p.run (StopsAt steps.now p.world)) }
     // The headline.
     ensures reached { IfOk result (λ p. AreNewlyMade R.Rows members.items → IsReached R.Rows p.world) }
@@ -75,80 +78,87 @@ fn member_count(members: usize) -> Option<u8>
     }
 }
 
-/// These members, each with rows in memory.
+/// These members, each with rows in memory at this version.
 fn with_memory(
     alloc: Global,
+    version: Version,
     members: Vec<(CodeTable, Widths)>,
 ) -> Result<Vec<(CodeTable, Widths, MemoryRows)>, AllocError>
     ensures new { IfOk result (λ v. AreNewlyMade ⟦<MemoryRows as Rows>⟧ v.items) }
+    ensures at { IfOk result (λ v. AreAt ⟦<MemoryRows as Rows>⟧.version (λ _. version_of version) v.items) }
     ensures given { IfOk result (λ v. map given_of v.items ≡ members.items) }
 {
     let mut parts = Vec::with_capacity(alloc, members.len())?;
     for (table, widths) in members {
-        parts.push((table, widths, MemoryRows::new(alloc)))?;
+        parts.push((table, widths, MemoryRows::at(alloc, version)))?;
     }
     Ok(parts)
 }
 
-/// The members of a circuit, each with empty rows in memory.
+/// The members of a circuit, each with empty rows in memory at this version.
 fn founders(
     alloc: Global,
+    version: Version,
     members: Vec<(CodeTable, Widths)>,
 ) -> Result<Vec<(CodeTable, Widths, MemoryRows)>, PlayFault>
     ensures unplayed { IfErr result (IsUnplayed (length members.items)) }
     ensures count { OnOk result (IsCount (length members.items)) }
     ensures new { IfOk result (λ v. AreNewlyMade ⟦<MemoryRows as Rows>⟧ v.items) }
+    ensures at { IfOk result (λ v. AreAt ⟦<MemoryRows as Rows>⟧.version (λ _. version_of version) v.items) }
     ensures given { IfOk result (λ v. map given_of v.items ≡ members.items) }
 {
     if member_count(members.len()).is_none() {
         return Err(PlayFault::BadCount);
     }
-    match with_memory(alloc, members) {
+    match with_memory(alloc, version, members) {
         Ok(members) => Ok(members),
         Err(_) => Err(PlayFault::OutOfMemory),
     }
 }
 
-/// A circuit of these members, numbered from 1 in the list's order, over empty rows in memory. Nothing went between them.
+/// A circuit of these members, numbered from 1 in the list's order, over empty rows in memory at this version. Nothing went
+/// between them.
 ///
 /// There is none as `BadCount` where there are no members or more than 15; `OutOfMemory`.
 pub fn circuit_in_memory(
     alloc: Global,
     circuit: u16,
+    version: Version,
     members: Vec<(CodeTable, Widths)>,
 ) -> Result<World<MemoryRows>, PlayFault>
     ensures unplayed { IfErr result (IsUnplayed (length members.items)) }
-    ensures begins { IfOk result (IsBeginning circuit members.items) }
-    // It stands for a fresh state of the circuit of these members, all at version 1.
-    ensures fresh { IfOk result (IsFresh ⟦<MemoryRows as Rows>⟧ circuit members.items) }
+    ensures begins { IfOk result (IsBeginning ⟦<MemoryRows as Rows>⟧ circuit members.items) }
+    // It stands for a fresh state of the circuit of these members, all at this version.
+    ensures fresh { IfOk result (IsFresh ⟦<MemoryRows as Rows>⟧ circuit members.items (λ _. version_of version)) }
     ensures reached { IfOk result (IsReached ⟦<MemoryRows as Rows>⟧) }
 {
-    let parts = founders(alloc, members)?;
+    let parts = founders(alloc, version, members)?;
     match World::new(alloc, circuit, parts) {
         Ok(world) => Ok(world),
         Err(_) => Err(PlayFault::OutOfMemory),
     }
 }
 
-/// Plays a circuit from its beginning, its members over empty rows in memory: takes the steps in order, up to the first
-/// that is refused.
+/// Plays a circuit from its beginning, its members over empty rows in memory at this version: takes the steps in order,
+/// up to the first that is refused.
 ///
-/// Whatever the steps are, the releases agree: no two of one number differ, each released tape was offered for its
-/// number, and its slugs are what its member's code table and widths make of it.
+/// Whatever the steps are, the releases agree: no two of one number differ, each released entry was offered for its
+/// number, and the slugs of a tape are what its member's code table and widths make of it.
 ///
 /// It is not played as `BadCount` where there are no members or more than 15; `OutOfMemory`.
 pub fn play_in_memory(
     alloc: Global,
     circuit: u16,
+    version: Version,
     members: Vec<(CodeTable, Widths)>,
     steps: &[Step],
 ) -> Result<Played<MemoryRows>, PlayFault>
     ensures unplayed { IfErr result (IsUnplayed (length members.items)) }
-    ensures plays { IfOk result (λ p. Plays ⟦<MemoryRows as Rows>⟧ circuit members.items steps.now p.world p.run) }
+    ensures plays { IfOk result (λ p. Plays ⟦<MemoryRows as Rows>⟧ circuit members.items (λ _. version_of version) steps.now p.world p.run) }
     ensures stops { IfOk result (λ p. IfErr p.run (StopsAt steps.now p.world)) }
     ensures agreed { IfOk result (λ p. Agreed p.world) }
 {
-    let members = founders(alloc, members)?;
+    let members = founders(alloc, version, members)?;
     match play(alloc, circuit, members, steps) {
         Ok(played) => Ok(played),
         Err(_) => Err(PlayFault::OutOfMemory),

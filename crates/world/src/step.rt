@@ -14,7 +14,13 @@ pub enum Step {
         tape: Tape,
         now: u64,
     },
-    /// A member seeks the tape of a number.
+    /// A member is asked to withdraw a number: it is offered that the number has no tape.
+    Withdraw {
+        member: u8,
+        number: u32,
+        now: u64,
+    },
+    /// A member seeks what is agreed on for a number.
     Seek {
         member: u8,
         number: u32,
@@ -64,7 +70,7 @@ pub struct Seen {
     pub first: usize,
     /// How many datagrams this step sent.
     pub count: usize,
-    /// Whether this step released a tape.
+    /// Whether this step released an entry.
     pub released: bool,
     /// How it ended.
     pub outcome: Outcome,

@@ -13,7 +13,7 @@ use crate::step::{Outcome, RunStop, Seen, Step, WorldRefusal};
 use crate::world::World;
 use line_check::laws::one_setting;
 use saved_rows::Rows;
-use tape_frames::Tape;
+use tape_frames::{Entry, Tape};
 
 impl<R: Rows> World<R> {
     /// Takes one step. What the step did is logged, and what was logged is told.
@@ -23,7 +23,7 @@ impl<R: Rows> World<R> {
     /// A fault of its store is that of the member's own rows; an armed store tells its refusal as [`saved_rows::RowsFault::Store`].
     pub fn step(&mut self, step: &Step) -> Result<Seen, WorldRefusal>
         // Of every circuit and state that the world stands for, it takes the step, and ends as the circuit's step does.
-        ensures steps { AllKept R.kept self.new → (z : StationCircuit) (w : StationState) → StandsFor R.is_open R.saved z self.old w → Moves R.is_open R.saved R.refusals z w step.now self.old self.new result }
+        ensures steps { AllKept R.kept self.new → (z : StationCircuit) (w : StationState) → StandsFor R.is_open R.saved R.version z self.old w → Moves R.is_open R.saved R.version R.refusals z w step.now self.old self.new result }
         // Whatever the rows do, what is seen is what was logged, and a refusal changes nothing and has its reason.
         ensures tells { Tells step.now self.old self.new result }
         // Where the store tears the step, it is told why: the fault is that of an armed store, or one that the member's own rows blame.
@@ -42,6 +42,11 @@ impl<R: Rows> World<R> {
                 tape,
                 now,
             } => self.offer(*member, *number, tape, *now),
+            Step::Withdraw {
+                member,
+                number,
+                now,
+            } => self.withdraw(*member, *number, *now),
             Step::Seek {
                 member,
                 number,
@@ -58,7 +63,7 @@ impl<R: Rows> World<R> {
     pub fn run(&mut self, steps: &[Step]) -> Result<(), RunStop>
         // Whatever the rows do, each of these steps was told, and where a store tore it, why.
         ensures takes { TakesFront R.Rows self.old steps.now self.new result }
-        ensures runs { AllKept R.kept self.new → (z : StationCircuit) (w : StationState) → StandsFor R.is_open R.saved z self.old w → Runs R.is_open R.saved z w steps.now self.new result }
+        ensures runs { AllKept R.kept self.new → (z : StationCircuit) (w : StationState) → StandsFor R.is_open R.saved R.version z self.old w → Runs R.is_open R.saved R.version z w steps.now self.new result }
         ensures stops { IfErr result (StopsAt steps.now self.new) }
         ensures was_kept { AllKept R.kept self.new → AllKept R.kept self.old }
         ensures made { AllMade R.made self.old → AllMade R.made self.new }
@@ -109,7 +114,7 @@ impl<R: Rows> World<R> {
         tape: &Tape,
         now: u64,
     ) -> Result<Seen, WorldRefusal>
-        ensures steps { AllKept R.kept self.new → (z : StationCircuit) (w : StationState) → StandsFor R.is_open R.saved z self.old w → Moves R.is_open R.saved R.refusals z w (Step.Offer member number tape.now now) self.old self.new result }
+        ensures steps { AllKept R.kept self.new → (z : StationCircuit) (w : StationState) → StandsFor R.is_open R.saved R.version z self.old w → Moves R.is_open R.saved R.version R.refusals z w (Step.Offer member number tape.now now) self.old self.new result }
         ensures tells { Tells (Step.Offer member number tape.now now) self.old self.new result }
         ensures why { TellsWhy R.Rows self.old self.new result }
         ensures was_kept { AllKept R.kept self.new → AllKept R.kept self.old }
@@ -122,13 +127,29 @@ impl<R: Rows> World<R> {
         };
         self.make_room()?;
         let step = self.stations[place].offer(number, tape, now);
-        log_offer(&mut self.offers, member, number, copy, &step);
+        log_offer(&mut self.offers, member, number, Entry::Tape(copy), &step);
         Ok(self.take_in(member, step))
     }
 
-    /// A member seeks a tape.
+    /// A member is asked to withdraw a number.
+    fn withdraw(&mut self, member: u8, number: u32, now: u64) -> Result<Seen, WorldRefusal>
+        ensures steps { AllKept R.kept self.new → (z : StationCircuit) (w : StationState) → StandsFor R.is_open R.saved R.version z self.old w → Moves R.is_open R.saved R.version R.refusals z w (Step.Withdraw member number now) self.old self.new result }
+        ensures tells { Tells (Step.Withdraw member number now) self.old self.new result }
+        ensures why { TellsWhy R.Rows self.old self.new result }
+        ensures was_kept { AllKept R.kept self.new → AllKept R.kept self.old }
+        ensures made { AllMade R.made self.old → AllMade R.made self.new }
+    {
+        one_setting();
+        let place = self.place(member)?;
+        self.make_room()?;
+        let step = self.stations[place].withdraw(number, now);
+        log_offer(&mut self.offers, member, number, Entry::Void, &step);
+        Ok(self.take_in(member, step))
+    }
+
+    /// A member seeks what is agreed on.
     fn seek(&mut self, member: u8, number: u32, now: u64) -> Result<Seen, WorldRefusal>
-        ensures steps { AllKept R.kept self.new → (z : StationCircuit) (w : StationState) → StandsFor R.is_open R.saved z self.old w → Moves R.is_open R.saved R.refusals z w (Step.Seek member number now) self.old self.new result }
+        ensures steps { AllKept R.kept self.new → (z : StationCircuit) (w : StationState) → StandsFor R.is_open R.saved R.version z self.old w → Moves R.is_open R.saved R.version R.refusals z w (Step.Seek member number now) self.old self.new result }
         ensures tells { Tells (Step.Seek member number now) self.old self.new result }
         ensures why { TellsWhy R.Rows self.old self.new result }
         ensures was_kept { AllKept R.kept self.new → AllKept R.kept self.old }
@@ -143,7 +164,7 @@ impl<R: Rows> World<R> {
 
     /// A member sees to what is due.
     fn due(&mut self, member: u8, now: u64) -> Result<Seen, WorldRefusal>
-        ensures steps { AllKept R.kept self.new → (z : StationCircuit) (w : StationState) → StandsFor R.is_open R.saved z self.old w → Moves R.is_open R.saved R.refusals z w (Step.Due member now) self.old self.new result }
+        ensures steps { AllKept R.kept self.new → (z : StationCircuit) (w : StationState) → StandsFor R.is_open R.saved R.version z self.old w → Moves R.is_open R.saved R.version R.refusals z w (Step.Due member now) self.old self.new result }
         ensures tells { Tells (Step.Due member now) self.old self.new result }
         ensures why { TellsWhy R.Rows self.old self.new result }
         ensures was_kept { AllKept R.kept self.new → AllKept R.kept self.old }
@@ -158,7 +179,7 @@ impl<R: Rows> World<R> {
 
     /// A datagram comes to its addressee.
     fn deliver(&mut self, k: usize, now: u64) -> Result<Seen, WorldRefusal>
-        ensures steps { AllKept R.kept self.new → (z : StationCircuit) (w : StationState) → StandsFor R.is_open R.saved z self.old w → Moves R.is_open R.saved R.refusals z w (Step.Deliver k now) self.old self.new result }
+        ensures steps { AllKept R.kept self.new → (z : StationCircuit) (w : StationState) → StandsFor R.is_open R.saved R.version z self.old w → Moves R.is_open R.saved R.version R.refusals z w (Step.Deliver k now) self.old self.new result }
         ensures tells { Tells (Step.Deliver k now) self.old self.new result }
         ensures why { TellsWhy R.Rows self.old self.new result }
         ensures was_kept { AllKept R.kept self.new → AllKept R.kept self.old }
@@ -175,7 +196,7 @@ impl<R: Rows> World<R> {
 
     /// A member starts again.
     fn restart(&mut self, member: u8) -> Result<Seen, WorldRefusal>
-        ensures steps { AllKept R.kept self.new → (z : StationCircuit) (w : StationState) → StandsFor R.is_open R.saved z self.old w → Moves R.is_open R.saved R.refusals z w (Step.Restart member) self.old self.new result }
+        ensures steps { AllKept R.kept self.new → (z : StationCircuit) (w : StationState) → StandsFor R.is_open R.saved R.version z self.old w → Moves R.is_open R.saved R.version R.refusals z w (Step.Restart member) self.old self.new result }
         ensures tells { Tells (Step.Restart member) self.old self.new result }
         ensures why { TellsWhy R.Rows self.old self.new result }
         ensures was_kept { AllKept R.kept self.new → AllKept R.kept self.old }
@@ -188,7 +209,7 @@ impl<R: Rows> World<R> {
 
     /// A member's store is armed to refuse a save.
     fn balk(&mut self, member: u8, saved: bool) -> Result<Seen, WorldRefusal>
-        ensures steps { AllKept R.kept self.new → (z : StationCircuit) (w : StationState) → StandsFor R.is_open R.saved z self.old w → Moves R.is_open R.saved R.refusals z w (Step.Balk member saved) self.old self.new result }
+        ensures steps { AllKept R.kept self.new → (z : StationCircuit) (w : StationState) → StandsFor R.is_open R.saved R.version z self.old w → Moves R.is_open R.saved R.version R.refusals z w (Step.Balk member saved) self.old self.new result }
         ensures tells { Tells (Step.Balk member saved) self.old self.new result }
         ensures why { TellsWhy R.Rows self.old self.new result }
         ensures was_kept { AllKept R.kept self.new → AllKept R.kept self.old }

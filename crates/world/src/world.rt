@@ -1,9 +1,9 @@
 //! A world: its members, and what went between them.
 
-ghost use Rattle.std.specs.Prelude.{◌≡◌, ◌≤◌, IfOk, length, map, option_copied};
+ghost use Rattle.std.specs.Prelude.{◌≡◌, ◌≤◌, ℕ, IfOk, length, map, option_copied};
 ghost use Rattle.protocol.specs.Circuit.{fresh};
-ghost use Rattle.protocol.specs.Versions.{One};
-ghost use Rattle.world.specs.Founding.{AreBlank, AreNew, AreNewlyMade, Founds, IsCircuitOf, given_of};
+ghost use Rattle.protocol.specs.Versions.{Version};
+ghost use Rattle.world.specs.Founding.{AreAt, AreBlank, AreNew, AreNewlyMade, Founds, IsCircuitOf, given_of};
 ghost use Rattle.world.specs.Reach.{IsReached, StandsFor};
 ghost use Rattle.world.specs.Setups.{StationCircuit};
 ghost use Rattle.world.specs.Worlds.{station_at};
@@ -16,7 +16,8 @@ use station::{Datagram, Station};
 use std::alloc::{AllocError, Global};
 use widths::Widths;
 
-/// All members of a circuit, and every datagram, offer and release so far. Clauses see these lists.
+/// All members of a circuit, each at the version of its rows, and every datagram, offer and release so far.
+/// Clauses see these lists.
 #[derive(Drop)]
 pub struct World<R: Rows> {
     pub(crate) stations: Vec<Station<Balky<R>>>,
@@ -44,7 +45,7 @@ fn stations_of<R: Rows>(
 ) -> Result<Vec<Station<Balky<R>>>, AllocError>
     requires many { length members.items ≡ count }
     requires few { count ≤ 15 }
-    ensures new { IfOk result (λ v. AreNew circuit count members.items v.items) }
+    ensures new { IfOk result (λ v. AreNew R.version circuit count members.items v.items) }
     ensures count { IfOk result (λ v. length v.items ≡ count) }
 {
     let mut stations = Vec::with_capacity(alloc, members.len())?;
@@ -70,9 +71,9 @@ impl<R: Rows> World<R> {
         circuit: u16,
         members: Vec<(CodeTable, Widths, R)>,
     ) -> Result<World<R>, NewWorldFault<R>>
-        ensures founds { Founds circuit members.items result }
-        // Over rows of which none is saved it stands for a fresh state of the circuit of these members, all at version 1.
-        ensures fresh { IfOk result (λ v. AreBlank R.is_open R.saved members.items → (z : StationCircuit) → IsCircuitOf circuit (map given_of members.items) z → StandsFor R.is_open R.saved z v (fresh (λ _. One))) }
+        ensures founds { Founds R.version circuit members.items result }
+        // Over rows of which none is saved it stands for a fresh state of the circuit of these members, each at the version of its rows.
+        ensures fresh { IfOk result (λ v. AreBlank R.is_open R.saved members.items → (at : ℕ → Version) → AreAt R.version at members.items → (z : StationCircuit) → IsCircuitOf circuit (map given_of members.items) z → StandsFor R.is_open R.saved R.version z v (fresh at)) }
         // Over rows that were just made for its members it is reached by no step at all: there is a circuit of them.
         ensures reached { IfOk result (λ v. AreNewlyMade R.Rows members.items → IsReached R.Rows v) }
     {

@@ -7,6 +7,7 @@ use command_ends::End;
 use std::alloc::Global;
 use std::io;
 use std::io::Read;
+use tape_frames::Version;
 
 /// A Prepare of 1.1 for number 12, and the Promise that reports no vote.
 const PREPARE: &str = "544e0101000701020000000c0000000101";
@@ -57,20 +58,44 @@ refused wrong-circuit\n\
 refused not-for-me\n\
 refused not-a-request\n";
 
-/// Whether member 2 of circuit 7 ends so over what this reads, and tells this text and this fault.
-fn ends<R: Read>(alloc: Global, input: &mut R, end: End, out: &str, err: &str) -> bool {
+/// Whether member 2 of circuit 7, in this version, ends so over what this reads, and tells this text and this fault.
+fn ends_in<R: Read>(
+    alloc: Global,
+    wire: Version,
+    input: &mut R,
+    end: End,
+    out: &str,
+    err: &str,
+) -> bool {
     let Some(me) = Member::new(2) else {
         return false;
     };
     let mut told = Vec::new(alloc);
     let mut faults = Vec::new(alloc);
-    let ended = answer(alloc, 7, me, input, &mut told, &mut faults);
+    let ended = answer(alloc, 7, me, wire, input, &mut told, &mut faults);
     ended == end && told.as_slice() == out.as_bytes() && faults.as_slice() == err.as_bytes()
 }
 
-/// Whether it answers this input by this text.
+/// Whether it ends so in version 1.
+fn ends<R: Read>(alloc: Global, input: &mut R, end: End, out: &str, err: &str) -> bool {
+    ends_in(alloc, Version::One, input, end, out, err)
+}
+
+/// Whether it answers this input by this text in version 1.
 fn tells(alloc: Global, input: &str, text: &str) -> bool {
     ends(alloc, &mut input.as_bytes(), End::Done, text, "")
+}
+
+/// Whether it answers this input by this text in version 2.
+fn tells_in_two(alloc: Global, input: &str, text: &str) -> bool {
+    ends_in(
+        alloc,
+        Version::Two,
+        &mut input.as_bytes(),
+        End::Done,
+        text,
+        "",
+    )
 }
 
 /// Inputs, and what is told of them.
@@ -89,12 +114,86 @@ const INPUTS: &[(&str, &str)] = &[
         "refused not-hex\n",
     ),
     (REFUSED, WORDS),
+    // The accept of the story in version 2.
+    (
+        "544e0203000701020000000c000000010100070420c10c2100\n",
+        "refused bad-version\n",
+    ),
 ];
 
 #[test]
 fn answers(rt: HostRuntime) {
     for (input, text) in INPUTS {
         assert!(rt; tells(rt.alloc(), input, text), "{input}");
+    }
+}
+
+/// In version 2: asked in version 1 to promise and to vote for the story, in version 2 to vote for it again and to report it.
+const BOTH: &str = "544e0101000701020000000c0000000101\n\
+544e0103000701020000000c0000000101000701020301030204\n\
+544e0203000701020000000c000000010100070420c10c2100\n\
+544e0201000703020000000c0000000103\n\
+544e0101000701020000000c0000000101";
+
+const TOLD_IN_TWO: &str = "544e0202000702010000000c000000010100\n\
+544e0204000702010000000c000000010100070420c10c2100\n\
+544e0204000702010000000c000000010100070420c10c2100\n\
+544e0202000702030000000c000000010301000000010100070420c10c2100\n\
+544e0205000702010000000c00000001010000000103\n";
+
+/// A vote for a withdrawal, which is then reported, and no more voted for where the story comes at its ballot.
+const WITHDRAWN: &str = "544e0203000701020000000c00000001010000\n\
+544e0201000703020000000c0000000103\n\
+544e0203000703020000000c00000001030000\n\
+544e0203000703020000000c000000010300070420c10c2100";
+
+const TOLD_WITHDRAWN: &str = "544e0204000702010000000c00000001010000\n\
+544e0202000702030000000c00000001030100000001010000\n\
+544e0204000702030000000c00000001030000\n\
+544e0204000702030000000c00000001030000\n";
+
+/// Accepts of version 2: a pad bit that is set, one frame more than a tape ever has and as many as can be written, half a
+/// length, a byte too few and one too many, a pad bit told before that one, a byte behind a withdrawal, and a version that
+/// is none.
+const REFUSED_IN_TWO: &str = "544e0203000701020000000c000000010100070420c10c2101\n\
+544e0203000701020000000c000000010140010420c10c2100\n\
+544e0203000701020000000c0000000101ffff0420c10c2100\n\
+544e0203000701020000000c000000010100\n\
+544e0203000701020000000c000000010100070420c10c21\n\
+544e0203000701020000000c000000010100070420c10c210000\n\
+544e0203000701020000000c000000010100070420c10c210100\n\
+544e0203000701020000000c0000000101000000\n\
+544e0303000701020000000c000000010100070420c10c2100\n";
+
+const WORDS_IN_TWO: &str = "refused bad-pad\n\
+refused bad-frames\n\
+refused bad-frames\n\
+refused short\n\
+refused short\n\
+refused long\n\
+refused bad-pad\n\
+refused long\n\
+refused bad-version\n";
+
+/// Inputs, and what is told of them in version 2.
+const INPUTS_IN_TWO: &[(&str, &str)] = &[
+    (
+        "544e0203000701020000000c000000010100070420c10c2100\n",
+        "544e0204000702010000000c000000010100070420c10c2100\n",
+    ),
+    (
+        "544e0203000701020000000c00000001010000\n",
+        "544e0204000702010000000c00000001010000\n",
+    ),
+    (BOTH, TOLD_IN_TWO),
+    (WITHDRAWN, TOLD_WITHDRAWN),
+    (REFUSED_IN_TWO, WORDS_IN_TWO),
+];
+
+#[test]
+fn answers_in_version_two(rt: HostRuntime) {
+    for (input, text) in INPUTS_IN_TWO {
+        assert!(rt; tells_in_two(rt.alloc(), input, text), "{input}");
     }
 }
 
@@ -127,7 +226,15 @@ fn is_front(alloc: Global, room: usize, end: End, err: &str) -> bool {
     };
     let mut out = Slow::new(alloc, room);
     let mut faults = Vec::new(alloc);
-    let ended = answer(alloc, 7, me, &mut FIVE.as_bytes(), &mut out, &mut faults);
+    let ended = answer(
+        alloc,
+        7,
+        me,
+        Version::One,
+        &mut FIVE.as_bytes(),
+        &mut out,
+        &mut faults,
+    );
     ended == end
         && faults.as_slice() == err.as_bytes()
         && TOLD.as_bytes().starts_with(&out.taken)

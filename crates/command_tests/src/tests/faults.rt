@@ -194,8 +194,8 @@ fn keys_of_widths(rt: HostRuntime) {
 const TAPES: &[(TapeFault, &str, End)] = &[
     (TapeFault::Empty, "tape: empty", End::Input),
     (
-        TapeFault::TooLong { len: 4097 },
-        "tape: too long 4097",
+        TapeFault::TooLong { len: 16_385 },
+        "tape: too long 16385",
         End::Input,
     ),
     (

@@ -94,8 +94,12 @@ const TAPES: &[(Sources, &str)] = &[
     ((TABLE, WIDE, BROKEN), "cannot read story.tape\n"),
     ((TABLE, WIDE, LONGEST), "tape: too long 1048576\n"),
     (
-        (TABLE, WIDE, Source::Blanks(4_097)),
-        "tape: too long 4097\n",
+        (TABLE, WIDE, Source::Blanks(16_385)),
+        "tape: too long 16385\n",
+    ),
+    (
+        (TABLE, WIDE, Source::Blanks(16_384)),
+        "fault: unknown-code at 0 line 1\n",
     ),
     (
         (TABLE, WIDE, Source::Blanks(4_096)),

@@ -48,18 +48,70 @@ fn fails(alloc: Global, script: &str, out: &str, err: &str) -> bool {
     ends_over(alloc, WIDTHS, &mut script.as_bytes(), End::Input, out, err)
 }
 
-/// Three members release.
-const THREE_MEMBERS: (&str, &str) = (
-    "members 3\noffer 1 12 01020301030204\ndeliver 1\ndeliver 3\ndeliver 6\n\
-deliver 4\ndeliver 8\ndeliver 9\ndeliver 7\n",
-    "1 began 1.1\n #1 prepare 1>2 12 1.1\n #2 prepare 1>3 12 1.1\n\
+/// What three members print who release.
+const THREE_RELEASE: &str = "1 began 1.1\n #1 prepare 1>2 12 1.1\n #2 prepare 1>3 12 1.1\n\
 2 promised 1.1\n #3 promise 2>1 12 1.1\n\
 1 proposed 1.1\n #4 accept 1>2 12 1.1\n #5 accept 1>3 12 1.1\n #6 accepted 1>2 12 1.1\n #7 accepted 1>3 12 1.1\n\
 2 heard 1.1\n\
 2 voted 1.1\n #8 accepted 2>1 12 1.1\n #9 accepted 2>3 12 1.1\n release 12 01020301030204\n0001 J 0 0 a b _4 a _4 b\n\
 1 heard 1.1\n release 12 01020301030204\n0001 J 0 0 a b _4 a _4 b\n\
 3 heard 1.1\n\
-3 heard 1.1\n release 12 01020301030204\n0001 J 0 0 a b _4 a _4 b\n",
+3 heard 1.1\n release 12 01020301030204\n0001 J 0 0 a b _4 a _4 b\n";
+
+/// Three members release.
+const THREE_MEMBERS: (&str, &str) = (
+    "members 3\noffer 1 12 01020301030204\ndeliver 1\ndeliver 3\ndeliver 6\n\
+deliver 4\ndeliver 8\ndeliver 9\ndeliver 7\n",
+    THREE_RELEASE,
+);
+
+/// Three members at version 2 withdraw.
+const THREE_WITHDRAW: (&str, &str) = (
+    "members 3\nwire 2\nwithdraw 1 12\ndeliver 1\ndeliver 3\ndeliver 6\n\
+deliver 4\ndeliver 8\ndeliver 9\ndeliver 7\n",
+    "1 began 1.1\n #1 prepare 1>2 12 1.1\n #2 prepare 1>3 12 1.1\n\
+2 promised 1.1\n #3 promise 2>1 12 1.1\n\
+1 proposed 1.1\n #4 accept 1>2 12 1.1\n #5 accept 1>3 12 1.1\n #6 accepted 1>2 12 1.1\n #7 accepted 1>3 12 1.1\n\
+2 heard 1.1\n\
+2 voted 1.1\n #8 accepted 2>1 12 1.1\n #9 accepted 2>3 12 1.1\n release 12 void\n\
+1 heard 1.1\n release 12 void\n\
+3 heard 1.1\n\
+3 heard 1.1\n release 12 void\n",
+);
+
+/// A tape at version 2: what is printed is what three members print at version 1.
+const THREE_IN_TWO: (&str, &str) = (
+    "members 3\nwire 2\noffer 1 12 01020301030204\ndeliver 1\ndeliver 3\ndeliver 6\n\
+deliver 4\ndeliver 8\ndeliver 9\ndeliver 7\n",
+    THREE_RELEASE,
+);
+
+/// At version 1 none is withdrawn, whether that version is asked for or not; a bad number and one that is open are told before.
+const TOO_OLD: (&str, &str) = (
+    "members 3\nwire 1\nwithdraw 1 12\n",
+    "1 refused wire-too-old\n",
+);
+
+const TOO_OLD_UNASKED: (&str, &str) = (
+    "members 3\nwithdraw 1 12\nwithdraw 1 0\nseek 1 12\nwithdraw 1 12\n",
+    "1 refused wire-too-old\n1 refused bad-number\n\
+1 began 1.1\n #1 prepare 1>2 12 1.1\n #2 prepare 1>3 12 1.1\n1 refused already-open\n",
+);
+
+/// A member alone withdraws, and is then asked in vain for the number; after a restart its vote stands against a tape.
+const WITHDRAWN_ALONE: (&str, &str) = (
+    "members 1\nwire 2\nwithdraw 1 12\nwithdraw 1 12\noffer 1 12 01020301030204\nseek 1 12\n\
+restart 1\noffer 1 12 01020301030204\nwithdraw 1 0\nwithdraw 1 1000000\n",
+    "1 proposed 1.1\n release 12 void\n\
+1 refused already-released\n1 refused already-released\n1 refused already-released\n\
+1 restarted\n1 proposed 2.1\n release 12 void\n1 refused bad-number\n1 refused bad-number\n",
+);
+
+/// A tape that was voted for before a restart is what a withdrawal then releases.
+const WITHDRAWN_TOO_LATE: (&str, &str) = (
+    "members 1\nwire 2\noffer 1 12 01020301030204\nrestart 1\nwithdraw 1 12\n",
+    "1 proposed 1.1\n release 12 01020301030204\n0001 J 0 0 a b _4 a _4 b\n1 restarted\n\
+1 proposed 2.1\n release 12 01020301030204\n0001 J 0 0 a b _4 a _4 b\n",
 );
 
 /// A second ballot after a restart.
@@ -122,6 +174,12 @@ const IGNORED: &[(&str, &str)] = &[
 
 const STORIES: &[(&str, &str)] = &[
     THREE_MEMBERS,
+    THREE_WITHDRAW,
+    THREE_IN_TWO,
+    TOO_OLD,
+    TOO_OLD_UNASKED,
+    WITHDRAWN_ALONE,
+    WITHDRAWN_TOO_LATE,
     SECOND_BALLOT,
     LOWER_BALLOT,
     BALKS_SAVED,
@@ -194,6 +252,15 @@ const NO_ORDERS: &[(&str, &str)] = &[
     ("due 1\r", "script line 2: bad line\n"),
     (" # due 1", "script line 2: bad line\n"),
     ("at 18446744073709551616", "script line 2: bad line\n"),
+    ("wire", "script line 2: bad line\n"),
+    ("wire 0", "script line 2: bad line\n"),
+    ("wire 3", "script line 2: bad line\n"),
+    ("wire 02", "script line 2: bad line\n"),
+    ("wire two", "script line 2: bad line\n"),
+    ("wire 2 1", "script line 2: bad line\n"),
+    ("withdraw 1", "script line 2: bad line\n"),
+    ("withdraw 1 12 01", "script line 2: bad line\n"),
+    ("withdraw 1 4294967296", "script line 2: bad line\n"),
     ("offer 9 12 0x", "script line 2: bad tape\n"),
     ("offer 9 12 0g", "script line 2: bad tape\n"),
     ("offer 9 12 010", "script line 2: bad tape\n"),
@@ -229,6 +296,19 @@ const FAULTY: &[(&str, &str)] = &[
         "script line 2: no such member\n",
     ),
     ("members 3\nseek 4 12\n", "script line 2: no such member\n"),
+    (
+        "members 3\nwithdraw 4 12\n",
+        "script line 2: no such member\n",
+    ),
+    // The version comes directly behind the members, and once.
+    ("wire 2\nmembers 3\n", "script line 1: bad line\n"),
+    ("members 3\nwire 2\nwire 2\n", "script line 3: bad line\n"),
+    ("members 3\nwire 1\nwire 2\n", "script line 3: bad line\n"),
+    ("members 3\nat 1\nwire 2\n", "script line 3: bad line\n"),
+    (
+        "members 3\n\n# in the version of old\nwire 1\nwire 1\n",
+        "script line 5: bad line\n",
+    ),
     ("members 3\nrestart 0\n", "script line 2: no such member\n"),
     (
         "members 3\ndeliver 0\n",
@@ -247,17 +327,70 @@ fn faulty_lines(rt: HostRuntime) {
     }
 }
 
+/// Scripts whose third line is faulty, behind one that printed this.
+const PRINTED: &[(&str, &str)] = &[
+    (
+        "members 1\ndue 1\ndeliver 1\ndue 1\n",
+        "script line 3: no such datagram\n",
+    ),
+    // The version comes too late.
+    (
+        "members 1\ndue 1\nwire 2\ndue 1\n",
+        "script line 3: bad line\n",
+    ),
+];
+
 #[test]
 fn what_was_printed_stays(rt: HostRuntime) {
-    let script = "members 1\ndue 1\ndeliver 1\ndue 1\n";
-    assert!(rt;
-        fails(
-            rt.alloc(),
-            script,
-            "1 idle\n",
-            "script line 3: no such datagram\n"
-        )
-    );
+    for (script, fault) in PRINTED {
+        assert!(rt; fails(rt.alloc(), script, "1 idle\n", fault), "{script}");
+    }
+}
+
+/// So many frames that set nothing, in hex; empty where there is no memory for them.
+fn long_tape(alloc: Global, frames: usize) -> String {
+    match "3f".repeat(alloc, frames) {
+        Ok(hex) => hex,
+        Err(_) => String::new(alloc),
+    }
+}
+
+/// Whether a member alone, in this version, releases such a tape that it is offered.
+fn releases_long(alloc: Global, wire: u8, frames: usize) -> bool {
+    let hex = long_tape(alloc, frames);
+    let script = format!(in alloc; "members 1\nwire {wire}\noffer 1 12 {hex}\n");
+    let text = format!(in alloc; "1 proposed 1.1\n release 12 {hex}\n");
+    match (script, text) {
+        (Ok(script), Ok(text)) => prints(alloc, &script, &text),
+        _ => false,
+    }
+}
+
+/// Whether it refuses the offer, as the tape is too long for its version.
+fn is_too_old_for(alloc: Global, wire: u8, frames: usize) -> bool {
+    let hex = long_tape(alloc, frames);
+    match format!(in alloc; "members 1\nwire {wire}\noffer 1 12 {hex}\n") {
+        Ok(script) => prints(alloc, &script, "1 refused wire-too-old\n"),
+        Err(_) => false,
+    }
+}
+
+/// Whether so many frames are no tape.
+fn is_no_tape(alloc: Global, wire: u8, frames: usize) -> bool {
+    let hex = long_tape(alloc, frames);
+    match format!(in alloc; "members 1\nwire {wire}\noffer 1 12 {hex}\n") {
+        Ok(script) => fails(alloc, &script, "", "script line 3: bad tape\n"),
+        Err(_) => false,
+    }
+}
+
+#[test]
+fn long_tapes(rt: HostRuntime) {
+    let alloc = rt.alloc();
+    assert!(rt; releases_long(alloc, 1, 4_096));
+    assert!(rt; is_too_old_for(alloc, 1, 4_097) && is_too_old_for(alloc, 1, 16_384));
+    assert!(rt; releases_long(alloc, 2, 4_097) && releases_long(alloc, 2, 16_384));
+    assert!(rt; is_no_tape(alloc, 1, 16_385) && is_no_tape(alloc, 2, 16_385));
 }
 
 /// Whether a script of so many blanks ends so, with nothing printed and this fault.

@@ -2,7 +2,8 @@
 
 use super::faults::is_told;
 use ballots::{Ballot, Member};
-use command_ends::{End, Fault, Refusal};
+use command_ends::{End, Fault, Refusal, entry_text};
+use fixtures::FLOOD;
 use line_check::{Cause, SetFault};
 use node_core::Note;
 use packets::PacketFault;
@@ -10,6 +11,7 @@ use rehearse_command::NoteText;
 use saved_rows::RowsFault;
 use station::StepRefusal;
 use std::alloc::Global;
+use tape_frames::{EntryRef, PackedRef, TapeRef};
 
 const CAUSES: &[(Cause, &str)] = &[
     (Cause::UnknownCode, "fault: unknown-code at 4095 line 12"),
@@ -61,6 +63,7 @@ const PACKETS: &[(PacketFault, &str)] = &[
     (PacketFault::BadSender, "bad-sender"),
     (PacketFault::BadReport, "bad-report"),
     (PacketFault::BadFrames, "bad-frames"),
+    (PacketFault::BadPad, "bad-pad"),
     (PacketFault::Long, "long"),
 ];
 
@@ -76,7 +79,8 @@ fn word_of_packet(fault: PacketFault) -> &'static str {
         PacketFault::BadSender => PACKETS[7].1,
         PacketFault::BadReport => PACKETS[8].1,
         PacketFault::BadFrames => PACKETS[9].1,
-        PacketFault::Long => PACKETS[10].1,
+        PacketFault::BadPad => PACKETS[10].1,
+        PacketFault::Long => PACKETS[11].1,
     }
 }
 
@@ -136,6 +140,7 @@ const STEPS: &[(StepRefusal, &str)] = &[
     (StepRefusal::BadNumber, "refused bad-number"),
     (StepRefusal::AlreadyReleased, "refused already-released"),
     (StepRefusal::AlreadyOpen, "refused already-open"),
+    (StepRefusal::WireTooOld, "refused wire-too-old"),
     (
         StepRefusal::TapeFaulty(OVERSET),
         "refused tape-faulty overset 1 at 7 line 1",
@@ -155,10 +160,11 @@ fn text_of_step(refusal: StepRefusal) -> &'static str {
         StepRefusal::BadNumber => STEPS[5].1,
         StepRefusal::AlreadyReleased => STEPS[6].1,
         StepRefusal::AlreadyOpen => STEPS[7].1,
-        StepRefusal::TapeFaulty(_) => STEPS[8].1,
-        StepRefusal::RoundsSpent => STEPS[9].1,
-        StepRefusal::Store(_) => STEPS[10].1,
-        StepRefusal::OutOfMemory => STEPS[11].1,
+        StepRefusal::WireTooOld => STEPS[8].1,
+        StepRefusal::TapeFaulty(_) => STEPS[9].1,
+        StepRefusal::RoundsSpent => STEPS[10].1,
+        StepRefusal::Store(_) => STEPS[11].1,
+        StepRefusal::OutOfMemory => STEPS[12].1,
     }
 }
 
@@ -177,6 +183,28 @@ fn refused_steps(rt: HostRuntime) {
     }
     let memory = Fault::of_step(StepRefusal::OutOfMemory);
     assert!(rt; is_told(rt.alloc(), memory, "out of memory", End::Memory));
+}
+
+/// The text of an entry; empty where there is no memory for it.
+fn text_of_entry(alloc: Global, entry: &EntryRef<'_>) -> String {
+    match entry_text(alloc, entry) {
+        Ok(text) => text,
+        Err(_) => String::new(alloc),
+    }
+}
+
+/// Whether the flood story is the same text packed as it is with one frame a byte.
+fn are_stories(alloc: Global) -> Option<bool> {
+    let plain = EntryRef::Plain(TapeRef::from_bytes(FLOOD).ok()?);
+    let packed = EntryRef::Packed(PackedRef::new(7, &[0x04, 0x20, 0xc1, 0x0c, 0x21, 0x00])?);
+    let same = text_of_entry(alloc, &plain).as_str() == "01020301030204";
+    Some(same && text_of_entry(alloc, &packed).as_str() == "01020301030204")
+}
+
+#[test]
+fn entries(rt: HostRuntime) {
+    assert!(rt; are_stories(rt.alloc()) == Some(true));
+    assert!(rt; text_of_entry(rt.alloc(), &EntryRef::Void).as_str() == "void");
 }
 
 /// The texts of notes, with the ballot 3.2 where they have one.

@@ -9,6 +9,7 @@ use fixtures::{CODES, HARVEST, WIDTHS};
 use rehearse_command::rehearse;
 use std::alloc::Global;
 use streams::put_all;
+use tape_frames::Version;
 
 /// Whether a writer that is interrupted behind so many bytes has this front of a text, and is not asked again.
 fn is_interrupted(alloc: Global, room: usize, front: &[u8]) -> bool {
@@ -36,6 +37,10 @@ const OFFER: &str = "members 1\noffer 1 12 05020704010b04\n";
 
 const RELEASED: &str =
     "1 proposed 1.1\n release 12 05020704010b04\n0001 C 10 11 B\n0002 R 22 0 A\n";
+
+const WITHDRAWAL: &str = "members 1\nwire 2\nwithdraw 1 12\n";
+
+const WITHDRAWN: &str = "1 proposed 1.1\n release 12 void\n";
 
 /// A promise, a vote and no answer; and what is no packet.
 const ASKED: &str = "544e0101000701020000000c0000000101\n\
@@ -96,7 +101,7 @@ fn run_rehearse(alloc: Global, script: &str, out: &mut Slow, err: &mut Vec<u8>) 
 
 fn run_answer(alloc: Global, out: &mut Slow, err: &mut Vec<u8>) -> Option<End> {
     let me = Member::new(2)?;
-    Some(answer(alloc, 7, me, &mut ASKED.as_bytes(), out, err))
+    Some(answer(alloc, 7, me, Version::One, &mut ASKED.as_bytes(), out, err))
 }
 
 /// How a command over this writer ends.
@@ -159,6 +164,7 @@ const COMMANDS: &[(Command, &str)] = &[
     (Command::Check(true), LISTED),
     (Command::Rehearse(SEARCH), SEARCHED),
     (Command::Rehearse(OFFER), RELEASED),
+    (Command::Rehearse(WITHDRAWAL), WITHDRAWN),
     (Command::Answer, ANSWERED),
 ];
 

@@ -70,7 +70,7 @@ fn all_have_printed<'a>(posts: &[Post<'a>], out: &str) -> bool {
 
 /// Whether each turn ended well, up to the one after which all have printed this, or 300.
 fn all_come_to<'a>(alloc: Global, posts: &mut [Post<'a>], out: &str) -> Option<bool> {
-    let mut buffer = vec![in alloc; 0u8; 4122].ok()?;
+    let mut buffer = vec![in alloc; 0u8; 12_314].ok()?;
     for _ in 0..300 {
         if !take_a_turn(posts, &mut buffer) {
             return Some(false);

@@ -8,10 +8,12 @@ use ballots::Number;
 use command_ends::End;
 use saved_rows::MemoryRows;
 use std::alloc::Global;
+use tape_frames::Version;
 
 const DEAF: Story = Story {
     me: 1,
     members: 3,
+    version: Version::One,
     promised: None,
     manner: Manner::Deaf,
     steps: &[Run {

@@ -11,7 +11,7 @@ use serve_command::serve_run;
 use station::Station;
 use std::alloc::Global;
 use std::io::Write;
-use tape_frames::Tape;
+use tape_frames::{Tape, Version};
 
 /// The text "no packet".
 const NO_PACKET: &[u8] = b"6e6f207061636b6574";
@@ -25,6 +25,7 @@ const ACCEPTED: &[u8] = b"544e0104000701020000000c00000001010006010203010204";
 const COMING: Story = Story {
     me: 2,
     members: 2,
+    version: Version::One,
     promised: None,
     manner: Manner::Whole,
     steps: &[
@@ -59,7 +60,15 @@ fn ends<W: Write>(
     let mut wire = Scripted::new(alloc, Manner::Whole);
     let mut err = Vec::new(alloc);
     let end = serve_run(
-        alloc, station, &mut wire, offer, run.seek, run.turns, writer, &mut err,
+        alloc,
+        station,
+        &mut wire,
+        offer,
+        run.withdraw,
+        run.seek,
+        run.turns,
+        writer,
+        &mut err,
     );
     end == run.end && err.as_slice() == run.err.as_bytes()
 }

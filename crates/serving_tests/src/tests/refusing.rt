@@ -6,6 +6,7 @@ use crate::stories::{Story, is_true};
 use crate::wires::Manner;
 use command_ends::End;
 use fixtures::FLOOD;
+use tape_frames::Version;
 
 /// The offer of the story, refused.
 const REFUSED: Run = Run {
@@ -17,6 +18,7 @@ const REFUSED: Run = Run {
 const OFFERS_AND_SEARCHES: Story = Story {
     me: 1,
     members: 1,
+    version: Version::One,
     promised: None,
     manner: Manner::Whole,
     steps: &[

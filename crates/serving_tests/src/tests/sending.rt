@@ -4,6 +4,7 @@ use crate::fixture::RELEASE;
 use crate::plant::{OFFER, Run, TURN};
 use crate::stories::{Story, sends};
 use crate::wires::Manner;
+use tape_frames::Version;
 
 /// The story for number 12 in a circuit of three; what is sent is lost, until member 2 promises and votes.
 ///
@@ -12,6 +13,7 @@ use crate::wires::Manner;
 const LOST: Story = Story {
     me: 1,
     members: 3,
+    version: Version::One,
     promised: None,
     manner: Manner::Whole,
     steps: &[

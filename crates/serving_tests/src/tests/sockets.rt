@@ -30,7 +30,7 @@ fn socket_to<'a>(rt: &'a HostRuntime, member: Member, other: &Socket<'a>) -> Opt
 /// Whether nothing comes at first, then what the second sends comes whole, and the first, which has no address, sends
 /// nothing.
 fn pass_on<'a>(first: &mut Socket<'a>, second: &mut Socket<'a>, member: Member) -> bool {
-    let mut buffer = [0u8; 4122];
+    let mut buffer = [0u8; 12_314];
     let silent = first.receive(&mut buffer) == Arrival::Nothing;
     let sent = second.send(member, b"hello");
     let came = first.receive(&mut buffer) == Arrival::Datagram { length: 5 };

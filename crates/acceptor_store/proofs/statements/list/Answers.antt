@@ -3,7 +3,9 @@ use Rattle.std.specs.List.{filter_map}
 use Rattle.row_table.specs.Tables.{rows_tree}
 use Rattle.row_table.specs.Rising.{rise_from, AreListed}
 use Rattle.acceptor_store.specs.Columns.{damage_in, item_in, saved_in}
-use Rattle.saved_rows.specs.Saved.{IsListOf}
+use Rattle.protocol.specs.Versions.{One}
+use Rattle.saved_rows.specs.Saved.{AreFitting, IsListOf}
+use Rattle.acceptor_store.proofs.FitLemmas.{items_fit}
 use Rattle.acceptor_store.proofs.ListLemmas.{lists, no_damage}
 use Rattle.acceptor_store.proofs.statements.list.Goals as goal
 
@@ -30,3 +32,9 @@ returns-in-Ok-items_in-clause-listed g c serves clean =
     let listed : AreListed table rows = (rw c.as_slice.ensures.value at c.are_rising.ensures.table) went table (c.in-Ok.ensures.listed clean has) in
     let items : c.in-Ok-items_in.items.items ≡ filter_map item_in rows = search rules in
     subst (IsListOf (saved_in trees)) (sym items) (lists table rows (saved_in trees) (λ n. refl) listed rises none)
+
+pub returns-in-Ok-items_in-clause-fits : goal.returns-in-Ok-items_in-clause-fits
+returns-in-Ok-items_in-clause-fits g c =
+    let rows = c.in-Ok.rows.items in
+    let items : c.in-Ok-items_in.items.items ≡ filter_map item_in rows = search rules in
+    subst (AreFitting One) (sym items) (items_fit rows)

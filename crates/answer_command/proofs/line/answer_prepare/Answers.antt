@@ -5,4 +5,4 @@ use Rattle.answer_command.proofs.line.answer_prepare.Goals as goal
 
 pub returns-clause-rows : goal.returns-clause-rows
 returns-clause-rows c =
-    saved_as (saved c.args.rows.now) (saved c.raise.new.rows) c.args.packet.now.number _ _ (rw c.number-number.ensures at c.in_ok-raise-in-Promise.ensures) (search rules)
+    saved_as (saved c.args.rows.now) (saved c.raise.new.rows) c.args.packet.now.number _ _ (rw c.number-number.ensures at c.in_ok-raise-in-Promise.ensures.row) (search rules)

@@ -1,7 +1,9 @@
 -- The lines of an Accept: refused, its vote stands, or it votes.
 use Rattle.std.proofs.Common.{◌≡◌, sym, ap, ◌∙◌}
 use Rattle.protocol.specs.Ballots.{Ballot}
-use Rattle.protocol.specs.Rows.{Tape, Row}
+use Rattle.protocol.specs.Entries.{Entry}
+use Rattle.protocol.specs.Rows.{Row}
+use Rattle.tape_frames.specs.Entries.{lent_entry}
 use Rattle.protocol.specs.Acceptor.{Reply, Accepts, Nacks, Votes, Votes_again, reply_of, next_row}
 use Rattle.acceptor.specs.declared.answer.AcceptAnswer.{AcceptAnswer}
 use Rattle.acceptor.specs.Said.{said_of_accept, row_of}
@@ -9,32 +11,32 @@ use Rattle.node_core.proofs.Stirring.{accept_stirs}
 use Rattle.node_core.proofs.Accepting.{nacked_alone, again_votes, now_votes}
 use Rattle.node_core.proofs.voting.accept.Goals as goal
 
-reply_told : (row : Row) (b a : Ballot) (t u : Tape) (r : Reply) → b ≡ a → t ≡ u → r ≡ reply_of row (Accepts b t) → reply_of row (Accepts a u) ≡ r
-reply_told row b a t u r e f h = sym (h ∙ ap (λ (x : Ballot). reply_of row (Accepts x t)) e ∙ ap (λ (x : Tape). reply_of row (Accepts a x)) f)
+reply_told : (row : Row) (b a : Ballot) (t u : Entry) (r : Reply) → b ≡ a → t ≡ u → r ≡ reply_of row (Accepts b t) → reply_of row (Accepts a u) ≡ r
+reply_told row b a t u r e f h = sym (h ∙ ap (λ (x : Ballot). reply_of row (Accepts x t)) e ∙ ap (λ (x : Entry). reply_of row (Accepts a x)) f)
 
-row_told : (row w : Row) (b a : Ballot) (t u : Tape) → b ≡ a → t ≡ u → w ≡ next_row row (Accepts b t) → w ≡ next_row row (Accepts a u)
-row_told row w b a t u e f h = h ∙ ap (λ (x : Ballot). next_row row (Accepts x t)) e ∙ ap (λ (x : Tape). next_row row (Accepts a x)) f
+row_told : (row w : Row) (b a : Ballot) (t u : Entry) → b ≡ a → t ≡ u → w ≡ next_row row (Accepts b t) → w ≡ next_row row (Accepts a u)
+row_told row w b a t u e f h = h ∙ ap (λ (x : Ballot). next_row row (Accepts x t)) e ∙ ap (λ (x : Entry). next_row row (Accepts a x)) f
 
 pub returns-in-Nack-clause-voting : goal.returns-in-Nack-clause-voting
 returns-in-Nack-clause-voting c = λ marks.
-    nacked_alone c.args.seat c.args.row.now c.args.packet.now c.args.tape marks c.send-turn.result c.in-Nack.promised
-    (reply_told c.args.row.now c.ballot-ballot.result c.args.packet.now.ballot c.lend.result c.args.tape (Nacks c.in-Nack.promised) c.ballot-ballot.ensures c.lend.ensures (ap said_of_accept (sym c.in-Nack.is) ∙ c.in_ok-promised.ensures.reply))
-    (row_told c.args.row.now c.args.row.now c.ballot-ballot.result c.args.packet.now.ballot c.lend.result c.args.tape c.ballot-ballot.ensures c.lend.ensures (ap (λ (a : AcceptAnswer). row_of a c.args.row.now) (sym c.in-Nack.is) ∙ c.in_ok-promised.ensures.row))
+    nacked_alone c.args.seat c.args.row.now c.args.packet.now (lent_entry c.args.entry) marks c.send-turn.result c.in-Nack.promised
+    (reply_told c.args.row.now c.ballot-ballot.result c.args.packet.now.ballot (lent_entry c.lend.result) (lent_entry c.args.entry) (Nacks c.in-Nack.promised) c.ballot-ballot.ensures c.lend.ensures (ap said_of_accept (sym c.in-Nack.is) ∙ c.in_ok-promised.ensures.reply))
+    (row_told c.args.row.now c.args.row.now c.ballot-ballot.result c.args.packet.now.ballot (lent_entry c.lend.result) (lent_entry c.args.entry) c.ballot-ballot.ensures c.lend.ensures (ap (λ (a : AcceptAnswer). row_of a c.args.row.now) (sym c.in-Nack.is) ∙ c.in_ok-promised.ensures.row))
     (rw c.from-to.ensures at c.send-turn.ensures.turn)
 
 pub returns-in-Some-clause-voting : goal.returns-in-Some-clause-voting
 returns-in-Some-clause-voting c =
-    again_votes c.args.seat c.args.row.now c.args.packet.now c.args.tape c.send-turn-in-Some.result c.in-Some.vote.now c.ballot-ballot.result c.tape.result c.ballot-ballot.ensures c.tape.ensures (sym c.in-Some.ensures.value)
-    (reply_told c.args.row.now c.ballot-ballot.result c.args.packet.now.ballot c.lend.result c.args.tape Votes_again c.ballot-ballot.ensures c.lend.ensures (ap said_of_accept (sym c.in-Again.is) ∙ c.in_ok-promised.ensures.reply))
-    (row_told c.args.row.now c.args.row.now c.ballot-ballot.result c.args.packet.now.ballot c.lend.result c.args.tape c.ballot-ballot.ensures c.lend.ensures (ap (λ (a : AcceptAnswer). row_of a c.args.row.now) (sym c.in-Again.is) ∙ c.in_ok-promised.ensures.row))
+    again_votes c.args.seat c.args.row.now c.args.packet.now (lent_entry c.args.entry) c.send-turn-in-Some.result c.in-Some.vote.now c.ballot-ballot.result (lent_entry c.entry.result) c.ballot-ballot.ensures c.entry.ensures (sym c.in-Some.ensures.value)
+    (reply_told c.args.row.now c.ballot-ballot.result c.args.packet.now.ballot (lent_entry c.lend.result) (lent_entry c.args.entry) Votes_again c.ballot-ballot.ensures c.lend.ensures (ap said_of_accept (sym c.in-Again.is) ∙ c.in_ok-promised.ensures.reply))
+    (row_told c.args.row.now c.args.row.now c.ballot-ballot.result c.args.packet.now.ballot (lent_entry c.lend.result) (lent_entry c.args.entry) c.ballot-ballot.ensures c.lend.ensures (ap (λ (a : AcceptAnswer). row_of a c.args.row.now) (sym c.in-Again.is) ∙ c.in_ok-promised.ensures.row))
     c.send-turn-in-Some.ensures.turn
 
 pub returns-in-Voted-clause-voting : goal.returns-in-Voted-clause-voting
 returns-in-Voted-clause-voting c =
-    now_votes c.args.seat c.args.row.now c.args.packet.now c.args.tape c.send-turn-in-Voted.result c.in-Voted.after c.ballot-ballot.result c.ballot-ballot.ensures
-    (reply_told c.args.row.now c.ballot-ballot.result c.args.packet.now.ballot c.lend.result c.args.tape Votes c.ballot-ballot.ensures c.lend.ensures (ap said_of_accept (sym c.in-Voted.is) ∙ c.in_ok-promised.ensures.reply))
-    (row_told c.args.row.now c.in-Voted.after c.ballot-ballot.result c.args.packet.now.ballot c.lend.result c.args.tape c.ballot-ballot.ensures c.lend.ensures (ap (λ (a : AcceptAnswer). row_of a c.args.row.now) (sym c.in-Voted.is) ∙ c.in_ok-promised.ensures.row))
+    now_votes c.args.seat c.args.row.now c.args.packet.now (lent_entry c.args.entry) c.send-turn-in-Voted.result c.in-Voted.after c.ballot-ballot.result c.ballot-ballot.ensures
+    (reply_told c.args.row.now c.ballot-ballot.result c.args.packet.now.ballot (lent_entry c.lend.result) (lent_entry c.args.entry) Votes c.ballot-ballot.ensures c.lend.ensures (ap said_of_accept (sym c.in-Voted.is) ∙ c.in_ok-promised.ensures.reply))
+    (row_told c.args.row.now c.in-Voted.after c.ballot-ballot.result c.args.packet.now.ballot (lent_entry c.lend.result) (lent_entry c.args.entry) c.ballot-ballot.ensures c.lend.ensures (ap (λ (a : AcceptAnswer). row_of a c.args.row.now) (sym c.in-Voted.is) ∙ c.in_ok-promised.ensures.row))
     c.send-turn-in-Voted.ensures.turn
 
 pub returns-in-Some-clause-stirs : goal.returns-in-Some-clause-stirs
-returns-in-Some-clause-stirs c = λ marks. accept_stirs c.args.seat marks c.args.row.now c.args.packet.now c.args.tape
+returns-in-Some-clause-stirs c = λ marks. accept_stirs c.args.seat marks c.args.row.now c.args.packet.now (lent_entry c.args.entry)

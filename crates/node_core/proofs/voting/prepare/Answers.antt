@@ -1,8 +1,9 @@
 -- The lines of a Prepare: refused, promised already, or promised now.
-use Rattle.std.proofs.Common.{◌≡◌, refl, sym, ◌∙◌}
+use Rattle.std.proofs.Common.{◌≡◌, refl, sym, ap, ◌∙◌}
 use Rattle.std.proofs.lemmas.Result.{MatchResult-from_err}
-use Rattle.std.specs.Prelude.{option_copied}
+use Rattle.std.specs.Prelude.{option_copied, option_map}
 use Rattle.protocol.specs.Acceptor.{Promises, Says_nothing}
+use Rattle.tape_frames.specs.Entries.{owned_entry}
 use Rattle.node_core.proofs.Accepting.{promising, promise_sent}
 use Rattle.node_core.proofs.Stirring.{prepare_stirs}
 use Rattle.node_core.proofs.voting.prepare.Goals as goal
@@ -15,7 +16,7 @@ returns-in_ok-after-in-Promise-clause-turn c = λ marks.
     rw p.line (record {
       row_after = rw h.row_after after;
       out = promise_sent c.args.seat c.args.row.now c.args.packet.now c.send-in-Promise.result c.from-to-in-Promise.result c.in_ok-after-in-Promise.after h.row_after h.out c.from-to-in-Promise.ensures after (rw p.report (rw c.ballot-ballot.ensures at c.in-Promise.ensures.fits));
-      release = h.release;
+      release = ap (option_map owned_entry) h.release;
       note = rw (h.noted, c.ballot-ballot.ensures) refl;
     })
 

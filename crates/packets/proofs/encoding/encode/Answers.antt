@@ -1,13 +1,19 @@
 -- What was written is the packet's one spelling.
 use Rattle.packets.proofs.Written.{is_spelled, is_only}
-use Rattle.packets.proofs.Unique.{is_again}
+use Rattle.packets.proofs.Unique.{is_again, is_own, is_two}
 use Rattle.packets.proofs.encoding.encode.Goals as goal
 
 pub returns-clause-spelled : goal.returns-clause-spelled
-returns-clause-spelled c = is_spelled _ _ c.written.ensures.exact c.written.ensures.range
+returns-clause-spelled c = is_spelled c.packings.ensures _ _ _ c.requires c.written.ensures.exact c.written.ensures.range
 
 pub returns-clause-only : goal.returns-clause-only
-returns-clause-only c = is_only _ _ c.written.ensures.exact
+returns-clause-only c = is_only c.packings.ensures _ _ _ c.written.ensures.exact
 
 pub returns-clause-again : goal.returns-clause-again
-returns-clause-again c = is_again _ _ c.written.ensures.exact c.written.ensures.range
+returns-clause-again c = is_again c.packings.ensures _ _ _ (returns-clause-spelled c)
+
+pub returns-clause-own : goal.returns-clause-own
+returns-clause-own c = is_own c.packings.ensures _ _ _ (returns-clause-spelled c)
+
+pub returns-clause-two : goal.returns-clause-two
+returns-clause-two c = is_two c.packings.ensures _ _ _ (returns-clause-spelled c)

@@ -2,4 +2,4 @@ use Rattle.packets.proofs.Unique.{one_packet}
 use Rattle.packets.proofs.laws.one_packet.Goals as goal
 
 pub returns : goal.returns
-returns c = one_packet
+returns c = one_packet c.packings.ensures

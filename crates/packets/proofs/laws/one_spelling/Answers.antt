@@ -1,5 +1,8 @@
 use Rattle.packets.proofs.Written.{has_one, packet_is}
 use Rattle.packets.proofs.laws.one_spelling.Goals as goal
 
-pub returns : goal.returns
-returns c = record { packets = has_one; only = packet_is }
+pub returns-clause-fits : goal.returns-clause-fits
+returns-clause-fits c = has_one c.packings.ensures
+
+pub returns-clause-only : goal.returns-clause-only
+returns-clause-only c = packet_is

@@ -1,4 +1,4 @@
-use Rattle.packets.proofs.EntrySpellings.{says_its_version}
+use Rattle.packets.proofs.Unique.{says_its_version}
 use Rattle.packets.proofs.laws.says.Goals as goal
 
 pub returns : goal.returns

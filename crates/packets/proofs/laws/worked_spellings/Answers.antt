@@ -2,8 +2,8 @@ use Rattle.std.proofs.Common.{ℕ, List, [], ◌∷◌, ◌++◌, refl, arith}
 use Rattle.tape_frames.specs.Packing.{none, three, four}
 use Rattle.protocol.specs.Versions.{Two}
 use Rattle.protocol.specs.Entries.{Entry, Void, Taped}
-use Rattle.packets.specs.Grammar.{SpellsBallot}
-use Rattle.packets.specs.EntryGrammar.{SpellsIn, SpellsPacked, worked_packet, worked_front}
+use Rattle.packets.specs.Grammar.{SpellsBallot, SpellsPacked, Spells}
+use Rattle.packets.specs.Laws.{worked_packet, worked_front}
 use Rattle.packets.proofs.laws.worked_spellings.Goals as goal
 
 first_ballot : SpellsBallot (0 ∷ 0 ∷ 0 ∷ 1 ∷ 1 ∷ []) (record { round = 1; owner = 1 })
@@ -14,7 +14,7 @@ first_ballot = record {
   is_ballot = record { round_low = omega arith; round_high = omega arith; owner_low = omega arith; owner_high = omega arith };
 }
 
-spelled : (entry : Entry) (bytes : List ℕ) → SpellsPacked bytes entry → SpellsIn Two (worked_front ++ bytes) (worked_packet entry)
+spelled : (entry : Entry) (bytes : List ℕ) → SpellsPacked bytes entry → Spells Two (worked_front ++ bytes) (worked_packet entry)
 spelled entry bytes s = record {
   circuit = 0 ∷ 7 ∷ [];
   number = 0 ∷ 0 ∷ 0 ∷ 12 ∷ [];

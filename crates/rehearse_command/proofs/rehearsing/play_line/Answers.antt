@@ -14,4 +14,4 @@ returns-in-Some-clause-stops g c = λ by start set_up s.
 pub returns-in_ok-set_stage-in-None-clause-goes_on : goal.returns-in_ok-set_stage-in-None-clause-goes_on
 returns-in_ok-set_stage-in-None-clause-goes_on g c = λ by start set_up s.
     let mid = g.W.Write.contents c.args.out.now in
-    c.in_ok-set_stage-in-None.ensures by start mid set_up (subst (λ (stage : Option Stage). IsStaged by start mid stage) c.in-None.is s)
+    c.in_ok-set_stage-in-None.ensures.stands by start mid set_up (subst (λ (stage : Option Stage). IsStaged by start mid stage) c.in-None.is s)

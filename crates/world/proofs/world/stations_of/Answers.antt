@@ -19,7 +19,7 @@ loop-table-preserved g c =
     let longer : length (parts ++ part ∷ []) ≡ length parts + 1 = length-append parts (part ∷ []) in
     let pushed = c.in_ok-push-in-Ok.ensures.items in
     let so_many : length stations ≡ length parts = c.loop-table.invariant.count in
-    let new : IsNew (sits c.args.circuit (suc (length parts)) c.args.count) part c.in-Ok.station = record {
+    let new : IsNew g.R.Rows.version (sits c.args.circuit (suc (length parts)) c.args.count) part c.in-Ok.station = record {
       circuit = e.circuit;
       members = e.members;
       me = e.me ∙ (let i = c.loop-table.invariant.me in omega (arith, i));
@@ -29,12 +29,13 @@ loop-table-preserved g c =
       unarmed = ap (λ (b : Balky g.row.R.Denot). b.armed) (e.rows ∙ c.new-rows.ensures);
       goes = e.stopped;
       stands = e.stands;
+      wire = e.wire ∙ ap (λ (b : Balky g.row.R.Denot). g.R.Rows.version b.rows) c.new-rows.ensures;
     } in
     record {
       me = (let i = c.loop-table.invariant.me in omega (arith, longer, i));
       count = ap length pushed ∙ (length-append stations (c.in-Ok.station ∷ []) ∙ omega (arith, longer, so_many));
-      new = subst (λ (ss : List (Station (Balky g.row.R.Denot))). AreNew c.args.circuit c.args.count (parts ++ part ∷ []) ss) (sym pushed)
-          (more c.args.circuit c.args.count parts stations part c.in-Ok.station so_many c.loop-table.invariant.new new);
+      new = subst (λ (ss : List (Station (Balky g.row.R.Denot))). AreNew g.R.Rows.version c.args.circuit c.args.count (parts ++ part ∷ []) ss) (sym pushed)
+          (more g.R.Rows.version c.args.circuit c.args.count parts stations part c.in-Ok.station so_many c.loop-table.invariant.new new);
     }
 
 pub returns-clause-new : goal.returns-clause-new
@@ -42,4 +43,4 @@ returns-clause-new g c =
     let road = YieldsList-from_vec {s = c.into_iter-table-iterator.result} c.args.members.items (search rules) (search rules) in
     let end = YieldsList-end road c.loop-table.yielded c.loop-table.table-iterator c.loop-table.yielded_by c.next.result c.next.new.self c.in-None.is c.next.ensures.steps in
     let all : c.loop-table.yielded ≡ c.args.members.items = sym (map-id c.loop-table.yielded) ∙ end.0 in
-    subst (λ (ps : List (Part g.row.R.Denot)). AreNew c.args.circuit c.args.count ps c.loop-table.stations.items) all c.loop-table.invariant.new
+    subst (λ (ps : List (Part g.row.R.Denot)). AreNew g.R.Rows.version c.args.circuit c.args.count ps c.loop-table.stations.items) all c.loop-table.invariant.new

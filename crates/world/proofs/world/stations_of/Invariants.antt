@@ -8,5 +8,5 @@ invariant-loop-table g l =
     record {
       me : l.me ≡ length l.yielded;
       count : length l.stations.items ≡ length l.yielded;
-      new : AreNew l.circuit l.count l.yielded l.stations.items;
+      new : AreNew g.R.Rows.version l.circuit l.count l.yielded l.stations.items;
     }

@@ -2,6 +2,7 @@
 use Rattle.std.proofs.Common.{◌≡◌, ap, ◌∙◌, option_map, arith, true, false}
 use Rattle.protocol.specs.Ballots.{IsMember}
 use Rattle.protocol.specs.Rows.{Vote}
+use Rattle.tape_frames.specs.Entries.{lent_entry}
 use Rattle.learner.specs.Slots.{opened}
 use Rattle.learner.proofs.Marks.{is_not_newer, after_stands, after_ripe}
 use Rattle.learner.proofs.heard.Heard.hear.Goals as goal
@@ -20,12 +21,12 @@ returns-clause-ripe c = λ n marks h.
     let member : IsMember c.args.self.now.members c.args.member = (omega (arith, c.get-range.ensures), c.requires) in
     c.majority_at.ensures
     ∙ ap (option_map (λ (v : Vote). v.ballot))
-    (after_ripe n marks slots c.args.self.now c.self.view_is h c.args.member member c.slots_of_members.ensures.read c.slots_of_members.ensures.set c.args.ballot c.args.tape
+    (after_ripe n marks slots c.args.self.now c.self.view_is h c.args.member member c.slots_of_members.ensures.read c.slots_of_members.ensures.set c.args.ballot (lent_entry c.args.entry)
     c.slots_of_members.ensures.many c.lent.result.now (c.lent.ensures.value ∙ c.in_ok-keep.ensures.written ∙ c.in_ok-keep.ensures.kept) c.slots_of_members.ensures.count)
 
 pub returns-clause-stands : goal.returns-clause-stands
 returns-clause-stands c = λ n marks h.
     let slots = opened c.self.inside.members c.self.inside.slots in
     let member : IsMember c.args.self.now.members c.args.member = (omega (arith, c.get-range.ensures), c.requires) in
-    after_stands n marks slots c.args.self.now c.self.view_is h c.args.member member c.slots_of_members.ensures.read c.slots_of_members.ensures.set c.args.ballot c.args.tape
+    after_stands n marks slots c.args.self.now c.self.view_is h c.args.member member c.slots_of_members.ensures.read c.slots_of_members.ensures.set c.args.ballot (lent_entry c.args.entry)
     c.slots_of_members.ensures.many (opened c.self.inside.members c.keep.new.slots) c.in_ok-keep.ensures.kept

@@ -1,8 +1,9 @@
 -- The lines of the due moment: idle, given up, or begun anew.
 use Rattle.std.proofs.Common.{refl, sym, ap, subst, ◌∙◌, ◌∷◌, Option}
 use Rattle.std.proofs.lemmas.Result.{MatchResult-weaker, MatchResult-from_err}
-use Rattle.protocol.specs.Rows.{Tape, Vote}
-use Rattle.protocol.specs.Marks.{Began, Closed}
+use Rattle.protocol.specs.Entries.{Entry}
+use Rattle.protocol.specs.Rows.{Vote}
+use Rattle.protocol.specs.Marks.{Began}
 use Rattle.protocol.specs.Turn as said
 use Rattle.proposer.specs.InHand.{StandsFor as ProposalStandsFor}
 use Rattle.proposer.specs.Answers.{IsDueAnswer}
@@ -51,7 +52,7 @@ returns-in-Began-clause-turn c = λ marks stands.
     let n = c.args.self.now.number in
     let b = c.in-Began.ballot in
     let answer = subst (λ m. IsDueAnswer (answers.Began b) m n c.args.now p.opening marks c.args.row.now) of.0 (rw c.in-Began.is at (c.in_ok-due-in-Some.ensures.answer n marks p.opening c.args.row.now p p.is_open (sym c.promised.ensures.value))) in
-    let begun = subst (λ (o : Option Tape). ProposalStandsFor c.due.new.self n (Began n b o c.args.row.now.vote c.args.now ∷ marks)) p.its_own
+    let begun = subst (λ (o : Option Entry). ProposalStandsFor c.due.new.self n (Began n b o c.args.row.now.vote c.args.now ∷ marks)) p.its_own
     (subst (λ (r : Option Vote). ProposalStandsFor c.due.new.self n (Began n b c.in-Some.proposal.own r c.args.now ∷ marks)) (c.in_ok-report-in-Some.ensures ∙ c.vote.ensures.value) (rw c.in-Began.is at (c.in_ok-due-in-Some.ensures.stands n marks p))) in
     MatchResult-weaker c.begun.result c.begun.ensures.turn
     (λ x h.

@@ -2,7 +2,6 @@
 use Rattle.std.proofs.Common.{◌≡◌, refl, sym, subst, ◌∷◌, Some, None}
 use Rattle.protocol.specs.Marks.{Denied}
 use Rattle.protocol.specs.Proposals.{proposal_at}
-use Rattle.protocol.specs.Turn as said
 use Rattle.node_core.specs.declared.desk.Desk.{Desk}
 use Rattle.node_core.specs.Standing.{DeskStands}
 use Rattle.node_core.proofs.Phases.{stays_so, one_more, still, proposal_stands}

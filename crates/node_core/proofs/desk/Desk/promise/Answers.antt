@@ -3,7 +3,6 @@ use Rattle.std.proofs.Common.{◌≡◌, refl, sym, ap, subst, ◌∙◌, ◌∷
 use Rattle.std.proofs.lemmas.Result.{MatchResult-weaker, MatchResult-from_err}
 use Rattle.protocol.specs.Marks.{Mark, Promised}
 use Rattle.protocol.specs.Proposals.{open_proposal, gathering_at}
-use Rattle.protocol.specs.Turn as said
 use Rattle.proposer.specs.Answers.{IsNew}
 use Rattle.proposer.specs.declared.answer.Counted.TheVariants as kinds
 use Rattle.node_core.specs.declared.desk.Desk.{Desk}

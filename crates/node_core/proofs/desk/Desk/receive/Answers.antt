@@ -7,7 +7,7 @@ use Rattle.protocol.specs.Turn.{packet_turn}
 use Rattle.packets.specs.Bodies.{said}
 use Rattle.node_core.specs.Standing.{Answers}
 use Rattle.node_core.specs.Turns.{Stirs}
-use Rattle.node_core.proofs.Accepting.{prepare_adds_none}
+use Rattle.node_core.proofs.Accepting.{prepare_adds_none, none_told}
 use Rattle.node_core.proofs.desk.Desk.receive.Goals as goal
 
 pub returns-in-Nack-clause-of : goal.returns-in-Nack-clause-of
@@ -19,7 +19,7 @@ returns-in-Prepare-clause-turn c = λ marks stands.
     let quiet = prepare_adds_none c.args.seat marks c.args.row.now c.args.packet.now in
     subst (λ (y : Body). MatchResult c.prepare.result (λ x. Answers c.args.row.now (turn y) x c.args.self.now) (λ _. Stirs (turn y))) (sym (ap said c.in-Prepare.is) ∙ c.lend.ensures ∙ c.body.ensures.body)
     (MatchResult-weaker c.prepare.result (MatchResult-from_both c.prepare.result _ _ c.prepare.ensures.turn c.prepare.ensures.memory)
-    (λ x t. record { is_turn = t marks; left = rw ((t marks).release ∙ quiet.1, quiet.0) stands })
+    (λ x t. record { is_turn = t marks; left = rw (none_told x.release ((t marks).release ∙ quiet.1), quiet.0) stands })
     (λ _ stirs. stirs marks))
 
 pub returns-in-Accepted-clause-turn : goal.returns-in-Accepted-clause-turn

@@ -1,8 +1,9 @@
--- Memory was refused to the next ballot.
+-- The next ballot is begun where no proposal is open.
 use Rattle.std.proofs.Common.{ap, ◌∙◌}
-use Rattle.std.specs.Prelude.{not}
+use Rattle.std.specs.Prelude.{not, option_map}
 use Rattle.std.proofs.lemmas.Result.{MatchResult-from_err}
 use Rattle.protocol.specs.Ballots.{next}
+use Rattle.tape_frames.specs.Entries.{owned_entry}
 use Rattle.node_core.proofs.Calling.{next_told, some_so}
 use Rattle.node_core.proofs.Phases.{closed_so}
 use Rattle.node_core.proofs.Stirring.{begin_stirs}
@@ -16,5 +17,9 @@ returns-in_err-begin-clause-turn c = λ marks stands.
       free = record { unreleased = stands.unreleased; closed = closed_so c.args.self.now.number marks c.is_some.result c.open_ballot.result c.is_some.ensures (c.open_ballot.ensures marks stands) c.if-is_some.false };
       ballot = b.0;
       is_next = b.1;
-      holds = begin_stirs c.args.seat c.args.self.now.number b.0 c.args.own c.args.now marks c.args.row.now;
+      holds = begin_stirs c.args.seat c.args.self.now.number b.0 (option_map owned_entry c.args.own) c.args.now marks c.args.row.now;
     })
+
+pub returns-clause-turn : goal.returns-clause-turn
+returns-clause-turn c = λ marks stands.
+    c.in_ok-begin.ensures.turn marks stands (closed_so c.args.self.now.number marks c.is_some.result c.open_ballot.result c.is_some.ensures (c.open_ballot.ensures marks stands) c.if-is_some.false)

@@ -28,8 +28,8 @@ returns-in-Offer-clause-turn c = λ marks stands.
     let same = its_number c.args.event _ c.args.self.now.number c.in-Offer.is c.requires.number in
     subst (λ (y : Event). Taken c.args.seat y marks c.args.row.now c.start.new.self c.start.result) (sym c.in-Offer.is)
     (MatchResult-weaker c.start.result (c.start.ensures.turn marks stands)
-    (λ x h. offered c.args.seat c.args.self.now.number c.in-Offer.number c.in-Offer.tape c.in-Offer.now marks c.args.row.now _ same h)
-    (λ e h is. offered c.args.seat c.args.self.now.number c.in-Offer.number c.in-Offer.tape c.in-Offer.now marks c.args.row.now _ same (h is)))
+    (λ x h. offered c.args.seat c.args.self.now.number c.in-Offer.number c.in-Offer.entry c.in-Offer.now marks c.args.row.now _ same h)
+    (λ e h is. offered c.args.seat c.args.self.now.number c.in-Offer.number c.in-Offer.entry c.in-Offer.now marks c.args.row.now _ same (h is)))
 
 pub returns-in-Seek-clause-turn : goal.returns-in-Seek-clause-turn
 returns-in-Seek-clause-turn c = λ marks stands.

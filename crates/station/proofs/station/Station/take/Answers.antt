@@ -1,5 +1,5 @@
 -- The row was saved, or the save was refused.
-use Rattle.std.proofs.Common.{rules, refl}
+use Rattle.std.proofs.Common.{rules, refl, sym, ◌∙◌}
 use Rattle.node_core.specs.Turns.{event_value}
 use Rattle.station.specs.Stations.{sight}
 use Rattle.station.proofs.Taking.{Taking, done, ended, wanted}
@@ -20,9 +20,8 @@ returns-in-Ok-save-clause-takes g c = λ kept marks stands free.
       gives = l.took.is_turn;
       quiet = c.in-Ok-handle.ensures.quiet;
       stands = l.took.stands;
-      circuit = c.handle.ensures.seat.circuit;
-      members = c.handle.ensures.seat.members;
-      me = c.handle.ensures.seat.me;
+      seat = c.handle.ensures.seat;
+      version = c.get.ensures.version ∙ sym c.requires.wire;
     } in
     done x (event_value c.args.event) c.args.self.now marks c.get.new.self c.save.new.rows c.handle.new.self c.in-Ok-handle.turn c.in-Ok.row c.args.number k c.in-Ok-save.answer (c.in-Ok-save.ensures.saves kept)
 
@@ -42,12 +41,11 @@ returns-in-Ok-handle-clause-takes g c = λ kept marks stands free.
       gives = l.took.is_turn;
       quiet = c.in-Ok-handle.ensures.quiet;
       stands = l.took.stands;
-      circuit = c.handle.ensures.seat.circuit;
-      members = c.handle.ensures.seat.members;
-      me = c.handle.ensures.seat.me;
+      seat = c.handle.ensures.seat;
+      version = c.get.ensures.version ∙ sym c.requires.wire;
     } in
     ended x (event_value c.args.event) c.args.self.now marks c.get.new.self c.save.new.rows c.handle.new.self c.in-Ok-handle.turn c.in-Ok.row c.args.number k
-    (record c.args.self.now { core = c.handle.new.self; rows = c.save.new.rows }) c.stop-in-Err-save.new.self c.in-Err-save.refusal c.stop-in-Err-save.result refl
+    (record c.args.self.now { speaker = c.handle.new.self; rows = c.save.new.rows }) c.stop-in-Err-save.new.self c.in-Err-save.refusal c.stop-in-Err-save.result refl
     c.stop-in-Err-save.ensures.fixed c.stop-in-Err-save.ensures.stopped c.stop-in-Err-save.ensures.same c.stop-in-Err-save.ensures.stands (c.in-Err-save.ensures.saves here)
 
 pub returns-clause-takes : goal.returns-clause-takes

@@ -4,9 +4,9 @@ use Rattle.std.specs.Vec.{with_item}
 use Rattle.protocol.specs.Circuit as circuit
 use Rattle.saved_rows.specs.declared.balky.Balky.{Balky}
 use Rattle.station.specs.Stations.{sight}
-use Rattle.world.proofs.Members.{kept_before, made_after}
+use Rattle.world.proofs.Members.{kept_before, made_after, shown}
 use Rattle.world.proofs.Asking.{changed}
-use Rattle.world.proofs.Starting.{balk_comes}
+use Rattle.world.proofs.Starting.{balk_at, balk_comes}
 use Rattle.world.proofs.world.World.balk.Goals as goal
 
 pub returns-clause-steps : goal.returns-clause-steps
@@ -20,7 +20,10 @@ returns-clause-steps g c = λ kept z w h.
     let ch = changed v v' c.in_ok-place.place c.args.member s s' o.place o.within c.index_mut.ensures.value refl in
     let armed : c.arm.new.self ≡ record s.rows { armed = Some c.args.saved } =
     c.arm.ensures ∙ ap (λ (r : Balky g.row.R.Denot). record r { armed = Some c.args.saved }) c.rows_mut.ensures.value in
-    let comes = balk_comes x g.R.Rows.refusals z v v' w c.in_ok-place.place c.args.member s s' ch h refl refl refl c.args.saved (ap (λ (r : Balky g.row.R.Denot). record s { rows = r }) armed) in
+    let is = ap (λ (r : Balky g.row.R.Denot). record s { rows = r }) armed in
+    let old = shown v v' c.in_ok-place.place c.args.member s s' ch x.is_open x.saved x.version z w h in
+    let at = balk_at x.version (w.version c.args.member) c.args.saved s s' old.is_at is in
+    let comes = balk_comes x g.R.Rows.refusals z v v' w c.in_ok-place.place c.args.member s s' ch h at refl refl refl c.args.saved is in
     rw c.unsent.ensures (comes.0, comes.1, circuit.Armed c.args.saved, refl, comes.2)
 
 pub returns-clause-was_kept : goal.returns-clause-was_kept

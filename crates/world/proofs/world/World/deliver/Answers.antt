@@ -10,7 +10,7 @@ use Rattle.world.proofs.world.World.deliver.Goals as goal
 pub returns-in_err-make_room-clause-steps : goal.returns-in_err-make_room-clause-steps
 returns-in_err-make_room-clause-steps g c = λ kept z w h.
     let p = err_from_is_err_and c.from_residual-in_err-make_room.result c.from_residual-in_err-make_room.ensures.1 in
-    rw p.1 (still g.R.Rows.is_open g.R.Rows.saved c.args.self.now c.make_room.new.self c.make_room.ensures.same z w h)
+    rw p.1 (still g.R.Rows.is_open g.R.Rows.saved g.R.Rows.version c.args.self.now c.make_room.new.self c.make_room.ensures.same z w h)
 
 pub returns-in_err-make_room-clause-was_kept : goal.returns-in_err-make_room-clause-was_kept
 returns-in_err-make_room-clause-was_kept g c = same_kept g.R.Rows.kept c.args.self.now c.make_room.new.self c.make_room.ensures.same
@@ -34,7 +34,7 @@ returns-clause-steps g c =
     let a = c.in_ok-member.ensures in
     let brings = subst (λ (b : List ℕ). Brings v (steps.Deliver c.args.k c.args.now) c.in_ok-member.member (Receiving b c.args.now)) (sym c.bytes.ensures) (deliver_brings v v1 c.args.k c.in_ok-member.member c.args.now c.index-datagram.result.now same a.low a.high c.index-datagram.ensures a.found o.found) in
     asked v v1 v' (steps.Deliver c.args.k c.args.now) c.in_ok-member.member (Receiving c.bytes.result.now c.args.now) brings same c.receive-step.result c.take_in.result t.sent offers t.releases t.seen x g.R.Rows.refusals c.in_ok-place.place s s' ch
-    c.one_setting.ensures c.receive-step.ensures.steps
+    c.one_setting.ensures c.receive-step.ensures.version c.receive-step.ensures.wire c.receive-step.ensures.steps
 
 pub returns-clause-was_kept : goal.returns-clause-was_kept
 returns-clause-was_kept g c =

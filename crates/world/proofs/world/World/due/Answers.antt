@@ -10,7 +10,7 @@ use Rattle.world.proofs.world.World.due.Goals as goal
 pub returns-in_err-make_room-clause-steps : goal.returns-in_err-make_room-clause-steps
 returns-in_err-make_room-clause-steps g c = λ kept z w h.
     let p = err_from_is_err_and c.from_residual-in_err-make_room.result c.from_residual-in_err-make_room.ensures.1 in
-    rw p.1 (still g.R.Rows.is_open g.R.Rows.saved c.args.self.now c.make_room.new.self c.make_room.ensures.same z w h)
+    rw p.1 (still g.R.Rows.is_open g.R.Rows.saved g.R.Rows.version c.args.self.now c.make_room.new.self c.make_room.ensures.same z w h)
 
 pub returns-in_err-make_room-clause-was_kept : goal.returns-in_err-make_room-clause-was_kept
 returns-in_err-make_room-clause-was_kept g c = same_kept g.R.Rows.kept c.args.self.now c.make_room.new.self c.make_room.ensures.same
@@ -32,7 +32,7 @@ returns-clause-steps g c =
     let ch = changed_in v v1 v' c.in_ok-place.place c.args.member s s' same o.place o.within c.index_mut.ensures.value (ap (λ q. q.items) t.stations) in
     let offers = ap (λ q. q.items) t.offers ∙ sym (append-nil v1.offers.items) in
     asked v v1 v' (steps.Due c.args.member c.args.now) c.args.member (Falling_due c.args.now) (due_brings v c.args.member c.args.now o.found) same c.due-step.result c.take_in.result t.sent offers t.releases t.seen x g.R.Rows.refusals c.in_ok-place.place s s' ch
-    c.one_setting.ensures c.due-step.ensures.steps
+    c.one_setting.ensures c.due-step.ensures.version c.due-step.ensures.wire c.due-step.ensures.steps
 
 pub returns-clause-was_kept : goal.returns-clause-was_kept
 returns-clause-was_kept g c =

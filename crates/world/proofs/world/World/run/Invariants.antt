@@ -11,6 +11,6 @@ invariant-loop-at g l =
       takes : Takes g.R.Rows l.fn.self (take l.at l.steps) l.self;
       was_kept : AllKept g.R.Rows.kept l.self → AllKept g.R.Rows.kept l.fn.self;
       made : AllMade g.R.Rows.made l.fn.self → AllMade g.R.Rows.made l.self;
-      runs : AllKept g.R.Rows.kept l.self → (z : StationCircuit) (w : StationState) → StandsFor g.R.Rows.is_open g.R.Rows.saved z l.fn.self w
-          → (after : StationState) × StandsFor g.R.Rows.is_open g.R.Rows.saved z l.self after × Leads z w (take l.at l.steps) after;
+      runs : AllKept g.R.Rows.kept l.self → (z : StationCircuit) (w : StationState) → StandsFor g.R.Rows.is_open g.R.Rows.saved g.R.Rows.version z l.fn.self w
+          → (after : StationState) × StandsFor g.R.Rows.is_open g.R.Rows.saved g.R.Rows.version z l.self after × Leads z w (take l.at l.steps) after;
     }

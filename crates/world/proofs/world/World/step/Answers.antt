@@ -6,15 +6,23 @@ use Rattle.world.proofs.world.World.step.Goals as goal
 pub returns-in-Offer-clause-reached : goal.returns-in-Offer-clause-reached
 returns-in-Offer-clause-reached g c =
     stays_reached g.R.Rows g.met.R.Rows.halves c.args.self.now c.offer.new.self c.offer.ensures.made c.offer.ensures.was_kept
-    (λ kept z r. goes g.R.Rows.is_open g.R.Rows.saved g.R.Rows.refusals z c.args.self.now c.offer.new.self r (steps.Offer c.in-Offer.member c.in-Offer.number c.in-Offer.tape c.in-Offer.now) c.offer.result (c.offer.ensures.steps kept z r.0 r.1))
+    (λ kept z r. goes g.R.Rows.is_open g.R.Rows.saved g.R.Rows.version g.R.Rows.refusals z c.args.self.now c.offer.new.self r (steps.Offer c.in-Offer.member c.in-Offer.number c.in-Offer.tape c.in-Offer.now) c.offer.result (c.offer.ensures.steps kept z r.0 r.1))
 
 pub returns-in-Offer-clause-agreed : goal.returns-in-Offer-clause-agreed
 returns-in-Offer-clause-agreed g c = reached_agreed g.R.Rows c.agreement.ensures _
 
+pub returns-in-Withdraw-clause-reached : goal.returns-in-Withdraw-clause-reached
+returns-in-Withdraw-clause-reached g c =
+    stays_reached g.R.Rows g.met.R.Rows.halves c.args.self.now c.withdraw.new.self c.withdraw.ensures.made c.withdraw.ensures.was_kept
+    (λ kept z r. goes g.R.Rows.is_open g.R.Rows.saved g.R.Rows.version g.R.Rows.refusals z c.args.self.now c.withdraw.new.self r (steps.Withdraw c.in-Withdraw.member c.in-Withdraw.number c.in-Withdraw.now) c.withdraw.result (c.withdraw.ensures.steps kept z r.0 r.1))
+
+pub returns-in-Withdraw-clause-agreed : goal.returns-in-Withdraw-clause-agreed
+returns-in-Withdraw-clause-agreed g c = reached_agreed g.R.Rows c.agreement.ensures _
+
 pub returns-in-Seek-clause-reached : goal.returns-in-Seek-clause-reached
 returns-in-Seek-clause-reached g c =
     stays_reached g.R.Rows g.met.R.Rows.halves c.args.self.now c.seek.new.self c.seek.ensures.made c.seek.ensures.was_kept
-    (λ kept z r. goes g.R.Rows.is_open g.R.Rows.saved g.R.Rows.refusals z c.args.self.now c.seek.new.self r (steps.Seek c.in-Seek.member c.in-Seek.number c.in-Seek.now) c.seek.result (c.seek.ensures.steps kept z r.0 r.1))
+    (λ kept z r. goes g.R.Rows.is_open g.R.Rows.saved g.R.Rows.version g.R.Rows.refusals z c.args.self.now c.seek.new.self r (steps.Seek c.in-Seek.member c.in-Seek.number c.in-Seek.now) c.seek.result (c.seek.ensures.steps kept z r.0 r.1))
 
 pub returns-in-Seek-clause-agreed : goal.returns-in-Seek-clause-agreed
 returns-in-Seek-clause-agreed g c = reached_agreed g.R.Rows c.agreement.ensures _
@@ -22,7 +30,7 @@ returns-in-Seek-clause-agreed g c = reached_agreed g.R.Rows c.agreement.ensures 
 pub returns-in-Due-clause-reached : goal.returns-in-Due-clause-reached
 returns-in-Due-clause-reached g c =
     stays_reached g.R.Rows g.met.R.Rows.halves c.args.self.now c.due.new.self c.due.ensures.made c.due.ensures.was_kept
-    (λ kept z r. goes g.R.Rows.is_open g.R.Rows.saved g.R.Rows.refusals z c.args.self.now c.due.new.self r (steps.Due c.in-Due.member c.in-Due.now) c.due.result (c.due.ensures.steps kept z r.0 r.1))
+    (λ kept z r. goes g.R.Rows.is_open g.R.Rows.saved g.R.Rows.version g.R.Rows.refusals z c.args.self.now c.due.new.self r (steps.Due c.in-Due.member c.in-Due.now) c.due.result (c.due.ensures.steps kept z r.0 r.1))
 
 pub returns-in-Due-clause-agreed : goal.returns-in-Due-clause-agreed
 returns-in-Due-clause-agreed g c = reached_agreed g.R.Rows c.agreement.ensures _
@@ -30,7 +38,7 @@ returns-in-Due-clause-agreed g c = reached_agreed g.R.Rows c.agreement.ensures _
 pub returns-in-Deliver-clause-reached : goal.returns-in-Deliver-clause-reached
 returns-in-Deliver-clause-reached g c =
     stays_reached g.R.Rows g.met.R.Rows.halves c.args.self.now c.deliver.new.self c.deliver.ensures.made c.deliver.ensures.was_kept
-    (λ kept z r. goes g.R.Rows.is_open g.R.Rows.saved g.R.Rows.refusals z c.args.self.now c.deliver.new.self r (steps.Deliver c.in-Deliver.k c.in-Deliver.now) c.deliver.result (c.deliver.ensures.steps kept z r.0 r.1))
+    (λ kept z r. goes g.R.Rows.is_open g.R.Rows.saved g.R.Rows.version g.R.Rows.refusals z c.args.self.now c.deliver.new.self r (steps.Deliver c.in-Deliver.k c.in-Deliver.now) c.deliver.result (c.deliver.ensures.steps kept z r.0 r.1))
 
 pub returns-in-Deliver-clause-agreed : goal.returns-in-Deliver-clause-agreed
 returns-in-Deliver-clause-agreed g c = reached_agreed g.R.Rows c.agreement.ensures _
@@ -38,7 +46,7 @@ returns-in-Deliver-clause-agreed g c = reached_agreed g.R.Rows c.agreement.ensur
 pub returns-in-Restart-clause-reached : goal.returns-in-Restart-clause-reached
 returns-in-Restart-clause-reached g c =
     stays_reached g.R.Rows g.met.R.Rows.halves c.args.self.now c.restart.new.self c.restart.ensures.made c.restart.ensures.was_kept
-    (λ kept z r. goes g.R.Rows.is_open g.R.Rows.saved g.R.Rows.refusals z c.args.self.now c.restart.new.self r (steps.Restart c.in-Restart.member) c.restart.result (c.restart.ensures.steps kept z r.0 r.1))
+    (λ kept z r. goes g.R.Rows.is_open g.R.Rows.saved g.R.Rows.version g.R.Rows.refusals z c.args.self.now c.restart.new.self r (steps.Restart c.in-Restart.member) c.restart.result (c.restart.ensures.steps kept z r.0 r.1))
 
 pub returns-in-Restart-clause-agreed : goal.returns-in-Restart-clause-agreed
 returns-in-Restart-clause-agreed g c = reached_agreed g.R.Rows c.agreement.ensures _
@@ -46,7 +54,7 @@ returns-in-Restart-clause-agreed g c = reached_agreed g.R.Rows c.agreement.ensur
 pub returns-in-Balk-clause-reached : goal.returns-in-Balk-clause-reached
 returns-in-Balk-clause-reached g c =
     stays_reached g.R.Rows g.met.R.Rows.halves c.args.self.now c.balk.new.self c.balk.ensures.made c.balk.ensures.was_kept
-    (λ kept z r. goes g.R.Rows.is_open g.R.Rows.saved g.R.Rows.refusals z c.args.self.now c.balk.new.self r (steps.Balk c.in-Balk.member c.in-Balk.saved) c.balk.result (c.balk.ensures.steps kept z r.0 r.1))
+    (λ kept z r. goes g.R.Rows.is_open g.R.Rows.saved g.R.Rows.version g.R.Rows.refusals z c.args.self.now c.balk.new.self r (steps.Balk c.in-Balk.member c.in-Balk.saved) c.balk.result (c.balk.ensures.steps kept z r.0 r.1))
 
 pub returns-in-Balk-clause-agreed : goal.returns-in-Balk-clause-agreed
 returns-in-Balk-clause-agreed g c = reached_agreed g.R.Rows c.agreement.ensures _

@@ -1,0 +1,67 @@
+-- The laws of the grammar and of reading.
+use Rattle.std.specs.Prelude.{◌≡◌, ℕ, List, [], ◌∷◌, ◌++◌, Ok}
+use Rattle.tape_frames.specs.Packing.{OnePacking, PackingIsGiven, UnpackingUndoes, TapesArePacked, PackedAreTapes}
+use Rattle.protocol.specs.Entries.{Entry}
+use Rattle.protocol.specs.Versions.{Version, Two}
+use Rattle.protocol.specs.Packets.{Packet, Accepted}
+use Rattle.protocol.specs.Fitting.{BodyFits}
+use Rattle.packets.specs.Grammar.{IsBytes, Spells, IsPacket, said_version}
+use Rattle.packets.specs.Reading.{packet_in, packet_at}
+
+-- each packet whose entries fit the version has a spelling in it, and only one
+abbrev pub HasOneSpelling : Type 0
+HasOneSpelling =
+    (v : Version) (p : Packet) → IsPacket p → BodyFits v p.body
+    → (bytes : List ℕ) × Spells v bytes p × ((other : List ℕ) → Spells v other p → other ≡ bytes)
+
+-- nothing else has one: what is spelled in a version is a packet, and its entries fit the version
+abbrev pub OnlyWhatFits : Type 0
+OnlyWhatFits = (v : Version) (bytes : List ℕ) (p : Packet) → Spells v bytes p → IsPacket p × BodyFits v p.body
+
+-- what spells a packet in a version says that it is of it
+abbrev pub SaysItsVersion : Type 0
+SaysItsVersion = (v : Version) (bytes : List ℕ) (p : Packet) → Spells v bytes p → said_version bytes ≡ v
+
+-- no bytes spell two packets, of one version or of two
+abbrev pub OnePacket : Type 0
+OnePacket = (v w : Version) (bytes : List ℕ) (p q : Packet) → Spells v bytes p → Spells w bytes q → (v ≡ w) × (p ≡ q)
+
+-- no spelling of either version is the front of another's: two of which one begins with the other are equal
+abbrev pub NoFront : Type 0
+NoFront = (v w : Version) (short long rest : List ℕ) (p q : Packet) → Spells v short p → Spells w long q → long ≡ short ++ rest → short ≡ long
+
+-- what spells a packet in a version is read as it in that version
+abbrev pub ReadsItAgain : Type 0
+ReadsItAgain = (v : Version) (bytes : List ℕ) (p : Packet) → Spells v bytes p → packet_in v bytes ≡ Ok p
+
+-- and nothing else is
+abbrev pub FindsWhatIsSpelled : Type 0
+FindsWhatIsSpelled = (v : Version) (bytes : List ℕ) (p : Packet) → IsBytes bytes → packet_in v bytes ≡ Ok p → Spells v bytes p
+
+-- what is read in a version says that it is of it
+abbrev pub ReadAsSaid : Type 0
+ReadAsSaid = (v : Version) (bytes : List ℕ) (p : Packet) → packet_in v bytes ≡ Ok p → said_version bytes ≡ v
+
+-- the entries of what is read in a version fit it
+abbrev pub ReadWhatFits : Type 0
+ReadWhatFits = (v : Version) (bytes : List ℕ) (p : Packet) → packet_in v bytes ≡ Ok p → BodyFits v p.body
+
+-- a station of version 2 reads what is spelled in either version
+abbrev pub TwoReadsBoth : Type 0
+TwoReadsBoth = (v : Version) (bytes : List ℕ) (p : Packet) → packet_in v bytes ≡ Ok p → packet_at Two bytes ≡ Ok p
+
+-- what is known of packings
+pub record Packings : Type 0 where
+  pub one : OnePacking
+  pub given : PackingIsGiven
+  pub undoes : UnpackingUndoes
+  pub tapes : TapesArePacked
+  pub are_tapes : PackedAreTapes
+
+-- of member 2 to member 1 of circuit 7: that it voted for this entry for number 12 at ballot 1.1
+abbrev pub worked_packet : Entry → Packet
+worked_packet entry = record { circuit = 7; from = 2; to = 1; number = 12; ballot = record { round = 1; owner = 1 }; body = Accepted entry }
+
+-- its spelling in version 2 as far as the entry
+abbrev pub worked_front : List ℕ
+worked_front = 84 ∷ 78 ∷ 2 ∷ 4 ∷ 0 ∷ 7 ∷ 2 ∷ 1 ∷ 0 ∷ 0 ∷ 0 ∷ 12 ∷ 0 ∷ 0 ∷ 0 ∷ 1 ∷ 1 ∷ []

@@ -1,0 +1,146 @@
+//! What a station remembers, in the version in which it speaks.
+
+ghost use Rattle.std.specs.Prelude.{◌≡◌, ◌≤◌, List, [], IfOk, IfErr, IsSome, IfSome, true, false, length};
+ghost use Rattle.protocol.specs.Marks.{Mark};
+ghost use Rattle.protocol.specs.Versions.{fits};
+ghost use Rattle.protocol.specs.Fitting.{BodyFits, EventFits};
+ghost use Rattle.saved_rows.specs.Saved.{RowFits};
+ghost use Rattle.tape_frames.specs.Entries.{version_of, lent_entry};
+ghost use Rattle.packets.specs.Reading.{packet_at};
+ghost use Rattle.node_core.specs.Calls.{MayCome, TookTurn, RefusesEvent, MayTakeMemory};
+ghost use Rattle.node_core.specs.Standing.{StandsFor, IsSameSeat};
+ghost use Rattle.node_core.specs.Turns.{event_value, note_value, is_quiet, HandsNothing, sent};
+ghost use Rattle.station.specs.Speaking.{is_lower, TurnSpeaks};
+
+use ballots::{Member, Row};
+use node_core::{CoreRefusal, Event, NodeCore, Turn};
+use packets::{PacketFault, PacketRef, decode};
+use std::alloc::Global;
+use std::marker::Model;
+use tape_frames::{EntryRef, Version};
+
+/// A core, and the version in which its station speaks. All that the core took in fits that version, so that what comes
+/// of it can be saved and sent.
+#[derive(Drop)]
+pub(crate) struct Speaker {
+    core: NodeCore,
+    wire: Version,
+}
+
+impl Model for Speaker {
+    ghost use Rattle.tape_frames.specs.Entries.{version_of};
+    ghost use Rattle.station.specs.Speaking.{Speaking, Speaks};
+
+    ghost Value = { Speaking };
+
+    ghost view = { λ s. record { core = s.core; wire = version_of s.wire } };
+
+    ghost invariant = { λ s. Speaks s.core (version_of s.wire) };
+}
+
+/// Whether the first version is below the second.
+fn is_lower(version: Version, other: Version) -> bool
+    ensures { result ≡ is_lower (version_of version) (version_of other) }
+{
+    match (version, other) {
+        (Version::One, Version::Two) => true,
+        (Version::One, Version::One) => false,
+        (Version::Two, _) => false,
+    }
+}
+
+impl Speaker {
+    /// The core of a member that just started, in this version.
+    #[tactic(auto, using(crate::proofs::Remembering::nothing_speaks))]
+    pub fn new(alloc: Global, circuit: u16, me: Member, members: u8, wire: Version) -> Speaker
+        requires low { 1 ≤ members }
+        requires high { members ≤ 15 }
+        requires member { me ≤ members }
+        ensures circuit { result.core.circuit ≡ circuit }
+        ensures me { result.core.me ≡ me }
+        ensures members { result.core.members ≡ members }
+        ensures stands { StandsFor result.core [] }
+        ensures wire { result.wire ≡ version_of wire }
+    {
+        Speaker {
+            core: NodeCore::new(alloc, circuit, me, members),
+            wire,
+        }
+    }
+
+    /// The core.
+    pub fn core(&self) -> &NodeCore
+        ensures { result.now ≡ self.now.core }
+    {
+        &self.core
+    }
+
+    /// Whether the version has a spelling and a row for the entry.
+    pub fn has_spelling(&self, entry: &EntryRef<'_>) -> bool
+        ensures { result ≡ fits self.now.wire (lent_entry entry.now) }
+    {
+        entry.fits(self.wire)
+    }
+
+    /// The packet that the bytes spell: at version 1 in version 1 alone, at version 2 in either. What is answered fits.
+    pub fn read<'a>(&self, bytes: &'a [u8]) -> Result<PacketRef<'a>, PacketFault>
+        ensures exact { result ≡ packet_at self.now.wire bytes.now }
+        ensures fits { IfOk result (λ p. BodyFits self.now.wire p.body) }
+    {
+        decode(bytes, self.wire)
+    }
+
+    /// Forgets all that was taken in, as at a start.
+    #[tactic(auto, using(crate::proofs::Remembering::nothing_speaks))]
+    pub fn clear(&mut self)
+        ensures stands { StandsFor self.new.core [] }
+        ensures seat { IsSameSeat self.old.core self.new.core }
+        ensures wire { self.new.wire ≡ self.old.wire }
+    {
+        self.core.clear();
+    }
+
+    /// Speaks this version from now on. Where it is below the one before, all that was taken in is forgotten: some of it
+    /// may not fit.
+    pub fn follow(&mut self, version: Version)
+        ensures wire { self.new.wire ≡ version_of version }
+        ensures seat { IsSameSeat self.old.core self.new.core }
+        ensures keeps { is_lower (version_of version) self.old.wire ≡ false → self.new.core ≡ self.old.core }
+        ensures forgets { is_lower (version_of version) self.old.wire ≡ true → StandsFor self.new.core [] }
+    {
+        if is_lower(version, self.wire) {
+            self.core.clear();
+        }
+        self.wire = version;
+    }
+
+    /// Takes the turn of the event, where `row` is the saved row of its number; both fit the version, and so does the turn.
+    ///
+    /// It is refused as [`NodeCore::handle`] refuses it. Where memory is refused, all that was taken in is forgotten.
+    pub fn handle(&mut self, event: Event<'_>, row: &Row) -> Result<Turn, CoreRefusal>
+        requires arrived { MayCome self.old.core.me self.old.core.members event }
+        requires event { EventFits self.old.wire (event_value event) }
+        requires row { RowFits self.old.wire row.now }
+        ensures ok { IfOk result (λ x. (marks : List Mark) → StandsFor self.old.core marks → TookTurn self.old.core event.entry marks row.now x self.new.core) }
+        ensures fits { IfOk result (λ x. TurnSpeaks self.old.wire row.now x) }
+        ensures promised { IfOk result (λ x. IfSome x.row (λ r. IsSome r.promised)) }
+        ensures few { IfOk result (λ x. length (sent row.now x) ≤ 28) }
+        ensures quiet { IfOk result (λ x. is_quiet (note_value x.note) ≡ true → HandsNothing x) }
+        ensures refused { IfErr result (λ e. RefusesEvent event.entry e self.old.core row.now self.new.core) }
+        ensures memory { IfErr result (λ e. e ≡ CoreRefusal.OutOfMemory → (marks : List Mark) → StandsFor self.old.core marks → MayTakeMemory self.old.core event.entry marks row.now) }
+        ensures seat { IsSameSeat self.old.core self.new.core }
+        ensures wire { self.new.wire ≡ self.old.wire }
+    {
+        // A turn makes no entry up, where the core's member is one of its circuit.
+        protocol::laws::turns_fit();
+        let _me = self.core.me();
+        match self.core.handle(event, row) {
+            Ok(turn) => Ok(turn),
+            Err(CoreRefusal::OutOfMemory) => {
+                self.core.clear();
+                Err(CoreRefusal::OutOfMemory)
+            }
+            Err(refusal) => Err(refusal),
+        }
+    }
+}
