@@ -6,14 +6,15 @@
 Needs the stock SQLite shell (`apt-get install sqlite3`). Circuits of three stations run on 127.0.0.1, one after another, each in a
 folder of its own. Each station offers one of three stories for one of twelve numbers, or seeks one, is killed (SIGKILL) at a moment
 of its own, 1,000 kills where no other count is given, and started again over its saved rows; the first kills come while the file of
-saved rows is made. No station sends to another: for each ordered pair there is a socket here, to which the one sends for the other,
-and which loses datagrams, repeats, delays and so reorders them, and sends some once more as of version 2, which a station over rows of
-version 1 does not read. What it passes on goes out of the socket that the addressee's configuration names for the sender.
+saved rows is made, some of them in layout 2. Between two runs a station's file is upgraded now and then, and half of the upgrades are
+killed too; over layout 2 a station withdraws numbers as well. No station sends to another: for each ordered pair there is a socket
+here, to which the one sends for the other, and which loses datagrams, repeats, delays and so reorders them. What it passes on goes out
+of the socket that the addressee's configuration names for the sender.
 
 After each kill a copy of the station's file is read by the shell. It is whole, or was never made; a file that was once made stays
-made; no row of an earlier reading is missing or has a lower promise or vote; and all votes at one ballot, in whichever file, are for
-one tape. All releases of a number that any station of a circuit ever printed have one tape. In the end of each circuit the network
-passes all on, each released number is sought, and it is told how long it took until all three stations had printed it; then the
+made, and one that is in layout 2 stays so; no row of an earlier reading is missing or has a lower promise or vote; and all votes at one
+ballot, in whichever file and layout, are for one entry. All releases of a number that any station of a circuit ever printed have one
+entry. In the end of each circuit the last stations go over, the network passes all on, each released number is sought, and it is told how long it took until all three stations had printed it; then the
 stations end by themselves, the shell reads what `rows` prints, and of each released number a majority of the files has the vote. The
 status is 1 where anything was otherwise, and the folder of that circuit stays.
 """
@@ -36,10 +37,13 @@ NUMBERS = range(1, 13)
 MEMBERS = (1, 2, 3)
 STORIES = ('flood.tape', 'harvest.tape', 'third.tape')
 KILLS_OF_A_CIRCUIT = 50
-# the tables of a file, and what the shell is asked of it
-TABLES = ['acceptor_row', 'station']
-ROWS = ('SELECT number, promised_round, promised_owner, vote_round, vote_owner, lower(hex(tape))'
-        ' FROM acceptor_row ORDER BY number')
+# by layout, what the tables of a file may be, and what the shell is asked of it
+TABLES = {1: [['acceptor_row', 'station']], 2: [['acceptor_entry', 'station'], ['acceptor_entry', 'acceptor_row', 'station']]}
+ROWS = {
+    1: 'SELECT number, promised_round, promised_owner, vote_round, vote_owner, length(tape), hex(tape) FROM acceptor_row ORDER BY number',
+    2: 'SELECT number, promised_round, promised_owner, vote_round, vote_owner, length, hex(packed) FROM acceptor_entry ORDER BY number',
+}
+VOID = 'void'
 # a moment in which nothing happens
 NEVER = float('inf')
 
@@ -81,6 +85,7 @@ class Network:
     def take(self, pair, datagram):
         """What becomes of a datagram that one of the pair has sent to the other."""
         self.counts['sent'] += 1
+        self.counts['of version 2'] += datagram[2] == 2
         now = time.monotonic()
         if self.calm:
             heapq.heappush(self.waiting, (now, self.counts['sent'], pair, datagram))
@@ -90,9 +95,6 @@ class Network:
             return
         copies = 2 if self.chance.random() < 0.1 else 1
         self.counts['repeated'] += copies - 1
-        if self.chance.random() < 0.1:
-            self.counts['of version 2'] += 1
-            heapq.heappush(self.waiting, (now, self.chance.random(), pair, datagram[:2] + b'\2' + datagram[3:]))
         for _ in range(copies):
             late = self.chance.choice((0, 0, 0.02, 0.1)) if self.chance.random() < 0.95 else 2
             self.counts['delayed'] += late > 0
@@ -121,12 +123,14 @@ class Station:
     def __init__(self, circuit, member):
         self.circuit, self.member = circuit, member
         self.process, self.until, self.runs = None, 0.0, 0
-        self.made, self.rows = False, {}
+        self.made, self.rows, self.layout = False, {}, 1
 
     def start(self, turns, *words):
         """A run, what it prints in a file of its own."""
         self.runs += 1
-        words = list(words) + ([] if self.made else ['--create'])
+        if not self.made:
+            layout = 2 if self.circuit.network.calm else self.circuit.chance.choice((1, 1, 2))
+            words = [*words, '--create', '--layout', str(layout)]
         self.log = self.circuit.path(f'station{self.member}.run{self.runs}')
         with open(self.log, 'wb') as out, open(self.log + '.err', 'wb') as err:
             self.process = subprocess.Popen(
@@ -141,6 +145,27 @@ class Station:
         self.process = None
         self.see()
 
+    def go_over(self, spared):
+        """Upgrades the file of the station, which does not run. The upgrade is killed at some moment where it is not spared."""
+        before = self.rows
+        upgrade = subprocess.Popen([self.circuit.program, 'upgrade', f'station{self.member}.db'], cwd=self.circuit.folder,
+                                   stdout=subprocess.PIPE, stderr=subprocess.PIPE, text=True)
+        try:
+            out, err = upgrade.communicate(timeout=60 if spared else self.circuit.chance.uniform(0, 0.03))
+        except subprocess.TimeoutExpired:
+            upgrade.kill()
+            upgrade.communicate()
+            self.circuit.cut_upgrades += 1
+        else:
+            self.circuit.upgrades += 1
+            if (upgrade.returncode, out, err) != (0, 'layout 2\n', ''):
+                raise Wrong(f'the upgrade of station {self.member} ended with status {upgrade.returncode}: {out!r}, {err!r}')
+        rows = self.read()
+        if upgrade.returncode == 0 and self.layout != 2:
+            raise Wrong(f'the file of station {self.member} was upgraded, and is in layout {self.layout}')
+        if list(map(str, rows.values())) != list(map(str, before.values())):
+            raise Wrong(f'station {self.member} had {list(map(str, before.values()))}, and has {list(map(str, rows.values()))} after an upgrade')
+
     def end(self):
         """Starts the station for one turn, and lets it end."""
         self.start(1)
@@ -150,17 +175,17 @@ class Station:
         self.see()
 
     def releases(self):
-        """The number and the tape of each release of this run. A line that a kill cut off is none."""
+        """The number and the entry of each release of this run. A line that a kill cut off is none."""
         with open(self.log) as text:
-            return re.findall(r'^release (\d+) ([0-9a-f]+)\n', text.read(), re.MULTILINE)
+            return re.findall(r'^release (\d+) ([0-9a-f]+|void)\n', text.read(), re.MULTILINE)
 
     def see(self):
         """Takes in what the run printed and what its file has now."""
         with open(self.log + '.err') as err:
             if told := err.read():
                 raise Wrong(f'run {self.runs} of station {self.member} told {told!r}')
-        for number, tape in self.releases():
-            self.circuit.take_release(int(number), tape)
+        for number, entry in self.releases():
+            self.circuit.take_release(int(number), entry)
         rows = self.read()
         if rows is None:
             if self.made:
@@ -188,32 +213,49 @@ class Station:
             tables = shell(path, "SELECT name FROM sqlite_schema WHERE type = 'table' ORDER BY name")
             if not tables:
                 return None
-            whose = shell(path, 'SELECT layout, circuit, member, members FROM station') if tables == TABLES else None
-            if whose != [f'1|7|{self.member}|{len(MEMBERS)}']:
-                raise Wrong(f'the file of station {self.member} has the tables {tables} of {whose}')
-            return {row.number: row for row in map(Row, shell(path, ROWS))}
+            whose = shell(path, 'SELECT layout, circuit, member, members FROM station') if 'station' in tables else None
+            layout = next((l for l in TABLES if tables in TABLES[l] and whose == [f'{l}|7|{self.member}|{len(MEMBERS)}']), 0)
+            if layout < (self.layout if self.made else 1):
+                raise Wrong(f'the file of station {self.member} has the tables {tables} of {whose}, and was in layout {self.layout}')
+            self.layout = layout
+            return {row.number: row for row in (Row(line, layout) for line in shell(path, ROWS[layout]))}
 
 
 class Row:
     """What a file has of a number."""
 
-    def __init__(self, line):
+    def __init__(self, line, layout):
         words = line.split('|')
         self.number, self.promised = int(words[0]), (int(words[1]), int(words[2]))
         self.vote = (int(words[3]), int(words[4])) if words[3] else None
-        self.tape = words[5]
+        self.entry = entry_of(words[5], words[6], layout)
 
     def stands_in(self, later):
         """Whether a later row of the number has lost nothing of this one."""
         if later is None or later.promised < self.promised:
             return False
         if self.vote is None or later.vote == self.vote:
-            return self.vote is None or later.tape == self.tape
+            return self.vote is None or later.entry == self.entry
         return later.vote is not None and later.vote > self.vote
 
     def __str__(self):
         promised, vote = ('.'.join(map(str, ballot)) if ballot else '-' for ballot in (self.promised, self.vote))
-        return f'{self.number} {promised} {vote} {self.tape or "-"}'
+        return f'{self.number} {promised} {vote} {self.entry or "-"}'
+
+
+def entry_of(length, kept, layout):
+    """The entry in two columns: the frames in hex, or that of a withdrawal; nothing where there is no vote."""
+    if not length:
+        return ''
+    if layout == 1:
+        return kept.lower()
+    count, kept = int(length), bytes.fromhex(kept)
+    if len(kept) != (3 * count + 3) // 4:
+        raise Wrong(f'{count} frames are packed in {len(kept)} bytes')
+    bits, pad = int.from_bytes(kept, 'big'), 8 * len(kept) - 6 * count
+    if bits & ((1 << pad) - 1):
+        raise Wrong('a bit behind the last frame is not zero')
+    return bytes(bits >> pad + 6 * (count - 1 - place) & 63 for place in range(count)).hex() if count else VOID
 
 
 def is_half_made(path):
@@ -238,7 +280,7 @@ class Circuit:
     def __init__(self, program, chance):
         self.program, self.chance, self.folder = program, chance, tempfile.mkdtemp()
         self.network = Network(chance)
-        self.kills = self.early = self.printed = 0
+        self.kills = self.early = self.printed = self.upgrades = self.cut_upgrades = 0
         self.offered, self.released, self.voted, self.took = {}, {}, {}, []
         self.stations = [Station(self, member) for member in MEMBERS]
         self.configure()
@@ -258,19 +300,24 @@ class Circuit:
                 config.write(f'circuit = 7\nmember = {member}\ntable = "codes.toml"\nwidths = "widths.toml"\n'
                              f'rows = "station{member}.db"\n{stations}')
 
-    def take_release(self, number, tape):
+    def take_release(self, number, entry):
         self.printed += 1
-        if self.released.setdefault(number, tape) != tape:
-            raise Wrong(f'TWO STORIES of {number}: {tape} and {self.released[number]}')
+        if self.released.setdefault(number, entry) != entry:
+            raise Wrong(f'TWO STORIES of {number}: {entry} and {self.released[number]}')
 
     def take_vote(self, number, row):
-        if row.vote and self.voted.setdefault((number, row.vote), row.tape) != row.tape:
-            raise Wrong(f'two tapes at one ballot: {row} and {self.voted[number, row.vote]}')
+        if row.vote and self.voted.setdefault((number, row.vote), row.entry) != row.entry:
+            raise Wrong(f'two entries at one ballot: {row} and {self.voted[number, row.vote]}')
 
     def stir(self, station):
         """Starts a station with a wish of its own, and says when it is killed."""
         number = self.chance.choice(NUMBERS)
-        if self.chance.random() < 0.7:
+        if station.made and station.layout == 1 and self.chance.random() < 0.08:
+            station.go_over(self.chance.random() < 0.5)
+        if station.made and station.layout == 2 and self.chance.random() < 0.15:
+            self.offered.setdefault(number, set()).add(VOID)
+            words = ['--withdraw', str(number)]
+        elif self.chance.random() < 0.7:
             story = self.chance.choice(STORIES)
             self.offered.setdefault(number, set()).add(story)
             words = ['--number', str(number), '--tape', story]
@@ -301,6 +348,10 @@ class Circuit:
         """Seeks each released number while nothing is lost, and keeps how long it took until all had printed it."""
         self.network.calm = True
         for station in self.stations:
+            if station.made and station.layout == 1:
+                if station.process is not None:
+                    station.kill()
+                station.go_over(True)
             if station.process is None:
                 station.start(1_000_000)
         for number in sorted(self.released):
@@ -326,10 +377,10 @@ class Circuit:
             lines = [f'station {station.member} of {len(MEMBERS)} circuit 7', *map(str, station.rows.values())]
             if printed.stdout.splitlines() != lines:
                 raise Wrong(f'rows of station {station.member} prints {printed.stdout!r}, the shell {lines}')
-        for number, tape in self.released.items():
-            votes = sum(number in s.rows and s.rows[number].tape == tape for s in self.stations)
+        for number, entry in self.released.items():
+            votes = sum(number in s.rows and s.rows[number].entry == entry for s in self.stations)
             if 2 * votes <= len(MEMBERS):
-                raise Wrong(f'{number} was released, and {votes} files have a vote for its tape')
+                raise Wrong(f'{number} was released, and {votes} files have a vote for its entry')
 
     def close(self):
         for station in self.stations:
@@ -352,6 +403,8 @@ def tell(circuits, seed):
           + ' of the datagrams')
     print(f'{total(lambda c: c.printed)} releases of {total(lambda c: len(c.released))} numbers, {rivals} of which were'
           f' offered as several stories; {total(lambda c: len(c.voted))} votes')
+    print(f'{total(lambda c: c.upgrades)} upgrades, and {total(lambda c: c.cut_upgrades)} that were killed;'
+          f' {total(lambda c: sum(entry == VOID for entry in c.released.values()))} numbers are withdrawn')
     found = [moment for moment in took if moment < NEVER]
     print(f'{len(found)} of {len(took)} numbers were found again, within {max(found, default=0):.2f} s')
 

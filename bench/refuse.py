@@ -115,6 +115,11 @@ THREE_WITHDRAW = (
     THREE_RELEASE[1].replace(RELEASE, 'release 12 void\n'))
 VOTE_IS_REPORTED_PACKED = (VOTE_IS_REPORTED[0].replace('members 3\n', 'members 3\nwire 2\n'), VOTE_IS_REPORTED[1])
 TOO_OLD = ('members 3\nwire 1\nwithdraw 1 12\n', '1 refused wire-too-old\n')
+# A member goes over, armed and unarmed, and withdraws a number that it had a story for.
+GOES_OVER = (
+    f'members 1\noffer 1 3 {STORY}\nbalk 1 unsaved\nupgrade 1\nupgrade 1\nwithdraw 1 12\nseek 1 3\n',
+    f'1 proposed 1.1\n release 3 {STORY}\n{GALLEY}1 armed unsaved\n1 stopped store\n1 upgraded\n1 proposed 1.1\n release 12 void\n'
+    f'1 proposed 2.1\n release 3 {STORY}\n{GALLEY}')
 
 # A tape, its galley, its fault.
 TAPES = [
@@ -274,7 +279,8 @@ class Sweep:
         found = run.stdout if run.returncode == 0 else run.stderr
         if found not in case.left:
             raise Wrong(f'it left {found!r}')
-        if 'release ' in out and f' {STORY}\n' not in found:
+        released = re.search(r'^release \d+( \S+\n)', out, re.MULTILINE)
+        if released and released[1] not in found:
             raise Wrong(f'it released what it did not save: {found!r}')
 
     def see(self, case, place):
@@ -313,7 +319,7 @@ def judge_stop(case, status, out, err):
         raise Wrong('no station stopped for memory where it had to')
     if (status, err) != (0, '') and (status != 1 or not re.fullmatch(r'script line \d+: no such datagram\n', err)):
         raise Wrong('it ends otherwise')
-    if len(set(re.findall(r'^ release 12 (\S+)', out, re.MULTILINE))) > 1:
+    if any(len(set(re.findall(rf'^ release {number} (\S+)', out, re.MULTILINE))) > 1 for number in (3, 12)):
         raise Wrong('TWO STORIES of a number')
     return 'went on'
 
@@ -382,7 +388,7 @@ def rehearse_cases(sweep):
     cases = []
     scripts = (
         ('three release', THREE_RELEASE), ('a vote is reported', VOTE_IS_REPORTED), ('three withdraw', THREE_WITHDRAW),
-        ('a packed vote', VOTE_IS_REPORTED_PACKED), ('too old', TOO_OLD))
+        ('a packed vote', VOTE_IS_REPORTED_PACKED), ('too old', TOO_OLD), ('goes over', GOES_OVER))
     for name, (script, out) in scripts:
         sweep.write(f'{name}.script', script)
         cases.append(Case(f'rehearse, {name}', ['rehearse', 'codes.toml', 'widths.toml', f'{name}.script'], out=out))
@@ -406,6 +412,10 @@ def make_rows(sweep):
         process.wait()
     # one that ends by itself leaves all in the file
     subprocess.run([sweep.program, 'serve', 'made.toml', '--turns', '1'], cwd=sweep.work, check=True)
+    for name in os.listdir(sweep.work):
+        if name.startswith('made.db'):
+            shutil.copy(sweep.path(name), sweep.path(name.replace('made.db', 'over.db')))
+    subprocess.run([sweep.program, 'upgrade', 'over.db'], cwd=sweep.work, check=True, stdout=subprocess.DEVNULL)
     sweep.write('alone.toml', config(1, [free_port()]).replace('own', 'alone'))
     offer = ['--create', '--number', '12', '--tape', 'flood.tape']
     subprocess.run([sweep.program, 'serve', 'alone.toml', '--turns', '1', *offer], cwd=sweep.work, check=True,
@@ -435,16 +445,21 @@ def store_cases(sweep):
     sweep.write('two.toml', config(1, [port, peer.getsockname()[1]]))
     offer = ['--create', '--number', '12', '--tape', 'flood.tape']
     alone, two = 'station 1 of 1 circuit 7\n', 'station 1 of 2 circuit 7\n'
-    voted = f'12 1.1 1.1 {STORY}\n'
+    voted, withdrawn = f'12 1.1 1.1 {STORY}\n', '12 1.1 1.1 void\n'
     none = 'store: refused\n'
     return [
         Case('rows', ['rows', 'made.db'], out=text),
+        Case('upgrade', ['upgrade', 'own.db'], out='layout 2\n', begins='made.db', left=(text,)),
+        Case('upgrade of layout 2', ['upgrade', 'own.db'], out='layout 2\n', begins='over.db', left=(text,)),
+        Case('rows of layout 2', ['rows', 'over.db'], out=text),
         Case('serve, a search', ['serve', 'own.toml', '--turns', '1', '--seek', '12'], out=RELEASE, begins='alone.db',
              left=(alone + voted, alone + f'12 2.1 2.1 {STORY}\n')),
         Case('serve, made, an offer', ['serve', 'own.toml', '--turns', '1', *offer], out=RELEASE,
              left=(none, alone, alone + voted)),
         Case('serve, made, a withdrawal', ['serve', 'own.toml', '--turns', '1', '--create', '--withdraw', '12'],
              err='refused wire-too-old\n', status=1, left=(none, alone)),
+        Case('serve, layout 2, a withdrawal', ['serve', 'own.toml', '--turns', '1', '--create', '--layout', '2', '--withdraw', '12'],
+             out='release 12 void\n', left=(none, alone, alone + withdrawn)),
         Case('serve, made, beside another', ['serve', 'two.toml', '--turns', '6', *offer], out=RELEASE,
              left=(none, two, two + '12 1.1 - -\n', two + voted), peer=Peer(peer, ('127.0.0.1', port))),
     ]

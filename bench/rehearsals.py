@@ -4,12 +4,12 @@
     bench/rehearsals.py PROGRAM [SCRIPTS] [SEED]
 
 Each script has a circuit of 3 or 5 members, in version 1 or 2, that are offered stories for a few numbers, withdraw and seek them and
-see to what is due, whose datagrams are lost, repeated and come in any order, whose saves are refused, and which start again. Then all
-start again and member 1 seeks each number, and nothing is lost any more. `rehearse` plays a script in pieces, each time from its beginning, since only
+see to what is due, whose datagrams are lost, repeated and come in any order, whose saves are refused, which go over to version 2, and
+which start again. Then all go over and start again, member 1 seeks each number, and nothing is lost any more. `rehearse` plays a script in pieces, each time from its beginning, since only
 what it prints tells which datagrams there are; what it printed before has to be the front of what it prints now.
 
 Of what is printed, all releases of a number must have one tape, which a member was offered for it, set as it sets, or all be of its
-withdrawal, which a member was asked for and no member in version 1 takes; and each number that was released must be released by all
+withdrawal, which a member was asked for, and which no member takes before it goes over; and each number that was released must be released by all
 members at the end. The script that shows otherwise is kept, and named.
 """
 import os
@@ -41,6 +41,7 @@ class Broken(Exception):
 class Rehearsal:
     def __init__(self, program, folder, members, wire, chance):
         self.program, self.members, self.wire, self.chance = program, members, wire, chance
+        self.over = set()
         self.path = os.path.join(folder, 'script')
         self.lines, self.orders, self.out = [f'members {members}', f'wire {wire}'], [], ''
         self.now, self.next, self.sent = 0, 1, 0
@@ -73,6 +74,7 @@ class Rehearsal:
     def read(self, printed):
         """Takes what is printed apart: a first line for each order, then datagrams, a release and its slugs."""
         self.offered, self.releases, self.found = {}, {}, {}
+        self.over = set(map(str, range(1, self.members + 1))) if self.wire == 2 else set()
         self.sent = self.count = place = 0
         for order in self.orders:
             member, told = printed[place].split(' ', 1)
@@ -94,12 +96,15 @@ class Rehearsal:
             raise Broken(f'nothing was ordered that prints {printed[place]}')
 
     def take_order(self, words, member, told):
-        if words[0] == 'restart':
+        if words[0] in ('restart', 'upgrade'):
             for found in self.found.values():
                 found.discard(member)
+        if words[0] == 'upgrade':
+            # one that was refused may have gone over too
+            self.over.add(member)
         if words[0] in ('offer', 'withdraw') and not told.startswith('refused'):
             entry = words[3] if words[0] == 'offer' else VOID
-            if entry == VOID and self.wire == 1:
+            if entry == VOID and member not in self.over:
                 raise Broken(f'{words[2]} is withdrawn in version 1')
             self.offered.setdefault(int(words[2]), set()).add(entry)
 
@@ -139,6 +144,8 @@ class Rehearsal:
                 self.add(f'restart {member}')
             elif what < 0.21:
                 self.add(f'balk {member} {self.chance.choice(("saved", "unsaved"))}')
+            elif what < 0.22:
+                self.add(f'upgrade {member}')
             else:
                 self.deliver()
             self.wait(0, 99)
@@ -160,6 +167,7 @@ class Rehearsal:
         """Nothing is lost any more. A save that is still to be refused can put off what is sought, so it is sought again."""
         for _ in range(3):
             for member in range(1, self.members + 1):
+                self.add(f'upgrade {member}')
                 self.add(f'restart {member}')
             for number in NUMBERS:
                 self.take_whole(f'seek 1 {number}')

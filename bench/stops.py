@@ -8,10 +8,11 @@ that were built of them, and those that were not are proved and built there firs
 over them with the modules of the crate `stop_tests`; it is tried as it is, and not proved again (`rt try`), which takes
 some 20 minutes of one core. The interpreter, which `rt try` runs first, gives it up: what is printed is the native run's.
 
-The works: the tables are made; two rows are saved; a station of one is offered a tape; a run of `serve` is offered it. Of
+The works: the tables are made; two rows are saved; the rows go over to layout 2; a station of one is offered a tape; a run of `serve` is offered it. Of
 each, first the log and then the database's file fails at its first call, at its second, and so on, until a run comes to
 its end. After each stop the disks lose what was not synced, are opened again, and the rows are taken up: they are not
-there or empty, after a stop in `create`; those that were acknowledged, and at most the one that was asked for; and a new
+there or empty, after a stop in `create`; all as they were, in the one layout or in the other, after one in an upgrade; else
+those that were acknowledged, and at most the one that was asked for; and a new
 station releases the tape that was released, or finds nothing and releases another. Printed is how many stops there were.
 """
 import os

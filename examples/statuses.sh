@@ -54,9 +54,15 @@ RUNS = [
     ("serve one.toml --turns 1 --withdraw 13", "", 1, "", "refused wire-too-old\n"),
     ("sing", "", 2, "", UNKNOWN),
     ("serve one.toml --turns 1 --number 12", "", 2, "", "usage: --number and --tape go together\n"),
+    ("serve one.toml --turns 1 --layout 2", "", 2, "", "usage: --layout goes with --create\n"),
     ("serve one.toml --turns 1 --create", "", 3, "", "store: refused\n"),
     ("rows flood.tape", "", 3, "", "store: refused\n"),
     ("rows no.db", "", 3, "", "store: refused\n"),
+    ("upgrade no.db", "", 3, "", "store: refused\n"),
+    ("upgrade station1.db", "", 0, "layout 2\n", ""),
+    ("rows station1.db", "", 0, "station 1 of 1 circuit 7\n12 1.1 1.1 01020301030204\n", ""),
+    ("serve one.toml --turns 1 --withdraw 13", "", 0, "release 13 void\n", ""),
+    ("rows station1.db", "", 0, "station 1 of 1 circuit 7\n12 1.1 1.1 01020301030204\n13 1.1 1.1 void\n", ""),
 ]
 # the station's port is another's by then
 TAKEN = ("serve one.toml --turns 1", "", 4, "", "socket: cannot bind\n")

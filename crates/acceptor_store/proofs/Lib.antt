@@ -1,8 +1,11 @@
 pub mod ColumnLemmas
+pub mod EntryColumnLemmas
 pub mod FitLemmas
 pub mod ListLemmas
+pub mod MovingLemmas
 pub mod IdentityLemmas
 pub mod StandLemmas
+pub mod UpgradeLemmas
 mod TableLemmas
 mod RestartLemmas
 mod StepLemmas

@@ -1,80 +1,131 @@
 -- What a call leaves of a connection that stands on the tables of a station.
-use Rattle.std.proofs.Common.{◌≡◌, ◌⊎◌, inl, inr, ◌<◌, ◌≤◌, ℕ, Result, Ok, Err, OnOk, OnErr, IsTrue, is_some, map, sym, ap, subst, ◌∙◌, arith, true≢false}
+use Rattle.std.proofs.Common.{◌≡◌, ◌≢◌, ◌⊎◌, inl, inr, ◌<◌, ◌≤◌, ℕ, Bool, true, false, IsTrue, is_some, map, refl, sym, ap, subst, ◌∙◌, arith, true≢false}
 use Rattle.sqlite_trees.specs.declared.store.Store.{Ghosts}
 use Rattle.sqlite_trees.specs.Tree.{Trees}
 use Rattle.sqlite_trees.specs.View.{doubt}
 use Rattle.sqlite.specs.Effect.{Database}
-use Rattle.sqlite.specs.State.{State, HasCleanDisk}
+use Rattle.sqlite.specs.State.{State, HasCleanDisk, IsLive, IsUnchanged}
 use Rattle.sqlite.specs.Held.{Held, state}
-use Rattle.row_table.specs.Rows.{Serves, WasSaved, WasKept, columns_at}
+use Rattle.row_table.specs.Tables.{Layout, layout_tree, layout_schema}
+use Rattle.row_table.specs.Tables.Layout.{First, Second}
+use Rattle.row_table.specs.Tables.Origin.{Created, Upgraded}
+use Rattle.row_table.specs.Rows.{Serves, SavesIn, WasSaved, WasKept, columns_at}
 use Rattle.row_table.specs.Station.{HoldsNone, station_columns}
 use Rattle.protocol.specs.Rows.{Row, blank}
 use Rattle.saved_rows.specs.Saved.{SameRows, HasPromise}
 use Rattle.saved_rows.specs.declared.identity.Identity.{Identity}
 use Rattle.saved_rows.specs.Identity.{IsIdentity}
-use Rattle.acceptor_store.specs.StationRow.{identity_in}
-use Rattle.acceptor_store.specs.Columns.{row_or_blank, columns_for, saved_in, ComesBack}
 use Rattle.sqlite_trees.specs.Objects.{catalog_tree}
 use Rattle.sqlite_catalog.specs.Listing.{Lists as ListsTables}
-use Rattle.row_table.specs.Tables.{row_schema}
-use Rattle.row_table.specs.Rows.{SavesIn}
-use Rattle.acceptor_store.specs.Sqlite.{HoldsRows, IsOfStation, Stands}
+use Rattle.acceptor_store.specs.StationRow.{station_in, IsStationOf, IsLaidOut}
+use Rattle.acceptor_store.specs.Columns.{row_or_blank, columns_for, saved_in, ComesBack}
+use Rattle.acceptor_store.specs.Sqlite.{layout_now, HoldsRows, IsOfStation, HoldsAll, Stands}
 use Rattle.acceptor_store.proofs.ColumnLemmas.{stays_sound, stays_station}
-use Rattle.acceptor_store.proofs.IdentityLemmas.{added}
+use Rattle.acceptor_store.proofs.IdentityLemmas.{added, laid_out}
+
+-- rows that were not upgraded are in the layout that was found
+pub still : (was : Layout) → layout_now was false ≡ was
+still First = refl
+still (Second origin) = refl
+
+-- an upgrade leads to one layout
+pub once_over : (was : Layout) (upgraded : Bool) → layout_now (layout_now was upgraded) true ≡ layout_now was true
+once_over First true = refl
+once_over First false = refl
+once_over (Second origin) upgraded = refl
+
+-- the list of tables is in another tree than the rows
+catalog_apart : (layout : Layout) → catalog_tree ≢ layout_tree layout
+catalog_apart First e = absurd (omega (arith, e))
+catalog_apart (Second Created) e = absurd (omega (arith, e))
+catalog_apart (Second Upgraded) e = absurd (omega (arith, e))
 
 -- the tables, the rows and the station that a database holds are its trees' alone
-pub same_holds : (i : Identity) (old new : Database) → new ≡ old → IsOfStation i old.trees → IsOfStation i new.trees
-same_holds i old new same h = subst (λ (d : Database). IsOfStation i d.trees) (sym same) h
+pub same_holds : (layout : Layout) (i : Identity) (old new : Database) → new ≡ old → IsOfStation layout i old.trees → IsOfStation layout i new.trees
+same_holds layout i old new same h = subst (λ (d : Database). IsOfStation layout i d.trees) (sym same) h
 
 -- a row that is saved leaves a database of the station
-pub saved_station : (i : Identity) (old new : Trees) (n : ℕ) (row : Row) → HasPromise row → ComesBack row → 1 ≤ n → n ≤ 999999
-    → SavesIn n (columns_for row) old new → IsOfStation i old → IsOfStation i new
-saved_station i old new n row has back low high done held = record {
-  tables = subst (λ objects. ListsTables objects row_schema) (sym (done.others catalog_tree (λ e. absurd (omega (arith, e))))) held.tables;
+pub saved_station : (layout : Layout) (i : Identity) (old new : Trees) (n : ℕ) (row : Row) → HasPromise row → ComesBack layout row → 1 ≤ n → n ≤ 999999
+    → SavesIn layout n (columns_for layout row) old new → IsOfStation layout i old → IsOfStation layout i new
+saved_station layout i old new n row has back low high done held = record {
+  tables = subst (λ objects. ListsTables objects (layout_schema layout)) (sym (done.others catalog_tree (catalog_apart layout))) held.tables;
   holds = record {
-    sound = stays_sound old new n row has back done low high held.holds.sound;
-    station = ap (λ rows. identity_in (map station_columns rows)) (stays_station old new n row has back done) ∙ held.holds.station;
+    sound = stays_sound layout old new n row has back done low high held.holds.sound;
+    station = ap (λ rows. station_in (map station_columns rows)) (stays_station layout old new n row has back done) ∙ held.holds.station;
   };
 }
 
 -- so does what a crash leaves where it is saved
-pub left_station : (i : Identity) (old left : Trees) (n : ℕ) (row : Row) → HasPromise row → 1 ≤ n → n ≤ 999999
-    → IsOfStation i old → (left ≡ old) ⊎ (ComesBack row × SavesIn n (columns_for row) old left) → IsOfStation i left
-left_station i old left n row has low high held (inl same) = subst (IsOfStation i) (sym same) held
-left_station i old left n row has low high held (inr done) = saved_station i old left n row has done.0 low high done.1 held
+pub left_station : (layout : Layout) (i : Identity) (old left : Trees) (n : ℕ) (row : Row) → HasPromise row → 1 ≤ n → n ≤ 999999
+    → IsOfStation layout i old → (left ≡ old) ⊎ (ComesBack layout row × SavesIn layout n (columns_for layout row) old left) → IsOfStation layout i left
+left_station layout i old left n row has low high held (inl same) = subst (IsOfStation layout i) (sym same) held
+left_station layout i old left n row has low high held (inr done) = saved_station layout i old left n row has done.0 low high done.1 held
 
-pub same_rows : (old new : State) → new.now ≡ old.now → SameRows (saved_in old.now.trees) (saved_in new.now.trees)
-same_rows old new same n = ap (λ (d : Database). saved_in d.trees n) same
+pub same_rows : (layout : Layout) (old new : State) → new.now ≡ old.now → SameRows (saved_in layout old.now.trees) (saved_in layout new.now.trees)
+same_rows layout old new same n = ap (λ (d : Database). saved_in layout d.trees n) same
 
 pub was_clean : (old new : State) → doubt old.is_clean ≤ doubt new.is_clean → HasCleanDisk new → HasCleanDisk old
 was_clean old new falls clean = omega (arith, falls, clean)
 
-module _ {S : Type 0} (g : Ghosts S) (old new : Held S) (falls : doubt (state g old).is_clean ≤ doubt (state g new).is_clean) (i : Identity) (stands : Stands g old i) where
+-- while it is open, a crash leaves the last commit
+abbrev pub IsSettled : State → Type 0
+IsSettled s = (db : Trees) → IsTrue s.is_open → s.may_leave db → db ≡ s.committed.trees
+
+-- at rest, a crash leaves what there is
+pub leaves_now : (layout : Layout) (s : State) → IsSettled s → Serves layout s → HasCleanDisk s → IsTrue s.is_open → (db : Trees) → s.may_leave db → db ≡ s.now.trees
+leaves_now layout s law serves clean opened db left = law db opened left ∙ ap (λ (d : Database). d.trees) ((serves clean).1 opened).settled
+
+-- what is there is the station's map, in its layout
+pub holds_all : (layout : Layout) (i : Identity) (now db : Trees) → IsOfStation layout i now → db ≡ now → HoldsAll layout i (saved_in layout now) db
+holds_all layout i now db holds same = record {
+  layout = layout;
+  either = inl refl;
+  station = subst (IsOfStation layout i) (sym same) holds;
+  same = λ n. ap (λ t. saved_in layout t n) same;
+}
+
+module _ {S : Type 0} (g : Ghosts S) (old new : Held S) (falls : doubt (state g old).is_clean ≤ doubt (state g new).is_clean) (layout : Layout) (i : Identity) (stands : Stands g layout old i) where
   -- after a reading
-  pub stands_kept : (Serves (state g old) → Serves (state g new)) → (Serves (state g old) → HasCleanDisk (state g new) → IsTrue (state g new).is_open → WasKept (state g old) (state g new)) → Stands g new i
+  pub stands_kept : (Serves layout (state g old) → Serves layout (state g new)) → (Serves layout (state g old) → HasCleanDisk (state g new) → IsTrue (state g new).is_open → WasKept (state g old) (state g new))
+      → Stands g layout new i
   stands_kept serves kept = record {
     serves = serves stands.serves;
-    holds = λ clean opened. let same = kept stands.serves clean opened in same_holds i (state g old).now (state g new).now same.same (stands.holds (was_clean (state g old) (state g new) falls clean) same.was_open);
+    holds = λ clean opened. let same = kept stands.serves clean opened in same_holds layout i (state g old).now (state g new).now same.same (stands.holds (was_clean (state g old) (state g new) falls clean) same.was_open);
   }
 
   module _ (n : ℕ) (row : Row) (has : HasPromise row) (low : 1 ≤ n) (high : n ≤ 999999) where
-    saved_holds : ComesBack row → WasSaved n (columns_for row) (state g old) (state g new) → HasCleanDisk (state g new) → IsOfStation i (state g new).now.trees
+    saved_holds : ComesBack layout row → WasSaved layout n (columns_for layout row) (state g old) (state g new) → HasCleanDisk (state g new) → IsOfStation layout i (state g new).now.trees
     saved_holds back done clean =
-        saved_station i (state g old).now.trees (state g new).now.trees n row has back low high done.saved.trees (stands.holds (was_clean (state g old) (state g new) falls clean) done.was_open)
+        saved_station layout i (state g old).now.trees (state g new).now.trees n row has back low high done.saved.trees (stands.holds (was_clean (state g old) (state g new) falls clean) done.was_open)
 
     -- after a save
-    pub stands_saved : {A E : Type 0} (r : Result A E) → OnOk r (ComesBack row) → (Serves (state g old) → Serves (state g new))
-        → (Serves (state g old) → HasCleanDisk (state g new) → OnOk r (WasSaved n (columns_for row) (state g old) (state g new)))
-        → (Serves (state g old) → HasCleanDisk (state g new) → IsTrue (state g new).is_open → OnErr r (WasKept (state g old) (state g new))) → Stands g new i
-    stands_saved (Ok a) back serves ok err = record { serves = serves stands.serves; holds = λ clean opened. saved_holds back (ok stands.serves clean) clean }
-    stands_saved (Err e) back serves ok err = stands_kept serves err
+    pub stands_saved : ComesBack layout row → (Serves layout (state g old) → Serves layout (state g new))
+        → (Serves layout (state g old) → HasCleanDisk (state g new) → WasSaved layout n (columns_for layout row) (state g old) (state g new)) → Stands g layout new i
+    stands_saved back serves saved = record { serves = serves stands.serves; holds = λ clean opened. saved_holds back (saved stands.serves clean) clean }
+
+-- a connection that was taken up stands on its tables
+pub taken_stands : {S : Type 0} (g : Ghosts S) (old new : Held S) (layout : Layout) (i : Identity) → (state g old).now.schema ≡ layout_schema layout → IsLive (state g old)
+    → (HasCleanDisk (state g new) → IsStationOf layout i (state g old).now.trees)
+    → (HasCleanDisk (state g new) → IsLaidOut layout (state g old).now → HoldsRows layout i (state g old).now.trees)
+    → (HasCleanDisk (state g new) → IsLaidOut layout (state g old).now → Serves layout (state g new))
+    → (HasCleanDisk (state g new) → IsLaidOut layout (state g old).now → IsUnchanged (state g old) (state g new)) → Stands g (layout_now layout false) new i
+taken_stands g old new layout i tables live told holds serves same = subst (λ (l : Layout). Stands g l new i) (sym (still layout)) (record {
+  serves = λ clean. serves clean (laid clean) clean;
+  holds = λ clean opened.
+      let stays = same clean (laid clean) in
+      let lists : ListsTables ((state g old).now.trees catalog_tree) (layout_schema layout) = subst (ListsTables ((state g old).now.trees catalog_tree)) tables (live stays.0.was_open).0.lists in
+      same_holds layout i (state g old).now (state g new).now stays.0.now_is (record { tables = lists; holds = holds clean (laid clean) });
+})
+  where
+    laid : HasCleanDisk (state g new) → IsLaidOut layout (state g old).now
+    laid clean = laid_out layout i (state g old).now tables (told clean)
 
 -- the rows of a database that was just made
-pub none_saved : (circuit member members : ℕ) (trees : Trees) → HoldsNone circuit member members trees → (n : ℕ) → saved_in trees n ≡ blank
-none_saved circuit member members trees h n = ap (λ rows. row_or_blank (columns_at rows n)) h.rows
+pub none_saved : (layout : Layout) (circuit member members : ℕ) (trees : Trees) → HoldsNone layout circuit member members trees → (n : ℕ) → saved_in layout trees n ≡ blank
+none_saved layout circuit member members trees h n = ap (λ rows. row_or_blank layout (columns_at layout rows n)) h.rows
 
-pub made_holds : (i : Identity) (trees : Trees) → IsIdentity i → i.circuit < 65536 → HoldsNone i.circuit i.member i.members trees → HoldsRows i trees
-made_holds i trees is small made = record {
-  sound = λ n c e. absurd (true≢false (ap is_some (sym e ∙ ap (λ rows. columns_at rows n) made.rows)));
-  station = added i trees is small made;
+pub made_holds : (layout : Layout) (i : Identity) (trees : Trees) → IsIdentity i → i.circuit < 65536 → HoldsNone layout i.circuit i.member i.members trees → HoldsRows layout i trees
+made_holds layout i trees is small made = record {
+  sound = λ n c e. absurd (true≢false (ap is_some (sym e ∙ ap (λ rows. columns_at layout rows n) made.rows)));
+  station = added layout i trees is small made;
 }

@@ -4,10 +4,11 @@ use Rattle.std.proofs.lemmas.Bool.{cases_Bool}
 use Rattle.std.proofs.lemmas.Bool.Decides.{Decides-eqb}
 use Rattle.protocol.specs.Rows.{Row}
 use Rattle.protocol.specs.Turn.{number_of}
-use Rattle.protocol.specs.Circuit.{State, IsSameState, with_at, saved, offers_with, MayLeave, Torn_by_store, is_torn, at_save, restarts}
+use Rattle.protocol.specs.Versions.{Version, Two}
+use Rattle.protocol.specs.Circuit.{State, IsSameState, with_at, saved, offers_with, MayLeave, Torn_by_store, is_torn, at_save, restarts, upgrade_is_torn}
 use Rattle.saved_rows.specs.Saved.{Saved}
 use Rattle.acceptor_store.specs.Restarts.{AreTorn}
-use Rattle.acceptor_store.specs.Steps.{CrashIsTwoSteps}
+use Rattle.acceptor_store.specs.Steps.{CrashIsTwoSteps, UpgradeCrashIsTwoSteps}
 
 at_itself : {A : Type 0} (f : ℕ → A) (m : ℕ) (x : A) → with_at f m x m ≡ x
 at_itself f m x = ap (λ b. if b then x else f m) ((Decides-eqb m m).1 refl)
@@ -39,7 +40,28 @@ two_steps {D = D} {G = G} {F = F} z w s m call e t rows task member free event t
       tears = is_torn m call e (rows n) None task member event
           (at_save t free turned changes (subst (λ a. MayLeave {A = Row} {D = D} {F = F} a Torn_by_store (w.rows m n) t.row (rows n)) (sym unarmed) (refl, left.torn.1)) refl) (same_state torn);
       restarts = restarts m member refl refl (same_state after);
+      has_version = refl;
       has_rows = λ k. ap (λ (r : ℕ → Row). r k) (at_itself w.rows m (with_at (w.rows m) n (rows n))) ∙ left_rows (w.rows m) n t.row rows left k;
+      has_no_marks = at_itself torn.marks m [];
+      goes_on = at_itself torn.is_stopped m false;
+    }
+
+pub two_upgrade_steps : {D G F : Type 0} → UpgradeCrashIsTwoSteps D G F
+two_upgrade_steps {D = D} {G = G} {F = F} z w m version rows member unarmed left =
+    let torn : State G F = record w {
+      version = with_at w.version m version;
+      marks = with_at w.marks m [];
+      is_stopped = with_at w.is_stopped m true;
+      armed = with_at w.armed m None;
+    } in
+    let after : State G F = record torn { marks = with_at torn.marks m []; is_stopped = with_at torn.is_stopped m false } in
+    record {
+      torn = torn;
+      after = after;
+      tears = upgrade_is_torn m version member refl (subst (λ a. MayLeave {A = Version} {D = D} {F = F} a Torn_by_store (w.version m) Two version) (sym unarmed) (refl, left.torn.1)) (same_state torn);
+      restarts = restarts m member refl refl (same_state after);
+      has_version = at_itself w.version m version;
+      has_rows = λ n. sym (left.same n);
       has_no_marks = at_itself torn.marks m [];
       goes_on = at_itself torn.is_stopped m false;
     }

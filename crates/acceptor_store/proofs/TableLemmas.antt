@@ -1,5 +1,5 @@
 -- The list of a database's objects tells its tables.
-use Rattle.std.proofs.Common.{◌≡◌, ◌+◌, ℕ, pos, List, [], ◌∷◌, Result, Ok, filter, refl, sym, ap, ap₂, ◌∙◌, arith}
+use Rattle.std.proofs.Common.{◌≡◌, ◌+◌, ℕ, pos, List, [], ◌∷◌, Result, Ok, filter, length, refl, sym, ap, ap₂, subst, ◌∙◌, arith}
 use Rattle.std.specs.List.{AllZip}
 use Rattle.sqlite_value.specs.declared.value.Value.TheVariants.{Int, Text}
 use Rattle.sqlite_value.specs.Order.{Row as Columns}
@@ -7,7 +7,9 @@ use Rattle.sqlite_schema.specs.declared.schema.Table.{Table}
 use Rattle.sqlite_schema.specs.declared.schema.Schema.{Schema}
 use Rattle.sqlite.specs.Compile.{table_defined_by}
 use Rattle.sqlite_catalog.specs.Listing.{IsTableRow, Lists, is_table_row, is_index_row, is_view_row}
-use Rattle.row_table.specs.Tables.{row_schema}
+use Rattle.row_table.specs.Tables.{Layout, layout_schema}
+use Rattle.row_table.specs.Tables.Layout.{First, Second}
+use Rattle.row_table.specs.Tables.Origin.{Created, Upgraded}
 
 -- what goes with each element, where one thing alone goes with an element
 same_all : {A B : Type 0} (R : A → B → Type 0) → ((a : A) (b c : B) → R a b → R a c → b ≡ c) → (xs : List A) (ys zs : List B) → AllZip R xs ys → AllZip R xs zs → ys ≡ zs
@@ -36,10 +38,55 @@ same_table row t u a b =
     let made = ok_same (table_defined_by b.sql) a.defined.0 b.defined.0 (ap table_defined_by (sym sqls) ∙ a.defined.1) b.defined.1 in
     a.defined.2 ∙ ap₂ (λ (m : Table) (n : ℕ). record m { tree = n }) made trees ∙ sym b.defined.2
 
--- where it lists the tables of rows, and no others, these are all that it lists
-pub same_schema : (objects : List Columns) (schema : Schema) → Lists objects row_schema → Lists objects schema → schema ≡ row_schema
-same_schema objects schema ours lists = λ i. record {
-  tables = same_all IsTableRow same_table (filter is_table_row objects) schema.tables row_schema.tables lists.listed.tables ours.listed.tables i;
-  indexes = none_either _ _ (filter is_index_row objects) schema.indexes ours.listed.indexes lists.listed.indexes i;
-  views = none_either _ _ (filter is_view_row objects) schema.views ours.listed.views lists.listed.views i;
-}
+-- a layout has no index and no view
+no_indexes : (layout : Layout) → (layout_schema layout).indexes ≡ []
+no_indexes First = refl
+no_indexes (Second Created) = refl
+no_indexes (Second Upgraded) = refl
+
+no_views : (layout : Layout) → (layout_schema layout).views ≡ []
+no_views First = refl
+no_views (Second Created) = refl
+no_views (Second Upgraded) = refl
+
+-- where it lists the tables of a layout, and no others, these are all that it lists
+pub same_schema : (layout : Layout) (objects : List Columns) (schema : Schema) → Lists objects (layout_schema layout) → Lists objects schema → schema ≡ layout_schema layout
+same_schema layout objects schema ours lists =
+    let tables = same_all IsTableRow same_table (filter is_table_row objects) schema.tables (layout_schema layout).tables lists.listed.tables ours.listed.tables in
+    let indexes = none_either _ _ (filter is_index_row objects) schema.indexes (subst (AllZip _ (filter is_index_row objects)) (no_indexes layout) ours.listed.indexes) lists.listed.indexes in
+    let views = none_either _ _ (filter is_view_row objects) schema.views (subst (AllZip _ (filter is_view_row objects)) (no_views layout) ours.listed.views) lists.listed.views in
+    λ i. record { tables = tables i; indexes = (indexes ∙ sym (no_indexes layout)) i; views = (views ∙ sym (no_views layout)) i }
+
+-- how many columns the second table has
+width : List Table → ℕ
+width [] = 0
+width (t ∷ []) = 0
+width (t ∷ u ∷ ts) = length u.columns
+
+widths : (a b : Layout) → layout_schema a ≡ layout_schema b → (width (layout_schema a).tables ≡ width (layout_schema b).tables) × (length (layout_schema a).tables ≡ length (layout_schema b).tables)
+widths a b e = (ap (λ (s : Schema). width s.tables) e, ap (λ (s : Schema). length s.tables) e)
+
+six_seven : ¬ (◌≡◌ {A = ℕ} 6 7)
+six_seven e = omega (arith, e)
+
+seven_six : ¬ (◌≡◌ {A = ℕ} 7 6)
+seven_six e = omega (arith, e)
+
+two_three : ¬ (◌≡◌ {A = ℕ} 2 3)
+two_three e = omega (arith, e)
+
+three_two : ¬ (◌≡◌ {A = ℕ} 3 2)
+three_two e = omega (arith, e)
+
+-- the tables tell the layout
+pub same_layout : (a b : Layout) → layout_schema a ≡ layout_schema b → a ≡ b
+unfolding width
+same_layout First First e = refl
+same_layout First (Second Created) e = absurd (six_seven (widths First (Second Created) e).0)
+same_layout First (Second Upgraded) e = absurd (two_three (widths First (Second Upgraded) e).1)
+same_layout (Second Created) First e = absurd (seven_six (widths (Second Created) First e).0)
+same_layout (Second Created) (Second Created) e = refl
+same_layout (Second Created) (Second Upgraded) e = absurd (two_three (widths (Second Created) (Second Upgraded) e).1)
+same_layout (Second Upgraded) First e = absurd (three_two (widths (Second Upgraded) First e).1)
+same_layout (Second Upgraded) (Second Created) e = absurd (three_two (widths (Second Upgraded) (Second Created) e).1)
+same_layout (Second Upgraded) (Second Upgraded) e = refl

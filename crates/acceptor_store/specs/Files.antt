@@ -1,43 +1,45 @@
 -- Saved rows in a host's file.
-use Rattle.std.specs.Prelude.{◌≡◌, IsTrue, Option, Some}
+use Rattle.std.specs.Prelude.{◌≡◌, IsTrue, Option, false}
 use Rattle.sqlite_disk.specs.declared.Disk.{Ghosts}
 use Rattle.sqlite.specs.declared.FileStore.{FileStore}
 use Rattle.sqlite.specs.Held.{Held}
 use Rattle.sqlite.specs.State.{HasCleanDisk}
-use Rattle.sqlite.specs.Files.{file_state, IsOpened}
+use Rattle.sqlite.specs.Files.{file_state, over_files, IsOpened}
 use Rattle.sqlite.specs.Recovery.{Image}
 use Rattle.sqlite.specs.Start.{FindsIn}
 use Rattle.sqlite_trees.specs.Tree.{Trees}
-use Rattle.row_table.specs.Tables.{row_schema}
+use Rattle.row_table.specs.Tables.{Layout, layout_schema}
 use Rattle.saved_rows.specs.Saved.{SameRows}
 use Rattle.saved_rows.specs.declared.identity.Identity.{Identity}
 use Rattle.saved_rows.specs.declared.fault.RowsFault.{RowsFault}
 use Rattle.acceptor_store.specs.Columns.{saved_in}
-use Rattle.acceptor_store.specs.StationRow.{stored_identity}
-use Rattle.acceptor_store.specs.Sqlite.{SqliteOf, IsOurs, RefusesToOpen}
+use Rattle.acceptor_store.specs.StationRow.{IsStationOf, IsLaidOut}
+use Rattle.acceptor_store.specs.Sqlite.{SqliteOf, IsOurs, saved_of, RefusesToOpen}
 
--- what the store owes: where the database that the files held has the tables that `create` makes, and no others, they are its own
+-- what the store owes: where the database that the files held has the tables of a layout, and no others, they are its own, in that layout
 pub record TakesItsOwn {D : Type 0} {g : Ghosts D} (start : Image) (s : SqliteOf (FileStore D g)) : Type 0 where
   pub was : Held (FileStore D g)
   pub opened : HasCleanDisk (file_state s.conn) → IsOpened was
   pub found : HasCleanDisk (file_state s.conn) → FindsIn start (file_state was)
-  pub ours : (file_state was).now.schema ≡ row_schema → IsOurs s.alone s.found
+  pub ours : HasCleanDisk (file_state s.conn) → (layout : Layout) → IsLaidOut layout (file_state was).now → (s.was ≡ layout) × IsOurs s.alone s.was s.found
 
--- the rows and the station are those of the database that the files held; nothing is written, and a crash leaves what it might have left before
+-- the rows and the station are those of the database that the files held, in its layout; nothing is written, and a crash leaves what it might have left before
 pub record IsTakenUp {D : Type 0} {g : Ghosts D} (start : Image) (s : SqliteOf (FileStore D g)) : Type 0 where
   pub was : Held (FileStore D g)
   pub opened : IsOpened was
   pub found : FindsIn start (file_state was)
+  pub tables : (file_state was).now.schema ≡ layout_schema s.was
   pub unwritten : (file_state s.conn).now ≡ (file_state was).now
   pub crash : (db : Trees) → (file_state s.conn).may_leave db → (file_state was).may_leave db
-  pub same : SameRows (saved_in (file_state was).now.trees) (saved_in (file_state s.conn).now.trees)
-  pub station : stored_identity (file_state was).now.trees ≡ Some s.identity
+  pub same : SameRows (saved_in s.was (file_state was).now.trees) (saved_of over_files s)
+  pub station : IsStationOf s.was s.identity (file_state was).now.trees
+  pub fresh : s.upgraded ≡ false
 
--- why the database that the files held is not taken up: where it has the tables that `create` makes, and no others, it is refused for this, and nothing is written
+-- why the database that the files held is not taken up: where it has the tables of a layout, and no others, it is refused for this, and nothing is written
 pub record RefusesFiles {D : Type 0} {g : Ghosts D} (start : Image) (given : Option Identity) (fault : RowsFault) (conn : Held (FileStore D g)) : Type 0 where
   pub was : Held (FileStore D g)
   pub opened : HasCleanDisk (file_state conn) → IsOpened was
   pub found : HasCleanDisk (file_state conn) → FindsIn start (file_state was)
-  pub refuses : HasCleanDisk (file_state conn) → (file_state was).now.schema ≡ row_schema → RefusesToOpen given (file_state was).now.trees fault
-  pub unwritten : HasCleanDisk (file_state conn) → (file_state was).now.schema ≡ row_schema → IsTrue (file_state conn).is_open → (file_state conn).now ≡ (file_state was).now
-  pub crash : HasCleanDisk (file_state conn) → (file_state was).now.schema ≡ row_schema → (db : Trees) → (file_state conn).may_leave db → (file_state was).may_leave db
+  pub refuses : HasCleanDisk (file_state conn) → (layout : Layout) → IsLaidOut layout (file_state was).now → RefusesToOpen layout given (file_state was).now.trees fault
+  pub unwritten : HasCleanDisk (file_state conn) → (layout : Layout) → IsLaidOut layout (file_state was).now → IsTrue (file_state conn).is_open → (file_state conn).now ≡ (file_state was).now
+  pub crash : HasCleanDisk (file_state conn) → (layout : Layout) → IsLaidOut layout (file_state was).now → (db : Trees) → (file_state conn).may_leave db → (file_state was).may_leave db

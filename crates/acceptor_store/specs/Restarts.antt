@@ -10,14 +10,16 @@ use Rattle.sqlite.specs.declared.FileStore.{FileStore}
 use Rattle.sqlite.specs.Held.{Held}
 use Rattle.sqlite.specs.State.{HasCleanDisk}
 use Rattle.sqlite.specs.Files.{file_state, over_files, HoldsDatabase}
+use Rattle.row_table.specs.Tables.{Layout}
 use Rattle.row_table.specs.Station.{HoldsNone}
 use Rattle.protocol.specs.Rows.{Row, blank}
+use Rattle.protocol.specs.Versions.{Version, Two}
 use Rattle.protocol.specs.Circuit.{MayLeave as MayLeaveTorn, Torn_by_store}
-use Rattle.saved_rows.specs.Saved.{Saved, IsEither}
+use Rattle.saved_rows.specs.Saved.{Saved, SameRows, IsEither}
 use Rattle.saved_rows.specs.Identity.{IsIdentity}
 use Rattle.saved_rows.specs.declared.identity.Identity.{Identity}
-use Rattle.acceptor_store.specs.StationRow.{stored_identity}
-use Rattle.acceptor_store.specs.Sqlite.{SqliteOf, IsOurs, saved_of, MayLeave, LeavesStation}
+use Rattle.acceptor_store.specs.StationRow.{stored_station}
+use Rattle.acceptor_store.specs.Sqlite.{SqliteOf, IsOurs, rows_layout, rows_version, saved_of, MayLeave, LeavesStation, LeavesAll}
 use Rattle.acceptor_store.specs.Files.{TakesItsOwn, IsTakenUp}
 
 -- the files of a connection that was given up: where the disk has returned what was written,
@@ -30,15 +32,15 @@ GivesUp g conn files =
 pub record AreOpenedFrom {D : Type 0} {g : Ghosts D} (left : Image) (s : SqliteOf (FileStore D g)) : Type 0 where
   pub honest : HasCleanDisk (file_state s.conn)
   pub made : TakesItsOwn left s
-  pub rows : IsOurs s.alone s.found → IsTakenUp left s
+  pub rows : IsOurs s.alone s.was s.found → IsTakenUp left s
 
 -- A crash of the files that were given up, and an open of what it left that is not refused: the tables are the store's own,
--- the station is the one that was there, and the rows are those that a crash could leave
+-- in the layout of the rows, the station is the one that was there, and the rows are those that a crash could leave
 abbrev pub OpensWhatIsLeft : (D : Type 0) (g : Ghosts D) (E : Type 0) (h : Ghosts E) → Type 0
 OpensWhatIsLeft D g E h =
     (s : SqliteOf (FileStore D g)) (i : Identity) (files : Files D) (left : Image) (again : SqliteOf (FileStore E h))
     → LeavesStation over_files s i → GivesUp g s.conn files → AreClean g files.log files.db → outcomes g files.log files.db left → AreOpenedFrom left again
-    → IsOurs again.alone again.found × (again.identity ≡ i) × ∥ MayLeave over_files s (saved_of over_files again) ∥₁
+    → IsOurs again.alone again.was again.found × (rows_layout again ≡ rows_layout s) × (again.identity ≡ i) × ∥ MayLeave over_files s (saved_of over_files again) ∥₁
 
 -- the rows of a station after a step that its own store tore as it saved this row: under the number a row that such a step
 -- may leave, and no other changed
@@ -53,14 +55,28 @@ PutOutlivesCrash D g E h =
     (old new : SqliteOf (FileStore D g)) (number : ℕ) (row : Row) (files : Files D) (left : Image) (again : SqliteOf (FileStore E h))
     → LeavesStation over_files new old.identity → ((rows : Saved) → MayLeave over_files new rows → IsEither (saved_of over_files old) number row rows)
     → GivesUp g new.conn files → AreClean g files.log files.db → outcomes g files.log files.db left → AreOpenedFrom left again
-    → IsOurs again.alone again.found × (again.identity ≡ old.identity) × ∥ AreTorn (saved_of over_files old) number row (saved_of over_files again) ∥₁
+    → IsOurs again.alone again.was again.found × (rows_layout again ≡ rows_layout new) × (again.identity ≡ old.identity) × ∥ AreTorn (saved_of over_files old) number row (saved_of over_files again) ∥₁
+
+-- the version of a station after an upgrade that its own store tore, and its rows: the version is the one before or version 2, and no row is changed
+pub record AreUpgradeTorn (was : Version) (before : Saved) (now : Version) (after : Saved) : Type 0 where
+  pub torn : MayLeaveTorn {A = Version} {D = Unit {0}} {F = Unit {0}} None Torn_by_store was Two now
+  pub same : SameRows before after
+
+-- The same after an upgrade, or in one, as `upgrade` promises of what a crash leaves then: the rows of the same station, each as it was,
+-- in the layout before or upgraded from it
+abbrev pub UpgradeOutlivesCrash : (D : Type 0) (g : Ghosts D) (E : Type 0) (h : Ghosts E) → Type 0
+UpgradeOutlivesCrash D g E h =
+    (old new : SqliteOf (FileStore D g)) (files : Files D) (left : Image) (again : SqliteOf (FileStore E h))
+    → LeavesAll over_files old new → GivesUp g new.conn files → AreClean g files.log files.db → outcomes g files.log files.db left → AreOpenedFrom left again
+    → IsOurs again.alone again.was again.found × (again.identity ≡ old.identity)
+    × AreUpgradeTorn (rows_version old) (saved_of over_files old) (rows_version again) (saved_of over_files again)
 
 -- The same after the tables were to be made in a database without a station, as `create` promises of what a crash leaves then:
 -- where its tables are the store's own, rows are taken up for this station alone, and none is there
 abbrev pub CreateOutlivesCrash : (D : Type 0) (g : Ghosts D) (E : Type 0) (h : Ghosts E) → Type 0
 CreateOutlivesCrash D g E h =
-    (old new : Held (FileStore D g)) (i : Identity) (files : Files D) (left : Image) (again : SqliteOf (FileStore E h))
-    → IsIdentity i → i.circuit < 2 ^ 16 → ((db : Trees) → (file_state old).may_leave db → stored_identity db ≡ None)
-    → ((db : Trees) → (file_state new).may_leave db → (file_state old).may_leave db ⊎ HoldsNone i.circuit i.member i.members db)
+    (old new : Held (FileStore D g)) (layout : Layout) (i : Identity) (files : Files D) (left : Image) (again : SqliteOf (FileStore E h))
+    → IsIdentity i → i.circuit < 2 ^ 16 → ((db : Trees) → (file_state old).may_leave db → stored_station db ≡ None)
+    → ((db : Trees) → (file_state new).may_leave db → (file_state old).may_leave db ⊎ HoldsNone layout i.circuit i.member i.members db)
     → GivesUp g new files → AreClean g files.log files.db → outcomes g files.log files.db left → IsTakenUp left again
     → (again.identity ≡ i) × ((n : ℕ) → saved_of over_files again n ≡ blank)

@@ -1,5 +1,5 @@
 -- Saved rows in a database.
-use Rattle.std.specs.Prelude.{◌≡◌, ◌≢◌, ◌⊎◌, ℕ, Bool, false, IsTrue, List, Option, Some, None, IfSome, refl}
+use Rattle.std.specs.Prelude.{◌≡◌, ◌≢◌, ◌⊎◌, ℕ, Bool, true, false, IsTrue, List, Option, Some, None, IfSome, refl}
 use Rattle.std.specs.Coded.{Coded, code_by, coded×, coded_ℕ, coded_bool, coded_option}
 use Rattle.sqlite_schema.specs.declared.schema.Schema.{Schema}
 use Rattle.sqlite_schema.specs.contracts.schema.Schema as schema
@@ -10,16 +10,19 @@ use Rattle.sqlite_trees.specs.Tree.{Trees}
 use Rattle.sqlite_catalog.specs.Listing.{Lists as ListsTables}
 use Rattle.sqlite.specs.State.{HasCleanDisk}
 use Rattle.sqlite.specs.Held.{Held, held_code, state}
-use Rattle.row_table.specs.Tables.{row_schema, rows_tree}
+use Rattle.row_table.specs.Tables.{Layout, layout_tree, layout_schema}
+use Rattle.row_table.specs.Tables.Layout.{First, Second}
+use Rattle.row_table.specs.Tables.Origin.{Created, Upgraded}
 use Rattle.row_table.specs.Rows.{Serves, IsListing}
 use Rattle.row_table.specs.Rising.{rise_from}
+use Rattle.protocol.specs.Versions.{Version, One, Two}
 use Rattle.saved_rows.specs.contracts.identity.Identity as identity
 use Rattle.saved_rows.specs.declared.identity.Identity.{Identity}
 use Rattle.saved_rows.specs.declared.fault.RowsFault.{RowsFault}
 use Rattle.saved_rows.specs.declared.fault.RowsFault.TheVariants.{Store, WrongStation, WrongSchema, Damaged, OutOfMemory}
-use Rattle.acceptor_store.specs.StationRow.{stored_identity}
-use Rattle.saved_rows.specs.Saved.{Saved}
-use Rattle.acceptor_store.specs.Columns.{saved_in, AreSound, damage_in}
+use Rattle.acceptor_store.specs.StationRow.{stored_station, IsStationOf}
+use Rattle.saved_rows.specs.Saved.{Saved, SameRows}
+use Rattle.acceptor_store.specs.Columns.{version_in, saved_in, AreSound, damage_in}
 
 -- rows in a database, as clauses see them
 pub record SqliteOf (S : Type 0) : Type 0 where
@@ -30,32 +33,92 @@ pub record SqliteOf (S : Type 0) : Type 0 where
   pub alone : Bool
   -- the schema as it was found
   pub found : Option Schema
-  -- a save was refused
+  -- the layout that was found or made
+  pub was : Layout
+  -- they were upgraded since
+  pub upgraded : Bool
+  -- a save or an upgrade was refused
   pub stopped : Bool
   pub refusals : ℕ
+
+-- a layout, told by whether it is the second and was upgraded
+abbrev pub told_by : Layout → Option Bool
+told_by First = None
+told_by (Second Created) = Some false
+told_by (Second Upgraded) = Some true
+
+-- the layout that is told so
+abbrev pub told_as : Option Bool → Layout
+told_as None = First
+told_as (Some false) = Second Created
+told_as (Some true) = Second Upgraded
+
+pub as_told : (layout : Layout) → told_as (told_by layout) ≡ layout
+as_told First = refl
+as_told (Second Created) = refl
+as_told (Second Upgraded) = refl
+
+-- the code of a layout
+abbrev pub layout_code : Coded Layout
+layout_code = code_by (Option Bool) (coded_option coded_bool) told_by told_as as_told
 
 -- its fields, one after another
 abbrev pub sqlite_code : {S : Type 0} → Coded S → Coded (SqliteOf S)
 sqlite_code {S} store =
-    code_by (Held S × (Identity × (Bool × (Option Schema × (Bool × ℕ)))))
-    (coded× (held_code store) (coded× identity.the_row.coded (coded× coded_bool (coded× (coded_option schema.the_row.coded) (coded× coded_bool coded_ℕ)))))
-    (λ s. (s.conn, (s.identity, (s.alone, (s.found, (s.stopped, s.refusals))))))
-    (λ p. record { conn = p.0; identity = p.1.0; alone = p.1.1.0; found = p.1.1.1.0; stopped = p.1.1.1.1.0; refusals = p.1.1.1.1.1 })
+    code_by (Held S × (Identity × (Bool × (Option Schema × (Layout × (Bool × (Bool × ℕ)))))))
+    (coded× (held_code store) (coded× identity.the_row.coded (coded× coded_bool (coded× (coded_option schema.the_row.coded) (coded× layout_code (coded× coded_bool (coded× coded_bool coded_ℕ)))))))
+    (λ s. (s.conn, (s.identity, (s.alone, (s.found, (s.was, (s.upgraded, (s.stopped, s.refusals))))))))
+    (λ p. record {
+      conn = p.0;
+      identity = p.1.0;
+      alone = p.1.1.0;
+      found = p.1.1.1.0;
+      was = p.1.1.1.1.0;
+      upgraded = p.1.1.1.1.1.0;
+      stopped = p.1.1.1.1.1.1.0;
+      refusals = p.1.1.1.1.1.1.1;
+    })
     (λ _. refl)
 
--- what the store owes: the tables are those that `create` makes, and no others
-abbrev pub IsOurs : Bool → Option Schema → Type 0
-IsOurs alone found = IsTrue alone × IfSome found (λ schema. schema ≡ row_schema)
+-- the layout now: that which was found or made, until it is upgraded
+abbrev pub layout_now : Layout → Bool → Layout
+layout_now First false = First
+layout_now First true = Second Upgraded
+layout_now (Second origin) upgraded = Second origin
 
--- every key is a circuit number, its columns are a row, and the station is this one
-pub record HoldsRows (i : Identity) (trees : Trees) : Type 0 where
-  pub sound : AreSound (trees rows_tree)
-  pub station : stored_identity trees ≡ Some i
+-- the layout that rows of a version are made in
+abbrev pub made_in : Version → Layout
+made_in One = First
+made_in Two = Second Created
 
--- a database of this station: it lists the tables that `create` makes, and no others, and holds rows of the station
-pub record IsOfStation (i : Identity) (trees : Trees) : Type 0 where
-  pub tables : ListsTables (trees catalog_tree) row_schema
-  pub holds : HoldsRows i trees
+-- the layout that the rows are in
+abbrev pub rows_layout : {S : Type 0} → SqliteOf S → Layout
+rows_layout s = layout_now s.was s.upgraded
+
+-- the version that they are at
+abbrev pub rows_version : {S : Type 0} → SqliteOf S → Version
+rows_version s = version_in (rows_layout s)
+
+-- what the store owes: the tables are those that `create` makes in that layout, or an upgrade leaves, and no others
+abbrev pub IsOurs : Bool → Layout → Option Schema → Type 0
+IsOurs alone was found = IsTrue alone × IfSome found (λ schema. schema ≡ layout_schema was)
+
+-- every key is a circuit number, its columns are a row of the layout, and the station is this one, in the layout
+pub record HoldsRows (layout : Layout) (i : Identity) (trees : Trees) : Type 0 where
+  pub sound : AreSound layout (trees (layout_tree layout))
+  pub station : IsStationOf layout i trees
+
+-- a database of this station: it lists the tables of the layout, and no others, and holds rows of the station
+pub record IsOfStation (layout : Layout) (i : Identity) (trees : Trees) : Type 0 where
+  pub tables : ListsTables (trees catalog_tree) (layout_schema layout)
+  pub holds : HoldsRows layout i trees
+
+-- a database of this station that holds this map, in this layout or upgraded from it
+pub record HoldsAll (before : Layout) (i : Identity) (saved : Saved) (db : Trees) : Type 0 where
+  pub layout : Layout
+  pub either : (layout ≡ before) ⊎ (layout ≡ layout_now before true)
+  pub station : IsOfStation layout i db
+  pub same : SameRows saved (saved_in layout db)
 
 -- a refusal that speaks of no row
 abbrev pub IsRefusal : RowsFault → Type 0
@@ -65,25 +128,25 @@ IsRefusal fault = (fault ≡ Store) ⊎ (fault ≡ OutOfMemory)
 abbrev pub Agrees : Option Identity → Identity → Type 0
 Agrees given i = IfSome given (λ wanted. wanted ≡ i)
 
--- the listing of a table
-abbrev pub Lists : Trees → (List Columns → Type 0) → Type 0
-Lists trees P = (rows : List Columns) × IsListing (trees rows_tree) rows × P rows
+-- the listing of the table that the rows of a layout are in
+abbrev pub Lists : Layout → Trees → (List Columns → Type 0) → Type 0
+Lists layout trees P = (rows : List Columns) × IsListing layout (trees (layout_tree layout)) rows × P rows
 
 -- why its rows are not taken up
-abbrev pub RefusesRows : Trees → RowsFault → Type 0
-RefusesRows trees Store = Unit {0}
-RefusesRows trees OutOfMemory = Unit {0}
-RefusesRows trees WrongSchema = Lists trees (λ rows. rise_from None rows ≡ false)
-RefusesRows trees WrongStation = ⊥
-RefusesRows trees (Damaged number) = Lists trees (λ rows. damage_in rows ≡ Some number)
+abbrev pub RefusesRows : Layout → Trees → RowsFault → Type 0
+RefusesRows layout trees Store = Unit {0}
+RefusesRows layout trees OutOfMemory = Unit {0}
+RefusesRows layout trees WrongSchema = Lists layout trees (λ rows. rise_from None rows ≡ false)
+RefusesRows layout trees WrongStation = ⊥
+RefusesRows layout trees (Damaged number) = Lists layout trees (λ rows. damage_in layout rows ≡ Some number)
 
--- why a database is not taken up
-abbrev pub RefusesToOpen : Option Identity → Trees → RowsFault → Type 0
-RefusesToOpen given trees Store = Unit {0}
-RefusesToOpen given trees OutOfMemory = Unit {0}
-RefusesToOpen given trees WrongSchema = (stored_identity trees ≡ None) ⊎ Lists trees (λ rows. rise_from None rows ≡ false)
-RefusesToOpen given trees WrongStation = (i : Identity) × (wanted : Identity) × (stored_identity trees ≡ Some i) × (given ≡ Some wanted) × (wanted ≢ i)
-RefusesToOpen given trees (Damaged number) = (i : Identity) × (stored_identity trees ≡ Some i) × Agrees given i × Lists trees (λ rows. damage_in rows ≡ Some number)
+-- why a database of this layout is not taken up
+abbrev pub RefusesToOpen : Layout → Option Identity → Trees → RowsFault → Type 0
+RefusesToOpen layout given trees Store = Unit {0}
+RefusesToOpen layout given trees OutOfMemory = Unit {0}
+RefusesToOpen layout given trees WrongSchema = (stored_station trees ≡ None) ⊎ Lists layout trees (λ rows. rise_from None rows ≡ false)
+RefusesToOpen layout given trees WrongStation = (i : Identity) × (wanted : Identity) × IsStationOf layout i trees × (given ≡ Some wanted) × (wanted ≢ i)
+RefusesToOpen layout given trees (Damaged number) = (i : Identity) × IsStationOf layout i trees × Agrees given i × Lists layout trees (λ rows. damage_in layout rows ≡ Some number)
 
 module _ {S : Type 0} (g : Ghosts S) where
   -- what the host owes: so far the disk has returned what was written, so nobody else wrote there
@@ -92,7 +155,7 @@ module _ {S : Type 0} (g : Ghosts S) where
 
   -- both: the tables are those that were made, and the disk has returned what was written
   abbrev pub IsKept : SqliteOf S → Type 0
-  IsKept s = IsHonest s × IsOurs s.alone s.found
+  IsKept s = IsHonest s × IsOurs s.alone s.was s.found
 
   -- which fault a refused call answers: stopped rows their own, and kept rows none that speaks of a row
   abbrev pub Blames : SqliteOf S → SqliteOf S → RowsFault → Type 0
@@ -104,21 +167,34 @@ module _ {S : Type 0} (g : Ghosts S) where
 
   -- the map that the database holds now
   abbrev pub saved_of : SqliteOf S → Saved
-  saved_of s = saved_in (state g s.conn).now.trees
+  saved_of s = saved_in (rows_layout s) (state g s.conn).now.trees
 
-  -- what a crash at this moment may leave
+  -- what a crash at this moment may leave, in the layout of the rows
   abbrev pub MayLeave : SqliteOf S → Saved → Type 0
-  MayLeave s saved = (db : Trees) × (state g s.conn).may_leave db × (saved ≡ saved_in db)
+  MayLeave s saved = (db : Trees) × (state g s.conn).may_leave db × (saved ≡ saved_in (rows_layout s) db)
 
-  -- whatever a crash at this moment leaves is a database of this station
+  -- whatever a crash at this moment leaves is a database of this station, in the layout of the rows
   abbrev pub LeavesStation : SqliteOf S → Identity → Type 0
-  LeavesStation s i = (db : Trees) → (state g s.conn).may_leave db → IsOfStation i db
+  LeavesStation s i = (db : Trees) → (state g s.conn).may_leave db → IsOfStation (rows_layout s) i db
+
+  -- whatever a crash in an upgrade leaves is a database of this station with this map, in the layout of the rows or upgraded from it
+  abbrev pub LeavesAll : SqliteOf S → SqliteOf S → Type 0
+  LeavesAll old new = (db : Trees) → (state g new.conn).may_leave db → HoldsAll (rows_layout old) old.identity (saved_of old) db
 
   -- a connection that is at rest on the tables of this station
-  pub record Stands (conn : Held S) (i : Identity) : Type 0 where
-    pub serves : Serves (state g conn)
-    pub holds : HasCleanDisk (state g conn) → IsTrue (state g conn).is_open → IsOfStation i (state g conn).now.trees
+  pub record Stands (layout : Layout) (conn : Held S) (i : Identity) : Type 0 where
+    pub serves : Serves layout (state g conn)
+    pub holds : HasCleanDisk (state g conn) → IsTrue (state g conn).is_open → IsOfStation layout i (state g conn).now.trees
 
-  -- where the tables are those that were made, the connection stands on them
-  abbrev pub IsServing : Held S → Identity → Bool → Option Schema → Type 0
-  IsServing conn i alone found = IsOurs alone found → Stands conn i
+  -- the connection went over from a layout, or was there already: it was open and is, it stands on the tables that an upgrade leaves, with the same map,
+  -- and a crash leaves what it has now
+  pub record WentOver (before : Layout) (i : Identity) (old new : Held S) : Type 0 where
+    pub was_open : IsTrue (state g old).is_open
+    pub is_open : IsTrue (state g new).is_open
+    pub stands : Stands (layout_now before true) new i
+    pub same : SameRows (saved_in before (state g old).now.trees) (saved_in (layout_now before true) (state g new).now.trees)
+    pub crash : (db : Trees) → (state g new).may_leave db → db ≡ (state g new).now.trees
+
+  -- where the tables are those that were made, the connection of rows that go on stands on them
+  abbrev pub IsServing : Held S → Identity → Bool → Layout → Option Schema → Bool → Bool → Type 0
+  IsServing conn i alone was found upgraded stopped = stopped ≡ false → IsOurs alone was found → Stands (layout_now was upgraded) conn i

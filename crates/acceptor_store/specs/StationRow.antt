@@ -1,33 +1,44 @@
--- The station in its table: whose rows a database holds.
-use Rattle.std.specs.Prelude.{◌==◌, ℕ, nat_le, ◌&&◌, if◌then◌else◌, map, List, [], ◌∷◌, Option, Some, None}
+-- The station in its table: whose rows a database holds, and in which layout.
+use Rattle.std.specs.Prelude.{◌≡◌, ◌==◌, ℕ, nat_le, ◌&&◌, if◌then◌else◌, map, List, [], ◌∷◌, Option, Some, None, IfSome}
 use Rattle.sqlite_value.specs.Order.{Row as Columns, column}
 use Rattle.sqlite_trees.specs.Tree.{Trees}
-use Rattle.row_table.specs.Tables.{station_tree}
+use Rattle.sqlite.specs.Effect.{Database}
+use Rattle.row_table.specs.Tables.{Layout, station_tree, layout_number, layout_schema}
 use Rattle.row_table.specs.Station.{station_columns}
 use Rattle.saved_rows.specs.declared.identity.Identity.{Identity}
 use Rattle.acceptor_store.specs.Columns.{whole_in}
 
--- what the columns say: the layout is 1, and the numbers are in range
-abbrev pub identity_from : Option ℕ → Option ℕ → Option ℕ → Option ℕ → Option Identity
-identity_from None circuit member members = None
-identity_from (Some layout) None member members = None
-identity_from (Some layout) (Some circuit) None members = None
-identity_from (Some layout) (Some circuit) (Some member) None = None
-identity_from (Some layout) (Some circuit) (Some member) (Some members) =
-    if layout == 1 && (nat_le circuit 65535 && (nat_le 1 member && (nat_le member members && nat_le members 15)))
-    then Some (record { circuit = circuit; member = member; members = members })
+-- what the columns say, the layout's number and the station: the key is 1, the layout is 1 or 2, and the numbers are in range
+abbrev pub station_from : Option ℕ → Option ℕ → Option ℕ → Option ℕ → Option ℕ → Option (ℕ × Identity)
+station_from None layout circuit member members = None
+station_from (Some key) None circuit member members = None
+station_from (Some key) (Some layout) None member members = None
+station_from (Some key) (Some layout) (Some circuit) None members = None
+station_from (Some key) (Some layout) (Some circuit) (Some member) None = None
+station_from (Some key) (Some layout) (Some circuit) (Some member) (Some members) =
+    if key == 1 && ((nat_le 1 layout && nat_le layout 2) && (nat_le circuit 65535 && (nat_le 1 member && (nat_le member members && nat_le members 15))))
+    then Some (layout, record { circuit = circuit; member = member; members = members })
     else None
 
--- the identity that the four columns of a station are
-abbrev pub identity_of : Columns → Option Identity
-identity_of r = identity_from (whole_in (column r 0)) (whole_in (column r 1)) (whole_in (column r 2)) (whole_in (column r 3))
+-- the layout's number and the station that five columns are
+abbrev pub station_of : Columns → Option (ℕ × Identity)
+station_of r = station_from (whole_in (column r 0)) (whole_in (column r 1)) (whole_in (column r 2)) (whole_in (column r 3)) (whole_in (column r 4))
 
--- the identity in the station table, which has one row
-abbrev pub identity_in : List Columns → Option Identity
-identity_in [] = None
-identity_in (r ∷ []) = identity_of r
-identity_in (r ∷ s ∷ rs) = None
+-- those in the station table, which has one row
+abbrev pub station_in : List Columns → Option (ℕ × Identity)
+station_in [] = None
+station_in (r ∷ []) = station_of r
+station_in (r ∷ s ∷ rs) = None
 
--- the identity that a database holds
-abbrev pub stored_identity : Trees → Option Identity
-stored_identity trees = identity_in (map station_columns (trees station_tree))
+-- those that a database holds
+abbrev pub stored_station : Trees → Option (ℕ × Identity)
+stored_station trees = station_in (map station_columns (trees station_tree))
+
+-- the database holds this station, in this layout
+abbrev pub IsStationOf : Layout → Identity → Trees → Type 0
+IsStationOf layout i trees = stored_station trees ≡ Some (layout_number layout, i)
+
+-- the database has the tables of the layout, and no others; and the row of its station, where it is one, tells that layout
+pub record IsLaidOut (layout : Layout) (db : Database) : Type 0 where
+  pub tables : db.schema ≡ layout_schema layout
+  pub told : IfSome (stored_station db.trees) (λ s. s.0 ≡ layout_number layout)

@@ -1,6 +1,7 @@
 //! A row as the columns of its table, and back.
 
 ghost use Rattle.std.specs.Prelude.{◌≡◌, ◌≤◌, IfOk, OnOk, option_map, Some};
+ghost use Rattle.std.specs.List.{AllByRecursion};
 ghost use Rattle.std.specs.List.{filter_map};
 ghost use Rattle.sqlite_value.specs.Value.{owned};
 ghost use Rattle.sqlite_value.specs.Order.{column};
@@ -8,10 +9,15 @@ ghost use Rattle.protocol.specs.Entries.{Taped};
 ghost use Rattle.protocol.specs.Versions.{One};
 ghost use Rattle.protocol.specs.Fitting.{Fits};
 ghost use Rattle.tape_frames.specs.Frames.{IsTape};
-ghost use Rattle.acceptor_store.specs.Columns.{whole_in, ballot_from, stored_tape, tape_in, is_null, vote_in, row_of, row_in, damage_of, damage_in, item_in, columns_for, ComesBack};
+ghost use Rattle.tape_frames.specs.Entries.{lent_entry};
+ghost use Rattle.row_table.specs.Tables.Layout.{First};
 ghost use Rattle.row_table.specs.Rows.{columns_of};
+ghost use Rattle.acceptor_store.specs.Columns.{whole_in, ballot_from, stored_tape, tape_in, is_null, entry_at, no_entry_at, vote_at, row_of, row_in, damage_of, damage_in, item_in, columns_for, ComesBack};
+ghost use Rattle.acceptor_store.specs.Layouts.{layout_of};
 ghost use Rattle.saved_rows.specs.Saved.{HasPromise, RowFits};
 
+use crate::entry_columns::entry_in;
+use crate::layout::Layout;
 use ballots::{Ballot, Member, Number, Row, Vote, VoteRef};
 use sqlite::types::ValueRef;
 use std::alloc::{AllocError, Global};
@@ -89,37 +95,65 @@ fn is_null(value: &ValueRef<'_>) -> bool
     matches!(value, ValueRef::Null)
 }
 
-/// The vote in three columns, for a tape that is lent: none where all three are null.
-fn vote_in<'a>(
-    round: ValueRef<'a>,
-    owner: ValueRef<'a>,
-    tape: ValueRef<'a>,
-) -> Option<Option<VoteRef<'a>>>
-    ensures { result ≡ vote_in (owned round.entry) (owned owner.entry) (owned tape.entry) }
+/// The entry in the columns from `at` on, lent: a tape in one of them, or a packed entry in two.
+fn entry_at(layout: Layout, columns: &sqlite::Row, at: usize) -> Option<EntryRef<'_>>
+    requires { at ≤ 5 }
+    ensures { option_map lent_entry result ≡ entry_at (layout_of layout) at columns.now }
 {
-    if is_null(&round) && is_null(&owner) && is_null(&tape) {
+    match layout {
+        Layout::First => {
+            let tape = tape_in(value_at(columns, at))?;
+            Some(EntryRef::Plain(tape))
+        }
+        Layout::Created | Layout::Upgraded => {
+            entry_in(value_at(columns, at), value_at(columns, at + 1))
+        }
+    }
+}
+
+/// Whether the columns of an entry, from `at` on, hold nothing.
+fn no_entry_at(layout: Layout, columns: &sqlite::Row, at: usize) -> bool
+    requires { at ≤ 5 }
+    ensures { result ≡ no_entry_at (layout_of layout) at columns.now }
+{
+    match layout {
+        Layout::First => is_null(&value_at(columns, at)),
+        Layout::Created | Layout::Upgraded => {
+            is_null(&value_at(columns, at)) && is_null(&value_at(columns, at + 1))
+        }
+    }
+}
+
+/// The vote in the columns from `at` on, for an entry that is lent: none where all of them are null.
+fn vote_at(layout: Layout, columns: &sqlite::Row, at: usize) -> Option<Option<VoteRef<'_>>>
+    requires { at ≤ 3 }
+    ensures { result ≡ vote_at (layout_of layout) at columns.now }
+{
+    let round = value_at(columns, at);
+    let owner = value_at(columns, at + 1);
+    if is_null(&round) && is_null(&owner) && no_entry_at(layout, columns, at + 2) {
         return Some(None);
     }
     let ballot = ballot_from(whole_in(round), whole_in(owner))?;
-    let tape = tape_in(tape)?;
-    Some(Some(VoteRef::new(ballot, EntryRef::Plain(tape))))
+    let entry = entry_at(layout, columns, at + 2)?;
+    Some(Some(VoteRef::new(ballot, entry)))
 }
 
-/// The promise and the vote of the row that five columns from `first` on are, the tape lent;
+/// The promise and the vote of the row that the columns from `first` on are, the entry lent;
 /// `None` where they are no row.
-fn parts_in(columns: &sqlite::Row, first: usize) -> Option<(Ballot, Option<VoteRef<'_>>)>
+fn parts_in(
+    layout: Layout,
+    columns: &sqlite::Row,
+    first: usize,
+) -> Option<(Ballot, Option<VoteRef<'_>>)>
     requires { first ≤ 1 }
-    ensures { option_map (λ p. row_of p.0 p.1) result ≡ row_in first columns.now }
+    ensures { option_map (λ p. row_of p.0 p.1) result ≡ row_in (layout_of layout) first columns.now }
 {
     let promise = ballot_from(
         whole_in(value_at(columns, first)),
         whole_in(value_at(columns, first + 1)),
     )?;
-    let vote = vote_in(
-        value_at(columns, first + 2),
-        value_at(columns, first + 3),
-        value_at(columns, first + 4),
-    )?;
+    let vote = vote_at(layout, columns, first + 2)?;
     let stands = match &vote {
         None => true,
         Some(vote) => !promise.is_below(vote.ballot()),
@@ -137,16 +171,17 @@ fn copied(alloc: Global, vote: Option<VoteRef<'_>>) -> Result<Option<Vote>, Allo
     }
 }
 
-/// The row that five columns from `first` on are; `None` where they are no row.
+/// The row that the columns from `first` on are: five of them in layout 1, six in layout 2; `None` where they are no row.
 pub(crate) fn row_in(
     alloc: Global,
+    layout: Layout,
     columns: &sqlite::Row,
     first: usize,
 ) -> Result<Option<Row>, AllocError>
     requires { first ≤ 1 }
-    ensures { IfOk result (λ row. row ≡ row_in first columns.now) }
+    ensures { IfOk result (λ row. row ≡ row_in (layout_of layout) first columns.now) }
 {
-    let Some((promise, vote)) = parts_in(columns, first) else {
+    let Some((promise, vote)) = parts_in(layout, columns, first) else {
         return Ok(None);
     };
     let vote = copied(alloc, vote)?;
@@ -154,13 +189,13 @@ pub(crate) fn row_in(
 }
 
 /// The key of a row of the listing, where it is no circuit number or its columns are no row.
-fn damage_of(row: &sqlite::Row) -> Option<i64>
-    ensures { result ≡ damage_of (column row.now 0) (row_in 1 row.now) }
+fn damage_of(layout: Layout, row: &sqlite::Row) -> Option<i64>
+    ensures { result ≡ damage_of (column row.now 0) (row_in (layout_of layout) 1 row.now) }
 {
     let ValueRef::Int(key) = value_at(row, 0) else {
         return None;
     };
-    if 1 <= key && key <= 999_999 && parts_in(row, 1).is_some() {
+    if 1 <= key && key <= 999_999 && parts_in(layout, row, 1).is_some() {
         None
     } else {
         Some(key)
@@ -168,11 +203,11 @@ fn damage_of(row: &sqlite::Row) -> Option<i64>
 }
 
 /// The key of the first row of a listing that is none, or that stands under no circuit number.
-pub(crate) fn damage_in(rows: &[sqlite::Row]) -> Option<i64>
-    ensures { result ≡ damage_in rows.now }
+pub(crate) fn damage_in(layout: Layout, rows: &[sqlite::Row]) -> Option<i64>
+    ensures { result ≡ damage_in (layout_of layout) rows.now }
 {
     for row in rows {
-        if let Some(key) = damage_of(row) {
+        if let Some(key) = damage_of(layout, row) {
             return Some(key);
         }
     }
@@ -180,8 +215,12 @@ pub(crate) fn damage_in(rows: &[sqlite::Row]) -> Option<i64>
 }
 
 /// The number and the row that a row of the listing is.
-fn item_in(alloc: Global, row: &sqlite::Row) -> Result<Option<(Number, Row)>, AllocError>
-    ensures { IfOk result (λ item. item ≡ item_in row.now) }
+fn item_in(
+    alloc: Global,
+    layout: Layout,
+    row: &sqlite::Row,
+) -> Result<Option<(Number, Row)>, AllocError>
+    ensures { IfOk result (λ item. item ≡ item_in (layout_of layout) row.now) }
 {
     let Some(value) = whole_in(value_at(row, 0)) else {
         return Ok(None);
@@ -189,29 +228,31 @@ fn item_in(alloc: Global, row: &sqlite::Row) -> Result<Option<(Number, Row)>, Al
     let Some(number) = Number::new(value) else {
         return Ok(None);
     };
-    match row_in(alloc, row, 1)? {
+    match row_in(alloc, layout, row, 1)? {
         Some(row) => Ok(Some((number, row))),
         None => Ok(None),
     }
 }
 
-/// The numbers and rows of a listing.
+/// The numbers and rows of a listing. Each row has a promise.
 pub(crate) fn items_in(
     alloc: Global,
+    layout: Layout,
     rows: &[sqlite::Row],
 ) -> Result<Vec<(Number, Row)>, AllocError>
-    ensures { IfOk result (λ items. items.items ≡ filter_map item_in rows.now) }
+    ensures items { IfOk result (λ items. items.items ≡ filter_map (item_in (layout_of layout)) rows.now) }
+    ensures promised { IfOk result (λ items. AllByRecursion (λ p. HasPromise p.1) items.items) }
 {
     let mut items = Vec::new(alloc);
     for row in rows {
-        if let Some(item) = item_in(alloc, row)? {
+        if let Some(item) = item_in(alloc, layout, row)? {
             items.push(item)?;
         }
     }
     Ok(items)
 }
 
-/// The columns of a row.
+/// The columns of a row in layout 1.
 #[derive(Drop)]
 pub(crate) struct RowColumns {
     pub(crate) promised_round: u32,
@@ -250,12 +291,12 @@ fn voted_tape(alloc: Global, vote: &Vote) -> Result<Tape, AllocError>
     }
 }
 
-/// The columns of a row that has a promise, and a vote for a tape where it has one; they are the row again.
+/// The columns, in layout 1, of a row that has a promise, and a vote for a tape where it has one; they are the row again.
 pub(crate) fn columns_for(alloc: Global, row: &Row) -> Result<RowColumns, AllocError>
     requires promise { HasPromise row.now }
     requires fits { RowFits One row.now }
-    ensures columns { IfOk result (λ c. columns_of c.promised_round c.promised_owner c.vote_round c.vote_owner c.tape ≡ columns_for row.now) }
-    ensures back { OnOk result (ComesBack row.now) }
+    ensures columns { IfOk result (λ c. columns_of c.promised_round c.promised_owner c.vote_round c.vote_owner c.tape ≡ columns_for First row.now) }
+    ensures back { OnOk result (ComesBack First row.now) }
 {
     let Some(promise) = row.promised() else {
         unreachable!()

@@ -34,11 +34,11 @@ impl<T: Start> SqliteRows<FileStore<FileFrom<T>>> {
             Option<Leftover<FileFrom<T>>>,
         ),
     >
-        ensures open { IfOk result (λ s. HasCleanDisk (file_state s.conn) → IsOurs s.alone s.found → IsTrue (file_state s.conn).is_open) }
+        ensures open { IfOk result (λ s. HasCleanDisk (file_state s.conn) → IsOurs s.alone s.was s.found → IsTrue (file_state s.conn).is_open) }
 
         // What the store owes, told of the file; with what the host owes the rows are those that the file held.
         ensures made { IfOk result (TakesItsOwn (image_at T.Start)) }
-        ensures rows { IfOk result (λ s. HasCleanDisk (file_state s.conn) → IsOurs s.alone s.found → IsTakenUp (image_at T.Start) s) }
+        ensures rows { IfOk result (λ s. HasCleanDisk (file_state s.conn) → IsOurs s.alone s.was s.found → IsTakenUp (image_at T.Start) s) }
         ensures given { IfOk result (λ s. Agrees given s.identity) }
         ensures unstopped { IfOk result (λ s. s.stopped ≡ false) }
 

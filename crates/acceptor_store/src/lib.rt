@@ -2,13 +2,19 @@
 #![tactic(auto)]
 
 mod columns;
+mod creating;
+mod entry_columns;
 mod files;
 pub mod laws;
+mod layout;
+mod moving;
+mod queries;
 mod restarts;
 mod sqlite_rows;
 mod statements;
 mod station_row;
 mod taking_up;
+mod upgrading;
 
 pub use restarts::into_files;
 pub use saved_rows::{Balky, Identity, MemoryRows, Rows, RowsFault};

@@ -1,20 +1,24 @@
 //! Rows in a database.
 
-ghost use Rattle.std.specs.Prelude.{◌≡◌, ◌≤◌, ◌⊎◌, ℕ, true, false, Some, None, Err, IsTrue, IfOk, IfErr, OnOk, OnErr};
+ghost use Rattle.std.specs.Prelude.{◌≡◌, ◌≤◌, ◌⊎◌, ℕ, true, false, None, Err, IsTrue, IfOk, IfErr, OnOk, OnErr};
 ghost use Rattle.protocol.specs.Rows.{blank};
 ghost use Rattle.sqlite_trees.specs.View.{doubt};
 ghost use Rattle.sqlite.specs.State.{HasCleanDisk};
-ghost use Rattle.row_table.specs.Tables.{no_schema, row_schema};
+ghost use Rattle.tape_frames.specs.Entries.{version_of};
+ghost use Rattle.row_table.specs.Tables.{Layout as Tables, no_schema, layout_schema};
 ghost use Rattle.row_table.specs.Station.{HoldsNone};
 ghost use Rattle.saved_rows.specs.Identity.{IsIdentity};
-ghost use Rattle.acceptor_store.specs.StationRow.{stored_identity};
-ghost use Rattle.protocol.specs.Versions.{One};
+ghost use Rattle.protocol.specs.Versions.{Two};
+ghost use Rattle.acceptor_store.specs.StationRow.{IsStationOf, IsLaidOut};
+ghost use Rattle.acceptor_store.specs.Sqlite.{rows_layout, rows_version, made_in, layout_now};
 ghost use Rattle.saved_rows.specs.Saved.{SameRows, WithRow, IsEither, IsListOf, HasPromise, RowFits, AreFitting, Rises};
 
+use crate::creating::make_tables;
+use crate::layout::{Layout, layout_now, made_in, version_in};
 use crate::statements::{fault_of, list, read, save};
 use crate::taking_up::take_up;
+use crate::upgrading::go_over;
 use ballots::{Number, Row};
-use row_table::create_tables;
 use saved_rows::{Identity, Rows, RowsFault};
 use sqlite::{Alter, Connection};
 use sqlite_schema::schema::Schema;
@@ -22,15 +26,17 @@ use std::alloc::Global;
 use std::marker::Model;
 use tape_frames::Version;
 
-/// Rows in a database, in its table `acceptor_row` beside the table `station` that says whose they are. They are at
-/// version 1, whose layout is 1: a vote in it is for a tape of at most 4,096 frames.
+/// Rows in a database, beside the table `station` that says whose they are. At version 1 their layout is 1: they are in
+/// the table `acceptor_row`, and a vote in it is for a tape of at most 4,096 frames. At version 2 their layout is 2: they
+/// are in the table `acceptor_entry`, and a vote in it is for any entry. [`Rows::upgrade`] goes from the first to the second;
+/// the table `acceptor_row` stays then as it was, and is not read again.
 ///
-/// They are kept where their tables are those that [`SqliteRows::create`] makes, and no others, and the disk has
-/// returned what was written. The first is the store's to give: `create` in an empty database makes them so,
+/// They are kept where their tables are those that [`SqliteRows::create`] makes or an upgrade leaves, and no others, and the
+/// disk has returned what was written. The first is the store's to give: `create` in an empty database makes them so,
 /// [`SqliteRows::open`] finds them so, and no call takes it back. The second is the host's: it holds as long as
 /// the disk doesn't fail and nobody else writes to the database.
 ///
-/// After a refused `put` every call answers `Store`, until the rows are opened anew: so nothing is answered
+/// After a refused `put` or `upgrade` every call answers `Store`, until the rows are opened anew: so nothing is answered
 /// from a row that a crash could still take back. A connection over a file is then to be closed, and the file
 /// opened again.
 #[derive(Drop)]
@@ -39,6 +45,8 @@ pub struct SqliteRows<S: Alter + Drop> {
     identity: Identity,
     alone: bool,
     found: Option<Schema>,
+    was: Layout,
+    upgraded: bool,
     stopped: bool,
     refusals: u64,
     alloc: Global,
@@ -46,14 +54,15 @@ pub struct SqliteRows<S: Alter + Drop> {
 
 impl<S: Alter + Drop> Model for SqliteRows<S> {
     ghost use Rattle.acceptor_store.specs.Sqlite.{SqliteOf, sqlite_code, IsServing};
+    ghost use Rattle.acceptor_store.specs.Layouts.{layout_of};
 
     ghost Value = { SqliteOf S };
 
     ghost coded = { sqlite_code S.code };
 
-    ghost view = { λ s. record { conn = s.conn; identity = s.identity; alone = s.alone; found = s.found; stopped = s.stopped; refusals = s.refusals } };
+    ghost view = { λ s. record { conn = s.conn; identity = s.identity; alone = s.alone; found = s.found; was = layout_of s.was; upgraded = s.upgraded; stopped = s.stopped; refusals = s.refusals } };
 
-    ghost invariant = { λ s. IsServing S.Store s.conn s.identity s.alone s.found };
+    ghost invariant = { λ s. IsServing S.Store s.conn s.identity s.alone (layout_of s.was) s.found s.upgraded s.stopped };
 }
 
 /// Whether a database has no table, index or view.
@@ -69,7 +78,7 @@ impl<S: Alter + Drop> SqliteRows<S> {
     ghost use Rattle.acceptor_store.specs.Columns.{saved_in};
     ghost use Rattle.sqlite.specs.Held.{state};
 
-    /// Makes the two tables in one transaction: the empty map of this station.
+    /// Makes the two tables of this version's layout in one transaction: the empty map of this station.
     ///
     /// `Store` where a table of these names is there, the connection is in a transaction, or a statement was
     /// refused; `OutOfMemory`. Then nothing is changed, and the connection comes back. A crash leaves the
@@ -78,32 +87,32 @@ impl<S: Alter + Drop> SqliteRows<S> {
         alloc: Global,
         mut conn: Connection<S>,
         identity: Identity,
+        version: Version,
     ) -> Result<SqliteRows<S>, (RowsFault, Connection<S>)>
         requires { IsIdentity identity }
         ensures open { IfOk result (λ s. IsKept S.Store s → IsOpen S.Store s) }
         ensures blank { IfOk result (λ s. IsKept S.Store s → (n : ℕ) → saved_of S.Store s n ≡ blank) }
         ensures identity { IfOk result (λ s. s.identity ≡ identity) }
+        ensures layout { IfOk result (λ s. (s.was ≡ made_in (version_of version)) × (s.upgraded ≡ false)) }
+        ensures version { IfOk result (λ s. rows_version s ≡ version_of version) }
         ensures unstopped { IfOk result (λ s. s.stopped ≡ false) }
 
         // What the store owes: in an empty database the tables are its own. With what the host owes they are kept.
-        ensures made { IfOk result (λ s. (state S.Store conn).now.schema ≡ no_schema → IsOurs s.alone s.found) }
+        ensures made { IfOk result (λ s. (state S.Store conn).now.schema ≡ no_schema → IsOurs s.alone s.was s.found) }
         ensures kept { IfOk result (λ s. HasCleanDisk (state S.Store s.conn) → (state S.Store conn).now.schema ≡ no_schema → IsKept S.Store s) }
-        ensures crash { IfOk result (λ s. IsKept S.Store s → (db : _) → (state S.Store s.conn).may_leave db → HoldsNone identity.circuit identity.member identity.members db) }
+        ensures crash { IfOk result (λ s. IsKept S.Store s → (db : _) → (state S.Store s.conn).may_leave db → HoldsNone (made_in (version_of version)) identity.circuit identity.member identity.members db) }
 
         // A refusal changes nothing.
         ensures refusal { IfErr result (λ e. IsRefusal e.0) }
         ensures unchanged { IfErr result (λ e. HasCleanDisk (state S.Store e.1) → IsTrue (state S.Store e.1).is_open → (state S.Store e.1).now ≡ (state S.Store conn).now) }
         ensures crash_err { IfErr result (λ e. HasCleanDisk (state S.Store e.1) → (state S.Store conn).now.schema ≡ no_schema → (db : _) → (state S.Store e.1).may_leave db
-            → (state S.Store conn).may_leave db ⊎ HoldsNone identity.circuit identity.member identity.members db) }
+            → (state S.Store conn).may_leave db ⊎ HoldsNone (made_in (version_of version)) identity.circuit identity.member identity.members db) }
     {
         if !conn.is_autocommit() {
             return Err((RowsFault::Store, conn));
         }
         let alone = is_empty(conn.schema());
-        let circuit = u32::from(identity.circuit);
-        let member = u32::from(identity.member);
-        let members = u32::from(identity.members);
-        if let Err(error) = create_tables(&mut conn, circuit, member, members) {
+        if let Err(error) = make_tables(&mut conn, identity, version) {
             return Err((fault_of(&error), conn));
         }
         // What the database lists is known once it is read.
@@ -113,13 +122,15 @@ impl<S: Alter + Drop> SqliteRows<S> {
             identity,
             alone,
             found: None,
+            was: made_in(version),
+            upgraded: false,
             stopped: false,
             refusals: 0,
             alloc,
         })
     }
 
-    /// Takes up the rows that a database holds. No row is written.
+    /// Takes up the rows that a database holds, in layout 1 or 2. No row is written.
     ///
     /// `Store` where the connection is in a transaction or the database refuses a statement, as without the
     /// tables. Then `WrongSchema` where the table `station` has no row, another layout, or values that are
@@ -132,22 +143,24 @@ impl<S: Alter + Drop> SqliteRows<S> {
         given: Option<Identity>,
     ) -> Result<SqliteRows<S>, (RowsFault, Connection<S>)>
         ensures open { IfOk result (λ s. IsKept S.Store s → IsOpen S.Store s) }
-        ensures same { IfOk result (λ s. IsKept S.Store s → SameRows (saved_in (state S.Store conn).now.trees) (saved_of S.Store s)) }
+        ensures same { IfOk result (λ s. IsKept S.Store s → SameRows (saved_in s.was (state S.Store conn).now.trees) (saved_of S.Store s)) }
         ensures unwritten { IfOk result (λ s. IsKept S.Store s → (state S.Store s.conn).now ≡ (state S.Store conn).now) }
         ensures given { IfOk result (λ s. Agrees given s.identity) }
-        ensures stored { IfOk result (λ s. IsKept S.Store s → stored_identity (state S.Store conn).now.trees ≡ Some s.identity) }
+        ensures stored { IfOk result (λ s. IsKept S.Store s → IsStationOf s.was s.identity (state S.Store conn).now.trees) }
+        ensures tables { IfOk result (λ s. IsKept S.Store s → (state S.Store conn).now.schema ≡ layout_schema s.was) }
+        ensures fresh { IfOk result (λ s. s.upgraded ≡ false) }
         ensures unstopped { IfOk result (λ s. s.stopped ≡ false) }
         ensures clean { IfOk result (λ s. doubt (state S.Store conn).is_clean ≤ doubt (state S.Store s.conn).is_clean) }
         ensures crash { IfOk result (λ s. IsKept S.Store s → (left : _) → (state S.Store s.conn).may_leave left → (state S.Store conn).may_leave left) }
 
-        // What the store owes: tables as `create` makes them are its own. With what the host owes they are kept.
-        ensures made { IfOk result (λ s. (state S.Store conn).now.schema ≡ row_schema → IsOurs s.alone s.found) }
-        ensures kept { IfOk result (λ s. HasCleanDisk (state S.Store s.conn) → (state S.Store conn).now.schema ≡ row_schema → IsKept S.Store s) }
+        // What the store owes: tables as `create` makes them, or an upgrade leaves, are its own. With what the host owes they are kept.
+        ensures made { IfOk result (λ s. HasCleanDisk (state S.Store s.conn) → (layout : Tables) → IsLaidOut layout (state S.Store conn).now → (s.was ≡ layout) × IsOurs s.alone s.was s.found) }
+        ensures kept { IfOk result (λ s. HasCleanDisk (state S.Store s.conn) → (layout : Tables) → IsLaidOut layout (state S.Store conn).now → IsKept S.Store s) }
 
         // Why it is refused; nothing is changed then either.
-        ensures refuses { IfErr result (λ e. HasCleanDisk (state S.Store e.1) → (state S.Store conn).now.schema ≡ row_schema → RefusesToOpen given (state S.Store conn).now.trees e.0) }
-        ensures unchanged { IfErr result (λ e. HasCleanDisk (state S.Store e.1) → (state S.Store conn).now.schema ≡ row_schema → IsTrue (state S.Store e.1).is_open → (state S.Store e.1).now ≡ (state S.Store conn).now) }
-        ensures crash_err { IfErr result (λ e. HasCleanDisk (state S.Store e.1) → (state S.Store conn).now.schema ≡ row_schema → (left : _) → (state S.Store e.1).may_leave left → (state S.Store conn).may_leave left) }
+        ensures refuses { IfErr result (λ e. HasCleanDisk (state S.Store e.1) → (layout : Tables) → IsLaidOut layout (state S.Store conn).now → RefusesToOpen layout given (state S.Store conn).now.trees e.0) }
+        ensures unchanged { IfErr result (λ e. HasCleanDisk (state S.Store e.1) → (layout : Tables) → IsLaidOut layout (state S.Store conn).now → IsTrue (state S.Store e.1).is_open → (state S.Store e.1).now ≡ (state S.Store conn).now) }
+        ensures crash_err { IfErr result (λ e. HasCleanDisk (state S.Store e.1) → (layout : Tables) → IsLaidOut layout (state S.Store conn).now → (left : _) → (state S.Store e.1).may_leave left → (state S.Store conn).may_leave left) }
         ensures clean_err { IfErr result (λ e. doubt (state S.Store conn).is_clean ≤ doubt (state S.Store e.1).is_clean) }
     {
         if !conn.is_autocommit() {
@@ -158,11 +171,13 @@ impl<S: Alter + Drop> SqliteRows<S> {
             Err(_) => return Err((RowsFault::OutOfMemory, conn)),
         };
         match take_up(&mut conn, given) {
-            Ok(identity) => Ok(SqliteRows {
+            Ok(taken) => Ok(SqliteRows {
                 conn,
-                identity,
+                identity: taken.1,
                 alone: true,
                 found: Some(found),
+                was: taken.0,
+                upgraded: false,
                 stopped: false,
                 refusals: 0,
                 alloc,
@@ -171,13 +186,13 @@ impl<S: Alter + Drop> SqliteRows<S> {
         }
     }
 
-    /// All rows that are saved, in order of their numbers; version 1 has each. No row is changed.
+    /// All rows that are saved, in order of their numbers; their version has each. No row is changed.
     ///
-    /// A refusal is counted: `Store` after a refused `put`, or where the statement was refused; `OutOfMemory`;
+    /// A refusal is counted: `Store` after a refused `put` or `upgrade`, or where the statement was refused; `OutOfMemory`;
     /// `Damaged` only where another wrote to the database.
     pub fn all(&mut self) -> Result<Vec<(Number, Row)>, RowsFault>
         ensures rows { IsKept S.Store self.new → IfOk result (λ rows. IsListOf (saved_of S.Store self.old) rows.items) }
-        ensures fits { IfOk result (λ rows. AreFitting One rows.items) }
+        ensures fits { IfOk result (λ rows. AreFitting (rows_version self.old) rows.items) }
         ensures open { IsKept S.Store self.new → OnOk result (IsOpen S.Store self.new) }
         ensures same { IsKept S.Store self.new → IsOpen S.Store self.new → SameRows (saved_of S.Store self.old) (saved_of S.Store self.new) }
         ensures cause { OnErr result (Rises self.old.refusals self.new.refusals) }
@@ -186,17 +201,18 @@ impl<S: Alter + Drop> SqliteRows<S> {
         ensures was_open { IsKept S.Store self.new → IsOpen S.Store self.new → IsOpen S.Store self.old }
         ensures stopped { IsTrue self.old.stopped → result ≡ Err RowsFault.Store }
         ensures undamaged { IsKept S.Store self.new → IfErr result IsRefusal }
-        ensures stays { (self.new.stopped ≡ self.old.stopped) × (self.new.identity ≡ self.old.identity) }
+        ensures stays { (self.new.stopped ≡ self.old.stopped) × (self.new.identity ≡ self.old.identity) × (self.new.upgraded ≡ self.old.upgraded) }
 
         // What the store owes stays as it was.
-        ensures ours { (self.new.alone ≡ self.old.alone) × (self.new.found ≡ self.old.found) }
+        ensures ours { (self.new.alone ≡ self.old.alone) × (self.new.was ≡ self.old.was) × (self.new.found ≡ self.old.found) }
         ensures crash { IsKept S.Store self.new → IsOpen S.Store self.old → (left : _) → MayLeave S.Store self.new left → MayLeave S.Store self.old left }
     {
         if self.stopped {
             self.refusals = self.refusals.saturating_add(1);
             return Err(RowsFault::Store);
         }
-        match list(self.alloc, &mut self.conn) {
+        let layout = layout_now(self.was, self.upgraded);
+        match list(self.alloc, &mut self.conn, layout) {
             Ok(rows) => Ok(rows),
             Err(fault) => {
                 self.refusals = self.refusals.saturating_add(1);
@@ -221,6 +237,8 @@ impl<S: Alter + Drop> SqliteRows<S> {
             identity: _,
             alone: _,
             found: _,
+            was: _,
+            upgraded: _,
             stopped: _,
             refusals: _,
             alloc: _,
@@ -230,9 +248,9 @@ impl<S: Alter + Drop> SqliteRows<S> {
 }
 
 impl<S: Alter + Drop> Rows for SqliteRows<S> {
-    ghost use Rattle.acceptor_store.specs.Sqlite.{IsKept, IsOpen, IsHonest, IsOurs, saved_of, MayLeave, LeavesStation, IsRefusal, Blames};
+    ghost use Rattle.acceptor_store.specs.Sqlite.{IsKept, IsOpen, IsHonest, IsOurs, saved_of, MayLeave, LeavesStation, LeavesAll, IsRefusal, Blames};
 
-    ghost made = { λ s. IsOurs s.alone s.found };
+    ghost made = { λ s. IsOurs s.alone s.was s.found };
 
     ghost honest = { IsHonest S.Store };
 
@@ -242,7 +260,7 @@ impl<S: Alter + Drop> Rows for SqliteRows<S> {
 
     ghost saved = { saved_of S.Store };
 
-    ghost version = { λ _. One };
+    ghost version = { rows_version };
 
     ghost refusals = { λ s. s.refusals };
 
@@ -251,12 +269,12 @@ impl<S: Alter + Drop> Rows for SqliteRows<S> {
     ghost halves = { λ _. (λ both. both, λ both. both) };
 
     fn version(&self) -> Version {
-        Version::One
+        version_in(layout_now(self.was, self.upgraded))
     }
 
     fn get(&mut self, number: Number) -> Result<Row, RowsFault>
         ensures row { IsKept S.Store self.new → IfOk result (λ row. row ≡ saved_of S.Store self.old number) }
-        ensures fits { IfOk result (RowFits One) }
+        ensures fits { IfOk result (RowFits (rows_version self.old)) }
         ensures open { IsKept S.Store self.new → OnOk result (IsOpen S.Store self.new) }
         ensures same { IsKept S.Store self.new → IsOpen S.Store self.new → SameRows (saved_of S.Store self.old) (saved_of S.Store self.new) }
         ensures cause { OnErr result (Rises self.old.refusals self.new.refusals) }
@@ -266,17 +284,18 @@ impl<S: Alter + Drop> Rows for SqliteRows<S> {
         ensures stopped { IsTrue self.old.stopped → result ≡ Err RowsFault.Store }
         ensures undamaged { IsKept S.Store self.new → IfErr result IsRefusal }
         ensures blames { IfErr result (Blames S.Store self.old self.new) }
-        ensures stays { (self.new.stopped ≡ self.old.stopped) × (self.new.identity ≡ self.old.identity) }
+        ensures stays { (self.new.stopped ≡ self.old.stopped) × (self.new.identity ≡ self.old.identity) × (self.new.upgraded ≡ self.old.upgraded) }
 
         // What the store owes stays as it was.
-        ensures ours { (self.new.alone ≡ self.old.alone) × (self.new.found ≡ self.old.found) }
+        ensures ours { (self.new.alone ≡ self.old.alone) × (self.new.was ≡ self.old.was) × (self.new.found ≡ self.old.found) }
         ensures crash { IsKept S.Store self.new → IsOpen S.Store self.old → (left : _) → MayLeave S.Store self.new left → MayLeave S.Store self.old left }
     {
         if self.stopped {
             self.refusals = self.refusals.saturating_add(1);
             return Err(RowsFault::Store);
         }
-        match read(self.alloc, &mut self.conn, number) {
+        let layout = layout_now(self.was, self.upgraded);
+        match read(self.alloc, &mut self.conn, layout, number) {
             Ok(row) => Ok(row),
             Err(fault) => {
                 self.refusals = self.refusals.saturating_add(1);
@@ -287,7 +306,7 @@ impl<S: Alter + Drop> Rows for SqliteRows<S> {
 
     fn put(&mut self, number: Number, row: &Row) -> Result<(), RowsFault>
         requires promise { HasPromise row.now }
-        requires fits { RowFits One row.now }
+        requires fits { RowFits (rows_version self.old) row.now }
         ensures row { IsKept S.Store self.new → OnOk result (WithRow (saved_of S.Store self.old) number row.now (saved_of S.Store self.new)) }
         ensures open { IsKept S.Store self.new → OnOk result (IsOpen S.Store self.new) }
         ensures either { IsKept S.Store self.new → OnErr result ((¬ IsOpen S.Store self.new) ⊎ IsEither (saved_of S.Store self.old) number row.now (saved_of S.Store self.new)) }
@@ -303,9 +322,10 @@ impl<S: Alter + Drop> Rows for SqliteRows<S> {
         ensures undamaged { IfErr result IsRefusal }
         ensures blames { IfErr result (Blames S.Store self.old self.new) }
         ensures station { self.new.identity ≡ self.old.identity }
+        ensures layout { self.new.upgraded ≡ self.old.upgraded }
 
         // What the store owes stays as it was.
-        ensures ours { (self.new.alone ≡ self.old.alone) × (self.new.found ≡ self.old.found) }
+        ensures ours { (self.new.alone ≡ self.old.alone) × (self.new.was ≡ self.old.was) × (self.new.found ≡ self.old.found) }
 
         // After the Ok a crash leaves this row too; after an Err the rows as they were, or with this one.
         ensures crash_ok { IsKept S.Store self.new → OnOk result ((left : _) → MayLeave S.Store self.new left → WithRow (saved_of S.Store self.old) number row.now left) }
@@ -318,10 +338,56 @@ impl<S: Alter + Drop> Rows for SqliteRows<S> {
             self.refusals = self.refusals.saturating_add(1);
             return Err(RowsFault::Store);
         }
-        match save(self.alloc, &mut self.conn, number, row) {
+        let layout = layout_now(self.was, self.upgraded);
+        match save(self.alloc, &mut self.conn, layout, number, row) {
             Ok(()) => Ok(()),
             Err(fault) => {
-                self.stopped = true;
+                self.stopped = true; // Whether the row is saved is not known.
+                self.refusals = self.refusals.saturating_add(1);
+                Err(fault)
+            }
+        }
+    }
+
+    fn upgrade(&mut self) -> Result<(), RowsFault>
+        ensures same { IsKept S.Store self.new → IsOpen S.Store self.new → SameRows (saved_of S.Store self.old) (saved_of S.Store self.new) }
+        ensures open { IsKept S.Store self.new → OnOk result (IsOpen S.Store self.new) }
+        ensures two { OnOk result (rows_version self.new ≡ Two) }
+        ensures either { OnErr result ((rows_version self.new ≡ rows_version self.old) ⊎ (rows_version self.new ≡ Two)) }
+        ensures cause { OnErr result (Rises self.old.refusals self.new.refusals) }
+        ensures counts { self.old.refusals ≤ self.new.refusals }
+        ensures was_kept { IsKept S.Store self.new → IsKept S.Store self.old }
+        ensures was_open { IsKept S.Store self.new → IsOpen S.Store self.new → IsOpen S.Store self.old }
+
+        // A refused upgrade stops it, and its layout stays.
+        ensures stopped { IsTrue self.old.stopped → result ≡ Err RowsFault.Store }
+        ensures stops { OnErr result (IsTrue self.new.stopped × (self.new.upgraded ≡ self.old.upgraded)) }
+        ensures goes_on { OnOk result (self.new.stopped ≡ self.old.stopped) }
+        ensures upgraded { OnOk result (rows_layout self.new ≡ layout_now self.old.was true) }
+        ensures undamaged { IsKept S.Store self.new → IfErr result IsRefusal }
+        ensures blames { IfErr result (Blames S.Store self.old self.new) }
+        ensures station { self.new.identity ≡ self.old.identity }
+
+        // What the store owes stays as it was.
+        ensures ours { (self.new.alone ≡ self.old.alone) × (self.new.was ≡ self.old.was) × (self.new.found ≡ self.old.found) }
+
+        // Whatever comes of it, a crash leaves the station and its map, all in the one layout or all in the other; after the Ok in layout 2.
+        ensures crash { IsKept S.Store self.new → IsOpen S.Store self.old → self.old.stopped ≡ false → LeavesAll S.Store self.old self.new }
+        ensures crash_ok { IsKept S.Store self.new → OnOk result ((left : _) → MayLeave S.Store self.new left → SameRows (saved_of S.Store self.old) left) }
+        ensures crash_station { IsKept S.Store self.new → OnOk result (LeavesStation S.Store self.new self.old.identity) }
+    {
+        if self.stopped {
+            self.refusals = self.refusals.saturating_add(1);
+            return Err(RowsFault::Store);
+        }
+        let layout = layout_now(self.was, self.upgraded);
+        match go_over(self.alloc, &mut self.conn, layout) {
+            Ok(()) => {
+                self.upgraded = true;
+                Ok(())
+            }
+            Err(fault) => {
+                self.stopped = true; // In which layout the rows are is not known.
                 self.refusals = self.refusals.saturating_add(1);
                 Err(fault)
             }

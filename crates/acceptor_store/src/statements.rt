@@ -1,19 +1,25 @@
 //! Rows read and saved by the statements of the tables.
 
 ghost use Rattle.std.specs.Prelude.{◌≡◌, ◌⊎◌, ◌≤◌, IsTrue, IfOk, IfErr, OnOk, OnErr};
+ghost use Rattle.std.specs.List.{AllByRecursion};
 ghost use Rattle.sqlite_trees.specs.View.{doubt};
 ghost use Rattle.sqlite.specs.State.{HasCleanDisk};
 ghost use Rattle.sqlite.specs.Held.{state};
-ghost use Rattle.row_table.specs.Tables.{rows_tree};
+ghost use Rattle.row_table.specs.Tables.{Origin, layout_tree};
+ghost use Rattle.row_table.specs.Tables.Layout.{First, Second};
 ghost use Rattle.row_table.specs.Rows.{Serves, SavesIn, WasSaved, WasKept};
 ghost use Rattle.protocol.specs.Versions.{One};
 ghost use Rattle.saved_rows.specs.Saved.{HasPromise, RowFits, AreFitting, IsListOf};
-ghost use Rattle.acceptor_store.specs.Columns.{columns_for, saved_in, AreSound, ComesBack};
+ghost use Rattle.acceptor_store.specs.Columns.{version_in, columns_for, saved_in, AreSound, ComesBack};
+ghost use Rattle.acceptor_store.specs.Layouts.{layout_of};
 ghost use Rattle.acceptor_store.specs.Sqlite.{IsRefusal};
 
 use crate::columns::{columns_for, damage_in, items_in, row_in};
+use crate::entry_columns::entry_columns_for;
+use crate::layout::Layout;
+use crate::queries::{find, find_all};
 use ballots::{Number, Row};
-use row_table::{all_rows, are_rising, get_row, put_row};
+use row_table::{are_rising, put_entry, put_row};
 use saved_rows::RowsFault;
 use sqlite::{Alter, Connection, Error, ErrorCode};
 use std::alloc::Global;
@@ -28,8 +34,8 @@ pub(crate) fn fault_of(error: &Error) -> RowsFault
     }
 }
 
-/// Saves a row that has a promise, and that layout 1 has: one statement.
-pub(crate) fn save<S: Alter>(
+/// Saves a row in layout 1, which has it: one statement.
+fn save_row<S: Alter>(
     alloc: Global,
     conn: &mut Connection<S>,
     number: Number,
@@ -37,26 +43,23 @@ pub(crate) fn save<S: Alter>(
 ) -> Result<(), RowsFault>
     requires promise { HasPromise row.now }
     requires fits { RowFits One row.now }
-    ensures serves { Serves (state S.Store conn.old) → Serves (state S.Store conn.new) }
-    ensures saved { Serves (state S.Store conn.old) → HasCleanDisk (state S.Store conn.new) → OnOk result (WasSaved number (columns_for row.now) (state S.Store conn.old) (state S.Store conn.new)) }
-    ensures err { Serves (state S.Store conn.old) → HasCleanDisk (state S.Store conn.new) → IsTrue (state S.Store conn.new).is_open → OnErr result (WasKept (state S.Store conn.old) (state S.Store conn.new)) }
-    ensures crash { Serves (state S.Store conn.old) → HasCleanDisk (state S.Store conn.new) → IsTrue (state S.Store conn.old).is_open
-        → (db : _) → (state S.Store conn.new).may_leave db → (db ≡ (state S.Store conn.old).now.trees) ⊎ (ComesBack row.now × SavesIn number (columns_for row.now) (state S.Store conn.old).now.trees db) }
+    ensures serves { Serves First (state S.Store conn.old) → Serves First (state S.Store conn.new) }
+    ensures saved { Serves First (state S.Store conn.old) → HasCleanDisk (state S.Store conn.new) → OnOk result (WasSaved First number (columns_for First row.now) (state S.Store conn.old) (state S.Store conn.new)) }
+    ensures err { Serves First (state S.Store conn.old) → HasCleanDisk (state S.Store conn.new) → IsTrue (state S.Store conn.new).is_open → OnErr result (WasKept (state S.Store conn.old) (state S.Store conn.new)) }
+    ensures crash { Serves First (state S.Store conn.old) → HasCleanDisk (state S.Store conn.new) → IsTrue (state S.Store conn.old).is_open
+        → (db : _) → (state S.Store conn.new).may_leave db → (db ≡ (state S.Store conn.old).now.trees) ⊎ (ComesBack First row.now × SavesIn First number (columns_for First row.now) (state S.Store conn.old).now.trees db) }
     ensures clean { doubt (state S.Store conn.old).is_clean ≤ doubt (state S.Store conn.new).is_clean }
     ensures refusal { IfErr result IsRefusal }
 
     // The columns are the row again.
-    ensures back { OnOk result (ComesBack row.now) }
-    ensures low { 1 ≤ number }
-    ensures high { number ≤ 999999 }
+    ensures back { OnOk result (ComesBack First row.now) }
 {
-    let key = number.get();
     let Ok(columns) = columns_for(alloc, row) else {
         return Err(RowsFault::OutOfMemory);
     };
     let ran = put_row(
         conn,
-        key,
+        number.get(),
         columns.promised_round,
         columns.promised_owner,
         columns.vote_round,
@@ -69,32 +72,93 @@ pub(crate) fn save<S: Alter>(
     }
 }
 
-/// Reads the row of a number, blank where there is none. Version 1 has it.
-pub(crate) fn read<S: Alter>(
+/// Saves a row in layout 2: one statement.
+fn save_entry<S: Alter>(
     alloc: Global,
     conn: &mut Connection<S>,
     number: Number,
+    row: &Row,
+) -> Result<(), RowsFault>
+    requires promise { HasPromise row.now }
+    ensures serves { (origin : Origin) → Serves (Second origin) (state S.Store conn.old) → Serves (Second origin) (state S.Store conn.new) }
+    ensures saved { (origin : Origin) → Serves (Second origin) (state S.Store conn.old) → HasCleanDisk (state S.Store conn.new) → OnOk result (WasSaved (Second origin) number (columns_for (Second origin) row.now) (state S.Store conn.old) (state S.Store conn.new)) }
+    ensures err { (origin : Origin) → Serves (Second origin) (state S.Store conn.old) → HasCleanDisk (state S.Store conn.new) → IsTrue (state S.Store conn.new).is_open → OnErr result (WasKept (state S.Store conn.old) (state S.Store conn.new)) }
+    ensures crash { (origin : Origin) → Serves (Second origin) (state S.Store conn.old) → HasCleanDisk (state S.Store conn.new) → IsTrue (state S.Store conn.old).is_open
+        → (db : _) → (state S.Store conn.new).may_leave db → (db ≡ (state S.Store conn.old).now.trees) ⊎ (ComesBack (Second origin) row.now × SavesIn (Second origin) number (columns_for (Second origin) row.now) (state S.Store conn.old).now.trees db) }
+    ensures clean { doubt (state S.Store conn.old).is_clean ≤ doubt (state S.Store conn.new).is_clean }
+    ensures refusal { IfErr result IsRefusal }
+
+    // The columns are the row again.
+    ensures back { (origin : Origin) → OnOk result (ComesBack (Second origin) row.now) }
+{
+    let Ok(entry) = entry_columns_for(alloc, number, row) else {
+        return Err(RowsFault::OutOfMemory);
+    };
+    match put_entry(conn, &entry) {
+        Ok(()) => Ok(()),
+        Err(error) => Err(fault_of(&error)),
+    }
+}
+
+/// Saves a row that has a promise, and that the layout has.
+pub(crate) fn save<S: Alter>(
+    alloc: Global,
+    conn: &mut Connection<S>,
+    layout: Layout,
+    number: Number,
+    row: &Row,
+) -> Result<(), RowsFault>
+    requires promise { HasPromise row.now }
+    requires fits { RowFits (version_in (layout_of layout)) row.now }
+    ensures serves { Serves (layout_of layout) (state S.Store conn.old) → Serves (layout_of layout) (state S.Store conn.new) }
+    ensures saved { Serves (layout_of layout) (state S.Store conn.old) → HasCleanDisk (state S.Store conn.new) → OnOk result (WasSaved (layout_of layout) number (columns_for (layout_of layout) row.now) (state S.Store conn.old) (state S.Store conn.new)) }
+    ensures err { Serves (layout_of layout) (state S.Store conn.old) → HasCleanDisk (state S.Store conn.new) → IsTrue (state S.Store conn.new).is_open → OnErr result (WasKept (state S.Store conn.old) (state S.Store conn.new)) }
+    ensures crash { Serves (layout_of layout) (state S.Store conn.old) → HasCleanDisk (state S.Store conn.new) → IsTrue (state S.Store conn.old).is_open
+        → (db : _) → (state S.Store conn.new).may_leave db → (db ≡ (state S.Store conn.old).now.trees) ⊎ (ComesBack (layout_of layout) row.now × SavesIn (layout_of layout) number (columns_for (layout_of layout) row.now) (state S.Store conn.old).now.trees db) }
+    ensures clean { doubt (state S.Store conn.old).is_clean ≤ doubt (state S.Store conn.new).is_clean }
+    ensures refusal { IfErr result IsRefusal }
+
+    // The columns are the row again.
+    ensures back { OnOk result (ComesBack (layout_of layout) row.now) }
+    ensures low { 1 ≤ number }
+    ensures high { number ≤ 999999 }
+{
+    // Which numbers there are is known once it is read.
+    let _key = number.get();
+    match layout {
+        Layout::First => save_row(alloc, conn, number, row),
+        Layout::Created => save_entry(alloc, conn, number, row),
+        Layout::Upgraded => save_entry(alloc, conn, number, row),
+    }
+}
+
+/// Reads the row of a number, blank where there is none. The version of the layout has it.
+pub(crate) fn read<S: Alter>(
+    alloc: Global,
+    conn: &mut Connection<S>,
+    layout: Layout,
+    number: Number,
 ) -> Result<Row, RowsFault>
-    ensures serves { Serves (state S.Store conn.old) → Serves (state S.Store conn.new) }
-    ensures row { Serves (state S.Store conn.old) → HasCleanDisk (state S.Store conn.new) → IfOk result (λ row. row ≡ saved_in (state S.Store conn.old).now.trees number) }
-    ensures fits { IfOk result (RowFits One) }
-    ensures open { Serves (state S.Store conn.old) → HasCleanDisk (state S.Store conn.new) → OnOk result (IsTrue (state S.Store conn.new).is_open) }
-    ensures same { Serves (state S.Store conn.old) → HasCleanDisk (state S.Store conn.new) → IsTrue (state S.Store conn.new).is_open → WasKept (state S.Store conn.old) (state S.Store conn.new) }
-    ensures crash { Serves (state S.Store conn.old) → HasCleanDisk (state S.Store conn.new) → IsTrue (state S.Store conn.old).is_open
+    ensures serves { Serves (layout_of layout) (state S.Store conn.old) → Serves (layout_of layout) (state S.Store conn.new) }
+    ensures row { Serves (layout_of layout) (state S.Store conn.old) → HasCleanDisk (state S.Store conn.new) → IfOk result (λ row. row ≡ saved_in (layout_of layout) (state S.Store conn.old).now.trees number) }
+    ensures fits { IfOk result (RowFits (version_in (layout_of layout))) }
+    ensures open { Serves (layout_of layout) (state S.Store conn.old) → HasCleanDisk (state S.Store conn.new) → OnOk result (IsTrue (state S.Store conn.new).is_open) }
+    ensures same { Serves (layout_of layout) (state S.Store conn.old) → HasCleanDisk (state S.Store conn.new) → IsTrue (state S.Store conn.new).is_open → WasKept (state S.Store conn.old) (state S.Store conn.new) }
+    ensures crash { Serves (layout_of layout) (state S.Store conn.old) → HasCleanDisk (state S.Store conn.new) → IsTrue (state S.Store conn.old).is_open
         → (db : _) → (state S.Store conn.new).may_leave db → (state S.Store conn.old).may_leave db }
     ensures clean { doubt (state S.Store conn.old).is_clean ≤ doubt (state S.Store conn.new).is_clean }
 
     // Sound rows are not damaged.
-    ensures refusal { Serves (state S.Store conn.old) → HasCleanDisk (state S.Store conn.new) → (IsTrue (state S.Store conn.old).is_open → AreSound ((state S.Store conn.old).now.trees rows_tree)) → IfErr result IsRefusal }
+    ensures refusal { Serves (layout_of layout) (state S.Store conn.old) → HasCleanDisk (state S.Store conn.new) → (IsTrue (state S.Store conn.old).is_open → AreSound (layout_of layout) ((state S.Store conn.old).now.trees (layout_tree (layout_of layout)))) → IfErr result IsRefusal }
 {
-    let mut rows = match get_row(conn, number.get()) {
+    let mut rows = match find(conn, layout, number.get()) {
         Ok(rows) => rows,
         Err(error) => return Err(fault_of(&error)),
     };
     let Some(columns) = rows.pop() else {
         return Ok(Row::blank());
     };
-    match row_in(alloc, &columns, 0) {
+    match row_in(alloc, layout, &columns, 0) {
         Ok(Some(row)) => Ok(row),
         Ok(None) => Err(RowsFault::Damaged {
             number: i64::from(number.get()),
@@ -103,34 +167,36 @@ pub(crate) fn read<S: Alter>(
     }
 }
 
-/// Reads all rows, in order of their numbers. Version 1 has each.
+/// Reads all rows, in order of their numbers. The version of the layout has each.
 pub(crate) fn list<S: Alter>(
     alloc: Global,
     conn: &mut Connection<S>,
+    layout: Layout,
 ) -> Result<Vec<(Number, Row)>, RowsFault>
-    ensures serves { Serves (state S.Store conn.old) → Serves (state S.Store conn.new) }
-    ensures listed { Serves (state S.Store conn.old) → HasCleanDisk (state S.Store conn.new) → IfOk result (λ items. IsListOf (saved_in (state S.Store conn.old).now.trees) items.items) }
-    ensures fits { IfOk result (λ items. AreFitting One items.items) }
-    ensures open { Serves (state S.Store conn.old) → HasCleanDisk (state S.Store conn.new) → OnOk result (IsTrue (state S.Store conn.new).is_open) }
-    ensures same { Serves (state S.Store conn.old) → HasCleanDisk (state S.Store conn.new) → IsTrue (state S.Store conn.new).is_open → WasKept (state S.Store conn.old) (state S.Store conn.new) }
-    ensures crash { Serves (state S.Store conn.old) → HasCleanDisk (state S.Store conn.new) → IsTrue (state S.Store conn.old).is_open
+    ensures serves { Serves (layout_of layout) (state S.Store conn.old) → Serves (layout_of layout) (state S.Store conn.new) }
+    ensures listed { Serves (layout_of layout) (state S.Store conn.old) → HasCleanDisk (state S.Store conn.new) → IfOk result (λ items. IsListOf (saved_in (layout_of layout) (state S.Store conn.old).now.trees) items.items) }
+    ensures promised { IfOk result (λ items. AllByRecursion (λ p. HasPromise p.1) items.items) }
+    ensures fits { IfOk result (λ items. AreFitting (version_in (layout_of layout)) items.items) }
+    ensures open { Serves (layout_of layout) (state S.Store conn.old) → HasCleanDisk (state S.Store conn.new) → OnOk result (IsTrue (state S.Store conn.new).is_open) }
+    ensures same { Serves (layout_of layout) (state S.Store conn.old) → HasCleanDisk (state S.Store conn.new) → IsTrue (state S.Store conn.new).is_open → WasKept (state S.Store conn.old) (state S.Store conn.new) }
+    ensures crash { Serves (layout_of layout) (state S.Store conn.old) → HasCleanDisk (state S.Store conn.new) → IsTrue (state S.Store conn.old).is_open
         → (db : _) → (state S.Store conn.new).may_leave db → (state S.Store conn.old).may_leave db }
     ensures clean { doubt (state S.Store conn.old).is_clean ≤ doubt (state S.Store conn.new).is_clean }
 
     // Sound rows are not damaged.
-    ensures refusal { Serves (state S.Store conn.old) → HasCleanDisk (state S.Store conn.new) → (IsTrue (state S.Store conn.old).is_open → AreSound ((state S.Store conn.old).now.trees rows_tree)) → IfErr result IsRefusal }
+    ensures refusal { Serves (layout_of layout) (state S.Store conn.old) → HasCleanDisk (state S.Store conn.new) → (IsTrue (state S.Store conn.old).is_open → AreSound (layout_of layout) ((state S.Store conn.old).now.trees (layout_tree (layout_of layout)))) → IfErr result IsRefusal }
 {
-    let rows = match all_rows(conn) {
+    let rows = match find_all(conn, layout) {
         Ok(rows) => rows,
         Err(error) => return Err(fault_of(&error)),
     };
     if !are_rising(rows.as_slice()) {
         return Err(RowsFault::Store);
     }
-    if let Some(number) = damage_in(rows.as_slice()) {
+    if let Some(number) = damage_in(layout, rows.as_slice()) {
         return Err(RowsFault::Damaged { number });
     }
-    match items_in(alloc, rows.as_slice()) {
+    match items_in(alloc, layout, rows.as_slice()) {
         Ok(items) => Ok(items),
         Err(_) => Err(RowsFault::OutOfMemory),
     }

@@ -1,36 +1,46 @@
-//! The station in its table: whose rows a database holds.
+//! The station in its table: whose rows a database holds, and in which layout.
 
 ghost use Rattle.std.specs.Prelude.{◌≡◌};
-ghost use Rattle.acceptor_store.specs.StationRow.{identity_of, identity_in};
+ghost use Rattle.acceptor_store.specs.StationRow.{station_of, station_in};
 
 use crate::columns::{value_at, whole_in};
 use saved_rows::Identity;
 
-/// The identity that the columns of a station are; `None` where the layout is not 1 or a number is out of range.
-fn identity_of(row: &sqlite::Row) -> Option<Identity>
-    ensures { result ≡ identity_of row.now }
+/// The layout's number and the identity that the columns of a station are; `None` where the key is not 1, the layout is not 1 or 2,
+/// or a number is out of range.
+fn station_of(row: &sqlite::Row) -> Option<(u32, Identity)>
+    ensures { result ≡ station_of row.now }
 {
-    let layout = whole_in(value_at(row, 0))?;
-    let circuit = whole_in(value_at(row, 1))?;
-    let member = whole_in(value_at(row, 2))?;
-    let members = whole_in(value_at(row, 3))?;
-    if layout == 1 && circuit <= 65_535 && 1 <= member && member <= members && members <= 15 {
-        Some(Identity {
+    let key = whole_in(value_at(row, 0))?;
+    let layout = whole_in(value_at(row, 1))?;
+    let circuit = whole_in(value_at(row, 2))?;
+    let member = whole_in(value_at(row, 3))?;
+    let members = whole_in(value_at(row, 4))?;
+    if key == 1
+        && 1 <= layout
+        && layout <= 2
+        && circuit <= 65_535
+        && 1 <= member
+        && member <= members
+        && members <= 15
+    {
+        let identity = Identity {
             circuit: circuit as u16,
             member: member as u8,
             members: members as u8,
-        })
+        };
+        Some((layout, identity))
     } else {
         None
     }
 }
 
-/// The identity in the rows of the station table; `None` where there isn't one row of layout 1.
-pub(crate) fn identity_in(rows: &[sqlite::Row]) -> Option<Identity>
-    ensures { result ≡ identity_in rows.now }
+/// Those in the rows of the station table; `None` where there isn't one row of layout 1 or 2.
+pub(crate) fn station_in(rows: &[sqlite::Row]) -> Option<(u32, Identity)>
+    ensures { result ≡ station_in rows.now }
 {
     match rows {
-        [row] => identity_of(row),
+        [row] => station_of(row),
         _ => None,
     }
 }

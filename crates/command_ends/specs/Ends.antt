@@ -29,6 +29,7 @@ end_of (faults.Socket what) = ends.Socket
 end_of (faults.SendFailed member) = ends.Socket
 end_of (faults.Refused refusal) = Input
 end_of faults.Unpaired = Usage
+end_of faults.LayoutAlone = Usage
 
 -- rows that are not read or saved for want of memory end a command as any want of memory does
 abbrev pub end_of_rows : RowsFault → End

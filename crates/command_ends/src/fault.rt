@@ -78,6 +78,9 @@ pub enum Fault<'a> {
     /// A number without a tape, or a tape without a number.
     #[error("usage: --number and --tape go together")]
     Unpaired,
+    /// A layout of saved rows that are not to be made.
+    #[error("usage: --layout goes with --create")]
+    LayoutAlone,
 }
 
 /// The text that a person reads.
@@ -165,7 +168,7 @@ impl<'a> Fault<'a> {
             Fault::OutOfMemory => End::Memory,
             Fault::Rows(_) => End::Store,
             Fault::Socket(_) | Fault::SendFailed(_) => End::Socket,
-            Fault::Unpaired => End::Usage,
+            Fault::Unpaired | Fault::LayoutAlone => End::Usage,
             _ => End::Input,
         }
     }

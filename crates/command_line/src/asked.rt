@@ -28,6 +28,10 @@ pub enum Asked<'a> {
     Rows {
         path: &'a str,
     },
+    /// To take the saved rows in the file at a path over to the second layout.
+    Upgrade {
+        path: &'a str,
+    },
     /// To serve a station.
     Serve(Plan<'a>),
     /// To rehearse a circuit by a script.
@@ -45,6 +49,8 @@ pub struct Plan<'a> {
     pub turns: u32,
     /// Whether the tables of the saved rows are made.
     pub create: bool,
+    /// The layout in which they are made, by the version that it has rows of. It stands only where they are made.
+    pub layout: Option<Version>,
     /// The number for which a tape is offered, and the path of the tape: both, or neither.
     pub number: Option<u32>,
     pub tape: Option<&'a str>,

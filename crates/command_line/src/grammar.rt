@@ -88,8 +88,8 @@ Example: member 1 asks member 2 of circuit 7 to promise ballot 1.1 for number 12
   $ echo 544e0101000701020000000c0000000101 | circuitd answer 7 2
   544e0102000702010000000c000000010100";
 
-/// The versions of packets, as `--wire` names them.
-const WIRES: &[&str] = &["1", "2"];
+/// The versions of packets and the layouts of saved rows, as `--wire` and `--layout` name them.
+const VERSIONS: &[&str] = &["1", "2"];
 
 /// Adds the version that an acceptor reads and replies in.
 fn with_wire<'a>(alloc: Global, command: Command<'a>) -> Result<Command<'a>, AllocError> {
@@ -98,7 +98,7 @@ fn with_wire<'a>(alloc: Global, command: Command<'a>) -> Result<Command<'a>, All
     let wire = Arg::new(alloc, "wire")
         .long("wire")
         .value_name("V")
-        .value_parser(ValueParser::Names(WIRES))
+        .value_parser(ValueParser::Names(VERSIONS))
         .default_value("1")
         .help(help);
     command.arg(wire)
@@ -182,6 +182,22 @@ fn rows_command<'a>(alloc: Global) -> Result<Command<'a>, AllocError> {
     with_word(alloc, command, "DB", help)
 }
 
+const UPGRADE_EXAMPLE: &str = "\
+Example: a station goes over between two runs, and all that it saved stays:
+
+  $ circuitd upgrade station2.db
+  layout 2";
+
+fn upgrade_command<'a>(alloc: Global) -> Result<Command<'a>, AllocError> {
+    let command = Command::new(alloc, "upgrade")
+        .about(
+            "Takes what a station saved over to layout 2: it speaks version 2 then, and a number may be withdrawn",
+        )
+        .after_help(UPGRADE_EXAMPLE);
+    let help = "The station's database, as its configuration names it";
+    with_word(alloc, command, "DB", help)
+}
+
 const SERVE_EXAMPLE: &str = "\
 Example: the first plant of a circuit makes its row file and puts a story on the wire as number 12.
 It serves for about a minute, and prints the story when the circuit has agreed on it:
@@ -195,7 +211,7 @@ Later a plant that missed the story asks the others for it:
 
   $ circuitd serve station3.toml --turns 1200 --seek 12";
 
-/// Adds how long a station serves, and whether it starts for the first time.
+/// Adds how long a station serves, and whether it starts for the first time, in which layout.
 fn with_turns<'a>(alloc: Global, command: Command<'a>) -> Result<Command<'a>, AllocError> {
     let help =
         "How many turns to serve, 1 to 1000000: a turn takes in one datagram, or waits for 50 milliseconds";
@@ -207,7 +223,11 @@ fn with_turns<'a>(alloc: Global, command: Command<'a>) -> Result<Command<'a>, Al
         .required(true);
     let command = command.arg(turns)?;
     let help = "Make the row file: for the first start of a station, and never again";
-    with_flag(alloc, command, "create", help)
+    let command = with_flag(alloc, command, "create", help)?;
+    let help =
+        "The layout of the row file that is made, 1 where none is named: in layout 2 a number may be withdrawn; goes with --create";
+    let layout = ValueParser::Names(VERSIONS);
+    with_option(alloc, command, "layout", "L", layout, help)
 }
 
 /// Adds the story that a station offers first, the number that it withdraws, and the story that it seeks.
@@ -294,6 +314,7 @@ pub(crate) fn grammar<'a>(alloc: Global) -> Result<Command<'a>, AllocError> {
     let program = with_command(program, check_command(alloc))?;
     let program = with_command(program, draw_command(alloc))?;
     let program = with_command(program, rows_command(alloc))?;
+    let program = with_command(program, upgrade_command(alloc))?;
     let program = with_command(program, serve_command(alloc))?;
     with_command(program, rehearse_command(alloc))
 }

@@ -18,9 +18,9 @@ fn matches_of<'a>(alloc: Global, words: &'a [String]) -> Result<ArgMatches<'a>, 
     grammar(alloc)?.try_get_matches_from(words)
 }
 
-/// The version that a line names.
-fn wire_of<'a>(matches: &ArgMatches<'a>) -> Option<Version> {
-    match matches.get_str("wire") {
+/// The version whose number a line gives for an option.
+fn version_of<'a>(matches: &ArgMatches<'a>, name: &str) -> Option<Version> {
+    match matches.get_str(name) {
         Some("1") => Some(Version::One),
         Some("2") => Some(Version::Two),
         _ => None,
@@ -30,7 +30,7 @@ fn wire_of<'a>(matches: &ArgMatches<'a>) -> Option<Version> {
 fn answer_of<'a>(matches: &ArgMatches<'a>) -> Option<Asked<'a>> {
     let circuit = matches.get_one::<u16>("CIRCUIT")?;
     let me = Member::new(matches.get_one::<u8>("MEMBER")?)?;
-    let wire = wire_of(matches)?;
+    let wire = version_of(matches, "wire")?;
     Some(Asked::Answer { circuit, me, wire })
 }
 
@@ -63,11 +63,17 @@ fn rows_of<'a>(matches: &ArgMatches<'a>) -> Option<Asked<'a>> {
     Some(Asked::Rows { path })
 }
 
+fn upgrade_of<'a>(matches: &ArgMatches<'a>) -> Option<Asked<'a>> {
+    let path = matches.get_str("DB")?;
+    Some(Asked::Upgrade { path })
+}
+
 fn serve_of<'a>(matches: &ArgMatches<'a>) -> Option<Asked<'a>> {
     let plan = Plan {
         config: matches.get_str("CONFIG")?,
         turns: matches.get_one::<u32>("turns")?,
         create: matches.get_flag("create"),
+        layout: version_of(matches, "layout"),
         number: matches.get_one::<u32>("number"),
         tape: matches.get_str("tape"),
         withdraw: matches.get_one::<u32>("withdraw"),
@@ -91,6 +97,7 @@ fn asked_of<'a>(matches: &ArgMatches<'a>) -> Option<Asked<'a>> {
         Some(("check", given)) => check_of(given),
         Some(("draw", given)) => draw_of(given),
         Some(("rows", given)) => rows_of(given),
+        Some(("upgrade", given)) => upgrade_of(given),
         Some(("serve", given)) => serve_of(given),
         Some(("rehearse", given)) => rehearse_of(given),
         _ => None,

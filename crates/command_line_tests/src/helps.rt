@@ -14,6 +14,7 @@ Commands:
   check     Sets a tape by a code table and a width file, and writes its galley: one line per slug
   draw      Draws a tape as an SVG document: its holes, what each frame means, and its slugs to scale
   rows      Lists what a station saved: per number its promise, its vote and the frames of that, in hex
+  upgrade   Takes what a station saved over to layout 2: it speaks version 2 then, and a number may be withdrawn
   serve     Runs this plant's station on the wire, and prints each story that the circuit has agreed on
   rehearse  Rehearses a whole circuit by a script: who offers, what is delivered when, who starts again
   help      Print this message or the help of the given subcommand(s)
@@ -109,6 +110,23 @@ Example:
   12 1.3 1.1 010204
 ";
 
+const UPGRADE: &str = "\
+Takes what a station saved over to layout 2: it speaks version 2 then, and a number may be withdrawn
+
+Usage: circuitd upgrade <DB>
+
+Arguments:
+  <DB>  The station's database, as its configuration names it
+
+Options:
+  -h, --help  Print help
+
+Example: a station goes over between two runs, and all that it saved stays:
+
+  $ circuitd upgrade station2.db
+  layout 2
+";
+
 const SERVE: &str = "\
 Runs this plant's station on the wire, and prints each story that the circuit has agreed on
 
@@ -120,6 +138,7 @@ Arguments:
 Options:
       --turns <T>     How many turns to serve, 1 to 1000000: a turn takes in one datagram, or waits for 50 milliseconds
       --create        Make the row file: for the first start of a station, and never again
+      --layout <L>    The layout of the row file that is made, 1 where none is named: in layout 2 a number may be withdrawn; goes with --create [possible values: 1, 2]
       --number <N>    First offer a story under this number, 1 to 999999; goes with --tape
       --tape <FILE>   The tape that is offered, one frame per byte; goes with --number
       --withdraw <N>  Then withdraw this number, 1 to 999999, so that no story goes out under it; refused by rows of version 1
@@ -177,6 +196,7 @@ const HELPS: &[(&str, &str)] = &[
     ("circuitd draw --help", DRAW),
     ("circuitd help rows", ROWS),
     ("circuitd rows --help", ROWS),
+    ("circuitd upgrade --help", UPGRADE),
     ("circuitd serve --help", SERVE),
     ("circuitd rehearse --help", REHEARSE),
 ];

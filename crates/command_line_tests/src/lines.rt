@@ -9,14 +9,15 @@ const ONE_TURN: Plan<'static> = Plan {
     config: "station.toml",
     turns: 1,
     create: false,
+    layout: None,
     number: None,
     tape: None,
     withdraw: None,
     seek: None,
 };
 
-/// The least and the greatest number of turns, and a line with every option. A number is any that fits: the station
-/// refuses one that is out of range.
+/// The least and the greatest number of turns, a line with every option, and one with a layout alone. A number is any
+/// that fits: the station refuses one that is out of range.
 const PLANS: &[(&str, Plan<'static>)] = &[
     ("circuitd serve station.toml --turns 1", ONE_TURN),
     (
@@ -27,14 +28,22 @@ const PLANS: &[(&str, Plan<'static>)] = &[
         },
     ),
     (
-        "circuitd serve station.toml --create --tape story.tape --turns 9 --seek 4294967295 --number 0 --withdraw 13",
+        "circuitd serve station.toml --create --layout 2 --tape story.tape --turns 9 --seek 4294967295 --number 0 --withdraw 13",
         Plan {
             turns: 9,
             create: true,
+            layout: Some(Version::Two),
             number: Some(0),
             tape: Some("story.tape"),
             withdraw: Some(13),
             seek: Some(4_294_967_295),
+            ..ONE_TURN
+        },
+    ),
+    (
+        "circuitd serve --layout=1 --turns 1 station.toml",
+        Plan {
+            layout: Some(Version::One),
             ..ONE_TURN
         },
     ),
@@ -47,8 +56,9 @@ fn is_same(plan: &Plan<'_>, wanted: &Plan<'_>) -> bool {
     let tape = plan.tape == wanted.tape;
     let withdraw = plan.withdraw == wanted.withdraw;
     let seek = plan.seek == wanted.seek;
-    let runs = plan.turns == wanted.turns && plan.create == wanted.create;
-    config && runs && number && tape && withdraw && seek
+    let runs = plan.turns == wanted.turns;
+    let makes = plan.create == wanted.create && plan.layout == wanted.layout;
+    config && runs && makes && number && tape && withdraw && seek
 }
 
 /// Whether a line asks to serve by this plan.

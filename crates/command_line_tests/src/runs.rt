@@ -9,17 +9,18 @@ use row_files::RowFiles;
 use saved_rows::{Identity, MemoryRows, RowsFault};
 use std::fs;
 use std::io::Write;
+use tape_frames::Version;
 
 const FOLDER: &str = "circuitd_words";
 
-/// Files of rows that none can be made in or taken up from; where they are listed, their path stands for them.
+/// Files of rows that none can be made in or taken up from; where they are listed or go over, their path stands for them.
 struct NoRows;
 
 impl RowFiles for NoRows {
     type Rows = MemoryRows;
 
     // None are made or taken up.
-    ghost makes = { λ _ _ _ _. Unit {0} };
+    ghost makes = { λ _ _ _ _ _. Unit {0} };
 
     ghost takes_up = { λ _ _ _ _. Unit {0} };
 
@@ -28,9 +29,11 @@ impl RowFiles for NoRows {
         _rt: &HostRuntime,
         path: &str,
         _identity: Identity,
+        version: Version,
     ) -> Result<MemoryRows, RowsFault> {
-        match path {
-            "made.db" => Err(RowsFault::WrongSchema),
+        match (path, version) {
+            ("made.db", Version::One) => Err(RowsFault::WrongSchema),
+            ("made.db", Version::Two) => Err(RowsFault::Damaged { number: 2 }),
             _ => Err(RowsFault::Store),
         }
     }
@@ -56,6 +59,18 @@ impl RowFiles for NoRows {
     ) -> End {
         let _ = writeln!(out, "rows of {path}");
         let _ = writeln!(err, "listed");
+        End::Store
+    }
+
+    fn upgrade<W: Write, E: Write>(
+        &self,
+        _rt: &HostRuntime,
+        path: &str,
+        out: &mut W,
+        err: &mut E,
+    ) -> End {
+        let _ = writeln!(out, "over {path}");
+        let _ = writeln!(err, "upgraded");
         End::Store
     }
 }
@@ -178,6 +193,31 @@ const RUNS: &[Run] = &[
         end: End::Store,
         out: "rows of station1.db\n",
         err: "listed\n",
+        ..SILENT
+    },
+    Run {
+        line: "circuitd upgrade station1.db",
+        end: End::Store,
+        out: "over station1.db\n",
+        err: "upgraded\n",
+        ..SILENT
+    },
+    Run {
+        line: "circuitd serve circuitd_words/station.toml --turns 1 --create --layout 1",
+        end: End::Store,
+        err: "store: wrong schema\n",
+        ..SILENT
+    },
+    Run {
+        line: "circuitd serve circuitd_words/station.toml --turns 1 --create --layout 2",
+        end: End::Store,
+        err: "store: damaged 2\n",
+        ..SILENT
+    },
+    Run {
+        line: "circuitd serve circuitd_words/none.toml --turns 1 --layout 2",
+        end: End::Usage,
+        err: "usage: --layout goes with --create\n",
         ..SILENT
     },
     Run {

@@ -8,7 +8,7 @@ use command_line::parse;
 const USAGES: &[(&str, &str, &str)] = &[
     (
         "circuitd",
-        "'circuitd' requires a subcommand but one was not provided\n  [subcommands: answer, check, draw, rows, serve, rehearse, help]",
+        "'circuitd' requires a subcommand but one was not provided\n  [subcommands: answer, check, draw, rows, upgrade, serve, rehearse, help]",
         "<COMMAND>",
     ),
     (
@@ -87,6 +87,16 @@ const USAGES: &[(&str, &str, &str)] = &[
         "rows <DB>",
     ),
     (
+        "circuitd upgrade",
+        "the following required arguments were not provided:\n  <DB>",
+        "upgrade <DB>",
+    ),
+    (
+        "circuitd upgrade one.db two.db",
+        "unexpected argument 'two.db' found",
+        "upgrade <DB>",
+    ),
+    (
         "circuitd rehearse codes.toml widths.toml",
         "the following required arguments were not provided:\n  <SCRIPT>",
         "rehearse <TABLE> <WIDTHS> <SCRIPT>",
@@ -152,8 +162,23 @@ const USAGES: &[(&str, &str, &str)] = &[
         "",
     ),
     (
-        "circuitd serve station.toml --turns 1 --loud",
-        "unexpected argument '--loud' found\n\n  tip: to pass '--loud' as a value, use '-- --loud'",
+        "circuitd serve station.toml --turns 1 --create --layout 3",
+        "invalid value '3' for '--layout <L>'\n  [possible values: 1, 2]",
+        "",
+    ),
+    (
+        "circuitd serve station.toml --turns 1 --create --layout 02",
+        "invalid value '02' for '--layout <L>'\n  [possible values: 1, 2]",
+        "",
+    ),
+    (
+        "circuitd serve station.toml --turns 1 --create --layout",
+        "a value is required for '--layout <L>' but none was supplied\n  [possible values: 1, 2]",
+        "",
+    ),
+    (
+        "circuitd serve station.toml --turns 1 --now",
+        "unexpected argument '--now' found\n\n  tip: to pass '--now' as a value, use '-- --now'",
         "serve --turns <T> <CONFIG>",
     ),
 ];

@@ -1,13 +1,13 @@
 //! Each command, run over the files that its words name.
 
-ghost use Rattle.std.specs.Prelude.{◌≡◌, ℕ, IfSome};
+ghost use Rattle.std.specs.Prelude.{◌≡◌, ℕ, IfSome, codes};
 ghost use Rattle.std.specs.Io.KnownBytes.{Appends};
 ghost use Rattle.streams.specs.Fronts.{AppendsFront};
 ghost use Rattle.tape_frames.specs.Entries.{version_of};
 ghost use Rattle.tape_frames.specs.declared.version.Version.{Version as VersionValue};
 ghost use Rattle.answer_command.specs.AnswerText.{answer_text};
 ghost use Rattle.command_ends.specs.declared.end.End.TheVariants.{Done};
-ghost use Rattle.command_line.specs.declared.asked.Asked.TheVariants.{Answer};
+ghost use Rattle.command_line.specs.declared.asked.Asked.TheVariants.{Answer, Upgrade};
 
 use answer_command::answer;
 use check_command::check;
@@ -100,6 +100,7 @@ pub fn run_command<F: RowFiles, R: Read, W: Write, E: Write>(
 ) -> End
     ensures answered { (circuit : ℕ) → (me : ℕ) → (wire : VersionValue) → asked.now ≡ Answer circuit me wire → result ≡ Done → IfSome (R.remaining input.old) (λ xs. Appends (W.contents out.old) (W.contents out.new) (answer_text circuit me (version_of wire) xs)) }
     ensures front { (circuit : ℕ) → (me : ℕ) → (wire : VersionValue) → asked.now ≡ Answer circuit me wire → IfSome (R.remaining input.old) (λ xs. AppendsFront (W.contents out.old) (W.contents out.new) (answer_text circuit me (version_of wire) xs)) }
+    ensures over { (path : _) → asked.now ≡ Upgrade path → result ≡ Done → Appends (W.contents out.old) (W.contents out.new) (codes "layout 2\n") }
 {
     match asked {
         Asked::Answer { circuit, me, wire } => {
@@ -108,6 +109,7 @@ pub fn run_command<F: RowFiles, R: Read, W: Write, E: Write>(
         Asked::Check { paths, listing } => run_check(rt, paths, *listing, out, err),
         Asked::Draw { paths, page } => run_draw(rt, paths, *page, out, err),
         Asked::Rows { path } => row_files.list(rt, *path, out, err),
+        Asked::Upgrade { path } => row_files.upgrade(rt, *path, out, err),
         Asked::Serve(plan) => serve(rt, plan, row_files, out, err),
         Asked::Rehearse { paths } => run_rehearse(rt, paths, out, err),
     }

@@ -5,24 +5,26 @@ use Rattle.std.proofs.lemmas.List.{map-append}
 use Rattle.sqlite_trees.specs.declared.memory.MemStore.{MemStore}
 use Rattle.sqlite_trees.specs.View.{doubt}
 use Rattle.sqlite.specs.Steps.{over_memory}
-use Rattle.protocol.specs.Versions.{One}
-use Rattle.acceptor_store.specs.Sqlite.{SqliteOf, IsKept, IsOpen, IsHonest, IsOurs, saved_of, Blames}
+use Rattle.protocol.specs.Versions.{Version}
+use Rattle.acceptor_store.specs.Sqlite.{SqliteOf, IsKept, IsOpen, IsHonest, IsOurs, rows_version, saved_of, Blames}
 use Rattle.saved_rows.specs.declared.rows.Rows.{Ghosts}
-use Rattle.world.specs.Founding.{Part, Given, given_of, AreBlank, IsNewlyMade, AreNewlyMade}
+use Rattle.world.specs.Founding.{Part, Given, given_of, AreAt, AreBlank, IsNewlyMade, AreNewlyMade}
 
 -- what is said of rows, of those in a database in memory
 abbrev pub in_memory : Ghosts (SqliteOf MemStore)
 in_memory = record {
-  made = λ s. IsOurs s.alone s.found;
+  made = λ s. IsOurs s.alone s.was s.found;
   honest = IsHonest over_memory;
   kept = IsKept over_memory;
   is_open = IsOpen over_memory;
   saved = saved_of over_memory;
-  version = λ _. One;
+  version = rows_version;
   refusals = λ s. s.refusals;
   alike = λ _ _. Unit {0};
   passes = λ _ _. Unit {0};
   tells = λ _ _ _ _. Unit {0};
+  upgrades = λ _ _. Unit {0};
+  balks = λ _ _. Unit {0};
   blames = Blames over_memory;
 }
 
@@ -57,6 +59,16 @@ pub newly_more : {R : Type 0} (g : Ghosts R) (parts : List (Part R)) (part : Par
 newly_more {R = R} g parts part all new i q at_i = elim (grown parts part i q at_i) [
   | inl before ↦ all i q before
   | inr now ↦ subst (λ (p : Part R). IsNewlyMade g p.2) now new
+]
+
+-- all so far are at this version
+pub at_none : {R : Type 0} (version : R → Version) (v : Version) → AreAt version (λ m. v) []
+at_none version v i q at_i = absurd (no_item at_i)
+
+pub at_more : {R : Type 0} (version : R → Version) (v : Version) (parts : List (Part R)) (part : Part R) → AreAt version (λ m. v) parts → version part.2 ≡ v → AreAt version (λ m. v) (parts ++ part ∷ [])
+at_more {R = R} version v parts part all new i q at_i = elim (grown parts part i q at_i) [
+  | inl before ↦ all i q before
+  | inr now ↦ subst (λ (p : Part R). version p.2 ≡ v) now new
 ]
 
 -- one member more of those that were given

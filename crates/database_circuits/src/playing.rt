@@ -1,8 +1,8 @@
 //! A circuit over databases that is played from its beginning.
 
 ghost use Rattle.std.specs.Prelude.{◌≡◌, ◌≤◌, IfOk, IfErr, length, map};
-ghost use Rattle.protocol.specs.Versions.{One};
-ghost use Rattle.world.specs.Founding.{AreNewlyMade, given_of};
+ghost use Rattle.tape_frames.specs.Entries.{version_of};
+ghost use Rattle.world.specs.Founding.{AreAt, AreNewlyMade, given_of};
 ghost use Rattle.world.specs.Playing.{IsUnplayed, Plays};
 ghost use Rattle.world.specs.Reach.{Agreed};
 ghost use Rattle.world.specs.Taking.{StopsAt};
@@ -12,19 +12,22 @@ use code_table::CodeTable;
 use saved_rows::{Identity, Rows};
 use sqlite::{Connection, MemStore};
 use std::alloc::{AllocError, Global};
+use tape_frames::Version;
 use widths::Widths;
 use world::{PlayFault, Played, Step, play};
 
-/// These members, each with rows in a database of its own, which lies in memory.
+/// These members, each with rows at this version in a database of its own, which lies in memory.
 fn with_databases(
     alloc: Global,
     circuit: u16,
     count: u8,
+    version: Version,
     members: Vec<(CodeTable, Widths)>,
 ) -> Result<Vec<(CodeTable, Widths, SqliteRows<MemStore>)>, AllocError>
     requires many { length members.items ≤ count }
     requires few { count ≤ 15 }
     ensures new { IfOk result (λ v. AreNewlyMade ⟦<SqliteRows<MemStore> as Rows>⟧ v.items) }
+    ensures at { IfOk result (λ v. AreAt ⟦<SqliteRows<MemStore> as Rows>⟧.version (λ _. version_of version) v.items) }
     ensures given { IfOk result (λ v. map given_of v.items ≡ members.items) }
 {
     let mut parts = Vec::with_capacity(alloc, members.len())?;
@@ -37,7 +40,7 @@ fn with_databases(
             members: count,
         };
         let conn = Connection::open_in_memory(alloc)?;
-        match SqliteRows::create(alloc, conn, identity) {
+        match SqliteRows::create(alloc, conn, identity, version) {
             Ok(rows) => parts.push((table, widths, rows))?,
             Err(_) => return Err(AllocError),
         }
@@ -45,8 +48,9 @@ fn with_databases(
     Ok(parts)
 }
 
-/// Plays a circuit from its beginning, its members over databases that are made for them in memory: takes the steps in
-/// order, up to the first that is refused. The members are at version 1, as their rows are.
+/// Plays a circuit from its beginning, its members over databases that are made for them in memory, at this version: takes
+/// the steps in order, up to the first that is refused. A member that a step takes over goes on in the second layout of its
+/// database.
 ///
 /// Whatever the steps are, the releases agree, as [`world::play_in_memory`] says.
 ///
@@ -55,11 +59,12 @@ fn with_databases(
 pub fn play_in_databases(
     alloc: Global,
     circuit: u16,
+    version: Version,
     members: Vec<(CodeTable, Widths)>,
     steps: &[Step],
 ) -> Result<Played<SqliteRows<MemStore>>, PlayFault>
     ensures unplayed { IfErr result (IsUnplayed (length members.items)) }
-    ensures plays { IfOk result (λ p. Plays ⟦<SqliteRows<MemStore> as Rows>⟧ circuit members.items (λ _. One) steps.now p.world p.run) }
+    ensures plays { IfOk result (λ p. Plays ⟦<SqliteRows<MemStore> as Rows>⟧ circuit members.items (λ _. version_of version) steps.now p.world p.run) }
     ensures stops { IfOk result (λ p. IfErr p.run (StopsAt steps.now p.world)) }
     ensures agreed { IfOk result (λ p. Agreed p.world) }
 {
@@ -67,7 +72,7 @@ pub fn play_in_databases(
         Ok(count) if 1 <= count && count <= 15 => count,
         _ => return Err(PlayFault::BadCount),
     };
-    let Ok(members) = with_databases(alloc, circuit, count, members) else {
+    let Ok(members) = with_databases(alloc, circuit, count, version, members) else {
         return Err(PlayFault::OutOfMemory);
     };
     match play(alloc, circuit, members, steps) {

@@ -69,4 +69,8 @@ impl Rows for FileRows {
     fn put(&mut self, number: Number, row: &Row) -> Result<(), RowsFault> {
         self.rows.put(number, row)
     }
+
+    fn upgrade(&mut self) -> Result<(), RowsFault> {
+        self.rows.upgrade()
+    }
 }

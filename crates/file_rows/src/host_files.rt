@@ -2,17 +2,19 @@
 
 ghost use Rattle.std.specs.Prelude.{◌≡◌};
 ghost use Rattle.saved_rows.specs.Identity.{IsIdentity};
-ghost use Rattle.acceptor_store.specs.Sqlite.{Agrees};
+ghost use Rattle.tape_frames.specs.Entries.{version_of};
+ghost use Rattle.acceptor_store.specs.Sqlite.{Agrees, rows_version};
 
 use crate::file_rows::FileRows;
 use acceptor_store::SqliteRows;
 use command_ends::{End, Fault};
 use row_files::RowFiles;
-use rows_command::print_rows;
+use rows_command::{print_rows, upgrade_rows};
 use saved_rows::{Identity, RowsFault};
 use sqlite::{Connection, Error, ErrorCode, Wary};
 use std::fs;
 use std::io::Write;
+use tape_frames::Version;
 
 /// The files of the host.
 #[derive(Clone, Copy)]
@@ -21,7 +23,7 @@ pub struct HostFiles;
 impl RowFiles for HostFiles {
     type Rows = FileRows;
 
-    ghost makes = { λ _ _ i rows. rows.rows.identity ≡ i };
+    ghost makes = { λ _ _ i version rows. (rows.rows.identity ≡ i) × (rows_version rows.rows ≡ version_of version) };
 
     ghost takes_up = { λ _ _ given rows. Agrees given rows.rows.identity };
 
@@ -30,6 +32,7 @@ impl RowFiles for HostFiles {
         rt: &HostRuntime,
         path: &str,
         identity: Identity,
+        version: Version,
     ) -> Result<FileRows, RowsFault> {
         let conn = match Connection::open_from(rt, path, false, Wary) {
             Ok(conn) => conn,
@@ -38,7 +41,7 @@ impl RowFiles for HostFiles {
             }
             Err(_) => return Err(RowsFault::Store),
         };
-        match SqliteRows::create(rt.alloc(), conn, identity) {
+        match SqliteRows::create(rt.alloc(), conn, identity, version) {
             Ok(rows) => Ok(FileRows::new(rows)),
             Err((fault, _)) => Err(fault),
         }
@@ -69,6 +72,19 @@ impl RowFiles for HostFiles {
     ) -> End {
         match self.open(rt, path, None) {
             Ok(mut rows) => print_rows(rt.alloc(), rows.database(), out, err),
+            Err(fault) => Fault::of_rows(fault).tell(err),
+        }
+    }
+
+    fn upgrade<W: Write, E: Write>(
+        &self,
+        rt: &HostRuntime,
+        path: &str,
+        out: &mut W,
+        err: &mut E,
+    ) -> End {
+        match self.open(rt, path, None) {
+            Ok(mut rows) => upgrade_rows(rows.database(), out, err),
             Err(fault) => Fault::of_rows(fault).tell(err),
         }
     }

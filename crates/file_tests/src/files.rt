@@ -7,6 +7,7 @@ use ballots::{Ballot, Member, Number, Row};
 use file_rows::{HostFiles, RowFiles};
 use saved_rows::{Identity, Rows, RowsFault};
 use std::fs;
+use tape_frames::Version;
 
 /// Member 2 of 3 of circuit 7.
 const STATION: Identity = Identity {
@@ -67,7 +68,7 @@ fn refusal_of<F: RowFiles>(
 
 /// Whether the file is made, takes the promise, and is refused to another while it is open.
 fn is_made<F: RowFiles>(rt: &HostRuntime, files: &F) -> bool {
-    match files.create(rt, PATH, STATION) {
+    match files.create(rt, PATH, STATION, Version::One) {
         Ok(mut rows) => {
             saves(&mut rows) && refusal_of(rt, files, None) == Some(RowsFault::Store)
         }

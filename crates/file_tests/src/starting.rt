@@ -8,6 +8,7 @@ use fixtures::{CODES, FLOOD, WIDTHS};
 use station_start::serve;
 use std::alloc::Global;
 use std::fs;
+use tape_frames::Version;
 use wire::{Address, UdpWire};
 
 /// The folder of these tests, and what stands in it.
@@ -42,6 +43,8 @@ enum Change {
     Tape(&'static [u8]),
     /// The row file is taken away.
     NoRows,
+    /// It goes over to the second layout.
+    Over,
 }
 
 /// What is found of the row file after a start.
@@ -60,6 +63,7 @@ enum Left {
 struct Start {
     changes: &'static [Change],
     create: bool,
+    layout: Option<Version>,
     offers: bool,
     withdraw: Option<u32>,
     end: End,
@@ -72,6 +76,7 @@ struct Start {
 const FIRST: Start = Start {
     changes: &[],
     create: true,
+    layout: None,
     offers: true,
     withdraw: None,
     end: End::Input,
@@ -94,6 +99,7 @@ fn goes(rt: &HostRuntime, start: &Start) -> bool {
         config: CONFIG,
         turns: 1,
         create: start.create,
+        layout: start.layout,
         number: if start.offers { Some(12) } else { None },
         tape: if start.offers { Some(STORY) } else { None },
         withdraw: start.withdraw,
@@ -111,6 +117,14 @@ fn config_text(alloc: Global, circuit: u16, port: u16) -> Option<String> {
     .ok()
 }
 
+/// Whether an upgrade of the row file ends so, and prints this text and this fault.
+fn goes_over(rt: &HostRuntime, end: End, text: &str, fault: &str) -> bool {
+    let mut out = Vec::new(rt.alloc());
+    let mut err = Vec::new(rt.alloc());
+    let ended = HostFiles.upgrade(rt, ROWS, &mut out, &mut err);
+    ended == end && out.as_slice() == text.as_bytes() && err.as_slice() == fault.as_bytes()
+}
+
 /// Whether a change of the folder is made.
 fn is_made(rt: &HostRuntime, port: u16, change: &Change) -> bool {
     match change {
@@ -121,6 +135,7 @@ fn is_made(rt: &HostRuntime, port: u16, change: &Change) -> bool {
         Change::File(path, text) => fs::write(rt, *path, text.as_bytes()).is_ok(),
         Change::Tape(frames) => fs::write(rt, STORY, *frames).is_ok(),
         Change::NoRows => fs::remove_file(rt, ROWS).is_ok(),
+        Change::Over => goes_over(rt, End::Done, "layout 2\n", ""),
     }
 }
 
@@ -242,6 +257,91 @@ const OWNED: &[Start] = &[
     },
 ];
 
+/// The text of a withdrawal of number 13 with the story's release behind it, and what is saved then.
+const WITHDRAWN: &str = "release 13 void\nrelease 12 01020301030204\n0001 J 0 0 a b _4 a _4 b\n";
+
+const VOID_ROWS: &str = "station 1 of 1 circuit 7\n12 2.1 2.1 01020301030204\n13 1.1 1.1 void\n";
+
+/// Going over, between two runs: the rows stay, and a number is withdrawn then.
+const OVER: &[Start] = &[
+    Start {
+        changes: &[
+            Change::Circuit(7),
+            Change::File(TABLE, CODES),
+            Change::File(WIDTH_FILE, WIDTHS),
+            Change::Tape(FLOOD),
+        ],
+        layout: Some(Version::One),
+        end: End::Done,
+        text: RELEASE,
+        left: Left::Rows(FIRST_ROWS),
+        ..FIRST
+    },
+    // A layout is that of rows that are made.
+    Start {
+        changes: &[Change::Over],
+        create: false,
+        layout: Some(Version::Two),
+        end: End::Usage,
+        fault: "usage: --layout goes with --create\n",
+        left: Left::Rows(FIRST_ROWS),
+        ..FIRST
+    },
+    // A second time nothing changes.
+    Start {
+        changes: &[Change::Over],
+        create: false,
+        offers: false,
+        withdraw: Some(13),
+        end: End::Done,
+        text: WITHDRAWN,
+        left: Left::Rows(VOID_ROWS),
+        ..FIRST
+    },
+    // Rows that went over are there.
+    Start {
+        layout: Some(Version::Two),
+        end: End::Store,
+        fault: "store: refused\n",
+        left: Left::Rows(VOID_ROWS),
+        ..FIRST
+    },
+];
+
+/// A station whose rows are made in the second layout.
+const SECOND: &[Start] = &[
+    Start {
+        changes: &[
+            Change::Circuit(7),
+            Change::File(TABLE, CODES),
+            Change::File(WIDTH_FILE, WIDTHS),
+            Change::Tape(FLOOD),
+        ],
+        layout: Some(Version::Two),
+        end: End::Done,
+        text: RELEASE,
+        left: Left::Rows(FIRST_ROWS),
+        ..FIRST
+    },
+    Start {
+        create: false,
+        offers: false,
+        withdraw: Some(13),
+        end: End::Done,
+        text: WITHDRAWN,
+        left: Left::Rows(VOID_ROWS),
+        ..FIRST
+    },
+    // Rows that are in it already go over as they are.
+    Start {
+        changes: &[Change::Over],
+        end: End::Store,
+        fault: "store: refused\n",
+        left: Left::Rows(VOID_ROWS),
+        ..FIRST
+    },
+];
+
 /// Each start stumbles over the next file, and none over the row file, in whose place a text stands.
 const ORDER: &[Start] = &[
     Start {
@@ -310,6 +410,16 @@ fn are_owned(rt: &HostRuntime, port: u16) -> bool {
     make_folder(rt) && gone(rt, port, OWNED) == OWNED.len()
 }
 
+/// Whether the starts over rows that go over, and over those that are made in the second layout, go as they have to, each
+/// in a new folder.
+fn are_over(rt: &HostRuntime, port: u16) -> bool {
+    make_folder(rt)
+        && goes_over(rt, End::Store, "", "store: refused\n")
+        && gone(rt, port, OVER) == OVER.len()
+        && make_folder(rt)
+        && gone(rt, port, SECOND) == SECOND.len()
+}
+
 /// Whether the faults of the files come in their order, in a new folder.
 fn are_in_order(rt: &HostRuntime, port: u16) -> bool {
     make_folder(rt) && gone(rt, port, ORDER) == ORDER.len()
@@ -324,6 +434,7 @@ fn are_held(rt: &HostRuntime) -> bool {
 fn from_files(rt: HostRuntime) {
     let port = free_port(&rt).unwrap_or(0);
     assert!(rt; are_owned(&rt, port));
+    assert!(rt; are_over(&rt, port));
     assert!(rt; are_in_order(&rt, port));
     assert!(rt; are_held(&rt));
     assert!(rt; fs::remove_dir_all(&rt, FOLDER).is_ok());
@@ -339,6 +450,7 @@ fn a_number_goes_with_a_tape(rt: HostRuntime) {
             config: "",
             turns: 1,
             create: false,
+            layout: None,
             number: *number,
             tape: *tape,
             withdraw: None,

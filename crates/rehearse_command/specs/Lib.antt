@@ -1,4 +1,5 @@
 pub mod Lines
+pub mod Orders
 pub mod Rehearsals
 pub mod Scenes
 pub mod Words

@@ -100,5 +100,6 @@ abbrev pub outcome_text : Outcome → List ℕ
 outcome_text (outcomes.Done note) = note_text note
 outcome_text (outcomes.Refused refusal) = refused_text refusal
 outcome_text outcomes.Restarted = codes "restarted"
+outcome_text outcomes.Upgraded = codes "upgraded"
 outcome_text (outcomes.Armed true) = codes "armed saved"
 outcome_text (outcomes.Armed false) = codes "armed unsaved"

@@ -40,6 +40,7 @@ impl fmt::Display for OutcomeText {
             Outcome::Done(note) => write!(f, "{}", NoteText(note)),
             Outcome::Refused(refusal) => write!(f, "{}", RefusedText(refusal)),
             Outcome::Restarted => f.write_str("restarted"),
+            Outcome::Upgraded => f.write_str("upgraded"),
             Outcome::Armed { saved: true } => f.write_str("armed saved"),
             Outcome::Armed { saved: false } => f.write_str("armed unsaved"),
         }

@@ -7,6 +7,7 @@ ghost use Rattle.streams.specs.Fronts.{AppendsFront};
 ghost use Rattle.command_ends.specs.declared.end.End.TheVariants.{Done};
 ghost use Rattle.protocol.specs.Versions.{One};
 ghost use Rattle.tape_frames.specs.Entries.{version_of};
+ghost use Rattle.rehearse_command.specs.Orders.{step_of};
 ghost use Rattle.rehearse_command.specs.Rehearsals.{BeginsIn, Inputs, IsOn, IsSetUpBy, IsStaged, inputs, Rehearses, Stands, StandsFront};
 
 use crate::script::{LineFault, Order, is_ignored, order_of};
@@ -86,7 +87,9 @@ fn stage_of<'a>(
 }
 
 /// The step that a line orders at a moment; `None` where it orders none.
-fn step_of(order: Order, now: u64) -> Option<Step> {
+fn step_of(order: Order, now: u64) -> Option<Step>
+    ensures { result ≡ step_of order now }
+{
     match order {
         Order::Members(_) => None,
         Order::Wire(_) => None,
@@ -114,6 +117,7 @@ fn step_of(order: Order, now: u64) -> Option<Step> {
         Order::Due { member } => Some(Step::Due { member, now }),
         Order::Deliver { k } => Some(Step::Deliver { k: k as usize, now }),
         Order::Restart { member } => Some(Step::Restart { member }),
+        Order::Upgrade { member } => Some(Step::Upgrade { member }),
         Order::Balk { member, saved } => Some(Step::Balk { member, saved }),
     }
 }

@@ -1,7 +1,9 @@
 //! The lines of a rehearsal script.
 
 ghost use Rattle.std.specs.Prelude.{◌≡◌, IfOk, OnErr, codes};
+ghost use Rattle.rehearse_command.specs.Orders.{written};
 ghost use Rattle.rehearse_command.specs.Words.{version_word};
+ghost use Rattle.rehearse_command.specs.declared.script.Order.TheVariants.{Upgrade};
 
 use hex::FromHexError;
 use std::alloc::{AllocError, Global};
@@ -24,6 +26,8 @@ pub enum Order {
     /// The k-th datagram ever sent, from 1, goes to its addressee.
     Deliver { k: u32 },
     Restart { member: u8 },
+    /// The member goes over to version 2.
+    Upgrade { member: u8 },
     Balk { member: u8, saved: bool },
 }
 
@@ -54,14 +58,18 @@ fn is_decimal(word: &str) -> bool {
 }
 
 /// A number in decimal digits, leading zeros included, that fits.
-fn number(word: &str) -> Result<u64, LineFault> {
+fn number(word: &str) -> Result<u64, LineFault>
+    ensures { IfOk result (λ n. n ≡ written word.now) }
+{
     if !is_decimal(word) {
         return Err(LineFault::BadLine);
     }
     word.parse::<u64>().map_err(|_| LineFault::BadLine)
 }
 
-fn member(word: &str) -> Result<u8, LineFault> {
+fn member(word: &str) -> Result<u8, LineFault>
+    ensures { IfOk result (λ m. m ≡ written word.now) }
+{
     u8::try_from(number(word)?).map_err(|_| LineFault::BadLine)
 }
 
@@ -113,7 +121,9 @@ fn version(word: &str) -> Result<Version, LineFault>
 }
 
 /// What a name with one word behind it asks for.
-fn order_of_one(name: &str, word: &str) -> Result<Order, LineFault> {
+fn order_of_one(name: &str, word: &str) -> Result<Order, LineFault>
+    ensures upgrade { name.now ≡ codes "upgrade" → IfOk result (λ order. order ≡ Upgrade (written word.now)) }
+{
     match name {
         "members" => Ok(Order::Members(members(word)?)),
         "wire" => Ok(Order::Wire(version(word)?)),
@@ -123,6 +133,9 @@ fn order_of_one(name: &str, word: &str) -> Result<Order, LineFault> {
         }),
         "deliver" => Ok(Order::Deliver { k: small(word)? }),
         "restart" => Ok(Order::Restart {
+            member: member(word)?,
+        }),
+        "upgrade" => Ok(Order::Upgrade {
             member: member(word)?,
         }),
         _ => Err(LineFault::BadLine),

@@ -1,5 +1,5 @@
 -- What the query of all rows answers.
-use Rattle.std.proofs.Common.{Result, Ok, Err, IfOk, OnOk, ◌≡◌, List, [], ◌∷◌, map, refl, ap, subst, ◌∙◌}
+use Rattle.std.proofs.Common.{Result, Ok, Err, IfOk, OnOk, ◌≡◌, ℕ, List, [], ◌∷◌, map, refl, ap, subst, ◌∙◌}
 use Rattle.std.specs.Prelude.{flat_map, IsSorted}
 use Rattle.std.specs.List.Sorted.{IsPermutation}
 use Rattle.sqlite_value.specs.Order.{Row, column, value_cmp}
@@ -11,28 +11,42 @@ use Rattle.sqlite.specs.Command.TheVariants.{Select}
 use Rattle.sqlite.specs.Query.{Output, output, output_cmp}
 use Rattle.sqlite.specs.State.{State, Shown}
 use Rattle.sqlite.proofs.Callers.{reads_as}
-use Rattle.row_table.specs.Tables.{rows_tree, row_schema}
-use Rattle.row_table.specs.Rows.{listed_row, IsListing}
-use Rattle.row_table.proofs.TextLemmas.{all_text, all_is, all_plain, in_order, all_names}
+use Rattle.sqlite.specs.Program.{overlay}
+use Rattle.sqlite_trees.specs.Tree.{Trees}
+use Rattle.row_table.specs.Tables.{Layout, layout_tree, layout_schema}
+use Rattle.row_table.specs.Tables.Layout.{First, Second}
+use Rattle.row_table.specs.Rows.{with_key, IsListing}
+use Rattle.row_table.proofs.ReadTexts.{all_text, all_is, in_order, all_names}
+use Rattle.row_table.proofs.QueryLemmas.{overlay_is}
 
 pub as_map : (rows : List Row) → flat_map (λ r. ([] ∷ r ∷ []) ∷ []) rows ≡ map (λ r. [] ∷ r ∷ []) rows
 as_map [] = refl
 as_map (r ∷ rs) = ap (λ l. ([] ∷ r ∷ []) ∷ l) (as_map rs)
 
-one : Row → Output
-one r = (column r 0 ∷ [], listed_row r)
+-- so the rows are read of a tree
+read_of : (db : Trees) (tree : ℕ) → flat_map (λ r. ([] ∷ r ∷ []) ∷ []) (overlay db [] tree) ≡ map (λ r. [] ∷ r ∷ []) (db tree)
+read_of db tree = ap (flat_map (λ r. ([] ∷ r ∷ []) ∷ [])) (overlay_is db tree) ∙ as_map (db tree)
 
-by_key_alone : ◌≡◌ {A = Output → Output → Ordering} (output_cmp in_order) (λ x y. value_cmp (column x.0 0) (column y.0 0))
-by_key_alone = λ i x y. then-Equal (value_cmp (column x.0 0) (column y.0 0)) i
+-- what the query shows of a row
+listed_is : (layout : Layout) (r : Row) → output (in_order layout) ([] ∷ r ∷ []) ≡ with_key layout r
+listed_is First r = refl
+listed_is (Second origin) r = refl
 
-pub lists : (old new : State) (rows : List Row) → old.now.schema ≡ row_schema → Shown all_text [] old new rows → IsListing (old.now.trees rows_tree) rows
-lists old new rows schema h =
-    let a = (reads_as all_text [] old new row_schema schema (Select (record { lets = []; body = in_order }) all_names) all_is.0 all_plain all_is.1 rows h).answer Null in
-    let kept : a.kept ≡ map (output in_order) (map (λ r. [] ∷ r ∷ []) (old.now.trees rows_tree)) = a.distinct ∙ ap (map (output in_order)) (a.grouped ∙ as_map (old.now.trees rows_tree)) in
+by_key_alone : (layout : Layout) → ◌≡◌ {A = Output → Output → Ordering} (output_cmp (in_order layout)) (λ x y. value_cmp (column x.0 0) (column y.0 0))
+by_key_alone layout = λ i x y. then-Equal (value_cmp (column x.0 0) (column y.0 0)) i
+
+pub lists : (layout : Layout) (old new : State) (rows : List Row) → old.now.schema ≡ layout_schema layout → Shown (all_text layout) [] old new rows → IsListing layout (old.now.trees (layout_tree layout)) rows
+lists layout old new rows schema h =
+    let is = all_is layout in
+    let query = in_order layout in
+    let table = old.now.trees (layout_tree layout) in
+    let a = (reads_as (all_text layout) [] old new (layout_schema layout) schema (Select (record { lets = []; body = query }) (all_names layout)) is.command is.plain is.unlisted rows h).answer Null in
+    let kept : a.kept ≡ map (output query) (map (λ r. [] ∷ r ∷ []) table) = a.distinct ∙ ap (map (output query)) (a.grouped ∙ read_of old.now.trees (layout_tree layout)) in
+    let each : ◌≡◌ {A = Row → Output} (λ r. output query ([] ∷ r ∷ [])) (with_key layout) = λ i r. listed_is layout r i in
     record {
       ordered = a.ordered;
-      same = subst (λ k. IsPermutation k a.ordered) (kept ∙ map-map (output in_order) (λ r. [] ∷ r ∷ []) (old.now.trees rows_tree)) a.same;
-      sorted = subst (λ R. IsSorted R a.ordered) by_key_alone a.sorted;
+      same = subst (λ k. IsPermutation k a.ordered) (kept ∙ map-map (output query) (λ r. [] ∷ r ∷ []) table ∙ ap (λ f. map f table) each) a.same;
+      sorted = subst (λ R. IsSorted R a.ordered) (by_key_alone layout) a.sorted;
       shown = a.shown;
     }
 

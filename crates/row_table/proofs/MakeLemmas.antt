@@ -1,34 +1,25 @@
 -- What the statements that make the two tables do.
-use Rattle.std.proofs.Common.{None, ◌≡◌, inl, inr, ℕ, pos, List, [], ◌∷◌, codes, false, Ok, Err, Result, refl, sym, ap, subst, ◌∙◌, arith}
-use Rattle.sqlite.specs.declared.types.Value.TheVariants.{Null, Int}
-use Rattle.sqlite.specs.Term.{Term, lit, col}
-use Rattle.sqlite.specs.Source.TheVariants.{Values}
+use Rattle.std.proofs.Common.{None, ◌≡◌, inl, inr, ℕ, List, [], codes, false, Ok, Err, Result, refl, sym, ap, subst, ◌∙◌}
 use Rattle.sqlite.specs.Schema.{Schema}
 use Rattle.sqlite.specs.Table.{Table}
-use Rattle.sqlite.specs.Command.TheVariants.{CreateTable, Insert}
+use Rattle.sqlite.specs.Command.TheVariants.{CreateTable}
 use Rattle.sqlite.specs.Compile.{table_defined_by}
 use Rattle.sqlite.specs.Change.{created, next_tree}
-use Rattle.sqlite.specs.Does.{Tally, Does, lacks_sequence}
+use Rattle.sqlite.specs.Does.{Tally, lacks_sequence}
 use Rattle.sqlite_tied.specs.Compute.{everything}
 use Rattle.sqlite.specs.declared.error.Error.{Error}
 use Rattle.sqlite.specs.Listing.{understood}
 use Rattle.sqlite.specs.Effect.{Database}
-use Rattle.sqlite.specs.State.{State, mode_of, Writes, ExecutesInside, KeepsCommit}
-use Rattle.sqlite.specs.Edit.{edit_of, edited}
-use Rattle.sqlite.specs.Rowids.TheVariants.{Chosen}
-use Rattle.sqlite.specs.Rows.{Written}
+use Rattle.sqlite.specs.State.{State, Writes, ExecutesInside, KeepsCommit}
 use Rattle.sqlite_value.specs.Order.{Row}
-use Rattle.sqlite_trees.specs.Tree.{Trees}
 use Rattle.sqlite_trees.proofs.ListLemmas.{all-map}
 use Rattle.sqlite_rules.specs.Lists.{Has}
 use Rattle.sqlite_rules.proofs.ListLemmas.{all_has}
 use Rattle.sqlite_catalog.specs.Change.{KeepsRows}
 use Rattle.std.specs.Prelude.{map}
-use Rattle.row_table.specs.Rows.{whole}
-use Rattle.row_table.specs.Station.{station_row}
-use Rattle.sqlite.proofs.Callers.{IsPlain, command_of, statement_of, runs_as, one_step}
+use Rattle.sqlite.proofs.Callers.{IsPlain, command_of, statement_of, runs_as}
 use Rattle.row_table.specs.Tables.{station, acceptor_row, station_schema, row_schema, no_schema, rows_tree, station_tree}
-use Rattle.row_table.proofs.PutLemmas.{went, same_value, cast_int, cast_null}
+use Rattle.row_table.proofs.PutLemmas.{went, same_value}
 
 abbrev pub station_text : List ℕ
 station_text = codes "CREATE TABLE station (one INTEGER PRIMARY KEY CHECK (one = 1),\n  layout INTEGER NOT NULL, circuit INTEGER NOT NULL,\n  member INTEGER NOT NULL, members INTEGER NOT NULL) STRICT"
@@ -58,20 +49,6 @@ rows_plain = (refl, refl)
 
 placed : (created no_schema station ≡ station_schema) × (created station_schema unplaced ≡ row_schema)
 placed = (refl, refl)
-
-abbrev pub add_text : List ℕ
-add_text = codes "INSERT INTO station VALUES (1, 1, ?1, ?2, ?3)"
-
-abbrev terms : List Term
-terms = lit (Int (pos 1)) ∷ lit Null ∷ lit (Int (pos 1)) ∷ col 0 0 ∷ col 0 1 ∷ col 0 2 ∷ []
-
-add_is : command_of (understood row_schema add_text) ≡ Insert 0 (Values terms 6)
-unfolding understood everything
-add_is = refl
-
-add_plain : IsPlain (understood row_schema add_text)
-unfolding understood everything
-add_plain = (refl, refl)
 
 -- a statement inside a transaction leaves what was committed
 pub inside_keeps : (sql : List ℕ) (params : Row) (old new : State) (r : Result ℕ Error) → ExecutesInside 0 sql params old new r → KeepsCommit old new
@@ -109,30 +86,3 @@ makes_station old new count has h = let made = makes station_text no_schema stat
 pub makes_rows : (old new : State) (count : ℕ) → old.now.schema ≡ station_schema → ExecutesInside 0 rows_text [] old new (Ok count)
     → (new.now.schema ≡ row_schema) × (new.now.trees rows_tree ≡ []) × (new.now.trees station_tree ≡ old.now.trees station_tree)
 makes_rows old new count has h = let made = makes rows_text station_schema row_schema unplaced rows_is rows_plain refl refl old new count has h in (made.0, made.1, made.2 station_tree (inl refl))
-
-apart : ¬ (rows_tree ≡ station_tree)
-apart e = omega (arith, e)
-
--- the one row of the station table is added
-pub adds : (old new : State) (circuit member members count : ℕ) → old.now.schema ≡ row_schema → old.now.trees station_tree ≡ []
-    → ExecutesInside 0 add_text (whole circuit ∷ whole member ∷ whole members ∷ []) old new (Ok count)
-    → (new.now.schema ≡ row_schema) × (new.now.trees station_tree ≡ station_row circuit member members ∷ []) × (new.now.trees rows_tree ≡ old.now.trees rows_tree)
-adds old new circuit member members count has none inside =
-    let params = whole circuit ∷ whole member ∷ whole members ∷ [] in
-    let db = old.now.trees in
-    let command = Insert 0 (Values terms 6) in
-    let w = runs_as add_text params old new row_schema has command add_is add_plain count inside.0 in
-    let text = statement_of add_text (understood row_schema add_text) in
-    let done = went (subst (λ s. Does old.step_limit (mode_of old) params (record old.now { schema = s }) text None command (Ok (w.tally, new.now))) has w.changed) in
-    let now = ap (λ (p : Tally × Database). p.1) (same_value (went (went done.2).2).2) in
-    let given = went done.1 in
-    let written = went (went given.2).2 in
-    let counted = went written.2 in
-    let trees : done.0.trees ≡ written.0 = ap (λ (it : Written). it.trees) (same_value counted.2) ∙ same_value counted.1 in
-    let step = one_step row_schema _ db written.0 (edit_of db station [] Chosen 0 given.0) refl written.1 in
-    let edit : edited db (edit_of db station [] Chosen 0 given.0) ≡ station_row circuit member members ∷ [] =
-    ap (λ all. edited db (edit_of db station [] Chosen 0 all)) given.1.1 ∙ rw (none, cast_null, cast_int (pos 1), cast_int (pos circuit), cast_int (pos member), cast_int (pos members)) refl in (
-      ap (λ (d : Database). d.schema) now,
-      ap (λ (d : Database). d.trees station_tree) now ∙ ap (λ (t : Trees). t station_tree) trees ∙ step.rows ∙ edit,
-      ap (λ (d : Database). d.trees rows_tree) now ∙ ap (λ (t : Trees). t rows_tree) trees ∙ step.others rows_tree apart tt,
-    )

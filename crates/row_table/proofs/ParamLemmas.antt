@@ -1,5 +1,7 @@
 -- What a column takes of a value that a statement is given.
-use Rattle.std.proofs.Common.{◌≡◌, ℕ, pos, Some, None, Option, refl}
+use Rattle.std.proofs.Common.{◌≡◌, ℕ, pos, Some, None, Option, option_map, option_copied, Bor, refl}
+use Rattle.std.specs.Global.{Vec}
+use Rattle.sqlite_value.specs.declared.value.Value.TheVariants.{Blob}
 use Rattle.sqlite.specs.Kind.TheVariants.{Integer}
 use Rattle.sqlite_rules.specs.Cast.{cast}
 use Rattle.sqlite.specs.Values.{or_null, bound_value}
@@ -15,3 +17,8 @@ optional (Some n) = cast_int (pos n)
 pub bound_number : (o : Option ℕ) → bound_value (or_null whole o) ≡ or_null whole o
 bound_number None = refl
 bound_number (Some n) = refl
+
+-- and bytes that are lent, or NULL
+pub bound_packed : (o : Option (Bor (Vec ℕ))) → bound_value (or_null (λ (b : Bor (Vec ℕ)). Blob b.now.items) o) ≡ or_null Blob (option_map (λ (v : Vec ℕ). v.items) (option_copied o))
+bound_packed None = refl
+bound_packed (Some b) = refl

@@ -1,6 +1,5 @@
--- What `replace_row` leaves of a connection.
-use Rattle.std.proofs.Common.{◌≡◌, ◌⊎◌, inl, inr, ℕ, ◌≤◌, List, [], ◌∷◌, Ok, Err, Result, OnOk, OnErr, IfOk, IfErr, IsTrue, sym, ap, subst, ◌∙◌, arith}
-use Rattle.sqlite_value.specs.declared.value.Value.{Value}
+-- What a statement that replaces a row leaves of a connection, and what a query leaves of it.
+use Rattle.std.proofs.Common.{◌≡◌, ◌⊎◌, inl, inr, ℕ, ◌≤◌, List, ◌∷◌, Ok, Err, Result, OnOk, OnErr, IfOk, IfErr, IsTrue, sym, ap, subst, ◌∙◌, arith}
 use Rattle.sqlite_value.specs.Order.{Row}
 use Rattle.sqlite_trees.specs.Tree.{Trees}
 use Rattle.sqlite_trees.specs.View.{doubt}
@@ -9,10 +8,9 @@ use Rattle.sqlite.specs.declared.error.Error.{Error}
 use Rattle.sqlite.specs.State.{State, HasCleanDisk, Executes, CommitsBy, CommitsShowing, Shown, FailsToQuery, Survives, IsUnchanged, IsRolledBack}
 use Rattle.sqlite.specs.Listing.{understood}
 use Rattle.sqlite.proofs.Callers.{IsPlain, never_commits}
-use Rattle.row_table.specs.Tables.{rows_tree, row_schema}
+use Rattle.row_table.specs.Tables.{Layout, layout_tree, layout_schema}
 use Rattle.row_table.specs.Rows.{AreRows, whole, SavesIn, Serves, IsAtRest, WasSaved, WasKept}
-use Rattle.row_table.proofs.TextLemmas.{put_text}
-use Rattle.row_table.proofs.PutLemmas.{AreTaken, puts, commits}
+use Rattle.row_table.proofs.PutLemmas.{Replaces, puts, commits}
 use Rattle.row_table.proofs.StateLemmas.{executes_open, refused_leaves, shown_open, shown_same, query_leaves}
 
 -- while it is open, a crash leaves the last commit
@@ -23,13 +21,13 @@ IsSettled s = (db : Trees) → IsTrue s.is_open → s.may_leave db → db ≡ s.
 pub was_early : (old new : State) → doubt old.is_clean ≤ doubt new.is_clean → HasCleanDisk new → HasCleanDisk old
 was_early old new falls clean = omega (arith, falls, clean)
 
-pub serves_unchanged : (old new : State) → doubt old.is_clean ≤ doubt new.is_clean → Serves old → IsUnchanged old new → Serves new
-serves_unchanged old new falls serves same clean =
+pub serves_unchanged : (layout : Layout) (old new : State) → doubt old.is_clean ≤ doubt new.is_clean → Serves layout old → IsUnchanged old new → Serves layout new
+serves_unchanged layout old new falls serves same clean =
     let was = serves (was_early old new falls clean) in (
       same.0.mode ∙ was.0,
       λ opened. let rest = was.1 same.0.was_open in record {
         schema = ap (λ (d : Database). d.schema) same.0.now_is ∙ rest.schema;
-        rows = subst (λ (d : Database). AreRows (d.trees rows_tree)) (sym same.0.now_is) rest.rows;
+        rows = subst (λ (d : Database). AreRows (d.trees (layout_tree layout))) (sym same.0.now_is) rest.rows;
         settled = same.0.committed_is ∙ rest.settled ∙ sym same.0.now_is;
       },
     )
@@ -37,108 +35,104 @@ serves_unchanged old new falls serves same clean =
 pub kept_unchanged : (old new : State) → IsUnchanged old new → WasKept old new
 kept_unchanged old new same = record { was_open = same.0.was_open; same = same.0.now_is }
 
-pub kept_undone : (old new : State) → IsTrue new.is_open → IsAtRest old → IsRolledBack old new → WasKept old new
-kept_undone old new opened rest undone = record { was_open = undone.was_open opened; same = (undone.undone opened).0 ∙ rest.settled }
+pub kept_undone : (layout : Layout) (old new : State) → IsTrue new.is_open → IsAtRest layout old → IsRolledBack old new → WasKept old new
+kept_undone layout old new opened rest undone = record { was_open = undone.was_open opened; same = (undone.undone opened).0 ∙ rest.settled }
 
-pub serves_undone : (old new : State) → doubt old.is_clean ≤ doubt new.is_clean → Serves old → IsRolledBack old new → Serves new
-serves_undone old new falls serves undone clean =
+pub serves_undone : (layout : Layout) (old new : State) → doubt old.is_clean ≤ doubt new.is_clean → Serves layout old → IsRolledBack old new → Serves layout new
+serves_undone layout old new falls serves undone clean =
     let was = serves (was_early old new falls clean) in (
       undone.autocommit,
       λ opened. let rest = was.1 (undone.was_open opened) in let now = (undone.undone opened).0 ∙ rest.settled in record {
         schema = ap (λ (d : Database). d.schema) now ∙ rest.schema;
-        rows = subst (λ (d : Database). AreRows (d.trees rows_tree)) (sym now) rest.rows;
+        rows = subst (λ (d : Database). AreRows (d.trees (layout_tree layout))) (sym now) rest.rows;
         settled = (undone.undone opened).1 ∙ sym (undone.undone opened).0;
       },
     )
 
-module _ (old new : State) (n : ℕ) (c1 c2 c3 c4 c5 : Value) (taken : AreTaken c1 c2 c3 c4) (serves : Serves old) (law_old : IsSettled old) (law_new : IsSettled new)
-    (r : Result ℕ Error) (runs : HasCleanDisk new → Executes put_text (whole n ∷ c1 ∷ c2 ∷ c3 ∷ c4 ∷ c5 ∷ []) old new r)
-    (survives : Survives old new (CommitsBy put_text (whole n ∷ c1 ∷ c2 ∷ c3 ∷ c4 ∷ c5 ∷ []) old)) where
-  abbrev row : Row
-  row = c1 ∷ c2 ∷ c3 ∷ c4 ∷ c5 ∷ []
-
+module _ (layout : Layout) (sql : List ℕ) (n : ℕ) (row : Row) (it : Replaces layout sql n row) (old new : State) (serves : Serves layout old) (law_old : IsSettled old) (law_new : IsSettled new)
+    (r : Result ℕ Error) (runs : HasCleanDisk new → Executes sql (whole n ∷ row) old new r) (survives : Survives old new (CommitsBy sql (whole n ∷ row) old)) where
   early : HasCleanDisk new → HasCleanDisk old
   early = was_early old new survives.clean
 
-  saved_ok : (r : Result ℕ Error) → HasCleanDisk new → Executes put_text (whole n ∷ row) old new r → OnOk r (WasSaved n row old new × Serves new)
+  saved_ok : (r : Result ℕ Error) → HasCleanDisk new → Executes sql (whole n ∷ row) old new r → OnOk r (WasSaved layout n row old new × Serves layout new)
   saved_ok (Err e) clean h = tt
   saved_ok (Ok count) clean h =
       let was = serves (early clean) in
-      let was_open = executes_open put_text (whole n ∷ row) old new count was.0 h in
+      let was_open = executes_open sql (whole n ∷ row) old new count was.0 h in
       let rest = was.1 was_open in
-      let done = puts old n c1 c2 c3 c4 c5 taken rest.schema rest.rows new (Ok count) was.0 h in (
+      let done = puts layout sql n row it old rest.schema rest.rows new (Ok count) was.0 h in (
         record { was_open = was_open; is_open = done.2; saved = done.0; crash = λ db left. law_new db done.2 left ∙ ap (λ (d : Database). d.trees) done.1 },
         λ _. (done.3, λ _. record { schema = done.0.schema ∙ rest.schema; rows = done.0.trees.rows.rows; settled = done.1 }),
       )
 
-  kept_err : (r : Result ℕ Error) → HasCleanDisk new → Executes put_text (whole n ∷ row) old new r → OnErr r ((IsTrue new.is_open → WasKept old new) × Serves new)
+  kept_err : (r : Result ℕ Error) → HasCleanDisk new → Executes sql (whole n ∷ row) old new r → OnErr r ((IsTrue new.is_open → WasKept old new) × Serves layout new)
   kept_err (Ok count) clean h = tt
-  kept_err (Err e) clean h = elim (refused_leaves put_text (whole n ∷ row) old new e h) [
-    | inl same ↦ ((λ opened. kept_unchanged old new same), serves_unchanged old new survives.clean serves same)
-    | inr undone ↦ ((λ opened. kept_undone old new opened ((serves (early clean)).1 (undone.was_open opened)) undone), serves_undone old new survives.clean serves undone)
+  kept_err (Err e) clean h = elim (refused_leaves sql (whole n ∷ row) old new e h) [
+    | inl same ↦ ((λ opened. kept_unchanged old new same), serves_unchanged layout old new survives.clean serves same)
+    | inr undone ↦ ((λ opened. kept_undone layout old new opened ((serves (early clean)).1 (undone.was_open opened)) undone), serves_undone layout old new survives.clean serves undone)
   ]
 
-  both : (r : Result ℕ Error) → OnOk r (WasSaved n row old new × Serves new) → OnErr r ((IsTrue new.is_open → WasKept old new) × Serves new) → Serves new
+  both : (r : Result ℕ Error) → OnOk r (WasSaved layout n row old new × Serves layout new) → OnErr r ((IsTrue new.is_open → WasKept old new) × Serves layout new) → Serves layout new
   both (Ok count) a b = a.1
   both (Err e) a b = b.1
 
-  pub serves_on : Serves new
+  pub serves_on : Serves layout new
   serves_on clean = both r (saved_ok r clean (runs clean)) (kept_err r clean (runs clean)) clean
 
-  first : (r : Result ℕ Error) → OnOk r (WasSaved n row old new × Serves new) → OnOk r (WasSaved n row old new)
+  first : (r : Result ℕ Error) → OnOk r (WasSaved layout n row old new × Serves layout new) → OnOk r (WasSaved layout n row old new)
   first (Ok count) a = a.0
   first (Err e) a = tt
 
-  second : (r : Result ℕ Error) → OnErr r ((IsTrue new.is_open → WasKept old new) × Serves new) → IsTrue new.is_open → OnErr r (WasKept old new)
+  second : (r : Result ℕ Error) → OnErr r ((IsTrue new.is_open → WasKept old new) × Serves layout new) → IsTrue new.is_open → OnErr r (WasKept old new)
   second (Ok count) a opened = tt
   second (Err e) a opened = a.0 opened
 
-  pub saved_on : HasCleanDisk new → OnOk r (WasSaved n row old new)
+  pub saved_on : HasCleanDisk new → OnOk r (WasSaved layout n row old new)
   saved_on clean = first r (saved_ok r clean (runs clean))
 
   pub kept_on : HasCleanDisk new → IsTrue new.is_open → OnErr r (WasKept old new)
   kept_on clean = second r (kept_err r clean (runs clean))
 
-  pub crash_on : HasCleanDisk new → IsTrue old.is_open → (db : Trees) → new.may_leave db → (db ≡ old.now.trees) ⊎ SavesIn n row old.now.trees db
+  pub crash_on : HasCleanDisk new → IsTrue old.is_open → (db : Trees) → new.may_leave db → (db ≡ old.now.trees) ⊎ SavesIn layout n row old.now.trees db
   crash_on clean opened db left =
       let was = serves (early clean) in
       let rest = was.1 opened in
       elim (survives.crash clean db left) [
         | inl before ↦ inl (law_old db opened before ∙ ap (λ (d : Database). d.trees) rest.settled)
-        | inr by ↦ inr (commits old n c1 c2 c3 c4 c5 taken rest.schema rest.rows db by)
+        | inr by ↦ inr (commits layout sql n row it old rest.schema rest.rows db by)
       ]
 
 -- ---- a query
 
-module _ (sql : List ℕ) (params : Row) (old new : State) (plain : IsPlain (understood row_schema sql)) (serves : Serves old) (law_old : IsSettled old)
+module _ (layout : Layout) (sql : List ℕ) (params : Row) (old new : State) (plain : IsPlain (understood (layout_schema layout) sql)) (serves : Serves layout old) (law_old : IsSettled old)
     (survives : Survives old new (CommitsShowing sql params old)) where
   early_q : HasCleanDisk new → HasCleanDisk old
   early_q = was_early old new survives.clean
 
-  plain_at : IsAtRest old → IsPlain (understood old.now.schema sql)
+  plain_at : IsAtRest layout old → IsPlain (understood old.now.schema sql)
   plain_at rest = subst (λ s. IsPlain (understood s sql)) (sym rest.schema) plain
 
-  pub shows_same : HasCleanDisk new → (rows : List Row) → Shown sql params old new rows → IsAtRest old × IsUnchanged old new
+  pub shows_same : HasCleanDisk new → (rows : List Row) → Shown sql params old new rows → IsAtRest layout old × IsUnchanged old new
   shows_same clean rows h =
       let rest = (serves (early_q clean)).1 (shown_open sql params old new rows h) in
       (rest, shown_same sql params old new rows (plain_at rest) h)
 
-  pub shows_serves : (rows : List Row) → HasCleanDisk new → Shown sql params old new rows → Serves new
-  shows_serves rows clean h = serves_unchanged old new survives.clean serves (shows_same clean rows h).1
+  pub shows_serves : (rows : List Row) → HasCleanDisk new → Shown sql params old new rows → Serves layout new
+  shows_serves rows clean h = serves_unchanged layout old new survives.clean serves (shows_same clean rows h).1
 
   pub shows_kept : (rows : List Row) → HasCleanDisk new → Shown sql params old new rows → WasKept old new × IsTrue new.is_open
   shows_kept rows clean h = let both = shows_same clean rows h in (kept_unchanged old new both.1, both.1.0.is_open)
 
-  pub fails_serves : (e : Error) → FailsToQuery sql params old new e → Serves new
+  pub fails_serves : (e : Error) → FailsToQuery sql params old new e → Serves layout new
   fails_serves e h = elim (query_leaves sql params old new e h) [
-    | inl same ↦ serves_unchanged old new survives.clean serves same
-    | inr undone ↦ serves_undone old new survives.clean serves undone
+    | inl same ↦ serves_unchanged layout old new survives.clean serves same
+    | inr undone ↦ serves_undone layout old new survives.clean serves undone
   ]
 
   pub fails_kept : (e : Error) → HasCleanDisk new → IsTrue new.is_open → FailsToQuery sql params old new e → WasKept old new
   fails_kept e clean opened h = elim (query_leaves sql params old new e h) [
     | inl same ↦ kept_unchanged old new same
-    | inr undone ↦ kept_undone old new opened ((serves (early_q clean)).1 (undone.was_open opened)) undone
+    | inr undone ↦ kept_undone layout old new opened ((serves (early_q clean)).1 (undone.was_open opened)) undone
   ]
 
   pub query_crash : HasCleanDisk new → IsTrue old.is_open → (db : Trees) → new.may_leave db → old.may_leave db
@@ -148,7 +142,7 @@ module _ (sql : List ℕ) (params : Row) (old new : State) (plain : IsPlain (und
   ]
 
   module _ {V : Type 0} (items : V → List Row) (r : Result V Error) (ok : HasCleanDisk new → IfOk r (λ v. Shown sql params old new (items v))) (err : HasCleanDisk new → IfErr r (FailsToQuery sql params old new)) where
-    serves_at : (r : Result V Error) → IfOk r (λ v. Shown sql params old new (items v)) → IfErr r (FailsToQuery sql params old new) → HasCleanDisk new → Serves new
+    serves_at : (r : Result V Error) → IfOk r (λ v. Shown sql params old new (items v)) → IfErr r (FailsToQuery sql params old new) → HasCleanDisk new → Serves layout new
     serves_at (Ok v) h e clean = shows_serves (items v) clean h
     serves_at (Err x) h e clean = fails_serves x e
 
@@ -160,7 +154,7 @@ module _ (sql : List ℕ) (params : Row) (old new : State) (plain : IsPlain (und
     open_at (Ok v) h clean = (shows_kept (items v) clean h).1
     open_at (Err x) h clean = tt
 
-    pub query_serves : Serves new
+    pub query_serves : Serves layout new
     query_serves clean = serves_at r (ok clean) (err clean) clean clean
 
     pub query_kept : HasCleanDisk new → IsTrue new.is_open → WasKept old new
@@ -169,11 +163,11 @@ module _ (sql : List ℕ) (params : Row) (old new : State) (plain : IsPlain (und
     pub query_open : HasCleanDisk new → OnOk r (IsTrue new.is_open)
     query_open clean = open_at r (ok clean) clean
 
-    answers_at : (P : V → Type 0) → ((v : V) → IsAtRest old → Shown sql params old new (items v) → P v) → (r : Result V Error) → IfOk r (λ v. Shown sql params old new (items v)) → HasCleanDisk new → IfOk r P
+    answers_at : (P : V → Type 0) → ((v : V) → IsAtRest layout old → Shown sql params old new (items v) → P v) → (r : Result V Error) → IfOk r (λ v. Shown sql params old new (items v)) → HasCleanDisk new → IfOk r P
     answers_at P f (Ok v) h clean = f v (shows_same clean (items v) h).0 h
     answers_at P f (Err x) h clean = tt
 
-    pub query_answers : (P : V → Type 0) → ((v : V) → IsAtRest old → Shown sql params old new (items v) → P v) → HasCleanDisk new → IfOk r P
+    pub query_answers : (P : V → Type 0) → ((v : V) → IsAtRest layout old → Shown sql params old new (items v) → P v) → HasCleanDisk new → IfOk r P
     query_answers P f clean = answers_at P f r (ok clean) clean
 
 -- ---- a query outside a transaction, on any rows
@@ -181,7 +175,7 @@ module _ (sql : List ℕ) (params : Row) (old new : State) (plain : IsPlain (und
 abbrev pub IsStill : State → Type 0
 IsStill s = IsTrue s.is_open → s.now ≡ s.committed
 
-module _ {V : Type 0} (items : V → List Row) (sql : List ℕ) (params : Row) (old new : State) (plain : IsPlain (understood row_schema sql)) (has : old.now.schema ≡ row_schema) (still : IsStill old) where
+module _ (layout : Layout) {V : Type 0} (items : V → List Row) (sql : List ℕ) (params : Row) (old new : State) (plain : IsPlain (understood (layout_schema layout) sql)) (has : old.now.schema ≡ layout_schema layout) (still : IsStill old) where
   rests_unchanged : IsUnchanged old new → WasKept old new × (new.now ≡ new.committed)
   rests_unchanged same = (kept_unchanged old new same, same.0.now_is ∙ still same.0.was_open ∙ sym same.0.committed_is)
 
@@ -196,9 +190,9 @@ module _ {V : Type 0} (items : V → List Row) (sql : List ℕ) (params : Row) (
   query_rests (Err x) h e opened = elim (query_leaves sql params old new x e) [ inl same ↦ rests_unchanged same | inr undone ↦ rests_undone opened undone ]
 
 -- a crash leaves what it might have left before
-pub query_left : (sql : List ℕ) (params : Row) (old new : State) → IsPlain (understood row_schema sql) → old.now.schema ≡ row_schema → Survives old new (CommitsShowing sql params old)
+pub query_left : (layout : Layout) (sql : List ℕ) (params : Row) (old new : State) → IsPlain (understood (layout_schema layout) sql) → old.now.schema ≡ layout_schema layout → Survives old new (CommitsShowing sql params old)
     → HasCleanDisk new → (db : Trees) → new.may_leave db → old.may_leave db
-query_left sql params old new plain has survives clean db left = elim (survives.crash clean db left) [
+query_left layout sql params old new plain has survives clean db left = elim (survives.crash clean db left) [
   | inl before ↦ before
   | inr by ↦ absurd (never_commits sql params old db (subst (λ s. IsPlain (understood s sql)) (sym has) plain) by)
 ]

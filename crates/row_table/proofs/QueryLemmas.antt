@@ -1,6 +1,6 @@
 -- What a query by the number shows.
 use Rattle.std.proofs.Common.{◌≡◌, ℕ, List, [], ◌∷◌, ◌++◌, map, length, Bool, true, false, cond, Some, refl, sym, ap, subst, ◌∙◌}
-use Rattle.std.specs.Prelude.{filter, flat_map, ◌&&◌}
+use Rattle.std.specs.Prelude.{filter, flat_map, ◌&&◌, ◌-◌, ◌^◌, nat_le, slice_get, unwrap_or, None}
 use Rattle.std.proofs.lemmas.List.{length-map}
 use Rattle.std.specs.List.{AllByRecursion, list_all}
 use Rattle.std.specs.Ordering.{is_eq}
@@ -14,7 +14,6 @@ use Rattle.sqlite.specs.Term.{Term, eval_all, holds}
 use Rattle.sqlite.specs.Ops.{binary, is_true, from_truth}
 use Rattle.sqlite.specs.Query.{IsAnswer, output, Output}
 use Rattle.sqlite.specs.Program.{overlay}
-use Rattle.row_table.specs.Tables.{rows_tree}
 use Rattle.row_table.specs.Rows.{whole, IsKeyed, AreKeyed}
 use Rattle.row_table.proofs.KeyLemmas.{has}
 use Rattle.row_table.proofs.TextLemmas.{by_key, has_key}
@@ -43,30 +42,39 @@ passing params place n (r ∷ rs) keyed at = rw (kept_if params r place n keyed.
     go true more = ap (λ l. (params ∷ r ∷ []) ∷ l) more
     go false more = more
 
+-- a query that computes no table reads those of the database
+pub overlay_is : (db : Trees) (tree : ℕ) → overlay db [] tree ≡ db tree
+overlay_is db tree = go (nat_le (2 ^ 31) tree)
+  where
+    go : (b : Bool) → unwrap_or (cond b (slice_get [] (tree - 2 ^ 31)) None) (db tree) ≡ db tree
+    go true = refl
+    go false = refl
+
 -- each row that is shown is of a row that has the number
 abbrev pub IsShownOf : ℕ → List Row → List Term → Row → Row → Type 0
 IsShownOf n rows shown params out = (r : Row) × Has rows r × (has n r ≡ true) × (out ≡ eval_all shown (params ∷ r ∷ []))
 
-module _ (db : Trees) (params : Row) (place n : ℕ) (shown : List Term) (rows : List Row) (keyed : AreKeyed (db rows_tree)) (at : column params place ≡ whole n)
-    (a : IsAnswer (by_key place shown) (overlay db []) params rows) where
+module _ (tree : ℕ) (db : Trees) (params : Row) (place n : ℕ) (shown : List Term) (rows : List Row) (keyed : AreKeyed (db tree)) (at : column params place ≡ whole n)
+    (a : IsAnswer (by_key tree place shown) (overlay db []) params rows) where
   one : Row → Output
   one r = ([], eval_all shown (params ∷ r ∷ []))
 
-  kept_is : a.kept ≡ map (output (by_key place shown)) (map (λ r. params ∷ r ∷ []) (filter (has n) (db rows_tree)))
-  kept_is = a.distinct ∙ ap (map (output (by_key place shown))) (a.grouped ∙ passing params place n (db rows_tree) keyed at)
+  kept_is : a.kept ≡ map (output (by_key tree place shown)) (map (λ r. params ∷ r ∷ []) (filter (has n) (db tree)))
+  kept_is = a.distinct ∙ ap (map (output (by_key tree place shown))) (a.grouped ∙ subst (λ all. flat_map (λ r. cond (list_all (holds (params ∷ r ∷ [])) (has_key place ∷ [])) ((params ∷ r ∷ []) ∷ []) []) all ≡ map (λ r. params ∷ r ∷ []) (filter (has n) (db tree)))
+      (sym (overlay_is db tree)) (passing params place n (db tree) keyed at))
 
   shown_is : rows ≡ map (λ (p : Output). p.1) a.ordered
   shown_is = a.shown
 
-  all_shown : AllByRecursion (λ (p : Output). IsShownOf n (db rows_tree) shown params p.1) a.ordered
+  all_shown : AllByRecursion (λ (p : Output). IsShownOf n (db tree) shown params p.1) a.ordered
   all_shown =
-      let mine : AllByRecursion (λ r. IsShownOf n (db rows_tree) shown params (eval_all shown (params ∷ r ∷ []))) (filter (has n) (db rows_tree)) =
-      all_from _ (filter (has n) (db rows_tree)) (λ r there. let both = has_filtered (has n) (db rows_tree) r there in (r, both.0, both.1, refl)) in
-      all-permutation _ a.kept a.ordered a.same (subst (AllByRecursion (λ (p : Output). IsShownOf n (db rows_tree) shown params p.1)) (sym kept_is) (all-map _ _ _ (all-map _ _ _ mine)))
+      let mine : AllByRecursion (λ r. IsShownOf n (db tree) shown params (eval_all shown (params ∷ r ∷ []))) (filter (has n) (db tree)) =
+      all_from _ (filter (has n) (db tree)) (λ r there. let both = has_filtered (has n) (db tree) r there in (r, both.0, both.1, refl)) in
+      all-permutation _ a.kept a.ordered a.same (subst (AllByRecursion (λ (p : Output). IsShownOf n (db tree) shown params p.1)) (sym kept_is) (all-map _ _ _ (all-map _ _ _ mine)))
 
-  pub shows : AllByRecursion (IsShownOf n (db rows_tree) shown params) rows
-  shows = subst (AllByRecursion (IsShownOf n (db rows_tree) shown params)) (sym shown_is) (all-map _ _ _ all_shown)
+  pub shows : AllByRecursion (IsShownOf n (db tree) shown params) rows
+  shows = subst (AllByRecursion (IsShownOf n (db tree) shown params)) (sym shown_is) (all-map _ _ _ all_shown)
 
-  pub counts : length rows ≡ length (filter (has n) (db rows_tree))
+  pub counts : length rows ≡ length (filter (has n) (db tree))
   counts =
-      ap length shown_is ∙ length-map a.ordered _ ∙ length_permutation a.kept a.ordered a.same ∙ ap length kept_is ∙ length-map (map (λ r. params ∷ r ∷ []) (filter (has n) (db rows_tree))) _ ∙ length-map (filter (has n) (db rows_tree)) _
+      ap length shown_is ∙ length-map a.ordered _ ∙ length_permutation a.kept a.ordered a.same ∙ ap length kept_is ∙ length-map (map (λ r. params ∷ r ∷ []) (filter (has n) (db tree))) _ ∙ length-map (filter (has n) (db tree)) _

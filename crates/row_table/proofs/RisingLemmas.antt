@@ -17,7 +17,8 @@ use Rattle.row_table.proofs.KeyLemmas.{has, same_key, is_self, the_row}
 use Rattle.sqlite.proofs.Callers.{one_permutation}
 use Rattle.sqlite.specs.State.{State, IsUnchanged}
 use Rattle.sqlite.specs.Effect.{Database}
-use Rattle.row_table.specs.Tables.{rows_tree, row_schema}
+use Rattle.row_table.specs.Tables.{Layout, layout_tree, layout_schema}
+use Rattle.row_table.specs.Tables.Layout.{First, Second}
 
 -- the value is this number
 keyed_at : (v : Value) (n : ℕ) → key_of v ≡ Some n → v ≡ whole n
@@ -88,29 +89,29 @@ short p (x ∷ xs) h = at (p x) (short p xs) h
     at true more h = ap (λ l. x ∷ l) (none_of (filter p xs) (omega arith))
     at false more h = more h
 
-pub rows_of_listing : (table rows : List Row) → IsListing table rows → rise_from None rows ≡ true → AreRows table
-rows_of_listing table rows listing rises =
+pub rows_of_listing : (layout : Layout) (table rows : List Row) → IsListing layout table rows → rise_from None rows ≡ true → AreRows table
+rows_of_listing layout table rows listing rises =
     let second = λ (p : Row × Row). p.1 in
     let keyed : AllByRecursion (λ (p : Row × Row). IsKeyed p.1) listing.ordered = all_from_map _ second listing.ordered (subst AreKeyed listing.shown (all_keyed None rows rises)) in
-    let back = all-permutation _ listing.ordered (map with_key table) (IsPermutation-sym _ _ listing.same) keyed in
+    let back = all-permutation _ listing.ordered (map (with_key layout) table) (IsPermutation-sym _ _ listing.same) keyed in
     record {
-      keyed = all_from_map _ with_key table back;
+      keyed = all_from_map _ (with_key layout) table back;
       once = λ n.
           let q = λ (p : Row × Row). has n p.1 in
-          let here : length (filter (has n) table) ≡ length (filter q (map with_key table)) = sym (ap length (filter-map q with_key table) ∙ length-map (filter (has n) table) with_key) in
-          let moved : length (filter q listing.ordered) ≡ length (filter q (map with_key table)) = length_permutation _ _ (IsPermutation-filter q _ _ listing.same) in
+          let here : length (filter (has n) table) ≡ length (filter q (map (with_key layout) table)) = sym (ap length (filter-map q (with_key layout) table) ∙ length-map (filter (has n) table) (with_key layout)) in
+          let moved : length (filter q listing.ordered) ≡ length (filter q (map (with_key layout) table)) = length_permutation _ _ (IsPermutation-filter q _ _ listing.same) in
           let there : length (filter (has n) rows) ≡ length (filter q listing.ordered) =
           ap (λ l. length (filter (has n) l)) listing.shown ∙ ap length (filter-map (has n) second listing.ordered) ∙ length-map (filter q listing.ordered) second in
           short (has n) table (omega (arith, here ∙ sym moved ∙ sym there, at_most_one None rows rises n));
     }
 
 -- a connection on a table of rows serves
-pub opens : (old new : State) → old.now.schema ≡ row_schema → old.in_transaction ≡ false → (IsTrue old.is_open → old.now ≡ old.committed) → AreRows (old.now.trees rows_tree) → IsUnchanged old new → Serves new
-opens old new has alone settled are same clean = (
+pub opens : (layout : Layout) (old new : State) → old.now.schema ≡ layout_schema layout → old.in_transaction ≡ false → (IsTrue old.is_open → old.now ≡ old.committed) → AreRows (old.now.trees (layout_tree layout)) → IsUnchanged old new → Serves layout new
+opens layout old new has alone settled are same clean = (
   same.0.mode ∙ alone,
   λ opened. record {
     schema = ap (λ (d : Database). d.schema) same.0.now_is ∙ has;
-    rows = subst (λ (d : Database). AreRows (d.trees rows_tree)) (sym same.0.now_is) are;
+    rows = subst (λ (d : Database). AreRows (d.trees (layout_tree layout))) (sym same.0.now_is) are;
     settled = same.0.committed_is ∙ sym (settled same.0.was_open) ∙ sym same.0.now_is;
   },
 )
@@ -131,9 +132,13 @@ map_option : {X Y : Type 0} (f : X → Y) (o : Option X) → map f (option_to_li
 map_option f None = refl
 map_option f (Some x) = refl
 
-then_map : (o : Option Row) → option_map shown_of o ≡ option_map listed_columns (option_map listed_row o)
-then_map None = refl
-then_map (Some r) = refl
+shown_listed : (layout : Layout) (r : Row) → listed_columns layout (listed_row layout r) ≡ shown_of layout r
+shown_listed First r = refl
+shown_listed (Second origin) r = refl
+
+then_map : (layout : Layout) (o : Option Row) → option_map (shown_of layout) o ≡ option_map (listed_columns layout) (option_map (listed_row layout) o)
+then_map layout None = refl
+then_map layout (Some r) = ap Some (sym (shown_listed layout r))
 
 flip : (a b : ℕ) → (a == b) ≡ (b == a)
 flip a b = same_from_decides {P = a ≡ b} (a == b) (b == a) (Decides-eqb a b) ((λ t. sym ((Decides-eqb b a).0 t)), (λ e. (Decides-eqb b a).1 (sym e)))
@@ -148,29 +153,29 @@ by_number n last (r ∷ rs) h =
     rw (here, there) (ap (λ o. cond (n == g.number) (Some r) o) (by_number n (Some g.number) rs g.rest))
 
 -- each row of a listing stands in its table
-stands : (table rows : List Row) → AreRows table → IsListing table rows → AllByRecursion (IsInTable table) rows
-stands table rows are listing =
+stands : (layout : Layout) (table rows : List Row) → AreRows table → IsListing layout table rows → AllByRecursion (IsInTable layout table) rows
+stands layout table rows are listing =
     let second = λ (p : Row × Row). p.1 in
-    let moved : IsPermutation (map listed_row table) rows =
-    subst (λ l. IsPermutation l rows) (map-map second with_key table) (subst (IsPermutation (map second (map with_key table))) (sym listing.shown) (IsPermutation-map second _ _ listing.same)) in
-    let mine : AllByRecursion (λ t. IsInTable table (listed_row t)) table = all_from (λ t. IsInTable table (listed_row t)) table (λ t there.
+    let moved : IsPermutation (map (listed_row layout) table) rows =
+    subst (λ l. IsPermutation l rows) (map-map second (with_key layout) table) (subst (IsPermutation (map second (map (with_key layout) table))) (sym listing.shown) (IsPermutation-map second _ _ listing.same)) in
+    let mine : AllByRecursion (λ t. IsInTable layout table (listed_row layout t)) table = all_from (λ t. IsInTable layout table (listed_row layout t)) table (λ t there.
     let keyed = all_has IsKeyed table t are.keyed there in
     let here : has keyed.0 t ≡ true = ap (λ v. Rattle.std.specs.Ordering.is_eq (Rattle.sqlite_value.specs.Order.value_cmp v (whole keyed.0))) keyed.1 ∙ same_key keyed.0 keyed.0 ∙ is_self keyed.0 in
-    (keyed.0, keyed.1, ap (option_map shown_of) (the_row keyed.0 table are.once t there here))) in
-    all-permutation (IsInTable table) _ _ moved (all-map _ _ _ mine)
+    (keyed.0, keyed.1, ap (option_map (shown_of layout)) (the_row keyed.0 table are.once t there here) ∙ ap Some (sym (shown_listed layout t)))) in
+    all-permutation (IsInTable layout table) _ _ moved (all-map _ _ _ mine)
 
-pub listed : (table rows : List Row) → rise_from None rows ≡ true → IsListing table rows → AreListed table rows
-listed table rows rises listing =
-    let are = rows_of_listing table rows listing rises in record {
+pub listed : (layout : Layout) (table rows : List Row) → rise_from None rows ≡ true → IsListing layout table rows → AreListed layout table rows
+listed layout table rows rises listing =
+    let are = rows_of_listing layout table rows listing rises in record {
       rows = are;
-      each = stands table rows are listing;
+      each = stands layout table rows are listing;
       found = λ n.
           let second = λ (p : Row × Row). p.1 in
-          let moved : IsPermutation (map listed_row table) rows =
-          subst (λ l. IsPermutation l rows) (map-map second with_key table) (subst (IsPermutation (map second (map with_key table))) (sym listing.shown) (IsPermutation-map second _ _ listing.same)) in
-          let mine : filter (has n) (map listed_row table) ≡ option_to_list (option_map listed_row (found_at table n)) = filter-map (has n) listed_row table ∙ ap (map listed_row) (are.once n) ∙ map_option listed_row (found_at table n) in
-          let both : filter (has n) rows ≡ option_to_list (option_map listed_row (found_at table n)) =
+          let moved : IsPermutation (map (listed_row layout) table) rows =
+          subst (λ l. IsPermutation l rows) (map-map second (with_key layout) table) (subst (IsPermutation (map second (map (with_key layout) table))) (sym listing.shown) (IsPermutation-map second _ _ listing.same)) in
+          let mine : filter (has n) (map (listed_row layout) table) ≡ option_to_list (option_map (listed_row layout) (found_at table n)) = filter-map (has n) (listed_row layout) table ∙ ap (map (listed_row layout)) (are.once n) ∙ map_option (listed_row layout) (found_at table n) in
+          let both : filter (has n) rows ≡ option_to_list (option_map (listed_row layout) (found_at table n)) =
           short_permutation _ _ (subst (λ l. IsPermutation l (filter (has n) rows)) mine (IsPermutation-filter (has n) _ _ moved)) in
-          let found : find (has n) rows ≡ option_map listed_row (found_at table n) = same_options _ _ (sym (short (has n) rows (at_most_one None rows rises n)) ∙ both) in
-          then_map (found_at table n) ∙ ap (option_map listed_columns) (sym found ∙ by_number n None rows rises);
+          let found : find (has n) rows ≡ option_map (listed_row layout) (found_at table n) = same_options _ _ (sym (short (has n) rows (at_most_one None rows rises n)) ∙ both) in
+          then_map layout (found_at table n) ∙ ap (option_map (listed_columns layout)) (sym found ∙ by_number n None rows rises);
     }

@@ -9,14 +9,15 @@ use Rattle.sqlite.specs.Command.TheVariants.{Select}
 use Rattle.sqlite.specs.Query.{Output, output}
 use Rattle.sqlite.specs.State.{State, Shown}
 use Rattle.sqlite.proofs.Callers.{reads_as}
-use Rattle.row_table.specs.Tables.{station_tree, row_schema}
+use Rattle.row_table.specs.Tables.{Layout, station_tree, layout_schema}
 use Rattle.row_table.specs.Station.{station_columns}
 use Rattle.row_table.proofs.AllLemmas.{as_map}
-use Rattle.row_table.proofs.TextLemmas.{station_text, station_is, station_plain, of_station, station_names}
+use Rattle.row_table.proofs.ReadTexts.{station_text, station_is, of_station, station_names}
 
-pub stations : (old new : State) (rows : List Row) → old.now.schema ≡ row_schema → Shown station_text [] old new rows → IsPermutation (map station_columns (old.now.trees station_tree)) rows
-stations old new rows schema h =
-    let a = (reads_as station_text [] old new row_schema schema (Select (record { lets = []; body = of_station }) station_names) station_is.0 station_plain station_is.1 rows h).answer Null in
+pub stations : (layout : Layout) (old new : State) (rows : List Row) → old.now.schema ≡ layout_schema layout → Shown station_text [] old new rows → IsPermutation (map station_columns (old.now.trees station_tree)) rows
+stations layout old new rows schema h =
+    let is = station_is layout in
+    let a = (reads_as station_text [] old new (layout_schema layout) schema (Select (record { lets = []; body = of_station }) station_names) is.command is.plain is.unlisted rows h).answer Null in
     let table = old.now.trees station_tree in
     let out = λ (p : Output). p.1 in
     let kept : a.kept ≡ map (output of_station) (map (λ r. [] ∷ r ∷ []) table) = a.distinct ∙ ap (map (output of_station)) (a.grouped ∙ as_map table) in

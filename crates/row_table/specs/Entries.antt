@@ -1,14 +1,17 @@
 -- The table of entries, and what an upgrade makes of a database.
 use Rattle.std.specs.Prelude.{◌≡◌, ◌<◌, ℕ, List, [], ◌∷◌, Option, option_map, IsTrue, false}
-use Rattle.sqlite_value.specs.declared.value.Value.TheVariants.{Null, Blob}
+use Rattle.sqlite_value.specs.declared.value.Value.TheVariants.{Blob}
 use Rattle.sqlite_value.specs.Order.{Row}
 use Rattle.sqlite_trees.specs.Tree.{Trees, put_row}
+use Rattle.sqlite_trees.specs.Objects.{catalog_tree}
+use Rattle.sqlite_catalog.specs.Listing.{Lists}
 use Rattle.sqlite.specs.State.{State}
 use Rattle.sqlite.specs.Values.{or_null}
 use Rattle.row_table.specs.Tables.{Origin, rows_tree, station_tree, entries_tree, entry_schema}
 use Rattle.row_table.specs.Tables.Origin.{Upgraded}
+use Rattle.row_table.specs.Tables.Layout.{First, Second}
 use Rattle.row_table.specs.Rows.{whole, stored}
-use Rattle.row_table.specs.Station.{station_row}
+use Rattle.row_table.specs.Station.{station_row, station_columns}
 use Rattle.row_table.specs.declared.entries.EntryColumns.{EntryColumns}
 
 -- the columns beside the number: the promise, and the vote with the length of its entry and its packed frames
@@ -32,23 +35,22 @@ pub record HasEntries (origin : Origin) (before : Trees) (rows : List Row) (new 
   pub others : (tree : ℕ) → tree < entries_tree origin → new.now.trees tree ≡ before tree
   pub inside : IsTrue new.in_transaction
 
--- the row of the station, as the table stores it, in layout 2
-abbrev pub upgraded_row : ℕ → ℕ → ℕ → Row
-upgraded_row circuit member members = whole 1 ∷ Null ∷ whole 2 ∷ whole circuit ∷ whole member ∷ whole members ∷ []
-
--- the table of the station has its one row, in layout 1
+-- the table of the station has its one row, with its key, in layout 1
 pub record HasLayoutOne (db : Trees) : Type 0 where
   pub circuit : ℕ
   pub member : ℕ
   pub members : ℕ
-  pub station : db station_tree ≡ station_row circuit member members ∷ []
+  pub row : Row
+  pub station : db station_tree ≡ row ∷ []
+  pub columns : station_columns row ≡ station_columns (station_row First circuit member members)
 
--- an upgraded database has these rows of entries, the table of rows as it was, and the same station, in layout 2
+-- an upgraded database has these rows of entries, the table of rows as it was, and the same station, in layout 2; its catalog lists the three tables
 pub record IsUpgraded (before : Trees) (rows : List Row) (db : Trees) : Type 0 where
   pub entries : db (entries_tree Upgraded) ≡ rows
   pub old_rows : db rows_tree ≡ before rows_tree
   pub was : HasLayoutOne before
-  pub station : db station_tree ≡ upgraded_row was.circuit was.member was.members ∷ []
+  pub station : db station_tree ≡ station_row (Second Upgraded) was.circuit was.member was.members ∷ []
+  pub tables : Lists (db catalog_tree) (entry_schema Upgraded)
 
 -- a transaction is open that has upgraded the database
 pub record HasUpgraded (before : Trees) (rows : List Row) (new : State) : Type 0 where

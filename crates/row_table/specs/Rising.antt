@@ -4,6 +4,8 @@ use Rattle.std.specs.List.{AllByRecursion}
 use Rattle.sqlite_value.specs.declared.value.Value.{Value}
 use Rattle.sqlite_value.specs.declared.value.Value.TheVariants.{Null, Int, Real, Text, Blob}
 use Rattle.sqlite_value.specs.Order.{Row, column}
+use Rattle.row_table.specs.Tables.{Layout}
+use Rattle.row_table.specs.Tables.Layout.{First, Second}
 use Rattle.row_table.specs.Rows.{whole, AreRows, columns_at}
 
 abbrev pub number_in : ℤ → Option ℕ
@@ -35,19 +37,20 @@ is_at n None = false
 is_at n (Some k) = n == k
 
 -- the columns beside the number, of a row of a listing
-abbrev pub listed_columns : Row → Row
-listed_columns r = column r 1 ∷ column r 2 ∷ column r 3 ∷ column r 4 ∷ column r 5 ∷ []
+abbrev pub listed_columns : Layout → Row → Row
+listed_columns First r = column r 1 ∷ column r 2 ∷ column r 3 ∷ column r 4 ∷ column r 5 ∷ []
+listed_columns (Second origin) r = column r 1 ∷ column r 2 ∷ column r 3 ∷ column r 4 ∷ column r 5 ∷ column r 6 ∷ []
 
 -- those of the row that has the number, if there is one
-abbrev pub listed_at : List Row → ℕ → Option Row
-listed_at rows n = option_map listed_columns (find (λ r. is_at n (key_of (column r 0))) rows)
+abbrev pub listed_at : Layout → List Row → ℕ → Option Row
+listed_at layout rows n = option_map (listed_columns layout) (find (λ r. is_at n (key_of (column r 0))) rows)
 
 -- a row of a listing stands in the table, under its number
-abbrev pub IsInTable : List Row → Row → Type 0
-IsInTable table r = (n : ℕ) × (column r 0 ≡ whole n) × (columns_at table n ≡ Some (listed_columns r))
+abbrev pub IsInTable : Layout → List Row → Row → Type 0
+IsInTable layout table r = (n : ℕ) × (column r 0 ≡ whole n) × (columns_at layout table n ≡ Some (listed_columns layout r))
 
 -- the table has whole numbers as keys, each once, and at each of them what its listing has
-pub record AreListed (table listing : List Row) : Type 0 where
+pub record AreListed (layout : Layout) (table listing : List Row) : Type 0 where
   pub rows : AreRows table
-  pub found : (n : ℕ) → columns_at table n ≡ listed_at listing n
-  pub each : AllByRecursion (IsInTable table) listing
+  pub found : (n : ℕ) → columns_at layout table n ≡ listed_at layout listing n
+  pub each : AllByRecursion (IsInTable layout table) listing

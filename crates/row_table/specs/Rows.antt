@@ -7,7 +7,8 @@ use Rattle.sqlite_value.specs.Order.{Row, column, value_cmp}
 use Rattle.sqlite_trees.specs.Tree.{Trees, rowid, has_rowid}
 use Rattle.sqlite.specs.Effect.{Database}
 use Rattle.sqlite.specs.State.{State, HasCleanDisk}
-use Rattle.row_table.specs.Tables.{rows_tree, row_schema}
+use Rattle.row_table.specs.Tables.{Layout, layout_tree, layout_schema}
+use Rattle.row_table.specs.Tables.Layout.{First, Second}
 use Rattle.sqlite.specs.Values.{or_null}
 
 abbrev pub whole : ℕ → Value
@@ -37,15 +38,16 @@ pub record AreRows (rows : List Row) : Type 0 where
   pub once : AreOnce rows
 
 -- what a row shows beside its number
-abbrev pub shown_of : Row → Row
-shown_of r = column r 2 ∷ column r 3 ∷ column r 4 ∷ column r 5 ∷ column r 6 ∷ []
+abbrev pub shown_of : Layout → Row → Row
+shown_of First r = column r 2 ∷ column r 3 ∷ column r 4 ∷ column r 5 ∷ column r 6 ∷ []
+shown_of (Second origin) r = column r 2 ∷ column r 3 ∷ column r 4 ∷ column r 5 ∷ column r 6 ∷ column r 7 ∷ []
 
 -- the row with the number, if there is one, and its columns
 abbrev pub found_at : List Row → ℕ → Option Row
 found_at rows n = find (has_rowid (pos n)) rows
 
-abbrev pub columns_at : List Row → ℕ → Option Row
-columns_at rows n = option_map shown_of (found_at rows n)
+abbrev pub columns_at : Layout → List Row → ℕ → Option Row
+columns_at layout rows n = option_map (shown_of layout) (found_at rows n)
 
 -- this row is put in the place of the one that had its number, and no other changes
 pub record Saves (n : ℕ) (columns : Row) (old new : List Row) : Type 0 where
@@ -53,30 +55,30 @@ pub record Saves (n : ℕ) (columns : Row) (old new : List Row) : Type 0 where
   pub saved : (k : ℕ) → found_at new k ≡ cond (n == k) (Some (stored n columns)) (found_at old k)
 
 -- and in no other tree
-pub record SavesIn (n : ℕ) (columns : Row) (old new : Trees) : Type 0 where
-  pub rows : Saves n columns (old rows_tree) (new rows_tree)
-  pub others : (t : ℕ) → t ≢ rows_tree → new t ≡ old t
+pub record SavesIn (layout : Layout) (n : ℕ) (columns : Row) (old new : Trees) : Type 0 where
+  pub rows : Saves n columns (old (layout_tree layout)) (new (layout_tree layout))
+  pub others : (t : ℕ) → t ≢ layout_tree layout → new t ≡ old t
 
-pub record IsSaved (n : ℕ) (columns : Row) (old new : Database) : Type 0 where
+pub record IsSaved (layout : Layout) (n : ℕ) (columns : Row) (old new : Database) : Type 0 where
   pub schema : new.schema ≡ old.schema
-  pub trees : SavesIn n columns old.trees new.trees
+  pub trees : SavesIn layout n columns old.trees new.trees
 
--- ---- a connection on the tables
+-- ---- a connection on the tables of a layout
 
-pub record IsAtRest (s : State) : Type 0 where
-  pub schema : s.now.schema ≡ row_schema
-  pub rows : AreRows (s.now.trees rows_tree)
+pub record IsAtRest (layout : Layout) (s : State) : Type 0 where
+  pub schema : s.now.schema ≡ layout_schema layout
+  pub rows : AreRows (s.now.trees (layout_tree layout))
   pub settled : s.committed ≡ s.now
 
 -- in no transaction, and at rest while it is open
-abbrev pub Serves : State → Type 0
-Serves s = HasCleanDisk s → (s.in_transaction ≡ false) × (IsTrue s.is_open → IsAtRest s)
+abbrev pub Serves : Layout → State → Type 0
+Serves layout s = HasCleanDisk s → (s.in_transaction ≡ false) × (IsTrue s.is_open → IsAtRest layout s)
 
 -- the row is saved, and a crash leaves it
-pub record WasSaved (n : ℕ) (columns : Row) (old new : State) : Type 0 where
+pub record WasSaved (layout : Layout) (n : ℕ) (columns : Row) (old new : State) : Type 0 where
   pub was_open : IsTrue old.is_open
   pub is_open : IsTrue new.is_open
-  pub saved : IsSaved n columns old.now new.now
+  pub saved : IsSaved layout n columns old.now new.now
   pub crash : (db : Trees) → new.may_leave db → db ≡ new.now.trees
 
 -- nothing is changed
@@ -85,15 +87,15 @@ pub record WasKept (old new : State) : Type 0 where
   pub same : new.now ≡ old.now
 
 -- a row as the list of all rows shows it
-abbrev pub listed_row : Row → Row
-listed_row r = column r 0 ∷ column r 2 ∷ column r 3 ∷ column r 4 ∷ column r 5 ∷ column r 6 ∷ []
+abbrev pub listed_row : Layout → Row → Row
+listed_row layout r = column r 0 ∷ shown_of layout r
 
-abbrev pub with_key : Row → Row × Row
-with_key r = (column r 0 ∷ [], listed_row r)
+abbrev pub with_key : Layout → Row → Row × Row
+with_key layout r = (column r 0 ∷ [], listed_row layout r)
 
 -- the rows of the table in the order of their keys
-pub record IsListing (table rows : List Row) : Type 0 where
+pub record IsListing (layout : Layout) (table rows : List Row) : Type 0 where
   pub ordered : List (Row × Row)
-  pub same : IsPermutation (map with_key table) ordered
+  pub same : IsPermutation (map (with_key layout) table) ordered
   pub sorted : IsSorted (λ a b. value_cmp (column a.0 0) (column b.0 0)) ordered
   pub shown : rows ≡ map (λ p. p.1) ordered

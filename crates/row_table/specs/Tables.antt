@@ -104,6 +104,26 @@ abbrev pub entry_schema : Origin → Schema
 entry_schema Created = record { tables = station ∷ acceptor_entry 1 ∷ []; indexes = []; views = [] }
 entry_schema Upgraded = record { tables = station ∷ acceptor_row ∷ acceptor_entry 2 ∷ []; indexes = []; views = [] }
 
+-- the layouts of a database: the saved rows are in the table of rows, or in the table of entries
+pub data Layout : Type 0 where
+  First : Layout
+  Second : Origin → Layout
+
+-- its number, as the row of the station tells it
+abbrev pub layout_number : Layout → ℕ
+layout_number First = 1
+layout_number (Second origin) = 2
+
+-- the tree of the table that the saved rows are in
+abbrev pub layout_tree : Layout → ℕ
+layout_tree First = rows_tree
+layout_tree (Second origin) = entries_tree origin
+
+-- the schema with that table and the station, and no other table but the one that was upgraded
+abbrev pub layout_schema : Layout → Schema
+layout_schema First = row_schema
+layout_schema (Second origin) = entry_schema origin
+
 -- the schema of an empty database
 abbrev pub no_schema : Schema
 no_schema = record { tables = []; indexes = []; views = [] }

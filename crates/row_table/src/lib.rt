@@ -2,6 +2,7 @@
 #![tactic(auto)]
 
 mod entries;
+mod entry_rows;
 mod rising;
 mod rows;
 mod station;
@@ -9,8 +10,9 @@ mod tables;
 mod upgrading;
 
 pub use entries::{EntryColumns, add_entries, add_entry, make_entry_table};
+pub use entry_rows::{all_entries, get_entry, put_entry};
 pub use rising::are_rising;
 pub use rows::{all_rows, get_row, put_row};
 pub use station::get_station;
-pub use tables::create_tables;
+pub use tables::{create_entry_tables, create_tables};
 pub use upgrading::upgrade_tables;

@@ -2,6 +2,7 @@
 
 ghost use Rattle.std.specs.Prelude.{None, ◌≡◌, IsTrue};
 ghost use Rattle.sqlite_value.specs.Order.{column};
+ghost use Rattle.row_table.specs.Tables.{Layout};
 ghost use Rattle.row_table.specs.Rising.{key_of, rise_from, AreListed};
 ghost use Rattle.row_table.specs.Rows.{IsListing};
 
@@ -42,7 +43,7 @@ fn rise(rows: &[Row]) -> bool
 /// and what is found in the one is found in the other.
 pub fn are_rising(rows: &[Row]) -> bool
     ensures test { result ≡ rise_from None rows.now }
-    ensures table { IsTrue result → (table : _) → IsListing table rows.now → AreListed table rows.now }
+    ensures table { IsTrue result → (layout : Layout) (table : _) → IsListing layout table rows.now → AreListed layout table rows.now }
 {
     rise(rows)
 }

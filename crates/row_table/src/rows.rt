@@ -4,7 +4,8 @@ ghost use Rattle.std.specs.Prelude.{◌≡◌, ◌⊎◌, ◌≤◌, OnOk, OnErr
 ghost use Rattle.sqlite_trees.specs.View.{doubt};
 ghost use Rattle.sqlite.specs.State.{HasCleanDisk, IsUnchanged};
 ghost use Rattle.sqlite.specs.Held.{state};
-ghost use Rattle.row_table.specs.Tables.{rows_tree, row_schema};
+ghost use Rattle.row_table.specs.Tables.{rows_tree, layout_schema};
+ghost use Rattle.row_table.specs.Tables.Layout.{First};
 ghost use Rattle.row_table.specs.Rows.{columns_of, columns_at, SavesIn, Serves, WasSaved, WasKept, IsListing, AreRows};
 
 use sqlite::{Alter, Connection, Error, Row, params};
@@ -19,12 +20,12 @@ fn replace_row<S: Alter>(
     vote_owner: Option<u32>,
     tape: Option<&[u8]>,
 ) -> Result<usize, Error>
-    ensures serves { Serves (state S.Store conn.old) → Serves (state S.Store conn.new) }
-    ensures saved { Serves (state S.Store conn.old) → HasCleanDisk (state S.Store conn.new) → OnOk result (WasSaved number (columns_of promised_round promised_owner vote_round vote_owner (option_map (λ b. b.now) tape.entry)) (state S.Store conn.old) (state S.Store conn.new)) }
-    ensures err { Serves (state S.Store conn.old) → HasCleanDisk (state S.Store conn.new) → IsTrue (state S.Store conn.new).is_open → OnErr result (WasKept (state S.Store conn.old) (state S.Store conn.new)) }
-    ensures crash { Serves (state S.Store conn.old) → HasCleanDisk (state S.Store conn.new) → IsTrue (state S.Store conn.old).is_open
+    ensures serves { Serves First (state S.Store conn.old) → Serves First (state S.Store conn.new) }
+    ensures saved { Serves First (state S.Store conn.old) → HasCleanDisk (state S.Store conn.new) → OnOk result (WasSaved First number (columns_of promised_round promised_owner vote_round vote_owner (option_map (λ b. b.now) tape.entry)) (state S.Store conn.old) (state S.Store conn.new)) }
+    ensures err { Serves First (state S.Store conn.old) → HasCleanDisk (state S.Store conn.new) → IsTrue (state S.Store conn.new).is_open → OnErr result (WasKept (state S.Store conn.old) (state S.Store conn.new)) }
+    ensures crash { Serves First (state S.Store conn.old) → HasCleanDisk (state S.Store conn.new) → IsTrue (state S.Store conn.old).is_open
         → (db : _) → (state S.Store conn.new).may_leave db → (db ≡ (state S.Store conn.old).now.trees)
-        ⊎ SavesIn number (columns_of promised_round promised_owner vote_round vote_owner (option_map (λ b. b.now) tape.entry)) (state S.Store conn.old).now.trees db }
+        ⊎ SavesIn First number (columns_of promised_round promised_owner vote_round vote_owner (option_map (λ b. b.now) tape.entry)) (state S.Store conn.old).now.trees db }
     ensures clean { doubt (state S.Store conn.old).is_clean ≤ doubt (state S.Store conn.new).is_clean }
 {
     conn.execute(
@@ -50,12 +51,12 @@ pub fn put_row<S: Alter>(
     vote_owner: Option<u32>,
     tape: Option<&[u8]>,
 ) -> Result<(), Error>
-    ensures serves { Serves (state S.Store conn.old) → Serves (state S.Store conn.new) }
-    ensures saved { Serves (state S.Store conn.old) → HasCleanDisk (state S.Store conn.new) → OnOk result (WasSaved number (columns_of promised_round promised_owner vote_round vote_owner (option_map (λ b. b.now) tape.entry)) (state S.Store conn.old) (state S.Store conn.new)) }
-    ensures err { Serves (state S.Store conn.old) → HasCleanDisk (state S.Store conn.new) → IsTrue (state S.Store conn.new).is_open → OnErr result (WasKept (state S.Store conn.old) (state S.Store conn.new)) }
-    ensures crash { Serves (state S.Store conn.old) → HasCleanDisk (state S.Store conn.new) → IsTrue (state S.Store conn.old).is_open
+    ensures serves { Serves First (state S.Store conn.old) → Serves First (state S.Store conn.new) }
+    ensures saved { Serves First (state S.Store conn.old) → HasCleanDisk (state S.Store conn.new) → OnOk result (WasSaved First number (columns_of promised_round promised_owner vote_round vote_owner (option_map (λ b. b.now) tape.entry)) (state S.Store conn.old) (state S.Store conn.new)) }
+    ensures err { Serves First (state S.Store conn.old) → HasCleanDisk (state S.Store conn.new) → IsTrue (state S.Store conn.new).is_open → OnErr result (WasKept (state S.Store conn.old) (state S.Store conn.new)) }
+    ensures crash { Serves First (state S.Store conn.old) → HasCleanDisk (state S.Store conn.new) → IsTrue (state S.Store conn.old).is_open
         → (db : _) → (state S.Store conn.new).may_leave db → (db ≡ (state S.Store conn.old).now.trees)
-        ⊎ SavesIn number (columns_of promised_round promised_owner vote_round vote_owner (option_map (λ b. b.now) tape.entry)) (state S.Store conn.old).now.trees db }
+        ⊎ SavesIn First number (columns_of promised_round promised_owner vote_round vote_owner (option_map (λ b. b.now) tape.entry)) (state S.Store conn.old).now.trees db }
     ensures clean { doubt (state S.Store conn.old).is_clean ≤ doubt (state S.Store conn.new).is_clean }
 {
     let replaced = replace_row(
@@ -75,11 +76,11 @@ pub fn put_row<S: Alter>(
 
 /// The columns that are saved under a number: at most one row.
 pub fn get_row<S: Alter>(conn: &mut Connection<S>, number: u32) -> Result<Vec<Row>, Error>
-    ensures serves { Serves (state S.Store conn.old) → Serves (state S.Store conn.new) }
-    ensures found { Serves (state S.Store conn.old) → HasCleanDisk (state S.Store conn.new) → IfOk result (λ rows. rows.items ≡ option_to_list (columns_at ((state S.Store conn.old).now.trees rows_tree) number)) }
-    ensures open { Serves (state S.Store conn.old) → HasCleanDisk (state S.Store conn.new) → OnOk result (IsTrue (state S.Store conn.new).is_open) }
-    ensures same { Serves (state S.Store conn.old) → HasCleanDisk (state S.Store conn.new) → IsTrue (state S.Store conn.new).is_open → WasKept (state S.Store conn.old) (state S.Store conn.new) }
-    ensures crash { Serves (state S.Store conn.old) → HasCleanDisk (state S.Store conn.new) → IsTrue (state S.Store conn.old).is_open
+    ensures serves { Serves First (state S.Store conn.old) → Serves First (state S.Store conn.new) }
+    ensures found { Serves First (state S.Store conn.old) → HasCleanDisk (state S.Store conn.new) → IfOk result (λ rows. rows.items ≡ option_to_list (columns_at First ((state S.Store conn.old).now.trees rows_tree) number)) }
+    ensures open { Serves First (state S.Store conn.old) → HasCleanDisk (state S.Store conn.new) → OnOk result (IsTrue (state S.Store conn.new).is_open) }
+    ensures same { Serves First (state S.Store conn.old) → HasCleanDisk (state S.Store conn.new) → IsTrue (state S.Store conn.new).is_open → WasKept (state S.Store conn.old) (state S.Store conn.new) }
+    ensures crash { Serves First (state S.Store conn.old) → HasCleanDisk (state S.Store conn.new) → IsTrue (state S.Store conn.old).is_open
         → (db : _) → (state S.Store conn.new).may_leave db → (state S.Store conn.old).may_leave db }
     ensures clean { doubt (state S.Store conn.old).is_clean ≤ doubt (state S.Store conn.new).is_clean }
 {
@@ -91,26 +92,26 @@ pub fn get_row<S: Alter>(conn: &mut Connection<S>, number: u32) -> Result<Vec<Ro
 
 /// All rows, by their numbers.
 pub fn all_rows<S: Alter>(conn: &mut Connection<S>) -> Result<Vec<Row>, Error>
-    ensures unchanged { HasCleanDisk (state S.Store conn.new) → (state S.Store conn.old).now.schema ≡ row_schema → OnOk result (IsUnchanged (state S.Store conn.old) (state S.Store conn.new)) }
-    ensures listed { HasCleanDisk (state S.Store conn.new) → (state S.Store conn.old).now.schema ≡ row_schema → IfOk result (λ rows. IsListing ((state S.Store conn.old).now.trees rows_tree) rows.items) }
-    ensures serves { Serves (state S.Store conn.old) → Serves (state S.Store conn.new) }
-    ensures open { Serves (state S.Store conn.old) → HasCleanDisk (state S.Store conn.new) → OnOk result (IsTrue (state S.Store conn.new).is_open) }
-    ensures at_rest { Serves (state S.Store conn.old) → HasCleanDisk (state S.Store conn.new) → OnOk result ((state S.Store conn.old).now.schema ≡ row_schema) }
-    ensures same { Serves (state S.Store conn.old) → HasCleanDisk (state S.Store conn.new) → IsTrue (state S.Store conn.new).is_open → WasKept (state S.Store conn.old) (state S.Store conn.new) }
-    ensures crash { Serves (state S.Store conn.old) → HasCleanDisk (state S.Store conn.new) → IsTrue (state S.Store conn.old).is_open
+    ensures unchanged { HasCleanDisk (state S.Store conn.new) → (state S.Store conn.old).now.schema ≡ layout_schema First → OnOk result (IsUnchanged (state S.Store conn.old) (state S.Store conn.new)) }
+    ensures listed { HasCleanDisk (state S.Store conn.new) → (state S.Store conn.old).now.schema ≡ layout_schema First → IfOk result (λ rows. IsListing First ((state S.Store conn.old).now.trees rows_tree) rows.items) }
+    ensures serves { Serves First (state S.Store conn.old) → Serves First (state S.Store conn.new) }
+    ensures open { Serves First (state S.Store conn.old) → HasCleanDisk (state S.Store conn.new) → OnOk result (IsTrue (state S.Store conn.new).is_open) }
+    ensures at_rest { Serves First (state S.Store conn.old) → HasCleanDisk (state S.Store conn.new) → OnOk result ((state S.Store conn.old).now.schema ≡ layout_schema First) }
+    ensures same { Serves First (state S.Store conn.old) → HasCleanDisk (state S.Store conn.new) → IsTrue (state S.Store conn.new).is_open → WasKept (state S.Store conn.old) (state S.Store conn.new) }
+    ensures crash { Serves First (state S.Store conn.old) → HasCleanDisk (state S.Store conn.new) → IsTrue (state S.Store conn.old).is_open
         → (db : _) → (state S.Store conn.new).may_leave db → (state S.Store conn.old).may_leave db }
 
     // On any table, outside a transaction, it changes nothing.
-    ensures rests { HasCleanDisk (state S.Store conn.new) → (state S.Store conn.old).now.schema ≡ row_schema
+    ensures rests { HasCleanDisk (state S.Store conn.new) → (state S.Store conn.old).now.schema ≡ layout_schema First
         → (IsTrue (state S.Store conn.old).is_open → (state S.Store conn.old).now ≡ (state S.Store conn.old).committed) → IsTrue (state S.Store conn.new).is_open
         → WasKept (state S.Store conn.old) (state S.Store conn.new) × ((state S.Store conn.new).now ≡ (state S.Store conn.new).committed) }
-    ensures leaves { HasCleanDisk (state S.Store conn.new) → (state S.Store conn.old).now.schema ≡ row_schema → (db : _) → (state S.Store conn.new).may_leave db → (state S.Store conn.old).may_leave db }
+    ensures leaves { HasCleanDisk (state S.Store conn.new) → (state S.Store conn.old).now.schema ≡ layout_schema First → (db : _) → (state S.Store conn.new).may_leave db → (state S.Store conn.old).may_leave db }
     ensures alone { (state S.Store conn.old).in_transaction ≡ false → (state S.Store conn.new).in_transaction ≡ false }
 
     // A connection on a table of rows serves.
-    ensures begins { (state S.Store conn.old).now.schema ≡ row_schema → (state S.Store conn.old).in_transaction ≡ false
+    ensures begins { (state S.Store conn.old).now.schema ≡ layout_schema First → (state S.Store conn.old).in_transaction ≡ false
         → (IsTrue (state S.Store conn.old).is_open → (state S.Store conn.old).now ≡ (state S.Store conn.old).committed)
-        → AreRows ((state S.Store conn.old).now.trees rows_tree) → HasCleanDisk (state S.Store conn.new) → OnOk result (Serves (state S.Store conn.new)) }
+        → AreRows ((state S.Store conn.old).now.trees rows_tree) → HasCleanDisk (state S.Store conn.new) → OnOk result (Serves First (state S.Store conn.new)) }
     ensures clean { doubt (state S.Store conn.old).is_clean ≤ doubt (state S.Store conn.new).is_clean }
 {
     conn.query_all(

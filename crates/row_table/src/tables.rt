@@ -4,17 +4,22 @@ ghost use Rattle.std.specs.Prelude.{◌≡◌, ◌⊎◌, ◌≤◌, false, [], 
 ghost use Rattle.sqlite_trees.specs.View.{doubt};
 ghost use Rattle.sqlite.specs.State.{HasCleanDisk, KeepsCommit, Survives};
 ghost use Rattle.sqlite.specs.Held.{state};
-ghost use Rattle.row_table.specs.Tables.{no_schema, row_schema, rows_tree, station_tree};
+ghost use Rattle.row_table.specs.Tables.{Layout, no_schema, station_schema, station_tree, layout_number};
+ghost use Rattle.row_table.specs.Tables.Layout.{First, Second};
+ghost use Rattle.row_table.specs.Tables.Origin.{Created};
 ghost use Rattle.row_table.specs.Rows.{Serves};
 ghost use Rattle.row_table.specs.Station.{HoldsNone, HasTables, HasAll, WasMade};
 
+use crate::entries::make_entry_table;
 use sqlite::{Alter, Connection, Error, Transaction, params};
 
-/// Makes the two tables, in a transaction.
-fn make_tables<S: Alter>(tx: &mut Transaction<'_, S>) -> Result<(), Error>
+/// Makes the table of the station, in a transaction in an empty database.
+fn make_station_table<S: Alter>(tx: &mut Transaction<'_, S>) -> Result<(), Error>
     ensures same_reference { tx.new.conn.ghost_name ≡ tx.old.conn.ghost_name }
-    ensures made { HasCleanDisk (state S.Store tx.new.conn.now) → IsTrue (state S.Store tx.old.conn.now).in_transaction → (state S.Store tx.old.conn.now).now.schema ≡ no_schema
-        → OnOk result (HasTables (state S.Store tx.new.conn.now)) }
+    ensures schema { HasCleanDisk (state S.Store tx.new.conn.now) → IsTrue (state S.Store tx.old.conn.now).in_transaction → (state S.Store tx.old.conn.now).now.schema ≡ no_schema
+        → OnOk result ((state S.Store tx.new.conn.now).now.schema ≡ station_schema) }
+    ensures empty { HasCleanDisk (state S.Store tx.new.conn.now) → IsTrue (state S.Store tx.old.conn.now).in_transaction → (state S.Store tx.old.conn.now).now.schema ≡ no_schema
+        → OnOk result ((state S.Store tx.new.conn.now).now.trees station_tree ≡ []) }
     ensures inside { HasCleanDisk (state S.Store tx.new.conn.now) → IsTrue (state S.Store tx.old.conn.now).in_transaction → OnOk result (IsTrue (state S.Store tx.new.conn.now).in_transaction) }
     ensures kept { HasCleanDisk (state S.Store tx.new.conn.now) → IsTrue (state S.Store tx.old.conn.now).in_transaction → KeepsCommit (state S.Store tx.old.conn.now) (state S.Store tx.new.conn.now) }
     ensures survives { Survives (state S.Store tx.old.conn.now) (state S.Store tx.new.conn.now) (λ _. ⊥) }
@@ -23,6 +28,19 @@ fn make_tables<S: Alter>(tx: &mut Transaction<'_, S>) -> Result<(), Error>
         "CREATE TABLE station (one INTEGER PRIMARY KEY CHECK (one = 1),\n  layout INTEGER NOT NULL, circuit INTEGER NOT NULL,\n  member INTEGER NOT NULL, members INTEGER NOT NULL) STRICT",
         &[],
     )?;
+    Ok(())
+}
+
+/// Makes the table of rows beside that of the station, in a transaction.
+fn make_row_table<S: Alter>(tx: &mut Transaction<'_, S>) -> Result<(), Error>
+    ensures same_reference { tx.new.conn.ghost_name ≡ tx.old.conn.ghost_name }
+    ensures made { HasCleanDisk (state S.Store tx.new.conn.now) → IsTrue (state S.Store tx.old.conn.now).in_transaction
+        → (state S.Store tx.old.conn.now).now.schema ≡ station_schema → (state S.Store tx.old.conn.now).now.trees station_tree ≡ []
+        → OnOk result (HasTables First (state S.Store tx.new.conn.now)) }
+    ensures inside { HasCleanDisk (state S.Store tx.new.conn.now) → IsTrue (state S.Store tx.old.conn.now).in_transaction → OnOk result (IsTrue (state S.Store tx.new.conn.now).in_transaction) }
+    ensures kept { HasCleanDisk (state S.Store tx.new.conn.now) → IsTrue (state S.Store tx.old.conn.now).in_transaction → KeepsCommit (state S.Store tx.old.conn.now) (state S.Store tx.new.conn.now) }
+    ensures survives { Survives (state S.Store tx.old.conn.now) (state S.Store tx.new.conn.now) (λ _. ⊥) }
+{
     tx.execute(
         "CREATE TABLE acceptor_row (number INTEGER PRIMARY KEY,\n  promised_round INTEGER NOT NULL, promised_owner INTEGER NOT NULL,\n  vote_round INTEGER, vote_owner INTEGER, tape BLOB) STRICT",
         &[],
@@ -30,28 +48,69 @@ fn make_tables<S: Alter>(tx: &mut Transaction<'_, S>) -> Result<(), Error>
     Ok(())
 }
 
-/// Adds the row of the station, in a transaction.
+/// Adds the row of the station, in a transaction on the tables of the layout with this number.
 fn add_station<S: Alter>(
+    tx: &mut Transaction<'_, S>,
+    layout: u32,
+    circuit: u32,
+    member: u32,
+    members: u32,
+) -> Result<(), Error>
+    ensures same_reference { tx.new.conn.ghost_name ≡ tx.old.conn.ghost_name }
+    ensures added { HasCleanDisk (state S.Store tx.new.conn.now) → (declared : Layout) → layout ≡ layout_number declared → HasTables declared (state S.Store tx.old.conn.now)
+        → OnOk result (HasAll declared circuit member members (state S.Store tx.new.conn.now)) }
+    ensures inside { HasCleanDisk (state S.Store tx.new.conn.now) → IsTrue (state S.Store tx.old.conn.now).in_transaction → OnOk result (IsTrue (state S.Store tx.new.conn.now).in_transaction) }
+    ensures kept { HasCleanDisk (state S.Store tx.new.conn.now) → IsTrue (state S.Store tx.old.conn.now).in_transaction → KeepsCommit (state S.Store tx.old.conn.now) (state S.Store tx.new.conn.now) }
+    ensures survives { Survives (state S.Store tx.old.conn.now) (state S.Store tx.new.conn.now) (λ _. ⊥) }
+{
+    tx.execute(
+        "INSERT INTO station VALUES (1, ?1, ?2, ?3, ?4)",
+        params![layout, circuit, member, members],
+    )?;
+    Ok(())
+}
+
+/// Makes the tables of layout 1 and the row of the station, in a transaction in an empty database.
+fn make_layout_1<S: Alter>(
     tx: &mut Transaction<'_, S>,
     circuit: u32,
     member: u32,
     members: u32,
 ) -> Result<(), Error>
     ensures same_reference { tx.new.conn.ghost_name ≡ tx.old.conn.ghost_name }
-    ensures added { HasCleanDisk (state S.Store tx.new.conn.now) → HasTables (state S.Store tx.old.conn.now)
-        → OnOk result (HasAll circuit member members (state S.Store tx.new.conn.now)) }
+    ensures made { HasCleanDisk (state S.Store tx.new.conn.now) → IsTrue (state S.Store tx.old.conn.now).in_transaction → (state S.Store tx.old.conn.now).now.schema ≡ no_schema
+        → OnOk result (HasAll First circuit member members (state S.Store tx.new.conn.now)) }
     ensures inside { HasCleanDisk (state S.Store tx.new.conn.now) → IsTrue (state S.Store tx.old.conn.now).in_transaction → OnOk result (IsTrue (state S.Store tx.new.conn.now).in_transaction) }
     ensures kept { HasCleanDisk (state S.Store tx.new.conn.now) → IsTrue (state S.Store tx.old.conn.now).in_transaction → KeepsCommit (state S.Store tx.old.conn.now) (state S.Store tx.new.conn.now) }
     ensures survives { Survives (state S.Store tx.old.conn.now) (state S.Store tx.new.conn.now) (λ _. ⊥) }
 {
-    tx.execute(
-        "INSERT INTO station VALUES (1, 1, ?1, ?2, ?3)",
-        params![circuit, member, members],
-    )?;
+    make_station_table(tx)?;
+    make_row_table(tx)?;
+    add_station(tx, 1, circuit, member, members)?;
     Ok(())
 }
 
-/// Makes the two tables and the row of the station in one transaction, in a database that has none of them.
+/// Makes the tables of layout 2 and the row of the station, in a transaction in an empty database.
+fn make_layout_2<S: Alter>(
+    tx: &mut Transaction<'_, S>,
+    circuit: u32,
+    member: u32,
+    members: u32,
+) -> Result<(), Error>
+    ensures same_reference { tx.new.conn.ghost_name ≡ tx.old.conn.ghost_name }
+    ensures made { HasCleanDisk (state S.Store tx.new.conn.now) → IsTrue (state S.Store tx.old.conn.now).in_transaction → (state S.Store tx.old.conn.now).now.schema ≡ no_schema
+        → OnOk result (HasAll (Second Created) circuit member members (state S.Store tx.new.conn.now)) }
+    ensures inside { HasCleanDisk (state S.Store tx.new.conn.now) → IsTrue (state S.Store tx.old.conn.now).in_transaction → OnOk result (IsTrue (state S.Store tx.new.conn.now).in_transaction) }
+    ensures kept { HasCleanDisk (state S.Store tx.new.conn.now) → IsTrue (state S.Store tx.old.conn.now).in_transaction → KeepsCommit (state S.Store tx.old.conn.now) (state S.Store tx.new.conn.now) }
+    ensures survives { Survives (state S.Store tx.old.conn.now) (state S.Store tx.new.conn.now) (λ _. ⊥) }
+{
+    make_station_table(tx)?;
+    make_entry_table(tx)?;
+    add_station(tx, 2, circuit, member, members)?;
+    Ok(())
+}
+
+/// Makes the tables of layout 1, that of the station with its row and the table of rows, in one transaction, in an empty database.
 ///
 /// Where it is refused nothing is changed. A crash leaves the database as it was, or with all of this.
 pub fn create_tables<S: Alter>(
@@ -61,20 +120,46 @@ pub fn create_tables<S: Alter>(
     members: u32,
 ) -> Result<(), Error>
     requires { conn.old.in_transaction ≡ false }
-    ensures made { HasCleanDisk (state S.Store conn.new) → (state S.Store conn.old).now.schema ≡ no_schema → OnOk result (WasMade circuit member members (state S.Store conn.new)) }
-    ensures serves { (state S.Store conn.old).now.schema ≡ no_schema → HasCleanDisk (state S.Store conn.new) → OnOk result (Serves (state S.Store conn.new)) }
+    ensures made { HasCleanDisk (state S.Store conn.new) → (state S.Store conn.old).now.schema ≡ no_schema → OnOk result (WasMade First circuit member members (state S.Store conn.new)) }
+    ensures serves { (state S.Store conn.old).now.schema ≡ no_schema → HasCleanDisk (state S.Store conn.new) → OnOk result (Serves First (state S.Store conn.new)) }
     ensures lasting { HasCleanDisk (state S.Store conn.new) → (state S.Store conn.old).now.schema ≡ no_schema
-        → OnOk result ((db : _) → (state S.Store conn.new).may_leave db → HoldsNone circuit member members db) }
+        → OnOk result ((db : _) → (state S.Store conn.new).may_leave db → HoldsNone First circuit member members db) }
     ensures was_open { HasCleanDisk (state S.Store conn.new) → IsTrue (state S.Store conn.new).is_open → OnErr result (IsTrue (state S.Store conn.old).is_open) }
     ensures neither { HasCleanDisk (state S.Store conn.new) → IsTrue (state S.Store conn.new).is_open
         → OnErr result (((state S.Store conn.new).now ≡ (state S.Store conn.old).committed) × ((state S.Store conn.new).committed ≡ (state S.Store conn.old).committed)) }
     ensures crash { HasCleanDisk (state S.Store conn.new) → (state S.Store conn.old).now.schema ≡ no_schema
-        → (db : _) → (state S.Store conn.new).may_leave db → (state S.Store conn.old).may_leave db ⊎ HoldsNone circuit member members db }
+        → (db : _) → (state S.Store conn.new).may_leave db → (state S.Store conn.old).may_leave db ⊎ HoldsNone First circuit member members db }
     ensures clean { doubt (state S.Store conn.old).is_clean ≤ doubt (state S.Store conn.new).is_clean }
 {
     let mut tx = conn.transaction();
-    make_tables(&mut tx)?;
-    add_station(&mut tx, circuit, member, members)?;
+    make_layout_1(&mut tx, circuit, member, members)?;
+    tx.commit()?;
+    Ok(())
+}
+
+/// Makes the tables of layout 2, that of the station with its row and the table of entries, in one transaction, in an empty database.
+///
+/// Where it is refused nothing is changed. A crash leaves the database as it was, or with all of this.
+pub fn create_entry_tables<S: Alter>(
+    conn: &mut Connection<S>,
+    circuit: u32,
+    member: u32,
+    members: u32,
+) -> Result<(), Error>
+    requires { conn.old.in_transaction ≡ false }
+    ensures made { HasCleanDisk (state S.Store conn.new) → (state S.Store conn.old).now.schema ≡ no_schema → OnOk result (WasMade (Second Created) circuit member members (state S.Store conn.new)) }
+    ensures serves { (state S.Store conn.old).now.schema ≡ no_schema → HasCleanDisk (state S.Store conn.new) → OnOk result (Serves (Second Created) (state S.Store conn.new)) }
+    ensures lasting { HasCleanDisk (state S.Store conn.new) → (state S.Store conn.old).now.schema ≡ no_schema
+        → OnOk result ((db : _) → (state S.Store conn.new).may_leave db → HoldsNone (Second Created) circuit member members db) }
+    ensures was_open { HasCleanDisk (state S.Store conn.new) → IsTrue (state S.Store conn.new).is_open → OnErr result (IsTrue (state S.Store conn.old).is_open) }
+    ensures neither { HasCleanDisk (state S.Store conn.new) → IsTrue (state S.Store conn.new).is_open
+        → OnErr result (((state S.Store conn.new).now ≡ (state S.Store conn.old).committed) × ((state S.Store conn.new).committed ≡ (state S.Store conn.old).committed)) }
+    ensures crash { HasCleanDisk (state S.Store conn.new) → (state S.Store conn.old).now.schema ≡ no_schema
+        → (db : _) → (state S.Store conn.new).may_leave db → (state S.Store conn.old).may_leave db ⊎ HoldsNone (Second Created) circuit member members db }
+    ensures clean { doubt (state S.Store conn.old).is_clean ≤ doubt (state S.Store conn.new).is_clean }
+{
+    let mut tx = conn.transaction();
+    make_layout_2(&mut tx, circuit, member, members)?;
     tx.commit()?;
     Ok(())
 }

@@ -1,4 +1,4 @@
--- What `rows` writes: whose rows they are, and a line for each.
+-- What `rows` writes: whose rows they are, and a line for each. And what `upgrade` writes.
 use Rattle.std.specs.Prelude.{ℕ, List, ◌++◌, Option, Some, None, codes, decimal, flat_map}
 use Rattle.std.specs.Io.KnownBytes.{Appends}
 use Rattle.protocol.specs.Ballots.{Ballot}
@@ -33,6 +33,10 @@ station_line i = codes "station " ++ (decimal i.member ++ (codes " of " ++ (deci
 -- the station, and then each row
 abbrev pub rows_text : Identity → List (ℕ × Row) → List ℕ
 rows_text i rows = station_line i ++ flat_map row_line rows
+
+-- the line of rows that went over
+abbrev pub layout_text : List ℕ
+layout_text = codes "layout 2\n"
 
 -- all rows of the map were written, in order of their numbers, behind their station
 pub record IsPrinted (saved : Saved) (station : Identity) (old new : Option (List ℕ)) : Type 0 where

@@ -1,6 +1,9 @@
-//! The command `rows`: the rows that a station has saved, a line for each.
+//! The commands over saved rows: `rows`, which writes a line for each, and `upgrade`, which takes them over to the second
+//! layout.
 #![tactic(auto)]
 
 mod listing;
+mod upgrading;
 
 pub use listing::print_rows;
+pub use upgrading::upgrade_rows;

@@ -1,14 +1,15 @@
-//! Rows of which one save can be refused.
+//! Rows of which one save, or one upgrade, can be refused.
 
 ghost use Rattle.std.specs.Prelude.{◌≡◌, ◌≤◌, ◌⊎◌, ◌+◌, None, Some, true, false, IsSome, IfErr, Err, OnOk, OnErr};
-ghost use Rattle.saved_rows.specs.Saved.{WithRow, IsEither, HasPromise, RowFits, Rises};
+ghost use Rattle.protocol.specs.Versions.{Two};
+ghost use Rattle.saved_rows.specs.Saved.{SameRows, WithRow, IsEither, HasPromise, RowFits, Rises};
 
 use crate::fault::RowsFault;
 use crate::rows::Rows;
 use ballots::{Number, Row};
 use tape_frames::Version;
 
-/// Rows whose next save can be made to be refused, to rehearse a store that fails.
+/// Rows whose next save can be made to be refused, to rehearse a store that fails. An upgrade counts as a save.
 /// Clauses see the rows inside, how it is armed, and how many saves it refused itself.
 #[derive(Drop)]
 pub struct Balky<R: Rows> {
@@ -55,6 +56,27 @@ impl<R: Rows> Balky<R> {
         } = self;
         rows
     }
+
+    /// How it was armed; it is unarmed from now on.
+    fn disarm(&mut self) -> Option<bool>
+        ensures armed { result ≡ self.old.armed }
+        ensures unarmed { self.new ≡ record self.old { armed = None } }
+    {
+        let armed = self.armed;
+        self.armed = None;
+        armed
+    }
+
+    /// Counts a refusal of its own.
+    fn refuse(&mut self) -> RowsFault
+        ensures fault { result ≡ RowsFault.Store }
+        ensures same { self.new ≡ record self.old { refusals = self.new.refusals } }
+        ensures cause { Rises self.old.refusals self.new.refusals }
+        ensures counts { self.old.refusals ≤ self.new.refusals }
+    {
+        self.refusals = self.refusals.saturating_add(1);
+        RowsFault::Store
+    }
 }
 
 impl<R: Rows> Rows for Balky<R> {
@@ -88,6 +110,18 @@ impl<R: Rows> Rows for Balky<R> {
         × (old.armed ≡ Some true →
         (R.kept new.rows → WithRow (R.saved old.rows) number row (R.saved new.rows))
         ⊎ (Rises (R.refusals old.rows) (R.refusals new.rows) × R.tells old.rows new.rows number row)) };
+
+    // Only unarmed it goes over.
+    ghost upgrades = { λ old new. (old.armed ≡ None) × (new.armed ≡ None) × R.upgrades old.rows new.rows };
+
+    // A refused upgrade leaves it unarmed. Armed as unsaved it passed nothing on, and unarmed it tells what its rows do.
+    // Armed as saved the rows went over, or they refused it too.
+    ghost balks = { λ old new. (new.armed ≡ None)
+        × (old.armed ≡ Some false → new.rows ≡ old.rows)
+        × (old.armed ≡ None → R.balks old.rows new.rows)
+        × (old.armed ≡ Some true →
+        (R.version new.rows ≡ Two)
+        ⊎ (Rises (R.refusals old.rows) (R.refusals new.rows) × R.balks old.rows new.rows)) };
 
     // An armed one refuses a save as its own fault, and is unarmed by it. Else it is armed as it was, and its rows
     // refused and answer for theirs.
@@ -132,14 +166,46 @@ impl<R: Rows> Rows for Balky<R> {
         ensures refused { IsSome self.old.armed → result ≡ Err RowsFault.Store }
         ensures unarmed { self.new.armed ≡ None }
     {
-        let Some(saved) = self.armed else {
+        let Some(saved) = self.disarm() else {
             return self.rows.put(number, row);
         };
-        self.armed = None;
         if saved {
             let _ = self.rows.put(number, row);
         }
-        self.refusals = self.refusals.saturating_add(1);
-        Err(RowsFault::Store)
+        Err(self.refuse())
+    }
+
+    fn upgrade(&mut self) -> Result<(), RowsFault>
+        ensures same { R.kept self.new.rows → R.is_open self.new.rows → SameRows (R.saved self.old.rows) (R.saved self.new.rows) }
+        ensures open { R.kept self.new.rows → OnOk result (R.is_open self.new.rows) }
+        ensures two { OnOk result (R.version self.new.rows ≡ Two) }
+        ensures upgrades { OnOk result ((self.old.armed ≡ None) × (self.new.armed ≡ None) × R.upgrades self.old.rows self.new.rows) }
+        ensures either { OnErr result ((R.version self.new.rows ≡ R.version self.old.rows) ⊎ (R.version self.new.rows ≡ Two)) }
+        ensures balks { OnErr result ((self.new.armed ≡ None)
+            × (self.old.armed ≡ Some false → self.new.rows ≡ self.old.rows)
+            × (self.old.armed ≡ None → R.balks self.old.rows self.new.rows)
+            × (self.old.armed ≡ Some true →
+            (R.version self.new.rows ≡ Two)
+            ⊎ (Rises (R.refusals self.old.rows) (R.refusals self.new.rows) × R.balks self.old.rows self.new.rows))) }
+        ensures cause { OnErr result (Rises (R.refusals self.old.rows + self.old.refusals) (R.refusals self.new.rows + self.new.refusals)) }
+        ensures counts { R.refusals self.old.rows + self.old.refusals ≤ R.refusals self.new.rows + self.new.refusals }
+        ensures blames { IfErr result (λ fault. (R.refusals self.old.rows ≤ R.refusals self.new.rows)
+            × ((IsSome self.old.armed × (self.new.armed ≡ None) × (fault ≡ RowsFault.Store))
+            ⊎ ((self.new.armed ≡ self.old.armed) × Rises (R.refusals self.old.rows) (R.refusals self.new.rows) × R.blames self.old.rows self.new.rows fault))) }
+        ensures made { R.made self.old.rows → R.made self.new.rows }
+        ensures was_kept { R.kept self.new.rows → R.kept self.old.rows }
+        ensures was_open { R.kept self.new.rows → R.is_open self.new.rows → R.is_open self.old.rows }
+
+        // An armed one refuses this upgrade, and is unarmed by it.
+        ensures refused { IsSome self.old.armed → result ≡ Err RowsFault.Store }
+        ensures unarmed { self.new.armed ≡ None }
+    {
+        let Some(passes_on) = self.disarm() else {
+            return self.rows.upgrade();
+        };
+        if passes_on {
+            let _ = self.rows.upgrade();
+        }
+        Err(self.refuse())
     }
 }

@@ -1,8 +1,8 @@
 //! Rows in memory.
 
-ghost use Rattle.std.specs.Prelude.{◌≡◌, ◌≤◌, ℕ, None, IfOk, IsOk, OnOk, OnErr, IfErr, option_copied};
+ghost use Rattle.std.specs.Prelude.{◌≡◌, ◌≤◌, ℕ, None, Ok, IfOk, IsOk, OnOk, OnErr, IfErr, option_copied};
 ghost use Rattle.protocol.specs.Rows.{blank};
-ghost use Rattle.protocol.specs.Versions.{One};
+ghost use Rattle.protocol.specs.Versions.{One, Two};
 ghost use Rattle.tape_frames.specs.Entries.{version_of};
 ghost use Rattle.saved_rows.specs.Saved.{SameRows, WithRow, RowFits, Rises, or_blank};
 
@@ -174,5 +174,15 @@ impl Rows for MemoryRows {
             Ok(()) => Ok(()),
             Err(_) => Err(RowsFault::OutOfMemory),
         }
+    }
+
+    /// Never refused: version 2 has a row for each entry. No memory is taken.
+    #[tactic(auto, using(crate::proofs::Fitting::two_fits_all))]
+    fn upgrade(&mut self) -> Result<(), RowsFault>
+        ensures ok { result ≡ Ok tt }
+        ensures goes_over { self.new ≡ record self.old { version = Two } }
+    {
+        self.version = Version::Two;
+        Ok(())
     }
 }

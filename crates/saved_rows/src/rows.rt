@@ -11,14 +11,14 @@ use tape_frames::Version;
 
 /// A finite map from numbers to rows, blank where none is saved, with a count of the calls that it refused.
 /// It is the stable storage of an acceptor (Lamport 2001): what `put` saved, a later `get` finds. Each row is one that the
-/// version of the rows has.
+/// version of the rows has, which an `upgrade` alone changes.
 ///
 /// The clauses on the map speak of rows that are kept, which has two halves. The store owes the one: what the
 /// rows lie in, as the tables of a database, was made for them; rows that begin so stay so through each call.
 /// The host owes the other: nobody else writes there, and what was written is read back. No call can give
 /// that, so it is asked of the rows as a call leaves them, and then it held before.
 pub trait Rows: Drop {
-    ghost use Rattle.protocol.specs.Versions.{Version as VersionValue};
+    ghost use Rattle.protocol.specs.Versions.{Version as VersionValue, Two};
     ghost use Rattle.tape_frames.specs.Entries.{version_of};
 
     // What the store owes: what the rows lie in was made for them.
@@ -49,6 +49,11 @@ pub trait Rows: Drop {
     ghost passes: { Self → Self → Type 0 } = { λ _ _. Unit {0} };
 
     ghost tells: { Self → Self → ℕ → RowValue → Type 0 } = { λ _ _ _ _. Unit {0} };
+
+    // What else the Ok of an `upgrade` shows, and what else its Err tells, for such a caller.
+    ghost upgrades: { Self → Self → Type 0 } = { λ _ _. Unit {0} };
+
+    ghost balks: { Self → Self → Type 0 } = { λ _ _. Unit {0} };
 
     // Which fault a refused call answers, for such a caller.
     ghost blames: { Self → Self → FaultValue → Type 0 } = { λ _ _ _. Unit {0} };
@@ -94,6 +99,31 @@ pub trait Rows: Drop {
         // Where it is refused and still open, the map is one of two.
         ensures either { kept self.new → OnErr result ((¬ is_open self.new) ⊎ IsEither (saved self.old) number row.now (saved self.new)) }
         ensures tells { OnErr result (tells self.old self.new number row.now) }
+
+        // It is refused only where the count rises.
+        ensures cause { OnErr result (Rises (refusals self.old) (refusals self.new)) }
+        ensures counts { refusals self.old ≤ refusals self.new }
+        ensures blames { IfErr result (blames self.old self.new) }
+
+        // The store's half, told forwards: rows that lie in what was made for them stay there.
+        ensures made { made self.old → made self.new }
+
+        // What held as the call ended held before.
+        ensures was_kept { kept self.new → kept self.old }
+        ensures was_open { kept self.new → is_open self.new → is_open self.old };
+
+    /// Goes over to version 2 with every row. At version 2 already an Ok changes nothing.
+    ///
+    /// A refusal is counted; it leaves each row as it was, and all rows at the version before or all at version 2.
+    fn upgrade(&mut self) -> Result<(), RowsFault>
+        ensures same { kept self.new → is_open self.new → SameRows (saved self.old) (saved self.new) }
+        ensures open { kept self.new → OnOk result (is_open self.new) }
+        ensures two { OnOk result (version self.new ≡ Two) }
+        ensures upgrades { OnOk result (upgrades self.old self.new) }
+
+        // Where it is refused, the version is one of two.
+        ensures either { OnErr result ((version self.new ≡ version self.old) ⊎ (version self.new ≡ Two)) }
+        ensures balks { OnErr result (balks self.old self.new) }
 
         // It is refused only where the count rises.
         ensures cause { OnErr result (Rises (refusals self.old) (refusals self.new)) }

@@ -88,6 +88,7 @@ ends_badly (faults.Socket what) e = cc
 ends_badly (faults.SendFailed member) e = cc
 ends_badly (faults.Refused refusal) e = cc
 ends_badly faults.Unpaired e = cc
+ends_badly faults.LayoutAlone e = cc
 
 -- a socket that fails ends no command as done
 pub socket_ends_badly : ends.Socket ≡ ends.Done → ⊥

@@ -3,3 +3,4 @@ pub mod Speaking
 pub mod Stations
 pub mod Readiness
 pub mod Steps
+pub mod Upgrading

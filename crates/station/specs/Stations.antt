@@ -18,7 +18,7 @@ use Rattle.station.specs.Speaking.{is_lower}
 use Rattle.station.specs.declared.station.Station.{Station}
 
 -- what is said of saved rows: whether they are kept and open, what is saved, at which version they are, which rows differ only
--- by what was read or by a save that was done, and what a save that was refused tells and blames
+-- by what was read, by a save or by an upgrade that was done, what a save or an upgrade that was refused tells, and what a refused call blames
 pub record Sight (R : Type 0) : Type 1 where
   pub kept : R → Type 0
   pub is_open : R → Type 0
@@ -27,12 +27,14 @@ pub record Sight (R : Type 0) : Type 1 where
   pub alike : R → R → Type 0
   pub passes : R → R → Type 0
   pub tells : R → R → ℕ → Row → Type 0
+  pub upgrades : R → R → Type 0
+  pub balks : R → R → Type 0
   pub blames : R → R → RowsFault → Type 0
 
--- of the words of rows those that a step speaks of
+-- of the words of rows those that a step or an upgrade speaks of
 abbrev pub sight : {R : Type 0} → Ghosts R → Sight R
 sight g =
-    record { kept = g.kept; is_open = g.is_open; saved = g.saved; version = g.version; alike = g.alike; passes = g.passes; tells = g.tells; blames = g.blames }
+    record { kept = g.kept; is_open = g.is_open; saved = g.saved; version = g.version; alike = g.alike; passes = g.passes; tells = g.tells; upgrades = g.upgrades; balks = g.balks; blames = g.blames }
 
 -- a tape sets where it has no first fault
 abbrev pub unless_faulty : Option SetFault → Result (Unit {0}) SetFault

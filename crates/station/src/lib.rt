@@ -9,6 +9,7 @@ mod setting;
 mod speaker;
 mod station;
 mod steps;
+mod upgrading;
 
 pub use answer::{Answer, Release};
 pub use datagram::Datagram;

@@ -101,7 +101,7 @@ impl<R: Rows> Station<R> {
         self.speaker.follow(self.rows.version());
     }
 
-    /// Whether a step stopped it, and it was not restarted since.
+    /// Whether a step or an upgrade stopped it, and neither a restart nor an upgrade that was Ok came since.
     pub fn stopped(&self) -> bool
         ensures { result ≡ self.now.stopped }
     {

@@ -261,8 +261,8 @@ impl<R: Rows> Station<R> {
         }
     }
 
-    /// Stops: it forgets what it took in, and takes no step until it is restarted.
-    fn stop(&mut self, refusal: StepRefusal) -> StepRefusal
+    /// Stops: it forgets what it took in, and takes no step until a restart, or an upgrade that is Ok.
+    pub(crate) fn stop(&mut self, refusal: StepRefusal) -> StepRefusal
         ensures same { result ≡ refusal }
         ensures stands { StandsFor self.new.speaker.core [] }
         ensures wire { self.new.speaker.wire ≡ self.old.speaker.wire }

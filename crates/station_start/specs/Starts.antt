@@ -1,10 +1,12 @@
 -- What a station starts from, by its configuration.
-use Rattle.std.specs.Prelude.{◌≡◌, ℕ, List, [], length, Bool, false, Option, Some, Ok, MatchBool, MatchOption, IfSome}
+use Rattle.std.specs.Prelude.{◌≡◌, ℕ, List, [], length, Bool, true, false, Option, Some, None, Ok, MatchOption, IfSome, IsSome}
 use Rattle.toml.specs.Parse.{parse_document}
 use Rattle.code_table.specs.Tables.{Places}
 use Rattle.code_table.specs.Reading.{read_table}
 use Rattle.widths.specs.Widths.{WidthFile}
 use Rattle.widths.specs.Reading.{read_widths}
+use Rattle.tape_frames.specs.declared.version.Version.{Version}
+use Rattle.tape_frames.specs.declared.version.Version.TheVariants.{One}
 use Rattle.saved_rows.specs.declared.identity.Identity.{Identity}
 use Rattle.node_core.specs.Standing.{StandsFor}
 use Rattle.station.specs.declared.station.Station.{Station}
@@ -36,9 +38,19 @@ AreWidthsAt texts path widths = IfSome (texts path) (λ text. read_widths (parse
 abbrev pub IsOffer : (List ℕ → Option (List ℕ)) → Option (ℕ × List ℕ) → Option (ℕ × List ℕ) → Type 0
 IsOffer texts asked offer = MatchOption asked (MatchOption offer (Unit {0}) (λ _. ⊥)) (λ a. MatchOption offer ⊥ (λ o. (o.0 ≡ a.0) × IfSome (texts a.1) (λ frames. o.1 ≡ frames)))
 
--- the rows were made for the station, or taken up as the station's
-abbrev pub AreRowsOf : {R : Type 0} → Bool → (Identity → R → Type 0) → (Option Identity → R → Type 0) → Identity → R → Type 0
-AreRowsOf create makes takes_up i rows = MatchBool create (makes i rows) (takes_up (Some i) rows)
+-- a layout is named of rows that are not to be made
+abbrev pub IsLayoutAlone : Bool → Option Version → Type 0
+IsLayoutAlone create layout = (create ≡ false) × IsSome layout
+
+-- the version that rows are made in, if they are to be made: the one whose layout is named, else version 1
+abbrev pub made_in : Bool → Option Version → Option Version
+made_in false layout = None
+made_in true None = Some One
+made_in true (Some version) = Some version
+
+-- the rows were made for the station in this version, or taken up as the station's where none are to be made
+abbrev pub AreRowsOf : {R : Type 0} → Option Version → (Identity → Version → R → Type 0) → (Option Identity → R → Type 0) → Identity → R → Type 0
+AreRowsOf making makes takes_up i rows = MatchOption making (takes_up (Some i) rows) (λ version. makes i version rows)
 
 -- the wire was opened at the member's own address among those of all stations, and sends to these
 abbrev pub IsWireOf : {N : Type 0} → (N → Address → List Address → Type 0) → ConfigFile → N → Type 0

@@ -1,7 +1,9 @@
 //! The files that a station reads before it starts.
 
-ghost use Rattle.std.specs.Prelude.{◌≡◌, IfOk, IfSome, string_bytes, option_map};
-ghost use Rattle.station_start.specs.Starts.{IsTableAt, AreWidthsAt, IsOffer};
+ghost use Rattle.std.specs.Prelude.{◌≡◌, IfOk, IfErr, IsErr, IfSome, string_bytes, option_map};
+ghost use Rattle.command_ends.specs.Ends.{end_of};
+ghost use Rattle.command_ends.specs.declared.end.End.TheVariants.{Usage};
+ghost use Rattle.station_start.specs.Starts.{IsTableAt, AreWidthsAt, IsOffer, IsLayoutAlone, made_in};
 
 use crate::host::Host;
 use code_table::CodeTable;
@@ -9,7 +11,7 @@ use command_ends::{Fault, read_table, read_tape, read_widths};
 use command_line::Plan;
 use configuration::Config;
 use std::alloc::Global;
-use tape_frames::Tape;
+use tape_frames::{Tape, Version};
 use widths::Widths;
 
 /// What they hold.
@@ -27,6 +29,21 @@ pub(crate) fn offer_of<'a>(plan: &Plan<'a>) -> Result<Option<(u32, &'a str)>, Fa
         (Some(number), Some(tape)) => Ok(Some((number, tape))),
         (None, None) => Ok(None),
         _ => Err(Fault::Unpaired),
+    }
+}
+
+/// The version that the saved rows are made in, if they are made: version 1 where no layout is named. A layout of rows
+/// that are not made is refused.
+pub(crate) fn making_of<'a>(plan: &Plan<'_>) -> Result<Option<Version>, Fault<'a>>
+    ensures made { IfOk result (λ made. made ≡ made_in plan.now.create plan.now.layout) }
+    ensures alone { IsLayoutAlone plan.now.create plan.now.layout → IsErr result }
+    ensures refused { IfErr result (λ fault. IsLayoutAlone plan.now.create plan.now.layout × (end_of fault ≡ Usage)) }
+{
+    match (plan.create, plan.layout) {
+        (true, Some(version)) => Ok(Some(version)),
+        (true, None) => Ok(Some(Version::One)),
+        (false, None) => Ok(None),
+        (false, Some(_)) => Err(Fault::LayoutAlone),
     }
 }
 

@@ -2,7 +2,7 @@
 
 ghost use Rattle.configuration.specs.Stations.{IsCircuit};
 
-use crate::files::offer_of;
+use crate::files::{making_of, offer_of};
 use crate::host::{Host, ThisHost};
 use crate::starting::{Started, start};
 use command_ends::End;
@@ -11,11 +11,13 @@ use configuration::{Config, read_config};
 use row_files::RowFiles;
 use serve_command::serve_run;
 use std::io::Write;
+use tape_frames::Version;
 
 /// Starts the station of a configuration, and serves it.
 fn serve_from<F: RowFiles, W: Write, E: Write>(
     rt: &HostRuntime,
     plan: &Plan<'_>,
+    making: Option<Version>,
     offer: Option<(u32, &str)>,
     config: Config,
     host: &ThisHost<'_>,
@@ -29,7 +31,7 @@ fn serve_from<F: RowFiles, W: Write, E: Write>(
         mut station,
         mut wire,
         offer,
-    } = match start(rt, host, row_files, config, plan.create, offer, err) {
+    } = match start(rt, host, row_files, config, making, offer, err) {
         Ok(started) => started,
         Err(end) => return end,
     };
@@ -50,7 +52,7 @@ fn serve_from<F: RowFiles, W: Write, E: Write>(
 ///
 /// What it starts from is looked for in this order, and the first fault ends it: the configuration, the code table,
 /// the widths, the tape, the saved rows, the socket. A number without a tape, or a tape without a number, ends it
-/// before all of them, as usage.
+/// before all of them, as usage; and so does a layout where no rows are to be made.
 pub fn serve<F: RowFiles, W: Write, E: Write>(
     rt: &HostRuntime,
     plan: &Plan<'_>,
@@ -62,10 +64,14 @@ pub fn serve<F: RowFiles, W: Write, E: Write>(
         Ok(offer) => offer,
         Err(fault) => return fault.tell(err),
     };
+    let making = match making_of(plan) {
+        Ok(making) => making,
+        Err(fault) => return fault.tell(err),
+    };
     let host = ThisHost { rt };
     let mut input = host.open(plan.config);
     match read_config(rt.alloc(), &mut input, plan.config, err) {
-        Ok(config) => serve_from(rt, plan, offer, config, &host, row_files, out, err),
+        Ok(config) => serve_from(rt, plan, making, offer, config, &host, row_files, out, err),
         Err(end) => end,
     }
 }

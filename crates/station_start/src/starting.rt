@@ -16,7 +16,7 @@ use saved_rows::{Identity, Rows, RowsFault};
 use station::Station;
 use std::alloc::Global;
 use std::io::Write;
-use tape_frames::Tape;
+use tape_frames::{Tape, Version};
 use widths::Widths;
 use wire::Wire;
 
@@ -52,21 +52,20 @@ fn told<'a, R: Rows>(rows: Result<R, RowsFault>) -> Result<R, Fault<'a>>
     }
 }
 
-/// The saved rows of this station in the file at a path, made or taken up.
+/// The saved rows of this station in the file at a path, made in a version or taken up.
 fn rows_of<'a, F: RowFiles>(
     rt: &HostRuntime,
     row_files: &F,
     path: &str,
     identity: Identity,
-    create: bool,
+    making: Option<Version>,
 ) -> Result<F::Rows, Fault<'a>>
     requires { IsIdentity identity }
-    ensures { IfOk result (AreRowsOf create (F.makes row_files.now path.now) (F.takes_up row_files.now path.now) identity) }
+    ensures { IfOk result (AreRowsOf making (F.makes row_files.now path.now) (F.takes_up row_files.now path.now) identity) }
 {
-    if create {
-        told(row_files.create(rt, path, identity))
-    } else {
-        told(row_files.open(rt, path, Some(identity)))
+    match making {
+        Some(version) => told(row_files.create(rt, path, identity, version)),
+        None => told(row_files.open(rt, path, Some(identity))),
     }
 }
 
@@ -140,8 +139,8 @@ fn start_over<'f, H: Host, R: Rows>(
     })
 }
 
-/// The station of a configuration, over its saved rows in one of the files, made or taken up, and in their version, with
-/// its wire and the tape that it offers first, if a number and a path are given.
+/// The station of a configuration, over its saved rows in one of the files, made in a version or taken up, and in their
+/// version, with its wire and the tape that it offers first, if a number and a path are given.
 ///
 /// What it starts from is looked for in this order, and the first fault ends it and is told to `err`: the code table, the
 /// widths, the tape, the saved rows, the socket.
@@ -150,7 +149,7 @@ pub fn start<H: Host, F: RowFiles, E: Write>(
     host: &H,
     row_files: &F,
     config: Config,
-    create: bool,
+    making: Option<Version>,
     offer: Option<(u32, &str)>,
     err: &mut E,
 ) -> Result<Started<F::Rows, H::Wire>, End>
@@ -159,7 +158,7 @@ pub fn start<H: Host, F: RowFiles, E: Write>(
     ensures table { IfOk result (λ s. IsTableAt (H.text host.now) (string_bytes config.table) s.station.table) }
     ensures widths { IfOk result (λ s. AreWidthsAt (H.text host.now) (string_bytes config.widths) s.station.widths) }
     ensures offer { IfOk result (λ s. IsOffer (H.text host.now) (option_map (λ o. (o.0, o.1.now)) offer.entry) s.offer) }
-    ensures rows { IfOk result (λ s. AreRowsOf create (F.makes row_files.now (string_bytes config.rows)) (F.takes_up row_files.now (string_bytes config.rows)) (identity_of (file_of config)) s.station.rows) }
+    ensures rows { IfOk result (λ s. AreRowsOf making (F.makes row_files.now (string_bytes config.rows)) (F.takes_up row_files.now (string_bytes config.rows)) (identity_of (file_of config)) s.station.rows) }
     ensures version { IfOk result (λ s. s.station.speaker.wire ≡ F.Rows.version s.station.rows) }
     ensures wire { IfOk result (λ s. IsWireOf H.is_bound (file_of config) s.wire) }
 {
@@ -168,7 +167,7 @@ pub fn start<H: Host, F: RowFiles, E: Write>(
         Err(fault) => return Err(fault.tell(err)),
     };
     let identity = identity_of(&config);
-    let rows = match rows_of(rt, row_files, &config.rows, identity, create) {
+    let rows = match rows_of(rt, row_files, &config.rows, identity, making) {
         Ok(rows) => rows,
         Err(fault) => return Err(fault.tell(err)),
     };

@@ -13,7 +13,7 @@ use station::StepRefusal;
 use tape_frames::Version;
 
 /// A Prepare at 1.1 from member 1 to member 2 of circuit 7, for number 12.
-const PREPARE: [u8; 17] = [0x54, 0x4e, 1, 1, 0, 7, 1, 2, 0, 0, 0, 12, 0, 0, 0, 1, 1];
+pub const PREPARE: [u8; 17] = [0x54, 0x4e, 1, 1, 0, 7, 1, 2, 0, 0, 0, 12, 0, 0, 0, 1, 1];
 
 /// The same of circuit 8; to member 3; from member 4; at a ballot that is not its sender's.
 const OF_CIRCUIT_8: [u8; 17] = [0x54, 0x4e, 1, 1, 0, 8, 1, 2, 0, 0, 0, 12, 0, 0, 0, 1, 1];
@@ -28,9 +28,9 @@ const OF_ANOTHER: [u8; 17] = [0x54, 0x4e, 1, 1, 0, 7, 1, 2, 0, 0, 0, 12, 0, 0, 0
 const PROMISE: [u8; 18] = [0x54, 0x4e, 1, 2, 0, 7, 2, 1, 0, 0, 0, 12, 0, 0, 0, 1, 1, 0];
 
 /// The same Prepare and the same promise in version 2.
-const PREPARE_TWO: [u8; 17] = [0x54, 0x4e, 2, 1, 0, 7, 1, 2, 0, 0, 0, 12, 0, 0, 0, 1, 1];
+pub const PREPARE_TWO: [u8; 17] = [0x54, 0x4e, 2, 1, 0, 7, 1, 2, 0, 0, 0, 12, 0, 0, 0, 1, 1];
 
-const PROMISE_TWO: [u8; 18] = [0x54, 0x4e, 2, 2, 0, 7, 2, 1, 0, 0, 0, 12, 0, 0, 0, 1, 1, 0];
+pub const PROMISE_TWO: [u8; 18] = [0x54, 0x4e, 2, 2, 0, 7, 2, 1, 0, 0, 0, 12, 0, 0, 0, 1, 1, 0];
 
 /// What member 1 asks member 2 to vote for then, the flood story, in version 2.
 const ACCEPT_TWO: [u8; 25] = [
@@ -41,7 +41,7 @@ const ACCEPT_TWO: [u8; 25] = [
 const LONG_AND_FAULTY: &[u8] = &[1; 4097];
 
 /// The flood story is released.
-const RELEASED: Turn = Turn {
+pub const RELEASED: Turn = Turn {
     ends: Done("proposed 1.1"),
     releases: Handed::Flood,
     released: true,
@@ -50,7 +50,7 @@ const RELEASED: Turn = Turn {
 };
 
 /// The store refuses the save, and the station stops.
-const STOPPED: Turn = Turn {
+pub const STOPPED: Turn = Turn {
     act: Offer(12, FLOOD),
     ends: Refused(StepRefusal::Store(RowsFault::Store)),
     stopped: true,
@@ -354,14 +354,14 @@ const STEPS: &[Story] = &[
 ];
 
 /// The number is withdrawn.
-const WITHDRAWN: Turn = Turn {
+pub const WITHDRAWN: Turn = Turn {
     act: Withdraw(12),
     releases: Handed::Withdrawal,
     ..RELEASED
 };
 
 /// The version of the rows does not have what is offered.
-const TOO_OLD: Turn = Turn {
+pub const TOO_OLD: Turn = Turn {
     act: Withdraw(12),
     ends: Refused(StepRefusal::WireTooOld),
     ..QUIET

@@ -26,6 +26,7 @@ pub enum Act {
     /// Rows at this version take the place of its own, blank or with this promise for number 12.
     Replace(Version, Option<(u32, u8)>),
     Restart,
+    Upgrade,
 }
 
 /// What is released for number 12.
@@ -44,7 +45,7 @@ pub enum Ends {
     /// With this note.
     Done(&'static str),
     Refused(StepRefusal),
-    /// It is no step, and always done.
+    /// It answers no note, and is done; what is no step is always done.
     Always,
 }
 
@@ -222,6 +223,15 @@ fn is_told(alloc: Global, step: Result<Answer, StepRefusal>, turn: &Turn) -> boo
     }
 }
 
+/// Whether an upgrade ended as it is told.
+fn is_upgraded(upgrade: Result<(), StepRefusal>, ends: Ends) -> bool {
+    match (upgrade, ends) {
+        (Ok(()), Ends::Always) => true,
+        (Err(reason), Ends::Refused(refusal)) => reason == refusal,
+        _ => false,
+    }
+}
+
 /// Whether what is done ends as it is told.
 fn acts(alloc: Global, bench: &mut Bench, turn: &Turn) -> bool {
     let step = match turn.act {
@@ -254,6 +264,7 @@ fn acts(alloc: Global, bench: &mut Bench, turn: &Turn) -> bool {
             bench.restart();
             return true;
         }
+        Act::Upgrade => return is_upgraded(bench.upgrade(), turn.ends),
     };
     is_told(alloc, step, turn)
 }

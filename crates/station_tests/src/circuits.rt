@@ -37,6 +37,7 @@ pub enum Act {
     Due(u8, u64),
     Deliver(usize),
     Restart(u8),
+    Upgrade(u8),
     Balk(u8, bool),
 }
 
@@ -74,6 +75,10 @@ pub const PROMISED_1_3: &[u8] = &[0, 0, 0, 1, 3];
 /// Those of version 2, whose tapes are packed; a withdrawal has no length and no frames.
 pub const FLOOD_PACKED: &[u8] = &[0, 7, 0x04, 0x20, 0xc1, 0x0c, 0x21, 0x00];
 
+pub const FLOOD_REPORT_PACKED: &[u8] = &[
+    1, 0, 0, 0, 1, 1, 0, 7, 0x04, 0x20, 0xc1, 0x0c, 0x21, 0x00,
+];
+
 pub const WITHDRAWAL: &[u8] = &[0, 0];
 
 pub const WITHDRAWAL_REPORT: &[u8] = &[1, 0, 0, 0, 1, 1, 0, 0];
@@ -104,6 +109,8 @@ pub struct Story {
     pub last: &'static str,
     pub lines: &'static [Line],
     pub sent: &'static [Sent],
+    /// How many of these were sent before members went over; those behind are of version 2.
+    pub before: usize,
     pub offers: &'static [Offered],
     pub releases: &'static [Released],
     pub open: Option<Option<(u32, u8)>>,
@@ -118,6 +125,7 @@ pub const CALM: Story = Story {
     last: WIDTHS,
     lines: &[],
     sent: &[],
+    before: usize::MAX,
     offers: &[],
     releases: &[],
     open: None,
@@ -206,6 +214,7 @@ fn step_of(alloc: Global, act: Act) -> Option<Step> {
         Act::Due(member, now) => Step::Due { member, now },
         Act::Deliver(k) => Step::Deliver { k, now },
         Act::Restart(member) => Step::Restart { member },
+        Act::Upgrade(member) => Step::Upgrade { member },
         Act::Balk(member, saved) => Step::Balk { member, saved },
     })
 }
@@ -250,18 +259,21 @@ pub fn steps_of(alloc: Global, lines: &[Line]) -> Option<Vec<Step>> {
     Some(steps)
 }
 
-/// The number of the version that a member speaks.
-fn spoken(story: &Story, member: u8) -> u8 {
+/// The number of the version in which a member sent the datagram of this place.
+fn spoken(story: &Story, place: usize, member: u8) -> u8 {
+    if place >= story.before {
+        return 2;
+    }
     match version_of(story.versions, story.members, member) {
         Version::One => 1,
         Version::Two => 2,
     }
 }
 
-/// Whether this is the datagram that is told, byte for byte.
-fn is_told(datagram: &Datagram, story: &Story, told: &Sent) -> bool {
+/// Whether this datagram, of this place, is the one that is told, byte for byte.
+fn is_told(datagram: &Datagram, story: &Story, place: usize, told: &Sent) -> bool {
     let Sent(kind, from, to, (round, owner), body) = *told;
-    let version = spoken(story, from);
+    let version = spoken(story, place, from);
     let head = [
         0x54, 0x4e, version, kind, 0, 7, from, to, 0, 0, 0, 12, 0, 0, 0, round, owner,
     ];
@@ -274,8 +286,8 @@ fn is_told(datagram: &Datagram, story: &Story, told: &Sent) -> bool {
 
 /// Whether these are the datagrams.
 fn are_sent(datagrams: &[Datagram], story: &Story) -> bool {
-    for (datagram, told) in datagrams.iter().zip(story.sent) {
-        if !is_told(datagram, story, told) {
+    for (place, (datagram, told)) in datagrams.iter().zip(story.sent).enumerate() {
+        if !is_told(datagram, story, place, told) {
             return false;
         }
     }

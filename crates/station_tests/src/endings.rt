@@ -45,6 +45,7 @@ fn ended(outcome: Outcome) -> (&'static str, Option<Ballot>) {
         Outcome::Refused(StepRefusal::Store(RowsFault::Store)) => ("stopped store", None),
         Outcome::Refused(_) => ("refused", None),
         Outcome::Restarted => ("restarted", None),
+        Outcome::Upgraded => ("upgraded", None),
         Outcome::Armed { saved: true } => ("armed saved", None),
         Outcome::Armed { saved: false } => ("armed unsaved", None),
     }

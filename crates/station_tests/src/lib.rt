@@ -20,6 +20,8 @@ mod entries;
 #[cfg(test)]
 mod failing;
 #[cfg(test)]
+mod going_over;
+#[cfg(test)]
 mod lengths;
 #[cfg(test)]
 mod passing;
@@ -29,5 +31,7 @@ mod refusing;
 mod scripts;
 #[cfg(test)]
 mod unread;
+#[cfg(test)]
+mod upgrades;
 #[cfg(test)]
 mod versions;

@@ -76,4 +76,14 @@ impl<R: Rows> Rows for Unread<R> {
     fn put(&mut self, number: Number, row: &Row) -> Result<(), RowsFault> {
         self.rows.put(number, row)
     }
+
+    // All rows are read before they go over.
+    fn upgrade(&mut self) -> Result<(), RowsFault> {
+        let Some(fault) = self.fault else {
+            return self.rows.upgrade();
+        };
+        self.fault = None;
+        self.refusals = self.refusals.saturating_add(1);
+        Err(fault)
+    }
 }

@@ -7,6 +7,7 @@ use saved_rows::{Identity, RowsFault};
 use sqlite::{Connection, FileStore, Files, Options};
 use sqlite_disk::{Crash, Disk, Fuse, Memory};
 use std::alloc::Global;
+use tape_frames::Version;
 
 /// Saved rows over such disks.
 pub type Saved = SqliteRows<FileStore<Fuse<Memory>>>;
@@ -81,10 +82,11 @@ pub fn left_of(rows: Saved) -> Left {
     close(rows.into_connection())
 }
 
-/// Makes saved rows over new disks, of which this one stops after so many calls; or what a stop left of them.
-pub fn made(alloc: Global, side: Side, calls: u64) -> Result<Saved, Disks> {
+/// Makes saved rows at this version over new disks, of which this one stops after so many calls; or what a stop left of
+/// them.
+pub fn made(alloc: Global, side: Side, calls: u64, version: Version) -> Result<Saved, Disks> {
     let conn = opened(alloc, side, calls)?;
-    match SqliteRows::create(alloc, conn, ALONE) {
+    match SqliteRows::create(alloc, conn, ALONE, version) {
         Ok(rows) => Ok(rows),
         Err((_, conn)) => Err(into_files(conn)),
     }

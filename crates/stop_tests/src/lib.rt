@@ -19,4 +19,6 @@ mod stations;
 #[cfg(test)]
 mod stops;
 #[cfg(test)]
+mod upgrading;
+#[cfg(test)]
 mod works;

@@ -6,7 +6,7 @@ ghost use Rattle.saved_rows.specs.Saved.{HasPromise};
 use ballots::{Ballot, Member, Number, Row, Vote};
 use saved_rows::Rows;
 use std::alloc::Global;
-use tape_frames::{Entry, EntryRef, Tape};
+use tape_frames::{Entry, EntryRef, Tape, Version};
 
 /// A row under its number: its promise, and its vote, if any, with the frames of its tape.
 #[derive(Clone, Copy)]
@@ -81,6 +81,15 @@ pub fn puts<R: Rows>(alloc: Global, rows: &mut R, sample: &Sample) -> Option<boo
     if rows.put(number, &row).is_ok() {
         return Some(true);
     }
+    rows.get(number).is_err().then_some(false)
+}
+
+/// Whether the rows go over to version 2. Where that is refused, each read is refused from then on, or this answers nothing.
+pub fn goes_over<R: Rows>(rows: &mut R) -> Option<bool> {
+    if rows.upgrade().is_ok() {
+        return (rows.version() == Version::Two).then_some(true);
+    }
+    let number = Number::new(12)?;
     rows.get(number).is_err().then_some(false)
 }
 

@@ -36,3 +36,19 @@ pub fn come_to_an_end(alloc: Global, stops: &Stops) -> bool {
         None => false,
     }
 }
+
+/// Whether they go on from none, for either of the two disks, until one does not stop, which is below this number.
+pub fn both_come_to_an_end(alloc: Global, work: Work, to: u64) -> bool {
+    for side in &[Side::Log, Side::Database] {
+        let stops = Stops {
+            work,
+            side: *side,
+            from: 0,
+            to,
+        };
+        if !come_to_an_end(alloc, &stops) {
+            return false;
+        }
+    }
+    true
+}

@@ -1,19 +1,22 @@
 //! What is done to saved rows, and what has to be found where a disk stopped meanwhile.
 
 use crate::disks::{Disks, Left, Saved, Side, count, found, left_of, made};
-use crate::samples::{PROMISED, Sample, VOTED, are_there, puts};
+use crate::samples::{PROMISED, Sample, VOTED, are_there, goes_over, puts};
 use crate::stations::{offered, served, sought};
 use fixtures::{FLOOD, LIGATURE};
 use saved_rows::{Rows, RowsFault};
 use std::alloc::Global;
+use tape_frames::Version;
 
-/// What is done to saved rows once they are made.
+/// What is done to saved rows once they are made, at version 1 where nothing else is said.
 #[derive(Clone, Copy, PartialEq, Eq)]
 pub enum Work {
-    /// Nothing.
-    Create,
+    /// Nothing; they are made at this version.
+    Create(Version),
     /// Two rows are saved.
     Put,
+    /// Two rows are saved, and go over to version 2.
+    Upgrade,
     /// A station over them is offered a tape.
     Offer,
     /// A run of `serve` is offered it.
@@ -23,6 +26,14 @@ pub enum Work {
 /// Rows under 12 and 3, in the order in which they are saved.
 const SAVES: &[Sample] = &[VOTED, PROMISED];
 
+/// The version at which the rows are made for a work.
+fn version_for(work: Work) -> Version {
+    match work {
+        Work::Create(version) => version,
+        _ => Version::One,
+    }
+}
+
 /// The vote of a station that was offered the flood story.
 const OFFERED: &[Sample] = &[Sample {
     number: 12,
@@ -31,7 +42,7 @@ const OFFERED: &[Sample] = &[Sample {
     frames: FLOOD,
 }];
 
-/// How many rows were acknowledged as saved, and whether a save more was refused.
+/// How many rows were acknowledged as saved, and whether a save more, or the upgrade, was refused.
 #[derive(Clone, Copy)]
 struct Told {
     saved: usize,
@@ -69,16 +80,26 @@ fn put_all<R: Rows>(alloc: Global, rows: &mut R) -> Option<Told> {
     })
 }
 
-/// The rows after two saves.
-fn put<R: Rows>(alloc: Global, mut rows: R) -> Option<(R, Told)> {
-    let told = put_all(alloc, &mut rows)?;
+/// Saves the rows, and takes them over where the work wants that and none was refused.
+fn put_over<R: Rows>(alloc: Global, rows: &mut R, work: Work) -> Option<Told> {
+    let told = put_all(alloc, rows)?;
+    if told.refused || work != Work::Upgrade {
+        return Some(told);
+    }
+    let refused = !goes_over(rows)?;
+    Some(Told { refused, ..told })
+}
+
+/// The rows after two saves, and the upgrade where the work wants it.
+fn put<R: Rows>(alloc: Global, mut rows: R, work: Work) -> Option<(R, Told)> {
+    let told = put_over(alloc, &mut rows, work)?;
     Some((rows, told))
 }
 
 /// The rows after the work, and what was told of it.
 fn done<R: Rows>(alloc: Global, rows: R, work: Work) -> Option<(R, Told)> {
     let (rows, is_saved) = match work {
-        Work::Create => {
+        Work::Create(_) => {
             return Some((
                 rows,
                 Told {
@@ -87,7 +108,7 @@ fn done<R: Rows>(alloc: Global, rows: R, work: Work) -> Option<(R, Told)> {
                 },
             ));
         }
-        Work::Put => return put(alloc, rows),
+        Work::Put | Work::Upgrade => return put(alloc, rows, work),
         Work::Offer => offered(alloc, rows, FLOOD)?,
         Work::Serve => served(alloc, rows, FLOOD)?,
     };
@@ -103,6 +124,19 @@ fn is_listed(rows: &mut Saved, samples: &[Sample], told: Told) -> bool {
     is_told && listed <= samples.len() && are_there(rows, &samples[..listed])
 }
 
+/// Whether rows that are found after a work are at a version that it may have left: at version 2 where it went over, else at
+/// that they were made at, or at either where the upgrade of all of them was refused.
+fn is_at(found: Version, work: Work, told: Told) -> bool {
+    if work != Work::Upgrade {
+        return found == version_for(work);
+    }
+    if told.saved < SAVES.len() {
+        found == Version::One
+    } else {
+        told.refused || found == Version::Two
+    }
+}
+
 /// Whether what a new station finds is what the rows have.
 fn is_sought<R: Rows>(alloc: Global, rows: R, told: Told) -> bool {
     match sought(alloc, rows, FLOOD, LIGATURE) {
@@ -113,18 +147,21 @@ fn is_sought<R: Rows>(alloc: Global, rows: R, told: Told) -> bool {
 
 /// Whether the rows are those that a work may have left.
 fn is_left(alloc: Global, mut rows: Saved, work: Work, told: Told) -> bool {
+    if !is_at(rows.version(), work, told) {
+        return false;
+    }
     match work {
-        Work::Create => is_listed(&mut rows, &[], told),
-        Work::Put => is_listed(&mut rows, SAVES, told),
+        Work::Create(_) => is_listed(&mut rows, &[], told),
+        Work::Put | Work::Upgrade => is_listed(&mut rows, SAVES, told),
         Work::Offer | Work::Serve => is_listed(&mut rows, OFFERED, told)
             && is_sought(alloc, rows, told),
     }
 }
 
-/// Whether a database that was not made is found empty, or made with no row.
-fn is_unmade(alloc: Global, disks: Disks) -> bool {
+/// Whether a database that was not made is found empty, or made at this version with no row.
+fn is_unmade(alloc: Global, disks: Disks, version: Version) -> bool {
     match found(alloc, disks) {
-        Some(Ok(mut rows)) => count(&mut rows) == Some(0),
+        Some(Ok(mut rows)) => rows.version() == version && count(&mut rows) == Some(0),
         Some(Err(fault)) => fault == RowsFault::Store,
         None => false,
     }
@@ -141,9 +178,10 @@ fn is_found(alloc: Global, disks: Disks, work: Work, told: Told) -> bool {
 /// Whether a run in which this disk stops after so many calls came to its end without a stop; nothing where something else
 /// is found after it than may be.
 pub fn is_whole(alloc: Global, side: Side, calls: u64, work: Work) -> Option<bool> {
-    let rows = match made(alloc, side, calls) {
+    let version = version_for(work);
+    let rows = match made(alloc, side, calls, version) {
         Ok(rows) => rows,
-        Err(disks) => return is_unmade(alloc, disks).then_some(false),
+        Err(disks) => return is_unmade(alloc, disks, version).then_some(false),
     };
     let (rows, told) = done(alloc, rows, work)?;
     let Left { disks, closed } = left_of(rows);

@@ -1,20 +1,17 @@
-//! A circuit over databases in memory logs what it logs over rows in memory at version 1.
+//! A circuit over databases in memory logs what it logs over rows in memory, at either version and from one to the other.
 
 use acceptor_store::SqliteRows;
 use code_table::CodeTable;
 use database_circuits::play_in_databases;
 use fixtures::{CODES, FLOOD, WIDTHS};
 use line_check::galley;
-use saved_rows::{MemoryRows, Rows};
+use saved_rows::MemoryRows;
 use sqlite::MemStore;
 use station::Datagram;
 use std::alloc::Global;
-use tape_frames::Tape;
+use tape_frames::{Tape, Version};
 use widths::Widths;
-use world::{OfferLog, ReleaseLog, Step, World};
-
-/// The datagrams that come, in order, after member 1 of three was offered the flood story for number 12.
-const DELIVERED: &[usize] = &[1, 3, 6, 4, 8, 9, 7];
+use world::{OfferLog, ReleaseLog, Step, World, play_in_memory};
 
 /// The code table and the widths of a member.
 fn read_files(alloc: Global) -> Option<(CodeTable, Widths)> {
@@ -23,18 +20,71 @@ fn read_files(alloc: Global) -> Option<(CodeTable, Widths)> {
     Some((table, widths))
 }
 
-/// The circuit of these rows, before its steps.
-fn circuit<R: Rows>(alloc: Global, rows: Vec<R>) -> Option<World<R>> {
-    let mut parts = Vec::new(alloc);
-    for rows in rows {
-        let (table, widths) = read_files(alloc)?;
-        parts.push((table, widths, rows)).ok()?;
-    }
-    World::new(alloc, 7, parts).ok()
+/// A withdrawal: the member, and the number.
+type Withdrawn = (u8, u32);
+
+/// A circuit of three at this version. Member 1 is offered the flood story for number 12, and these datagrams come, in order; these
+/// members go over to version 2; one withdraws a number, and then these datagrams come. So many datagrams, offers and
+/// releases are logged.
+#[derive(Clone, Copy)]
+struct Story {
+    version: Version,
+    before: &'static [usize],
+    upgraded: &'static [u8],
+    withdrawn: Withdrawn,
+    after: &'static [usize],
+    logged: [usize; 3],
 }
 
-/// The offer and the deliveries, and a withdrawal of another number, which version 1 does not have.
-fn steps(alloc: Global) -> Option<Vec<Step>> {
+/// The story is released three times; version 1 has no withdrawal of another number.
+const OLD: Story = Story {
+    version: Version::One,
+    before: &[1, 3, 6, 4, 8, 9, 7],
+    upgraded: &[],
+    withdrawn: (2, 13),
+    after: &[],
+    logged: [9, 1, 3],
+};
+
+/// Version 2 has it: two Prepares are sent, and members 1 and 3 promise.
+const NEW: Story = Story {
+    version: Version::Two,
+    after: &[10, 11],
+    logged: [13, 2, 3],
+    ..OLD
+};
+
+/// Member 2 votes for the story and goes over; member 3, which goes over too, withdraws the number, and hears of the
+/// vote: it proposes the story in its ballot, and releases it. Member 1, which stays, reads nothing of that.
+const OUTLIVED: Story = Story {
+    before: &[1, 3, 4],
+    upgraded: &[2, 3],
+    withdrawn: (3, 12),
+    after: &[10, 11, 12, 14, 18],
+    logged: [18, 2, 1],
+    ..OLD
+};
+
+const STORIES: &[Story] = &[OLD, NEW, OUTLIVED];
+
+/// Adds the deliveries of these datagrams.
+fn deliver(steps: &mut Vec<Step>, datagrams: &[usize]) -> Option<()> {
+    for k in datagrams {
+        steps.push(Step::Deliver { k: *k, now: 0 }).ok()?;
+    }
+    Some(())
+}
+
+/// Adds that these members go over.
+fn upgrade(steps: &mut Vec<Step>, members: &[u8]) -> Option<()> {
+    for member in members {
+        steps.push(Step::Upgrade { member: *member }).ok()?;
+    }
+    Some(())
+}
+
+/// The steps of a story.
+fn steps(alloc: Global, story: &Story) -> Option<Vec<Step>> {
     let mut steps = Vec::new(alloc);
     let offer = Step::Offer {
         member: 1,
@@ -43,31 +93,16 @@ fn steps(alloc: Global) -> Option<Vec<Step>> {
         now: 0,
     };
     steps.push(offer).ok()?;
-    for k in DELIVERED {
-        steps.push(Step::Deliver { k: *k, now: 0 }).ok()?;
-    }
+    deliver(&mut steps, story.before)?;
+    upgrade(&mut steps, story.upgraded)?;
     let withdrawal = Step::Withdraw {
-        member: 2,
-        number: 13,
+        member: story.withdrawn.0,
+        number: story.withdrawn.1,
         now: 0,
     };
     steps.push(withdrawal).ok()?;
+    deliver(&mut steps, story.after)?;
     Some(steps)
-}
-
-/// A circuit of these rows, after the steps.
-fn agreed<R: Rows>(alloc: Global, rows: Vec<R>) -> Option<World<R>> {
-    let mut world = circuit(alloc, rows)?;
-    world.run(steps(alloc)?.as_slice()).ok()?;
-    Some(world)
-}
-
-fn in_memory(alloc: Global) -> Option<World<MemoryRows>> {
-    let mut rows = Vec::new(alloc);
-    for _ in 0..3 {
-        rows.push(MemoryRows::new(alloc)).ok()?;
-    }
-    agreed(alloc, rows)
 }
 
 /// The code tables and the widths of three members.
@@ -79,10 +114,22 @@ fn members(alloc: Global) -> Option<Vec<(CodeTable, Widths)>> {
     Some(members)
 }
 
-/// The circuit over databases, after the steps.
-fn in_databases(alloc: Global) -> Option<World<SqliteRows<MemStore>>> {
-    let steps = steps(alloc)?;
-    let played = play_in_databases(alloc, 7, members(alloc)?, steps.as_slice()).ok()?;
+/// The circuit of a story over rows in memory, after its steps.
+fn in_memory(alloc: Global, story: &Story) -> Option<World<MemoryRows>> {
+    let steps = steps(alloc, story)?;
+    let members = members(alloc)?;
+    let played = play_in_memory(alloc, 7, story.version, members, steps.as_slice()).ok()?;
+    if played.run.is_err() {
+        return None;
+    }
+    Some(played.world)
+}
+
+/// The same over databases.
+fn in_databases(alloc: Global, story: &Story) -> Option<World<SqliteRows<MemStore>>> {
+    let steps = steps(alloc, story)?;
+    let members = members(alloc)?;
+    let played = play_in_databases(alloc, 7, story.version, members, steps.as_slice()).ok()?;
     if played.run.is_err() {
         return None;
     }
@@ -149,9 +196,9 @@ fn are_same_logs(
 
 /// How many datagrams, offers and releases a circuit over databases logs, where they are those of a circuit over rows in
 /// memory.
-fn logged(alloc: Global) -> Option<[usize; 3]> {
-    let plain = in_memory(alloc)?;
-    let saved = in_databases(alloc)?;
+fn logged(alloc: Global, story: &Story) -> Option<[usize; 3]> {
+    let plain = in_memory(alloc, story)?;
+    let saved = in_databases(alloc, story)?;
     let counts = [
         saved.sent().len(),
         saved.offers().len(),
@@ -162,5 +209,7 @@ fn logged(alloc: Global) -> Option<[usize; 3]> {
 
 #[test]
 fn databases_give_the_same(rt: HostRuntime) {
-    assert!(rt; logged(rt.alloc()) == Some([9, 1, 3]));
+    for story in STORIES {
+        assert!(rt; logged(rt.alloc(), story) == Some(story.logged));
+    }
 }

@@ -6,12 +6,13 @@ use crate::samples::{PROMISED, Sample, VOTED};
 use crate::sessions::{Listing, MADE, Manner, OPENED, STATION, Session, told};
 use saved_rows::{Identity, RowsFault};
 
-const BOTH: Listing = Listing::Rows(&[(3, PROMISED), (12, VOTED)]);
+/// What the two rows of `TWO` are listed as.
+pub const BOTH: Listing = Listing::Rows(&[(3, PROMISED), (12, VOTED)]);
 
-const READ: &[Deed] = &[Deed::Get(12, Some(VOTED))];
+pub const READ: &[Deed] = &[Deed::Get(12, Some(VOTED))];
 
 /// The rows are made, and two are saved.
-const SAVED: Session = Session {
+pub const SAVED: Session = Session {
     deeds: TWO,
     listing: BOTH,
     ..MADE
@@ -26,7 +27,7 @@ const AGAIN: Session = Session {
 };
 
 /// Member 1 of the same circuit.
-const OTHER: Identity = Identity {
+pub const OTHER: Identity = Identity {
     member: 1,
     ..STATION
 };

@@ -4,6 +4,7 @@ use crate::samples::{Sample, is_copied, is_long_copied, is_long_row, is_row, lon
 use ballots::{Number, Row};
 use saved_rows::{Rows, RowsFault};
 use std::alloc::Global;
+use tape_frames::Version;
 
 /// One call, with what it has to answer.
 #[derive(Clone, Copy)]
@@ -20,6 +21,8 @@ pub enum Deed {
     PutLong(u32, usize),
     /// The row under this number has that tape, and so has a copy of it.
     GetLong(u32, usize),
+    /// The rows go over to version 2, or that is refused so; they are at this version then.
+    Upgrade(Option<RowsFault>, Version),
 }
 
 /// The fault that the save of a row is refused with; `Some(None)` where it is saved.
@@ -76,6 +79,9 @@ fn is_done<R: Rows>(alloc: Global, rows: &mut R, deed: &Deed) -> bool {
             refusal_of(alloc, rows, *number, sample) == Some(*refusal)
         }
         Deed::PutLong(number, frames) => puts_long(alloc, rows, *number, *frames) == Some(true),
+        Deed::Upgrade(refusal, version) => {
+            rows.upgrade().err() == *refusal && rows.version() == *version
+        }
         Deed::Get(number, _)
         | Deed::Copy(number, _)
         | Deed::Refused(number, _)

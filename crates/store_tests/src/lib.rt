@@ -5,11 +5,15 @@
 #[cfg(test)]
 mod circuits;
 #[cfg(test)]
+mod crossings;
+#[cfg(test)]
 mod damages;
 #[cfg(test)]
 mod databases;
 #[cfg(test)]
 mod deeds;
+#[cfg(test)]
+mod entries;
 #[cfg(test)]
 mod listings;
 #[cfg(test)]
@@ -18,5 +22,7 @@ mod memory;
 mod samples;
 #[cfg(test)]
 mod sessions;
+#[cfg(test)]
+mod statements;
 #[cfg(test)]
 mod upgrades;

@@ -1,13 +1,14 @@
-//! What `rows` prints, and where it stops.
+//! What `rows` and `upgrade` print, and where they stop.
 
 use crate::deeds::Deed;
-use crate::samples::{PROMISED, VOTED};
-use crate::sessions::{Listing, MADE, Manner, OPENED, Print, Session, told};
+use crate::samples::{PROMISED, VOTED, WITHDRAWN};
+use crate::sessions::{Command, Listing, MADE, Manner, OPENED, OPENED_TWO, Print, Session, told};
 use command_ends::End;
 use saved_rows::RowsFault;
 
 /// The listing of no rows, and of two.
 const NO_ROWS: Print = Print {
+    command: Command::Rows,
     room: 1000,
     text: "station 2 of 3 circuit 7\n",
     end: End::Done,
@@ -101,9 +102,96 @@ const REFUSED: &[Session] = &[Session {
     ..MADE
 }];
 
-const STORIES: &[&[Session]] = &[PRINTED, DAMAGED, REFUSED];
+/// What `upgrade` prints, and a front of it.
+const OVER: Print = Print {
+    command: Command::Upgrade,
+    text: "layout 2\n",
+    ..NO_ROWS
+};
+
+const OVER_FRONT: Print = Print {
+    room: 8,
+    end: End::Input,
+    fault: "cannot write\n",
+    ..OVER
+};
+
+/// Two rows, and then a withdrawal behind them.
+const LISTED: Listing = Listing::Rows(&[(3, PROMISED), (12, VOTED)]);
+
+const THREE_ROWS: Print = Print {
+    text: "station 2 of 3 circuit 7\n3 1.1 - -\n12 1.3 1.1 010204\n13 1.1 1.1 void\n",
+    ..NO_ROWS
+};
+
+/// The rows go over, also where that is not written, and are printed as before.
+const OVER_ONCE: &[Session] = &[
+    Session {
+        deeds: &[Deed::Put(12, VOTED, None), Deed::Put(3, PROMISED, None)],
+        listing: LISTED,
+        prints: &[TWO_ROWS, OVER, TWO_ROWS, OVER],
+        ..MADE
+    },
+    Session {
+        deeds: &[Deed::Put(13, WITHDRAWN, None)],
+        listing: Listing::Count(3),
+        prints: &[THREE_ROWS, OVER, THREE_ROWS],
+        ..OPENED_TWO
+    },
+];
+
+const OVER_UNWRITTEN: &[Session] = &[
+    Session {
+        prints: &[OVER_FRONT],
+        ..MADE
+    },
+    Session {
+        prints: &[Print {
+            room: 0,
+            ..OVER_FRONT
+        }],
+        ..OPENED_TWO
+    },
+];
+
+/// The rows refuse, and nothing is written then.
+const BALKED: Print = Print {
+    text: "",
+    end: End::Store,
+    fault: "store: refused\n",
+    ..OVER
+};
+
+const OVER_REFUSED: &[Session] = &[
+    MADE,
+    Session {
+        statements: "CREATE TABLE acceptor_entry (number INTEGER PRIMARY KEY)",
+        prints: &[
+            BALKED,
+            BALKED,
+            Print {
+                command: Command::Rows,
+                ..BALKED
+            },
+        ],
+        ..OPENED
+    },
+    Session {
+        prints: &[NO_ROWS],
+        ..OPENED
+    },
+];
+
+const STORIES: &[&[Session]] = &[
+    PRINTED,
+    DAMAGED,
+    REFUSED,
+    OVER_ONCE,
+    OVER_UNWRITTEN,
+    OVER_REFUSED,
+];
 
 #[test]
-fn what_rows_prints(rt: HostRuntime) {
+fn what_they_print(rt: HostRuntime) {
     assert_eq!(rt; told(rt.alloc(), STORIES), STORIES.len());
 }

@@ -1,14 +1,11 @@
 //! Rows in memory, and rows whose next save is refused.
 
-ghost use Rattle.std.specs.Prelude.{IfSome};
-ghost use Rattle.saved_rows.specs.Saved.{HasPromise};
-
 use crate::deeds::{Deed, done};
-use crate::samples::{PROMISED, Sample, VOTED, is_row};
-use ballots::{Ballot, Member, Number, Row, Vote};
+use crate::samples::{PROMISED, Sample, VOTED, WITHDRAWN, is_row};
+use ballots::Number;
 use saved_rows::{Balky, MemoryRows, Rows, RowsFault};
 use std::alloc::Global;
-use tape_frames::{Entry, EntryRef, Version};
+use tape_frames::Version;
 
 /// Two rows are saved and read back, and none is there under 4.
 pub const TWO: &[Deed] = &[
@@ -37,8 +34,14 @@ fn gives_and_takes(alloc: Global, rows: &mut MemoryRows) -> Option<bool> {
     Some(taken)
 }
 
-/// The longest tape of version 1 is saved, and read back.
-const LONG: &[Deed] = &[Deed::PutLong(13, 4096), Deed::GetLong(13, 4096)];
+/// The longest tape of version 1 is saved, and read back before and after an upgrade.
+const LONG: &[Deed] = &[
+    Deed::PutLong(13, 4096),
+    Deed::GetLong(13, 4096),
+    Deed::Upgrade(None, Version::Two),
+    Deed::GetLong(13, 4096),
+    Deed::Get(12, Some(VOTED)),
+];
 
 /// Whether two rows are saved in memory, lent, taken out and saved again, and then one with that tape.
 fn keeps_in_memory(alloc: Global) -> Option<bool> {
@@ -53,37 +56,22 @@ fn in_memory(rt: HostRuntime) {
     assert!(rt; keeps_in_memory(rt.alloc()) == Some(true));
 }
 
-/// A promise of 1.1 beside a vote at it for a withdrawal.
-fn withdrawn() -> Option<Row>
-    ensures { IfSome result HasPromise }
-{
-    let ballot = Ballot::new(1, Member::new(1)?)?;
-    Row::new(Some(ballot), Some(Vote::new(ballot, Entry::Void)))
-}
+/// A withdrawal is saved, and read back.
+const WITHDRAWALS: &[Deed] = &[
+    Deed::Put(12, WITHDRAWN, None),
+    Deed::Get(12, Some(WITHDRAWN)),
+];
 
-/// Whether the row of 12 that these rows give is that of a withdrawal.
-fn has_withdrawal<R: Rows>(rows: &mut R) -> Option<bool> {
-    match rows.get(Number::new(12)?) {
-        Ok(row) => Some(matches!(row.vote()?.entry(), EntryRef::Void)),
-        Err(_) => None,
-    }
-}
-
-/// Whether a withdrawal is saved and read back; nothing where it does not fit the version of the rows.
-fn keeps_withdrawal<R: Rows>(rows: &mut R) -> Option<bool> {
-    let row = withdrawn()?;
-    if !row.fits(rows.version()) {
-        return None;
-    }
-    Some(rows.put(Number::new(12)?, &row).is_ok() && has_withdrawal(rows)?)
+/// How many of these are done with rows at this version: the first, which saves it, only where it fits.
+fn withdrawn(alloc: Global, version: Version) -> usize {
+    let mut rows = Balky::new(MemoryRows::at(alloc, version));
+    done(alloc, &mut rows, WITHDRAWALS)
 }
 
 #[test]
 fn withdrawals(rt: HostRuntime) {
-    let mut old = MemoryRows::new(rt.alloc());
-    assert!(rt; keeps_withdrawal(&mut old) == None);
-    let mut rows = Balky::new(MemoryRows::at(rt.alloc(), Version::Two));
-    assert!(rt; keeps_withdrawal(&mut rows) == Some(true));
+    assert!(rt; withdrawn(rt.alloc(), Version::One) == 0);
+    assert!(rt; withdrawn(rt.alloc(), Version::Two) == WITHDRAWALS.len());
 }
 
 /// The longest tape of all is saved, and read back.
@@ -137,6 +125,33 @@ const ARMED: &[(&[bool], &[Deed])] = &[
         &[
             Deed::Put(12, LATER, Some(RowsFault::Store)),
             Deed::Get(12, Some(HIGHER)),
+        ],
+    ),
+    // An upgrade is refused before it.
+    (
+        &[false],
+        &[
+            Deed::Upgrade(Some(RowsFault::Store), Version::One),
+            Deed::Get(12, Some(HIGHER)),
+            Deed::Put(13, VOTED, None),
+        ],
+    ),
+    // It is refused after it.
+    (
+        &[true],
+        &[
+            Deed::Upgrade(Some(RowsFault::Store), Version::Two),
+            Deed::Get(12, Some(HIGHER)),
+            Deed::Put(13, WITHDRAWN, None),
+        ],
+    ),
+    // At version 2 too, and the next one is not.
+    (
+        &[false],
+        &[
+            Deed::Upgrade(Some(RowsFault::Store), Version::Two),
+            Deed::Upgrade(None, Version::Two),
+            Deed::Get(13, Some(WITHDRAWN)),
         ],
     ),
 ];

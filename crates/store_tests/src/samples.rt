@@ -7,7 +7,8 @@ use ballots::{Ballot, Member, Row, Vote};
 use std::alloc::Global;
 use tape_frames::{Entry, EntryRef, Tape};
 
-/// A row that is no blank one: its promise, and its vote, if any, with the frames of its tape.
+/// A row that is no blank one: its promise, and its vote, if any, with the frames of its tape, which are none where it is for a
+/// withdrawal.
 #[derive(Clone, Copy)]
 pub struct Sample {
     pub promised: (u32, u8),
@@ -29,8 +30,23 @@ pub const VOTED: Sample = Sample {
     frames: &[1, 2, 4],
 };
 
+/// A promise of 1.1 beside a vote at it for a withdrawal.
+pub const WITHDRAWN: Sample = Sample {
+    vote: Some((1, 1)),
+    ..PROMISED
+};
+
 fn ballot_of(numbers: (u32, u8)) -> Option<Ballot> {
     Ballot::new(numbers.0, Member::new(numbers.1)?)
+}
+
+/// The tape of these frames, or a withdrawal where there are none.
+fn entry_of(alloc: Global, frames: &[u8]) -> Option<Entry> {
+    if frames.is_empty() {
+        return Some(Entry::Void);
+    }
+    let tape = Tape::from_bytes(alloc, frames).ok()?;
+    Some(Entry::Tape(tape))
 }
 
 /// The row of a sample; `None` where it is none, or memory was refused.
@@ -41,24 +57,25 @@ pub fn row_of(alloc: Global, sample: &Sample) -> Option<Row>
     let vote = match sample.vote {
         None => None,
         Some(numbers) => {
-            let tape = Tape::from_bytes(alloc, sample.frames).ok()?;
-            Some(Vote::new(ballot_of(numbers)?, Entry::Tape(tape)))
+            let entry = entry_of(alloc, sample.frames)?;
+            Some(Vote::new(ballot_of(numbers)?, entry))
         }
     };
     Row::new(Some(promise), vote)
 }
 
-/// Whether an entry is the tape of these frames.
-fn is_tape(entry: &EntryRef<'_>, frames: &[u8]) -> bool {
+/// Whether an entry is the tape of these frames, or a withdrawal where there are none.
+fn is_entry(entry: &EntryRef<'_>, frames: &[u8]) -> bool {
     match entry {
+        EntryRef::Void => frames.is_empty(),
         EntryRef::Plain(tape) => tape.frames() == frames,
-        _ => false,
+        EntryRef::Packed(_) => false,
     }
 }
 
-/// Whether a vote is at this ballot, for these frames.
+/// Whether a vote is at this ballot, for the entry of these frames.
 fn is_vote(vote: &Vote, numbers: (u32, u8), frames: &[u8]) -> bool {
-    ballot_of(numbers) == Some(vote.ballot()) && is_tape(&vote.entry(), frames)
+    ballot_of(numbers) == Some(vote.ballot()) && is_entry(&vote.entry(), frames)
 }
 
 /// Whether a row is this one; the blank one with `None`.

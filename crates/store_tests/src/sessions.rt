@@ -2,12 +2,13 @@
 
 use crate::deeds::{Deed, done};
 use crate::samples::{Sample, is_row};
+use crate::statements::{finds, save_long};
 use acceptor_store::SqliteRows;
 use ballots::{Number, Row};
 use command_ends::End;
-use rows_command::print_rows;
+use rows_command::{print_rows, upgrade_rows};
 use saved_rows::{Identity, Rows, RowsFault};
-use sqlite::{Connection, MemStore, params};
+use sqlite::{Connection, MemStore};
 use std::alloc::Global;
 use std::io;
 use std::io::Write;
@@ -40,43 +41,67 @@ pub enum Listing {
     Refused(RowsFault),
 }
 
-/// What `rows` prints to a writer that takes so many bytes: a front of the text, how it ends, and its fault.
+/// Which command prints.
+#[derive(Clone, Copy)]
+pub enum Command {
+    Rows,
+    Upgrade,
+}
+
+/// What a command prints to a writer that takes so many bytes: a front of the text, how it ends, and its fault.
 #[derive(Clone, Copy)]
 pub struct Print {
+    pub command: Command,
     pub room: usize,
     pub text: &'static str,
     pub end: End,
     pub fault: &'static str,
 }
 
-/// What is done to a database: statements, and one that saves a tape of so many frames 63 under 12, if of any; then the
-/// rows made or taken up, which may be refused; and, where they are not, deeds, a listing, and what `rows` prints, each time.
+/// What is done to a database: statements, one that saves a tape of so many frames 63 under 12, if of any, and some that
+/// find so many rows each; then the rows made or taken up, at this version, which may be refused; and, where they are not,
+/// deeds, a listing, and what commands print, each time.
 #[derive(Clone, Copy)]
 pub struct Session {
     pub statements: &'static str,
     pub frames: usize,
+    pub found: &'static [(&'static str, usize)],
     pub manner: Manner,
+    pub version: Version,
     pub refusal: Option<RowsFault>,
     pub deeds: &'static [Deed],
     pub listing: Listing,
     pub prints: &'static [Print],
 }
 
-/// The rows are made, and none is saved.
+/// The rows are made at version 1, and none is saved.
 pub const MADE: Session = Session {
     statements: "",
     frames: 0,
+    found: &[],
     manner: Manner::Create,
+    version: Version::One,
     refusal: None,
     deeds: &[],
     listing: Listing::Rows(&[]),
     prints: &[],
 };
 
-/// The rows are taken up for the station, and there is none.
+/// The rows are taken up for the station, at version 1, and there is none.
 pub const OPENED: Session = Session {
     manner: Manner::Open(Some(STATION)),
     ..MADE
+};
+
+/// The same at version 2.
+pub const MADE_TWO: Session = Session {
+    version: Version::Two,
+    ..MADE
+};
+
+pub const OPENED_TWO: Session = Session {
+    version: Version::Two,
+    ..OPENED
 };
 
 /// Whether these numbers and rows are those, in their order.
@@ -126,21 +151,24 @@ impl Write for Slow {
     }
 }
 
-/// Whether `rows` prints so.
+/// Whether a command prints so.
 fn is_printed(alloc: Global, rows: &mut SqliteRows<MemStore>, print: &Print) -> bool {
     let mut out = Slow {
         taken: Vec::new(alloc),
         room: print.room,
     };
     let mut err = Vec::new(alloc);
-    let end = print_rows(alloc, rows, &mut out, &mut err);
+    let end = match print.command {
+        Command::Rows => print_rows(alloc, rows, &mut out, &mut err),
+        Command::Upgrade => upgrade_rows(rows, &mut out, &mut err),
+    };
     print.text.as_bytes().starts_with(&out.taken)
         && (out.taken.len() == print.text.len() || out.room == 0)
         && end == print.end
         && err.as_slice() == print.fault.as_bytes()
 }
 
-/// Whether it prints so each time.
+/// Whether the commands print so, one after the other.
 fn are_printed(alloc: Global, rows: &mut SqliteRows<MemStore>, prints: &[Print]) -> bool {
     for print in prints {
         if !is_printed(alloc, rows, print) {
@@ -150,26 +178,22 @@ fn are_printed(alloc: Global, rows: &mut SqliteRows<MemStore>, prints: &[Print])
     true
 }
 
-/// Whether the rows are the station's, at version 1, and answer, list and print as a session says.
+/// Whether the rows are the station's, at the version of a session, and answer, list and print as it says.
 fn serves(alloc: Global, rows: &mut SqliteRows<MemStore>, session: &Session) -> bool {
     rows.identity() == STATION
-        && rows.version() == Version::One
+        && rows.version() == session.version
         && done(alloc, rows, session.deeds) == session.deeds.len()
         && is_listed(rows.all(), &session.listing)
         && are_printed(alloc, rows, session.prints)
 }
 
-/// Runs the statements of a session.
+/// Runs the statements of a session, which have to find what they find.
 fn prepare(alloc: Global, conn: &mut Connection<MemStore>, session: &Session) -> Option<()> {
     conn.execute_batch(session.statements).ok()?;
-    if session.frames == 0 {
-        return Some(());
+    if session.frames > 0 {
+        save_long(alloc, conn, session.version, session.frames)?;
     }
-    let frames = vec![in alloc; 63u8; session.frames].ok()?;
-    let frames = frames.as_slice();
-    let saved = "INSERT INTO acceptor_row VALUES (12, 1, 1, 1, 1, ?1)";
-    conn.execute(saved, params![frames]).ok()?;
-    Some(())
+    finds(conn, session.found).then_some(())
 }
 
 /// The connection after a session that went as it has to.
@@ -180,7 +204,7 @@ fn after(
 ) -> Option<Connection<MemStore>> {
     prepare(alloc, &mut conn, session)?;
     let taken = match session.manner {
-        Manner::Create => SqliteRows::create(alloc, conn, STATION),
+        Manner::Create => SqliteRows::create(alloc, conn, STATION, session.version),
         Manner::Open(given) => SqliteRows::open(alloc, conn, given),
     };
     match taken {

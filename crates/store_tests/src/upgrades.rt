@@ -1,5 +1,6 @@
 //! A database that is upgraded from the table of rows to the table of entries.
 
+use crate::statements::finds;
 use row_table::{EntryColumns, upgrade_tables};
 use sqlite::{Connection, MemStore};
 use std::alloc::Global;
@@ -65,16 +66,6 @@ fn vote(alloc: Global, number: u32) -> Option<EntryColumns> {
         length: Some(3),
         packed: Some(packed),
     })
-}
-
-/// Whether each statement finds its rows.
-fn finds(conn: &mut Connection<MemStore>, statements: &[(&str, usize)]) -> bool {
-    for (statement, rows) in statements {
-        if conn.execute(*statement, &[]) != Ok(*rows) {
-            return false;
-        }
-    }
-    true
 }
 
 /// A promise under 3 and a vote under this number.

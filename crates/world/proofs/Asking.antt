@@ -140,11 +140,11 @@ deliver_brings v v' k m now d same low high is acts there = record {
     to = some_is (ap (λ (o : Option Datagram). option_map (λ (q : Datagram). q.to) o) (sym at_k) ∙ acts)
 
 -- the station that was changed, before and after
-before_at : {R : Type 0} (v v1 v' : World R) (i m : ℕ) (s s' : Station (Balky R)) → IsSame v v1 → Changes v1 v' i m s s' → station_at v m ≡ Some s
+pub before_at : {R : Type 0} (v v1 v' : World R) (i m : ℕ) (s s' : Station (Balky R)) → IsSame v v1 → Changes v1 v' i m s s' → station_at v m ≡ Some s
 before_at v v1 v' i m s s' same ch =
     ap (λ (k : ℕ). station_at v k) (sym ch.is_member) ∙ (ap (λ q. slice_get q.items i) (sym same.stations) ∙ ch.at_i)
 
-after_at : {R : Type 0} (v1 v' : World R) (i m : ℕ) (s s' : Station (Balky R)) → Changes v1 v' i m s s' → station_at v' m ≡ Some s'
+pub after_at : {R : Type 0} (v1 v' : World R) (i m : ℕ) (s s' : Station (Balky R)) → Changes v1 v' i m s s' → station_at v' m ≡ Some s'
 after_at v1 v' i m s s' ch = ap (λ (k : ℕ). station_at v' k) (sym ch.is_member) ∙ here v1 v' i m s s' ch
 
 -- a step ends so where less is asked of the member's own rows
@@ -167,6 +167,7 @@ pub ends_more : (out : Outcome) (P Q : Type 0) → (P → Q) → (o : circuit.Ou
 ends_more (outcomes.Done note) P Q f o e = e
 ends_more (outcomes.Refused q) P Q f o e = refused_more q P Q f o e
 ends_more outcomes.Restarted P Q f o e = e
+ends_more outcomes.Upgraded P Q f o e = e
 ends_more (outcomes.Armed saved) P Q f o e = e
 
 -- where the store refused, the step is seen as torn
@@ -199,14 +200,20 @@ caused g s s' fault (inr after) = elim after.2.1 [
   )
 ]
 
+-- a fault that the station's rows blame tore the step
+pub was_torn :
+    {R : Type 0} (g : Ghosts R) (v v1 v' : World R) (i m : ℕ) (s s' : Station (Balky R)) → IsSame v v1 → Changes v1 v' i m s s'
+    → (fault : RowsFault) → IsBlamed (balky_sight (sight g) g.refusals) s.rows s'.rows fault → WasTorn g v v' m fault
+was_torn g v v1 v' i m s s' same ch fault blamed =
+    record { before = s; after = s'; at_old = before_at v v1 v' i m s s' same ch; at_new = after_at v1 v' i m s s' ch; cause = caused g s s' fault blamed }
+
 -- where the store tore the step, it is told why
 pub tells_why :
     {R : Type 0} (g : Ghosts R) (v v1 v' : World R) (i m sent : ℕ) (s s' : Station (Balky R)) (r : Result Answer StepRefusal) (seen : Seen) → IsSame v v1 → Changes v1 v' i m s s'
     → seen ≡ seen_of m sent r → IfStore r (IsBlamed (balky_sight (sight g) g.refusals) s.rows s'.rows) → TellsWhy g v v' (Ok seen)
 tells_why g v v1 v' i m sent s s' r seen same ch is_seen blames =
     subst (λ (q : Seen). IfTorn q.outcome (WasTorn g v v' q.member)) (sym is_seen)
-    (seen_torn r (IsBlamed (balky_sight (sight g) g.refusals) s.rows s'.rows) (WasTorn g v v' m)
-    (λ fault blamed. record { before = s; after = s'; at_old = before_at v v1 v' i m s s' same ch; at_new = after_at v1 v' i m s s' ch; cause = caused g s s' fault blamed }) blames)
+    (seen_torn r (IsBlamed (balky_sight (sight g) g.refusals) s.rows s'.rows) (WasTorn g v v' m) (was_torn g v v1 v' i m s s' same ch) blames)
 
 so_many : (m : ℕ) (r : Result Answer StepRefusal) → length (released_of m r) ≡ (if was_released r then 1 else 0)
 so_many m (Ok a) = go a.release

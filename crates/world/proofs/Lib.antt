@@ -4,6 +4,7 @@ pub mod Alike
 pub mod Turning
 pub mod Stepping
 pub mod Starting
+pub mod GoingOver
 pub mod Reaching
 pub mod Founding
 pub mod Asking

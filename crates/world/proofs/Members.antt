@@ -5,6 +5,7 @@ use Rattle.std.proofs.lemmas.Bool.{eqb-true, eqb-false, eq-eqb}
 use Rattle.std.proofs.lemmas.Option.{slice_get_within, slice_get_read, slice_get_cases, slice_get_past}
 use Rattle.std.proofs.lemmas.List.{get_or-set_same, get_or-set_other}
 use Rattle.std.proofs.Math.ListN.{length-set}
+use Rattle.protocol.specs.Ballots.{IsMember}
 use Rattle.protocol.specs.Versions.{Version}
 use Rattle.protocol.specs.Circuit.{with_at}
 use Rattle.saved_rows.specs.Saved.{Saved}
@@ -60,7 +61,7 @@ pub record Changes {R : Type 0} (v v' : World R) (i m : ℕ) (s s' : Station (Ba
 
 -- other members are as they were
 pub record Elsewhere (w after : StationState) (m : ℕ) : Type 0 where
-  pub version : (k : ℕ) → after.version k ≡ w.version k
+  pub version : (k : ℕ) → k ≢ m → after.version k ≡ w.version k
   pub rows : (k : ℕ) → k ≢ m → (n : ℕ) → after.rows k n ≡ w.rows k n
   pub marks : (k : ℕ) → k ≢ m → after.marks k ≡ w.marks k
   pub stopped : (k : ℕ) → k ≢ m → after.is_stopped k ≡ w.is_stopped k
@@ -112,6 +113,14 @@ module _ {R : Type 0} (v v' : World R) (i m : ℕ) (s s' : Station (Balky R)) (c
     pub shown : Shows is_open saved version h.tables h.files z w m s
     shown = subst (λ (k : ℕ). Shows is_open saved version h.tables h.files z w k s) ch.is_member (h.each (suc i) s ch.at_i)
 
+    -- who changed is one of the circuit's members
+    pub is_member_of : IsMember z.count m
+    is_member_of =
+        let is_m : suc i ≡ m = ch.is_member in
+        let l : i < length v.stations.items = within in
+        let c : z.count ≡ length v.stations.items = h.count in
+        (omega arith, omega arith)
+
     module _ (after : StationState) (new : Shows is_open saved version h.tables h.files z after m s') (others : Elsewhere w after m) where
       at_place : (j : ℕ) (t : Station (Balky R)) → slice_get v'.stations.items j ≡ Some t → Shows is_open saved version h.tables h.files z after (suc j) t
       at_place j t at_j = go (j == i) refl
@@ -134,7 +143,7 @@ module _ {R : Type 0} (v v' : World R) (i m : ℕ) (s s' : Station (Balky R)) (c
                 me = old.me;
                 table = old.table;
                 widths = old.widths;
-                is_at = subst (λ (a : Version). IsAt version a t) (sym (others.version (suc j))) old.is_at;
+                is_at = subst (λ (a : Version). IsAt version a t) (sym (others.version (suc j) far)) old.is_at;
                 rows = λ open_now n. old.rows open_now n ∙ sym (others.rows (suc j) far n);
                 marks = subst (λ (ms : _). CoreStandsFor t.speaker.core ms) (sym (others.marks (suc j) far)) old.marks;
                 stopped = old.stopped ∙ sym (others.stopped (suc j) far);

@@ -44,7 +44,7 @@ module _ {R : Type 0} (x : Sight R) (count : R → ℕ) (z : StationCircuit) (v 
 
       others : Elsewhere w after m
       others = record {
-        version = λ k. refl;
+        version = λ k ne. refl;
         rows = λ k ne n. refl;
         marks = λ k ne. with_at-other w.marks m [] k ne;
         stopped = λ k ne. with_at-other w.is_stopped m false k ne;
@@ -77,7 +77,7 @@ module _ {R : Type 0} (x : Sight R) (count : R → ℕ) (z : StationCircuit) (v 
 
       others : Elsewhere w after m
       others = record {
-        version = λ k. refl;
+        version = λ k ne. refl;
         rows = λ k ne n. refl;
         marks = λ k ne. refl;
         stopped = λ k ne. refl;

@@ -29,6 +29,7 @@ torn_less : (o : Outcome) (P Q : RowsFault → Type 0) → ((fault : RowsFault) 
 torn_less (outcomes.Done note) P Q f e = tt
 torn_less (outcomes.Refused q) P Q f e = refused_less q P Q f e
 torn_less outcomes.Restarted P Q f e = tt
+torn_less outcomes.Upgraded P Q f e = tt
 torn_less (outcomes.Armed saved) P Q f e = tt
 
 pub tears_for_memory : {R : Type 0} (g : Ghosts R) → ((old new : R) (fault : RowsFault) → g.blames old new fault → fault ≡ row_faults.OutOfMemory) → TearsForMemory g

@@ -1,5 +1,5 @@
 -- What a station did is a step of the state that its world stands for: done, idle, spent, refused or torn.
-use Rattle.std.proofs.Common.{◌≡◌, ◌≢◌, ℕ, suc, ◌<◌, ◌≤◌, ◌⊎◌, inl, inr, refl, sym, ap, subst, ◌∙◌, arith, List, [], ◌∷◌, ◌++◌, Some, None, Option, Bool, true, false, length, append-nil}
+use Rattle.std.proofs.Common.{◌≡◌, ◌≢◌, ℕ, ◌≤◌, ◌⊎◌, inl, inr, refl, sym, ap, subst, ◌∙◌, arith, List, [], ◌∷◌, ◌++◌, Some, None, Option, Bool, true, false, append-nil}
 use Rattle.std.specs.Prelude.{Result, Ok, IsSome, if◌then◌else◌}
 use Rattle.std.proofs.lemmas.Bool.{cases_lt}
 use Rattle.std.specs.List.{AllZip}
@@ -39,7 +39,7 @@ use Rattle.world.specs.declared.world.World.{World}
 use Rattle.world.specs.Setups.{StationCircuit, StationState, IsSetUp}
 use Rattle.world.specs.Reach.{IsAt, Shows, StandsFor}
 use Rattle.world.specs.Logging.{logged}
-use Rattle.world.proofs.Members.{Changes, Elsewhere, with_at-other, with_at-same, with_at-self, within, shown, stands_after}
+use Rattle.world.proofs.Members.{Changes, Elsewhere, with_at-other, with_at-same, with_at-self, is_member_of, shown, stands_after}
 use Rattle.world.proofs.Alike.{entry_alike, one_entry_setting, refusal_alike, early_alike, event_alike, unstopped}
 
 -- the words of rows that can balk, as their trait has them there
@@ -57,12 +57,19 @@ balky_sight x refusals = record {
       × (old.armed ≡ Some true →
       (x.kept new.rows → WithRow (x.saved old.rows) number row (x.saved new.rows))
       ⊎ (Rises (refusals old.rows) (refusals new.rows) × x.tells old.rows new.rows number row));
+  upgrades = λ old new. (old.armed ≡ None) × (new.armed ≡ None) × x.upgrades old.rows new.rows;
+  balks = λ old new. (new.armed ≡ None)
+      × (old.armed ≡ Some false → new.rows ≡ old.rows)
+      × (old.armed ≡ None → x.balks old.rows new.rows)
+      × (old.armed ≡ Some true →
+      (x.version new.rows ≡ Two)
+      ⊎ (Rises (refusals old.rows) (refusals new.rows) × x.balks old.rows new.rows));
   blames = λ old new fault. (refusals old.rows ≤ refusals new.rows)
       × ((IsSome old.armed × (new.armed ≡ None) × (fault ≡ Store))
       ⊎ ((new.armed ≡ old.armed) × Rises (refusals old.rows) (refusals new.rows) × x.blames old.rows new.rows fault));
 }
 
-unarmed : IsSome {T = Bool} None → ⊥
+pub unarmed : IsSome {T = Bool} None → ⊥
 unarmed e = let no : false ≡ true = e in cc
 
 -- a count that rose after it did not fall
@@ -138,11 +145,7 @@ module _ {R : Type 0} (x : Sight R) (refusals : R → ℕ) (z : StationCircuit) 
   stood = old.marks
 
   pub member : IsMember z.count m
-  member =
-      let is_m : suc i ≡ m = ch.is_member in
-      let l : i < length v.stations.items = within v v' i m s s' ch in
-      let c : z.count ≡ length v.stations.items = h.count in
-      (omega arith, omega arith)
+  member = is_member_of v v' i m s s' ch x.is_open x.saved x.version z w h
 
   sets : (entry : Entry) → SetsEntry (mean s.table) s.widths entry (z.sets m entry)
   sets entry =
@@ -188,7 +191,7 @@ module _ {R : Type 0} (x : Sight R) (refusals : R → ℕ) (z : StationCircuit) 
       stands_after v v' i m s s' ch x.is_open x.saved x.version z w h w new others (h.sent ∙ sym sent) (h.offers ∙ sym offers) (h.releases ∙ sym releases)
     where
       others : Elsewhere w w m
-      others = record { version = λ k. refl; rows = λ k ne j. refl; marks = λ k ne. refl; stopped = λ k ne. refl; armed = λ k ne. refl }
+      others = record { version = λ k ne. refl; rows = λ k ne j. refl; marks = λ k ne. refl; stopped = λ k ne. refl; armed = λ k ne. refl }
 
       rows : (x.is_open s'.rows.rows → (j : ℕ) → x.saved s'.rows.rows j ≡ w.rows m j) × (s'.rows.armed ≡ w.armed m)
       rows = elim read [
@@ -281,7 +284,7 @@ module _ {R : Type 0} (x : Sight R) (refusals : R → ℕ) (z : StationCircuit) 
 
       others : Elsewhere w after m
       others = record {
-        version = λ k. refl;
+        version = λ k ne. refl;
         rows = λ k ne j. saved_other w.rows m (number_of e) d.taken.row k ne j;
         marks = λ k ne. with_at-other w.marks m d.taken.marks k ne;
         stopped = λ k ne. refl;
@@ -349,7 +352,7 @@ module _ {R : Type 0} (x : Sight R) (refusals : R → ℕ) (z : StationCircuit) 
 
       others : Elsewhere w after m
       others = record {
-        version = λ k. refl;
+        version = λ k ne. refl;
         rows = λ k ne j. saved_other w.rows m (number_of e) row k ne j;
         marks = λ k ne. with_at-other w.marks m [] k ne;
         stopped = λ k ne. with_at-other w.is_stopped m true k ne;

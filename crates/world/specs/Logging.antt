@@ -1,13 +1,16 @@
 -- What a world logs of a station's answer.
-use Rattle.std.specs.Prelude.{ℕ, ◌+◌, ◌≤◌, ◌<◌, List, [], ◌∷◌, Option, Some, None, Result, Ok, Err, Bool, false, length, is_some, vec_len, vec_capacity, if◌then◌else◌}
+use Rattle.std.specs.Prelude.{◌≡◌, ℕ, ◌+◌, ◌≤◌, ◌<◌, List, [], ◌∷◌, Option, Some, None, Result, Ok, Err, Bool, false, length, is_some, vec_len, vec_capacity, if◌then◌else◌}
 use Rattle.protocol.specs.Entries.{Entry}
 use Rattle.protocol.specs.Circuit as circuit
 use Rattle.tape_frames.specs.Entries.{owned_entry}
 use Rattle.line_check.specs.declared.slug.Slug.{Slug}
 use Rattle.line_check.specs.declared.fault.SetFault.{SetFault}
+use Rattle.station.specs.declared.station.Station.{Station}
 use Rattle.station.specs.declared.answer.Answer.{Answer}
 use Rattle.station.specs.declared.answer.Release.{Release}
 use Rattle.refusals.specs.declared.refusal.StepRefusal.{StepRefusal}
+use Rattle.station.specs.Stations.{Sight}
+use Rattle.station.specs.Upgrading.{TakesUpgrade}
 use Rattle.station.specs.Readiness.{slugs_of}
 use Rattle.world.specs.declared.step.Outcome.{Outcome}
 use Rattle.world.specs.declared.step.Outcome.TheVariants as outcomes
@@ -39,6 +42,15 @@ was_released (Err refusal) = false
 abbrev pub outcome_of : Result Answer StepRefusal → Outcome
 outcome_of (Ok a) = outcomes.Done a.note
 outcome_of (Err refusal) = outcomes.Refused refusal
+
+-- how an upgrade ended
+abbrev pub upgrade_outcome : Result (Unit {0}) StepRefusal → Outcome
+upgrade_outcome (Ok done) = outcomes.Upgraded
+upgrade_outcome (Err refusal) = outcomes.Refused refusal
+
+-- a station took an upgrade, which ended so
+abbrev pub WentOver : {R : Type 0} → Sight R → Station R → Station R → Outcome → Type 0
+WentOver x old new o = (end : Result (Unit {0}) StepRefusal) × TakesUpgrade x old new end × (o ≡ upgrade_outcome end)
 
 -- the log of an offer to member m
 abbrev pub offered_of : ℕ → ℕ → Entry → Outcome → List circuit.Offer

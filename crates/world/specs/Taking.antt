@@ -35,6 +35,7 @@ step_value (steps.Seek member number now) = circuit.Seeks member number now
 step_value (steps.Due member now) = circuit.Falls_due member now
 step_value (steps.Deliver k now) = circuit.Delivers k now
 step_value (steps.Restart member) = circuit.Restarts member
+step_value (steps.Upgrade member) = circuit.Upgrades member
 step_value (steps.Balk member saved) = circuit.Balks member saved
 
 -- how the circuit's step ended where the station refused it for this reason. Where the store tore it: as it was armed,
@@ -59,6 +60,7 @@ abbrev pub EndsAs : Outcome → (own : Type 0) → circuit.Outcome PacketFault S
 EndsAs (outcomes.Done note) own o = o ≡ circuit.Done (note_value note)
 EndsAs (outcomes.Refused refusal) own o = RefusedAs refusal own o
 EndsAs outcomes.Restarted own o = o ≡ circuit.Restarted
+EndsAs outcomes.Upgraded own o = o ≡ circuit.Upgraded
 EndsAs (outcomes.Armed saved) own o = o ≡ circuit.Armed saved
 
 -- a member's own rows refused a call, and counted it
@@ -69,7 +71,7 @@ pub record RowsRefused {R : Type 0} (count : R → ℕ) (old new : World R) (m :
   pub at_new : station_at new m ≡ Some after
   pub rises : Rises (count before.rows.rows) (count after.rows.rows)
 
--- why the store tore a step of this station with this fault: it was armed to refuse a save, tells that as a fault of the store, and is armed no more;
+-- why the store tore a step of this station with this fault: it was armed to refuse a save or an upgrade, tells that as a fault of the store, and is armed no more;
 -- or it is armed as it was, and the member's own rows refused, and blame this fault
 abbrev pub IsCause : {R : Type 0} → Ghosts R → Station (Balky R) → Station (Balky R) → RowsFault → Type 0
 IsCause g old new fault =
@@ -115,6 +117,7 @@ abbrev pub was_taken : Outcome → Bool
 was_taken (outcomes.Done note) = true
 was_taken (outcomes.Refused refusal) = is_torn refusal
 was_taken outcomes.Restarted = false
+was_taken outcomes.Upgraded = false
 was_taken (outcomes.Armed saved) = false
 
 -- the offers with this one, where its step ended so
@@ -130,6 +133,7 @@ offers_after offers (steps.Seek member number now) o = offers
 offers_after offers (steps.Due member now) o = offers
 offers_after offers (steps.Deliver k now) o = offers
 offers_after offers (steps.Restart member) o = offers
+offers_after offers (steps.Upgrade member) o = offers
 offers_after offers (steps.Balk member saved) o = offers
 
 -- who acts in a step: of a delivery the addressee
@@ -140,6 +144,7 @@ actor sent (steps.Seek member number now) = Some member
 actor sent (steps.Due member now) = Some member
 actor sent (steps.Deliver k now) = option_map (λ d. d.to) (circuit.datagram_at sent k)
 actor sent (steps.Restart member) = Some member
+actor sent (steps.Upgrade member) = Some member
 actor sent (steps.Balk member saved) = Some member
 
 -- what is seen is what the step added
@@ -171,7 +176,7 @@ abbrev pub Tells : {R : Type 0} → Step → World R → World R → Result Seen
 Tells step old new (Ok seen) = (missing_in old step ≡ None) × Adds step old new seen
 Tells step old new (Err refusal) = IsReason (missing_in old step) refusal × IsSame old new
 
--- the store of this member was armed to refuse a save
+-- the store of this member was armed to refuse a save or an upgrade
 pub record WasArmed {R : Type 0} (v : World R) (m : ℕ) : Type 0 where
   pub station : Station (Balky R)
   pub at_member : station_at v m ≡ Some station

@@ -55,7 +55,7 @@ pub fn chosen_is_one()
 }
 
 /// In a world over rows in memory, what is told of a step that the store tore is want of memory, or that its member's store was armed to
-/// refuse the save.
+/// refuse the save or the upgrade.
 pub fn rows_in_memory_want_memory()
     ensures { TearsForMemory ⟦<MemoryRows as Rows>⟧ }
 {}

@@ -8,6 +8,7 @@ mod playing;
 mod slugs;
 mod step;
 mod taking;
+mod upgrading;
 mod world;
 
 pub use logs::{OfferLog, ReleaseLog};

@@ -41,7 +41,11 @@ pub enum Step {
     Restart {
         member: u8,
     },
-    /// A member's store is armed: it refuses the next save, after passing it on where `saved`, else without.
+    /// A member goes over to version 2, also where it has stopped: it starts again there, with all its saved rows.
+    Upgrade {
+        member: u8,
+    },
+    /// A member's store is armed: it refuses the next save or upgrade, after passing it on where `saved`, else without.
     Balk {
         member: u8,
         saved: bool,
@@ -57,6 +61,8 @@ pub enum Outcome {
     Refused(StepRefusal),
     /// The member started again.
     Restarted,
+    /// The member went over to version 2.
+    Upgraded,
     /// The member's store is armed.
     Armed { saved: bool },
 }

@@ -10,6 +10,7 @@ ghost use Rattle.world.specs.Worlds.{count_of};
 use crate::laws;
 use crate::logging::log_offer;
 use crate::step::{Outcome, RunStop, Seen, Step, WorldRefusal};
+use crate::upgrading::go_over;
 use crate::world::World;
 use line_check::laws::one_setting;
 use saved_rows::Rows;
@@ -55,6 +56,7 @@ impl<R: Rows> World<R> {
             Step::Due { member, now } => self.due(*member, *now),
             Step::Deliver { k, now } => self.deliver(*k, *now),
             Step::Restart { member } => self.restart(*member),
+            Step::Upgrade { member } => self.upgrade(*member),
             Step::Balk { member, saved } => self.balk(*member, *saved),
         }
     }
@@ -207,7 +209,20 @@ impl<R: Rows> World<R> {
         Ok(self.unsent(member, Outcome::Restarted))
     }
 
-    /// A member's store is armed to refuse a save.
+    /// A member goes over to version 2. Nothing is sent or logged, and no memory is taken.
+    fn upgrade(&mut self, member: u8) -> Result<Seen, WorldRefusal>
+        ensures steps { AllKept R.kept self.new → (z : StationCircuit) (w : StationState) → StandsFor R.is_open R.saved R.version z self.old w → Moves R.is_open R.saved R.version R.refusals z w (Step.Upgrade member) self.old self.new result }
+        ensures tells { Tells (Step.Upgrade member) self.old self.new result }
+        ensures why { TellsWhy R.Rows self.old self.new result }
+        ensures was_kept { AllKept R.kept self.new → AllKept R.kept self.old }
+        ensures made { AllMade R.made self.old → AllMade R.made self.new }
+    {
+        let place = self.place(member)?;
+        let outcome = go_over(&mut self.stations[place]);
+        Ok(self.unsent(member, outcome))
+    }
+
+    /// A member's store is armed to refuse a save or an upgrade.
     fn balk(&mut self, member: u8, saved: bool) -> Result<Seen, WorldRefusal>
         ensures steps { AllKept R.kept self.new → (z : StationCircuit) (w : StationState) → StandsFor R.is_open R.saved R.version z self.old w → Moves R.is_open R.saved R.version R.refusals z w (Step.Balk member saved) self.old self.new result }
         ensures tells { Tells (Step.Balk member saved) self.old self.new result }

@@ -336,6 +336,11 @@ const FAULTS: &[(Fault<'static>, &str, End)] = &[
         "usage: --number and --tape go together",
         End::Usage,
     ),
+    (
+        Fault::LayoutAlone,
+        "usage: --layout goes with --create",
+        End::Usage,
+    ),
 ];
 
 fn text_of(fault: Fault<'_>) -> &'static str {
@@ -357,6 +362,7 @@ fn text_of(fault: Fault<'_>) -> &'static str {
         Fault::SendFailed(_) => FAULTS[14].1,
         Fault::Refused(_) => FAULTS[15].1,
         Fault::Unpaired => FAULTS[16].1,
+        Fault::LayoutAlone => FAULTS[17].1,
     }
 }
 

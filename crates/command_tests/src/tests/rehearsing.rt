@@ -114,6 +114,59 @@ const WITHDRAWN_TOO_LATE: (&str, &str) = (
 1 proposed 2.1\n release 12 01020301030204\n0001 J 0 0 a b _4 a _4 b\n",
 );
 
+/// Two of three go over after a vote, so that a withdrawal comes too late: the vote is reported, and the tape is released.
+/// Who has not gone over does not read what they send.
+const WITHDRAWN_AGAINST_A_VOTE: (&str, &str) = (
+    "members 3\noffer 1 12 01020301030204\ndeliver 1\ndeliver 3\ndeliver 4\nupgrade 2\nupgrade 3\n\
+withdraw 3 12\ndeliver 10\ndeliver 11\ndeliver 12\ndeliver 14\ndeliver 18\n",
+    "1 began 1.1\n #1 prepare 1>2 12 1.1\n #2 prepare 1>3 12 1.1\n\
+2 promised 1.1\n #3 promise 2>1 12 1.1\n\
+1 proposed 1.1\n #4 accept 1>2 12 1.1\n #5 accept 1>3 12 1.1\n #6 accepted 1>2 12 1.1\n #7 accepted 1>3 12 1.1\n\
+2 voted 1.1\n #8 accepted 2>1 12 1.1\n #9 accepted 2>3 12 1.1\n\
+2 upgraded\n3 upgraded\n\
+3 began 1.3\n #10 prepare 3>1 12 1.3\n #11 prepare 3>2 12 1.3\n\
+1 refused bad-version\n\
+2 promised 1.3\n #12 promise 2>3 12 1.3\n\
+3 proposed 1.3\n #13 accept 3>1 12 1.3\n #14 accept 3>2 12 1.3\n #15 accepted 3>1 12 1.3\n #16 accepted 3>2 12 1.3\n\
+2 voted 1.3\n #17 accepted 2>1 12 1.3\n #18 accepted 2>3 12 1.3\n\
+3 heard 1.3\n release 12 01020301030204\n0001 J 0 0 a b _4 a _4 b\n",
+);
+
+/// A store that refuses an upgrade stops its member, in the version of before or over in the new one.
+const GOES_OVER_UNSAVED: (&str, &str) = (
+    "members 1\nbalk 1 unsaved\nupgrade 1\nrestart 1\nwithdraw 1 12\n",
+    "1 armed unsaved\n1 stopped store\n1 restarted\n1 refused wire-too-old\n",
+);
+
+const GOES_OVER_SAVED: (&str, &str) = (
+    "members 1\nbalk 1 saved\nupgrade 1\nrestart 1\nwithdraw 1 12\n",
+    "1 armed saved\n1 stopped store\n1 restarted\n1 proposed 1.1\n release 12 void\n",
+);
+
+/// One that is over already is torn as well, and then armed no more.
+const TORN_AT_TWO: (&str, &str) = (
+    "members 1\nwire 2\nbalk 1 unsaved\nupgrade 1\nwithdraw 1 12\nupgrade 1\nwithdraw 1 12\n",
+    "1 armed unsaved\n1 stopped store\n1 refused stopped\n1 upgraded\n\
+1 proposed 1.1\n release 12 void\n",
+);
+
+/// A member that is stopped goes on as it goes over.
+const STOPPED_GOES_OVER: (&str, &str) = (
+    "members 1\nbalk 1 unsaved\noffer 1 12 01020301030204\nwithdraw 1 12\nupgrade 1\nwithdraw 1 12\n",
+    "1 armed unsaved\n1 stopped store\n1 refused stopped\n1 upgraded\n\
+1 proposed 1.1\n release 12 void\n",
+);
+
+/// An upgrade keeps the rows and forgets all else; a second one does no more.
+const FORGETS_AND_KEEPS: (&str, &str) = (
+    "members 3\noffer 1 12 01020301030204\nupgrade 1\noffer 1 12 01020301030b04\nupgrade 1\nseek 1 12\n",
+    "1 began 1.1\n #1 prepare 1>2 12 1.1\n #2 prepare 1>3 12 1.1\n\
+1 upgraded\n\
+1 began 2.1\n #3 prepare 1>2 12 2.1\n #4 prepare 1>3 12 2.1\n\
+1 upgraded\n\
+1 began 3.1\n #5 prepare 1>2 12 3.1\n #6 prepare 1>3 12 3.1\n",
+);
+
 /// A second ballot after a restart.
 const SECOND_BALLOT: (&str, &str) = (
     "members 3\noffer 1 12 01020301030204\nrestart 1\noffer 1 12 01020301030b04\n",
@@ -180,6 +233,12 @@ const STORIES: &[(&str, &str)] = &[
     TOO_OLD_UNASKED,
     WITHDRAWN_ALONE,
     WITHDRAWN_TOO_LATE,
+    WITHDRAWN_AGAINST_A_VOTE,
+    GOES_OVER_UNSAVED,
+    GOES_OVER_SAVED,
+    TORN_AT_TWO,
+    STOPPED_GOES_OVER,
+    FORGETS_AND_KEEPS,
     SECOND_BALLOT,
     LOWER_BALLOT,
     BALKS_SAVED,
@@ -261,6 +320,11 @@ const NO_ORDERS: &[(&str, &str)] = &[
     ("withdraw 1", "script line 2: bad line\n"),
     ("withdraw 1 12 01", "script line 2: bad line\n"),
     ("withdraw 1 4294967296", "script line 2: bad line\n"),
+    ("upgrade", "script line 2: bad line\n"),
+    ("upgrade 1 2", "script line 2: bad line\n"),
+    ("upgrade one", "script line 2: bad line\n"),
+    ("upgrade 256", "script line 2: bad line\n"),
+    ("Upgrade 1", "script line 2: bad line\n"),
     ("offer 9 12 0x", "script line 2: bad tape\n"),
     ("offer 9 12 0g", "script line 2: bad tape\n"),
     ("offer 9 12 010", "script line 2: bad tape\n"),
@@ -300,6 +364,9 @@ const FAULTY: &[(&str, &str)] = &[
         "members 3\nwithdraw 4 12\n",
         "script line 2: no such member\n",
     ),
+    ("members 3\nupgrade 4\n", "script line 2: no such member\n"),
+    ("members 3\nupgrade 0\n", "script line 2: no such member\n"),
+    ("upgrade 1\nmembers 3\n", "script line 1: bad line\n"),
     // The version comes directly behind the members, and once.
     ("wire 2\nmembers 3\n", "script line 1: bad line\n"),
     ("members 3\nwire 2\nwire 2\n", "script line 3: bad line\n"),
@@ -375,6 +442,17 @@ fn is_too_old_for(alloc: Global, wire: u8, frames: usize) -> bool {
     }
 }
 
+/// Whether it takes that tape once it has gone over.
+fn releases_over(alloc: Global, frames: usize) -> bool {
+    let hex = long_tape(alloc, frames);
+    let script = format!(in alloc; "members 1\nupgrade 1\noffer 1 12 {hex}\n");
+    let text = format!(in alloc; "1 upgraded\n1 proposed 1.1\n release 12 {hex}\n");
+    match (script, text) {
+        (Ok(script), Ok(text)) => prints(alloc, &script, &text),
+        _ => false,
+    }
+}
+
 /// Whether so many frames are no tape.
 fn is_no_tape(alloc: Global, wire: u8, frames: usize) -> bool {
     let hex = long_tape(alloc, frames);
@@ -390,6 +468,7 @@ fn long_tapes(rt: HostRuntime) {
     assert!(rt; releases_long(alloc, 1, 4_096));
     assert!(rt; is_too_old_for(alloc, 1, 4_097) && is_too_old_for(alloc, 1, 16_384));
     assert!(rt; releases_long(alloc, 2, 4_097) && releases_long(alloc, 2, 16_384));
+    assert!(rt; releases_over(alloc, 4_097) && releases_over(alloc, 16_384));
     assert!(rt; is_no_tape(alloc, 1, 16_385) && is_no_tape(alloc, 2, 16_385));
 }
 

@@ -1,9 +1,9 @@
 use Rattle.std.proofs.Common.{rules, ◌≡◌, true, Some, None, IsTrue, sym, ◌∙◌, subst, refl}
 use Rattle.std.specs.List.{filter_map}
-use Rattle.row_table.specs.Tables.{rows_tree}
+use Rattle.row_table.specs.Tables.{layout_tree}
 use Rattle.row_table.specs.Rising.{rise_from, AreListed}
-use Rattle.acceptor_store.specs.Columns.{damage_in, item_in, saved_in}
-use Rattle.protocol.specs.Versions.{One}
+use Rattle.acceptor_store.specs.Columns.{damage_in, item_in, saved_in, version_in}
+use Rattle.acceptor_store.specs.Layouts.{layout_of}
 use Rattle.saved_rows.specs.Saved.{AreFitting, IsListOf}
 use Rattle.acceptor_store.proofs.FitLemmas.{items_fit}
 use Rattle.acceptor_store.proofs.ListLemmas.{lists, no_damage}
@@ -11,30 +11,33 @@ use Rattle.acceptor_store.proofs.statements.list.Goals as goal
 
 pub returns-in-Some-clause-refusal : goal.returns-in-Some-clause-refusal
 returns-in-Some-clause-refusal g c serves clean sound =
+    let layout = layout_of c.args.layout in
     let rows = c.in-Ok.rows.items in
-    let table = (g.S.Store.view c.args.conn.now.store).trees rows_tree in
+    let table = (g.S.Store.view c.args.conn.now.store).trees (layout_tree layout) in
     let has = c.in-Ok.ensures.at_rest serves clean in
-    let was = (c.all_rows.ensures.same serves clean (c.in-Ok.ensures.open serves clean)).was_open in
+    let was = (c.find_all.ensures.same serves clean (c.in-Ok.ensures.open serves clean)).was_open in
     let went : IsTrue c.are_rising.result = search rules in
-    let listed : AreListed table rows = (rw c.as_slice.ensures.value at c.are_rising.ensures.table) went table (c.in-Ok.ensures.listed clean has) in
-    let some : damage_in rows ≡ Some c.in-Some.number = search rules in
-    absurd (let e : None ≡ Some c.in-Some.number = sym (no_damage table rows listed.each (sound was)) ∙ some in cc)
+    let listed : AreListed layout table rows = (rw c.as_slice.ensures.value at c.are_rising.ensures.table) went layout table (c.in-Ok.ensures.listed clean has) in
+    let some : damage_in layout rows ≡ Some c.in-Some.number = search rules in
+    absurd (let e : None ≡ Some c.in-Some.number = sym (no_damage layout table rows listed.each (sound was)) ∙ some in cc)
 
 pub returns-in-Ok-items_in-clause-listed : goal.returns-in-Ok-items_in-clause-listed
 returns-in-Ok-items_in-clause-listed g c serves clean =
+    let layout = layout_of c.args.layout in
     let rows = c.in-Ok.rows.items in
     let trees = (g.S.Store.view c.args.conn.now.store).trees in
-    let table = trees rows_tree in
+    let table = trees (layout_tree layout) in
     let has = c.in-Ok.ensures.at_rest serves clean in
     let rises : rise_from None rows ≡ true = search rules in
-    let none : damage_in rows ≡ None = search rules in
+    let none : damage_in layout rows ≡ None = search rules in
     let went : IsTrue c.are_rising.result = search rules in
-    let listed : AreListed table rows = (rw c.as_slice.ensures.value at c.are_rising.ensures.table) went table (c.in-Ok.ensures.listed clean has) in
-    let items : c.in-Ok-items_in.items.items ≡ filter_map item_in rows = search rules in
-    subst (IsListOf (saved_in trees)) (sym items) (lists table rows (saved_in trees) (λ n. refl) listed rises none)
+    let listed : AreListed layout table rows = (rw c.as_slice.ensures.value at c.are_rising.ensures.table) went layout table (c.in-Ok.ensures.listed clean has) in
+    let items : c.in-Ok-items_in.items.items ≡ filter_map (item_in layout) rows = search rules in
+    subst (IsListOf (saved_in layout trees)) (sym items) (lists layout table rows (saved_in layout trees) (λ n. refl) listed rises none)
 
 pub returns-in-Ok-items_in-clause-fits : goal.returns-in-Ok-items_in-clause-fits
 returns-in-Ok-items_in-clause-fits g c =
+    let layout = layout_of c.args.layout in
     let rows = c.in-Ok.rows.items in
-    let items : c.in-Ok-items_in.items.items ≡ filter_map item_in rows = search rules in
-    subst (AreFitting One) (sym items) (items_fit rows)
+    let items : c.in-Ok-items_in.items.items ≡ filter_map (item_in layout) rows = search rules in
+    subst (AreFitting (version_in layout)) (sym items) (items_fit layout rows)

@@ -1,9 +1,11 @@
-use Rattle.std.proofs.Common.{◌≡◌, Some, None, Option, List, [], ◌∷◌, ◌++◌, length, length-append, arith, sym, ap, ◌∙◌, true≢false, is_some}
+use Rattle.std.proofs.Common.{rules, unwrap_or, ◌≡◌, Some, None, Option, List, [], ◌∷◌, ◌++◌, length, length-append, arith, sym, ap, ◌∙◌, true≢false, is_some}
 use Rattle.std.specs.Prelude.{option_to_list}
 use Rattle.sqlite_value.specs.Order.{Row as Columns}
-use Rattle.row_table.specs.Tables.{rows_tree}
+use Rattle.row_table.specs.Tables.{layout_tree}
 use Rattle.row_table.specs.Rows.{columns_at}
-use Rattle.acceptor_store.specs.Columns.{row_in}
+use Rattle.acceptor_store.specs.Layouts.{layout_of}
+use Rattle.protocol.specs.Rows.{blank}
+use Rattle.acceptor_store.specs.Columns.{row_in, row_or_blank}
 use Rattle.acceptor_store.proofs.statements.read.Goals as goal
 
 popped : (o : Option Columns) (rest : List Columns) (c : Columns) → option_to_list o ≡ rest ++ c ∷ [] → o ≡ Some c
@@ -13,9 +15,19 @@ popped (Some d) (x ∷ rest) c e = absurd (omega (arith, ap length e, length-app
 
 pub returns-in-Ok-None-clause-refusal : goal.returns-in-Ok-None-clause-refusal
 returns-in-Ok-None-clause-refusal g c serves clean sound =
+    let layout = layout_of c.args.layout in
     let found = rw c.get.ensures.value at c.in-Ok.ensures.found serves clean in
-    let here : columns_at ((g.S.Store.view c.args.conn.now.store).trees rows_tree) c.args.number ≡ Some c.in-Some.columns =
+    let here : columns_at layout ((g.S.Store.view c.args.conn.now.store).trees (layout_tree layout)) c.args.number ≡ Some c.in-Some.columns =
     popped _ c.pop.new.self.items c.in-Some.columns (sym found ∙ c.in-Some.ensures.items) in
-    let was = (c.get_row.ensures.same serves clean (c.in-Ok.ensures.open serves clean)).was_open in
-    let none : row_in 0 c.in-Some.columns ≡ None = sym c.in-Ok-None.ensures ∙ c.in-Ok-None.field-0-is in
+    let was = (c.find.ensures.same serves clean (c.in-Ok.ensures.open serves clean)).was_open in
+    let none : row_in layout 0 c.in-Some.columns ≡ None = sym c.in-Ok-None.ensures ∙ c.in-Ok-None.field-0-is in
     absurd (true≢false (sym (sound was c.args.number c.in-Some.columns here).row ∙ ap is_some none))
+
+pub returns-in-Ok-Some-clause-row : goal.returns-in-Ok-Some-clause-row
+returns-in-Ok-Some-clause-row g c serves clean =
+    let layout = layout_of c.args.layout in
+    let found = rw c.get.ensures.value at c.in-Ok.ensures.found serves clean in
+    let here : columns_at layout ((g.S.Store.view c.args.conn.now.store).trees (layout_tree layout)) c.args.number ≡ Some c.in-Some.columns =
+    popped _ c.pop.new.self.items c.in-Some.columns (sym found ∙ c.in-Some.ensures.items) in
+    let some : row_in layout 0 c.in-Some.columns ≡ Some c.in-Ok-Some.row = search rules in
+    sym (ap (row_or_blank layout) here ∙ ap (λ o. unwrap_or o blank) some)

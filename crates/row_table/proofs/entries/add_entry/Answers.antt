@@ -1,19 +1,14 @@
-use Rattle.std.proofs.Common.{◌∷◌, Ok, ◌≡◌, option_map, ℕ, Some, None, refl, Option, Bor, option_copied}
+use Rattle.std.proofs.Common.{◌∷◌, Ok, option_map, ℕ}
 use Rattle.std.specs.Global.{Vec}
-use Rattle.sqlite_value.specs.declared.value.Value.TheVariants.{Blob}
-use Rattle.sqlite.specs.Values.{or_null, bound_value}
+use Rattle.sqlite.specs.Values.{or_null}
 use Rattle.sqlite.specs.Held.{state}
 use Rattle.sqlite.specs.State.{ExecutesInside}
 use Rattle.row_table.specs.Rows.{whole}
 use Rattle.row_table.specs.Entries.{entry_columns}
-use Rattle.row_table.proofs.ParamLemmas.{optional, bound_number}
+use Rattle.row_table.proofs.ParamLemmas.{optional, bound_number, bound_packed}
 use Rattle.row_table.proofs.PutLemmas.{cast_int}
 use Rattle.row_table.proofs.EntryLemmas.{AreTaken, insert_text, adds_entry}
 use Rattle.row_table.proofs.entries.add_entry.Goals as goal
-
-bound_packed : (o : Option (Bor (Vec ℕ))) → bound_value (or_null (λ (b : Bor (Vec ℕ)). Blob b.now.items) o) ≡ or_null Blob (option_map (λ (v : Vec ℕ). v.items) (option_copied o))
-bound_packed None = refl
-bound_packed (Some b) = refl
 
 pub returns-clause-added : goal.returns-clause-added
 returns-clause-added g c clean origin before rows had =

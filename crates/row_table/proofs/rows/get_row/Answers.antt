@@ -3,7 +3,8 @@ use Rattle.std.specs.declared.alloc.Global.{Global}
 use Rattle.sqlite_value.specs.Order.{Row}
 use Rattle.sqlite.specs.Held.{state}
 use Rattle.row_table.specs.Rows.{whole}
-use Rattle.row_table.proofs.TextLemmas.{get_text, get_plain}
+use Rattle.row_table.specs.Tables.Layout.{First}
+use Rattle.row_table.proofs.ReadTexts.{get_text, get_is}
 use Rattle.row_table.proofs.GetLemmas.{gets}
 use Rattle.row_table.proofs.PutClauses.{IsSettled, query_serves, query_kept, query_open, query_answers, query_crash}
 use Rattle.row_table.proofs.rows.get_row.Goals as goal
@@ -19,11 +20,11 @@ returns g c =
     let survives = rw c.params-to_sql.ensures at c.query_all.ensures.survives in
     let law_old : IsSettled old = λ db. g.met.S.Store.settled c.args.conn.now.store db in
     record {
-      serves = λ serves. query_serves get_text params old new get_plain serves law_old survives items c.query_all.result ok err;
-      found = λ serves. query_answers get_text params old new get_plain serves law_old survives items c.query_all.result ok err _
-          (λ v rest h. gets old new c.args.number v.items rest.schema rest.rows h);
-      «open» = λ serves. query_open get_text params old new get_plain serves law_old survives items c.query_all.result ok err;
-      same = λ serves. query_kept get_text params old new get_plain serves law_old survives items c.query_all.result ok err;
-      crash = λ serves. query_crash get_text params old new get_plain serves law_old survives;
+      serves = λ serves. query_serves First (get_text First) params old new (get_is First).plain serves law_old survives items c.query_all.result ok err;
+      found = λ serves. query_answers First (get_text First) params old new (get_is First).plain serves law_old survives items c.query_all.result ok err _
+          (λ v rest h. gets First old new c.args.number v.items rest.schema rest.rows h);
+      «open» = λ serves. query_open First (get_text First) params old new (get_is First).plain serves law_old survives items c.query_all.result ok err;
+      same = λ serves. query_kept First (get_text First) params old new (get_is First).plain serves law_old survives items c.query_all.result ok err;
+      crash = λ serves. query_crash First (get_text First) params old new (get_is First).plain serves law_old survives;
       clean = survives.clean;
     }

@@ -2,9 +2,10 @@ use Rattle.std.proofs.Common.{◌≡◌, option_map, ℕ, Some, None, refl, Opti
 use Rattle.sqlite_value.specs.declared.value.Value.TheVariants.{Blob}
 use Rattle.sqlite.specs.Values.{or_null, bound_value}
 use Rattle.sqlite.specs.Held.{state}
-use Rattle.row_table.specs.Rows.{whole}
-use Rattle.row_table.proofs.ParamLemmas.{optional, bound_number}
-use Rattle.row_table.proofs.PutLemmas.{AreTaken, cast_int}
+use Rattle.row_table.proofs.ParamLemmas.{bound_number}
+use Rattle.row_table.specs.Tables.Layout.{First}
+use Rattle.row_table.proofs.TextLemmas.{put_text}
+use Rattle.row_table.proofs.RowPutLemmas.{replaces_row}
 use Rattle.row_table.proofs.PutClauses.{IsSettled, serves_on, saved_on, kept_on, crash_on}
 use Rattle.row_table.proofs.rows.replace_row.Goals as goal
 
@@ -16,9 +17,7 @@ pub returns : goal.returns
 returns g c =
     let old = state g.S.Store c.args.conn.now in
     let new = state g.S.Store c.execute.new.self in
-    let tape = or_null Blob (option_map (λ (b : Bor (List ℕ)). b.now) c.args.tape) in
-    let taken : AreTaken (whole c.args.promised_round) (whole c.args.promised_owner) (or_null whole c.args.vote_round) (or_null whole c.args.vote_owner) =
-    record { first = cast_int _; second = cast_int _; third = optional c.args.vote_round; fourth = optional c.args.vote_owner } in
+    let replaces = replaces_row c.args.number c.args.promised_round c.args.promised_owner c.args.vote_round c.args.vote_owner (option_map (λ (b : Bor (List ℕ)). b.now) c.args.tape) in
     let runs = rw (
       c.params-to_sql.ensures,
       c.params-to_sql-2.ensures,
@@ -44,9 +43,9 @@ returns g c =
     let law_old : IsSettled old = λ db. g.met.S.Store.settled c.args.conn.now.store db in
     let law_new : IsSettled new = λ db. g.met.S.Store.settled c.execute.new.self.store db in
     record {
-      serves = λ serves. serves_on old new c.args.number _ _ _ _ _ taken serves law_old law_new c.execute.result runs survives;
-      saved = λ serves. saved_on old new c.args.number _ _ _ _ _ taken serves law_old law_new c.execute.result runs survives;
-      err = λ serves. kept_on old new c.args.number _ _ _ _ _ taken serves law_old law_new c.execute.result runs survives;
-      crash = λ serves. crash_on old new c.args.number _ _ _ _ _ taken serves law_old law_new c.execute.result runs survives;
+      serves = λ serves. serves_on First put_text c.args.number _ replaces old new serves law_old law_new c.execute.result runs survives;
+      saved = λ serves. saved_on First put_text c.args.number _ replaces old new serves law_old law_new c.execute.result runs survives;
+      err = λ serves. kept_on First put_text c.args.number _ replaces old new serves law_old law_new c.execute.result runs survives;
+      crash = λ serves. crash_on First put_text c.args.number _ replaces old new serves law_old law_new c.execute.result runs survives;
       clean = c.execute.ensures.survives.clean;
     }

@@ -29,10 +29,12 @@ returns-in-Ok-open-clause-rows g c clean ours =
       was = was;
       opened = c.in-Ok.ensures.opened early;
       found = c.in-Ok.ensures.found early;
+      tables = c.in-Ok-open.ensures.tables (clean, ours);
       unwritten = c.in-Ok-open.ensures.unwritten (clean, ours);
       crash = c.in-Ok-open.ensures.crash (clean, ours);
       same = c.in-Ok-open.ensures.same (clean, ours);
       station = c.in-Ok-open.ensures.stored (clean, ours);
+      fresh = c.in-Ok-open.ensures.fresh;
     }
 
 pub returns-in-Err-open-clause-refuses : goal.returns-in-Err-open-clause-refuses

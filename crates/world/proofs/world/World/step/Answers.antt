@@ -51,6 +51,14 @@ returns-in-Restart-clause-reached g c =
 pub returns-in-Restart-clause-agreed : goal.returns-in-Restart-clause-agreed
 returns-in-Restart-clause-agreed g c = reached_agreed g.R.Rows c.agreement.ensures _
 
+pub returns-in-Upgrade-clause-reached : goal.returns-in-Upgrade-clause-reached
+returns-in-Upgrade-clause-reached g c =
+    stays_reached g.R.Rows g.met.R.Rows.halves c.args.self.now c.upgrade.new.self c.upgrade.ensures.made c.upgrade.ensures.was_kept
+    (λ kept z r. goes g.R.Rows.is_open g.R.Rows.saved g.R.Rows.version g.R.Rows.refusals z c.args.self.now c.upgrade.new.self r (steps.Upgrade c.in-Upgrade.member) c.upgrade.result (c.upgrade.ensures.steps kept z r.0 r.1))
+
+pub returns-in-Upgrade-clause-agreed : goal.returns-in-Upgrade-clause-agreed
+returns-in-Upgrade-clause-agreed g c = reached_agreed g.R.Rows c.agreement.ensures _
+
 pub returns-in-Balk-clause-reached : goal.returns-in-Balk-clause-reached
 returns-in-Balk-clause-reached g c =
     stays_reached g.R.Rows g.met.R.Rows.halves c.args.self.now c.balk.new.self c.balk.ensures.made c.balk.ensures.was_kept

@@ -1,0 +1,11 @@
+use Rattle.std.proofs.Common.{ℕ, subst₂}
+use Rattle.sqlite_value.specs.Order.{Row as Columns}
+use Rattle.sqlite.specs.Held.{state}
+use Rattle.row_table.specs.Tables.Layout.{Second}
+use Rattle.row_table.specs.Rows.{WasSaved}
+use Rattle.acceptor_store.proofs.statements.save_entry.Goals as goal
+
+pub returns-in-Ok-put_entry-clause-saved : goal.returns-in-Ok-put_entry-clause-saved
+returns-in-Ok-put_entry-clause-saved g c origin serves clean =
+    subst₂ (λ (n : ℕ) (columns : Columns). WasSaved (Second origin) n columns (state g.S.Store c.args.conn.now) (state g.S.Store c.put_entry.new.conn)) c.in-Ok.ensures.number (c.in-Ok.ensures.columns origin)
+    (c.in-Ok-put_entry.ensures.saved origin serves clean)

@@ -1,0 +1,44 @@
+//! The tables of a station that starts.
+
+ghost use Rattle.std.specs.Prelude.{◌≡◌, ◌⊎◌, ◌≤◌, false, OnOk, OnErr, IsTrue};
+ghost use Rattle.sqlite_trees.specs.View.{doubt};
+ghost use Rattle.sqlite.specs.State.{HasCleanDisk};
+ghost use Rattle.sqlite.specs.Held.{state};
+ghost use Rattle.tape_frames.specs.Entries.{version_of};
+ghost use Rattle.row_table.specs.Tables.{no_schema};
+ghost use Rattle.row_table.specs.Rows.{Serves};
+ghost use Rattle.row_table.specs.Station.{HoldsNone, WasMade};
+ghost use Rattle.acceptor_store.specs.Sqlite.{made_in};
+
+use row_table::{create_entry_tables, create_tables};
+use saved_rows::Identity;
+use sqlite::{Alter, Connection, Error};
+use tape_frames::Version;
+
+/// Makes the tables of the layout that rows of a version are made in, and the row of the station, in one transaction.
+pub(crate) fn make_tables<S: Alter>(
+    conn: &mut Connection<S>,
+    identity: Identity,
+    version: Version,
+) -> Result<(), Error>
+    requires { conn.old.in_transaction ≡ false }
+    ensures made { HasCleanDisk (state S.Store conn.new) → (state S.Store conn.old).now.schema ≡ no_schema
+        → OnOk result (WasMade (made_in (version_of version)) identity.circuit identity.member identity.members (state S.Store conn.new)) }
+    ensures serves { (state S.Store conn.old).now.schema ≡ no_schema → HasCleanDisk (state S.Store conn.new) → OnOk result (Serves (made_in (version_of version)) (state S.Store conn.new)) }
+    ensures lasting { HasCleanDisk (state S.Store conn.new) → (state S.Store conn.old).now.schema ≡ no_schema
+        → OnOk result ((db : _) → (state S.Store conn.new).may_leave db → HoldsNone (made_in (version_of version)) identity.circuit identity.member identity.members db) }
+    ensures was_open { HasCleanDisk (state S.Store conn.new) → IsTrue (state S.Store conn.new).is_open → OnErr result (IsTrue (state S.Store conn.old).is_open) }
+    ensures neither { HasCleanDisk (state S.Store conn.new) → IsTrue (state S.Store conn.new).is_open
+        → OnErr result (((state S.Store conn.new).now ≡ (state S.Store conn.old).committed) × ((state S.Store conn.new).committed ≡ (state S.Store conn.old).committed)) }
+    ensures crash { HasCleanDisk (state S.Store conn.new) → (state S.Store conn.old).now.schema ≡ no_schema
+        → (db : _) → (state S.Store conn.new).may_leave db → (state S.Store conn.old).may_leave db ⊎ HoldsNone (made_in (version_of version)) identity.circuit identity.member identity.members db }
+    ensures clean { doubt (state S.Store conn.old).is_clean ≤ doubt (state S.Store conn.new).is_clean }
+{
+    let circuit = u32::from(identity.circuit);
+    let member = u32::from(identity.member);
+    let members = u32::from(identity.members);
+    match version {
+        Version::One => create_tables(conn, circuit, member, members),
+        Version::Two => create_entry_tables(conn, circuit, member, members),
+    }
+}

@@ -1,0 +1,70 @@
+//! The queries on the table that a layout keeps its rows in.
+
+ghost use Rattle.std.specs.Prelude.{◌≡◌, ◌≤◌, false, option_to_list, IsTrue, IfOk, OnOk};
+ghost use Rattle.sqlite_trees.specs.View.{doubt};
+ghost use Rattle.sqlite.specs.State.{HasCleanDisk, IsUnchanged};
+ghost use Rattle.sqlite.specs.Held.{state};
+ghost use Rattle.row_table.specs.Tables.{layout_tree, layout_schema};
+ghost use Rattle.row_table.specs.Rows.{columns_at, Serves, WasKept, IsListing, AreRows};
+ghost use Rattle.acceptor_store.specs.Layouts.{layout_of};
+
+use crate::layout::Layout;
+use row_table::{all_entries, all_rows, get_entry, get_row};
+use sqlite::{Alter, Connection, Error, Row};
+
+/// The columns that are saved under a number: at most one row.
+pub(crate) fn find<S: Alter>(
+    conn: &mut Connection<S>,
+    layout: Layout,
+    number: u32,
+) -> Result<Vec<Row>, Error>
+    ensures serves { Serves (layout_of layout) (state S.Store conn.old) → Serves (layout_of layout) (state S.Store conn.new) }
+    ensures found { Serves (layout_of layout) (state S.Store conn.old) → HasCleanDisk (state S.Store conn.new)
+        → IfOk result (λ rows. rows.items ≡ option_to_list (columns_at (layout_of layout) ((state S.Store conn.old).now.trees (layout_tree (layout_of layout))) number)) }
+    ensures open { Serves (layout_of layout) (state S.Store conn.old) → HasCleanDisk (state S.Store conn.new) → OnOk result (IsTrue (state S.Store conn.new).is_open) }
+    ensures same { Serves (layout_of layout) (state S.Store conn.old) → HasCleanDisk (state S.Store conn.new) → IsTrue (state S.Store conn.new).is_open → WasKept (state S.Store conn.old) (state S.Store conn.new) }
+    ensures crash { Serves (layout_of layout) (state S.Store conn.old) → HasCleanDisk (state S.Store conn.new) → IsTrue (state S.Store conn.old).is_open
+        → (db : _) → (state S.Store conn.new).may_leave db → (state S.Store conn.old).may_leave db }
+    ensures clean { doubt (state S.Store conn.old).is_clean ≤ doubt (state S.Store conn.new).is_clean }
+{
+    match layout {
+        Layout::First => get_row(conn, number),
+        Layout::Created => get_entry(conn, number),
+        Layout::Upgraded => get_entry(conn, number),
+    }
+}
+
+/// All rows, by their numbers.
+pub(crate) fn find_all<S: Alter>(
+    conn: &mut Connection<S>,
+    layout: Layout,
+) -> Result<Vec<Row>, Error>
+    ensures unchanged { HasCleanDisk (state S.Store conn.new) → (state S.Store conn.old).now.schema ≡ layout_schema (layout_of layout) → OnOk result (IsUnchanged (state S.Store conn.old) (state S.Store conn.new)) }
+    ensures listed { HasCleanDisk (state S.Store conn.new) → (state S.Store conn.old).now.schema ≡ layout_schema (layout_of layout)
+        → IfOk result (λ rows. IsListing (layout_of layout) ((state S.Store conn.old).now.trees (layout_tree (layout_of layout))) rows.items) }
+    ensures serves { Serves (layout_of layout) (state S.Store conn.old) → Serves (layout_of layout) (state S.Store conn.new) }
+    ensures open { Serves (layout_of layout) (state S.Store conn.old) → HasCleanDisk (state S.Store conn.new) → OnOk result (IsTrue (state S.Store conn.new).is_open) }
+    ensures at_rest { Serves (layout_of layout) (state S.Store conn.old) → HasCleanDisk (state S.Store conn.new) → OnOk result ((state S.Store conn.old).now.schema ≡ layout_schema (layout_of layout)) }
+    ensures same { Serves (layout_of layout) (state S.Store conn.old) → HasCleanDisk (state S.Store conn.new) → IsTrue (state S.Store conn.new).is_open → WasKept (state S.Store conn.old) (state S.Store conn.new) }
+    ensures crash { Serves (layout_of layout) (state S.Store conn.old) → HasCleanDisk (state S.Store conn.new) → IsTrue (state S.Store conn.old).is_open
+        → (db : _) → (state S.Store conn.new).may_leave db → (state S.Store conn.old).may_leave db }
+
+    // On any table, outside a transaction, it changes nothing.
+    ensures rests { HasCleanDisk (state S.Store conn.new) → (state S.Store conn.old).now.schema ≡ layout_schema (layout_of layout)
+        → (IsTrue (state S.Store conn.old).is_open → (state S.Store conn.old).now ≡ (state S.Store conn.old).committed) → IsTrue (state S.Store conn.new).is_open
+        → WasKept (state S.Store conn.old) (state S.Store conn.new) × ((state S.Store conn.new).now ≡ (state S.Store conn.new).committed) }
+    ensures leaves { HasCleanDisk (state S.Store conn.new) → (state S.Store conn.old).now.schema ≡ layout_schema (layout_of layout) → (db : _) → (state S.Store conn.new).may_leave db → (state S.Store conn.old).may_leave db }
+    ensures alone { (state S.Store conn.old).in_transaction ≡ false → (state S.Store conn.new).in_transaction ≡ false }
+
+    // A connection on such a table serves.
+    ensures begins { (state S.Store conn.old).now.schema ≡ layout_schema (layout_of layout) → (state S.Store conn.old).in_transaction ≡ false
+        → (IsTrue (state S.Store conn.old).is_open → (state S.Store conn.old).now ≡ (state S.Store conn.old).committed)
+        → AreRows ((state S.Store conn.old).now.trees (layout_tree (layout_of layout))) → HasCleanDisk (state S.Store conn.new) → OnOk result (Serves (layout_of layout) (state S.Store conn.new)) }
+    ensures clean { doubt (state S.Store conn.old).is_clean ≤ doubt (state S.Store conn.new).is_clean }
+{
+    match layout {
+        Layout::First => all_rows(conn),
+        Layout::Created => all_entries(conn),
+        Layout::Upgraded => all_entries(conn),
+    }
+}

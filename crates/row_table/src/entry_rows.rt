@@ -1,0 +1,108 @@
+//! The statements on the table of entries, outside a transaction.
+
+ghost use Rattle.std.specs.Prelude.{◌≡◌, ◌⊎◌, ◌≤◌, false, OnOk, OnErr, IfOk, IsTrue, option_map, option_to_list};
+ghost use Rattle.sqlite_trees.specs.View.{doubt};
+ghost use Rattle.sqlite.specs.State.{HasCleanDisk, IsUnchanged};
+ghost use Rattle.sqlite.specs.Held.{state};
+ghost use Rattle.row_table.specs.Tables.{Origin, entries_tree, layout_schema};
+ghost use Rattle.row_table.specs.Tables.Layout.{Second};
+ghost use Rattle.row_table.specs.Rows.{SavesIn, Serves, WasSaved, WasKept, columns_at, IsListing, AreRows};
+ghost use Rattle.row_table.specs.Entries.{entry_columns};
+
+use crate::entries::EntryColumns;
+use sqlite::{Alter, Connection, Error, Row, params};
+
+/// Puts one entry in place of the one under its number. It gives how many rows the statement changed.
+fn replace_entry<S: Alter>(conn: &mut Connection<S>, entry: &EntryColumns) -> Result<usize, Error>
+    ensures serves { (origin : Origin) → Serves (Second origin) (state S.Store conn.old) → Serves (Second origin) (state S.Store conn.new) }
+    ensures saved { (origin : Origin) → Serves (Second origin) (state S.Store conn.old) → HasCleanDisk (state S.Store conn.new)
+        → OnOk result (WasSaved (Second origin) entry.now.number (entry_columns entry.now.promised_round entry.now.promised_owner entry.now.vote_round entry.now.vote_owner entry.now.length (option_map (λ v. v.items) entry.now.packed)) (state S.Store conn.old) (state S.Store conn.new)) }
+    ensures err { (origin : Origin) → Serves (Second origin) (state S.Store conn.old) → HasCleanDisk (state S.Store conn.new) → IsTrue (state S.Store conn.new).is_open → OnErr result (WasKept (state S.Store conn.old) (state S.Store conn.new)) }
+    ensures crash { (origin : Origin) → Serves (Second origin) (state S.Store conn.old) → HasCleanDisk (state S.Store conn.new) → IsTrue (state S.Store conn.old).is_open
+        → (db : _) → (state S.Store conn.new).may_leave db → (db ≡ (state S.Store conn.old).now.trees)
+        ⊎ SavesIn (Second origin) entry.now.number (entry_columns entry.now.promised_round entry.now.promised_owner entry.now.vote_round entry.now.vote_owner entry.now.length (option_map (λ v. v.items) entry.now.packed)) (state S.Store conn.old).now.trees db }
+    ensures clean { doubt (state S.Store conn.old).is_clean ≤ doubt (state S.Store conn.new).is_clean }
+{
+    conn.execute(
+        "INSERT INTO acceptor_entry VALUES (?1, ?2, ?3, ?4, ?5, ?6, ?7) ON CONFLICT (number) DO UPDATE SET promised_round = excluded.promised_round, promised_owner = excluded.promised_owner, vote_round = excluded.vote_round, vote_owner = excluded.vote_owner, length = excluded.length, packed = excluded.packed",
+        params![
+            entry.number,
+            entry.promised_round,
+            entry.promised_owner,
+            entry.vote_round,
+            entry.vote_owner,
+            entry.length,
+            entry.packed.as_ref()
+        ],
+    )
+}
+
+/// Saves one entry in place of the one that has its number, if there is one: one statement.
+///
+/// An error comes where the database refuses the statement: where the table is missing, or the disk fails or is full, or memory is refused.
+/// Nothing is then changed. A crash leaves the table as it was, or with this entry saved.
+pub fn put_entry<S: Alter>(conn: &mut Connection<S>, entry: &EntryColumns) -> Result<(), Error>
+    ensures serves { (origin : Origin) → Serves (Second origin) (state S.Store conn.old) → Serves (Second origin) (state S.Store conn.new) }
+    ensures saved { (origin : Origin) → Serves (Second origin) (state S.Store conn.old) → HasCleanDisk (state S.Store conn.new)
+        → OnOk result (WasSaved (Second origin) entry.now.number (entry_columns entry.now.promised_round entry.now.promised_owner entry.now.vote_round entry.now.vote_owner entry.now.length (option_map (λ v. v.items) entry.now.packed)) (state S.Store conn.old) (state S.Store conn.new)) }
+    ensures err { (origin : Origin) → Serves (Second origin) (state S.Store conn.old) → HasCleanDisk (state S.Store conn.new) → IsTrue (state S.Store conn.new).is_open → OnErr result (WasKept (state S.Store conn.old) (state S.Store conn.new)) }
+    ensures crash { (origin : Origin) → Serves (Second origin) (state S.Store conn.old) → HasCleanDisk (state S.Store conn.new) → IsTrue (state S.Store conn.old).is_open
+        → (db : _) → (state S.Store conn.new).may_leave db → (db ≡ (state S.Store conn.old).now.trees)
+        ⊎ SavesIn (Second origin) entry.now.number (entry_columns entry.now.promised_round entry.now.promised_owner entry.now.vote_round entry.now.vote_owner entry.now.length (option_map (λ v. v.items) entry.now.packed)) (state S.Store conn.old).now.trees db }
+    ensures clean { doubt (state S.Store conn.old).is_clean ≤ doubt (state S.Store conn.new).is_clean }
+{
+    match replace_entry(conn, entry) {
+        Ok(_) => Ok(()),
+        Err(error) => Err(error),
+    }
+}
+
+/// The columns of the entry that is saved under a number, beside that number: at most one row.
+///
+/// An error comes where the database refuses the statement: where the table is missing, or the disk fails, or memory is refused. Nothing is then changed.
+pub fn get_entry<S: Alter>(conn: &mut Connection<S>, number: u32) -> Result<Vec<Row>, Error>
+    ensures serves { (origin : Origin) → Serves (Second origin) (state S.Store conn.old) → Serves (Second origin) (state S.Store conn.new) }
+    ensures found { (origin : Origin) → Serves (Second origin) (state S.Store conn.old) → HasCleanDisk (state S.Store conn.new) → IfOk result (λ rows. rows.items ≡ option_to_list (columns_at (Second origin) ((state S.Store conn.old).now.trees (entries_tree origin)) number)) }
+    ensures open { (origin : Origin) → Serves (Second origin) (state S.Store conn.old) → HasCleanDisk (state S.Store conn.new) → OnOk result (IsTrue (state S.Store conn.new).is_open) }
+    ensures same { (origin : Origin) → Serves (Second origin) (state S.Store conn.old) → HasCleanDisk (state S.Store conn.new) → IsTrue (state S.Store conn.new).is_open → WasKept (state S.Store conn.old) (state S.Store conn.new) }
+    ensures crash { (origin : Origin) → Serves (Second origin) (state S.Store conn.old) → HasCleanDisk (state S.Store conn.new) → IsTrue (state S.Store conn.old).is_open
+        → (db : _) → (state S.Store conn.new).may_leave db → (state S.Store conn.old).may_leave db }
+    ensures clean { doubt (state S.Store conn.old).is_clean ≤ doubt (state S.Store conn.new).is_clean }
+{
+    conn.query_all(
+        "SELECT promised_round, promised_owner, vote_round, vote_owner, length, packed FROM acceptor_entry WHERE number = ?1",
+        params![number],
+    )
+}
+
+/// All entries, each with its number first, by their numbers.
+///
+/// An error comes where the database refuses the statement, as in `get_entry`.
+pub fn all_entries<S: Alter>(conn: &mut Connection<S>) -> Result<Vec<Row>, Error>
+    ensures unchanged { (origin : Origin) → HasCleanDisk (state S.Store conn.new) → (state S.Store conn.old).now.schema ≡ layout_schema (Second origin) → OnOk result (IsUnchanged (state S.Store conn.old) (state S.Store conn.new)) }
+    ensures listed { (origin : Origin) → HasCleanDisk (state S.Store conn.new) → (state S.Store conn.old).now.schema ≡ layout_schema (Second origin) → IfOk result (λ rows. IsListing (Second origin) ((state S.Store conn.old).now.trees (entries_tree origin)) rows.items) }
+    ensures serves { (origin : Origin) → Serves (Second origin) (state S.Store conn.old) → Serves (Second origin) (state S.Store conn.new) }
+    ensures open { (origin : Origin) → Serves (Second origin) (state S.Store conn.old) → HasCleanDisk (state S.Store conn.new) → OnOk result (IsTrue (state S.Store conn.new).is_open) }
+    ensures at_rest { (origin : Origin) → Serves (Second origin) (state S.Store conn.old) → HasCleanDisk (state S.Store conn.new) → OnOk result ((state S.Store conn.old).now.schema ≡ layout_schema (Second origin)) }
+    ensures same { (origin : Origin) → Serves (Second origin) (state S.Store conn.old) → HasCleanDisk (state S.Store conn.new) → IsTrue (state S.Store conn.new).is_open → WasKept (state S.Store conn.old) (state S.Store conn.new) }
+    ensures crash { (origin : Origin) → Serves (Second origin) (state S.Store conn.old) → HasCleanDisk (state S.Store conn.new) → IsTrue (state S.Store conn.old).is_open
+        → (db : _) → (state S.Store conn.new).may_leave db → (state S.Store conn.old).may_leave db }
+
+    // On any table, outside a transaction, it changes nothing.
+    ensures rests { (origin : Origin) → HasCleanDisk (state S.Store conn.new) → (state S.Store conn.old).now.schema ≡ layout_schema (Second origin)
+        → (IsTrue (state S.Store conn.old).is_open → (state S.Store conn.old).now ≡ (state S.Store conn.old).committed) → IsTrue (state S.Store conn.new).is_open
+        → WasKept (state S.Store conn.old) (state S.Store conn.new) × ((state S.Store conn.new).now ≡ (state S.Store conn.new).committed) }
+    ensures leaves { (origin : Origin) → HasCleanDisk (state S.Store conn.new) → (state S.Store conn.old).now.schema ≡ layout_schema (Second origin) → (db : _) → (state S.Store conn.new).may_leave db → (state S.Store conn.old).may_leave db }
+    ensures alone { (state S.Store conn.old).in_transaction ≡ false → (state S.Store conn.new).in_transaction ≡ false }
+
+    // A connection on a table of entries serves.
+    ensures begins { (origin : Origin) → (state S.Store conn.old).now.schema ≡ layout_schema (Second origin) → (state S.Store conn.old).in_transaction ≡ false
+        → (IsTrue (state S.Store conn.old).is_open → (state S.Store conn.old).now ≡ (state S.Store conn.old).committed)
+        → AreRows ((state S.Store conn.old).now.trees (entries_tree origin)) → HasCleanDisk (state S.Store conn.new) → OnOk result (Serves (Second origin) (state S.Store conn.new)) }
+    ensures clean { doubt (state S.Store conn.old).is_clean ≤ doubt (state S.Store conn.new).is_clean }
+{
+    conn.query_all(
+        "SELECT number, promised_round, promised_owner, vote_round, vote_owner, length, packed FROM acceptor_entry ORDER BY number",
+        &[],
+    )
+}

@@ -1,0 +1,84 @@
+//! The command `upgrade`: saved rows that go over to the second layout.
+
+ghost use Rattle.std.specs.Prelude.{◌≡◌, ◌⊎◌, false, IsTrue, IfErr, OnOk, OnErr};
+ghost use Rattle.std.specs.Io.KnownBytes.{Appends};
+ghost use Rattle.streams.specs.Fronts.{AppendsFront};
+ghost use Rattle.protocol.specs.Versions.{Two};
+ghost use Rattle.saved_rows.specs.Saved.{SameRows};
+ghost use Rattle.acceptor_store.specs.Sqlite.{IsKept, IsOpen, LeavesAll, rows_version, saved_of};
+ghost use Rattle.rows_command.specs.RowsText.{layout_text};
+ghost use Rattle.command_ends.specs.Ends.{IsOfRows};
+ghost use Rattle.command_ends.specs.declared.end.End.TheVariants.{Done, Store, Memory};
+ghost use Rattle.command_ends.specs.declared.fault.Fault.TheVariants.{CannotWrite};
+
+use acceptor_store::SqliteRows;
+use command_ends::{End, Fault};
+use saved_rows::Rows;
+use sqlite::Alter;
+use std::io::Write;
+use streams::put_all;
+
+/// Writes that rows are in the second layout.
+fn put_layout<'a, W: Write>(out: &mut W) -> Result<(), Fault<'a>>
+    ensures ok { OnOk result (Appends (W.contents out.old) (W.contents out.new) layout_text) }
+    ensures err { OnErr result (AppendsFront (W.contents out.old) (W.contents out.new) layout_text) }
+    ensures fault { IfErr result (λ fault. fault ≡ CannotWrite) }
+{
+    match put_all(out, b"layout 2\n") {
+        Ok(()) => Ok(()),
+        Err(_) => Err(Fault::CannotWrite),
+    }
+}
+
+/// The same, with all of it handed on.
+fn hand_on_layout<'a, W: Write>(out: &mut W) -> Result<(), Fault<'a>>
+    ensures ok { OnOk result (Appends (W.contents out.old) (W.contents out.new) layout_text) }
+    ensures err { OnErr result (AppendsFront (W.contents out.old) (W.contents out.new) layout_text) }
+    ensures fault { IfErr result (λ fault. fault ≡ CannotWrite) }
+{
+    put_layout(out)?;
+    match out.flush() {
+        Ok(()) => Ok(()),
+        Err(_) => Err(Fault::CannotWrite),
+    }
+}
+
+/// Takes the rows over to the second layout, and then writes `layout 2`. Rows that are in it already stay as they are.
+///
+/// No row is changed. Where the rows refuse, nothing is written, `err` has the fault, and they answer `Store` until they
+/// are opened anew; where the writer fails, they went over, and a front of the text was written.
+pub fn upgrade_rows<S: Alter + Drop, W: Write, E: Write>(
+    rows: &mut SqliteRows<S>,
+    out: &mut W,
+    err: &mut E,
+) -> End
+    // Where it ends well the rows went over, and that is written.
+    ensures over { result ≡ Done → rows_version rows.new ≡ Two }
+    ensures done { result ≡ Done → Appends (W.contents out.old) (W.contents out.new) layout_text }
+    ensures open { IsKept S.Store rows.new → result ≡ Done → IsOpen S.Store rows.new }
+
+    // Else nothing is written, or a front of it, of rows that went over.
+    ensures front { (W.contents out.new ≡ W.contents out.old) ⊎ ((rows_version rows.new ≡ Two) × AppendsFront (W.contents out.old) (W.contents out.new) layout_text) }
+    ensures refused { (result ≡ Store) ⊎ (result ≡ Memory) → W.contents out.new ≡ W.contents out.old }
+
+    // A fault of the rows, the output or memory ends it, and nothing else.
+    ensures ends { IsOfRows result }
+
+    // The map and the station stay the same, and so they do after a crash, all in the one layout or all in the other.
+    ensures same { IsKept S.Store rows.new → IsOpen S.Store rows.new → SameRows (saved_of S.Store rows.old) (saved_of S.Store rows.new) }
+    ensures crash { IsKept S.Store rows.new → IsOpen S.Store rows.old → rows.old.stopped ≡ false → LeavesAll S.Store rows.old rows.new }
+    ensures was_kept { IsKept S.Store rows.new → IsKept S.Store rows.old }
+    ensures was_open { IsKept S.Store rows.new → IsOpen S.Store rows.new → IsOpen S.Store rows.old }
+    ensures stays { rows.new.identity ≡ rows.old.identity }
+
+    // After a refused save nothing goes over.
+    ensures stopped { IsTrue rows.old.stopped → W.contents out.new ≡ W.contents out.old }
+{
+    if let Err(fault) = rows.upgrade() {
+        return Fault::of_rows(fault).tell(err);
+    }
+    match hand_on_layout(out) {
+        Ok(()) => End::Done,
+        Err(fault) => fault.tell(err),
+    }
+}
