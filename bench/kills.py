@@ -151,7 +151,7 @@ class Station:
         upgrade = subprocess.Popen([self.circuit.program, 'upgrade', f'station{self.member}.db'], cwd=self.circuit.folder,
                                    stdout=subprocess.PIPE, stderr=subprocess.PIPE, text=True)
         try:
-            out, err = upgrade.communicate(timeout=60 if spared else self.circuit.chance.uniform(0, 0.03))
+            out, err = upgrade.communicate(timeout=60 if spared else self.circuit.chance.uniform(0, 0.012))
         except subprocess.TimeoutExpired:
             upgrade.kill()
             upgrade.communicate()
@@ -312,7 +312,7 @@ class Circuit:
     def stir(self, station):
         """Starts a station with a wish of its own, and says when it is killed."""
         number = self.chance.choice(NUMBERS)
-        if station.made and station.layout == 1 and self.chance.random() < 0.08:
+        if station.made and station.layout == 1 and self.chance.random() < 0.2:
             station.go_over(self.chance.random() < 0.5)
         if station.made and station.layout == 2 and self.chance.random() < 0.15:
             self.offered.setdefault(number, set()).add(VOID)

@@ -22,6 +22,8 @@ start() {
     shift
     "$circuitd" serve "station$member.toml" --turns 1000000 "$@" >> "printed$member" 2>> "faults$member" &
     pids[member]=$!
+    # until it listens: what is sent before is lost
+    sleep 1
 }
 
 # Kills a station, as a failure of its power would.
