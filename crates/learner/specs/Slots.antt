@@ -1,7 +1,6 @@
 -- Slots: what was heard of each member of a circuit, in rising order of members.
 use Rattle.std.specs.Prelude.{ℕ, Bool, true, List, [], Option, Some, None, length, map, filter_map, find, count_by, nat_lt, ◌*◌, ◌-◌, slice_index_or, slice_set, if◌then◌else◌}
-use Rattle.std.specs.Global.{Box}
-use Rattle.arrayvec.specs.ArrayVec.{ArrayVec}
+use Rattle.std.specs.Global.{Vec}
 use Rattle.protocol.specs.Ballots.{Ballot, is_below, is_same, members}
 use Rattle.protocol.specs.Entries.{Entry}
 use Rattle.protocol.specs.Rows.{Vote, vote_for}
@@ -12,14 +11,14 @@ abbrev pub nothing_heard : ℕ → List (Option Vote)
 nothing_heard c = map (λ m. None) (members c)
 
 -- the slots that are written down: none as long as nothing is heard
-abbrev pub written : Option (Box (ArrayVec (Option Vote))) → List (Option Vote)
+abbrev pub written : Option (Vec (Option Vote)) → List (Option Vote)
 written None = []
-written (Some slots) = slots.value.items
+written (Some slots) = slots.items
 
 -- the slots of c members, where none is written down as long as nothing is heard
-abbrev pub opened : ℕ → Option (Box (ArrayVec (Option Vote))) → List (Option Vote)
+abbrev pub opened : ℕ → Option (Vec (Option Vote)) → List (Option Vote)
 opened c None = nothing_heard c
-opened c (Some slots) = slots.value.items
+opened c (Some slots) = slots.items
 
 -- a vote at b takes the slot: no vote stands there, or one at a ballot below b
 abbrev pub is_newer : Ballot → Option Vote → Bool

@@ -9,15 +9,14 @@ ghost use Rattle.learner.specs.Latest.{StandsFor, latest_votes, least_at};
 ghost use Rattle.learner.specs.Slots.{is_newer, kept, slot_of, nothing_heard, opened, written, ripe_in, least_in};
 ghost use Rattle.tape_frames.specs.Entries.{lent_entry};
 
-use arrayvec::ArrayVec;
 use ballots::laws::slots_of_members;
 use ballots::{Ballot, Member, Vote, majority};
 use std::alloc::{AllocError, Global};
 use std::marker::Model;
 use tape_frames::EntryRef;
 
-/// Of each member, in rising order, the vote that was heard. As many are used as the circuit has members.
-type Slots = ArrayVec<Option<Vote>, 15>;
+/// Of each member, in rising order, the vote that was heard.
+type Slots = Vec<Option<Vote>>;
 
 /// The votes for one number that were heard since the station's start: of each member the one of greatest ballot.
 ///
@@ -27,7 +26,7 @@ pub struct Heard {
     alloc: Global,
     members: u8,
     /// None until the first vote is kept, so that a number in hand is small.
-    slots: Option<Box<Slots>>,
+    slots: Option<Slots>,
 }
 
 impl Model for Heard {
@@ -44,22 +43,21 @@ impl Model for Heard {
 }
 
 /// A slot for each of so many members, with nothing heard.
-fn empty_slots(members: u8) -> Slots
+fn empty_slots(alloc: Global, members: u8) -> Result<Slots, AllocError>
     requires { members ≤ 15 }
-    ensures items { result.items ≡ nothing_heard members }
-    ensures many { length result.items ≡ members }
+    ensures items { IfOk result (λ slots. slots.items ≡ nothing_heard members) }
+    ensures many { IfOk result (λ slots. length slots.items ≡ members) }
 {
-    let mut slots = ArrayVec::new();
+    let mut slots = Vec::with_capacity(alloc, usize::from(members))?;
     for _ in 0..members {
-        slots.push(None);
+        slots.push(None)?;
     }
-    slots
+    Ok(slots)
 }
 
 /// The slots, lent; none as long as no vote is kept.
-fn lent(slots: &Option<Box<Slots>>) -> &[Option<Vote>]
+fn lent(slots: &Option<Slots>) -> &[Option<Vote>]
     ensures value { result.now ≡ written slots.now }
-    ensures few { length result.now ≤ 15 }
 {
     match slots {
         None => &[],
@@ -166,7 +164,7 @@ fn keep_newer(
 #[tactic(auto, using(crate::proofs::Opening::nothing_there))]
 fn keep(
     alloc: Global,
-    slots: &mut Option<Box<Slots>>,
+    slots: &mut Option<Slots>,
     members: u8,
     member: Member,
     ballot: Ballot,
@@ -176,12 +174,13 @@ fn keep(
     requires member { member ≤ length (opened members slots.old) }
     ensures kept { OnOk result (opened members slots.new ≡ kept (opened members slots.old) member ballot (lent_entry entry.entry)) }
     ensures written { OnOk result (written slots.new ≡ opened members slots.new) }
+    ensures many { OnOk result (length (written slots.new) ≡ length (opened members slots.old)) }
     ensures err { OnErr result (opened members slots.new ≡ opened members slots.old) }
     ensures no_memory { is_newer ballot (slot_of (opened members slots.old) member) ≡ false → IsOk result }
 {
     match slots {
         None => {
-            let mut first = Box::new(alloc, empty_slots(members))?;
+            let mut first = empty_slots(alloc, members)?;
             keep_newer(alloc, &mut first, member, ballot, entry)?;
             *slots = Some(first);
             Ok(())

@@ -1,7 +1,6 @@
 -- Slots: of each member of a circuit, in rising order of members, what it reported, where it is counted.
 use Rattle.std.specs.Prelude.{ℕ, List, Option, Some, None, map, slice_index_or, slice_set, ◌-◌}
-use Rattle.std.specs.Global.{Box}
-use Rattle.arrayvec.specs.ArrayVec.{ArrayVec}
+use Rattle.std.specs.Global.{Vec}
 use Rattle.protocol.specs.Ballots.{members}
 use Rattle.protocol.specs.Rows.{Vote}
 
@@ -10,9 +9,9 @@ abbrev pub nothing_counted : ℕ → List (Option (Option Vote))
 nothing_counted c = map (λ m. None) (members c)
 
 -- the slots of c members, of whom `me` alone is counted, with its own report, as long as none is written down
-abbrev pub slots_with : ℕ → ℕ → Option Vote → Option (Box (ArrayVec (Option (Option Vote)))) → List (Option (Option Vote))
+abbrev pub slots_with : ℕ → ℕ → Option Vote → Option (Vec (Option (Option Vote))) → List (Option (Option Vote))
 slots_with c me own None = slice_set (nothing_counted c) (me - 1) (Some own)
-slots_with c me own (Some slots) = slots.value.items
+slots_with c me own (Some slots) = slots.items
 
 -- what stands in the slot of member m
 abbrev pub report_at : List (Option (Option Vote)) → ℕ → Option (Option Vote)

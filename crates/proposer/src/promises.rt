@@ -5,14 +5,13 @@ ghost use Rattle.protocol.specs.Proposals.{vote_above};
 ghost use Rattle.proposer.specs.Slots.{nothing_counted, report_at, slots_with, vote_at};
 ghost use Rattle.proposer.specs.Greatest.{IsGreatest};
 
-use arrayvec::ArrayVec;
 use ballots::laws::slots_of_members;
 use ballots::{Member, Vote, VoteRef, majority};
 use std::alloc::{AllocError, Global};
 use std::marker::Model;
 
-/// Of each member, in rising order: what it reported, where it is counted. As many are used as the circuit has members.
-type Reports = ArrayVec<Option<Option<Vote>>, 15>;
+/// Of each member, in rising order: what it reported, where it is counted.
+type Reports = Vec<Option<Option<Vote>>>;
 
 /// Of each member, in rising order: what it reported, where it is counted. Clauses see this list.
 #[derive(Drop)]
@@ -22,7 +21,7 @@ pub(crate) struct Slots {
     /// What `me` reported, as long as it alone is counted.
     own: Option<Vote>,
     /// None as long as `me` alone is counted, so that a proposal that is just begun is small and takes no memory.
-    slots: Option<Box<Reports>>,
+    slots: Option<Reports>,
 }
 
 impl Model for Slots {
@@ -38,16 +37,16 @@ impl Model for Slots {
 }
 
 /// A slot for each of so many members, of whom none is counted.
-fn empty_slots(members: u8) -> Reports
+fn empty_slots(alloc: Global, members: u8) -> Result<Reports, AllocError>
     requires { members ≤ 15 }
-    ensures items { result.items ≡ nothing_counted members }
-    ensures many { length result.items ≡ members }
+    ensures items { IfOk result (λ slots. slots.items ≡ nothing_counted members) }
+    ensures many { IfOk result (λ slots. length slots.items ≡ members) }
 {
-    let mut slots = ArrayVec::new();
+    let mut slots = Vec::with_capacity(alloc, usize::from(members))?;
     for _ in 0..members {
-        slots.push(None);
+        slots.push(None)?;
     }
-    slots
+    Ok(slots)
 }
 
 /// Sets the member's slot: it is counted, with what it reported.
@@ -65,13 +64,13 @@ fn spread(
     members: u8,
     me: Member,
     own: &mut Option<Vote>,
-) -> Result<Box<Reports>, AllocError>
+) -> Result<Reports, AllocError>
     requires few { members ≤ 15 }
     requires member { me ≤ members }
-    ensures spread { IfOk result (λ slots. slots.value.items ≡ slice_set (nothing_counted members) (me - 1) (Some own.old)) }
+    ensures spread { IfOk result (λ slots. slots.items ≡ slice_set (nothing_counted members) (me - 1) (Some own.old)) }
     ensures own { OnErr result (own.new ≡ own.old) }
 {
-    let mut slots = Box::new(alloc, empty_slots(members))?;
+    let mut slots = empty_slots(alloc, members)?;
     set(&mut slots, me, own.take());
     Ok(slots)
 }
