@@ -1,0 +1,126 @@
+#!/usr/bin/env python3
+"""How long a story takes from its offer to the files of its release, at three plants on one machine.
+
+    bench/latency.py PROGRAM [STORIES]
+
+Three plants `run` on 127.0.0.1 with no network between them but the machine's. 200 stories where no other count is given are laid into the first plant's
+folder, one after another, each once the one before it stands in all three folders `releases`. Told are the least and the median time from the line that
+says that the offer was taken up (`N began B`) to the last of the three files `N.galley`; and how long the offer waited for the folder to be looked at. Beside them the
+saves on that path: promise and vote at the offering station, promise and vote at one other, timed alone, by the stock SQLite library with the same
+durability (journal in a log, each commit synced), on the same disk.
+"""
+import os
+import shutil
+import socket
+import sqlite3
+import statistics
+import subprocess
+import sys
+import tempfile
+import time
+
+HERE = os.path.dirname(os.path.abspath(__file__))
+EXAMPLES = os.path.join(HERE, '..', 'examples')
+MEMBERS = (1, 2, 3)
+TAPE = bytes.fromhex('01020301030204')
+
+
+def free_ports():
+    held = [socket.socket(socket.AF_INET, socket.SOCK_DGRAM) for _ in MEMBERS]
+    for own in held:
+        own.bind(('127.0.0.1', 0))
+    ports = [own.getsockname()[1] for own in held]
+    for own in held:
+        own.close()
+    return ports
+
+
+def start(program, folder, member, ports):
+    """A plant in a folder of its own."""
+    home = os.path.join(folder, f'plant{member}')
+    os.makedirs(os.path.join(home, 'offers'))
+    os.makedirs(os.path.join(home, 'releases'))
+    for name in ('codes.toml', 'widths.toml'):
+        shutil.copy(os.path.join(EXAMPLES, name), home)
+    stations = ''.join(f'[[station]]\nmember = {other}\nip = "127.0.0.1"\nport = {port}\n' for other, port in zip(MEMBERS, ports))
+    with open(os.path.join(home, 'station.toml'), 'w') as config:
+        config.write(f'circuit = 7\nmember = {member}\ntable = "codes.toml"\nwidths = "widths.toml"\nrows = "station.db"\n'
+                     f'[folders]\noffers = "offers"\nreleases = "releases"\n{stations}')
+    process = subprocess.Popen([program, 'run', 'station.toml', '--create', '--layout', '2'], cwd=home, stdout=subprocess.DEVNULL, stderr=subprocess.PIPE, text=True)
+    os.set_blocking(process.stderr.fileno(), False)
+    return home, process
+
+
+def lines_of(process):
+    """What a plant has told since it was last asked."""
+    try:
+        return (process.stderr.read() or '').splitlines()
+    except (BlockingIOError, TypeError):
+        return []
+
+
+def story(plants, number):
+    """Lays a story down, and gives the moments: laid, taken up, released everywhere."""
+    home, process = plants[0]
+    part, whole = (os.path.join(home, 'offers', name) for name in (f'.{number}.tape', f'{number}.tape'))
+    with open(part, 'wb') as file:
+        file.write(TAPE)
+    laid = time.monotonic()
+    os.rename(part, whole)
+    wanted = [os.path.join(plant, 'releases', f'{number}.galley') for plant, _ in plants]
+    began = None
+    while time.monotonic() < laid + 30:
+        now = time.monotonic()
+        if began is None:
+            if any(line.startswith(f'{number} began ') for line in lines_of(process)):
+                began = now
+        elif all(map(os.path.exists, wanted)):
+            return laid, began, now
+        time.sleep(0.0002)
+    sys.exit(f'number {number} was not released within 30 s')
+
+
+def time_of_saves(folder, count):
+    """The time of two saves of a row at two stations, one after the other, by the stock library."""
+    stores = []
+    for name in ('one.db', 'other.db'):
+        store = sqlite3.connect(os.path.join(folder, name), isolation_level=None)
+        store.execute('PRAGMA journal_mode = WAL')
+        store.execute('PRAGMA synchronous = FULL')
+        store.execute('CREATE TABLE acceptor_entry (number INTEGER PRIMARY KEY, promised_round INTEGER NOT NULL, promised_owner INTEGER NOT NULL,'
+                      ' vote_round INTEGER, vote_owner INTEGER, length INTEGER, packed BLOB) STRICT')
+        stores.append(store)
+    took = []
+    for number in range(1, count + 1):
+        begun = time.monotonic()
+        for vote in ((None, None, None, None), (1, 1, 7, TAPE)):
+            for store in stores:
+                store.execute('INSERT OR REPLACE INTO acceptor_entry VALUES (?, 1, 1, ?, ?, ?, ?)', (number, *vote))
+        took.append(time.monotonic() - begun)
+    return took
+
+
+def main():
+    if not 2 <= len(sys.argv) <= 3:
+        sys.exit(__doc__)
+    program = os.path.abspath(sys.argv[1])
+    count = int(sys.argv[2]) if len(sys.argv) > 2 else 200
+    folder = tempfile.mkdtemp(dir=os.getcwd())
+    ports, plants = free_ports(), []
+    try:
+        plants = [start(program, folder, member, ports) for member in MEMBERS]
+        time.sleep(1)
+        moments = [story(plants, number) for number in range(1, count + 1)]
+        saves = time_of_saves(folder, count)
+    finally:
+        for _, process in plants:
+            process.kill()
+            process.wait()
+        shutil.rmtree(folder)
+    waits, paths = [began - laid for laid, began, _ in moments], [ended - began for _, began, ended in moments]
+    for what, took in (('taken up after', waits), ('from there to the last galley', paths), ('the saves alone', saves)):
+        print(f'{what:32} least {1000 * min(took):7.1f} ms, median {1000 * statistics.median(took):7.1f} ms')
+    print(f'median of the path over median of its saves: {statistics.median(paths) / statistics.median(saves):.2f}')
+
+
+main()
