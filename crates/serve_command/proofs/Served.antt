@@ -20,6 +20,7 @@ use Rattle.command_ends.specs.declared.end.End.{End}
 use Rattle.command_ends.specs.declared.end.End.TheVariants as ends
 use Rattle.command_ends.specs.declared.fault.Fault.{Fault}
 use Rattle.command_ends.specs.declared.fault.Fault.TheVariants as faults
+use Rattle.serve_command.specs.Driving.{Rests}
 use Rattle.serve_command.specs.Serving.{Event, asked, took, coming, sending, going, passing, printing, written, writing, IsStep, Takes, IsByStore, IsForMemory, Stops, HasCause, Post, post, Known, ended, Serves, AtClock, Then}
 
 -- what holds whatever the result is
@@ -45,7 +46,7 @@ behind x y z bs cs p q = front_more x y z bs cs [] (bs ++ cs) p q (ap (λ (l : L
 pub no_front : (x : Option (List ℕ)) → AppendsFront x x []
 no_front x = (0, Appends-nil x)
 
-takes_then : {R : Type 0} (g : Ghosts R) (a b c : Station R) (xs ys : List Event) → Takes g a b xs → Takes g b c ys → Takes g a c (xs ++ ys)
+pub takes_then : {R : Type 0} (g : Ghosts R) (a b c : Station R) (xs ys : List Event) → Takes g a b xs → Takes g b c ys → Takes g a c (xs ++ ys)
 takes_then {R = R} g a b c [] ys p q = subst (λ (s : Station R). Takes g s c ys) p q
 takes_then g a b c (asked m ∷ xs) ys p q = takes_then g a b c xs ys p q
 takes_then g a b c (took call answer ∷ xs) ys p q = (p.0, p.1, takes_then g p.0 b c xs ys p.2 q)
@@ -60,7 +61,7 @@ stops_then xs ys new Kind s = record {
   stopped = s.stopped;
 }
 
-cause_then : (xs ys : List Event) (a b c : Bool) (end : End) → b ≡ a → HasCause ys b c end → HasCause (xs ++ ys) a c end
+pub cause_then : (xs ys : List Event) (a b c : Bool) (end : End) → b ≡ a → HasCause ys b c end → HasCause (xs ++ ys) a c end
 cause_then xs ys a b c ends.Done p q = q ∙ p
 cause_then xs ys a b c ends.Input p q = q ∙ p
 cause_then xs ys a b c ends.Usage p q = q
@@ -102,7 +103,7 @@ stops_now : (call : Call) (r : StepRefusal) (new : Bool) (Kind : StepRefusal →
 stops_now call r new Kind kind stopped = record { before = []; call = call; refusal = r; kind = kind; is_last = refl; stopped = stopped }
 
 -- a station is stopped by the refusals that end a command by the store or for memory, and by no other
-refused_cause : (call : Call) (r : StepRefusal) (old new : Bool) → new ≡ stopped_after old (Err r) → HasCause (took call (Err r) ∷ []) old new (end_of_step r)
+pub refused_cause : (call : Call) (r : StepRefusal) (old new : Bool) → new ≡ stopped_after old (Err r) → HasCause (took call (Err r) ∷ []) old new (end_of_step r)
 refused_cause call steps.Stopped old new p = p
 refused_cause call (steps.BadDatagram fault) old new p = p
 refused_cause call steps.WrongCircuit old new p = p
@@ -134,6 +135,12 @@ module _ {R N W : Type 0} (k : Known R N W) where
     form = form;
     cause = cause;
   }
+
+  -- nothing came
+  pub rested : (s t : Station R) (w v : N) (o : W) (end : End) (F : List Event → Type 0)
+      → Rests k.passed s t w v → (end ≡ ends.Done → F []) → HasCause [] s.stopped s.stopped end → Serves k (post s w o) (post t v o) end F
+  rested s t w v o end F rests form cause =
+      subst (λ (x : Station R). Serves k (post s w o) (post x v o) end F) (sym rests.same) (nothing s w v o end F rests.passes form cause)
 
   -- a fault before anything was taken in or handed out
   pub untouched : (s : Station R) (w : N) (o : W) (end same : End) (F : List Event → Type 0) → same ≡ end → (same ≡ ends.Done → ⊥) → HasCause [] s.stopped s.stopped end

@@ -76,7 +76,7 @@ fn send<N: Wire, E: Write>(datagram: &Datagram, wire: &mut N, err: &mut E)
 }
 
 /// Sends datagrams, each once, in order.
-fn send_all<N: Wire, E: Write>(out: &[Datagram], wire: &mut N, err: &mut E)
+pub(crate) fn send_all<N: Wire, E: Write>(out: &[Datagram], wire: &mut N, err: &mut E)
     ensures { Passes (N.passed wire.old) (N.passed wire.new) (sending out.now) }
 {
     for datagram in out {

@@ -1,7 +1,9 @@
 //! The command `serve`: the turns of a station over a wire.
 #![tactic(auto)]
 
+mod driving;
 mod handing_on;
 mod serving;
 
+pub use driving::{BUFFER, Outcome, pass_over, send_answer, take_datagram};
 pub use serving::{serve_run, serve_turn};

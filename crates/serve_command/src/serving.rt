@@ -1,11 +1,10 @@
 //! The command `serve`: what a station takes in from the wire, and what it hands out.
 
-ghost use Rattle.std.specs.Prelude.{◌≡◌, false, OnOk, IfErr};
-ghost use Rattle.station.specs.Steps.{tears};
+ghost use Rattle.std.specs.Prelude.{◌≡◌, false, OnOk};
 ghost use Rattle.serve_command.specs.Serving.{Serves, known, post, ended, IsTakingIn, IsSeeingToDue, IsTurn, IsOffer, IsWithdrawal, IsSearch, IsAsking, AtClock, Then, AreTurns, IsRun};
-ghost use Rattle.command_ends.specs.Ends.{end_of, end_of_step};
 ghost use Rattle.command_ends.specs.declared.end.End.TheVariants.{Done};
 
+use crate::driving::{BUFFER, Outcome, pass_over, take_datagram};
 use crate::handing_on::hand_on;
 use command_ends::{End, Fault};
 use saved_rows::Rows;
@@ -13,24 +12,7 @@ use station::{Station, StepRefusal};
 use std::alloc::Global;
 use std::io::Write;
 use tape_frames::Tape;
-use wire::{Arrival, Wire};
-
-/// The room for one datagram. The longest that is a packet has a byte less, so one that was cut is none.
-const BUFFER: usize = 12_314;
-
-/// Passes over a refusal after which the station goes on as it was; any other is the fault that it has stopped for.
-fn pass_over(refusal: StepRefusal) -> Result<(), Fault<'static>>
-    ensures goes_on { OnOk result (tears refusal ≡ false) }
-    ensures takes_steps { OnOk result (¬ (refusal ≡ StepRefusal.Stopped)) }
-    ensures ends { IfErr result (λ fault. end_of fault ≡ end_of_step refusal) }
-{
-    match refusal {
-        StepRefusal::Stopped | StepRefusal::Store(_) | StepRefusal::OutOfMemory => Err(
-            Fault::of_step(refusal),
-        ),
-        _ => Ok(()),
-    }
-}
+use wire::Wire;
 
 /// Takes in what comes, one datagram at most. One that the station refuses is passed over.
 fn take_in<R: Rows, N: Wire, W: Write, E: Write>(
@@ -45,14 +27,11 @@ fn take_in<R: Rows, N: Wire, W: Write, E: Write>(
     ensures was_kept { R.kept station.new.rows → R.kept station.old.rows }
     ensures serves { Serves (known R.Rows N.passed W.contents) (post station.old wire.old out.old) (post station.new wire.new out.new) (ended result) (IsTakingIn now) }
 {
-    let length = match wire.receive(buffer) {
-        Arrival::Nothing => return Ok(()),
-        Arrival::Datagram { length } => length,
-        Arrival::Failed => return Err(Fault::Socket("receive failed")),
-    };
-    match station.receive(&buffer[..length], now) {
-        Ok(answer) => hand_on(alloc, &answer, wire, out, err),
-        Err(refusal) => pass_over(refusal),
+    match take_datagram(station, wire, now, buffer) {
+        Outcome::Nothing => Ok(()),
+        Outcome::Failed => Err(Fault::Socket("receive failed")),
+        Outcome::Done(answer) => hand_on(alloc, &answer, wire, out, err),
+        Outcome::Refused(refusal) => pass_over(refusal),
     }
 }
 

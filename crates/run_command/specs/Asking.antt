@@ -1,0 +1,51 @@
+-- What the files among the offers ask for.
+use Rattle.std.specs.Prelude.{◌≡◌, ℕ, List, codes}
+use Rattle.protocol.specs.Entries.{Entry, Void, Taped}
+use Rattle.protocol.specs.Refusals.{Call, Offering, Seeking}
+use Rattle.tape_frames.specs.Entries.{owned_entry}
+use Rattle.refusals.specs.declared.refusal.StepRefusal.{StepRefusal}
+use Rattle.refusals.specs.declared.refusal.StepRefusal.TheVariants as steps
+use Rattle.folders.specs.declared.folders.Place.{Place}
+use Rattle.folders.specs.declared.folders.Place.TheVariants.{Sent, Lost, Refused}
+use Rattle.run_command.specs.declared.naming.Kind.{Kind}
+use Rattle.run_command.specs.declared.naming.Kind.TheVariants as kinds
+use Rattle.run_command.specs.declared.asked.Wish.{Wish}
+use Rattle.run_command.specs.declared.asked.Wish.TheVariants.{Offered, Sought}
+
+-- how the names of this kind end
+abbrev pub kind_word : Kind → List ℕ
+kind_word kinds.Tape = codes ".tape"
+kind_word kinds.Withdraw = codes ".withdraw"
+kind_word kinds.Seek = codes ".seek"
+
+-- how the station is called for what is asked of a number at a moment
+abbrev pub call_of : Wish → ℕ → ℕ → Call
+call_of (Offered entry) n now = Offering n (owned_entry entry) now
+call_of Sought n now = Seeking n now
+
+-- the entry that stands under the number is the one that was asked for; a search takes any
+abbrev pub IsMet : Wish → Entry → Type 0
+IsMet (Offered own) entry = owned_entry own ≡ entry
+IsMet Sought entry = Unit {0}
+
+-- a file is put to those that were sent where its number's entry is what it asked for, and else to those that were lost
+abbrev pub IsPlaceOf : Wish → Entry → Place → Type 0
+IsPlaceOf wish entry Sent = IsMet wish entry
+IsPlaceOf wish entry Lost = ¬ IsMet wish entry
+IsPlaceOf wish entry Refused = ⊥
+
+-- a refusal of what is offered, which stands: the number is none, the version of the rows has no spelling for it, it does not set, or no ballot is left
+abbrev pub IsOfOffer : StepRefusal → Type 0
+IsOfOffer steps.BadNumber = Unit {0}
+IsOfOffer steps.WireTooOld = Unit {0}
+IsOfOffer (steps.TapeFaulty fault) = Unit {0}
+IsOfOffer steps.RoundsSpent = Unit {0}
+IsOfOffer steps.Stopped = ⊥
+IsOfOffer (steps.BadDatagram fault) = ⊥
+IsOfOffer steps.WrongCircuit = ⊥
+IsOfOffer steps.NotForMe = ⊥
+IsOfOffer steps.Stranger = ⊥
+IsOfOffer steps.AlreadyReleased = ⊥
+IsOfOffer steps.AlreadyOpen = ⊥
+IsOfOffer (steps.Store fault) = ⊥
+IsOfOffer steps.OutOfMemory = ⊥

@@ -1,0 +1,5 @@
+pub mod Asking
+pub mod Filing
+pub mod Keeping
+pub mod Running
+pub mod Words

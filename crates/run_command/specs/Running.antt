@@ -1,0 +1,41 @@
+-- What `run` did, by a list of what happened: which steps its station took, what passed over its wire, and what it wrote among the releases.
+use Rattle.std.specs.Prelude.{◌≡◌, List, Option, flat_map}
+use Rattle.saved_rows.specs.declared.rows.Rows.{Ghosts}
+use Rattle.station.specs.declared.station.Station.{Station}
+use Rattle.wire.specs.Passing.{Passed, Passes}
+use Rattle.command_ends.specs.declared.end.End.{End}
+use Rattle.command_ends.specs.declared.end.End.TheVariants as ends
+use Rattle.folders.specs.Written.{File}
+use Rattle.serve_command.specs.Serving.{Event, Takes, passing, HasCause}
+use Rattle.run_command.specs.Filing.{filing}
+use Rattle.run_command.specs.Keeping.{Keeps, KeepsFront}
+
+-- a station, its wire, its folders, and the files that wait to be written among the releases
+pub record Plant (R N F : Type 0) : Type 0 where
+  pub station : Station R
+  pub wire : N
+  pub folders : F
+  pub waits : List File
+
+abbrev pub plant : {R N F : Type 0} → Station R → N → F → List File → Plant R N F
+plant station wire folders waits = record { station = station; wire = wire; folders = folders; waits = waits }
+
+-- what is known of the rows, of what has passed over the wire and of what was written among the releases
+pub record Known (R N F : Type 0) : Type 1 where
+  pub rows : Ghosts R
+  pub passed : N → Option (List Passed)
+  pub written : F → Option (List File)
+
+abbrev pub known : {R N F : Type 0} → Ghosts R → (N → Option (List Passed)) → (F → Option (List File)) → Known R N F
+known rows passed written = record { rows = rows; passed = passed; written = written }
+
+-- what `run` did up to this end, by a list of events: the station took these steps and no others; what passed over the wire is what came for them and what they
+-- handed out; among the releases were written, in order, the files that waited and those of what was released, a front of them, and where it goes on or ended well
+-- the rest waits
+pub record Runs {R N F : Type 0} (k : Known R N F) (old new : Plant R N F) (end : End) : Type 0 where
+  pub log : List Event
+  pub steps : k.rows.kept new.station.rows → Takes k.rows old.station new.station log
+  pub passes : Passes (k.passed old.wire) (k.passed new.wire) (flat_map passing log)
+  pub front : KeepsFront (k.written old.folders) (k.written new.folders) old.waits (flat_map filing log)
+  pub whole : end ≡ ends.Done → Keeps (k.written old.folders) (k.written new.folders) old.waits new.waits (flat_map filing log)
+  pub cause : HasCause log old.station.stopped new.station.stopped end

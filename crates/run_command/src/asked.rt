@@ -1,0 +1,115 @@
+//! What is asked of the station by files among the offers.
+
+ghost use Rattle.std.specs.Prelude.{◌≡◌, ◌↔◌, IsTrue};
+ghost use Rattle.tape_frames.specs.Entries.{lent_entry};
+ghost use Rattle.station.specs.Steps.{stopped_after};
+ghost use Rattle.serve_command.specs.Serving.{IsStep};
+ghost use Rattle.run_command.specs.Asking.{call_of, IsMet, IsPlaceOf};
+
+use crate::pauses::{FIRST_PAUSE, has_passed, next_pause};
+use ballots::{Ballot, Number};
+use folders::{Place, Stamp};
+use saved_rows::Rows;
+use station::{Answer, Station, StepRefusal};
+use tape_frames::{Entry, EntryRef};
+
+/// What a file asks for its number.
+#[derive(Drop)]
+pub(crate) enum Wish {
+    /// That this entry is agreed on.
+    Offered(Entry),
+    /// What stands there.
+    Sought,
+}
+
+/// A file among the offers that was taken up.
+#[derive(Drop)]
+pub(crate) struct Asked {
+    pub(crate) name: String,
+    pub(crate) number: Number,
+    pub(crate) wish: Wish,
+    /// As it was read.
+    pub(crate) stamp: Stamp,
+    /// The ballot of the number's open proposal, as it was told last.
+    pub(crate) ballot: Option<Ballot>,
+    /// When the station is asked, and how long it is waited then; `None` while a ballot is under way.
+    pub(crate) due: Option<u64>,
+    pub(crate) pause: u64,
+    /// Whether the file has left the offers.
+    pub(crate) is_settled: bool,
+}
+
+/// Whether the entry that stands under a number is the one that was asked for.
+fn is_met(wish: &Wish, entry: &EntryRef<'_>) -> bool
+    ensures { IsTrue result ↔ IsMet wish.now (lent_entry entry.now) }
+{
+    match wish {
+        Wish::Offered(own) => own.lend().same(entry.lend()),
+        Wish::Sought => true,
+    }
+}
+
+/// Where a file is put once this entry stands under its number.
+pub(crate) fn place_of(wish: &Wish, entry: &EntryRef<'_>) -> Place
+    ensures { IsPlaceOf wish.now (lent_entry entry.now) result }
+{
+    if is_met(wish, entry) {
+        Place::Sent
+    } else {
+        Place::Lost
+    }
+}
+
+/// Asks the station what a file asks for its number, at a moment in milliseconds.
+pub(crate) fn ask<R: Rows>(
+    station: &mut Station<R>,
+    wish: &Wish,
+    number: u32,
+    now: u64,
+) -> Result<Answer, StepRefusal>
+    ensures was_kept { R.kept station.new.rows → R.kept station.old.rows }
+    ensures step { R.kept station.new.rows → IsStep R.Rows (call_of wish.now number now) station.old station.new result }
+    ensures stops { station.new.stopped ≡ stopped_after station.old.stopped result }
+{
+    match wish {
+        Wish::Offered(Entry::Tape(tape)) => station.offer(number, tape, now),
+        Wish::Offered(Entry::Void) => station.withdraw(number, now),
+        Wish::Sought => station.seek(number, now),
+    }
+}
+
+impl Asked {
+    /// A file that was read: the station is to be asked at once.
+    pub(crate) fn new(name: String, number: Number, wish: Wish, stamp: Stamp, now: u64) -> Asked {
+        Asked {
+            name,
+            number,
+            wish,
+            stamp,
+            ballot: None,
+            due: Some(now),
+            pause: FIRST_PAUSE,
+            is_settled: false,
+        }
+    }
+
+    /// Whether the station is to be asked now.
+    pub(crate) fn is_due(&self, now: u64) -> bool {
+        match self.due {
+            Some(due) => !self.is_settled && has_passed(due, 0, now),
+            None => false,
+        }
+    }
+
+    /// The station took it up: a ballot is under way.
+    pub(crate) fn set_out(&mut self) {
+        self.due = None;
+    }
+
+    /// Asks again after a pause, which grows.
+    pub(crate) fn put_off(&mut self, now: u64) {
+        self.due = Some(now.saturating_add(self.pause));
+        self.pause = next_pause(self.pause);
+        self.ballot = None;
+    }
+}

@@ -1,0 +1,108 @@
+//! What a run tells on standard error: a line for each thing that an operator may want to know.
+
+ghost use Rattle.std.specs.Prelude.{◌≡◌, Some};
+ghost use Rattle.run_command.specs.Words.{ballot_text, event_text};
+
+use ballots::Ballot;
+use command_ends::{Fault, RefusalText};
+use station::StepRefusal;
+use std::fmt;
+use std::io::Write;
+use tape_frames::TapeFault;
+
+/// Something that an operator may want to know, with its number.
+#[derive(Clone, Copy)]
+pub(crate) enum Event {
+    /// A ballot was begun.
+    Began { number: u32, ballot: Ballot },
+    /// The ballots came to no end.
+    GaveUp { number: u32, ballot: Ballot },
+    /// A majority knows of nothing.
+    Nothing { number: u32, ballot: Ballot },
+    /// The number was released.
+    Released { number: u32 },
+    /// What a file asked for is what stands under its number.
+    Sent { number: u32 },
+    /// It is not.
+    Lost { number: u32 },
+}
+
+/// A ballot, as `1.2`.
+#[derive(Clone, Copy)]
+struct BallotText(Ballot);
+
+impl fmt::Display for BallotText {
+    ghost output = { λ b. Some (ballot_text b.0) };
+
+    fn fmt<W: fmt::Write>(&self, f: &mut fmt::Formatter<W>) -> fmt::Result {
+        write!(f, "{}.{}", self.0.round(), self.0.owner().get())
+    }
+}
+
+impl fmt::Display for Event {
+    ghost output = { λ e. Some (event_text e) };
+
+    fn fmt<W: fmt::Write>(&self, f: &mut fmt::Formatter<W>) -> fmt::Result {
+        match *self {
+            Event::Began { number, ballot } => write!(f, "{number} began {}", BallotText(ballot)),
+            Event::GaveUp { number, ballot } => write!(
+                f,
+                "{number} gave-up {}",
+                BallotText(ballot)
+            ),
+            Event::Nothing { number, ballot } => write!(
+                f,
+                "{number} nothing {}",
+                BallotText(ballot)
+            ),
+            Event::Released { number } => write!(f, "{number} released"),
+            Event::Sent { number } => write!(f, "{number} sent"),
+            Event::Lost { number } => write!(f, "{number} lost"),
+        }
+    }
+}
+
+/// Why a file is no offer.
+#[derive(Clone, Copy)]
+pub(crate) enum Reason {
+    /// Its name asks for nothing that there is.
+    Name,
+    /// It holds no tape.
+    Tape(TapeFault),
+    /// The station does not take it.
+    Step(StepRefusal),
+}
+
+impl fmt::Display for Reason {
+    fn fmt<W: fmt::Write>(&self, f: &mut fmt::Formatter<W>) -> fmt::Result {
+        match *self {
+            Reason::Name => f.write_str("no number"),
+            Reason::Tape(fault) => write!(f, "{}", Fault::of_tape(fault)),
+            Reason::Step(refusal) => write!(f, "{}", RefusalText(refusal)),
+        }
+    }
+}
+
+/// Writes a line. That the writer fails is ignored.
+pub(crate) fn tell<E: Write>(quiet: bool, event: Event, err: &mut E) {
+    if !quiet {
+        let _ = writeln!(err, "{event}");
+    }
+}
+
+/// Writes why a file is no offer.
+pub(crate) fn tell_refused<E: Write>(quiet: bool, name: &str, reason: Reason, err: &mut E) {
+    if !quiet {
+        let _ = writeln!(err, "refused {name}: {reason}");
+    }
+}
+
+/// Writes that a station speaks for another circuit.
+pub(crate) fn tell_wrong_circuit<E: Write>(err: &mut E) {
+    let _ = Fault::of_step(StepRefusal::WrongCircuit).tell(err);
+}
+
+/// Writes that a folder does not serve, and for what.
+pub(crate) fn tell_folder<E: Write>(what: &str, name: &str, err: &mut E) {
+    let _ = writeln!(err, "folders: {what} {name}");
+}

@@ -1,0 +1,37 @@
+//! Files that wait to be written among the releases.
+
+ghost use Rattle.std.specs.Prelude.{◌≡◌, [], OnOk, OnErr};
+ghost use Rattle.run_command.specs.Keeping.{Keeps};
+
+use folders::{FolderFault, Folders, Paper};
+use std::alloc::Global;
+
+/// Writes the first of the files that wait. One that the folder refuses goes on waiting.
+fn write_first<F: Folders>(
+    alloc: Global,
+    folders: &mut F,
+    waits: &mut Vec<Paper>,
+) -> Result<(), FolderFault>
+    ensures { Keeps (F.written folders.old) (F.written folders.new) waits.old.items waits.new.items [] }
+{
+    match waits.first() {
+        Some(paper) => folders.put(alloc, paper.name(), paper.bytes())?,
+        None => return Ok(()),
+    }
+    let _ = waits.remove(0);
+    Ok(())
+}
+
+/// Writes the files that wait, in order, up to the first that the folder refuses.
+pub(crate) fn write_waiting<F: Folders>(
+    alloc: Global,
+    folders: &mut F,
+    waits: &mut Vec<Paper>,
+) -> Result<(), FolderFault>
+    ensures { Keeps (F.written folders.old) (F.written folders.new) waits.old.items waits.new.items [] }
+{
+    for _ in 0..waits.len() {
+        write_first(alloc, folders, waits)?;
+    }
+    Ok(())
+}

@@ -1,0 +1,28 @@
+//! Files that are watched until they stay as they are.
+
+ghost use Rattle.std.specs.Prelude.{◌≡◌, ◌≤◌, ◌+◌, ◌↔◌, IsTrue};
+
+use crate::pauses::{STILL, has_passed};
+use folders::Stamp;
+
+/// A file among the offers that was not taken up yet.
+#[derive(Drop)]
+pub(crate) struct Watched {
+    pub(crate) name: String,
+    /// As it was found.
+    pub(crate) stamp: Stamp,
+    /// Since when it was found so at each look.
+    pub(crate) since: u64,
+}
+
+/// Whether a file that was found so before, and is found so now, is taken for whole.
+pub(crate) fn is_whole(before: Stamp, since: u64, stamp: Stamp, now: u64) -> bool
+    ensures { IsTrue result ↔ ((before ≡ stamp) × (since + 1000 ≤ now)) }
+{
+    before == stamp && has_passed(since, STILL, now)
+}
+
+/// The place of a name among the files that are watched.
+pub(crate) fn place_of(watched: &[Watched], name: &str) -> Option<usize> {
+    watched.iter().position(|each| each.name.as_str() == name)
+}

@@ -1,0 +1,96 @@
+//! Folders in memory in which something happens at some look.
+
+use folders::{FolderFault, Folders, Listing, MemoryFolders, Place, Stamp};
+use std::alloc::{AllocError, Global};
+
+/// What happens to the folders.
+#[derive(Clone, Copy)]
+pub enum What {
+    /// A file of this name that holds these bytes is laid among the offers, or written anew.
+    Laid(&'static str, &'static [u8]),
+    /// The folder of releases is full, or no longer.
+    Full(bool),
+}
+
+/// What happens before a look at the folders, counted from 1.
+#[derive(Clone, Copy)]
+pub struct Act {
+    pub look: usize,
+    pub what: What,
+}
+
+/// Folders in memory, and what happens to them.
+#[derive(Drop)]
+pub struct Stage<'a> {
+    pub folders: MemoryFolders,
+    pub acts: &'a [Act],
+    pub looks: usize,
+}
+
+impl<'a> Stage<'a> {
+    pub fn new(alloc: Global, acts: &'a [Act]) -> Stage<'a> {
+        Stage {
+            folders: MemoryFolders::new(alloc),
+            acts,
+            looks: 0,
+        }
+    }
+
+    fn act(&mut self, alloc: Global, what: What) -> Result<(), AllocError> {
+        match what {
+            What::Laid(name, bytes) => self.folders.lay(alloc, name, bytes, self.looks as i64),
+            What::Full(is_full) => {
+                self.folders.set_full(is_full);
+                Ok(())
+            }
+        }
+    }
+
+    /// Lets happen what happens before this look.
+    fn pass(&mut self, alloc: Global) -> Result<(), AllocError> {
+        self.looks = self.looks.saturating_add(1) & 0xffff;
+        for act in self.acts {
+            if act.look == self.looks {
+                self.act(alloc, act.what)?;
+            }
+        }
+        Ok(())
+    }
+}
+
+impl<'a> Folders for Stage<'a> {
+    fn names(&mut self, alloc: Global) -> Result<Listing, FolderFault> {
+        self.pass(alloc)?;
+        self.folders.names(alloc)
+    }
+
+    fn stamp(&mut self, alloc: Global, name: &str) -> Result<Stamp, FolderFault> {
+        self.folders.stamp(alloc, name)
+    }
+
+    fn read(&mut self, alloc: Global, name: &str, most: usize) -> Result<Vec<u8>, FolderFault> {
+        self.folders.read(alloc, name, most)
+    }
+
+    fn put(&mut self, alloc: Global, name: &str, bytes: &[u8]) -> Result<(), FolderFault> {
+        self.folders.put(alloc, name, bytes)
+    }
+
+    fn note(
+        &mut self,
+        alloc: Global,
+        to: Place,
+        name: &str,
+        text: &str,
+    ) -> Result<(), FolderFault> {
+        self.folders.note(alloc, to, name, text)
+    }
+
+    fn set_aside(&mut self, alloc: Global, name: &str, to: Place) -> Result<(), FolderFault> {
+        self.folders.set_aside(alloc, name, to)
+    }
+
+    fn remove(&mut self, alloc: Global, name: &str) -> Result<(), FolderFault> {
+        self.folders.remove(alloc, name)
+    }
+}

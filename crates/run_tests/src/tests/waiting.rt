@@ -1,0 +1,93 @@
+//! What waits: a file that grows, a release while the disk is full, an offer while no majority is there.
+
+use crate::plant::{RUN, Run, is_true};
+use crate::stage::{Act, What};
+use command_ends::End;
+use fixtures::FLOOD;
+use std::test::Fail;
+
+fn laid(look: usize, name: &'static str, bytes: &'static [u8]) -> Act {
+    Act {
+        look,
+        what: What::Laid(name, bytes),
+    }
+}
+
+fn full(look: usize, is_full: bool) -> Act {
+    Act {
+        look,
+        what: What::Full(is_full),
+    }
+}
+
+/// A file that grows is not taken before it stood still for a second.
+#[test]
+fn growing(rt: HostRuntime) -> Result<(), Fail> {
+    let still_growing = Run {
+        acts: &[
+            laid(1, "12.tape", &[1]),
+            laid(4, "12.tape", &[1, 2]),
+            laid(7, "12.tape", &[1, 2, 3]),
+            laid(10, "12.tape", FLOOD),
+            laid(13, "stop", &[]),
+        ],
+        ..RUN
+    };
+    let grown = Run {
+        acts: &[
+            laid(1, "12.tape", &[1]),
+            laid(4, "12.tape", &[1, 2]),
+            laid(7, "12.tape", FLOOD),
+            laid(12, "stop", &[]),
+        ],
+        folders: "wrote 12.tape 7\nwrote 12.galley 25\nsent 12.tape\n",
+        err: "12 released\n12 sent\n",
+        ..RUN
+    };
+    assert!(rt; is_true(rt.alloc(), &still_growing));
+    assert!(rt; is_true(rt.alloc(), &grown));
+    Ok(())
+}
+
+/// A release that can't be written is written later.
+#[test]
+fn full_disk(rt: HostRuntime) -> Result<(), Fail> {
+    let kept = Run {
+        acts: &[
+            full(1, true),
+            laid(1, "12.tape", FLOOD),
+            laid(20, "stop", &[]),
+        ],
+        folders: "sent 12.tape\n",
+        err: "folders: cannot write releases\n12 released\n12 sent\n",
+        ..RUN
+    };
+    let later = Run {
+        acts: &[
+            full(1, true),
+            laid(1, "12.tape", FLOOD),
+            full(10, false),
+            laid(20, "stop", &[]),
+        ],
+        folders: "wrote 12.tape 7\nwrote 12.galley 25\nsent 12.tape\n",
+        ..kept
+    };
+    assert!(rt; is_true(rt.alloc(), &kept));
+    assert!(rt; is_true(rt.alloc(), &later));
+    Ok(())
+}
+
+/// A ballot that was given up is begun again after a pause; the run goes on until the network fails.
+#[test]
+fn alone(rt: HostRuntime) -> Result<(), Fail> {
+    let run = Run {
+        members: 3,
+        acts: &[laid(1, "12.seek", &[])],
+        turns: 8,
+        end: End::Socket,
+        err: "12 began 1.1\n12 began 2.1\nsocket: receive failed\n",
+        ..RUN
+    };
+    assert!(rt; is_true(rt.alloc(), &run));
+    Ok(())
+}

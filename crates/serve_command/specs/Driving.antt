@@ -1,0 +1,30 @@
+-- What a step does to a station on a wire: to the station its own step, and to the wire that its datagram came.
+use Rattle.std.specs.Prelude.{◌≡◌, ℕ, List, [], Option, Result, Ok, Err}
+use Rattle.protocol.specs.Refusals.{Call, Receiving}
+use Rattle.saved_rows.specs.declared.rows.Rows.{Ghosts}
+use Rattle.station.specs.declared.answer.Answer.{Answer}
+use Rattle.refusals.specs.declared.refusal.StepRefusal.{StepRefusal}
+use Rattle.station.specs.declared.station.Station.{Station}
+use Rattle.station.specs.Steps.{stopped_after}
+use Rattle.wire.specs.Passing.{Passed, Passes}
+use Rattle.serve_command.specs.Serving.{IsStep, coming}
+use Rattle.serve_command.specs.declared.driving.Outcome.{Outcome}
+use Rattle.serve_command.specs.declared.driving.Outcome.TheVariants.{Nothing, Failed, Done, Refused}
+
+-- the station took the step of this call with this answer, and what passed over the wire is what came for it
+pub record Drives {R N : Type 0} (g : Ghosts R) (passed : N → Option (List Passed)) (call : Call) (old new : Station R) (was is : N) (answer : Result Answer StepRefusal) : Type 0 where
+  pub step : g.kept new.rows → IsStep g call old new answer
+  pub passes : Passes (passed was) (passed is) (coming call)
+  pub stops : new.stopped ≡ stopped_after old.stopped answer
+
+-- nothing came: the station stayed, and nothing passed over the wire
+pub record Rests {R N : Type 0} (passed : N → Option (List Passed)) (old new : Station R) (was is : N) : Type 0 where
+  pub same : new ≡ old
+  pub passes : Passes (passed was) (passed is) []
+
+-- one datagram at most came, and was taken in by one step at this moment
+abbrev pub IsTakenIn : {R N : Type 0} → Ghosts R → (N → Option (List Passed)) → ℕ → Station R → Station R → N → N → Outcome → Type 0
+IsTakenIn g passed now old new was is Nothing = Rests passed old new was is
+IsTakenIn g passed now old new was is Failed = Rests passed old new was is
+IsTakenIn g passed now old new was is (Done answer) = (bytes : List ℕ) × Drives g passed (Receiving bytes now) old new was is (Ok answer)
+IsTakenIn g passed now old new was is (Refused refusal) = (bytes : List ℕ) × Drives g passed (Receiving bytes now) old new was is (Err refusal)

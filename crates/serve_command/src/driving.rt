@@ -1,0 +1,73 @@
+//! The steps that a station on a wire is driven by, whoever takes what it releases.
+
+ghost use Rattle.std.specs.Prelude.{◌≡◌, false, OnOk, IfErr};
+ghost use Rattle.station.specs.Steps.{tears};
+ghost use Rattle.wire.specs.Passing.{Passes};
+ghost use Rattle.serve_command.specs.Driving.{IsTakenIn};
+ghost use Rattle.serve_command.specs.Serving.{sending};
+ghost use Rattle.command_ends.specs.Ends.{end_of, end_of_step};
+
+use crate::handing_on::send_all;
+use command_ends::Fault;
+use saved_rows::Rows;
+use station::{Answer, Station, StepRefusal};
+use std::io::Write;
+use wire::{Arrival, Wire};
+
+/// The room for one datagram. The longest that is a packet has a byte less, so one that was cut is none.
+pub const BUFFER: usize = 12_314;
+
+/// What came of waiting for a datagram.
+#[derive(Drop)]
+pub enum Outcome {
+    /// None came.
+    Nothing,
+    /// The network failed.
+    Failed,
+    /// One came, and the station took it in.
+    Done(Answer),
+    /// One came, and the station refused it.
+    Refused(StepRefusal),
+}
+
+/// Takes in what comes, one datagram at most, at a moment in milliseconds. What the station hands out is not sent yet.
+pub fn take_datagram<R: Rows, N: Wire>(
+    station: &mut Station<R>,
+    wire: &mut N,
+    now: u64,
+    buffer: &mut [u8],
+) -> Outcome
+    ensures was_kept { R.kept station.new.rows → R.kept station.old.rows }
+    ensures takes { IsTakenIn R.Rows N.passed now station.old station.new wire.old wire.new result }
+{
+    let length = match wire.receive(buffer) {
+        Arrival::Nothing => return Outcome::Nothing,
+        Arrival::Datagram { length } => length,
+        Arrival::Failed => return Outcome::Failed,
+    };
+    match station.receive(&buffer[..length], now) {
+        Ok(answer) => Outcome::Done(answer),
+        Err(refusal) => Outcome::Refused(refusal),
+    }
+}
+
+/// Sends what a step of the station hands out, each datagram once, in order. `err` has those that the wire does not take.
+pub fn send_answer<N: Wire, E: Write>(answer: &Answer, wire: &mut N, err: &mut E)
+    ensures { Passes (N.passed wire.old) (N.passed wire.new) (sending answer.now.out.items) }
+{
+    send_all(answer.out.as_slice(), wire, err);
+}
+
+/// Passes over a refusal after which the station goes on as it was; any other is the fault that it has stopped for.
+pub fn pass_over(refusal: StepRefusal) -> Result<(), Fault<'static>>
+    ensures goes_on { OnOk result (tears refusal ≡ false) }
+    ensures takes_steps { OnOk result (¬ (refusal ≡ StepRefusal.Stopped)) }
+    ensures ends { IfErr result (λ fault. end_of fault ≡ end_of_step refusal) }
+{
+    match refusal {
+        StepRefusal::Stopped | StepRefusal::Store(_) | StepRefusal::OutOfMemory => Err(
+            Fault::of_step(refusal),
+        ),
+        _ => Ok(()),
+    }
+}
