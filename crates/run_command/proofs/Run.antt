@@ -18,6 +18,9 @@ use Rattle.folders.specs.Written.{File, Writes}
 use Rattle.serve_command.specs.Serving.{Event, asked, took, coming, sending, going, passing, IsStep, Takes, HasCause, ended}
 use Rattle.serve_command.specs.Driving.{Rests}
 use Rattle.serve_command.proofs.Served.{ends_badly, Passes-nil, Passes-then, takes_then, cause_then, refused_cause}
+use Rattle.run_command.specs.Asking.{call_of}
+use Rattle.run_command.specs.declared.asked.Wish.{Wish}
+use Rattle.run_command.specs.declared.asked.Wish.TheVariants.{Offered, Sought}
 use Rattle.run_command.specs.Filing.{files_of, answer_files, filing}
 use Rattle.run_command.specs.Keeping.{Keeps, KeepsFront}
 use Rattle.run_command.specs.Running.{Plant, plant, Known, Runs}
@@ -46,6 +49,17 @@ keeps_written None b f q w = tt
 keeps_written (Some x) None f q w = absurd w
 keeps_written (Some x) (Some y) f q w =
     ap (λ (l : List File). l ++ q) w ∙ append_assoc x (f ∷ []) q ∙ ap (λ (l : List File). x ++ (f ∷ l)) (sym (append-nil q))
+
+-- these wait behind the others, and then some of all were written
+pub keeps_waited : (a b : Option (List File)) (q r fs : List File) → Keeps a b (q ++ fs) r [] → Keeps a b q r fs
+keeps_waited None b q r fs k = tt
+keeps_waited (Some x) None q r fs k = absurd k
+keeps_waited (Some x) (Some y) q r fs k = k ∙ ap (λ (l : List File). x ++ l) (append-nil (q ++ fs))
+
+-- nothing is called on the wire for what a file asks
+pub asked_passes : (wish : Wish) (n now : ℕ) (a : Option (List Passed)) → Passes a a (coming (call_of wish n now))
+asked_passes (Offered entry) n now a = Passes-nil a
+asked_passes Sought n now a = Passes-nil a
 
 -- what is written and what waits is a front
 pub front_of : (a b : Option (List File)) (q r fs : List File) → Keeps a b q r fs → KeepsFront a b q fs
@@ -115,6 +129,13 @@ module _ {R N F : Type 0} (k : Known R N F) where
     cause = cause;
   }
 
+  -- where there is no memory for the files of a release, nothing is written
+  pub unwritten : {A : Type 0} (old new : Plant R N F) (a : Answer) (r : Result A Fault) → OnErr r (k.written new.folders ≡ k.written old.folders)
+      → OnErr r (KeepsFront (k.written old.folders) (k.written new.folders) old.waits (files_of a.release))
+  unwritten old new a (Ok u) same = tt
+  unwritten old new a (Err f) same =
+      subst (λ (x : Option (List File)). KeepsFront (k.written old.folders) x old.waits (files_of a.release)) (sym same) (front_none (k.written old.folders) old.waits (files_of a.release))
+
   -- a step that was done: its files wait or are written, or there was no memory for them
   pub handed : {A : Type 0} (call : Call) (a : Answer) (old new : Plant R N F) (mid : N) (r : Result A Fault)
       → (k.rows.kept new.station.rows → IsStep k.rows call old.station new.station (Ok a))
@@ -175,3 +196,7 @@ module _ {R N F : Type 0} (k : Known R N F) where
   -- the same end, as it is answered
   pub answered : (old new : Plant R N F) (end same : End) → same ≡ end → Runs k old new end → Runs k old new same
   answered old new end same is a = subst (λ (e : End). Runs k old new e) (sym is) a
+
+  -- a run that ended well has not stopped its station
+  pub stays : (old new : Plant R N F) (end : End) → end ≡ ends.Done → Runs k old new end → new.station.stopped ≡ old.station.stopped
+  stays old new end is a = subst (λ (e : End). HasCause a.log old.station.stopped new.station.stopped e) is a.cause
