@@ -7,7 +7,7 @@ ghost use Rattle.run_command.specs.Running.{known, plant, Runs};
 
 use crate::asked::{Asked, Wish};
 use crate::desk::Desk;
-use crate::naming::{Kind, Named, has_stop, is_left, named};
+use crate::naming::{Kind, Request, has_stop, is_left, named};
 use crate::pauses::LAST_PAUSE;
 use crate::settling::refuse;
 use crate::stepping::ask_at;
@@ -90,7 +90,7 @@ fn read_asked<F: Folders>(
 ) -> Result<Result<Asked, Reason>, FolderFault>
     ensures { F.written folders.new ≡ F.written folders.old }
 {
-    let Some(Named { number, kind }) = named(alloc, file.name.as_str())? else {
+    let Some(Request { number, kind }) = named(alloc, file.name.as_str())? else {
         return Ok(Err(Reason::Name));
     };
     match read_still(alloc, folders, file.name.as_str(), kind, file.stamp)? {

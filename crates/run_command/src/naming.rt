@@ -24,7 +24,7 @@ pub(crate) enum Kind {
 
 /// A number and what is asked for it.
 #[derive(Clone, Copy)]
-pub(crate) struct Named {
+pub(crate) struct Request {
     pub(crate) number: Number,
     pub(crate) kind: Kind,
 }
@@ -66,7 +66,7 @@ fn number_before(name: &str, kind: Kind) -> Option<Number> {
 }
 
 /// What a name asks for, if it ends as one of this kind: it has to be the very name of the number's file.
-fn named_as(alloc: Global, name: &str, kind: Kind) -> Result<Option<Named>, AllocError>
+fn named_as(alloc: Global, name: &str, kind: Kind) -> Result<Option<Request>, AllocError>
     ensures { IfOk result (λ named. IfSome named (λ n. name.now ≡ decimal n.number ++ kind_word n.kind)) }
 {
     let Some(number) = number_before(name, kind) else {
@@ -74,14 +74,14 @@ fn named_as(alloc: Global, name: &str, kind: Kind) -> Result<Option<Named>, Allo
     };
     let own = file_name(alloc, number.get(), kind_word(kind))?;
     if own.as_str() == name {
-        Ok(Some(Named { number, kind }))
+        Ok(Some(Request { number, kind }))
     } else {
         Ok(None)
     }
 }
 
 /// What a name asks for; `None` where it asks for nothing that there is.
-pub(crate) fn named(alloc: Global, name: &str) -> Result<Option<Named>, AllocError>
+pub(crate) fn named(alloc: Global, name: &str) -> Result<Option<Request>, AllocError>
     ensures { IfOk result (λ named. IfSome named (λ n. name.now ≡ decimal n.number ++ kind_word n.kind)) }
 {
     for kind in [Kind::Tape, Kind::Withdraw, Kind::Seek] {
