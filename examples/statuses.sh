@@ -40,8 +40,17 @@ Usage: circuitd <COMMAND>
 For more information, try '--help'.
 """
 
+ALONE = """error: the following required arguments were not provided:
+  --create
+
+Usage: circuitd run --create --layout <L> <CONFIG>
+
+For more information, try '--help'.
+"""
+
 # the words, the input, the status, the output and the faults
 RUNS = [
+    ("--version", "", 0, "circuitd 0.2.0\n", ""),
     ("answer 7 2", "544e0101000701020000000c0000000101\n", 0, "544e0102000702010000000c000000010100\n", ""),
     ("answer 7 2 --wire 2", WITHDRAWAL, 0, WITHDRAWN, ""),
     ("check codes.toml widths.toml flood.tape", "", 0, GALLEY, ""),
@@ -55,6 +64,7 @@ RUNS = [
     ("sing", "", 2, "", UNKNOWN),
     ("serve one.toml --turns 1 --number 12", "", 2, "", "usage: --number and --tape go together\n"),
     ("serve one.toml --turns 1 --layout 2", "", 2, "", "usage: --layout goes with --create\n"),
+    ("run one.toml --layout 2", "", 2, "", ALONE),
     ("serve one.toml --turns 1 --create", "", 3, "", "store: refused\n"),
     ("rows flood.tape", "", 3, "", "store: refused\n"),
     ("rows no.db", "", 3, "", "store: refused\n"),

@@ -34,10 +34,21 @@ pub enum Asked<'a> {
     },
     /// To serve a station.
     Serve(Plan<'a>),
+    /// To run the station of the configuration at a path until it is stopped.
+    Run {
+        config: &'a str,
+        /// The layout in which the tables of its saved rows are made first, by the version that it has rows of, where they
+        /// are to be made.
+        create: Option<Version>,
+        /// Whether faults alone are told.
+        quiet: bool,
+    },
     /// To rehearse a circuit by a script.
     Rehearse {
         paths: ScriptPaths<'a>,
     },
+    /// To print which version of the program this is.
+    Version,
 }
 
 /// What the command line of `serve` asks for.

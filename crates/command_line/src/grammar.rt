@@ -1,5 +1,6 @@
 //! What `clap` is told: the commands, their arguments, and the help of each.
 
+use crate::version::VERSION;
 use clap::builder::ValueParser;
 use clap::{Arg, ArgAction, Command};
 use std::alloc::{AllocError, Global};
@@ -260,6 +261,47 @@ fn serve_command<'a>(alloc: Global) -> Result<Command<'a>, AllocError> {
     with_beginning(alloc, command)
 }
 
+const RUN_EXAMPLE: &str = "\
+Example: the first start of a station, and then each later one:
+
+  $ circuitd run station1.toml --create
+  $ circuitd run station1.toml
+
+Where the configuration names folders, the file `12.tape` among the offers is offered under number 12,
+`14.withdraw` withdraws number 14, and `13.seek` asks for number 13. What the circuit has agreed on is put
+among the releases: `12.tape` and `12.galley`, or `14.void`. The file `stop` among the offers ends the
+station, and is taken away at its next start.";
+
+/// Adds whether a station makes its row file, and in which layout.
+fn with_create<'a>(alloc: Global, command: Command<'a>) -> Result<Command<'a>, AllocError> {
+    let help = "Make the row file: for the first start of a station, and never again";
+    let command = with_flag(alloc, command, "create", help)?;
+    let help =
+        "The layout of the row file that is made: in layout 2 a number may be withdrawn; goes with --create";
+    let layout = Arg::new(alloc, "layout")
+        .long("layout")
+        .value_name("L")
+        .value_parser(ValueParser::Names(VERSIONS))
+        .default_value("1")
+        .requires_arg("create")?
+        .help(help);
+    command.arg(layout)
+}
+
+fn run_command<'a>(alloc: Global) -> Result<Command<'a>, AllocError> {
+    let command = Command::new(alloc, "run")
+        .about(
+            "Runs this plant's station until it is stopped: stories are offered and released as files",
+        )
+        .after_help(RUN_EXAMPLE);
+    let help =
+        "The station's configuration: its circuit, its member, its files and folders, and the addresses of all stations";
+    let command = with_word(alloc, command, "CONFIG", help)?;
+    let command = with_create(alloc, command)?;
+    let help = "Tell faults alone, and not what becomes of each number";
+    with_flag(alloc, command, "quiet", help)
+}
+
 const REHEARSE_EXAMPLE: &str = "\
 Example: the first of three members offers a story, and its first request comes to member 2.
 
@@ -308,6 +350,7 @@ fn with_command<'a>(
 /// All commands of the program: those over tapes, and those over stations.
 pub(crate) fn grammar<'a>(alloc: Global) -> Result<Command<'a>, AllocError> {
     let program = Command::new(alloc, "circuitd")
+        .version(VERSION)
         .about("A wire circuit whose numbers never mean two stories")
         .subcommand_required(true);
     let program = with_command(program, answer_command(alloc))?;
@@ -316,5 +359,6 @@ pub(crate) fn grammar<'a>(alloc: Global) -> Result<Command<'a>, AllocError> {
     let program = with_command(program, rows_command(alloc))?;
     let program = with_command(program, upgrade_command(alloc))?;
     let program = with_command(program, serve_command(alloc))?;
+    let program = with_command(program, run_command(alloc))?;
     with_command(program, rehearse_command(alloc))
 }

@@ -4,6 +4,8 @@
 mod asked;
 mod grammar;
 mod parsing;
+mod version;
 
 pub use asked::{Asked, Plan};
 pub use parsing::parse;
+pub use version::print_version;

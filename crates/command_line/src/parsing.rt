@@ -82,6 +82,18 @@ fn serve_of<'a>(matches: &ArgMatches<'a>) -> Option<Asked<'a>> {
     Some(Asked::Serve(plan))
 }
 
+fn run_of<'a>(matches: &ArgMatches<'a>) -> Option<Asked<'a>> {
+    let config = matches.get_str("CONFIG")?;
+    let layout = version_of(matches, "layout")?;
+    let create = matches.get_flag("create").then_some(layout);
+    let quiet = matches.get_flag("quiet");
+    Some(Asked::Run {
+        config,
+        create,
+        quiet,
+    })
+}
+
 fn rehearse_of<'a>(matches: &ArgMatches<'a>) -> Option<Asked<'a>> {
     let paths = ScriptPaths {
         table: matches.get_str("TABLE")?,
@@ -99,6 +111,7 @@ fn asked_of<'a>(matches: &ArgMatches<'a>) -> Option<Asked<'a>> {
         Some(("rows", given)) => rows_of(given),
         Some(("upgrade", given)) => upgrade_of(given),
         Some(("serve", given)) => serve_of(given),
+        Some(("run", given)) => run_of(given),
         Some(("rehearse", given)) => rehearse_of(given),
         _ => None,
     }
@@ -123,7 +136,7 @@ fn tell<W: Write, E: Write>(error: &Error, out: &mut W, err: &mut E) -> End
 /// The command that the words give; the first word is the program's own name.
 ///
 /// Help is written to `out` and mistakes to `err`, as `clap` words them, and end as usage. Where memory is refused, that
-/// fault is told and is the end.
+/// fault is told and is the end. To ask for the version is a command too, and nothing is written of it yet.
 pub fn parse<'a, W: Write, E: Write>(
     alloc: Global,
     words: &'a [String],
@@ -137,6 +150,7 @@ pub fn parse<'a, W: Write, E: Write>(
             Some(asked) => Ok(asked),
             None => Err(End::Usage),
         },
+        Err(error) if error.kind() == ErrorKind::DisplayVersion => Ok(Asked::Version),
         Err(error) => Err(tell(&error, out, err)),
     }
 }

@@ -16,11 +16,13 @@ Commands:
   rows      Lists what a station saved: per number its promise, its vote and the frames of that, in hex
   upgrade   Takes what a station saved over to layout 2: it speaks version 2 then, and a number may be withdrawn
   serve     Runs this plant's station on the wire, and prints each story that the circuit has agreed on
+  run       Runs this plant's station until it is stopped: stories are offered and released as files
   rehearse  Rehearses a whole circuit by a script: who offers, what is delivered when, who starts again
   help      Print this message or the help of the given subcommand(s)
 
 Options:
-  -h, --help  Print help
+  -h, --help     Print help
+  -V, --version  Print version
 ";
 
 const ANSWER: &str = "\
@@ -158,6 +160,31 @@ Later a plant that missed the story asks the others for it:
   $ circuitd serve station3.toml --turns 1200 --seek 12
 ";
 
+const RUN: &str = "\
+Runs this plant's station until it is stopped: stories are offered and released as files
+
+Usage: circuitd run [OPTIONS] <CONFIG>
+
+Arguments:
+  <CONFIG>  The station's configuration: its circuit, its member, its files and folders, and the addresses of all stations
+
+Options:
+      --create      Make the row file: for the first start of a station, and never again
+      --layout <L>  The layout of the row file that is made: in layout 2 a number may be withdrawn; goes with --create [default: 1] [possible values: 1, 2]
+      --quiet       Tell faults alone, and not what becomes of each number
+  -h, --help        Print help
+
+Example: the first start of a station, and then each later one:
+
+  $ circuitd run station1.toml --create
+  $ circuitd run station1.toml
+
+Where the configuration names folders, the file `12.tape` among the offers is offered under number 12,
+`14.withdraw` withdraws number 14, and `13.seek` asks for number 13. What the circuit has agreed on is put
+among the releases: `12.tape` and `12.galley`, or `14.void`. The file `stop` among the offers ends the
+station, and is taken away at its next start.
+";
+
 const REHEARSE: &str = "\
 Rehearses a whole circuit by a script: who offers, what is delivered when, who starts again
 
@@ -198,6 +225,7 @@ const HELPS: &[(&str, &str)] = &[
     ("circuitd rows --help", ROWS),
     ("circuitd upgrade --help", UPGRADE),
     ("circuitd serve --help", SERVE),
+    ("circuitd run --help", RUN),
     ("circuitd rehearse --help", REHEARSE),
 ];
 

@@ -1,7 +1,8 @@
 //! Command lines that are taken.
 
 use crate::words::words_of;
-use command_line::{Asked, Plan, parse};
+use command_ends::End;
+use command_line::{Asked, Plan, parse, print_version};
 use tape_frames::Version;
 
 /// One turn of a station that is there already, and nothing to begin with.
@@ -107,4 +108,75 @@ fn versions_of_answer(rt: HostRuntime) {
     for (line, wire) in ANSWERS {
         assert!(rt; is_answer(&rt, *line, *wire), "{line}");
     }
+}
+
+/// Lines that ask to run a station, the layout in which its rows are made, if they are, and whether faults alone are told.
+const RUNS: &[(&str, Option<Version>, bool)] = &[
+    ("circuitd run station.toml", None, false),
+    (
+        "circuitd run station.toml --create",
+        Some(Version::One),
+        false,
+    ),
+    (
+        "circuitd run --create --layout=2 station.toml",
+        Some(Version::Two),
+        false,
+    ),
+    (
+        "circuitd run station.toml --quiet --layout 1 --create",
+        Some(Version::One),
+        true,
+    ),
+    ("circuitd run --quiet station.toml", None, true),
+];
+
+/// Whether a line asks to run the station of `station.toml` so.
+fn is_run(rt: &HostRuntime, line: &str, made: Option<Version>, faults_alone: bool) -> bool {
+    let Some(words) = words_of(rt.alloc(), line) else {
+        return false;
+    };
+    let mut told = Vec::new(rt.alloc());
+    let mut mistakes = Vec::new(rt.alloc());
+    match parse(rt.alloc(), &words, &mut told, &mut mistakes) {
+        Ok(Asked::Run {
+            config,
+            create,
+            quiet,
+        }) => config == "station.toml" && create == made && quiet == faults_alone,
+        _ => false,
+    }
+}
+
+#[test]
+fn plans_of_run(rt: HostRuntime) {
+    for (line, made, faults_alone) in RUNS {
+        assert!(rt; is_run(&rt, *line, *made, *faults_alone), "{line}");
+    }
+}
+
+/// Whether a line asks for the version, and nothing is told before it is printed.
+fn is_version(rt: &HostRuntime, line: &str) -> bool {
+    let Some(words) = words_of(rt.alloc(), line) else {
+        return false;
+    };
+    let mut told = Vec::new(rt.alloc());
+    let mut mistakes = Vec::new(rt.alloc());
+    let asked = parse(rt.alloc(), &words, &mut told, &mut mistakes);
+    matches!(asked, Ok(Asked::Version)) && told.is_empty() && mistakes.is_empty()
+}
+
+/// Whether the version is printed, and nothing else is.
+fn prints_version(rt: &HostRuntime) -> bool {
+    let mut out = Vec::new(rt.alloc());
+    let mut err = Vec::new(rt.alloc());
+    let end = print_version(&mut out, &mut err);
+    end == End::Done && out.as_slice() == b"circuitd 0.2.0\n" && err.is_empty()
+}
+
+#[test]
+fn version_of_the_program(rt: HostRuntime) {
+    assert!(rt; is_version(&rt, "circuitd --version"));
+    assert!(rt; is_version(&rt, "circuitd -V"));
+    assert!(rt; prints_version(&rt));
 }

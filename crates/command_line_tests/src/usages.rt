@@ -8,7 +8,7 @@ use command_line::parse;
 const USAGES: &[(&str, &str, &str)] = &[
     (
         "circuitd",
-        "'circuitd' requires a subcommand but one was not provided\n  [subcommands: answer, check, draw, rows, upgrade, serve, rehearse, help]",
+        "'circuitd' requires a subcommand but one was not provided\n  [subcommands: answer, check, draw, rows, upgrade, serve, run, rehearse, help]",
         "<COMMAND>",
     ),
     (
@@ -180,6 +180,31 @@ const USAGES: &[(&str, &str, &str)] = &[
         "circuitd serve station.toml --turns 1 --now",
         "unexpected argument '--now' found\n\n  tip: to pass '--now' as a value, use '-- --now'",
         "serve --turns <T> <CONFIG>",
+    ),
+    (
+        "circuitd run",
+        "the following required arguments were not provided:\n  <CONFIG>",
+        "run <CONFIG>",
+    ),
+    (
+        "circuitd run station.toml --layout 2",
+        "the following required arguments were not provided:\n  --create",
+        "run --create --layout <L> <CONFIG>",
+    ),
+    (
+        "circuitd run station.toml --create --layout 3",
+        "invalid value '3' for '--layout <L>'\n  [possible values: 1, 2]",
+        "",
+    ),
+    (
+        "circuitd run one.toml two.toml",
+        "unexpected argument 'two.toml' found",
+        "run [OPTIONS] <CONFIG>",
+    ),
+    (
+        "circuitd run station.toml --turns 1",
+        "unexpected argument '--turns' found\n\n  tip: to pass '--turns' as a value, use '-- --turns'",
+        "run [OPTIONS] <CONFIG>",
     ),
 ];
 

@@ -1,8 +1,8 @@
 -- The keys of a configuration, as a TOML document has them.
 use Rattle.std.specs.Prelude.{ℕ, zero, suc, ℤ, pos, negsuc, List, Bool, codes, Option, Some, None, Result, Ok, Err, nat_le, ◌&&◌, if◌then◌else◌}
-use Rattle.toml.specs.Data.{Data, Items, no_items, item, Members, get_member, as_integer, as_str, as_array}
+use Rattle.toml.specs.Data.{Data, Items, no_items, item, Members, get_member, as_integer, as_str, as_array, as_table}
 use Rattle.configuration.specs.declared.fault.ConfigKey.{ConfigKey}
-use Rattle.configuration.specs.declared.fault.ConfigKey.TheVariants.{Circuit, Member, Table, Widths, Rows, Station}
+use Rattle.configuration.specs.declared.fault.ConfigKey.TheVariants.{Circuit, Member, Table, Widths, Rows, Folders, Offers, Releases, Station}
 use Rattle.configuration.specs.declared.fault.ConfigFault.{ConfigFault}
 use Rattle.configuration.specs.declared.fault.ConfigFault.TheVariants.{Missing, WrongType, OutOfRange}
 
@@ -33,6 +33,9 @@ name_of Member = codes "member"
 name_of Table = codes "table"
 name_of Widths = codes "widths"
 name_of Rows = codes "rows"
+name_of Folders = codes "folders"
+name_of Offers = codes "offers"
+name_of Releases = codes "releases"
 name_of Station = codes "station"
 
 -- the value at a key
@@ -65,6 +68,30 @@ paths_in file = do
   widths ← text_at Widths file
   rows ← text_at Rows file
   Ok (record { table = table; widths = widths; rows = rows })
+
+-- the paths of two folders
+pub record FolderPaths : Type 0 where
+  pub offers : List ℕ
+  pub releases : List ℕ
+
+-- the two paths in a table
+unfoldable pub folder_paths_in : Members → Result FolderPaths ConfigFault
+folder_paths_in keys = do
+  offers ← text_at Offers keys
+  releases ← text_at Releases keys
+  Ok (record { offers = offers; releases = releases })
+
+-- the folders of the value at their key, where there is one: a table
+abbrev pub folders_of : Option Data → Result (Option FolderPaths) ConfigFault
+folders_of None = Ok None
+folders_of (Some value) = do
+  keys ← wanted (WrongType Folders) (as_table value)
+  paths ← folder_paths_in keys
+  Ok (Some paths)
+
+-- the folders, where there are such
+unfoldable pub folders_in : Members → Result (Option FolderPaths) ConfigFault
+folders_in file = folders_of (get_member (name_of Folders) file)
 
 -- how many items there are
 abbrev pub count : Items → ℕ

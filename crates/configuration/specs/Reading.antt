@@ -1,22 +1,28 @@
 -- A configuration as a TOML document gives it, or its first fault.
-use Rattle.std.specs.Prelude.{ℕ, List, length, string_bytes, Option, Some, None, Result, Ok, Err, nat_le}
+use Rattle.std.specs.Prelude.{ℕ, List, length, string_bytes, Option, Some, None, option_map, Result, Ok, Err, nat_le}
 use Rattle.toml.specs.Data.{Members}
 use Rattle.wire.specs.declared.address.Address.{Address}
-use Rattle.configuration.specs.Keys.{◌>>=◌, holds, number_at, paths_in, entries_at}
+use Rattle.configuration.specs.Keys.{◌>>=◌, holds, number_at, FolderPaths, paths_in, folders_in, entries_at}
 use Rattle.configuration.specs.Stations.{read_stations}
 use Rattle.configuration.specs.declared.config.Config.{Config}
+use Rattle.configuration.specs.declared.config.Folders.{Folders}
 use Rattle.configuration.specs.declared.fault.ConfigKey.TheVariants.{Circuit, Member}
 use Rattle.configuration.specs.declared.fault.ConfigFault.{ConfigFault}
 use Rattle.configuration.specs.declared.fault.ConfigFault.TheVariants.{NotToml, OutOfRange}
 
--- what a configuration says: the circuit, the own member, the paths of three files, and the stations in order of their members
+-- what a configuration says: the circuit, the own member, the paths of three files and, where it names them, of two folders, and the stations in order of their members
 pub record ConfigFile : Type 0 where
   pub circuit : ℕ
   pub member : ℕ
   pub table : List ℕ
   pub widths : List ℕ
   pub rows : List ℕ
+  pub folders : Option FolderPaths
   pub stations : List Address
+
+-- the paths of these folders
+abbrev pub paths_of : Folders → FolderPaths
+paths_of folders = record { offers = string_bytes folders.offers; releases = string_bytes folders.releases }
 
 -- what this configuration says
 abbrev pub file_of : Config → ConfigFile
@@ -26,6 +32,7 @@ file_of config = record {
   table = string_bytes config.table;
   widths = string_bytes config.widths;
   rows = string_bytes config.rows;
+  folders = option_map paths_of config.folders;
   stations = config.stations.items;
 }
 
@@ -35,10 +42,11 @@ read_file file = do
   circuit ← number_at Circuit 0 65535 file
   member ← number_at Member 1 15 file
   paths ← paths_in file
+  folders ← folders_in file
   entries ← entries_at file
   stations ← read_stations entries
   own ← holds (OutOfRange Member) (nat_le member (length stations))
-  Ok (record { circuit = circuit; member = member; table = paths.table; widths = paths.widths; rows = paths.rows; stations = stations })
+  Ok (record { circuit = circuit; member = member; table = paths.table; widths = paths.widths; rows = paths.rows; folders = folders; stations = stations })
 
 -- the configuration of a document that was read; where none was read, it is not TOML
 unfoldable pub read_config : Option Members → Result ConfigFile ConfigFault

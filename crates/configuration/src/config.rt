@@ -1,19 +1,28 @@
 //! The configuration of a station, read from TOML.
 
-ghost use Rattle.std.specs.Prelude.{◌≡◌, ◌⊎◌, Some, None, Ok, Err, IfOk, IfErr};
+ghost use Rattle.std.specs.Prelude.{◌≡◌, ◌⊎◌, Some, None, Ok, Err, IfOk, IfErr, option_map};
 ghost use Rattle.toml.specs.Parse.{parse_document};
 ghost use Rattle.toml.specs.View.{table_view};
-ghost use Rattle.configuration.specs.Reading.{file_of, read_file, read_config};
+ghost use Rattle.configuration.specs.Reading.{file_of, paths_of, read_file, read_config};
 ghost use Rattle.configuration.specs.Stations.{IsCircuit};
 ghost use Rattle.configuration.specs.declared.fault.ConfigFault.TheVariants.{NotToml, OutOfMemory};
 
 use crate::fault::{ConfigFault, ConfigKey};
-use crate::keys::{Paths, circuit_at, entries_at, member_at, paths_in};
+use crate::keys::{FolderPaths, Paths, circuit_at, entries_at, folders_in, member_at, paths_in};
 use crate::stations::read_stations;
 use ballots::Member;
 use std::alloc::{AllocError, Global};
 use toml::Table;
 use wire::Address;
+
+/// The folders that a station works with.
+#[derive(Drop)]
+pub struct Folders {
+    /// The path of the folder in which stories are handed over to it.
+    pub offers: String,
+    /// The path of the folder in which it puts what the circuit has agreed on.
+    pub releases: String,
+}
 
 /// The configuration of one station of a circuit.
 #[derive(Drop)]
@@ -26,6 +35,8 @@ pub struct Config {
     pub table: String,
     pub widths: String,
     pub rows: String,
+    /// Its folders, where it has such.
+    pub folders: Option<Folders>,
     /// Where each member's station listens, in order of members: theirs are 1 to the number of stations.
     pub stations: Vec<Address>,
 }
@@ -44,15 +55,35 @@ fn document_of(alloc: Global, text: &str) -> Result<Table, ConfigFault>
     })
 }
 
+/// The folders at these paths.
+fn folders_of(alloc: Global, paths: &FolderPaths<'_>) -> Result<Folders, AllocError>
+    ensures { IfOk result (λ f. paths_of f ≡ record { offers = paths.now.offers.now; releases = paths.now.releases.now }) }
+{
+    let offers = paths.offers.to_string(alloc)?;
+    let releases = paths.releases.to_string(alloc)?;
+    Ok(Folders { offers, releases })
+}
+
+/// The folders at these paths, where there are such.
+fn folders_at(alloc: Global, paths: &Option<FolderPaths<'_>>) -> Result<Option<Folders>, AllocError>
+    ensures { IfOk result (λ f. option_map paths_of f ≡ option_map (λ p. record { offers = p.offers.now; releases = p.releases.now }) paths.now) }
+{
+    match paths {
+        Some(paths) => Ok(Some(folders_of(alloc, paths)?)),
+        None => Ok(None),
+    }
+}
+
 /// The configuration of these.
 fn config_of(
     alloc: Global,
     circuit: u16,
     member: Member,
     paths: &Paths<'_>,
+    folders: Option<Folders>,
     stations: Vec<Address>,
 ) -> Result<Config, AllocError>
-    ensures value { IfOk result (λ c. file_of c ≡ record { circuit = circuit; member = member; table = paths.now.table.now; widths = paths.now.widths.now; rows = paths.now.rows.now; stations = stations.items }) }
+    ensures value { IfOk result (λ c. file_of c ≡ record { circuit = circuit; member = member; table = paths.now.table.now; widths = paths.now.widths.now; rows = paths.now.rows.now; folders = option_map paths_of folders; stations = stations.items }) }
     ensures member { IfOk result (λ c. c.member ≡ member) }
     ensures stations { IfOk result (λ c. c.stations ≡ stations) }
 {
@@ -65,6 +96,7 @@ fn config_of(
         table,
         widths,
         rows,
+        folders,
         stations,
     })
 }
@@ -79,12 +111,14 @@ fn read_file(alloc: Global, file: &Table) -> Result<Config, ConfigFault>
     let circuit = circuit_at(file)?;
     let member = member_at(file)?;
     let paths = paths_in(file)?;
+    let folders = folders_in(file)?;
     let entries = entries_at(file)?;
     let stations = read_stations(alloc, entries)?;
     if usize::from(member.get()) > stations.len() {
         return Err(ConfigFault::OutOfRange(ConfigKey::Member));
     }
-    Ok(config_of(alloc, circuit, member, &paths, stations)?)
+    let folders = folders_at(alloc, &folders)?;
+    Ok(config_of(alloc, circuit, member, &paths, folders, stations)?)
 }
 
 impl Config {

@@ -17,6 +17,11 @@ pub enum ConfigKey {
     Table,
     Widths,
     Rows,
+    /// The table of the folders, which may be absent.
+    Folders,
+    /// The keys of that table.
+    Offers,
+    Releases,
     Station,
 }
 
@@ -31,6 +36,9 @@ impl ConfigKey {
             ConfigKey::Table => "table",
             ConfigKey::Widths => "widths",
             ConfigKey::Rows => "rows",
+            ConfigKey::Folders => "folders",
+            ConfigKey::Offers => "offers",
+            ConfigKey::Releases => "releases",
             ConfigKey::Station => "station",
         }
     }

@@ -3,7 +3,7 @@
 ghost use Rattle.std.specs.Prelude.{◌≡◌, ◌≤◌, IfSome, IfOk, MatchResult, Ok, Err, option_map, vec_len};
 ghost use Rattle.toml.specs.Data.{get_member};
 ghost use Rattle.toml.specs.View.{view, table_view, array_view};
-ghost use Rattle.configuration.specs.Keys.{in_range, value_at, number_at, text_at, paths_in, entries_at};
+ghost use Rattle.configuration.specs.Keys.{in_range, value_at, number_at, text_at, paths_in, folder_paths_in, folders_in, entries_at};
 ghost use Rattle.configuration.specs.declared.fault.ConfigKey.TheVariants.{Circuit, Member as MemberKey};
 
 use crate::fault::{ConfigFault, ConfigKey};
@@ -23,6 +23,13 @@ pub(crate) struct Paths<'a> {
     pub(crate) table: &'a str,
     pub(crate) widths: &'a str,
     pub(crate) rows: &'a str,
+}
+
+/// The paths of two folders.
+#[derive(Clone, Copy)]
+pub(crate) struct FolderPaths<'a> {
+    pub(crate) offers: &'a str,
+    pub(crate) releases: &'a str,
 }
 
 /// The value at the key of this name.
@@ -121,4 +128,29 @@ pub(crate) fn paths_in(file: &Table) -> Result<Paths<'_>, ConfigFault>
         widths: text_at(file, ConfigKey::Widths)?,
         rows: text_at(file, ConfigKey::Rows)?,
     })
+}
+
+/// The paths in the table of the folders.
+#[tactic(auto, unfolding(crate::specs::Keys::folder_paths_in))]
+fn folder_paths_in(keys: &Table) -> Result<FolderPaths<'_>, ConfigFault>
+    ensures { MatchResult result (λ p. folder_paths_in (table_view keys.now) ≡ Ok (record { offers = p.offers.now; releases = p.releases.now })) (λ e. folder_paths_in (table_view keys.now) ≡ Err e) }
+{
+    Ok(FolderPaths {
+        offers: text_at(keys, ConfigKey::Offers)?,
+        releases: text_at(keys, ConfigKey::Releases)?,
+    })
+}
+
+/// The folders, where there is a table of them.
+#[tactic(auto, unfolding(crate::specs::Keys::folders_in))]
+pub(crate) fn folders_in(file: &Table) -> Result<Option<FolderPaths<'_>>, ConfigFault>
+    ensures { MatchResult result (λ f. folders_in (table_view file.now) ≡ Ok (option_map (λ p. record { offers = p.offers.now; releases = p.releases.now }) f)) (λ e. folders_in (table_view file.now) ≡ Err e) }
+{
+    let Some(value) = value_of(file, ConfigKey::Folders.name()) else {
+        return Ok(None);
+    };
+    match value.as_table() {
+        Some(keys) => Ok(Some(folder_paths_in(keys)?)),
+        None => Err(ConfigFault::WrongType(ConfigKey::Folders)),
+    }
 }

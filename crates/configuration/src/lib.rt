@@ -9,6 +9,6 @@ mod keys;
 mod reading;
 mod stations;
 
-pub use config::Config;
+pub use config::{Config, Folders};
 pub use fault::{ConfigFault, ConfigKey};
 pub use reading::read_config;

@@ -1,4 +1,4 @@
--- Where a datagram goes.
+-- Where a datagram goes, and from where one comes.
 use Rattle.std.specs.Prelude.{◌≡◌, ℕ, ◌-◌, List, Option, slice_get}
 use Rattle.std.specs.Net.Addr.{ipv4_octets, MatchIp}
 use Rattle.std.specs.Net.Socket.{socket_ip, socket_port}

@@ -4,12 +4,13 @@ ghost use Rattle.std.specs.Prelude.{◌≤◌, List, [], ◌∷◌, Option, None
 ghost use Rattle.wire.specs.Arrival.{Fits, came_by};
 ghost use Rattle.wire.specs.Passing.{Passed, Passes, sent, told};
 
+use crate::strangers::Strangers;
 use ballots::Member;
 
 /// What came within the time limit of a receive.
 #[derive(Clone, Copy, PartialEq, Eq)]
 pub enum Arrival {
-    /// Nothing came.
+    /// Nothing came, or what did is none of a station.
     Nothing,
     /// A datagram of so many bytes, at the front of the buffer.
     Datagram { length: usize },
@@ -34,4 +35,12 @@ pub trait Wire {
     /// The moment, in milliseconds since the start.
     fn now(&mut self) -> u64
         ensures passes { Passes (passed self.old) (passed self.new) (told result ∷ []) };
+
+    /// The datagrams of strangers since the last telling, where there are such to tell at this moment. A wire to which none
+    /// comes tells none.
+    fn strangers(&mut self, _now: u64) -> Option<Strangers>
+        ensures passes { Passes (passed self.old) (passed self.new) [] }
+    {
+        None
+    }
 }

@@ -3,8 +3,10 @@
 
 mod address;
 mod arrival;
+mod strangers;
 mod udp;
 
 pub use address::Address;
 pub use arrival::{Arrival, Wire};
+pub use strangers::Strangers;
 pub use udp::UdpWire;

@@ -1,11 +1,14 @@
-//! Datagrams over UDP. Of what passes over a socket of the host nothing is known.
+//! Datagrams over UDP, from and to the stations of a circuit alone. Of what passes over a socket of the host nothing is known.
 
-ghost use Rattle.std.specs.Prelude.{◌≡◌, ◌/◌, ◌^◌, ◌-◌, min, IfOk, option_copied};
+ghost use Rattle.std.specs.Prelude.{◌≡◌, ◌≤◌, ◌<◌, ◌/◌, ◌^◌, ◌-◌, [], min, None, MatchOption, IfOk, option_copied};
 ghost use Rattle.std.specs.Duration.{as_nanos};
 ghost use Rattle.wire.specs.Addresses.{IsAt, address_of};
+ghost use Rattle.wire.specs.Strangers.{Admits, kept_after, later};
+ghost use Rattle.wire.specs.Passing.{Passes};
 
-use crate::address::Address;
+use crate::address::{Address, is_among};
 use crate::arrival::{Arrival, Wire};
+use crate::strangers::{Strangers, Untold};
 use ballots::Member;
 use std::io;
 use std::io::ErrorKind;
@@ -25,6 +28,8 @@ pub struct UdpWire<'a, C: Clock> {
     start: Instant,
     // The last moment that the clock gave.
     moment: u64,
+    // What came from elsewhere than these addresses.
+    untold: Untold,
 }
 
 /// The socket address of a station.
@@ -50,7 +55,8 @@ fn moment_of(elapsed: Duration) -> u64
 }
 
 impl<'a, C: Clock> UdpWire<'a, C> {
-    /// A socket at the own address, that sends to these stations, in order of members from 1. The clock starts now.
+    /// A socket at the own address, that sends to these stations, in order of members from 1, and takes datagrams of them alone. The
+    /// clock starts now.
     pub fn bind<R: Net>(
         net: &R,
         clock: &'a C,
@@ -69,7 +75,22 @@ impl<'a, C: Clock> UdpWire<'a, C> {
             clock,
             start,
             moment: 0,
+            untold: Untold::new(),
         })
+    }
+
+    /// What a datagram of so many bytes is by its sender: itself where a station sent it, and otherwise nothing, which is
+    /// counted.
+    fn admit(&mut self, length: usize, sender: SocketAddr) -> Arrival
+        ensures admits { Admits self.old.stations.items sender length result }
+        ensures kept { self.new.untold.kept ≡ kept_after sender self.old.untold.kept result }
+        ensures due { self.new.untold.due ≡ self.old.untold.due }
+    {
+        if is_among(&self.stations, sender) {
+            return Arrival::Datagram { length };
+        }
+        self.untold.add(sender);
+        Arrival::Nothing
     }
 
     /// The port that the socket has.
@@ -81,7 +102,7 @@ impl<'a, C: Clock> UdpWire<'a, C> {
 impl<'a, C: Clock> Wire for UdpWire<'a, C> {
     fn receive(&mut self, buffer: &mut [u8]) -> Arrival {
         match self.socket.recv_from(buffer) {
-            Ok((length, _)) => Arrival::Datagram { length },
+            Ok((length, sender)) => self.admit(length, sender),
             Err(error) => match error.kind() {
                 ErrorKind::WouldBlock | ErrorKind::TimedOut | ErrorKind::Interrupted =>
                     Arrival::Nothing,
@@ -108,5 +129,14 @@ impl<'a, C: Clock> Wire for UdpWire<'a, C> {
             self.moment = moment_of(elapsed);
         }
         self.moment
+    }
+
+    /// They are told at most once a second.
+    fn strangers(&mut self, now: u64) -> Option<Strangers>
+        ensures early { now < self.old.untold.due → (result ≡ None) × (self.new.untold ≡ self.old.untold) }
+        ensures told { self.old.untold.due ≤ now → (result ≡ self.old.untold.kept) × (self.new.untold.kept ≡ None) }
+        ensures next { MatchOption result (self.new.untold ≡ self.old.untold) (λ strangers. self.new.untold.due ≡ later now) }
+    {
+        self.untold.tell(now)
     }
 }
