@@ -193,6 +193,20 @@ module _ {R N F : Type 0} (k : Known R N F) where
         cause = cause_then a.log b.log old.station.stopped mid.station.stopped new.station.stopped end a.cause b.cause;
       }
 
+  -- a moment in which nothing passed over the wire
+  pub quiet_behind : (old : Plant R N F) (s : Station R) (w v : N) (f : F) (q : List File) (end : End) → Passes (k.passed w) (k.passed v) []
+      → Runs k old (plant s w f q) end → Runs k old (plant s v f q) end
+  quiet_behind old s w v f q end p a = record {
+    log = a.log;
+    steps = a.steps;
+    passes =
+        subst (λ (l : List Passed). Passes (k.passed old.wire) (k.passed v) l) (append-nil (flat_map passing a.log))
+        (Passes-then (k.passed old.wire) (k.passed w) (k.passed v) (flat_map passing a.log) [] a.passes p);
+    front = a.front;
+    whole = a.whole;
+    cause = a.cause;
+  }
+
   -- the same end, as it is answered
   pub answered : (old new : Plant R N F) (end same : End) → same ≡ end → Runs k old new end → Runs k old new same
   answered old new end same is a = subst (λ (e : End). Runs k old new e) (sym is) a

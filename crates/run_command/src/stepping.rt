@@ -16,7 +16,7 @@ use crate::telling::Reason;
 use command_ends::Fault;
 use folders::{Folders, Paper};
 use saved_rows::Rows;
-use serve_command::{Outcome, pass_over, send_answer, take_datagram};
+use serve_command::{Outcome, pass_over, send_answer, take_datagram, tell_strangers};
 use station::{Answer, Station, StepRefusal};
 use std::io::Write;
 use wire::Wire;
@@ -90,7 +90,7 @@ fn see_to_due<R: Rows, N: Wire, F: Folders, E: Write>(
     }
 }
 
-/// One turn, as `serve` takes it: one datagram at most, and then what is due.
+/// One turn, as `serve` takes it: one datagram at most, what is told of strangers, and then what is due.
 pub(crate) fn turn<R: Rows, N: Wire, F: Folders, E: Write>(
     station: &mut Station<R>,
     wire: &mut N,
@@ -105,6 +105,7 @@ pub(crate) fn turn<R: Rows, N: Wire, F: Folders, E: Write>(
     ensures runs { Runs (known R.Rows N.passed F.written) (plant station.old wire.old folders.old waits.old.items) (plant station.new wire.new folders.new waits.new.items) (ended result) }
 {
     take_in(station, wire, folders, waits, desk, now, buffer, err)?;
+    tell_strangers(wire, now, err);
     see_to_due(station, wire, folders, waits, desk, now, err)
 }
 
