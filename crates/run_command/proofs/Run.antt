@@ -56,6 +56,11 @@ keeps_waited None b q r fs k = tt
 keeps_waited (Some x) None q r fs k = absurd k
 keeps_waited (Some x) (Some y) q r fs k = k ∙ ap (λ (l : List File). x ++ l) (append-nil (q ++ fs))
 
+-- the same, and then files among the offers were moved
+pub kept_and_written : (a b c : Option (List File)) (q p r fs : List File) → p ≡ q ++ fs → Keeps a b p r [] → c ≡ b → Keeps a c q r fs
+kept_and_written a b c q p r fs waited kept same =
+    subst (λ (x : Option (List File)). Keeps a x q r fs) (sym same) (keeps_waited a b q r fs (subst (λ (l : List File). Keeps a b l r []) waited kept))
+
 -- nothing is called on the wire for what a file asks
 pub asked_passes : (wish : Wish) (n now : ℕ) (a : Option (List Passed)) → Passes a a (coming (call_of wish n now))
 asked_passes (Offered entry) n now a = Passes-nil a

@@ -79,6 +79,25 @@ fn take_turns<R: Rows, N: Wire, F: Folders, E: Write>(
     Ok(false)
 }
 
+/// The same, once a file that ended the run before is taken away.
+fn start<R: Rows, N: Wire, F: Folders, E: Write>(
+    alloc: Global,
+    station: &mut Station<R>,
+    wire: &mut N,
+    folders: &mut F,
+    waits: &mut Vec<Paper>,
+    quiet: bool,
+    buffer: &mut [u8],
+    err: &mut E,
+) -> Result<bool, Fault<'static>>
+    ensures was_kept { R.kept station.new.rows → R.kept station.old.rows }
+    ensures runs { Runs (known R.Rows N.passed F.written) (plant station.old wire.old folders.old waits.old.items) (plant station.new wire.new folders.new waits.new.items) (ended result) }
+{
+    let _ = folders.remove(alloc, STOP);
+    let mut desk = Desk::new(alloc, quiet);
+    take_turns(station, wire, folders, waits, &mut desk, buffer, err)
+}
+
 /// Runs a station over the folders of its plant, until a file `stop` lies among the offers, or the station stops, the network
 /// fails, or there is no memory for the files of a release; `err` has the fault. A file `stop` that lies there at the start is
 /// taken away. The buffer for what comes is made before the first turn.
@@ -104,14 +123,14 @@ pub fn run_station<R: Rows, N: Wire, F: Folders, E: Write>(
     let Ok(mut buffer) = vec![in alloc; 0u8; BUFFER] else {
         return Fault::OutOfMemory.tell(err);
     };
-    let _ = folders.remove(alloc, STOP);
-    let (mut waits, mut desk) = (Vec::new(alloc), Desk::new(alloc, quiet));
-    match take_turns(
+    let mut waits = Vec::new(alloc);
+    match start(
+        alloc,
         station,
         wire,
         folders,
         &mut waits,
-        &mut desk,
+        quiet,
         &mut buffer,
         err,
     ) {
