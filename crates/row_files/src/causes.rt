@@ -2,6 +2,7 @@
 
 ghost use Rattle.std.specs.Prelude.{◌≡◌};
 ghost use Rattle.command_ends.specs.Ends.{end_of_rows, IsOfRows};
+ghost use Rattle.command_ends.specs.declared.end.End.TheVariants.{Done};
 ghost use Rattle.row_files.specs.Causes.{cause_text};
 
 use command_ends::{End, Fault};
@@ -19,6 +20,8 @@ pub enum RowsCause {
     Unmade,
     /// The tables are there already.
     Made,
+    /// It has other tables than those of saved rows, or they can't be read.
+    Unread,
     /// It is no database, or one that is damaged or without its log.
     Damaged,
     /// It, or its folder, can't be opened.
@@ -41,6 +44,7 @@ impl RowsCause {
             RowsCause::InUse => "another process has it open",
             RowsCause::Unmade => "nothing was made in it yet: start with --create",
             RowsCause::Made => "it was made already: start without --create",
+            RowsCause::Unread => "its tables are not those of saved rows, or can't be read",
             RowsCause::Damaged => "it is no database, or damaged, or without its log",
             RowsCause::Unopened => "it can't be opened",
             RowsCause::DiskFull => "the disk is full",
@@ -68,6 +72,7 @@ impl RefusedRows {
     /// writer fails is ignored.
     pub fn tell<E: Write>(&self, err: &mut E) -> End
         ensures end { result ≡ end_of_rows self.now.fault }
+        ensures fails { ¬ (result ≡ Done) }
         ensures rows { IsOfRows result }
     {
         let end = Fault::of_rows(self.fault).tell(err);

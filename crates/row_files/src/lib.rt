@@ -2,7 +2,9 @@
 #![tactic(auto)]
 
 mod causes;
+mod closing;
 mod files;
 
 pub use causes::{RefusedRows, RowsCause};
+pub use closing::close_rows;
 pub use files::RowFiles;
