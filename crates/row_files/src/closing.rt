@@ -10,12 +10,7 @@ use std::io::Write;
 
 /// How a command ends that came to this end over these rows: where it ended well they are closed, and a refusal of that is
 /// told to `err`.
-pub fn close_rows<F: RowFiles, E: Write>(
-    row_files: &F,
-    rows: F::Rows,
-    end: End,
-    err: &mut E,
-) -> End
+pub fn close_rows<F: RowFiles, E: Write>(row_files: &F, rows: F::Rows, end: End, err: &mut E) -> End
     ensures done { result ≡ Done → (end ≡ Done) × F.closes row_files.now rows }
     ensures other { ¬ (end ≡ Done) → result ≡ end }
     ensures rows { IsOfRows end → IsOfRows result }
