@@ -11,6 +11,7 @@ mod finding;
 pub mod laws;
 mod layout;
 mod moving;
+mod paths;
 mod queries;
 mod restarts;
 mod sqlite_rows;
