@@ -16,6 +16,7 @@ import socket
 import subprocess
 import sys
 import tempfile
+import time
 
 # a circuit of one station, on a port that is free
 STATION = """circuit = 7
@@ -33,6 +34,13 @@ BEGAN = "1 began 1.1\n #1 prepare 1>2 12 1.1\n #2 prepare 1>3 12 1.1\n"
 GALLEY = "0001 J 0 0 a b _4 a _4 b\n"
 WITHDRAWAL = "544e0203000701020000000c00000001010000\n"
 WITHDRAWN = "544e0204000702010000000c00000001010000\n"
+REFUSED = "store: refused\n"
+MADE = REFUSED + "it was made already: start without --create\n"
+UNMADE = REFUSED + "nothing was made in it yet: start with --create\n"
+NOT_THERE = REFUSED + "no such file: it is made by --create, at a station's first start alone\n"
+NO_DATABASE = REFUSED + "it is no database, or damaged, or without its log\n"
+NOT_OPENED = REFUSED + "it can't be opened\n"
+IN_USE = REFUSED + "another process has it open\n"
 UNKNOWN = """error: unrecognized subcommand 'sing'
 
 Usage: circuitd <COMMAND>
@@ -49,14 +57,23 @@ For more information, try '--help'.
 """
 
 # the words, the input, the status, the output and the faults
-RUNS = [
+FIRST = [
     ("--version", "", 0, "circuitd 0.2.0\n", ""),
     ("answer 7 2", "544e0101000701020000000c0000000101\n", 0, "544e0102000702010000000c000000010100\n", ""),
     ("answer 7 2 --wire 2", WITHDRAWAL, 0, WITHDRAWN, ""),
     ("check codes.toml widths.toml flood.tape", "", 0, GALLEY, ""),
     ("rehearse codes.toml widths.toml one.script", "", 0, BEGAN, ""),
+    ("serve one.toml --turns 1", "", 3, "", NOT_THERE),
+    ("rows station1.db", "", 3, "", NOT_THERE),
+    ("upgrade station1.db", "", 3, "", NOT_THERE),
+    ("rows empty.db", "", 3, "", UNMADE),
+    ("upgrade empty.db", "", 3, "", UNMADE),
     ("serve one.toml --turns 1 --create --number 12 --tape flood.tape", "", 0, "release 12 01020301030204\n" + GALLEY, ""),
     ("rows station1.db", "", 0, "station 1 of 1 circuit 7\n12 1.1 1.1 01020301030204\n", ""),
+]
+# after a good end a copy of the file alone has all
+LATER = [
+    ("rows copy.db", "", 0, "station 1 of 1 circuit 7\n12 1.1 1.1 01020301030204\n", ""),
     ("check codes.toml widths.toml overset.tape", "", 1, "", "fault: overset 1 at 7 line 1\n"),
     ("check widths.toml codes.toml flood.tape", "", 1, "", "table: no codes\n"),
     ("check codes.toml widths.toml no.tape", "", 1, "", "cannot read no.tape\n"),
@@ -65,15 +82,16 @@ RUNS = [
     ("serve one.toml --turns 1 --number 12", "", 2, "", "usage: --number and --tape go together\n"),
     ("serve one.toml --turns 1 --layout 2", "", 2, "", "usage: --layout goes with --create\n"),
     ("run one.toml --layout 2", "", 2, "", ALONE),
-    ("serve one.toml --turns 1 --create", "", 3, "", "store: refused\n"),
-    ("rows flood.tape", "", 3, "", "store: refused\n"),
-    ("rows no.db", "", 3, "", "store: refused\n"),
-    ("upgrade no.db", "", 3, "", "store: refused\n"),
+    ("serve one.toml --turns 1 --create", "", 3, "", MADE),
+    ("rows flood.tape", "", 3, "", NO_DATABASE),
+    ("rows folder", "", 3, "", NOT_OPENED),
     ("upgrade station1.db", "", 0, "layout 2\n", ""),
     ("rows station1.db", "", 0, "station 1 of 1 circuit 7\n12 1.1 1.1 01020301030204\n", ""),
     ("serve one.toml --turns 1 --withdraw 13", "", 0, "release 13 void\n", ""),
     ("rows station1.db", "", 0, "station 1 of 1 circuit 7\n12 1.1 1.1 01020301030204\n13 1.1 1.1 void\n", ""),
 ]
+# a station that serves has the file
+BESIDE = ("rows station1.db", "", 3, "", IN_USE)
 # the station's port is another's by then
 TAKEN = ("serve one.toml --turns 1", "", 4, "", "socket: cannot bind\n")
 
@@ -101,7 +119,15 @@ with tempfile.TemporaryDirectory() as work:
     for name, text in [("one.toml", STATION.format(port=port)), ("one.script", SCRIPT)]:
         with open(os.path.join(work, name), "w", encoding="utf-8") as file:
             file.write(text)
-    well = [goes(work, *run) for run in RUNS]
+    os.mkdir(os.path.join(work, "folder"))
+    open(os.path.join(work, "empty.db"), "w").close()
+    well = [goes(work, *run) for run in FIRST]
+    shutil.copy(os.path.join(work, "station1.db"), os.path.join(work, "copy.db"))
+    well += [goes(work, *run) for run in LATER]
+    serving = subprocess.Popen([sys.argv[1], "serve", "one.toml", "--turns", "60"], cwd=work)
+    time.sleep(1)
+    well.append(goes(work, *BESIDE))
+    well.append(serving.wait() == 0)
     with udp() as other:
         other.bind(("127.0.0.1", port))
         well.append(goes(work, *TAKEN))

@@ -1,6 +1,5 @@
 -- The station in its table.
-use Rattle.std.proofs.Common.{◌≡◌, ◌<◌, ◌≤◌, ◌==◌, ℕ, ℤ, pos, negsuc, Bool, true, false, cond, nat_le, nat_lt, ◌&&◌, ◌^◌, List, [], ◌∷◌, map, Option, Some, None, true≢false, inl, inr, refl, sym, ap, ◌∙◌, arith}
-use Rattle.std.specs.Prelude.{IfSome}
+use Rattle.std.proofs.Common.{◌≡◌, ◌≢◌, ◌⊎◌, ◌<◌, ◌≤◌, ◌==◌, ℕ, ℤ, pos, negsuc, Bool, true, false, cond, nat_le, nat_lt, ◌&&◌, ◌^◌, List, [], ◌∷◌, map, Option, Some, None, true≢false, is_some, subst, inl, inr, refl, sym, ap, ◌∙◌, arith}
 use Rattle.std.specs.List.Sorted.{IsPermutation}
 use Rattle.std.proofs.lemmas.List.Sorted.{length_permutation}
 use Rattle.std.proofs.lemmas.Bool.{le-leb, and_parts}
@@ -9,9 +8,8 @@ use Rattle.sqlite_value.specs.declared.value.Value.{Value}
 use Rattle.sqlite_value.specs.declared.value.Value.TheVariants.{Null, Int, Real, Text, Blob}
 use Rattle.sqlite_value.specs.Order.{Row as Columns, column}
 use Rattle.sqlite_trees.specs.Tree.{Trees}
-use Rattle.sqlite.specs.Effect.{Database}
 use Rattle.sqlite.proofs.Callers.{one_permutation}
-use Rattle.row_table.specs.Tables.{Layout, station_tree, layout_number, layout_schema}
+use Rattle.row_table.specs.Tables.{Layout, station_tree, layout_number}
 use Rattle.row_table.specs.Tables.Layout.{First, Second}
 use Rattle.row_table.specs.Tables.Origin.{Upgraded}
 use Rattle.row_table.specs.Rows.{whole}
@@ -20,7 +18,10 @@ use Rattle.row_table.specs.Entries.{HasLayoutOne, IsUpgraded}
 use Rattle.saved_rows.specs.declared.identity.Identity.{Identity}
 use Rattle.saved_rows.specs.Identity.{IsIdentity}
 use Rattle.acceptor_store.specs.Columns.{whole_in, small}
-use Rattle.acceptor_store.specs.StationRow.{station_from, station_of, station_in, stored_station, IsStationOf, IsLaidOut}
+use Rattle.acceptor_store.specs.StationRow.{station_from, station_of, station_in, stored_station, IsStationOf}
+use Rattle.saved_rows.specs.declared.fault.RowsFault.{RowsFault}
+use Rattle.saved_rows.specs.declared.fault.RowsFault.TheVariants.{WrongSchema}
+use Rattle.acceptor_store.specs.Sqlite.{IsRefusal, RefusesToOpen}
 use Rattle.acceptor_store.proofs.ColumnLemmas.{ranged}
 
 -- the order of the rows tells nothing
@@ -56,21 +57,6 @@ added layout i trees h small made =
       le-leb i.member i.members h.within,
       le-leb i.members 15 h.high,
     ) refl
-
--- the layout that the station's row tells is that of the tables
-pub told_layout : (layout : Layout) (db : Database) (s : ℕ × Identity) → IsLaidOut layout db → stored_station db.trees ≡ Some s → s.0 ≡ layout_number layout
-told_layout layout db s laid is = at (stored_station db.trees) is laid.told
-  where
-    at : (o : Option (ℕ × Identity)) → o ≡ Some s → IfSome o (λ p. p.0 ≡ layout_number layout) → s.0 ≡ layout_number layout
-    at None e told = absurd cc
-    at (Some p) e told = let same : p ≡ s = cc in ap (λ (q : ℕ × Identity). q.0) (sym same) ∙ told
-
-pub told_station : (layout : Layout) (db : Database) (s : ℕ × Identity) → IsLaidOut layout db → stored_station db.trees ≡ Some s → IsStationOf layout s.1 db.trees
-told_station layout db s laid is = is ∙ ap (λ n. Some (n, s.1)) (told_layout layout db s laid is)
-
--- and tables of the layout that it tells are laid out so
-pub laid_out : (layout : Layout) (i : Identity) (db : Database) → db.schema ≡ layout_schema layout → IsStationOf layout i db.trees → IsLaidOut layout db
-laid_out layout i db tables is = record { tables = tables; told = rw is refl }
 
 -- ---- out of the columns of a station, what they are
 
@@ -143,6 +129,25 @@ told_in (r ∷ s ∷ rs) n i e = absurd cc
 -- the number that a station's row tells is that of a layout
 pub in_range : (rows : List Columns) (s : ℕ × Identity) → station_in rows ≡ Some s → (1 ≤ s.0) × (s.0 ≤ 2)
 in_range rows s e = let row = told_in rows s.0 s.1 e in let all = told_by_row row.0 s.0 s.1 row.2 in (all.low, all.high)
+
+-- ---- why a database is no station's of a layout
+
+-- its row tells this layout
+pub this_layout : (layout : Layout) (trees : Trees) (s : ℕ × Identity) → stored_station trees ≡ Some s → s.0 ≡ layout_number layout → IsStationOf layout s.1 trees
+this_layout layout trees s is same = is ∙ ap (λ n. Some (n, s.1)) same
+
+-- or another
+pub another_layout : (layout : Layout) (trees : Trees) (s : ℕ × Identity) → stored_station trees ≡ Some s → s.0 ≢ layout_number layout → (i : Identity) → ¬ IsStationOf layout i trees
+another_layout layout trees s is differ i other = differ (ap (λ (p : ℕ × Identity). p.0) (some_pair s (layout_number layout, i) (sym is ∙ other)))
+
+-- or none
+no_station : (layout : Layout) (trees : Trees) → stored_station trees ≡ None → (i : Identity) → ¬ IsStationOf layout i trees
+no_station layout trees none i is = true≢false (ap is_some (sym is ∙ none))
+
+pub refused_station : (layout : Layout) (given : Option Identity) (trees : Trees) (fault : RowsFault) → IsRefusal fault ⊎ ((fault ≡ WrongSchema) × (stored_station trees ≡ None)) → RefusesToOpen layout given trees fault
+refused_station layout given trees fault (inl (inl store)) = subst (RefusesToOpen layout given trees) (sym store) tt
+refused_station layout given trees fault (inl (inr memory)) = subst (RefusesToOpen layout given trees) (sym memory) tt
+refused_station layout given trees fault (inr wrong) = subst (RefusesToOpen layout given trees) (sym wrong.0) (inl (no_station layout trees wrong.1))
 
 -- ---- a station in layout 1, and after its upgrade
 

@@ -6,6 +6,8 @@ pub mod MovingLemmas
 pub mod IdentityLemmas
 pub mod StandLemmas
 pub mod UpgradeLemmas
+pub mod LayoutLemmas
+mod ClosingLemmas
 mod TableLemmas
 mod RestartLemmas
 mod StepLemmas

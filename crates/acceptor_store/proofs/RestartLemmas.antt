@@ -32,7 +32,7 @@ use Rattle.acceptor_store.specs.StationRow.{IsStationOf}
 use Rattle.acceptor_store.specs.Sqlite.{SqliteOf, layout_code, layout_now, rows_layout, rows_version, IsOurs, IsOfStation, saved_of}
 use Rattle.acceptor_store.specs.Files.{IsTakenUp}
 use Rattle.acceptor_store.specs.Restarts.{GivesUp, AreOpenedFrom, AreTorn, OpensWhatIsLeft, PutOutlivesCrash, UpgradeOutlivesCrash, CreateOutlivesCrash}
-use Rattle.acceptor_store.proofs.IdentityLemmas.{added, laid_out}
+use Rattle.acceptor_store.proofs.IdentityLemmas.{added}
 use Rattle.acceptor_store.proofs.StandLemmas.{still, none_saved}
 use Rattle.acceptor_store.proofs.TableLemmas.{same_schema, same_layout}
 
@@ -91,7 +91,7 @@ found_ours : {E : Type 0} {h : Ghosts E} (left : Image) (again : SqliteOf (FileS
 found_ours left again opened layout i holds =
     let made = opened.made in
     let was = made.opened opened.honest in
-    (made.ours opened.honest layout (laid_out layout i (file_state made.was).now (found_schema made.was was layout holds.tables) holds.holds.station)).1
+    (made.ours layout (found_schema made.was was layout holds.tables)).1
 
 -- rows that were taken up from trees which list the tables of a layout are in it, and are what it has there
 module _ {E : Type 0} {h : Ghosts E} (left : Image) (again : SqliteOf (FileStore E h)) (taken : IsTakenUp left again) (layout : Layout)

@@ -17,11 +17,11 @@ use Rattle.saved_rows.specs.declared.identity.Identity.{Identity}
 use Rattle.saved_rows.specs.Identity.{IsIdentity}
 use Rattle.sqlite_trees.specs.Objects.{catalog_tree}
 use Rattle.sqlite_catalog.specs.Listing.{Lists as ListsTables}
-use Rattle.acceptor_store.specs.StationRow.{station_in, IsStationOf, IsLaidOut}
+use Rattle.acceptor_store.specs.StationRow.{station_in, IsStationOf}
 use Rattle.acceptor_store.specs.Columns.{row_or_blank, columns_for, saved_in, ComesBack}
 use Rattle.acceptor_store.specs.Sqlite.{layout_now, HoldsRows, IsOfStation, HoldsAll, Stands}
 use Rattle.acceptor_store.proofs.ColumnLemmas.{stays_sound, stays_station}
-use Rattle.acceptor_store.proofs.IdentityLemmas.{added, laid_out}
+use Rattle.acceptor_store.proofs.IdentityLemmas.{added}
 
 -- rows that were not upgraded are in the layout that was found
 pub still : (was : Layout) → layout_now was false ≡ was
@@ -105,20 +105,16 @@ module _ {S : Type 0} (g : Ghosts S) (old new : Held S) (falls : doubt (state g 
 
 -- a connection that was taken up stands on its tables
 pub taken_stands : {S : Type 0} (g : Ghosts S) (old new : Held S) (layout : Layout) (i : Identity) → (state g old).now.schema ≡ layout_schema layout → IsLive (state g old)
-    → (HasCleanDisk (state g new) → IsStationOf layout i (state g old).now.trees)
-    → (HasCleanDisk (state g new) → IsLaidOut layout (state g old).now → HoldsRows layout i (state g old).now.trees)
-    → (HasCleanDisk (state g new) → IsLaidOut layout (state g old).now → Serves layout (state g new))
-    → (HasCleanDisk (state g new) → IsLaidOut layout (state g old).now → IsUnchanged (state g old) (state g new)) → Stands g (layout_now layout false) new i
-taken_stands g old new layout i tables live told holds serves same = subst (λ (l : Layout). Stands g l new i) (sym (still layout)) (record {
-  serves = λ clean. serves clean (laid clean) clean;
+    → (HasCleanDisk (state g new) → HoldsRows layout i (state g old).now.trees)
+    → (HasCleanDisk (state g new) → Serves layout (state g new))
+    → (HasCleanDisk (state g new) → IsUnchanged (state g old) (state g new)) → Stands g (layout_now layout false) new i
+taken_stands g old new layout i tables live holds serves same = subst (λ (l : Layout). Stands g l new i) (sym (still layout)) (record {
+  serves = λ clean. serves clean clean;
   holds = λ clean opened.
-      let stays = same clean (laid clean) in
+      let stays = same clean in
       let lists : ListsTables ((state g old).now.trees catalog_tree) (layout_schema layout) = subst (ListsTables ((state g old).now.trees catalog_tree)) tables (live stays.0.was_open).0.lists in
-      same_holds layout i (state g old).now (state g new).now stays.0.now_is (record { tables = lists; holds = holds clean (laid clean) });
+      same_holds layout i (state g old).now (state g new).now stays.0.now_is (record { tables = lists; holds = holds clean });
 })
-  where
-    laid : HasCleanDisk (state g new) → IsLaidOut layout (state g old).now
-    laid clean = laid_out layout i (state g old).now tables (told clean)
 
 -- the rows of a database that was just made
 pub none_saved : (layout : Layout) (circuit member members : ℕ) (trees : Trees) → HoldsNone layout circuit member members trees → (n : ℕ) → saved_in layout trees n ≡ blank

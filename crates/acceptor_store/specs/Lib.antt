@@ -6,6 +6,7 @@ pub mod Columns
 pub mod Moving
 pub mod StationRow
 pub mod Sqlite
+pub mod Faults
 pub mod Files
 pub mod Restarts
 pub mod Steps

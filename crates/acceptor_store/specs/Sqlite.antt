@@ -20,7 +20,7 @@ use Rattle.saved_rows.specs.contracts.identity.Identity as identity
 use Rattle.saved_rows.specs.declared.identity.Identity.{Identity}
 use Rattle.saved_rows.specs.declared.fault.RowsFault.{RowsFault}
 use Rattle.saved_rows.specs.declared.fault.RowsFault.TheVariants.{Store, WrongStation, WrongSchema, Damaged, OutOfMemory}
-use Rattle.acceptor_store.specs.StationRow.{stored_station, IsStationOf}
+use Rattle.acceptor_store.specs.StationRow.{IsStationOf}
 use Rattle.saved_rows.specs.Saved.{Saved, SameRows}
 use Rattle.acceptor_store.specs.Columns.{version_in, saved_in, AreSound, damage_in}
 
@@ -144,7 +144,7 @@ RefusesRows layout trees (Damaged number) = Lists layout trees (λ rows. damage_
 abbrev pub RefusesToOpen : Layout → Option Identity → Trees → RowsFault → Type 0
 RefusesToOpen layout given trees Store = Unit {0}
 RefusesToOpen layout given trees OutOfMemory = Unit {0}
-RefusesToOpen layout given trees WrongSchema = (stored_station trees ≡ None) ⊎ Lists layout trees (λ rows. rise_from None rows ≡ false)
+RefusesToOpen layout given trees WrongSchema = ((i : Identity) → ¬ IsStationOf layout i trees) ⊎ Lists layout trees (λ rows. rise_from None rows ≡ false)
 RefusesToOpen layout given trees WrongStation = (i : Identity) × (wanted : Identity) × IsStationOf layout i trees × (given ≡ Some wanted) × (wanted ≢ i)
 RefusesToOpen layout given trees (Damaged number) = (i : Identity) × IsStationOf layout i trees × Agrees given i × Lists layout trees (λ rows. damage_in layout rows ≡ Some number)
 

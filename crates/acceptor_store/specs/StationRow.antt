@@ -1,9 +1,8 @@
 -- The station in its table: whose rows a database holds, and in which layout.
-use Rattle.std.specs.Prelude.{◌≡◌, ◌==◌, ℕ, nat_le, ◌&&◌, if◌then◌else◌, map, List, [], ◌∷◌, Option, Some, None, IfSome}
+use Rattle.std.specs.Prelude.{◌≡◌, ◌==◌, ℕ, nat_le, ◌&&◌, if◌then◌else◌, map, List, [], ◌∷◌, Option, Some, None}
 use Rattle.sqlite_value.specs.Order.{Row as Columns, column}
 use Rattle.sqlite_trees.specs.Tree.{Trees}
-use Rattle.sqlite.specs.Effect.{Database}
-use Rattle.row_table.specs.Tables.{Layout, station_tree, layout_number, layout_schema}
+use Rattle.row_table.specs.Tables.{Layout, station_tree, layout_number}
 use Rattle.row_table.specs.Station.{station_columns}
 use Rattle.saved_rows.specs.declared.identity.Identity.{Identity}
 use Rattle.acceptor_store.specs.Columns.{whole_in}
@@ -37,8 +36,3 @@ stored_station trees = station_in (map station_columns (trees station_tree))
 -- the database holds this station, in this layout
 abbrev pub IsStationOf : Layout → Identity → Trees → Type 0
 IsStationOf layout i trees = stored_station trees ≡ Some (layout_number layout, i)
-
--- the database has the tables of the layout, and no others; and the row of its station, where it is one, tells that layout
-pub record IsLaidOut (layout : Layout) (db : Database) : Type 0 where
-  pub tables : db.schema ≡ layout_schema layout
-  pub told : IfSome (stored_station db.trees) (λ s. s.0 ≡ layout_number layout)

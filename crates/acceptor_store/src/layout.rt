@@ -1,12 +1,13 @@
 //! The layouts of a database of saved rows.
 
-ghost use Rattle.std.specs.Prelude.{◌≡◌, ◌≤◌, length};
+ghost use Rattle.std.specs.Prelude.{◌≡◌, None, is_some, option_map, IfSome};
 ghost use Rattle.tape_frames.specs.Entries.{version_of};
-ghost use Rattle.row_table.specs.Tables.{layout_number, layout_schema};
+ghost use Rattle.row_table.specs.Tables.{Layout as Tables, layout_number, layout_schema};
 ghost use Rattle.acceptor_store.specs.Columns.{version_in};
-ghost use Rattle.acceptor_store.specs.Layouts.{layout_of};
+ghost use Rattle.acceptor_store.specs.Layouts.{layout_of, layout_by, layout_in};
 ghost use Rattle.acceptor_store.specs.Sqlite.{layout_now, made_in};
 
+use sqlite_schema::schema::Schema;
 use tape_frames::Version;
 
 /// Which tables a database keeps its rows in, and how it came to them.
@@ -58,16 +59,37 @@ pub(crate) fn layout_now(was: Layout, upgraded: bool) -> Layout
     }
 }
 
-/// The layout of this number, in a database with so many tables: it was upgraded where it has more than layout 2 needs.
-pub(crate) fn layout_by(number: u32, tables: usize) -> Layout
-    ensures number { 1 ≤ number → number ≤ 2 → layout_number (layout_of result) ≡ number }
-    ensures tables { (layout : _) → number ≡ layout_number layout → tables ≡ length (layout_schema layout).tables → layout_of result ≡ layout }
+/// The number of a layout, as the row of the station tells it.
+pub(crate) fn layout_number(layout: Layout) -> u32
+    ensures { result ≡ layout_number (layout_of layout) }
 {
-    if number == 1 {
-        Layout::First
-    } else if tables <= 2 {
-        Layout::Created
-    } else {
-        Layout::Upgraded
+    match layout {
+        Layout::First => 1,
+        Layout::Created => 2,
+        Layout::Upgraded => 2,
     }
+}
+
+/// The layout of a database with a table of rows at the one place and a table of entries at the other, if they are there.
+fn layout_by(rows: Option<usize>, entries: Option<usize>) -> Option<Layout>
+    ensures { option_map layout_of result ≡ layout_by rows entries }
+{
+    match (rows, entries) {
+        (Some(_), None) => Some(Layout::First),
+        (None, Some(_)) => Some(Layout::Created),
+        (Some(_), Some(_)) => Some(Layout::Upgraded),
+        (None, None) => None,
+    }
+}
+
+/// The layout that the tables of a schema tell by their names; `None` where no table of saved rows is among them.
+pub(crate) fn layout_in(schema: &Schema) -> Option<Layout>
+    ensures value { option_map layout_of result ≡ layout_in schema.now }
+    ensures some { is_some result ≡ is_some (layout_in schema.now) }
+    ensures laid { (layout : Tables) → schema.now ≡ layout_schema layout → IfSome result (λ l. layout_of l ≡ layout) }
+    ensures none { result ≡ None → (layout : Tables) → ¬ (schema.now ≡ layout_schema layout) }
+{
+    let rows = schema.table_named(b"acceptor_row");
+    let entries = schema.table_named(b"acceptor_entry");
+    layout_by(rows, entries)
 }

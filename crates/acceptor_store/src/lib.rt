@@ -1,13 +1,17 @@
 //! Saved rows in a database: what a station saves outlives its program.
 #![tactic(auto)]
 
+mod closing;
 mod columns;
 mod creating;
 mod entry_columns;
+mod faults;
 mod files;
+mod finding;
 pub mod laws;
 mod layout;
 mod moving;
+mod paths;
 mod queries;
 mod restarts;
 mod sqlite_rows;
@@ -16,6 +20,7 @@ mod station_row;
 mod taking_up;
 mod upgrading;
 
+pub use faults::FileFault;
 pub use restarts::into_files;
 pub use saved_rows::{Balky, Identity, MemoryRows, Rows, RowsFault};
 pub use sqlite_rows::SqliteRows;

@@ -9,7 +9,7 @@ ghost use Rattle.row_table.specs.Tables.{Layout as Tables, no_schema, layout_sch
 ghost use Rattle.row_table.specs.Station.{HoldsNone};
 ghost use Rattle.saved_rows.specs.Identity.{IsIdentity};
 ghost use Rattle.protocol.specs.Versions.{Two};
-ghost use Rattle.acceptor_store.specs.StationRow.{IsStationOf, IsLaidOut};
+ghost use Rattle.acceptor_store.specs.StationRow.{IsStationOf};
 ghost use Rattle.acceptor_store.specs.Sqlite.{rows_layout, rows_version, made_in, layout_now};
 ghost use Rattle.saved_rows.specs.Saved.{SameRows, WithRow, IsEither, IsListOf, HasPromise, RowFits, AreFitting, Rises};
 
@@ -154,13 +154,13 @@ impl<S: Alter + Drop> SqliteRows<S> {
         ensures crash { IfOk result (λ s. IsKept S.Store s → (left : _) → (state S.Store s.conn).may_leave left → (state S.Store conn).may_leave left) }
 
         // What the store owes: tables as `create` makes them, or an upgrade leaves, are its own. With what the host owes they are kept.
-        ensures made { IfOk result (λ s. HasCleanDisk (state S.Store s.conn) → (layout : Tables) → IsLaidOut layout (state S.Store conn).now → (s.was ≡ layout) × IsOurs s.alone s.was s.found) }
-        ensures kept { IfOk result (λ s. HasCleanDisk (state S.Store s.conn) → (layout : Tables) → IsLaidOut layout (state S.Store conn).now → IsKept S.Store s) }
+        ensures made { IfOk result (λ s. (layout : Tables) → (state S.Store conn).now.schema ≡ layout_schema layout → (s.was ≡ layout) × IsOurs s.alone s.was s.found) }
+        ensures kept { IfOk result (λ s. HasCleanDisk (state S.Store s.conn) → (layout : Tables) → (state S.Store conn).now.schema ≡ layout_schema layout → IsKept S.Store s) }
 
         // Why it is refused; nothing is changed then either.
-        ensures refuses { IfErr result (λ e. HasCleanDisk (state S.Store e.1) → (layout : Tables) → IsLaidOut layout (state S.Store conn).now → RefusesToOpen layout given (state S.Store conn).now.trees e.0) }
-        ensures unchanged { IfErr result (λ e. HasCleanDisk (state S.Store e.1) → (layout : Tables) → IsLaidOut layout (state S.Store conn).now → IsTrue (state S.Store e.1).is_open → (state S.Store e.1).now ≡ (state S.Store conn).now) }
-        ensures crash_err { IfErr result (λ e. HasCleanDisk (state S.Store e.1) → (layout : Tables) → IsLaidOut layout (state S.Store conn).now → (left : _) → (state S.Store e.1).may_leave left → (state S.Store conn).may_leave left) }
+        ensures refuses { IfErr result (λ e. HasCleanDisk (state S.Store e.1) → (layout : Tables) → (state S.Store conn).now.schema ≡ layout_schema layout → RefusesToOpen layout given (state S.Store conn).now.trees e.0) }
+        ensures unchanged { IfErr result (λ e. HasCleanDisk (state S.Store e.1) → (layout : Tables) → (state S.Store conn).now.schema ≡ layout_schema layout → IsTrue (state S.Store e.1).is_open → (state S.Store e.1).now ≡ (state S.Store conn).now) }
+        ensures crash_err { IfErr result (λ e. HasCleanDisk (state S.Store e.1) → (layout : Tables) → (state S.Store conn).now.schema ≡ layout_schema layout → (left : _) → (state S.Store e.1).may_leave left → (state S.Store conn).may_leave left) }
         ensures clean_err { IfErr result (λ e. doubt (state S.Store conn).is_clean ≤ doubt (state S.Store e.1).is_clean) }
     {
         if !conn.is_autocommit() {

@@ -5,13 +5,21 @@ use command_ends::End;
 use command_line::parse;
 use commands::run_command;
 use fixtures::{CODES, WIDTHS};
-use row_files::RowFiles;
+use row_files::{RefusedRows, RowFiles, RowsCause};
 use saved_rows::{Identity, MemoryRows, RowsFault};
 use std::fs;
 use std::io::Write;
 use tape_frames::Version;
 
 const FOLDER: &str = "circuitd_words";
+
+/// Rows that are refused by a fault with its cause.
+fn refused(fault: RowsFault, cause: RowsCause) -> RefusedRows {
+    RefusedRows {
+        fault,
+        cause: Some(cause),
+    }
+}
 
 /// Files of rows that none can be made in or taken up from; where they are listed or go over, their path stands for them.
 struct NoRows;
@@ -24,17 +32,19 @@ impl RowFiles for NoRows {
 
     ghost takes_up = { λ _ _ _ _. Unit {0} };
 
+    ghost closes = { λ _ _. Unit {0} };
+
     fn create(
         &self,
         _rt: &HostRuntime,
         path: &str,
         _identity: Identity,
         version: Version,
-    ) -> Result<MemoryRows, RowsFault> {
+    ) -> Result<MemoryRows, RefusedRows> {
         match (path, version) {
-            ("made.db", Version::One) => Err(RowsFault::WrongSchema),
-            ("made.db", Version::Two) => Err(RowsFault::Damaged { number: 2 }),
-            _ => Err(RowsFault::Store),
+            ("made.db", Version::One) => Err(refused(RowsFault::Store, RowsCause::Made)),
+            ("made.db", Version::Two) => Err(RefusedRows::by(RowsFault::Damaged { number: 2 })),
+            _ => Err(refused(RowsFault::Store, RowsCause::DiskFull)),
         }
     }
 
@@ -43,11 +53,15 @@ impl RowFiles for NoRows {
         _rt: &HostRuntime,
         path: &str,
         _identity: Option<Identity>,
-    ) -> Result<MemoryRows, RowsFault> {
+    ) -> Result<MemoryRows, RefusedRows> {
         match path {
-            "made.db" => Err(RowsFault::WrongStation),
-            _ => Err(RowsFault::Store),
+            "made.db" => Err(RefusedRows::by(RowsFault::WrongStation)),
+            _ => Err(refused(RowsFault::Store, RowsCause::Missing)),
         }
+    }
+
+    fn close(&self, _rows: MemoryRows) -> Result<(), RefusedRows> {
+        Err(refused(RowsFault::Store, RowsCause::DiskFailed))
     }
 
     fn list<W: Write, E: Write>(
@@ -205,7 +219,7 @@ const RUNS: &[Run] = &[
     Run {
         line: "circuitd serve circuitd_words/station.toml --turns 1 --create --layout 1",
         end: End::Store,
-        err: "store: wrong schema\n",
+        err: "store: refused\nit was made already: start without --create\n",
         ..SILENT
     },
     Run {
@@ -223,7 +237,7 @@ const RUNS: &[Run] = &[
     Run {
         line: "circuitd serve circuitd_words/station.toml --turns 1 --create --number 12 --tape circuitd_words/flood.tape",
         end: End::Store,
-        err: "store: wrong schema\n",
+        err: "store: refused\nit was made already: start without --create\n",
         ..SILENT
     },
     Run {

@@ -3,29 +3,35 @@
 ghost use Rattle.std.specs.Prelude.{◌≡◌};
 ghost use Rattle.saved_rows.specs.Identity.{IsIdentity};
 ghost use Rattle.tape_frames.specs.Entries.{version_of};
+ghost use Rattle.acceptor_store.specs.Files.{WasClosed};
 ghost use Rattle.acceptor_store.specs.Sqlite.{Agrees, rows_version};
 
-use crate::file_rows::FileRows;
+use crate::refusals::refused_by;
 use acceptor_store::SqliteRows;
-use command_ends::{End, Fault};
-use row_files::RowFiles;
+use command_ends::End;
+use row_files::{RefusedRows, RowFiles, close_rows};
 use rows_command::{print_rows, upgrade_rows};
-use saved_rows::{Identity, RowsFault};
-use sqlite::{Connection, Error, ErrorCode, Wary};
-use std::fs;
+use saved_rows::Identity;
+use sqlite::{FileFrom, FileStore, Wary};
 use std::io::Write;
 use tape_frames::Version;
+
+/// The database in a file. The database supposes nothing of a torn write, since a story that is lost to one would be a
+/// promise broken.
+type Database = SqliteRows<FileStore<FileFrom<Wary>>>;
 
 /// The files of the host.
 #[derive(Clone, Copy)]
 pub struct HostFiles;
 
 impl RowFiles for HostFiles {
-    type Rows = FileRows;
+    type Rows = Database;
 
-    ghost makes = { λ _ _ i version rows. (rows.rows.identity ≡ i) × (rows_version rows.rows ≡ version_of version) };
+    ghost makes = { λ _ _ i version rows. (rows.identity ≡ i) × (rows_version rows ≡ version_of version) };
 
-    ghost takes_up = { λ _ _ given rows. Agrees given rows.rows.identity };
+    ghost takes_up = { λ _ _ given rows. Agrees given rows.identity };
+
+    ghost closes = { λ _ rows. WasClosed rows };
 
     fn create(
         &self,
@@ -33,17 +39,10 @@ impl RowFiles for HostFiles {
         path: &str,
         identity: Identity,
         version: Version,
-    ) -> Result<FileRows, RowsFault> {
-        let conn = match Connection::open_from(rt, path, false, Wary) {
-            Ok(conn) => conn,
-            Err((Error::SqliteFailure(ErrorCode::OutOfMemory), _)) => {
-                return Err(RowsFault::OutOfMemory);
-            }
-            Err(_) => return Err(RowsFault::Store),
-        };
-        match SqliteRows::create(rt.alloc(), conn, identity, version) {
-            Ok(rows) => Ok(FileRows::new(rows)),
-            Err((fault, _)) => Err(fault),
+    ) -> Result<Database, RefusedRows> {
+        match SqliteRows::create_at(rt, path, Wary, identity, version) {
+            Ok(rows) => Ok(rows),
+            Err(fault) => Err(refused_by(fault)),
         }
     }
 
@@ -52,14 +51,17 @@ impl RowFiles for HostFiles {
         rt: &HostRuntime,
         path: &str,
         identity: Option<Identity>,
-    ) -> Result<FileRows, RowsFault> {
-        // To the database a missing file is an empty one.
-        if !matches!(fs::exists(rt, path), Ok(true)) {
-            return Err(RowsFault::Store);
+    ) -> Result<Database, RefusedRows> {
+        match SqliteRows::open_at(rt, path, Wary, identity) {
+            Ok(rows) => Ok(rows),
+            Err(fault) => Err(refused_by(fault)),
         }
-        match SqliteRows::open_from(rt, path, false, Wary, identity) {
-            Ok(rows) => Ok(FileRows::new(rows)),
-            Err((fault, _, _)) => Err(fault),
+    }
+
+    fn close(&self, rows: Database) -> Result<(), RefusedRows> {
+        match rows.close() {
+            Ok(_) => Ok(()),
+            Err((fault, _)) => Err(refused_by(fault)),
         }
     }
 
@@ -71,8 +73,11 @@ impl RowFiles for HostFiles {
         err: &mut E,
     ) -> End {
         match self.open(rt, path, None) {
-            Ok(mut rows) => print_rows(rt.alloc(), rows.database(), out, err),
-            Err(fault) => Fault::of_rows(fault).tell(err),
+            Ok(mut rows) => {
+                let end = print_rows(rt.alloc(), &mut rows, out, err);
+                close_rows(self, rows, end, err)
+            }
+            Err(refused) => refused.tell(err),
         }
     }
 
@@ -84,8 +89,11 @@ impl RowFiles for HostFiles {
         err: &mut E,
     ) -> End {
         match self.open(rt, path, None) {
-            Ok(mut rows) => upgrade_rows(rows.database(), out, err),
-            Err(fault) => Fault::of_rows(fault).tell(err),
+            Ok(mut rows) => {
+                let end = upgrade_rows(&mut rows, out, err);
+                close_rows(self, rows, end, err)
+            }
+            Err(refused) => refused.tell(err),
         }
     }
 }

@@ -1,9 +1,8 @@
 //! Saved rows in files of the host, each a database.
 #![tactic(auto)]
 
-mod file_rows;
 mod host_files;
+mod refusals;
 
-pub use file_rows::FileRows;
 pub use host_files::HostFiles;
-pub use row_files::RowFiles;
+pub use row_files::{RefusedRows, RowFiles, RowsCause};

@@ -32,6 +32,13 @@ const FIRST_ROWS: &str = "station 1 of 1 circuit 7\n12 1.1 1.1 01020301030204\n"
 
 const LATER_ROWS: &str = "station 1 of 1 circuit 7\n12 2.1 2.1 01020301030204\n";
 
+/// What is told of a row file that is not there, of one that is made already, and of one that is no database.
+const MISSING: &str = "store: refused\nno such file: it is made by --create, at a station's first start alone\n";
+
+const MADE: &str = "store: refused\nit was made already: start without --create\n";
+
+const NO_DATABASE: &str = "store: refused\nit is no database, or damaged, or without its log\n";
+
 /// What is changed in the folder before a start.
 #[derive(Clone, Copy)]
 enum Change {
@@ -210,7 +217,7 @@ const OWNED: &[Start] = &[
         ],
         create: false,
         end: End::Store,
-        fault: "store: refused\n",
+        fault: MISSING,
         left: Left::Missing,
         ..FIRST
     },
@@ -223,7 +230,7 @@ const OWNED: &[Start] = &[
     },
     Start {
         end: End::Store,
-        fault: "store: refused\n",
+        fault: MADE,
         left: Left::Rows(FIRST_ROWS),
         ..FIRST
     },
@@ -302,7 +309,7 @@ const OVER: &[Start] = &[
     Start {
         layout: Some(Version::Two),
         end: End::Store,
-        fault: "store: refused\n",
+        fault: MADE,
         left: Left::Rows(VOID_ROWS),
         ..FIRST
     },
@@ -336,7 +343,7 @@ const SECOND: &[Start] = &[
     Start {
         changes: &[Change::Over],
         end: End::Store,
-        fault: "store: refused\n",
+        fault: MADE,
         left: Left::Rows(VOID_ROWS),
         ..FIRST
     },
@@ -394,7 +401,7 @@ const HELD: &[Start] = &[
     Start {
         changes: &[Change::Circuit(7), Change::Tape(FLOOD)],
         end: End::Store,
-        fault: "store: refused\n",
+        fault: NO_DATABASE,
         ..FIRST
     },
     Start {
@@ -414,7 +421,7 @@ fn are_owned(rt: &HostRuntime, port: u16) -> bool {
 /// in a new folder.
 fn are_over(rt: &HostRuntime, port: u16) -> bool {
     make_folder(rt)
-        && goes_over(rt, End::Store, "", "store: refused\n")
+        && goes_over(rt, End::Store, "", MISSING)
         && gone(rt, port, OVER) == OVER.len()
         && make_folder(rt)
         && gone(rt, port, SECOND) == SECOND.len()

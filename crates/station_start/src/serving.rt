@@ -8,12 +8,12 @@ use crate::starting::{Started, start};
 use command_ends::End;
 use command_line::Plan;
 use configuration::{Config, read_config};
-use row_files::RowFiles;
+use row_files::{RowFiles, close_rows};
 use serve_command::serve_run;
 use std::io::Write;
 use tape_frames::Version;
 
-/// Starts the station of a configuration, and serves it.
+/// Starts the station of a configuration, and serves it; at a good end its rows are closed.
 fn serve_from<F: RowFiles, W: Write, E: Write>(
     rt: &HostRuntime,
     plan: &Plan<'_>,
@@ -35,7 +35,7 @@ fn serve_from<F: RowFiles, W: Write, E: Write>(
         Ok(started) => started,
         Err(end) => return end,
     };
-    serve_run(
+    let end = serve_run(
         rt.alloc(),
         &mut station,
         &mut wire,
@@ -45,14 +45,15 @@ fn serve_from<F: RowFiles, W: Write, E: Write>(
         plan.turns,
         out,
         err,
-    )
+    );
+    close_rows(row_files, station.into_rows(), end, err)
 }
 
 /// Serves the station of a configuration as the plan asks, with its rows saved in one of the files.
 ///
 /// What it starts from is looked for in this order, and the first fault ends it: the configuration, the code table,
 /// the widths, the tape, the saved rows, the socket. A number without a tape, or a tape without a number, ends it
-/// before all of them, as usage; and so does a layout where no rows are to be made.
+/// before all of them, as usage; and so does a layout where no rows are to be made. After a good end the rows are closed.
 pub fn serve<F: RowFiles, W: Write, E: Write>(
     rt: &HostRuntime,
     plan: &Plan<'_>,

@@ -1,6 +1,6 @@
 //! A station that starts from its configuration: the files that this names, its saved rows and its wire.
 
-ghost use Rattle.std.specs.Prelude.{◌≡◌, IfOk, Ok, option_map, string_bytes};
+ghost use Rattle.std.specs.Prelude.{◌≡◌, IfOk, option_map, string_bytes};
 ghost use Rattle.configuration.specs.Reading.{file_of};
 ghost use Rattle.configuration.specs.Stations.{IsCircuit};
 ghost use Rattle.saved_rows.specs.Identity.{IsIdentity};
@@ -11,8 +11,8 @@ use crate::host::Host;
 use code_table::CodeTable;
 use command_ends::{End, Fault};
 use configuration::Config;
-use row_files::RowFiles;
-use saved_rows::{Identity, Rows, RowsFault};
+use row_files::{RefusedRows, RowFiles};
+use saved_rows::{Identity, Rows};
 use station::Station;
 use std::alloc::Global;
 use std::io::Write;
@@ -42,30 +42,20 @@ fn identity_of(config: &Config) -> Identity
     }
 }
 
-/// The rows, or why there are none, as a command tells it.
-fn told<'a, R: Rows>(rows: Result<R, RowsFault>) -> Result<R, Fault<'a>>
-    ensures { IfOk result (λ r. rows ≡ Ok r) }
-{
-    match rows {
-        Ok(rows) => Ok(rows),
-        Err(fault) => Err(Fault::of_rows(fault)),
-    }
-}
-
 /// The saved rows of this station in the file at a path, made in a version or taken up.
-fn rows_of<'a, F: RowFiles>(
+fn rows_of<F: RowFiles>(
     rt: &HostRuntime,
     row_files: &F,
     path: &str,
     identity: Identity,
     making: Option<Version>,
-) -> Result<F::Rows, Fault<'a>>
+) -> Result<F::Rows, RefusedRows>
     requires { IsIdentity identity }
     ensures { IfOk result (AreRowsOf making (F.makes row_files.now path.now) (F.takes_up row_files.now path.now) identity) }
 {
     match making {
-        Some(version) => told(row_files.create(rt, path, identity, version)),
-        None => told(row_files.open(rt, path, Some(identity))),
+        Some(version) => row_files.create(rt, path, identity, version),
+        None => row_files.open(rt, path, Some(identity)),
     }
 }
 
@@ -169,7 +159,7 @@ pub fn start<H: Host, F: RowFiles, E: Write>(
     let identity = identity_of(&config);
     let rows = match rows_of(rt, row_files, &config.rows, identity, making) {
         Ok(rows) => rows,
-        Err(fault) => return Err(fault.tell(err)),
+        Err(refused) => return Err(refused.tell(err)),
     };
     match start_over(rt.alloc(), host, config, files, rows) {
         Ok(started) => Ok(started),

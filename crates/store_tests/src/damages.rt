@@ -62,6 +62,17 @@ const CHANGES: &[Change] = &[
     // No tables.
     ("DROP TABLE acceptor_row", RowsFault::Store),
     ("DROP TABLE station", RowsFault::Store),
+    // Nor a layout that has them, or the station that was asked for.
+    (
+        "DROP TABLE acceptor_row; UPDATE station SET layout = 3",
+        RowsFault::WrongSchema,
+    ),
+    (
+        "DROP TABLE acceptor_row; UPDATE station SET circuit = 8",
+        RowsFault::WrongStation,
+    ),
+    // The tables are not of the layout that the station tells.
+    ("UPDATE station SET layout = 2", RowsFault::WrongSchema),
 ];
 
 /// Those of layout 2.
@@ -140,8 +151,9 @@ const CHANGES_TWO: &[Change] = &[
     ("UPDATE station SET layout = 3", RowsFault::WrongSchema),
     ("UPDATE station SET member = 4", RowsFault::WrongSchema),
     ("UPDATE station SET circuit = 8", RowsFault::WrongStation),
-    // No tables: those of layout 1 were not made.
-    ("UPDATE station SET layout = 1", RowsFault::Store),
+    // The tables are not of the layout that the station tells.
+    ("UPDATE station SET layout = 1", RowsFault::WrongSchema),
+    // No tables.
     ("DROP TABLE acceptor_entry", RowsFault::Store),
 ];
 

@@ -2,7 +2,6 @@ use Rattle.std.proofs.Common.{rules, ◌≡◌, false, IsTrue}
 use Rattle.sqlite.specs.Held.{state}
 use Rattle.row_table.specs.Tables.{layout_schema}
 use Rattle.acceptor_store.specs.Layouts.{layout_of}
-use Rattle.acceptor_store.proofs.IdentityLemmas.{laid_out}
 use Rattle.acceptor_store.proofs.StandLemmas.{taken_stands}
 use Rattle.acceptor_store.proofs.sqlite_rows.SqliteRows.open.Goals as goal
 
@@ -14,15 +13,14 @@ invariant_of-result g c running ours =
     let tables : (state g.S.Store old).now.schema ≡ layout_schema layout = search rules in
     let free : IsTrue c.is_autocommit.result = search rules in
     let alone : old.in_transaction ≡ false = search rules in
-    taken_stands g.S.Store old new layout c.in-Ok-take_up.taken.1 tables c.schema.ensures.live (λ clean. c.in-Ok-take_up.ensures.told clean layout tables) (λ clean. c.in-Ok-take_up.ensures.holds clean layout)
-    (λ clean laid. c.in-Ok-take_up.ensures.serves clean layout laid alone (c.is_autocommit.ensures.settled free)) (λ clean. c.in-Ok-take_up.ensures.unchanged clean layout)
+    taken_stands g.S.Store old new layout c.in-Ok-take_up.taken.1 tables c.schema.ensures.live (λ clean. c.in-Ok-take_up.ensures.holds clean layout tables)
+    (λ clean. c.in-Ok-take_up.ensures.serves clean layout tables alone (c.is_autocommit.ensures.settled free)) (λ clean. c.in-Ok-take_up.ensures.unchanged clean layout tables)
 
 pub returns-in-Ok-take_up-clause-crash : goal.returns-in-Ok-take_up-clause-crash
 returns-in-Ok-take_up-clause-crash g c kept =
-    let old = state g.S.Store c.args.conn in
     let layout = layout_of c.in-Ok-take_up.taken.0 in
-    let tables : old.now.schema ≡ layout_schema layout = search rules in
-    c.take_up.ensures.leaves kept.0 layout (laid_out layout c.in-Ok-take_up.taken.1 old.now tables (c.in-Ok-take_up.ensures.told kept.0 layout tables))
+    let tables : (state g.S.Store c.args.conn).now.schema ≡ layout_schema layout = search rules in
+    c.take_up.ensures.leaves kept.0 layout tables
 
 pub returns-in-Err-take_up-clause-unchanged : goal.returns-in-Err-take_up-clause-unchanged
 returns-in-Err-take_up-clause-unchanged g c clean layout laid opened =

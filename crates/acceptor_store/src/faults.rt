@@ -1,0 +1,66 @@
+//! Why a file of the host gives no rows.
+
+ghost use Rattle.std.specs.Prelude.{◌≡◌};
+ghost use Rattle.acceptor_store.specs.Faults.{rows_fault};
+ghost use Rattle.acceptor_store.specs.Sqlite.{IsRefusal};
+
+use saved_rows::RowsFault;
+use sqlite::{Error, ErrorCode};
+
+/// Why rows are not taken up from a file, made in it, or closed.
+#[derive(Clone, Copy, PartialEq, Eq)]
+pub enum FileFault {
+    /// There is no such file.
+    Missing,
+    /// Another handle has it open.
+    InUse,
+    /// It holds none of the tables of saved rows.
+    Unmade,
+    /// It holds them already.
+    Made,
+    /// It is no database, or one that is damaged or without its log.
+    Damaged,
+    /// It, or its folder, can't be opened.
+    Unopened,
+    /// The disk has no room.
+    DiskFull,
+    /// The disk failed.
+    DiskFailed,
+    /// The rows in it are refused.
+    Rows(RowsFault),
+}
+
+impl FileFault {
+    /// The fault of the rows that it is.
+    pub fn rows_fault(self) -> RowsFault
+        ensures { result ≡ rows_fault self }
+    {
+        match self {
+            FileFault::Rows(fault) => fault,
+            FileFault::Missing
+            | FileFault::InUse
+            | FileFault::Unmade
+            | FileFault::Made
+            | FileFault::Damaged
+            | FileFault::Unopened
+            | FileFault::DiskFull
+            | FileFault::DiskFailed => RowsFault::Store,
+        }
+    }
+}
+
+/// What a file is refused for that the database does not open or close.
+pub(crate) fn file_fault_of(error: &Error) -> FileFault
+    ensures { IsRefusal (rows_fault result) }
+{
+    match error {
+        Error::SqliteFailure(ErrorCode::OutOfMemory) => FileFault::Rows(RowsFault::OutOfMemory),
+        Error::SqliteFailure(ErrorCode::DatabaseBusy) => FileFault::InUse,
+        Error::SqliteFailure(ErrorCode::NotADatabase | ErrorCode::DatabaseCorrupt) => {
+            FileFault::Damaged
+        }
+        Error::SqliteFailure(ErrorCode::CannotOpen) => FileFault::Unopened,
+        Error::SqliteFailure(ErrorCode::DiskFull) => FileFault::DiskFull,
+        _ => FileFault::DiskFailed,
+    }
+}

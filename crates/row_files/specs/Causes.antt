@@ -1,0 +1,16 @@
+-- The words for what is the matter with a file of saved rows.
+use Rattle.std.specs.Prelude.{ℕ, List, codes}
+use Rattle.row_files.specs.declared.causes.RowsCause.{RowsCause}
+use Rattle.row_files.specs.declared.causes.RowsCause.TheVariants as causes
+
+-- the line that an operator reads
+abbrev pub cause_text : RowsCause → List ℕ
+cause_text causes.Missing = codes "no such file: it is made by --create, at a station's first start alone"
+cause_text causes.InUse = codes "another process has it open"
+cause_text causes.Unmade = codes "nothing was made in it yet: start with --create"
+cause_text causes.Made = codes "it was made already: start without --create"
+cause_text causes.Unread = codes "its tables are not those of saved rows, or can't be read"
+cause_text causes.Damaged = codes "it is no database, or damaged, or without its log"
+cause_text causes.Unopened = codes "it can't be opened"
+cause_text causes.DiskFull = codes "the disk is full"
+cause_text causes.DiskFailed = codes "the disk failed"

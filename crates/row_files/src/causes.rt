@@ -1,0 +1,84 @@
+//! Why a file of saved rows is refused, as an operator is told it.
+
+ghost use Rattle.std.specs.Prelude.{◌≡◌};
+ghost use Rattle.command_ends.specs.Ends.{end_of_rows, IsOfRows};
+ghost use Rattle.command_ends.specs.declared.end.End.TheVariants.{Done};
+ghost use Rattle.row_files.specs.Causes.{cause_text};
+
+use command_ends::{End, Fault};
+use saved_rows::RowsFault;
+use std::io::Write;
+
+/// What is the matter with a file of saved rows that is refused.
+#[derive(Clone, Copy, PartialEq, Eq)]
+pub enum RowsCause {
+    /// There is no such file.
+    Missing,
+    /// Another process has it open.
+    InUse,
+    /// It is a database, and no tables were made in it.
+    Unmade,
+    /// The tables are there already.
+    Made,
+    /// It has other tables than those of saved rows, or they can't be read.
+    Unread,
+    /// It is no database, or one that is damaged or without its log.
+    Damaged,
+    /// It, or its folder, can't be opened.
+    Unopened,
+    /// The disk has no room for it.
+    DiskFull,
+    /// The disk failed.
+    DiskFailed,
+}
+
+impl RowsCause {
+    /// It in words.
+    pub fn text(self) -> &'static str
+        ensures { result.now ≡ cause_text self }
+    {
+        match self {
+            RowsCause::Missing => {
+                "no such file: it is made by --create, at a station's first start alone"
+            }
+            RowsCause::InUse => "another process has it open",
+            RowsCause::Unmade => "nothing was made in it yet: start with --create",
+            RowsCause::Made => "it was made already: start without --create",
+            RowsCause::Unread => "its tables are not those of saved rows, or can't be read",
+            RowsCause::Damaged => "it is no database, or damaged, or without its log",
+            RowsCause::Unopened => "it can't be opened",
+            RowsCause::DiskFull => "the disk is full",
+            RowsCause::DiskFailed => "the disk failed",
+        }
+    }
+}
+
+/// Rows that are refused: by which fault, and what is the matter with their file where the fault does not tell it.
+#[derive(Clone, Copy, PartialEq, Eq)]
+pub struct RefusedRows {
+    pub fault: RowsFault,
+    pub cause: Option<RowsCause>,
+}
+
+impl RefusedRows {
+    /// A refusal whose fault tells all.
+    pub fn by(fault: RowsFault) -> RefusedRows
+        ensures { result ≡ record { fault = fault; cause = None } }
+    {
+        RefusedRows { fault, cause: None }
+    }
+
+    /// Writes the text of the fault, and on a line below it the cause, if there is one; and gives the end. That the
+    /// writer fails is ignored.
+    pub fn tell<E: Write>(&self, err: &mut E) -> End
+        ensures end { result ≡ end_of_rows self.now.fault }
+        ensures fails { ¬ (result ≡ Done) }
+        ensures rows { IsOfRows result }
+    {
+        let end = Fault::of_rows(self.fault).tell(err);
+        if let Some(cause) = self.cause {
+            let _ = writeln!(err, "{}", cause.text());
+        }
+        end
+    }
+}
