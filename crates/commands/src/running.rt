@@ -12,12 +12,12 @@ ghost use Rattle.command_line.specs.declared.asked.Asked.TheVariants.{Answer, Up
 use answer_command::answer;
 use check_command::check;
 use command_ends::{End, ScriptPaths, TapePaths};
-use command_line::Asked;
+use command_line::{Asked, print_version};
 use draw_command::draw;
 use opened_files::Opened;
 use rehearse_command::rehearse;
 use row_files::RowFiles;
-use station_start::serve;
+use station_start::{run, serve};
 use std::io::{Read, Write};
 use tape_drawing::Page;
 
@@ -111,6 +111,12 @@ pub fn run_command<F: RowFiles, R: Read, W: Write, E: Write>(
         Asked::Rows { path } => row_files.list(rt, *path, out, err),
         Asked::Upgrade { path } => row_files.upgrade(rt, *path, out, err),
         Asked::Serve(plan) => serve(rt, plan, row_files, out, err),
+        Asked::Run {
+            config,
+            create,
+            quiet,
+        } => run(rt, *config, *create, *quiet, row_files, err),
         Asked::Rehearse { paths } => run_rehearse(rt, paths, out, err),
+        Asked::Version => print_version(out, err),
     }
 }
