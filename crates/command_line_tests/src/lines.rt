@@ -171,7 +171,7 @@ fn prints_version(rt: &HostRuntime) -> bool {
     let mut out = Vec::new(rt.alloc());
     let mut err = Vec::new(rt.alloc());
     let end = print_version(&mut out, &mut err);
-    end == End::Done && out.as_slice() == b"circuitd 0.2.0\n" && err.is_empty()
+    end == End::Done && out.as_slice() == "circuitd 0.2.0\n".as_bytes() && err.is_empty()
 }
 
 #[test]

@@ -236,6 +236,21 @@ module _ {R N W : Type 0} (k : Known R N W) where
     cause = a.cause;
   }
 
+  -- a moment in which nothing passed over the wire
+  pub quiet_behind : (old : Post R N W) (s : Station R) (w v : N) (o : W) (end : End) (F : List Event → Type 0) → Passes (k.passed w) (k.passed v) []
+      → Serves k old (post s w o) end F → Serves k old (post s v o) end F
+  quiet_behind old s w v o end F p a = record {
+    log = a.log;
+    steps = a.steps;
+    passes =
+        subst (λ (l : List Passed). Passes (k.passed old.wire) (k.passed v) l) (append-nil (flat_map passing a.log))
+        (Passes-then (k.passed old.wire) (k.passed w) (k.passed v) (flat_map passing a.log) [] a.passes p);
+    front = a.front;
+    whole = a.whole;
+    form = a.form;
+    cause = a.cause;
+  }
+
   -- the same end, as it is answered
   pub answered : (old new : Post R N W) (end same : End) (F : List Event → Type 0) → same ≡ end → Serves k old new end F → Serves k old new same F
   answered old new end same F is a = subst (λ (e : End). Serves k old new e F) (sym is) a

@@ -3,5 +3,6 @@
 
 mod handing_on;
 mod serving;
+mod strangers;
 
 pub use serving::{serve_run, serve_turn};

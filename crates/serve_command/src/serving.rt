@@ -7,6 +7,7 @@ ghost use Rattle.command_ends.specs.Ends.{end_of, end_of_step};
 ghost use Rattle.command_ends.specs.declared.end.End.TheVariants.{Done};
 
 use crate::handing_on::hand_on;
+use crate::strangers::tell_strangers;
 use command_ends::{End, Fault};
 use saved_rows::Rows;
 use station::{Station, StepRefusal};
@@ -75,7 +76,7 @@ fn see_to_due<R: Rows, N: Wire, W: Write, E: Write>(
     }
 }
 
-/// One turn, up to its first fault.
+/// One turn, up to its first fault. Strangers are told behind what came, so that no reply waits for it.
 fn turn<R: Rows, N: Wire, W: Write, E: Write>(
     alloc: Global,
     station: &mut Station<R>,
@@ -90,13 +91,14 @@ fn turn<R: Rows, N: Wire, W: Write, E: Write>(
     ensures goes_on { OnOk result (station.new.stopped ≡ false) }
 {
     take_in(alloc, station, wire, now, buffer, out, err)?;
+    tell_strangers(wire, now, err);
     see_to_due(alloc, station, wire, now, out, err)
 }
 
 /// One turn of a station at a moment in milliseconds: it takes in one datagram at most, and then sees to what is due.
 ///
 /// What the station hands out is sent, and a release is written. A datagram that it refuses is passed over, a
-/// datagram that can't be sent is lost and told. The turn ends otherwise than by `Done` where the wire fails to
+/// datagram that can't be sent is lost and told, and so are, once a second at most, those of strangers. The turn ends otherwise than by `Done` where the wire fails to
 /// receive, the station stops, or the output can't be written; `err` has the fault.
 pub fn serve_turn<R: Rows, N: Wire, W: Write, E: Write>(
     alloc: Global,

@@ -1,8 +1,9 @@
 -- A turn is what was taken in, and then what was due.
 use Rattle.std.proofs.Common.{rules, ◌≡◌, sym, ◌∙◌}
 use Rattle.command_ends.specs.Ends.{end_of}
+use Rattle.command_ends.specs.declared.end.End.TheVariants as ends
 use Rattle.serve_command.specs.Serving.{known, post, ended, IsTakingIn, IsSeeingToDue, IsTurn}
-use Rattle.serve_command.proofs.Served.{ends_badly, answered, and_then, of_form}
+use Rattle.serve_command.proofs.Served.{ends_badly, answered, and_then, of_form, quiet_behind}
 use Rattle.serve_command.proofs.serving.turn.Goals as goal
 
 pub returns-in_err-take_in-clause-serves : goal.returns-in_err-take_in-clause-serves
@@ -17,7 +18,10 @@ returns-in_err-take_in-clause-serves g c =
 
 pub returns-clause-serves : goal.returns-clause-serves
 returns-clause-serves g c =
-    and_then (known g.R.Rows g.N.Wire.passed g.W.Write.contents)
-    (post c.args.station.now c.args.wire.now c.args.out.now) (post c.take_in.new.station c.take_in.new.wire c.take_in.new.out)
+    let k = known g.R.Rows g.N.Wire.passed g.W.Write.contents in
+    let old = post c.args.station.now c.args.wire.now c.args.out.now in
+    and_then k old (post c.take_in.new.station c.tell_strangers.new.wire c.take_in.new.out)
     (post c.see_to_due.new.station c.see_to_due.new.wire c.see_to_due.new.out) (ended c.see_to_due.result) (IsTakingIn c.args.now) (IsSeeingToDue c.args.now)
-    c.see_to_due.ensures.was_kept c.in_ok-take_in.ensures.serves c.see_to_due.ensures.serves
+    c.see_to_due.ensures.was_kept
+    (quiet_behind k old c.take_in.new.station c.take_in.new.wire c.tell_strangers.new.wire c.take_in.new.out ends.Done (IsTakingIn c.args.now) c.tell_strangers.ensures c.in_ok-take_in.ensures.serves)
+    c.see_to_due.ensures.serves
