@@ -139,11 +139,13 @@ fn is_run(rt: &HostRuntime, line: &str, made: Option<Version>, faults_alone: boo
     let mut told = Vec::new(rt.alloc());
     let mut mistakes = Vec::new(rt.alloc());
     match parse(rt.alloc(), &words, &mut told, &mut mistakes) {
-        Ok(Asked::Run {
-            config,
-            create,
-            quiet,
-        }) => config == "station.toml" && create == made && quiet == faults_alone,
+        Ok(
+            Asked::Run {
+                config,
+                create,
+                quiet,
+            },
+        ) => config == "station.toml" && create == made && quiet == faults_alone,
         _ => false,
     }
 }
