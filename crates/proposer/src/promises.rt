@@ -5,6 +5,7 @@ ghost use Rattle.protocol.specs.Proposals.{vote_above};
 ghost use Rattle.proposer.specs.Slots.{nothing_counted, report_at, slots_with, vote_at};
 ghost use Rattle.proposer.specs.Greatest.{IsGreatest};
 
+use crate::slot::Slot;
 use arrayvec::ArrayVec;
 use ballots::laws::slots_of_members;
 use ballots::{Member, Vote, VoteRef, majority};
@@ -12,7 +13,7 @@ use std::alloc::{AllocError, Global};
 use std::marker::Model;
 
 /// Of each member, in rising order: what it reported, where it is counted. As many are used as the circuit has members.
-type Reports = ArrayVec<Option<Option<Vote>>, 15>;
+type Reports = ArrayVec<Slot, 15>;
 
 /// Of each member, in rising order: what it reported, where it is counted. Clauses see this list.
 #[derive(Drop)]
@@ -45,21 +46,30 @@ fn empty_slots(members: u8) -> Reports
 {
     let mut slots = ArrayVec::new();
     for _ in 0..members {
-        slots.push(None);
+        slots.push(Slot::default());
     }
     slots
 }
 
-/// Sets the member's slot: it is counted, with what it reported.
-fn set(slots: &mut Reports, member: Member, report: Option<Vote>)
+/// Counts the member, with what it reported. After `Err` the slots are as before, and the report is given back.
+fn set(
+    alloc: Global,
+    slots: &mut Reports,
+    member: Member,
+    report: Option<Vote>,
+) -> Result<(), Option<Vote>>
     requires { member ≤ length slots.old.items }
-    ensures { slots.new.items ≡ slice_set slots.old.items (member - 1) (Some report) }
+    ensures set { OnOk result (slots.new.items ≡ slice_set slots.old.items (member - 1) (Some report)) }
+    ensures err { OnErr result (slots.new.items ≡ slots.old.items) }
+    ensures given_back { IfErr result (λ back. back ≡ report) }
 {
     let place = usize::from(member.get()) - 1;
-    slots[place] = Some(report);
+    slots[place] = Slot::counted(alloc, report)?;
+    Ok(())
 }
 
 /// A slot for each of so many members, of whom `me` alone is counted, with what it reported.
+/// After `Err` the report is where it was.
 fn spread(
     alloc: Global,
     members: u8,
@@ -72,18 +82,12 @@ fn spread(
     ensures own { OnErr result (own.new ≡ own.old) }
 {
     let mut slots = Box::new(alloc, empty_slots(members))?;
-    set(&mut slots, me, own.take());
-    Ok(slots)
-}
-
-/// The vote that stands in the slot, if the member is counted and reported one.
-fn vote_in(slots: &[Option<Option<Vote>>], place: usize) -> Option<&Vote>
-    requires { place < length slots.now }
-    ensures { option_copied result ≡ vote_at slots.now (place + 1) }
-{
-    match &slots[place] {
-        None => None,
-        Some(report) => report.as_ref(),
+    match set(alloc, &mut slots, me, own.take()) {
+        Ok(()) => Ok(slots),
+        Err(report) => {
+            *own = report;
+            Err(AllocError)
+        }
     }
 }
 
@@ -105,7 +109,7 @@ impl Slots {
         let me = usize::from(self.me.get());
         match &self.slots {
             None => me == place + 1,
-            Some(slots) => slots.as_slice()[place].is_some(),
+            Some(slots) => slots.as_slice()[place].is_counted(),
         }
     }
 
@@ -123,7 +127,7 @@ impl Slots {
                 }
                 None
             }
-            Some(slots) => vote_in(slots.as_slice(), place),
+            Some(slots) => slots.as_slice()[place].vote(),
         }
     }
 
