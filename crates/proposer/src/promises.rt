@@ -51,17 +51,17 @@ fn empty_slots(members: u8) -> Reports
     slots
 }
 
-/// Counts the member, with what it reported. After `Err` the slots are as before, and the report is given back.
+/// Sets the member's slot: it is counted, with what it reported. The report is taken out of where it stands.
 fn set(
     alloc: Global,
     slots: &mut Reports,
     member: Member,
-    report: Option<Vote>,
-) -> Result<(), Option<Vote>>
+    report: &mut Option<Vote>,
+) -> Result<(), AllocError>
     requires { member ≤ length slots.old.items }
-    ensures set { OnOk result (slots.new.items ≡ slice_set slots.old.items (member - 1) (Some report)) }
+    ensures set { OnOk result (slots.new.items ≡ slice_set slots.old.items (member - 1) (Some report.old)) }
     ensures err { OnErr result (slots.new.items ≡ slots.old.items) }
-    ensures given_back { IfErr result (λ back. back ≡ report) }
+    ensures report { OnErr result (report.new ≡ report.old) }
 {
     let place = usize::from(member.get()) - 1;
     slots[place] = Slot::counted(alloc, report)?;
@@ -69,7 +69,7 @@ fn set(
 }
 
 /// A slot for each of so many members, of whom `me` alone is counted, with what it reported.
-/// After `Err` the report is where it was.
+/// The report is taken out of where it stands.
 fn spread(
     alloc: Global,
     members: u8,
@@ -82,13 +82,8 @@ fn spread(
     ensures own { OnErr result (own.new ≡ own.old) }
 {
     let mut slots = Box::new(alloc, empty_slots(members))?;
-    match set(alloc, &mut slots, me, own.take()) {
-        Ok(()) => Ok(slots),
-        Err(report) => {
-            *own = report;
-            Err(AllocError)
-        }
-    }
+    set(alloc, &mut slots, me, own)?;
+    Ok(slots)
 }
 
 impl Slots {
@@ -142,15 +137,17 @@ impl Slots {
         ensures ok { OnOk result (self.new ≡ slice_set self.old (member - 1) (Some report)) }
         ensures err { OnErr result (self.new ≡ self.old) }
     {
+        let mut report = report;
         match &mut self.slots {
             None => {
                 let mut slots = spread(alloc, self.members, self.me, &mut self.own)?;
-                set(&mut slots, member, report);
+                let answer = set(alloc, &mut slots, member, &mut report);
+                // The own report stands in them now, whatever the answer.
                 self.slots = Some(slots);
+                answer
             }
-            Some(slots) => set(slots, member, report),
+            Some(slots) => set(alloc, slots, member, &mut report),
         }
-        Ok(())
     }
 }
 
