@@ -1,5 +1,5 @@
 -- Slots that may not be written down yet.
-use Rattle.std.proofs.Common.{◌≡◌, ℕ, ◌-◌, refl, ap, List, [], ◌∷◌, Option, Some, None}
+use Rattle.std.proofs.Common.{◌≡◌, ℕ, ◌-◌, refl, List, [], ◌∷◌, Option, Some, None}
 use Rattle.std.proofs.Math.ListN.{get_or-map}
 use Rattle.std.specs.Prelude.{map}
 use Rattle.std.specs.Global.{Box}
@@ -16,10 +16,6 @@ no_votes (m ∷ ms) = no_votes ms
 pub least_opened : (b : Ballot) (c : ℕ) (slots : Option (Box (ArrayVec (Option Vote)))) → least_in b (written slots) ≡ least_in b (opened c slots)
 least_opened b c None = let none = no_votes (members c) in rw none refl
 least_opened b c (Some slots) = refl
-
--- slots that were taken out are the ones that stood there
-pub taken : (b : Ballot) {before after : Option (Box (ArrayVec (Option Vote)))} → after ≡ before → least_in b (written after) ≡ least_in b (written before)
-taken b e = ap (λ (slots : Option (Box (ArrayVec (Option Vote)))). least_in b (written slots)) e
 
 -- where none is written down, no vote stands
 pub nothing_there : (c m : ℕ) → slot_of (nothing_heard c) m ≡ None

@@ -142,15 +142,17 @@ fn give_up_at(slots: &mut Slots, ballot: Ballot) -> Option<Entry>
     }
 }
 
-/// Gives up the entry as `give_up_at`; none as long as no vote is kept.
-fn give_up(slots: Option<Box<Slots>>, ballot: Ballot) -> Option<Entry>
-    ensures { option_map owned_entry result ≡ option_map (λ (v : VoteValue). v.entry) (least_in ballot (written slots)) }
+/// Gives up the entry as `give_up_at`, and forgets all votes.
+fn give_up(slots: &mut Option<Box<Slots>>, ballot: Ballot) -> Option<Entry>
+    ensures entry { option_map owned_entry result ≡ option_map (λ (v : VoteValue). v.entry) (least_in ballot (written slots.old)) }
+    ensures forgets { slots.new ≡ None }
 {
     match slots {
         None => None,
-        Some(slots) => {
-            let mut slots = slots;
-            give_up_at(&mut slots, ballot)
+        Some(heard) => {
+            let entry = give_up_at(heard, ballot);
+            *slots = None;
+            entry
         }
     }
 }
@@ -278,6 +280,6 @@ impl Heard {
         ensures forgets { self.new ≡ latest_votes self.old.members 0 [] }
     {
         slots_of_members::<Option<Vote>>();
-        give_up(self.slots.take(), ballot)
+        give_up(&mut self.slots, ballot)
     }
 }
