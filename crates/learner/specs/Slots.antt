@@ -7,6 +7,11 @@ use Rattle.protocol.specs.Entries.{Entry}
 use Rattle.protocol.specs.Rows.{Vote, vote_for}
 use Rattle.protocol.specs.Learner.{votes_at}
 
+-- the vote that stands in a slot's box, if there is one
+abbrev pub unboxed : Option (Box Vote) → Option Vote
+unboxed None = None
+unboxed (Some vote) = Some vote.value
+
 -- the slots of c members before anything is heard of them
 abbrev pub nothing_heard : ℕ → List (Option Vote)
 nothing_heard c = map (λ m. None) (members c)

@@ -1,23 +1,24 @@
 //! Votes that were heard, in a slot for each member.
 
-ghost use Rattle.std.specs.Prelude.{◌≡◌, ◌≤◌, ◌<◌, ℕ, List, [], ◌∷◌, Option, Some, None, Bool, false, IfOk, IsOk, OnOk, OnErr, length, map, slice_get, option_map, option_copied, count_by, MatchBool};
+ghost use Rattle.std.specs.Prelude.{◌≡◌, ◌≤◌, ◌<◌, ℕ, List, [], ◌∷◌, Option, Some, None, Bool, false, IfOk, IsOk, OnOk, OnErr, length, option_map, option_copied, count_by, slice_index_or, MatchBool, MatchOption};
 ghost use Rattle.protocol.specs.Ballots.{is_below, members as all_members};
 ghost use Rattle.protocol.specs.Rows.{Vote as VoteValue};
 ghost use Rattle.protocol.specs.Marks.{Mark, Heard as HeardMark};
 ghost use Rattle.protocol.specs.Learner.{latest, ripe, votes_at};
 ghost use Rattle.learner.specs.Latest.{StandsFor, latest_votes, least_at};
 ghost use Rattle.learner.specs.Slots.{is_newer, kept, slot_of, nothing_heard, opened, written, ripe_in, least_in};
-ghost use Rattle.tape_frames.specs.Entries.{lent_entry};
+ghost use Rattle.tape_frames.specs.Entries.{lent_entry, owned_entry};
 
+use crate::slot::Slot;
 use arrayvec::ArrayVec;
 use ballots::laws::slots_of_members;
 use ballots::{Ballot, Member, Vote, majority};
 use std::alloc::{AllocError, Global};
 use std::marker::Model;
-use tape_frames::EntryRef;
+use tape_frames::{Entry, EntryRef};
 
 /// Of each member, in rising order, the vote that was heard. As many are used as the circuit has members.
-type Slots = ArrayVec<Option<Vote>, 15>;
+type Slots = ArrayVec<Slot, 15>;
 
 /// The votes for one number that were heard since the station's start: of each member the one of greatest ballot.
 ///
@@ -51,13 +52,13 @@ fn empty_slots(members: u8) -> Slots
 {
     let mut slots = ArrayVec::new();
     for _ in 0..members {
-        slots.push(None);
+        slots.push(Slot::default());
     }
     slots
 }
 
 /// The slots, lent; none as long as no vote is kept.
-fn lent(slots: &Option<Box<Slots>>) -> &[Option<Vote>]
+fn lent(slots: &Option<Box<Slots>>) -> &[Slot]
     ensures value { result.now ≡ written slots.now }
     ensures few { length result.now ≤ 15 }
 {
@@ -67,32 +68,12 @@ fn lent(slots: &Option<Box<Slots>>) -> &[Option<Vote>]
     }
 }
 
-/// Whether a vote at the ballot takes the slot: the vote in it, if any, is at a ballot below.
-fn is_newer(ballot: Ballot, slot: &Option<Vote>) -> bool
-    ensures { result ≡ is_newer ballot slot.now }
-{
-    match slot {
-        None => true,
-        Some(vote) => vote.ballot().is_below(ballot),
-    }
-}
-
-/// Whether there is a vote in the slot, and its ballot is this one.
-fn is_at(slot: &Option<Vote>, ballot: Ballot) -> bool
-    ensures { result ≡ votes_at ballot slot.now }
-{
-    match slot {
-        None => false,
-        Some(vote) => vote.ballot().is_same(ballot),
-    }
-}
-
 /// Whether no slot has a vote.
-fn are_empty(slots: &[Option<Vote>]) -> bool
+fn are_empty(slots: &[Slot]) -> bool
     ensures { MatchBool result (slots.now ≡ nothing_heard (length slots.now)) (slots.now ≡ nothing_heard (length slots.now) → ⊥) }
 {
     for slot in slots {
-        if slot.is_some() {
+        if slot.has_vote() {
             return false;
         }
     }
@@ -100,13 +81,13 @@ fn are_empty(slots: &[Option<Vote>]) -> bool
 }
 
 /// How many slots have a vote at the ballot.
-fn count_at(slots: &[Option<Vote>], ballot: Ballot) -> u8
+fn count_at(slots: &[Slot], ballot: Ballot) -> u8
     requires { length slots.now ≤ 15 }
     ensures { result ≡ count_by (votes_at ballot) slots.now }
 {
     let mut count = 0;
     for slot in slots {
-        if is_at(slot, ballot) {
+        if slot.is_at(ballot) {
             count += 1;
         }
     }
@@ -114,12 +95,12 @@ fn count_at(slots: &[Option<Vote>], ballot: Ballot) -> u8
 }
 
 /// The ballot of the least member's vote at whose ballot the votes of a majority stand.
-fn majority_at(slots: &[Option<Vote>]) -> Option<Ballot>
+fn majority_at(slots: &[Slot]) -> Option<Ballot>
     requires { length slots.now ≤ 15 }
     ensures { result ≡ option_map (λ (v : VoteValue). v.ballot) (ripe_in slots.now) }
 {
     for slot in slots {
-        if let Some(vote) = slot {
+        if let Some(vote) = slot.vote() {
             let ballot = vote.ballot();
             if majority(count_at(slots, ballot), slots.len() as u8) {
                 return Some(ballot);
@@ -129,16 +110,51 @@ fn majority_at(slots: &[Option<Vote>]) -> Option<Ballot>
     None
 }
 
-/// The vote of the least member whose vote has this ballot.
-fn least_at(slots: &[Option<Vote>], ballot: Ballot) -> Option<&Vote>
-    ensures { option_copied result ≡ least_in ballot slots.now }
+/// The place of the least member whose vote has this ballot.
+fn place_at(slots: &[Slot], ballot: Ballot) -> Option<usize>
+    ensures { MatchOption result (least_in ballot slots.now ≡ None) (λ i. (i < length slots.now) × (slice_index_or slots.now i None ≡ least_in ballot slots.now)) }
 {
-    for slot in slots {
-        if is_at(slot, ballot) {
-            return slot.as_ref();
+    for place in 0..slots.len() {
+        if slots[place].is_at(ballot) {
+            return Some(place);
         }
     }
     None
+}
+
+/// The vote of the least member whose vote has this ballot.
+fn least_at(slots: &[Slot], ballot: Ballot) -> Option<&Vote>
+    ensures { option_copied result ≡ least_in ballot slots.now }
+{
+    match place_at(slots, ballot) {
+        None => None,
+        Some(place) => slots[place].vote(),
+    }
+}
+
+/// Gives up the entry of the least member whose vote has this ballot.
+fn give_up_at(slots: &mut Slots, ballot: Ballot) -> Option<Entry>
+    ensures { option_map owned_entry result ≡ option_map (λ (v : VoteValue). v.entry) (least_in ballot slots.old.items) }
+{
+    match place_at(slots.as_slice(), ballot) {
+        None => None,
+        Some(place) => slots[place].give_up(),
+    }
+}
+
+/// Gives up the entry as `give_up_at`, and forgets all votes.
+fn give_up(slots: &mut Option<Box<Slots>>, ballot: Ballot) -> Option<Entry>
+    ensures entry { option_map owned_entry result ≡ option_map (λ (v : VoteValue). v.entry) (least_in ballot (written slots.old)) }
+    ensures forgets { slots.new ≡ None }
+{
+    match slots {
+        None => None,
+        Some(heard) => {
+            let entry = give_up_at(heard, ballot);
+            *slots = None;
+            entry
+        }
+    }
 }
 
 /// Keeps the vote in the member's slot, where it is above the one that stands there. Only then does it take memory.
@@ -155,9 +171,9 @@ fn keep_newer(
     ensures no_memory { is_newer ballot (slot_of slots.old.items member) ≡ false → IsOk result }
 {
     let place = usize::from(member.get()) - 1;
-    if is_newer(ballot, &slots[place]) {
+    if slots[place].gives_way_to(ballot) {
         let entry = entry.copy(alloc)?;
-        slots[place] = Some(Vote::new(ballot, entry));
+        slots[place] = Slot::voted(alloc, Vote::new(ballot, entry))?;
     }
     Ok(())
 }
@@ -253,5 +269,17 @@ impl Heard {
             None => None,
             Some(vote) => Some(vote.entry()),
         }
+    }
+
+    /// Gives up the entry of the least member whose latest vote has this ballot, and forgets all that was heard.
+    ///
+    /// It takes no memory: the entry is not copied.
+    pub fn release_at(&mut self, ballot: Ballot) -> Option<Entry>
+        ensures least { (n : ℕ) (marks : List Mark) → StandsFor self.old n marks → option_map owned_entry result ≡ option_map (λ (v : VoteValue). v.entry) (least_at self.old.members ballot (latest n marks)) }
+        ensures ripe { (n : ℕ) (marks : List Mark) (v : VoteValue) → StandsFor self.old n marks → ripe self.old.members n marks ≡ Some v → ballot ≡ v.ballot → option_map owned_entry result ≡ Some v.entry }
+        ensures forgets { self.new ≡ latest_votes self.old.members 0 [] }
+    {
+        slots_of_members::<Option<Vote>>();
+        give_up(&mut self.slots, ballot)
     }
 }

@@ -3,5 +3,6 @@
 
 mod heard;
 pub mod laws;
+mod slot;
 
 pub use heard::Heard;

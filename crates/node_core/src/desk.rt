@@ -89,10 +89,9 @@ impl Desk {
     }
 
     /// Hears a member's vote, and answers the entry that is then released, if any: that of the least member at whose ballot a
-    /// majority's votes stand.
+    /// majority's votes stand. It is given up, and with it all that was heard.
     fn hear(
         &mut self,
-        alloc: Global,
         member: Member,
         ballot: Ballot,
         entry: EntryRef<'_>,
@@ -108,16 +107,12 @@ impl Desk {
         let Some(chosen) = self.heard.hear(member, ballot, entry)? else {
             return Ok(None);
         };
-        match self.heard.tape_at(chosen) {
-            None => Ok(None),
-            Some(entry) => Ok(Some(entry.copy(alloc)?)),
-        }
+        Ok(self.heard.release_at(chosen))
     }
 
     /// Votes for the entry at the ballot at which it was just proposed.
     fn vote_for(
         &mut self,
-        alloc: Global,
         seat: Seat,
         ballot: Ballot,
         entry: Entry,
@@ -130,7 +125,7 @@ impl Desk {
         ensures of { IsDeskOf seat self.new }
         ensures number { self.new.number ≡ self.old.number }
     {
-        let release = self.hear(alloc, seat.me(), ballot, entry.lend())?;
+        let release = self.hear(seat.me(), ballot, entry.lend())?;
         Ok(Turn {
             row: vote(row, ballot, entry),
             mail: Some(Mail::new(seat, self.number, ballot, Letter::Proposal)),
@@ -167,7 +162,7 @@ impl Desk {
             }
             Some(entry) => {
                 proposal.proposed(now);
-                self.vote_for(alloc, seat, ballot, entry, row)
+                self.vote_for(seat, ballot, entry, row)
             }
         }
     }
@@ -396,7 +391,7 @@ impl Desk {
         match vote {
             None => Ok(turn),
             Some(entry) => {
-                let release = self.hear(alloc, seat.me(), packet.ballot(), entry)?;
+                let release = self.hear(seat.me(), packet.ballot(), entry)?;
                 Ok(Turn { release, ..turn })
             }
         }
@@ -405,7 +400,6 @@ impl Desk {
     /// Takes an Accepted: the sender's vote is heard.
     fn accepted(
         &mut self,
-        alloc: Global,
         seat: Seat,
         packet: &PacketRef<'_>,
         entry: EntryRef<'_>,
@@ -419,7 +413,7 @@ impl Desk {
         ensures number { self.new.number ≡ self.old.number }
     {
         let ballot = packet.ballot();
-        let release = self.hear(alloc, packet.from(), ballot, entry)?;
+        let release = self.hear(packet.from(), ballot, entry)?;
         Ok(Turn {
             row: None,
             mail: None,
@@ -449,7 +443,7 @@ impl Desk {
             BodyRef::Prepare => voting::prepare(alloc, seat, packet, row),
             BodyRef::Promise { report } => self.promise(alloc, seat, packet, report, now, row),
             BodyRef::Accept { entry } => self.accept(alloc, seat, packet, entry, row),
-            BodyRef::Accepted { entry } => self.accepted(alloc, seat, packet, entry),
+            BodyRef::Accepted { entry } => self.accepted(seat, packet, entry),
             BodyRef::Nack { promised } => Ok(self.nack(packet, promised)),
         }
     }

@@ -5,6 +5,12 @@ use Rattle.arrayvec.specs.ArrayVec.{ArrayVec}
 use Rattle.protocol.specs.Ballots.{members}
 use Rattle.protocol.specs.Rows.{Vote}
 
+-- what stands in a slot: the report where its member is counted, its vote in a box
+abbrev pub unboxed : Option (Option (Box Vote)) → Option (Option Vote)
+unboxed None = None
+unboxed (Some None) = Some None
+unboxed (Some (Some vote)) = Some (Some vote.value)
+
 -- the slots of c members, of whom none is counted
 abbrev pub nothing_counted : ℕ → List (Option (Option Vote))
 nothing_counted c = map (λ m. None) (members c)

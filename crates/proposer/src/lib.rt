@@ -5,6 +5,7 @@ mod answer;
 pub mod laws;
 mod promises;
 mod proposal;
+mod slot;
 
 pub use answer::{BeginRefusal, Counted, DueAnswer};
 pub use proposal::Proposal;

@@ -5,6 +5,7 @@ ghost use Rattle.protocol.specs.Proposals.{vote_above};
 ghost use Rattle.proposer.specs.Slots.{nothing_counted, report_at, slots_with, vote_at};
 ghost use Rattle.proposer.specs.Greatest.{IsGreatest};
 
+use crate::slot::Slot;
 use arrayvec::ArrayVec;
 use ballots::laws::slots_of_members;
 use ballots::{Member, Vote, VoteRef, majority};
@@ -12,7 +13,7 @@ use std::alloc::{AllocError, Global};
 use std::marker::Model;
 
 /// Of each member, in rising order: what it reported, where it is counted. As many are used as the circuit has members.
-type Reports = ArrayVec<Option<Option<Vote>>, 15>;
+type Reports = ArrayVec<Slot, 15>;
 
 /// Of each member, in rising order: what it reported, where it is counted. Clauses see this list.
 #[derive(Drop)]
@@ -45,21 +46,30 @@ fn empty_slots(members: u8) -> Reports
 {
     let mut slots = ArrayVec::new();
     for _ in 0..members {
-        slots.push(None);
+        slots.push(Slot::default());
     }
     slots
 }
 
-/// Sets the member's slot: it is counted, with what it reported.
-fn set(slots: &mut Reports, member: Member, report: Option<Vote>)
+/// Sets the member's slot: it is counted, with what it reported. The report is taken out of where it stands.
+fn set(
+    alloc: Global,
+    slots: &mut Reports,
+    member: Member,
+    report: &mut Option<Vote>,
+) -> Result<(), AllocError>
     requires { member ≤ length slots.old.items }
-    ensures { slots.new.items ≡ slice_set slots.old.items (member - 1) (Some report) }
+    ensures set { OnOk result (slots.new.items ≡ slice_set slots.old.items (member - 1) (Some report.old)) }
+    ensures err { OnErr result (slots.new.items ≡ slots.old.items) }
+    ensures report { OnErr result (report.new ≡ report.old) }
 {
     let place = usize::from(member.get()) - 1;
-    slots[place] = Some(report);
+    slots[place] = Slot::counted(alloc, report)?;
+    Ok(())
 }
 
 /// A slot for each of so many members, of whom `me` alone is counted, with what it reported.
+/// The report is taken out of where it stands.
 fn spread(
     alloc: Global,
     members: u8,
@@ -72,19 +82,8 @@ fn spread(
     ensures own { OnErr result (own.new ≡ own.old) }
 {
     let mut slots = Box::new(alloc, empty_slots(members))?;
-    set(&mut slots, me, own.take());
+    set(alloc, &mut slots, me, own)?;
     Ok(slots)
-}
-
-/// The vote that stands in the slot, if the member is counted and reported one.
-fn vote_in(slots: &[Option<Option<Vote>>], place: usize) -> Option<&Vote>
-    requires { place < length slots.now }
-    ensures { option_copied result ≡ vote_at slots.now (place + 1) }
-{
-    match &slots[place] {
-        None => None,
-        Some(report) => report.as_ref(),
-    }
 }
 
 impl Slots {
@@ -105,7 +104,7 @@ impl Slots {
         let me = usize::from(self.me.get());
         match &self.slots {
             None => me == place + 1,
-            Some(slots) => slots.as_slice()[place].is_some(),
+            Some(slots) => slots.as_slice()[place].is_counted(),
         }
     }
 
@@ -123,7 +122,7 @@ impl Slots {
                 }
                 None
             }
-            Some(slots) => vote_in(slots.as_slice(), place),
+            Some(slots) => slots.as_slice()[place].vote(),
         }
     }
 
@@ -138,15 +137,17 @@ impl Slots {
         ensures ok { OnOk result (self.new ≡ slice_set self.old (member - 1) (Some report)) }
         ensures err { OnErr result (self.new ≡ self.old) }
     {
+        let mut report = report;
         match &mut self.slots {
             None => {
                 let mut slots = spread(alloc, self.members, self.me, &mut self.own)?;
-                set(&mut slots, member, report);
+                let answer = set(alloc, &mut slots, member, &mut report);
+                // The own report stands in them now, whatever the answer.
                 self.slots = Some(slots);
+                answer
             }
-            Some(slots) => set(slots, member, report),
+            Some(slots) => set(alloc, slots, member, &mut report),
         }
-        Ok(())
     }
 }
 

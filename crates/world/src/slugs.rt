@@ -21,10 +21,11 @@ impl Model for Slugs {
 }
 
 impl Slugs {
-    /// These slugs.
-    pub fn new(slugs: Vec<Slug>) -> Slugs
+    /// These slugs, in a list of just their length: a world keeps them to its end.
+    pub fn new(mut slugs: Vec<Slug>) -> Slugs
         ensures { result ≡ slugs.items }
     {
+        slugs.shrink_to_fit();
         Slugs { slugs }
     }
 
