@@ -51,13 +51,16 @@ keeps_written (Some x) None f q w = absurd w
 keeps_written (Some x) (Some y) f q w =
     ap (λ (l : List File). l ++ q) w ∙ append_assoc x (f ∷ []) q ∙ ap (λ (l : List File). x ++ (f ∷ l)) (sym (append-nil q))
 
+no_first : (f : File) → slice_get [] 0 ≡ Some f → ⊥
+no_first f e = cc
+
 get : File → Option File → File
 get d None = d
 get d (Some f) = f
 
 -- the first of what waits was written, and waits no more
 pub keeps_removed : (a b : Option (List File)) (q : List File) (f : File) → slice_get q 0 ≡ Some f → Writes a b (f ∷ []) → Keeps a b q (remove q 0) []
-keeps_removed a b [] f e w = cc
+keeps_removed a b [] f e w = absurd (no_first f e)
 keeps_removed a b (x ∷ q) f e w = keeps_written a b x q (subst (λ (y : File). Writes a b (y ∷ [])) (sym (ap (get x) e)) w)
 
 -- nothing was written, and all wait as before
