@@ -1,6 +1,7 @@
 -- Stretches of a run, one after the other.
 use Rattle.std.proofs.Common.{◌≡◌, ℕ, List, [], ◌∷◌, ◌++◌, Bool, true, false, ◌||◌, Option, Some, None, Result, Ok, Err, OnOk, inl, inr, refl, sym, ap, ◌∙◌, subst, append_assoc, append-nil}
-use Rattle.std.specs.Prelude.{flat_map, OnErr, IfErr}
+use Rattle.std.specs.Prelude.{flat_map, OnErr, IfErr, slice_get}
+use Rattle.std.specs.List.{remove}
 use Rattle.std.proofs.lemmas.Grind.{flat_map-append}
 use Rattle.protocol.specs.Refusals.{Call}
 use Rattle.saved_rows.specs.declared.rows.Rows.{Ghosts}
@@ -49,6 +50,22 @@ keeps_written None b f q w = tt
 keeps_written (Some x) None f q w = absurd w
 keeps_written (Some x) (Some y) f q w =
     ap (λ (l : List File). l ++ q) w ∙ append_assoc x (f ∷ []) q ∙ ap (λ (l : List File). x ++ (f ∷ l)) (sym (append-nil q))
+
+no_first : (f : File) → slice_get [] 0 ≡ Some f → ⊥
+no_first f e = cc
+
+get : File → Option File → File
+get d None = d
+get d (Some f) = f
+
+-- the first of what waits was written, and waits no more
+pub keeps_removed : (a b : Option (List File)) (q : List File) (f : File) → slice_get q 0 ≡ Some f → Writes a b (f ∷ []) → Keeps a b q (remove q 0) []
+keeps_removed a b [] f e w = absurd (no_first f e)
+keeps_removed a b (x ∷ q) f e w = keeps_written a b x q (subst (λ (y : File). Writes a b (y ∷ [])) (sym (ap (get x) e)) w)
+
+-- nothing was written, and all wait as before
+pub keeps_all : (a b : Option (List File)) (q : List File) → b ≡ a → Keeps a b q q []
+keeps_all a b q same = subst (λ (x : Option (List File)). Keeps a x q q []) (sym same) (keeps_same a q)
 
 -- these wait behind the others, and then some of all were written
 pub keeps_waited : (a b : Option (List File)) (q r fs : List File) → Keeps a b (q ++ fs) r [] → Keeps a b q r fs
