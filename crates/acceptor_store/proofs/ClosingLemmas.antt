@@ -16,7 +16,7 @@ holds_alone s files stands copied =
     let rests = (stands.serves copied.was_clean).1 copied.was_open in
     record {
       db = (file_state s.conn).committed.trees;
-      same = λ n. ap (λ (d : Database). saved_in (rows_layout s) d.trees n) (sym rests.settled);
+      same = λ n. ap (λ (d : Database). saved_in (rows_layout s) d.trees n) rests.settled;
       station = subst (λ (d : Database). IsOfStation (rows_layout s) s.identity d.trees) (sym rests.settled) (stands.holds copied.was_clean copied.was_open);
       seen = copied.seen;
       left = copied.left;

@@ -35,8 +35,10 @@ impl<T: Start> SqliteRows<FileStore<FileFrom<T>>> {
         ensures unstopped { IfOk result (λ s. s.stopped ≡ false) }
     {
         // To the database a missing file is an empty one.
-        if !matches!(fs::exists(rt, path), Ok(true)) {
-            return Err(FileFault::Missing);
+        match fs::exists(rt, path) {
+            Ok(true) => {}
+            Ok(false) => return Err(FileFault::Missing),
+            Err(_) => return Err(FileFault::Unopened),
         }
         let conn = match Connection::open_from(rt, path, false, start) {
             Ok(conn) => conn,

@@ -74,7 +74,7 @@ fn is_empty(schema: &Schema) -> bool
 }
 
 impl<S: Alter + Drop> SqliteRows<S> {
-    ghost use Rattle.acceptor_store.specs.Sqlite.{IsKept, IsOpen, IsOurs, saved_of, MayLeave, IsRefusal, RefusesToOpen, Agrees};
+    ghost use Rattle.acceptor_store.specs.Sqlite.{IsKept, IsOpen, IsOurs, Stands, saved_of, MayLeave, IsRefusal, RefusesToOpen, Agrees};
     ghost use Rattle.acceptor_store.specs.Columns.{saved_in};
     ghost use Rattle.sqlite.specs.Held.{state};
 
@@ -230,7 +230,8 @@ impl<S: Alter + Drop> SqliteRows<S> {
 
     /// The connection, given back.
     pub fn into_connection(self) -> Connection<S>
-        ensures { result ≡ self.conn }
+        ensures connection { result ≡ self.conn }
+        ensures stands { self.stopped ≡ false → IsOurs self.alone self.was self.found → Stands S.Store (rows_layout self) self.conn self.identity }
     {
         let SqliteRows {
             conn,

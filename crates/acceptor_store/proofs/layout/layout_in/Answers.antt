@@ -5,16 +5,16 @@ use Rattle.acceptor_store.proofs.LayoutLemmas.{tells, tells_none, tells_some}
 use Rattle.acceptor_store.proofs.layout.layout_in.Goals as goal
 
 pub returns-clause-laid : goal.returns-clause-laid
-returns-clause-laid g c layout same =
+returns-clause-laid c layout same =
     let value : option_map layout_of c.layout_by.result ≡ layout_in c.args.schema.now = search rules in
     tells c.args.schema.now layout c.layout_by.result value same
 
 pub returns-clause-none : goal.returns-clause-none
-returns-clause-none g c none layout same =
+returns-clause-none c none layout same =
     let value : option_map layout_of c.layout_by.result ≡ layout_in c.args.schema.now = search rules in
     tells_none c.args.schema.now layout c.layout_by.result value none same
 
 pub returns-clause-some : goal.returns-clause-some
-returns-clause-some g c =
+returns-clause-some c =
     let value : option_map layout_of c.layout_by.result ≡ layout_in c.args.schema.now = search rules in
     tells_some c.layout_by.result (layout_in c.args.schema.now) value

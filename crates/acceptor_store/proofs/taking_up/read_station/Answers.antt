@@ -3,8 +3,8 @@ use Rattle.acceptor_store.specs.StationRow.{station_in}
 use Rattle.acceptor_store.proofs.IdentityLemmas.{same_station}
 use Rattle.acceptor_store.proofs.taking_up.read_station.Goals as goal
 
-pub returns-in-None-clause-refuses : goal.returns-in-None-clause-refuses
-returns-in-None-clause-refuses g c clean layout has =
+pub returns-clause-refuses : goal.returns-clause-refuses
+returns-clause-refuses g c clean layout has =
     let none : station_in c.in-Ok.stations.items ≡ None = search rules in
     inr (refl, same_station _ c.in-Ok.stations.items (c.in-Ok.ensures.listed clean layout has) ∙ none)
 

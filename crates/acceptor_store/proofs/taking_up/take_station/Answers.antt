@@ -1,6 +1,5 @@
-use Rattle.std.proofs.Common.{rules, ◌≡◌, ◌≢◌, inl, Some}
-use Rattle.sqlite.specs.Held.{state}
-use Rattle.row_table.specs.Tables.{layout_number}
 use Rattle.acceptor_store.specs.Layouts.{layout_of}
-use Rattle.acceptor_store.proofs.IdentityLemmas.{this_layout, another_layout, refused_station}
 use Rattle.acceptor_store.proofs.taking_up.take_station.Goals as goal
+
+pub returns-in_err-number-clause-leaves : goal.returns-in_err-number-clause-leaves
+returns-in_err-number-clause-leaves g c clean has = c.read_station.ensures.leaves clean (layout_of c.args.layout) has
