@@ -22,7 +22,7 @@ fn is_at(address: &Address, sender: SocketAddr) -> bool
     ensures { IsTrue result ↔ IsAt address.now sender }
 {
     match sender.ip() {
-        IpAddr::V4(_) => sender.port() == address.port,
+        IpAddr::V4(ip) => ip.octets() == address.ip && sender.port() == address.port,
         IpAddr::V6(_) => false,
     }
 }

@@ -137,6 +137,6 @@ impl<'a, C: Clock> Wire for UdpWire<'a, C> {
         ensures told { self.old.untold.due ≤ now → (result ≡ self.old.untold.kept) × (self.new.untold.kept ≡ None) }
         ensures next { MatchOption result (self.new.untold ≡ self.old.untold) (λ strangers. self.new.untold.due ≡ later now) }
     {
-        self.untold.tell(u64::MAX)
+        self.untold.tell(now)
     }
 }
