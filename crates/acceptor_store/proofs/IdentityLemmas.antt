@@ -1,5 +1,5 @@
 -- The station in its table.
-use Rattle.std.proofs.Common.{◌≡◌, ◌≢◌, ◌⊎◌, ◌<◌, ◌≤◌, ◌==◌, ℕ, ℤ, pos, negsuc, Bool, true, false, cond, nat_le, nat_lt, ◌&&◌, ◌^◌, List, [], ◌∷◌, map, Option, Some, None, true≢false, is_some, subst, inl, inr, refl, sym, ap, ◌∙◌, arith}
+use Rattle.std.proofs.Common.{◌≡◌, ◌<◌, ◌≤◌, ◌==◌, ℕ, ℤ, pos, negsuc, Bool, true, false, cond, nat_le, nat_lt, ◌&&◌, ◌^◌, List, [], ◌∷◌, map, Option, Some, None, true≢false, inl, inr, refl, sym, ap, ◌∙◌, arith}
 use Rattle.std.specs.List.Sorted.{IsPermutation}
 use Rattle.std.proofs.lemmas.List.Sorted.{length_permutation}
 use Rattle.std.proofs.lemmas.Bool.{le-leb, and_parts}
@@ -18,10 +18,7 @@ use Rattle.row_table.specs.Entries.{HasLayoutOne, IsUpgraded}
 use Rattle.saved_rows.specs.declared.identity.Identity.{Identity}
 use Rattle.saved_rows.specs.Identity.{IsIdentity}
 use Rattle.acceptor_store.specs.Columns.{whole_in, small}
-use Rattle.acceptor_store.specs.StationRow.{station_from, station_of, station_in, stored_station, IsStationOf}
-use Rattle.saved_rows.specs.declared.fault.RowsFault.{RowsFault}
-use Rattle.saved_rows.specs.declared.fault.RowsFault.TheVariants.{WrongSchema}
-use Rattle.acceptor_store.specs.Sqlite.{IsRefusal, RefusesToOpen}
+use Rattle.acceptor_store.specs.StationRow.{station_from, station_of, station_in, IsStationOf}
 use Rattle.acceptor_store.proofs.ColumnLemmas.{ranged}
 
 -- the order of the rows tells nothing
@@ -125,29 +122,6 @@ told_in : (rows : List Columns) (n : ℕ) (i : Identity) → station_in rows ≡
 told_in [] n i e = absurd cc
 told_in (r ∷ []) n i e = (r, refl, e)
 told_in (r ∷ s ∷ rs) n i e = absurd cc
-
--- the number that a station's row tells is that of a layout
-pub in_range : (rows : List Columns) (s : ℕ × Identity) → station_in rows ≡ Some s → (1 ≤ s.0) × (s.0 ≤ 2)
-in_range rows s e = let row = told_in rows s.0 s.1 e in let all = told_by_row row.0 s.0 s.1 row.2 in (all.low, all.high)
-
--- ---- why a database is no station's of a layout
-
--- its row tells this layout
-pub this_layout : (layout : Layout) (trees : Trees) (s : ℕ × Identity) → stored_station trees ≡ Some s → s.0 ≡ layout_number layout → IsStationOf layout s.1 trees
-this_layout layout trees s is same = is ∙ ap (λ n. Some (n, s.1)) same
-
--- or another
-pub another_layout : (layout : Layout) (trees : Trees) (s : ℕ × Identity) → stored_station trees ≡ Some s → s.0 ≢ layout_number layout → (i : Identity) → ¬ IsStationOf layout i trees
-another_layout layout trees s is differ i other = differ (ap (λ (p : ℕ × Identity). p.0) (some_pair s (layout_number layout, i) (sym is ∙ other)))
-
--- or none
-no_station : (layout : Layout) (trees : Trees) → stored_station trees ≡ None → (i : Identity) → ¬ IsStationOf layout i trees
-no_station layout trees none i is = true≢false (ap is_some (sym is ∙ none))
-
-pub refused_station : (layout : Layout) (given : Option Identity) (trees : Trees) (fault : RowsFault) → IsRefusal fault ⊎ ((fault ≡ WrongSchema) × (stored_station trees ≡ None)) → RefusesToOpen layout given trees fault
-refused_station layout given trees fault (inl (inl store)) = subst (RefusesToOpen layout given trees) (sym store) tt
-refused_station layout given trees fault (inl (inr memory)) = subst (RefusesToOpen layout given trees) (sym memory) tt
-refused_station layout given trees fault (inr wrong) = subst (RefusesToOpen layout given trees) (sym wrong.0) (inl (no_station layout trees wrong.1))
 
 -- ---- a station in layout 1, and after its upgrade
 

@@ -1,5 +1,5 @@
 -- Why a file of the host gives no rows.
-use Rattle.std.specs.Prelude.{Bool, ◌&&◌, ◌||◌, not, is_some, codes}
+use Rattle.std.specs.Prelude.{Bool, ◌&&◌, not, is_some, codes}
 use Rattle.sqlite_schema.specs.Names.{table_named}
 use Rattle.sqlite_schema.specs.declared.schema.Schema.{Schema}
 use Rattle.saved_rows.specs.declared.fault.RowsFault.{RowsFault}

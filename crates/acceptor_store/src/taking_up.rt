@@ -84,10 +84,7 @@ fn take_station<S: Alter>(
 }
 
 /// Why a database without a table of saved rows is refused: its row of the station may tell another layout, or another station.
-fn refuse_without_rows<S: Alter>(
-    conn: &mut Connection<S>,
-    given: Option<Identity>,
-) -> RowsFault
+fn refuse_without_rows<S: Alter>(conn: &mut Connection<S>, given: Option<Identity>) -> RowsFault
     ensures { doubt (state S.Store conn.old).is_clean ≤ doubt (state S.Store conn.new).is_clean }
 {
     match read_station(conn) {

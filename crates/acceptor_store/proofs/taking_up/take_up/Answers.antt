@@ -1,4 +1,4 @@
-use Rattle.std.proofs.Common.{rules, ◌≡◌, arith, sym, ap, ◌∙◌, subst}
+use Rattle.std.proofs.Common.{◌≡◌, arith, sym, ap, ◌∙◌, subst}
 use Rattle.sqlite.specs.Effect.{Database}
 use Rattle.sqlite.specs.Held.{state}
 use Rattle.sqlite.specs.State.{HasCleanDisk, IsUnchanged}
@@ -13,7 +13,7 @@ returns-clause-holds g c clean layout laid =
     let old = state g.S.Store c.args.conn.now in
     let mid = state g.S.Store c.take_station.new.conn in
     let early : HasCleanDisk mid = omega (arith, clean, c.test_rows.ensures.clean) in
-    let is : layout_of c.in-Some.layout ≡ layout = c.in-Some.ensures.laid layout laid in
+    let is : layout_of c.in-Some.layout ≡ layout = c.in-Some.ensures.laid layout (c.schema.ensures.value ∙ laid) in
     let has : old.now.schema ≡ layout_schema (layout_of c.in-Some.layout) = laid ∙ ap layout_schema (sym is) in
     let same : IsUnchanged old mid = c.in_ok-station.ensures.unchanged early has in
     let still : mid.now.schema ≡ layout_schema (layout_of c.in-Some.layout) = ap (λ (d : Database). d.schema) same.0.now_is ∙ has in
