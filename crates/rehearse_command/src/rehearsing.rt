@@ -262,22 +262,25 @@ fn play_line<'a, W: Write>(
     }
 }
 
-/// Plays the lines of a script, up to the first fault.
+/// The lines of a script.
+fn lines_of<'a>(alloc: Global, script: &'a [u8]) -> Result<Vec<&'a [u8]>, AllocError> {
+    script.split(|b| *b == b'\n').collect(alloc)
+}
+
+/// Plays lines, up to the first fault.
 fn play_lines<'a, W: Write>(
     alloc: Global,
     setting: Setting<'_>,
-    script: &[u8],
+    lines: &[&[u8]],
     out: &mut W,
 ) -> Result<(), Fault<'a>>
     ensures ok { (by : Inputs) → IsSetUpBy by (setting.entry.table.now, setting.entry.widths.now) → OnOk result (Rehearses by (Appends (W.contents out.old) (W.contents out.new))) }
     ensures err { (by : Inputs) → IsSetUpBy by (setting.entry.table.now, setting.entry.widths.now) → OnErr result (Rehearses by (AppendsFront (W.contents out.old) (W.contents out.new))) }
 {
     let mut stage = None;
-    let mut line: usize = 0;
-    for words in script.split(|b| *b == b'\n') {
-        line = line.saturating_add(1);
+    for (index, words) in lines.iter().enumerate() {
         if !is_ignored(words) {
-            play_line(alloc, setting, &mut stage, line, words, out)?;
+            play_line(alloc, setting, &mut stage, index + 1, words, out)?;
         }
     }
     Ok(())
@@ -293,7 +296,10 @@ fn play_all<'a, W: Write>(
     ensures ok { (by : Inputs) → IsSetUpBy by (setting.entry.table.now, setting.entry.widths.now) → OnOk result (Rehearses by (Appends (W.contents out.old) (W.contents out.new))) }
     ensures err { (by : Inputs) → IsSetUpBy by (setting.entry.table.now, setting.entry.widths.now) → OnErr result (Rehearses by (AppendsFront (W.contents out.old) (W.contents out.new))) }
 {
-    play_lines(alloc, setting, script, out)?;
+    let Ok(lines) = lines_of(alloc, script) else {
+        return Err(Fault::OutOfMemory);
+    };
+    play_lines(alloc, setting, &lines, out)?;
     match out.flush() {
         Ok(()) => Ok(()),
         Err(_) => Err(Fault::CannotWrite),
