@@ -6,7 +6,7 @@ ghost use Rattle.tape_frames.specs.Entries.{version_of};
 ghost use Rattle.acceptor_store.specs.Files.{WasClosed};
 ghost use Rattle.acceptor_store.specs.Sqlite.{Agrees, rows_version};
 
-use crate::refusals::refused_by;
+use crate::causes::refused_by;
 use acceptor_store::SqliteRows;
 use command_ends::End;
 use row_files::{RefusedRows, RowFiles, close_rows};

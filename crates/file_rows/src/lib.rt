@@ -1,8 +1,8 @@
 //! Saved rows in files of the host, each a database.
 #![tactic(auto)]
 
+mod causes;
 mod host_files;
-mod refusals;
 
 pub use host_files::HostFiles;
 pub use row_files::{RefusedRows, RowFiles, RowsCause};
