@@ -69,6 +69,22 @@ fn follow_one<R: Rows, E: Write>(
     }
 }
 
+/// The same for each file.
+fn follow_all<R: Rows, E: Write>(
+    station: &Station<R>,
+    asked: &mut Vec<Asked>,
+    note: Note,
+    now: u64,
+    quiet: bool,
+    err: &mut E,
+) {
+    for place in 0..asked.len() {
+        if let Some(each) = asked.get_mut(place) {
+            follow_one(station, each, note, now, quiet, err);
+        }
+    }
+}
+
 /// Puts a file off whose ballots came to no end, or found nothing.
 fn close<E: Write>(asked: &mut Asked, note: Note, now: u64, quiet: bool, err: &mut E) {
     let number = asked.number.get();
@@ -92,6 +108,24 @@ fn remember(alloc: Global, released: &mut Vec<Known>, release: &Release) -> Resu
     }
 }
 
+/// Settles a file that is of a number, which has this entry, and is not settled yet.
+fn settle_one<F: Folders, E: Write>(
+    alloc: Global,
+    folders: &mut F,
+    asked: &mut Asked,
+    number: Number,
+    entry: &EntryRef<'_>,
+    now: u64,
+    quiet: bool,
+    err: &mut E,
+)
+    ensures { F.written folders.new ≡ F.written folders.old }
+{
+    if asked.number == number && !asked.is_settled {
+        settle(alloc, folders, asked, entry, now, quiet, err);
+    }
+}
+
 /// Settles each file of a number that has this entry.
 fn settle_all<F: Folders, E: Write>(
     alloc: Global,
@@ -105,9 +139,9 @@ fn settle_all<F: Folders, E: Write>(
 )
     ensures { F.written folders.new ≡ F.written folders.old }
 {
-    for each in asked.iter_mut() {
-        if each.number == number && !each.is_settled {
-            settle(alloc, folders, each, entry, now, quiet, err);
+    for place in 0..asked.len() {
+        if let Some(each) = asked.get_mut(place) {
+            settle_one(alloc, folders, each, number, entry, now, quiet, err);
         }
     }
 }
@@ -244,9 +278,8 @@ impl Desk {
         if !is_of_ballot(note) {
             return;
         }
-        for asked in self.asked.iter_mut() {
-            follow_one(station, asked, note, now, self.quiet, err);
-        }
+        let quiet = self.quiet;
+        follow_all(station, &mut self.asked, note, now, quiet, err);
     }
 
     /// Tells a release, keeps it in mind, and settles the files of its number.

@@ -1,6 +1,6 @@
 //! Files that are watched until they stay as they are.
 
-ghost use Rattle.std.specs.Prelude.{◌≡◌, ◌≤◌, ◌+◌, ◌↔◌, IsTrue};
+ghost use Rattle.std.specs.Prelude.{◌≡◌, ◌≤◌, ◌+◌, IsTrue};
 
 use crate::pauses::{STILL, has_passed};
 use folders::Stamp;
@@ -17,7 +17,9 @@ pub(crate) struct Watched {
 
 /// Whether a file that was found so before, and is found so now, is taken for whole.
 pub(crate) fn is_whole(before: Stamp, since: u64, stamp: Stamp, now: u64) -> bool
-    ensures { IsTrue result ↔ ((before ≡ stamp) × (since + 1000 ≤ now)) }
+    ensures same { IsTrue result → before ≡ stamp }
+    ensures still { IsTrue result → since + 1000 ≤ now }
+    ensures else_not { before ≡ stamp → since + 1000 ≤ now → IsTrue result }
 {
     before == stamp && has_passed(since, STILL, now)
 }
