@@ -49,7 +49,7 @@ pub(crate) struct Desk {
 fn follow_one<R: Rows, E: Write>(
     station: &Station<R>,
     asked: &mut Asked,
-    note: Note,
+    note: &Note,
     now: u64,
     quiet: bool,
     err: &mut E,
@@ -73,7 +73,7 @@ fn follow_one<R: Rows, E: Write>(
 fn follow_all<R: Rows, E: Write>(
     station: &Station<R>,
     asked: &mut Vec<Asked>,
-    note: Note,
+    note: &Note,
     now: u64,
     quiet: bool,
     err: &mut E,
@@ -86,11 +86,17 @@ fn follow_all<R: Rows, E: Write>(
 }
 
 /// Puts a file off whose ballots came to no end, or found nothing.
-fn close<E: Write>(asked: &mut Asked, note: Note, now: u64, quiet: bool, err: &mut E) {
+fn close<E: Write>(asked: &mut Asked, note: &Note, now: u64, quiet: bool, err: &mut E) {
     let number = asked.number.get();
     match note {
-        Note::GaveUp { ballot } => tell(quiet, Event::GaveUp { number, ballot }, err),
-        Note::Nothing { ballot } => tell(quiet, Event::Nothing { number, ballot }, err),
+        Note::GaveUp { ballot } => {
+            let ballot = *ballot;
+            tell(quiet, Event::GaveUp { number, ballot }, err);
+        }
+        Note::Nothing { ballot } => {
+            let ballot = *ballot;
+            tell(quiet, Event::Nothing { number, ballot }, err);
+        }
         _ => return,
     }
     asked.put_off(now);
@@ -152,7 +158,7 @@ fn has_name(names: &[String], name: &str) -> bool {
 }
 
 /// Whether a step with this note may have begun or closed a ballot.
-fn is_of_ballot(note: Note) -> bool {
+fn is_of_ballot(note: &Note) -> bool {
     matches!(
         note,
         Note::Began { .. } | Note::GaveUp { .. } | Note::Nothing { .. }
@@ -271,7 +277,7 @@ impl Desk {
     fn follow<R: Rows, E: Write>(
         &mut self,
         station: &Station<R>,
-        note: Note,
+        note: &Note,
         now: u64,
         err: &mut E,
     ) {
@@ -322,7 +328,7 @@ impl Desk {
     )
         ensures { F.written folders.new ≡ F.written folders.old }
     {
-        self.follow(station, answer.note, now, err);
+        self.follow(station, &answer.note, now, err);
         if let Some(release) = &answer.release {
             self.take_release(folders, release, now, err);
         }

@@ -1,7 +1,6 @@
 //! What the names of the files among the offers ask for.
 
-ghost use Rattle.std.specs.Prelude.{◌≡◌, ◌++◌, ◌↔◌, IfOk, IfSome, IsTrue, codes, decimal, false, string_bytes};
-ghost use Rattle.std.specs.List.{All, Any};
+ghost use Rattle.std.specs.Prelude.{◌≡◌, ◌++◌, ◌↔◌, IfOk, IfSome, IsTrue, codes, decimal, string_bytes};
 ghost use Rattle.run_command.specs.Asking.{kind_word};
 
 use crate::filing::file_name;
@@ -48,16 +47,8 @@ fn is_stop(name: &str) -> bool
 }
 
 /// Whether the file that ends a run is among these.
-pub(crate) fn has_stop(names: &[String]) -> bool
-    ensures among { IsTrue result → Any (λ name. string_bytes name ≡ codes "stop") names.now }
-    ensures else_none { result ≡ false → All (λ name. ¬ (string_bytes name ≡ codes "stop")) names.now }
-{
-    for name in names {
-        if is_stop(name.as_str()) {
-            return true;
-        }
-    }
-    false
+pub(crate) fn has_stop(names: &[String]) -> bool {
+    names.iter().any(|name| is_stop(name.as_str()))
 }
 
 /// Whether a file is left alone: one that is being handed over, or the one that ends a run.

@@ -9,7 +9,7 @@ use Rattle.run_command.proofs.asked.ask.Goals as goal
 
 pub returns-in-Offered-Tape-clause-step : goal.returns-in-Offered-Tape-clause-step
 returns-in-Offered-Tape-clause-step g c = λ kept.
-    let is : c.args.wish.now ≡ Offered (entries.Tape c.in-Offered-Tape.tape.now) = search rules in
+    let is : c.args.wish.now ≡ Offered (entries.Tape c.in-Offered-Tape.tape) = search rules in
     subst (λ (w : Wish). IsStep g.R.Rows (call_of w c.args.number c.args.now) c.args.station.now c.offer.new.self c.offer.result) (sym is) (c.offer.ensures.steps kept)
 
 pub returns-in-Offered-Void-clause-step : goal.returns-in-Offered-Void-clause-step
