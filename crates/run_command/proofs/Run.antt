@@ -54,7 +54,7 @@ keeps_written (Some x) (Some y) f q w =
 no_first : (f : File) → slice_get [] 0 ≡ Some f → ⊥
 no_first f e = cc
 
-get : File → Option File → File
+abbrev get : File → Option File → File
 get d None = d
 get d (Some f) = f
 

@@ -49,7 +49,7 @@ pub(crate) struct Desk {
 fn follow_one<R: Rows, E: Write>(
     station: &Station<R>,
     asked: &mut Asked,
-    note: Note,
+    note: &Note,
     now: u64,
     quiet: bool,
     err: &mut E,
@@ -69,12 +69,34 @@ fn follow_one<R: Rows, E: Write>(
     }
 }
 
+/// The same for each file.
+fn follow_all<R: Rows, E: Write>(
+    station: &Station<R>,
+    asked: &mut Vec<Asked>,
+    note: &Note,
+    now: u64,
+    quiet: bool,
+    err: &mut E,
+) {
+    for place in 0..asked.len() {
+        if let Some(each) = asked.get_mut(place) {
+            follow_one(station, each, note, now, quiet, err);
+        }
+    }
+}
+
 /// Puts a file off whose ballots came to no end, or found nothing.
-fn close<E: Write>(asked: &mut Asked, note: Note, now: u64, quiet: bool, err: &mut E) {
+fn close<E: Write>(asked: &mut Asked, note: &Note, now: u64, quiet: bool, err: &mut E) {
     let number = asked.number.get();
     match note {
-        Note::GaveUp { ballot } => tell(quiet, Event::GaveUp { number, ballot }, err),
-        Note::Nothing { ballot } => tell(quiet, Event::Nothing { number, ballot }, err),
+        Note::GaveUp { ballot } => {
+            let ballot = *ballot;
+            tell(quiet, Event::GaveUp { number, ballot }, err);
+        }
+        Note::Nothing { ballot } => {
+            let ballot = *ballot;
+            tell(quiet, Event::Nothing { number, ballot }, err);
+        }
         _ => return,
     }
     asked.put_off(now);
@@ -92,6 +114,24 @@ fn remember(alloc: Global, released: &mut Vec<Known>, release: &Release) -> Resu
     }
 }
 
+/// Settles a file that is of a number, which has this entry, and is not settled yet.
+fn settle_one<F: Folders, E: Write>(
+    alloc: Global,
+    folders: &mut F,
+    asked: &mut Asked,
+    number: Number,
+    entry: &EntryRef<'_>,
+    now: u64,
+    quiet: bool,
+    err: &mut E,
+)
+    ensures { F.written folders.new ≡ F.written folders.old }
+{
+    if asked.number == number && !asked.is_settled {
+        settle(alloc, folders, asked, entry, now, quiet, err);
+    }
+}
+
 /// Settles each file of a number that has this entry.
 fn settle_all<F: Folders, E: Write>(
     alloc: Global,
@@ -105,9 +145,9 @@ fn settle_all<F: Folders, E: Write>(
 )
     ensures { F.written folders.new ≡ F.written folders.old }
 {
-    for each in asked.iter_mut() {
-        if each.number == number && !each.is_settled {
-            settle(alloc, folders, each, entry, now, quiet, err);
+    for place in 0..asked.len() {
+        if let Some(each) = asked.get_mut(place) {
+            settle_one(alloc, folders, each, number, entry, now, quiet, err);
         }
     }
 }
@@ -118,7 +158,7 @@ fn has_name(names: &[String], name: &str) -> bool {
 }
 
 /// Whether a step with this note may have begun or closed a ballot.
-fn is_of_ballot(note: Note) -> bool {
+fn is_of_ballot(note: &Note) -> bool {
     matches!(
         note,
         Note::Began { .. } | Note::GaveUp { .. } | Note::Nothing { .. }
@@ -237,16 +277,15 @@ impl Desk {
     fn follow<R: Rows, E: Write>(
         &mut self,
         station: &Station<R>,
-        note: Note,
+        note: &Note,
         now: u64,
         err: &mut E,
     ) {
         if !is_of_ballot(note) {
             return;
         }
-        for asked in self.asked.iter_mut() {
-            follow_one(station, asked, note, now, self.quiet, err);
-        }
+        let quiet = self.quiet;
+        follow_all(station, &mut self.asked, note, now, quiet, err);
     }
 
     /// Tells a release, keeps it in mind, and settles the files of its number.
@@ -289,7 +328,7 @@ impl Desk {
     )
         ensures { F.written folders.new ≡ F.written folders.old }
     {
-        self.follow(station, answer.note, now, err);
+        self.follow(station, &answer.note, now, err);
         if let Some(release) = &answer.release {
             self.take_release(folders, release, now, err);
         }

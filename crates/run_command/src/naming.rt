@@ -1,7 +1,6 @@
 //! What the names of the files among the offers ask for.
 
-ghost use Rattle.std.specs.Prelude.{◌≡◌, ◌++◌, ◌↔◌, IfOk, IfSome, IsTrue, codes, decimal, map, string_bytes};
-ghost use Rattle.std.specs.List.{Any};
+ghost use Rattle.std.specs.Prelude.{◌≡◌, ◌++◌, ◌↔◌, IfOk, IfSome, IsTrue, codes, decimal, string_bytes};
 ghost use Rattle.run_command.specs.Asking.{kind_word};
 
 use crate::filing::file_name;
@@ -48,9 +47,7 @@ fn is_stop(name: &str) -> bool
 }
 
 /// Whether the file that ends a run is among these.
-pub(crate) fn has_stop(names: &[String]) -> bool
-    ensures { IsTrue result ↔ Any (λ name. string_bytes name ≡ codes "stop") names.now }
-{
+pub(crate) fn has_stop(names: &[String]) -> bool {
     names.iter().any(|name| is_stop(name.as_str()))
 }
 
