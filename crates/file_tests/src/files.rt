@@ -3,8 +3,9 @@
 ghost use Rattle.saved_rows.specs.Saved.{HasPromise};
 ghost use Rattle.std.specs.Prelude.{IfSome};
 
+use crate::host::{Closing, Task, holds};
 use ballots::{Ballot, Member, Number, Row};
-use file_rows::{HostFiles, RowFiles};
+use file_rows::RowFiles;
 use saved_rows::{Identity, Rows, RowsFault};
 use std::fs;
 use tape_frames::Version;
@@ -77,9 +78,12 @@ fn is_made<F: RowFiles>(rt: &HostRuntime, files: &F) -> bool {
 }
 
 /// Whether it is taken up with the promise, and closes.
-fn is_taken_up(rt: &HostRuntime) -> bool {
-    match HostFiles.open(rt, PATH, Some(STATION)) {
-        Ok(mut rows) => has_it(&mut rows) && rows.into_rows().into_connection().close().is_ok(),
+fn is_taken_up<F: RowFiles>(rt: &HostRuntime, files: &F) -> bool
+where
+    F::Rows: Closing,
+{
+    match files.open(rt, PATH, Some(STATION)) {
+        Ok(mut rows) => has_it(&mut rows) && rows.close(),
         Err(_) => false,
     }
 }
@@ -98,7 +102,10 @@ fn is_refused<F: RowFiles>(rt: &HostRuntime, files: &F) -> bool {
 }
 
 /// The first place at which the file does not answer as it has to; 5 where there is none.
-fn first_wrong<F: RowFiles>(rt: &HostRuntime, files: &F) -> usize {
+fn first_wrong<F: RowFiles>(rt: &HostRuntime, files: &F) -> usize
+where
+    F::Rows: Closing,
+{
     if !stays_missing(rt, files) {
         return 0;
     }
@@ -108,7 +115,7 @@ fn first_wrong<F: RowFiles>(rt: &HostRuntime, files: &F) -> usize {
     if refusal_of(rt, files, Some(OTHER)) != Some(RowsFault::WrongStation) {
         return 2;
     }
-    if !is_taken_up(rt) {
+    if !is_taken_up(rt, files) {
         return 3;
     }
     if !is_refused(rt, files) {
@@ -117,9 +124,17 @@ fn first_wrong<F: RowFiles>(rt: &HostRuntime, files: &F) -> usize {
     5
 }
 
+/// Whether a file answers as it has to.
+pub fn is_kept<F: RowFiles>(rt: &HostRuntime, files: &F) -> bool
+where
+    F::Rows: Closing,
+{
+    first_wrong(rt, files) == 5
+}
+
 #[test]
 fn rows_in_a_file(rt: HostRuntime) {
     let _ = fs::remove_dir_all(&rt, FOLDER);
-    assert!(rt; first_wrong(&rt, &HostFiles) == 5);
+    assert!(rt; holds(&rt, Task::Rows));
     assert!(rt; fs::remove_dir_all(&rt, FOLDER).is_ok());
 }

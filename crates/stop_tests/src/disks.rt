@@ -3,14 +3,11 @@
 ghost use Rattle.std.specs.Prelude.{IsTrue};
 
 use acceptor_store::{SqliteRows, into_files};
-use saved_rows::{Identity, RowsFault};
+use saved_rows::{Identity, Rows, RowsFault};
 use sqlite::{Connection, FileStore, Files, Options};
 use sqlite_disk::{Crash, Disk, Fuse, Memory};
 use std::alloc::Global;
 use tape_frames::Version;
-
-/// Saved rows over such disks.
-pub type Saved = SqliteRows<FileStore<Fuse<Memory>>>;
 
 /// The two disks of a database.
 pub type Disks = Files<Fuse<Memory>>;
@@ -34,6 +31,31 @@ pub enum Side {
 pub struct Left {
     pub disks: Disks,
     pub closed: bool,
+}
+
+/// Saved rows over disks: what else is asked of them here.
+pub trait Stored: Rows {
+    /// How many rows are listed; nothing where the list is refused.
+    fn count(&mut self) -> Option<usize>;
+
+    /// The disks, taken out.
+    fn left(self) -> Left;
+}
+
+/// Saved rows over two disks in memory.
+pub type Saved = SqliteRows<FileStore<Fuse<Memory>>>;
+
+impl Stored for Saved {
+    fn count(&mut self) -> Option<usize> {
+        match self.all() {
+            Ok(list) => Some(list.len()),
+            Err(_) => None,
+        }
+    }
+
+    fn left(self) -> Left {
+        close(self.into_connection())
+    }
 }
 
 /// A new disk that stops after so many calls.
@@ -77,11 +99,6 @@ fn close(conn: Connection<FileStore<Fuse<Memory>>>) -> Left {
     }
 }
 
-/// Takes the disks out of saved rows.
-pub fn left_of(rows: Saved) -> Left {
-    close(rows.into_connection())
-}
-
 /// Makes saved rows at this version over new disks, of which this one stops after so many calls; or what a stop left of
 /// them.
 pub fn made(alloc: Global, side: Side, calls: u64, version: Version) -> Result<Saved, Disks> {
@@ -109,13 +126,5 @@ pub fn found(alloc: Global, disks: Disks) -> Option<Result<Saved, RowsFault>> {
     match SqliteRows::open(alloc, conn, Some(ALONE)) {
         Ok(rows) => Some(Ok(rows)),
         Err((fault, _)) => Some(Err(fault)),
-    }
-}
-
-/// How many rows are listed.
-pub fn count(rows: &mut Saved) -> Option<usize> {
-    match rows.all() {
-        Ok(list) => Some(list.len()),
-        Err(_) => None,
     }
 }

@@ -1,6 +1,6 @@
 //! What is done to saved rows, and what has to be found where a disk stopped meanwhile.
 
-use crate::disks::{Disks, Left, Saved, Side, count, found, left_of, made};
+use crate::disks::{Disks, Left, Side, Stored, found, made};
 use crate::samples::{PROMISED, Sample, VOTED, are_there, goes_over, puts};
 use crate::stations::{offered, served, sought};
 use fixtures::{FLOOD, LIGATURE};
@@ -116,8 +116,8 @@ fn done<R: Rows>(alloc: Global, rows: R, work: Work) -> Option<(R, Told)> {
 }
 
 /// Whether the list has the first of these rows, so many as were acknowledged, or one more where that was refused.
-fn is_listed(rows: &mut Saved, samples: &[Sample], told: Told) -> bool {
-    let Some(listed) = count(rows) else {
+fn is_listed<R: Stored>(rows: &mut R, samples: &[Sample], told: Told) -> bool {
+    let Some(listed) = rows.count() else {
         return false;
     };
     let is_told = listed == told.saved || (told.refused && listed > 0 && listed - 1 == told.saved);
@@ -146,7 +146,7 @@ fn is_sought<R: Rows>(alloc: Global, rows: R, told: Told) -> bool {
 }
 
 /// Whether the rows are those that a work may have left.
-fn is_left(alloc: Global, mut rows: Saved, work: Work, told: Told) -> bool {
+fn is_left<R: Stored>(alloc: Global, mut rows: R, work: Work, told: Told) -> bool {
     if !is_at(rows.version(), work, told) {
         return false;
     }
@@ -158,32 +158,54 @@ fn is_left(alloc: Global, mut rows: Saved, work: Work, told: Told) -> bool {
     }
 }
 
-/// Whether a database that was not made is found empty, or made at this version with no row.
-fn is_unmade(alloc: Global, disks: Disks, version: Version) -> bool {
+/// What may be found on the disks after a stop.
+#[derive(Clone, Copy)]
+enum Expected {
+    /// A database that was not made: it is empty, or made at this version with no row.
+    Unmade(Version),
+    /// The rows that this work may have left, of which this was told.
+    Left(Work, Told),
+}
+
+/// Whether the rows that are found are as they may be.
+fn holds<R: Stored>(alloc: Global, mut rows: R, expected: Expected) -> bool {
+    match expected {
+        Expected::Unmade(version) => rows.version() == version && rows.count() == Some(0),
+        Expected::Left(work, told) => is_left(alloc, rows, work, told),
+    }
+}
+
+/// Whether rows may be refused for this reason.
+fn may_be_refused(fault: RowsFault, expected: Expected) -> bool {
+    match expected {
+        Expected::Unmade(_) => fault == RowsFault::Store,
+        Expected::Left(..) => false,
+    }
+}
+
+/// Whether what is found on the disks after a crash is as it may be.
+fn is_found(alloc: Global, disks: Disks, expected: Expected) -> bool {
     match found(alloc, disks) {
-        Some(Ok(mut rows)) => rows.version() == version && count(&mut rows) == Some(0),
-        Some(Err(fault)) => fault == RowsFault::Store,
+        Some(Ok(rows)) => holds(alloc, rows, expected),
+        Some(Err(fault)) => may_be_refused(fault, expected),
         None => false,
     }
 }
 
-/// Whether the rows that a work may have left are found.
-fn is_found(alloc: Global, disks: Disks, work: Work, told: Told) -> bool {
-    match found(alloc, disks) {
-        Some(Ok(rows)) => is_left(alloc, rows, work, told),
-        _ => false,
-    }
+/// Whether a work over these rows came to its end without a stop; nothing where something else is found after it than may
+/// be.
+fn is_ended<R: Stored>(alloc: Global, rows: R, work: Work) -> Option<bool> {
+    let (rows, told) = done(alloc, rows, work)?;
+    let Left { disks, closed } = rows.left();
+    is_found(alloc, disks, Expected::Left(work, told)).then_some(closed && !told.refused)
 }
 
 /// Whether a run in which this disk stops after so many calls came to its end without a stop; nothing where something else
 /// is found after it than may be.
 pub fn is_whole(alloc: Global, side: Side, calls: u64, work: Work) -> Option<bool> {
     let version = version_for(work);
-    let rows = match made(alloc, side, calls, version) {
-        Ok(rows) => rows,
-        Err(disks) => return is_unmade(alloc, disks, version).then_some(false),
-    };
-    let (rows, told) = done(alloc, rows, work)?;
-    let Left { disks, closed } = left_of(rows);
-    is_found(alloc, disks, work, told).then_some(closed && !told.refused)
+    match made(alloc, side, calls, version) {
+        Ok(rows) => is_ended(alloc, rows, work),
+        Err(disks) => is_found(alloc, disks, Expected::Unmade(version)).then_some(false),
+    }
 }
