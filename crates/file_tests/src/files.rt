@@ -125,7 +125,7 @@ where
 }
 
 /// Whether a file answers as it has to.
-pub fn is_kept<F: RowFiles>(rt: &HostRuntime, files: &F) -> bool
+pub fn answers<F: RowFiles>(rt: &HostRuntime, files: &F) -> bool
 where
     F::Rows: Closing,
 {

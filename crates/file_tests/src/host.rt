@@ -1,6 +1,6 @@
 //! The row files of the host, which stand here alone: all that is asked of them is written over row files of any kind.
 
-use crate::files::is_kept;
+use crate::files::answers;
 use crate::starting::{are_held, are_in_order, are_over, are_owned, are_refused};
 use file_rows::{FileRows, HostFiles, RowFiles};
 use saved_rows::Rows;
@@ -40,7 +40,7 @@ where
     F::Rows: Closing,
 {
     match task {
-        Task::Rows => is_kept(rt, files),
+        Task::Rows => answers(rt, files),
         Task::Owned(port) => are_owned(rt, files, port),
         Task::Over(port) => are_over(rt, files, port),
         Task::InOrder(port) => are_in_order(rt, files, port),

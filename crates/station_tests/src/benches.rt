@@ -294,7 +294,7 @@ fn goes<R: Rows>(alloc: Global, station: &mut Station<R>, turn: &Turn) -> bool {
         }
         Act::Upgrade => is_upgraded(station.upgrade(), turn.ends),
         act => match step(alloc, station, act) {
-            Some(step) => is_told(alloc, step, turn),
+            Some(end) => is_told(alloc, end, turn),
             None => false,
         },
     }
