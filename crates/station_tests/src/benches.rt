@@ -5,7 +5,7 @@ use crate::unread::Unread;
 use ballots::{Ballot, Member, Number, Row};
 use code_table::CodeTable;
 use fixtures::{CODES, FLOOD, WIDTHS};
-use saved_rows::{Balky, MemoryRows, RowsFault};
+use saved_rows::{Balky, MemoryRows, Rows, RowsFault};
 use station::{Answer, BadMember, Datagram, Release, Station, StepRefusal};
 use std::alloc::Global;
 use tape_frames::{Entry, Tape, Version};

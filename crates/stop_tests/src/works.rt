@@ -1,8 +1,9 @@
 //! What is done to saved rows, and what has to be found where a disk stopped meanwhile.
 
-use crate::disks::{Disks, Left, Side, Stored, found, made};
+use crate::disks::{ALONE, Database, Disks, Left, Side, Stored, opened, reopened};
 use crate::samples::{PROMISED, Sample, VOTED, are_there, goes_over, puts};
 use crate::stations::{offered, served, sought};
+use acceptor_store::{SqliteRows, into_files};
 use fixtures::{FLOOD, LIGATURE};
 use saved_rows::{Rows, RowsFault};
 use std::alloc::Global;
@@ -183,29 +184,90 @@ fn may_be_refused(fault: RowsFault, expected: Expected) -> bool {
     }
 }
 
+/// What is to be done with the rows of a database.
+#[derive(Clone, Copy)]
+enum Task {
+    /// They are made for a work, which is done.
+    Do(Work),
+    /// They are taken up, to be as they may be.
+    Find(Expected),
+}
+
+/// What came of it.
+#[derive(Drop)]
+enum Came {
+    /// The work ended, or was refused: what is left, and what was told.
+    Ended(Left, Told),
+    /// The rows were not made: what is left.
+    Unmade(Disks),
+    /// Whether they are as they may be.
+    Found(bool),
+    /// The work did something else than it may.
+    Strange,
+}
+
+/// What comes of a task with these rows.
+fn over<R: Stored>(alloc: Global, rows: R, task: Task) -> Came {
+    match task {
+        Task::Do(work) => match done(alloc, rows, work) {
+            Some((rows, told)) => Came::Ended(rows.left(), told),
+            None => Came::Strange,
+        },
+        Task::Find(expected) => Came::Found(holds(alloc, rows, expected)),
+    }
+}
+
+/// What comes of it where the rows are refused.
+fn refused(fault: RowsFault, disks: Disks, task: Task) -> Came {
+    match task {
+        Task::Do(_) => Came::Unmade(disks),
+        Task::Find(expected) => Came::Found(may_be_refused(fault, expected)),
+    }
+}
+
+/// What comes of a task with a database: here alone its rows have their whole type.
+fn taken(alloc: Global, conn: Database, task: Task) -> Came {
+    let rows = match task {
+        Task::Do(work) => SqliteRows::create(alloc, conn, ALONE, version_for(work)),
+        Task::Find(_) => SqliteRows::open(alloc, conn, Some(ALONE)),
+    };
+    match rows {
+        Ok(rows) => over(alloc, rows, task),
+        Err((fault, conn)) => refused(fault, into_files(conn), task),
+    }
+}
+
+/// What comes of a work with rows that are made over new disks, of which this one stops after so many calls.
+fn worked(alloc: Global, side: Side, calls: u64, work: Work) -> Came {
+    match opened(alloc, side, calls) {
+        Ok(conn) => taken(alloc, conn, Task::Do(work)),
+        Err(disks) => Came::Unmade(disks),
+    }
+}
+
 /// Whether what is found on the disks after a crash is as it may be.
 fn is_found(alloc: Global, disks: Disks, expected: Expected) -> bool {
-    match found(alloc, disks) {
-        Some(Ok(rows)) => holds(alloc, rows, expected),
-        Some(Err(fault)) => may_be_refused(fault, expected),
+    match reopened(alloc, disks) {
+        Some(conn) => matches!(taken(alloc, conn, Task::Find(expected)), Came::Found(true)),
         None => false,
     }
 }
 
-/// Whether a work over these rows came to its end without a stop; nothing where something else is found after it than may
-/// be.
-fn is_ended<R: Stored>(alloc: Global, rows: R, work: Work) -> Option<bool> {
-    let (rows, told) = done(alloc, rows, work)?;
-    let Left { disks, closed } = rows.left();
+/// Whether what a work left is found after a crash, and then whether it came to its end without a stop.
+fn is_ended(alloc: Global, left: Left, work: Work, told: Told) -> Option<bool> {
+    let Left { disks, closed } = left;
     is_found(alloc, disks, Expected::Left(work, told)).then_some(closed && !told.refused)
 }
 
 /// Whether a run in which this disk stops after so many calls came to its end without a stop; nothing where something else
 /// is found after it than may be.
 pub fn is_whole(alloc: Global, side: Side, calls: u64, work: Work) -> Option<bool> {
-    let version = version_for(work);
-    match made(alloc, side, calls, version) {
-        Ok(rows) => is_ended(alloc, rows, work),
-        Err(disks) => is_found(alloc, disks, Expected::Unmade(version)).then_some(false),
+    match worked(alloc, side, calls, work) {
+        Came::Ended(left, told) => is_ended(alloc, left, work, told),
+        Came::Unmade(disks) => {
+            let expected = Expected::Unmade(version_for(work));
+            is_found(alloc, disks, expected).then_some(false)
+        }
+        Came::Found(_) | Came::Strange => None,
     }
 }
