@@ -3,9 +3,8 @@
 ghost use Rattle.saved_rows.specs.Saved.{HasPromise};
 ghost use Rattle.std.specs.Prelude.{IfSome};
 
-use crate::host::{Closing, Task, holds};
 use ballots::{Ballot, Member, Number, Row};
-use file_rows::RowFiles;
+use file_rows::{HostFiles, RowFiles};
 use saved_rows::{Identity, Rows, RowsFault};
 use std::fs;
 use tape_frames::Version;
@@ -78,12 +77,9 @@ fn is_made<F: RowFiles>(rt: &HostRuntime, files: &F) -> bool {
 }
 
 /// Whether it is taken up with the promise, and closes.
-fn is_taken_up<F: RowFiles>(rt: &HostRuntime, files: &F) -> bool
-where
-    F::Rows: Closing,
-{
-    match files.open(rt, PATH, Some(STATION)) {
-        Ok(mut rows) => has_it(&mut rows) && rows.close(),
+fn is_taken_up(rt: &HostRuntime) -> bool {
+    match HostFiles.open(rt, PATH, Some(STATION)) {
+        Ok(mut rows) => has_it(&mut rows) && rows.into_rows().into_connection().close().is_ok(),
         Err(_) => false,
     }
 }
@@ -102,10 +98,7 @@ fn is_refused<F: RowFiles>(rt: &HostRuntime, files: &F) -> bool {
 }
 
 /// The first place at which the file does not answer as it has to; 5 where there is none.
-fn first_wrong<F: RowFiles>(rt: &HostRuntime, files: &F) -> usize
-where
-    F::Rows: Closing,
-{
+fn first_wrong<F: RowFiles>(rt: &HostRuntime, files: &F) -> usize {
     if !stays_missing(rt, files) {
         return 0;
     }
@@ -115,7 +108,7 @@ where
     if refusal_of(rt, files, Some(OTHER)) != Some(RowsFault::WrongStation) {
         return 2;
     }
-    if !is_taken_up(rt, files) {
+    if !is_taken_up(rt) {
         return 3;
     }
     if !is_refused(rt, files) {
@@ -124,17 +117,9 @@ where
     5
 }
 
-/// Whether a file answers as it has to.
-pub fn answers<F: RowFiles>(rt: &HostRuntime, files: &F) -> bool
-where
-    F::Rows: Closing,
-{
-    first_wrong(rt, files) == 5
-}
-
 #[test]
 fn rows_in_a_file(rt: HostRuntime) {
     let _ = fs::remove_dir_all(&rt, FOLDER);
-    assert!(rt; holds(&rt, Task::Rows));
+    assert!(rt; first_wrong(&rt, &HostFiles) == 5);
     assert!(rt; fs::remove_dir_all(&rt, FOLDER).is_ok());
 }

@@ -4,6 +4,4 @@
 #[cfg(test)]
 mod files;
 #[cfg(test)]
-mod host;
-#[cfg(test)]
 mod starting;

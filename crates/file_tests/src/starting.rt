@@ -1,10 +1,9 @@
 //! What `serve` starts from, over files, a database and a socket of this machine, and how it starts again.
 
-use crate::host::{Task, holds};
 use ballots::Member;
 use command_ends::End;
 use command_line::Plan;
-use file_rows::RowFiles;
+use file_rows::{HostFiles, RowFiles};
 use fixtures::{CODES, FLOOD, WIDTHS};
 use station_start::serve;
 use std::alloc::Global;
@@ -87,22 +86,15 @@ const FIRST: Start = Start {
 };
 
 /// Whether `serve` ends so, and prints this text and this fault.
-fn ends<F: RowFiles>(
-    rt: &HostRuntime,
-    files: &F,
-    plan: &Plan<'_>,
-    end: End,
-    text: &str,
-    fault: &str,
-) -> bool {
+fn ends(rt: &HostRuntime, plan: &Plan<'_>, end: End, text: &str, fault: &str) -> bool {
     let mut out = Vec::new(rt.alloc());
     let mut err = Vec::new(rt.alloc());
-    let ended = serve(rt, plan, files, &mut out, &mut err);
+    let ended = serve(rt, plan, &HostFiles, &mut out, &mut err);
     ended == end && out.as_slice() == text.as_bytes() && err.as_slice() == fault.as_bytes()
 }
 
 /// Whether one turn goes so: with an offer of the story for number 12 or a search of it, and a withdrawal before the search.
-fn goes<F: RowFiles>(rt: &HostRuntime, files: &F, start: &Start) -> bool {
+fn goes(rt: &HostRuntime, start: &Start) -> bool {
     let plan = Plan {
         config: CONFIG,
         turns: 1,
@@ -113,7 +105,7 @@ fn goes<F: RowFiles>(rt: &HostRuntime, files: &F, start: &Start) -> bool {
         withdraw: start.withdraw,
         seek: if start.offers { None } else { Some(12) },
     };
-    ends(rt, files, &plan, start.end, start.text, start.fault)
+    ends(rt, &plan, start.end, start.text, start.fault)
 }
 
 /// The configuration of member 1 alone of a circuit, at this port.
@@ -126,15 +118,15 @@ fn config_text(alloc: Global, circuit: u16, port: u16) -> Option<String> {
 }
 
 /// Whether an upgrade of the row file ends so, and prints this text and this fault.
-fn goes_over<F: RowFiles>(rt: &HostRuntime, files: &F, end: End, text: &str, fault: &str) -> bool {
+fn goes_over(rt: &HostRuntime, end: End, text: &str, fault: &str) -> bool {
     let mut out = Vec::new(rt.alloc());
     let mut err = Vec::new(rt.alloc());
-    let ended = files.upgrade(rt, ROWS, &mut out, &mut err);
+    let ended = HostFiles.upgrade(rt, ROWS, &mut out, &mut err);
     ended == end && out.as_slice() == text.as_bytes() && err.as_slice() == fault.as_bytes()
 }
 
 /// Whether a change of the folder is made.
-fn is_made<F: RowFiles>(rt: &HostRuntime, files: &F, port: u16, change: &Change) -> bool {
+fn is_made(rt: &HostRuntime, port: u16, change: &Change) -> bool {
     match change {
         Change::Circuit(circuit) => match config_text(rt.alloc(), *circuit, port) {
             Some(text) => fs::write(rt, CONFIG, text.as_bytes()).is_ok(),
@@ -143,36 +135,36 @@ fn is_made<F: RowFiles>(rt: &HostRuntime, files: &F, port: u16, change: &Change)
         Change::File(path, text) => fs::write(rt, *path, text.as_bytes()).is_ok(),
         Change::Tape(frames) => fs::write(rt, STORY, *frames).is_ok(),
         Change::NoRows => fs::remove_file(rt, ROWS).is_ok(),
-        Change::Over => goes_over(rt, files, End::Done, "layout 2\n", ""),
+        Change::Over => goes_over(rt, End::Done, "layout 2\n", ""),
     }
 }
 
 /// Whether `rows` prints this text of the row file.
-fn are_saved<F: RowFiles>(rt: &HostRuntime, files: &F, text: &str) -> bool {
+fn are_saved(rt: &HostRuntime, text: &str) -> bool {
     let mut out = Vec::new(rt.alloc());
     let mut err = Vec::new(rt.alloc());
-    let ended = files.list(rt, ROWS, &mut out, &mut err);
+    let ended = HostFiles.list(rt, ROWS, &mut out, &mut err);
     ended == End::Done && out.as_slice() == text.as_bytes() && err.is_empty()
 }
 
 /// Whether the row file is found so.
-fn is_left<F: RowFiles>(rt: &HostRuntime, files: &F, left: &Left) -> bool {
+fn is_left(rt: &HostRuntime, left: &Left) -> bool {
     match left {
         Left::Unseen => true,
         Left::Missing => matches!(fs::exists(rt, ROWS), Ok(false)),
-        Left::Rows(text) => are_saved(rt, files, *text),
+        Left::Rows(text) => are_saved(rt, *text),
     }
 }
 
 /// The place of the first start that goes otherwise; how many there are where none does.
-fn gone<F: RowFiles>(rt: &HostRuntime, files: &F, port: u16, starts: &[Start]) -> usize {
+fn gone(rt: &HostRuntime, port: u16, starts: &[Start]) -> usize {
     for (place, start) in starts.iter().enumerate() {
         for change in start.changes {
-            if !is_made(rt, files, port, change) {
+            if !is_made(rt, port, change) {
                 return place;
             }
         }
-        if !goes(rt, files, start) || !is_left(rt, files, &start.left) {
+        if !goes(rt, start) || !is_left(rt, &start.left) {
             return place;
         }
     }
@@ -195,10 +187,10 @@ fn free_port(rt: &HostRuntime) -> Option<u16> {
 }
 
 /// How many of the starts go as they have to with the station's port in another's hands.
-fn held_gone<F: RowFiles>(rt: &HostRuntime, files: &F, starts: &[Start]) -> Option<usize> {
+fn held_gone(rt: &HostRuntime, starts: &[Start]) -> Option<usize> {
     let held = probe(rt)?;
     let port = held.port().ok()?;
-    Some(gone(rt, files, port, starts))
+    Some(gone(rt, port, starts))
 }
 
 /// An empty folder.
@@ -414,45 +406,45 @@ const HELD: &[Start] = &[
 ];
 
 /// Whether the starts over rows of its own go as they have to, in a new folder.
-pub fn are_owned<F: RowFiles>(rt: &HostRuntime, files: &F, port: u16) -> bool {
-    make_folder(rt) && gone(rt, files, port, OWNED) == OWNED.len()
+fn are_owned(rt: &HostRuntime, port: u16) -> bool {
+    make_folder(rt) && gone(rt, port, OWNED) == OWNED.len()
 }
 
 /// Whether the starts over rows that go over, and over those that are made in the second layout, go as they have to, each
 /// in a new folder.
-pub fn are_over<F: RowFiles>(rt: &HostRuntime, files: &F, port: u16) -> bool {
+fn are_over(rt: &HostRuntime, port: u16) -> bool {
     make_folder(rt)
-        && goes_over(rt, files, End::Store, "", "store: refused\n")
-        && gone(rt, files, port, OVER) == OVER.len()
+        && goes_over(rt, End::Store, "", "store: refused\n")
+        && gone(rt, port, OVER) == OVER.len()
         && make_folder(rt)
-        && gone(rt, files, port, SECOND) == SECOND.len()
+        && gone(rt, port, SECOND) == SECOND.len()
 }
 
 /// Whether the faults of the files come in their order, in a new folder.
-pub fn are_in_order<F: RowFiles>(rt: &HostRuntime, files: &F, port: u16) -> bool {
-    make_folder(rt) && gone(rt, files, port, ORDER) == ORDER.len()
+fn are_in_order(rt: &HostRuntime, port: u16) -> bool {
+    make_folder(rt) && gone(rt, port, ORDER) == ORDER.len()
 }
 
 /// Whether the starts beside another who holds the port go as they have to.
-pub fn are_held<F: RowFiles>(rt: &HostRuntime, files: &F) -> bool {
-    held_gone(rt, files, HELD) == Some(HELD.len())
+fn are_held(rt: &HostRuntime) -> bool {
+    held_gone(rt, HELD) == Some(HELD.len())
 }
 
 #[test]
 fn from_files(rt: HostRuntime) {
     let port = free_port(&rt).unwrap_or(0);
-    assert!(rt; holds(&rt, Task::Owned(port)));
-    assert!(rt; holds(&rt, Task::Over(port)));
-    assert!(rt; holds(&rt, Task::InOrder(port)));
-    assert!(rt; holds(&rt, Task::Held));
+    assert!(rt; are_owned(&rt, port));
+    assert!(rt; are_over(&rt, port));
+    assert!(rt; are_in_order(&rt, port));
+    assert!(rt; are_held(&rt));
     assert!(rt; fs::remove_dir_all(&rt, FOLDER).is_ok());
 }
 
 /// A number without a tape, and a tape without a number.
 const UNPAIRED: &[(Option<u32>, Option<&str>)] = &[(Some(12), None), (None, Some("story.tape"))];
 
-/// Whether each of these is refused.
-pub fn are_refused<F: RowFiles>(rt: &HostRuntime, files: &F) -> bool {
+#[test]
+fn a_number_goes_with_a_tape(rt: HostRuntime) {
     for (number, tape) in UNPAIRED {
         let plan = Plan {
             config: "",
@@ -465,14 +457,6 @@ pub fn are_refused<F: RowFiles>(rt: &HostRuntime, files: &F) -> bool {
             seek: None,
         };
         let text = "usage: --number and --tape go together\n";
-        if !ends(rt, files, &plan, End::Usage, "", text) {
-            return false;
-        }
+        assert!(rt; ends(&rt, &plan, End::Usage, "", text));
     }
-    true
-}
-
-#[test]
-fn a_number_goes_with_a_tape(rt: HostRuntime) {
-    assert!(rt; holds(&rt, Task::Unpaired));
 }

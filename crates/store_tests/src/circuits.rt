@@ -1,15 +1,17 @@
 //! A circuit over databases in memory logs what it logs over rows in memory, at either version and from one to the other.
 
+use acceptor_store::SqliteRows;
 use code_table::CodeTable;
 use database_circuits::play_in_databases;
 use fixtures::{CODES, FLOOD, WIDTHS};
 use line_check::galley;
-use saved_rows::Rows;
+use saved_rows::MemoryRows;
+use sqlite::MemStore;
 use station::Datagram;
 use std::alloc::Global;
 use tape_frames::{Tape, Version};
 use widths::Widths;
-use world::{OfferLog, Played, ReleaseLog, Step, World, play_in_memory};
+use world::{OfferLog, ReleaseLog, Step, World, play_in_memory};
 
 /// The code table and the widths of a member.
 fn read_files(alloc: Global) -> Option<(CodeTable, Widths)> {
@@ -112,6 +114,28 @@ fn members(alloc: Global) -> Option<Vec<(CodeTable, Widths)>> {
     Some(members)
 }
 
+/// The circuit of a story over rows in memory, after its steps.
+fn in_memory(alloc: Global, story: &Story) -> Option<World<MemoryRows>> {
+    let steps = steps(alloc, story)?;
+    let members = members(alloc)?;
+    let played = play_in_memory(alloc, 7, story.version, members, steps.as_slice()).ok()?;
+    if played.run.is_err() {
+        return None;
+    }
+    Some(played.world)
+}
+
+/// The same over databases.
+fn in_databases(alloc: Global, story: &Story) -> Option<World<SqliteRows<MemStore>>> {
+    let steps = steps(alloc, story)?;
+    let members = members(alloc)?;
+    let played = play_in_databases(alloc, 7, story.version, members, steps.as_slice()).ok()?;
+    if played.run.is_err() {
+        return None;
+    }
+    Some(played.world)
+}
+
 fn are_same_datagrams(left: &[Datagram], right: &[Datagram]) -> bool {
     for (one, other) in left.iter().zip(right) {
         if one.to() != other.to() || one.bytes() != other.bytes() {
@@ -159,50 +183,28 @@ fn are_same_releases(alloc: Global, left: &[ReleaseLog], right: &[ReleaseLog]) -
     left.len() == right.len()
 }
 
-/// Whether two circuits log the same.
-fn are_same_logs<R: Rows, S: Rows>(alloc: Global, one: &World<R>, other: &World<S>) -> bool {
-    are_same_datagrams(one.sent(), other.sent())
-        && are_same_offers(one.offers(), other.offers())
-        && are_same_releases(alloc, one.releases(), other.releases())
-}
-
-/// How many datagrams, offers and releases two circuits log that took all their steps, where they log the same.
-fn logged_by_both<R: Rows, S: Rows>(
+/// Whether a circuit over databases logs what one over rows in memory does.
+fn are_same_logs(
     alloc: Global,
-    plain: &Played<R>,
-    saved: &Played<S>,
-) -> Option<[usize; 3]> {
-    let world = &saved.world;
-    let counts = [
-        world.sent().len(),
-        world.offers().len(),
-        world.releases().len(),
-    ];
-    let are_alike = plain.run.is_ok()
-        && saved.run.is_ok()
-        && are_same_logs(alloc, &plain.world, world);
-    are_alike.then_some(counts)
-}
-
-/// The same of one that was played and one over databases that takes these steps.
-fn logged_beside<R: Rows>(
-    alloc: Global,
-    plain: &Played<R>,
-    version: Version,
-    steps: &[Step],
-) -> Option<[usize; 3]> {
-    let members = members(alloc)?;
-    let saved = play_in_databases(alloc, 7, version, members, steps).ok()?;
-    logged_by_both(alloc, plain, &saved)
+    plain: &World<MemoryRows>,
+    saved: &World<SqliteRows<MemStore>>,
+) -> bool {
+    are_same_datagrams(plain.sent(), saved.sent())
+        && are_same_offers(plain.offers(), saved.offers())
+        && are_same_releases(alloc, plain.releases(), saved.releases())
 }
 
 /// How many datagrams, offers and releases a circuit over databases logs, where they are those of a circuit over rows in
 /// memory.
 fn logged(alloc: Global, story: &Story) -> Option<[usize; 3]> {
-    let steps = steps(alloc, story)?;
-    let members = members(alloc)?;
-    let plain = play_in_memory(alloc, 7, story.version, members, steps.as_slice()).ok()?;
-    logged_beside(alloc, &plain, story.version, steps.as_slice())
+    let plain = in_memory(alloc, story)?;
+    let saved = in_databases(alloc, story)?;
+    let counts = [
+        saved.sent().len(),
+        saved.offers().len(),
+        saved.releases().len(),
+    ];
+    are_same_logs(alloc, &plain, &saved).then_some(counts)
 }
 
 #[test]

@@ -151,43 +151,17 @@ impl Write for Slow {
     }
 }
 
-/// Saved rows of a station that are listed and printed.
-trait Listed: Rows {
-    /// Whose they are.
-    fn owner(&self) -> Identity;
-
-    /// All of them.
-    fn list(&mut self) -> Result<Vec<(Number, Row)>, RowsFault>;
-
-    /// Runs a command over them.
-    fn run(&mut self, alloc: Global, command: Command, out: &mut Slow, err: &mut Vec<u8>) -> End;
-}
-
-impl Listed for SqliteRows<MemStore> {
-    fn owner(&self) -> Identity {
-        self.identity()
-    }
-
-    fn list(&mut self) -> Result<Vec<(Number, Row)>, RowsFault> {
-        self.all()
-    }
-
-    fn run(&mut self, alloc: Global, command: Command, out: &mut Slow, err: &mut Vec<u8>) -> End {
-        match command {
-            Command::Rows => print_rows(alloc, self, out, err),
-            Command::Upgrade => upgrade_rows(self, out, err),
-        }
-    }
-}
-
 /// Whether a command prints so.
-fn is_printed<R: Listed>(alloc: Global, rows: &mut R, print: &Print) -> bool {
+fn is_printed(alloc: Global, rows: &mut SqliteRows<MemStore>, print: &Print) -> bool {
     let mut out = Slow {
         taken: Vec::new(alloc),
         room: print.room,
     };
     let mut err = Vec::new(alloc);
-    let end = rows.run(alloc, print.command, &mut out, &mut err);
+    let end = match print.command {
+        Command::Rows => print_rows(alloc, rows, &mut out, &mut err),
+        Command::Upgrade => upgrade_rows(rows, &mut out, &mut err),
+    };
     print.text.as_bytes().starts_with(&out.taken)
         && (out.taken.len() == print.text.len() || out.room == 0)
         && end == print.end
@@ -195,7 +169,7 @@ fn is_printed<R: Listed>(alloc: Global, rows: &mut R, print: &Print) -> bool {
 }
 
 /// Whether the commands print so, one after the other.
-fn are_printed<R: Listed>(alloc: Global, rows: &mut R, prints: &[Print]) -> bool {
+fn are_printed(alloc: Global, rows: &mut SqliteRows<MemStore>, prints: &[Print]) -> bool {
     for print in prints {
         if !is_printed(alloc, rows, print) {
             return false;
@@ -205,11 +179,11 @@ fn are_printed<R: Listed>(alloc: Global, rows: &mut R, prints: &[Print]) -> bool
 }
 
 /// Whether the rows are the station's, at the version of a session, and answer, list and print as it says.
-fn serves<R: Listed>(alloc: Global, rows: &mut R, session: &Session) -> bool {
-    rows.owner() == STATION
+fn serves(alloc: Global, rows: &mut SqliteRows<MemStore>, session: &Session) -> bool {
+    rows.identity() == STATION
         && rows.version() == session.version
         && done(alloc, rows, session.deeds) == session.deeds.len()
-        && is_listed(rows.list(), &session.listing)
+        && is_listed(rows.all(), &session.listing)
         && are_printed(alloc, rows, session.prints)
 }
 
