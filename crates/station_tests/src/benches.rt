@@ -5,7 +5,7 @@ use crate::unread::Unread;
 use ballots::{Ballot, Member, Number, Row};
 use code_table::CodeTable;
 use fixtures::{CODES, FLOOD, WIDTHS};
-use saved_rows::{Balky, MemoryRows, RowsFault};
+use saved_rows::{Balky, MemoryRows, Rows, RowsFault};
 use station::{Answer, BadMember, Datagram, Release, Station, StepRefusal};
 use std::alloc::Global;
 use tape_frames::{Entry, Tape, Version};
@@ -137,14 +137,40 @@ pub const FIRST: Story = Story {
 /// Member 2 of three with blank rows.
 pub const SECOND: Story = Story { me: 2, ..FIRST };
 
-type Bench = Station<Unread<Balky<MemoryRows>>>;
+/// Rows that a story changes beside the steps of its station.
+trait Changing: Rows {
+    /// Whether a change of the rows alone is made.
+    fn change(&mut self, alloc: Global, act: Act) -> bool;
+
+    /// The row that is saved for a number.
+    fn row(&self, number: Number) -> Option<&Row>;
+}
+
+impl Changing for Unread<Balky<MemoryRows>> {
+    fn change(&mut self, alloc: Global, act: Act) -> bool {
+        match act {
+            Act::Arm(saved) => self.arm(saved),
+            Act::Refuse(fault) => self.refuse(fault),
+            Act::Replace(version, promised) => match rows_with(alloc, version, promised) {
+                Some(others) => *self = others,
+                None => return false,
+            },
+            _ => return false,
+        }
+        true
+    }
+
+    fn row(&self, number: Number) -> Option<&Row> {
+        self.rows().rows().row(number)
+    }
+}
 
 fn ballot(round: u32, owner: u8) -> Option<Ballot> {
     Ballot::new(round, Member::new(owner)?)
 }
 
-/// Rows at this version, blank or with this promise for number 12.
-fn rows_with(alloc: Global, version: Version, promised: Option<(u32, u8)>) -> Option<MemoryRows> {
+/// Rows in memory at this version, blank or with this promise for number 12.
+fn memory_with(alloc: Global, version: Version, promised: Option<(u32, u8)>) -> Option<MemoryRows> {
     let mut rows = MemoryRows::at(alloc, version);
     let Some((round, owner)) = promised else {
         return Some(rows);
@@ -155,6 +181,16 @@ fn rows_with(alloc: Global, version: Version, promised: Option<(u32, u8)>) -> Op
     Some(rows)
 }
 
+/// The same as rows of a story, unarmed and read.
+fn rows_with(
+    alloc: Global,
+    version: Version,
+    promised: Option<(u32, u8)>,
+) -> Option<Unread<Balky<MemoryRows>>> {
+    let rows = memory_with(alloc, version, promised)?;
+    Some(Unread::new(Balky::new(rows)))
+}
+
 /// A code table and widths.
 fn setting(alloc: Global) -> Option<(CodeTable, Widths)> {
     let table = CodeTable::read(alloc, CODES).ok()?;
@@ -162,11 +198,9 @@ fn setting(alloc: Global) -> Option<(CodeTable, Widths)> {
     Some((table, widths))
 }
 
-/// The station of a story, before its turns.
-fn bench_of(alloc: Global, story: &Story) -> Option<Bench> {
+/// The station of a story over these rows, before its turns.
+fn station_of<R: Rows>(alloc: Global, story: &Story, rows: R) -> Option<Station<R>> {
     let (table, widths) = setting(alloc)?;
-    let rows = rows_with(alloc, story.version, story.promised)?;
-    let rows = Unread::new(Balky::new(rows));
     Station::new(alloc, 7, story.me, story.members, table, widths, rows).ok()
 }
 
@@ -232,46 +266,53 @@ fn is_upgraded(upgrade: Result<(), StepRefusal>, ends: Ends) -> bool {
     }
 }
 
-/// Whether what is done ends as it is told.
-fn acts(alloc: Global, bench: &mut Bench, turn: &Turn) -> bool {
-    let step = match turn.act {
+/// What comes of a step; nothing where this is no step.
+fn step<R: Rows>(
+    alloc: Global,
+    station: &mut Station<R>,
+    act: Act,
+) -> Option<Result<Answer, StepRefusal>> {
+    Some(match act {
         Act::Offer(number, frames) => {
-            let Ok(tape) = Tape::from_bytes(alloc, frames) else {
-                return false;
-            };
-            bench.offer(number, &tape, 0)
+            let tape = Tape::from_bytes(alloc, frames).ok()?;
+            station.offer(number, &tape, 0)
         }
-        Act::Withdraw(number) => bench.withdraw(number, 0),
-        Act::Seek => bench.seek(12, 0),
-        Act::Due(now) => bench.due(now),
-        Act::Receive(bytes) => bench.receive(bytes, 0),
-        Act::Arm(saved) => {
-            bench.rows_mut().arm(saved);
-            return true;
-        }
-        Act::Refuse(fault) => {
-            bench.rows_mut().refuse(fault);
-            return true;
-        }
-        Act::Replace(version, promised) => {
-            let Some(rows) = rows_with(alloc, version, promised) else {
-                return false;
-            };
-            *bench.rows_mut() = Unread::new(Balky::new(rows));
-            return true;
-        }
+        Act::Withdraw(number) => station.withdraw(number, 0),
+        Act::Seek => station.seek(12, 0),
+        Act::Due(now) => station.due(now),
+        Act::Receive(bytes) => station.receive(bytes, 0),
+        _ => return None,
+    })
+}
+
+/// Whether a step, a restart or an upgrade ends as it is told.
+fn goes<R: Rows>(alloc: Global, station: &mut Station<R>, turn: &Turn) -> bool {
+    match turn.act {
         Act::Restart => {
-            bench.restart();
-            return true;
+            station.restart();
+            true
         }
-        Act::Upgrade => return is_upgraded(bench.upgrade(), turn.ends),
-    };
-    is_told(alloc, step, turn)
+        Act::Upgrade => is_upgraded(station.upgrade(), turn.ends),
+        act => match step(alloc, station, act) {
+            Some(end) => is_told(alloc, end, turn),
+            None => false,
+        },
+    }
+}
+
+/// Whether what is done ends as it is told.
+fn acts<R: Changing>(alloc: Global, station: &mut Station<R>, turn: &Turn) -> bool {
+    match turn.act {
+        Act::Arm(_) | Act::Refuse(_) | Act::Replace(..) => {
+            station.rows_mut().change(alloc, turn.act)
+        }
+        _ => goes(alloc, station, turn),
+    }
 }
 
 /// Whether this is open of number 12.
-fn is_open(bench: &Bench, number: Number, open: Open) -> bool {
-    let found = bench.open_ballot(number);
+fn is_open<R: Rows>(station: &Station<R>, number: Number, open: Open) -> bool {
+    let found = station.open_ballot(number);
     match open {
         Open::Unasked => true,
         Open::Nothing => found.is_none(),
@@ -280,11 +321,31 @@ fn is_open(bench: &Bench, number: Number, open: Open) -> bool {
 }
 
 /// Whether a turn comes to what it has to.
-fn takes(alloc: Global, bench: &mut Bench, number: Number, turn: &Turn) -> bool {
-    acts(alloc, bench, turn)
-        && bench.stopped() == turn.stopped
-        && bench.released(number) == turn.released
-        && is_open(bench, number, turn.open)
+fn takes<R: Changing>(
+    alloc: Global,
+    station: &mut Station<R>,
+    number: Number,
+    turn: &Turn,
+) -> bool {
+    acts(alloc, station, turn)
+        && station.stopped() == turn.stopped
+        && station.released(number) == turn.released
+        && is_open(station, number, turn.open)
+}
+
+/// How many turns come to what they have to, up to the first that does not.
+fn taken<R: Changing>(
+    alloc: Global,
+    station: &mut Station<R>,
+    number: Number,
+    turns: &[Turn],
+) -> usize {
+    for (place, turn) in turns.iter().enumerate() {
+        if !takes(alloc, station, number, turn) {
+            return place;
+        }
+    }
+    turns.len()
 }
 
 /// Whether a row has a promise of this round and owner, and no vote.
@@ -294,13 +355,13 @@ fn is_promise(row: &Row, round: u32, owner: u8) -> bool {
 }
 
 /// Whether a station leaves this saved.
-fn leaves(bench: Bench, number: Number, left: Left) -> bool {
+fn leaves<R: Changing>(station: Station<R>, number: Number, left: Left) -> bool {
     match left {
         Left::Unasked => true,
-        Left::Row => bench.rows().rows().rows().row(number).is_some(),
+        Left::Row => station.rows().row(number).is_some(),
         Left::Promise(round, owner) => {
-            let rows = bench.into_rows();
-            match rows.rows().rows().row(number) {
+            let rows = station.into_rows();
+            match rows.row(number) {
                 Some(row) => is_promise(row, round, owner),
                 None => false,
             }
@@ -308,27 +369,29 @@ fn leaves(bench: Bench, number: Number, left: Left) -> bool {
     }
 }
 
-/// How many turns of a story come to what they have to, up to the first that does not, and one more where the station
-/// then leaves saved what it has to.
-fn come(alloc: Global, story: &Story) -> Option<usize> {
+/// How many turns of a story over these rows come to what they have to, up to the first that does not, and one more where the
+/// station then leaves saved what it has to.
+fn come<R: Changing>(alloc: Global, story: &Story, rows: R) -> Option<usize> {
     let number = Number::new(12)?;
-    let mut bench = bench_of(alloc, story)?;
-    for (place, turn) in story.turns.iter().enumerate() {
-        if !takes(alloc, &mut bench, number, turn) {
-            return Some(place);
-        }
-    }
-    let count = story.turns.len();
-    Some(if leaves(bench, number, story.left) {
+    let mut station = station_of(alloc, story, rows)?;
+    let count = taken(alloc, &mut station, number, story.turns);
+    let is_left = count == story.turns.len() && leaves(station, number, story.left);
+    Some(if is_left {
         count.saturating_add(1)
     } else {
         count
     })
 }
 
+/// The same of a story over rows of its own.
+fn told(alloc: Global, story: &Story) -> Option<usize> {
+    let rows = rows_with(alloc, story.version, story.promised)?;
+    come(alloc, story, rows)
+}
+
 /// The place of the first turn of a story that does not come to what it has to; nothing where all do.
 pub fn fails_at(alloc: Global, story: &Story) -> Option<usize> {
-    match come(alloc, story) {
+    match told(alloc, story) {
         Some(count) if count > story.turns.len() => None,
         Some(place) => Some(place),
         None => Some(0),
@@ -336,18 +399,18 @@ pub fn fails_at(alloc: Global, story: &Story) -> Option<usize> {
 }
 
 /// What a station that is no member of its circuit was made of, handed back; nothing where it is a member.
-fn handed_back(
+fn handed_back<R: Rows>(
     alloc: Global,
     (me, members): (u8, u8),
-    parts: BadMember<MemoryRows>,
-) -> Option<BadMember<MemoryRows>> {
+    parts: BadMember<R>,
+) -> Option<BadMember<R>> {
     Station::new(alloc, 7, me, members, parts.table, parts.widths, parts.rows).err()
 }
 
-/// Whether stations that are no members of their circuits are refused, each made of what the one before handed back.
-pub fn are_no_members(alloc: Global, cases: &[(u8, u8)]) -> Option<bool> {
+/// Whether stations over these rows that are no members of their circuits are refused, each made of what the one before handed
+/// back.
+fn are_refused<R: Rows>(alloc: Global, rows: R, cases: &[(u8, u8)]) -> Option<bool> {
     let (table, widths) = setting(alloc)?;
-    let rows = MemoryRows::new(alloc);
     let mut parts = BadMember {
         table,
         widths,
@@ -357,4 +420,9 @@ pub fn are_no_members(alloc: Global, cases: &[(u8, u8)]) -> Option<bool> {
         parts = handed_back(alloc, *case, parts)?;
     }
     Some(true)
+}
+
+/// Whether stations that are no members of their circuits are refused.
+pub fn are_no_members(alloc: Global, cases: &[(u8, u8)]) -> bool {
+    are_refused(alloc, MemoryRows::new(alloc), cases) == Some(true)
 }

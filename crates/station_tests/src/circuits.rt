@@ -6,14 +6,14 @@ use ballots::Number;
 use code_table::CodeTable;
 use fixtures::{CODES, FLOOD, LIGATURE, LONGEST, WIDTHS};
 use line_check::{SetFault, galley};
-use saved_rows::MemoryRows;
+use saved_rows::{MemoryRows, Rows};
 use station::Datagram;
 use std::alloc::Global;
 use tape_frames::{Tape, Version};
 use widths::Widths;
 use world::{
-    NewWorldFault, OfferLog, PlayFault, ReleaseLog, RunStop, Seen, Step, World, WorldRefusal,
-    play_in_memory,
+    NewWorldFault, OfferLog, PlayFault, Played, ReleaseLog, RunStop, Seen, Step, World,
+    WorldRefusal, play_in_memory,
 };
 
 /// Widths that lack the matrix `fi`.
@@ -132,8 +132,6 @@ pub const CALM: Story = Story {
     stop: None,
 };
 
-pub type Circuit = World<MemoryRows>;
-
 /// A member's code table, and these widths.
 fn pair(alloc: Global, widths: &str) -> Option<(CodeTable, Widths)> {
     let table = CodeTable::read(alloc, CODES).ok()?;
@@ -161,13 +159,16 @@ fn version_of(versions: Versions, members: u8, member: u8) -> Version {
     }
 }
 
-/// The same, each with blank rows at its version.
+/// The code tables, the widths and the rows of members.
+pub type Parts<R> = Vec<(CodeTable, Widths, R)>;
+
+/// The code tables and the widths of so many members, each with blank rows at its version.
 pub fn parts(
     alloc: Global,
     members: u8,
     versions: Versions,
     last: &str,
-) -> Option<Vec<(CodeTable, Widths, MemoryRows)>> {
+) -> Option<Parts<MemoryRows>> {
     let mut parts = Vec::new(alloc);
     let mut member = 0u8;
     for (table, widths) in settings(alloc, members, last)? {
@@ -178,9 +179,8 @@ pub fn parts(
     Some(parts)
 }
 
-/// The circuit of a story, before its steps.
-fn circuit(alloc: Global, story: &Story) -> Option<Circuit> {
-    let parts = parts(alloc, story.members, story.versions, story.last)?;
+/// Circuit 7 of these members, before any step.
+pub fn circuit<R: Rows>(alloc: Global, parts: Parts<R>) -> Option<World<R>> {
     World::new(alloc, 7, parts).ok()
 }
 
@@ -230,7 +230,7 @@ fn is_seen(alloc: Global, seen: &Seen, line: &Line) -> bool {
 }
 
 /// Whether what is to be seen of a step is seen, or it is the step's refusal.
-fn takes(alloc: Global, world: &mut Circuit, line: &Line) -> bool {
+fn takes<R: Rows>(alloc: Global, world: &mut World<R>, line: &Line) -> bool {
     let Some(step) = step_of(alloc, line.0) else {
         return false;
     };
@@ -241,7 +241,7 @@ fn takes(alloc: Global, world: &mut Circuit, line: &Line) -> bool {
 }
 
 /// How many steps are seen as they have to be, up to the first that is not.
-fn taken(alloc: Global, world: &mut Circuit, lines: &[Line]) -> usize {
+fn taken<R: Rows>(alloc: Global, world: &mut World<R>, lines: &[Line]) -> usize {
     for (place, line) in lines.iter().enumerate() {
         if !takes(alloc, world, line) {
             return place;
@@ -329,20 +329,20 @@ pub fn are_releases(alloc: Global, logs: &[ReleaseLog], told: &[Released]) -> bo
 }
 
 /// The round and the owner of member 1's open proposal of number 12.
-fn open_ballot(world: &Circuit) -> Option<(u32, u8)> {
+fn open_ballot<R: Rows>(world: &World<R>) -> Option<(u32, u8)> {
     let ballot = world.station(1)?.open_ballot(Number::new(12)?)?;
     Some((ballot.round(), ballot.owner().get()))
 }
 
 /// Whether there is a station of the last member, and none of a member 0 or one behind the last.
-fn has_members(world: &Circuit, members: u8) -> bool {
+fn has_members<R: Rows>(world: &World<R>, members: u8) -> bool {
     world.station(members).is_some()
         && world.station(0).is_none()
         && world.station(members.saturating_add(1)).is_none()
 }
 
 /// Whether the members are there, and the logs have what they have to.
-fn has_logged(alloc: Global, world: &Circuit, story: &Story) -> bool {
+fn has_logged<R: Rows>(alloc: Global, world: &World<R>, story: &Story) -> bool {
     let same_open = match story.open {
         None => true,
         Some(open) => open_ballot(world) == open,
@@ -355,7 +355,7 @@ fn has_logged(alloc: Global, world: &Circuit, story: &Story) -> bool {
 }
 
 /// How many steps of a story are seen as they have to be, and one more where the logs are then what they have to be.
-fn told(alloc: Global, world: &mut Circuit, story: &Story) -> usize {
+fn told<R: Rows>(alloc: Global, world: &mut World<R>, story: &Story) -> usize {
     let count = taken(alloc, world, story.lines);
     if count == story.lines.len() && has_logged(alloc, world, story) {
         count.saturating_add(1)
@@ -366,7 +366,7 @@ fn told(alloc: Global, world: &mut Circuit, story: &Story) -> usize {
 
 /// The same of the steps in one run, which stops where it has to; none where the run or the logs are not as they have
 /// to be.
-fn ran(alloc: Global, world: &mut Circuit, story: &Story) -> usize {
+fn ran<R: Rows>(alloc: Global, world: &mut World<R>, story: &Story) -> usize {
     let Some(steps) = steps_of(alloc, story.lines) else {
         return 0;
     };
@@ -381,7 +381,7 @@ fn ran(alloc: Global, world: &mut Circuit, story: &Story) -> usize {
     }
 }
 
-fn has_stopped(world: &Circuit, member: u8) -> bool {
+fn has_stopped<R: Rows>(world: &World<R>, member: u8) -> bool {
     match world.station(member) {
         Some(station) => station.stopped(),
         None => false,
@@ -389,7 +389,7 @@ fn has_stopped(world: &Circuit, member: u8) -> bool {
 }
 
 /// How long the logs are, and which of three members have stopped.
-fn all_seen(world: &Circuit) -> ([usize; 3], [bool; 3]) {
+fn all_seen<R: Rows>(world: &World<R>) -> ([usize; 3], [bool; 3]) {
     let logs = [
         world.sent().len(),
         world.offers().len(),
@@ -404,7 +404,7 @@ fn all_seen(world: &Circuit) -> ([usize; 3], [bool; 3]) {
 }
 
 /// Whether a step that is refused memory leaves all as it was.
-fn keeps_all(alloc: Global, world: &mut Circuit, act: Act) -> bool {
+fn keeps_all<R: Rows>(alloc: Global, world: &mut World<R>, act: Act) -> bool {
     let Some(step) = step_of(alloc, act) else {
         return true;
     };
@@ -417,7 +417,7 @@ fn keeps_all(alloc: Global, world: &mut Circuit, act: Act) -> bool {
 
 /// How many steps of a story leave all as it was where they are refused memory, up to the first that does not; and one
 /// more where all do.
-fn kept(alloc: Global, world: &mut Circuit, lines: &[Line]) -> usize {
+fn kept<R: Rows>(alloc: Global, world: &mut World<R>, lines: &[Line]) -> usize {
     for (place, line) in lines.iter().enumerate() {
         if !keeps_all(alloc, world, line.0) {
             return place;
@@ -437,16 +437,25 @@ pub enum Way {
     Memory,
 }
 
-/// The place of the first step of a story that does not come to what it has to, or its length where only the logs are
-/// not what they have to be; nothing where all is.
-pub fn fails_at(alloc: Global, story: &Story, way: Way) -> Option<usize> {
-    let Some(mut world) = circuit(alloc, story) else {
-        return Some(0);
+/// How many steps of a story come to what they have to in a circuit of these members, up to the first that does not, and
+/// one more where all is as it has to be.
+fn come<R: Rows>(alloc: Global, parts: Parts<R>, story: &Story, way: Way) -> usize {
+    let Some(mut world) = circuit(alloc, parts) else {
+        return 0;
     };
-    let count = match way {
+    match way {
         Way::Steps => told(alloc, &mut world, story),
         Way::Run => ran(alloc, &mut world, story),
         Way::Memory => kept(alloc, &mut world, story.lines),
+    }
+}
+
+/// The place of the first step of a story that does not come to what it has to, or its length where only the logs are
+/// not what they have to be; nothing where all is.
+pub fn fails_at(alloc: Global, story: &Story, way: Way) -> Option<usize> {
+    let count = match parts(alloc, story.members, story.versions, story.last) {
+        Some(parts) => come(alloc, parts, story, way),
+        None => 0,
     };
     if count > story.lines.len() {
         None
@@ -455,13 +464,18 @@ pub fn fails_at(alloc: Global, story: &Story, way: Way) -> Option<usize> {
     }
 }
 
+/// Whether a circuit that was played stopped where a story has to, and its logs are what they have to be.
+fn has_played<R: Rows>(alloc: Global, played: &Played<R>, story: &Story) -> bool {
+    played.run.err() == story.stop && has_logged(alloc, &played.world, story)
+}
+
 /// Whether the steps of a story whose members have one version, played from the beginning of its circuit, leave the logs
 /// as they have to be.
 pub fn plays(alloc: Global, story: &Story) -> Option<bool> {
     let members = settings(alloc, story.members, story.last)?;
     let steps = steps_of(alloc, story.lines)?;
     let played = play_in_memory(alloc, 7, story.versions.0, members, steps.as_slice()).ok()?;
-    Some(played.run.err() == story.stop && has_logged(alloc, &played.world, story))
+    Some(has_played(alloc, &played, story))
 }
 
 /// Whether a circuit of this many members is not played, for their count.
@@ -473,12 +487,17 @@ pub fn is_unplayed(alloc: Global, members: u8) -> Option<bool> {
     }
 }
 
-/// Whether a circuit of this many members is refused, and all of them are handed back.
-pub fn is_handed_back(alloc: Global, members: u8) -> Option<bool> {
-    let given = parts(alloc, members, OLD, WIDTHS)?;
-    let count = usize::from(members);
-    match World::new(alloc, 7, given) {
-        Err(NewWorldFault::BadCount(back)) => Some(back.len() == count),
-        _ => Some(false),
+/// Whether a circuit of these members is refused, and all of them are handed back.
+fn hands_back<R: Rows>(alloc: Global, parts: Parts<R>) -> bool {
+    let count = parts.len();
+    match World::new(alloc, 7, parts) {
+        Err(NewWorldFault::BadCount(back)) => back.len() == count,
+        _ => false,
     }
+}
+
+/// The same of this many members.
+pub fn is_handed_back(alloc: Global, members: u8) -> Option<bool> {
+    let parts = parts(alloc, members, OLD, WIDTHS)?;
+    Some(parts.len() == usize::from(members) && hands_back(alloc, parts))
 }

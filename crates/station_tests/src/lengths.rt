@@ -1,13 +1,14 @@
 //! The longest tape goes round in version 2.
 
 use crate::circuits::Act::{Deliver, OfferLongest};
-use crate::circuits::{Circuit, Line, Released, are_releases, settings, steps_of};
+use crate::circuits::{Line, Released, are_releases, settings, steps_of};
 use crate::entries::LONGEST;
 use fixtures::WIDTHS;
+use saved_rows::Rows;
 use station::Datagram;
 use std::alloc::Global;
 use tape_frames::Version;
-use world::play_in_memory;
+use world::{Played, play_in_memory};
 
 /// Member 1 of three offers it, and all three release it.
 const LINES: &[Line] = &[
@@ -42,9 +43,11 @@ fn have_lengths(datagrams: &[Datagram], lengths: &[usize]) -> bool {
     datagrams.len() == lengths.len()
 }
 
-/// Whether the logs have what they have to.
-fn has_gone_round(alloc: Global, world: &Circuit) -> bool {
-    have_lengths(world.sent(), LENGTHS) && are_releases(alloc, world.releases(), RELEASES)
+/// Whether all steps were taken, and the logs have what they have to.
+fn has_gone_round<R: Rows>(alloc: Global, played: &Played<R>) -> bool {
+    played.run.is_ok()
+        && have_lengths(played.world.sent(), LENGTHS)
+        && are_releases(alloc, played.world.releases(), RELEASES)
 }
 
 /// Whether it is released by all three.
@@ -52,7 +55,7 @@ fn goes_round(alloc: Global) -> Option<bool> {
     let members = settings(alloc, 3, WIDTHS)?;
     let steps = steps_of(alloc, LINES)?;
     let played = play_in_memory(alloc, 7, Version::Two, members, steps.as_slice()).ok()?;
-    Some(played.run.is_ok() && has_gone_round(alloc, &played.world))
+    Some(has_gone_round(alloc, &played))
 }
 
 #[test]

@@ -1,11 +1,12 @@
 //! Scripts of random steps, of offers, withdrawals, searches and due moments, of datagrams that are lost, repeated and come
 //! in any order, of saves that are refused and of restarts: what has to hold whatever the steps are.
 
-use crate::circuits::{Circuit, FLOOD_SET, LIGATURE_SET, Versions, is_set, parts};
+use crate::circuits::{FLOOD_SET, LIGATURE_SET, Parts, Versions, circuit, is_set, parts};
 use crate::dice::Dice;
 use ballots::Number;
 use fixtures::{FLOOD, HARVEST, LIGATURE, WIDTHS};
 use packets::{BodyRef, decode};
+use saved_rows::{MemoryRows, Rows};
 use station::Datagram;
 use std::alloc::Global;
 use tape_frames::{Entry, EntryRef, Tape, Version};
@@ -79,9 +80,9 @@ impl Tally {
 
 /// A script, as far as it is taken: its steps, and the datagram that comes next where all come in order.
 #[derive(Drop)]
-struct Script {
+struct Script<R: Rows> {
     kind: Kind,
-    world: Circuit,
+    world: World<R>,
     taken: Vec<Step>,
     dice: Dice,
     next: usize,
@@ -103,10 +104,9 @@ fn offer(alloc: Global, dice: &mut Dice, member: u8, now: u64) -> Option<Step> {
     })
 }
 
-/// A script of a circuit of this kind, of which no step is taken.
-fn untaken(alloc: Global, kind: Kind, seed: u64) -> Option<Script> {
-    let parts = parts(alloc, kind.members, kind.versions, WIDTHS)?;
-    let world = World::new(alloc, 7, parts).ok()?;
+/// A script of a circuit of these members, which is of this kind; no step of it is taken.
+fn untaken<R: Rows>(alloc: Global, parts: Parts<R>, kind: Kind, seed: u64) -> Option<Script<R>> {
+    let world = circuit(alloc, parts)?;
     Some(Script {
         kind,
         world,
@@ -117,7 +117,7 @@ fn untaken(alloc: Global, kind: Kind, seed: u64) -> Option<Script> {
     })
 }
 
-impl Script {
+impl<R: Rows> Script<R> {
     /// Takes a step; nothing where it is refused.
     fn take(&mut self, step: Step) -> Option<()> {
         match self.world.step(&step) {
@@ -249,7 +249,7 @@ impl Script {
     }
 }
 
-fn has_released(world: &Circuit, member: u8, number: u32) -> bool {
+fn has_released<R: Rows>(world: &World<R>, member: u8, number: u32) -> bool {
     match (world.station(member), Number::new(number)) {
         (Some(station), Some(number)) => station.released(number),
         _ => false,
@@ -289,7 +289,7 @@ fn offered(offers: &[OfferLog], number: u32, entry: &Entry) -> (usize, usize) {
 }
 
 /// Whether each entry that was released was offered for its number.
-fn were_offered(world: &Circuit) -> bool {
+fn were_offered<R: Rows>(world: &World<R>) -> bool {
     for log in world.releases() {
         if offered(world.offers(), log.number(), log.entry()).0 == 0 {
             return false;
@@ -386,22 +386,22 @@ fn are_same_datagrams(ones: &[Datagram], others: &[Datagram]) -> bool {
 }
 
 /// Whether two circuits sent the same datagrams, and were offered and released as much.
-fn are_alike(one: &Circuit, other: &Circuit) -> bool {
+fn are_alike<R: Rows>(one: &World<R>, other: &World<R>) -> bool {
     one.offers().len() == other.offers().len()
         && one.releases().len() == other.releases().len()
         && are_same_datagrams(one.sent(), other.sent())
 }
 
-/// Whether the same steps, played from the beginning, come to the same.
-fn is_played(alloc: Global, script: &Script) -> Option<bool> {
-    let kind = script.kind;
-    let members = parts(alloc, kind.members, kind.versions, WIDTHS)?;
-    let played = play(alloc, 7, members, script.taken.as_slice()).ok()?;
-    Some(played.run.is_ok() && are_alike(&played.world, &script.world))
+/// Whether the same steps, played from the beginning over these members, come to the same.
+fn is_played<R: Rows>(alloc: Global, script: &Script<R>, parts: Parts<R>) -> bool {
+    match play(alloc, 7, parts, script.taken.as_slice()) {
+        Ok(played) => played.run.is_ok() && are_alike(&played.world, &script.world),
+        Err(_) => false,
+    }
 }
 
 /// What does not hold of a script that was taken; nothing where all holds.
-fn fault_of(alloc: Global, script: &Script) -> Option<&'static str> {
+fn fault_of<R: Rows>(alloc: Global, script: &Script<R>) -> Option<&'static str> {
     if !are_one(script.world.releases()) {
         return Some("a number has two entries");
     }
@@ -414,14 +414,11 @@ fn fault_of(alloc: Global, script: &Script) -> Option<&'static str> {
     if !have_one_proposal(script.world.sent()) {
         return Some("a ballot has two proposals");
     }
-    if is_played(alloc, script) != Some(true) {
-        return Some("it is played otherwise");
-    }
     None
 }
 
 /// Whether a number was released that was offered another entry too.
-fn had_rivals(world: &Circuit, number: u32) -> bool {
+fn had_rivals<R: Rows>(world: &World<R>, number: u32) -> bool {
     for log in world.releases() {
         if log.number() == number {
             return offered(world.offers(), number, log.entry()).1 > 0;
@@ -431,7 +428,7 @@ fn had_rivals(world: &Circuit, number: u32) -> bool {
 }
 
 /// Adds what the random steps of a script came to.
-fn count(world: &Circuit, tally: &mut Tally) {
+fn count<R: Rows>(world: &World<R>, tally: &mut Tally) {
     tally.releases = tally.releases.saturating_add(world.releases().len());
     for log in world.releases() {
         if let Entry::Void = log.entry() {
@@ -445,11 +442,12 @@ fn count(world: &Circuit, tally: &mut Tally) {
     }
 }
 
-/// What does not hold of the script of this seed, of a circuit of this kind; nothing where all holds.
-fn fault_of_seed(alloc: Global, kind: Kind, seed: u64, tally: &mut Tally) -> Option<&'static str> {
-    let Some(mut script) = untaken(alloc, kind, seed) else {
-        return Some("there is no circuit");
-    };
+/// Takes a script, and tells what does not hold of it; nothing where all holds.
+fn taken_fault<R: Rows>(
+    alloc: Global,
+    script: &mut Script<R>,
+    tally: &mut Tally,
+) -> Option<&'static str> {
     if script.stir(alloc).is_none() {
         return Some("a step is refused");
     }
@@ -457,7 +455,40 @@ fn fault_of_seed(alloc: Global, kind: Kind, seed: u64, tally: &mut Tally) -> Opt
     if !script.settles() {
         return Some("what was released is not found again");
     }
-    fault_of(alloc, &script)
+    fault_of(alloc, script)
+}
+
+/// What does not hold of the script of this seed over these members, and as these of the same kind play it again; nothing
+/// where all holds.
+fn fault_over<R: Rows>(
+    alloc: Global,
+    (kind, seed): (Kind, u64),
+    parts: Parts<R>,
+    again: Parts<R>,
+    tally: &mut Tally,
+) -> Option<&'static str> {
+    let Some(mut script) = untaken(alloc, parts, kind, seed) else {
+        return Some("there is no circuit");
+    };
+    let fault = taken_fault(alloc, &mut script, tally);
+    if fault.is_some() || is_played(alloc, &script, again) {
+        fault
+    } else {
+        Some("it is played otherwise")
+    }
+}
+
+/// The members of a circuit of this kind, with blank rows.
+fn members(alloc: Global, kind: Kind) -> Option<Parts<MemoryRows>> {
+    parts(alloc, kind.members, kind.versions, WIDTHS)
+}
+
+/// What does not hold of the script of this seed, of a circuit of this kind; nothing where all holds.
+fn fault_of_seed(alloc: Global, kind: Kind, seed: u64, tally: &mut Tally) -> Option<&'static str> {
+    match (members(alloc, kind), members(alloc, kind)) {
+        (Some(parts), Some(again)) => fault_over(alloc, (kind, seed), parts, again, tally),
+        _ => Some("there are no members"),
+    }
 }
 
 /// The seed of the first of so many scripts of which not all holds, and what does not; nothing where all holds.

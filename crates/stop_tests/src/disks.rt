@@ -2,15 +2,11 @@
 
 ghost use Rattle.std.specs.Prelude.{IsTrue};
 
-use acceptor_store::{SqliteRows, into_files};
-use saved_rows::{Identity, RowsFault};
+use acceptor_store::SqliteRows;
+use saved_rows::{Identity, Rows};
 use sqlite::{Connection, FileStore, Files, Options};
 use sqlite_disk::{Crash, Disk, Fuse, Memory};
 use std::alloc::Global;
-use tape_frames::Version;
-
-/// Saved rows over such disks.
-pub type Saved = SqliteRows<FileStore<Fuse<Memory>>>;
 
 /// The two disks of a database.
 pub type Disks = Files<Fuse<Memory>>;
@@ -36,6 +32,31 @@ pub struct Left {
     pub closed: bool,
 }
 
+/// Saved rows over disks: what else is asked of them here.
+pub trait Stored: Rows {
+    /// How many rows are listed; nothing where the list is refused.
+    fn count(&mut self) -> Option<usize>;
+
+    /// The disks, taken out.
+    fn left(self) -> Left;
+}
+
+/// A database over two disks in memory.
+pub type Database = Connection<FileStore<Fuse<Memory>>>;
+
+impl Stored for SqliteRows<FileStore<Fuse<Memory>>> {
+    fn count(&mut self) -> Option<usize> {
+        match self.all() {
+            Ok(list) => Some(list.len()),
+            Err(_) => None,
+        }
+    }
+
+    fn left(self) -> Left {
+        close(self.into_connection())
+    }
+}
+
 /// A new disk that stops after so many calls.
 fn disk(alloc: Global, calls: u64) -> Fuse<Memory>
     ensures { IsTrue (⟦<Fuse<Memory> as Disk>⟧.is_usable result) }
@@ -44,11 +65,7 @@ fn disk(alloc: Global, calls: u64) -> Fuse<Memory>
 }
 
 /// Opens a database over new disks, of which this one stops after so many calls; or what is left of them.
-fn opened(
-    alloc: Global,
-    side: Side,
-    calls: u64,
-) -> Result<Connection<FileStore<Fuse<Memory>>>, Disks> {
+pub fn opened(alloc: Global, side: Side, calls: u64) -> Result<Database, Disks> {
     let (log_calls, database_calls) = match side {
         Side::Log => (calls, u64::MAX),
         Side::Database => (u64::MAX, calls),
@@ -64,7 +81,7 @@ fn opened(
 }
 
 /// Takes the disks out of a database.
-fn close(conn: Connection<FileStore<Fuse<Memory>>>) -> Left {
+fn close(conn: Database) -> Left {
     match conn.close_files() {
         Ok(disks) => Left {
             disks,
@@ -77,45 +94,13 @@ fn close(conn: Connection<FileStore<Fuse<Memory>>>) -> Left {
     }
 }
 
-/// Takes the disks out of saved rows.
-pub fn left_of(rows: Saved) -> Left {
-    close(rows.into_connection())
-}
-
-/// Makes saved rows at this version over new disks, of which this one stops after so many calls; or what a stop left of
-/// them.
-pub fn made(alloc: Global, side: Side, calls: u64, version: Version) -> Result<Saved, Disks> {
-    let conn = opened(alloc, side, calls)?;
-    match SqliteRows::create(alloc, conn, ALONE, version) {
-        Ok(rows) => Ok(rows),
-        Err((_, conn)) => Err(into_files(conn)),
-    }
-}
-
 /// Opens the database that stands on the disks after a crash; nothing where that is refused.
-fn reopened(alloc: Global, disks: Disks) -> Option<Connection<FileStore<Fuse<Memory>>>> {
+pub fn reopened(alloc: Global, disks: Disks) -> Option<Database> {
     let mut disks = disks;
     disks.log.crash();
     disks.db.crash();
     match Connection::open_files(alloc, disks, Options::new(1)) {
         Ok(conn) => Some(conn),
-        Err(_) => None,
-    }
-}
-
-/// The rows that are found on the disks after a crash, or why they are refused; nothing where no database is found.
-pub fn found(alloc: Global, disks: Disks) -> Option<Result<Saved, RowsFault>> {
-    let conn = reopened(alloc, disks)?;
-    match SqliteRows::open(alloc, conn, Some(ALONE)) {
-        Ok(rows) => Some(Ok(rows)),
-        Err((fault, _)) => Some(Err(fault)),
-    }
-}
-
-/// How many rows are listed.
-pub fn count(rows: &mut Saved) -> Option<usize> {
-    match rows.all() {
-        Ok(list) => Some(list.len()),
         Err(_) => None,
     }
 }

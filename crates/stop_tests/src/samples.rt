@@ -71,17 +71,30 @@ fn is_row(row: &Row, sample: &Sample) -> bool {
     votes && row.promised().is_some() && row.promised() == ballot_of(sample.promised)
 }
 
-/// Whether a sample is saved. Where it is refused, each read is refused from then on, or this answers nothing.
-pub fn puts<R: Rows>(alloc: Global, rows: &mut R, sample: &Sample) -> Option<bool> {
-    let number = Number::new(sample.number)?;
-    let row = row_of(alloc, sample)?;
+/// That a call was refused; nothing where a read is not refused then.
+fn refused<R: Rows>(rows: &mut R, number: Number) -> Option<bool> {
+    rows.get(number).is_err().then_some(false)
+}
+
+/// Whether a row is saved. Where it is refused, each read is refused from then on, or this answers nothing.
+fn saves<R: Rows>(rows: &mut R, number: Number, row: &Row) -> Option<bool>
+    requires { HasPromise row.now }
+{
     if !row.fits(rows.version()) {
         return None;
     }
-    if rows.put(number, &row).is_ok() {
-        return Some(true);
+    if rows.put(number, row).is_ok() {
+        Some(true)
+    } else {
+        refused(rows, number)
     }
-    rows.get(number).is_err().then_some(false)
+}
+
+/// The same of a sample.
+pub fn puts<R: Rows>(alloc: Global, rows: &mut R, sample: &Sample) -> Option<bool> {
+    let number = Number::new(sample.number)?;
+    let row = row_of(alloc, sample)?;
+    saves(rows, number, &row)
 }
 
 /// Whether the rows go over to version 2. Where that is refused, each read is refused from then on, or this answers nothing.
@@ -89,8 +102,7 @@ pub fn goes_over<R: Rows>(rows: &mut R) -> Option<bool> {
     if rows.upgrade().is_ok() {
         return (rows.version() == Version::Two).then_some(true);
     }
-    let number = Number::new(12)?;
-    rows.get(number).is_err().then_some(false)
+    refused(rows, Number::new(12)?)
 }
 
 /// Whether the row under the number of a sample is that of the sample.

@@ -49,17 +49,21 @@ fn offers<R: Rows>(alloc: Global, station: &mut Station<R>, frames: &[u8]) -> Op
     (is_released || station.stopped()).then_some(is_released)
 }
 
-/// Whether the station that searches number 12 releases the tape of these frames; nothing where it finds another thing than that or
-/// nothing.
-fn seeks<R: Rows>(station: &mut Station<R>, frames: &[u8]) -> Option<bool> {
-    let step = station.seek(12, 0);
-    if releases(&step, frames) {
+/// Whether a search released the tape of these frames; nothing where it found another thing than that or nothing.
+fn found(step: &Result<Answer, StepRefusal>, frames: &[u8]) -> Option<bool> {
+    if releases(step, frames) {
         return Some(true);
     }
-    match &step {
+    match step {
         Ok(answer) => answer.release.is_none().then_some(false),
         Err(_) => None,
     }
+}
+
+/// Whether the station that searches number 12 releases the tape of these frames; nothing where it finds another thing than that or
+/// nothing.
+fn seeks<R: Rows>(station: &mut Station<R>, frames: &[u8]) -> Option<bool> {
+    found(&station.seek(12, 0), frames)
 }
 
 /// The rows after a station over them was offered the tape of these frames for number 12, and whether it released it.
@@ -69,18 +73,29 @@ pub fn offered<R: Rows>(alloc: Global, rows: R, frames: &[u8]) -> Option<(R, boo
     Some((station.into_rows(), is_released))
 }
 
-/// Whether a new station over these rows finds the tape of these frames for number 12. Where it finds none it releases the
-/// other tape, which it is offered then; else this answers nothing.
-pub fn sought<R: Rows>(alloc: Global, rows: R, frames: &[u8], other: &[u8]) -> Option<bool> {
-    let mut station = station_over(alloc, rows)?;
-    if seeks(&mut station, frames)? {
+/// Whether a station finds the tape of these frames for number 12. Where it finds none it releases the other tape, which it is
+/// offered then; else this answers nothing.
+fn finds<R: Rows>(
+    alloc: Global,
+    station: &mut Station<R>,
+    frames: &[u8],
+    other: &[u8],
+) -> Option<bool> {
+    if seeks(station, frames)? {
         return Some(true);
     }
-    if offers(alloc, &mut station, other)? {
+    if offers(alloc, station, other)? {
         Some(false)
     } else {
         None
     }
+}
+
+/// Whether a new station over these rows finds the tape of these frames for number 12. Where it finds none it releases the
+/// other tape, which it is offered then; else this answers nothing.
+pub fn sought<R: Rows>(alloc: Global, rows: R, frames: &[u8], other: &[u8]) -> Option<bool> {
+    let mut station = station_over(alloc, rows)?;
+    finds(alloc, &mut station, frames, other)
 }
 
 /// A wire to which nothing comes.
@@ -103,6 +118,15 @@ impl Wire for Still {
     }
 }
 
+/// Whether a run that ended so, and printed this, released the flood story; nothing where it neither did nor ended by the store.
+fn ended(end: End, out: &[u8]) -> Option<bool> {
+    match end {
+        End::Done => (out == RELEASE.as_bytes()).then_some(true),
+        End::Store => out.is_empty().then_some(false),
+        _ => None,
+    }
+}
+
 /// Whether a run of a station that is offered the flood story prints its release and ends well; nothing where it neither does nor
 /// ends by the store.
 fn serves<R: Rows>(alloc: Global, station: &mut Station<R>, frames: &[u8]) -> Option<bool> {
@@ -121,11 +145,7 @@ fn serves<R: Rows>(alloc: Global, station: &mut Station<R>, frames: &[u8]) -> Op
         &mut out,
         &mut err,
     );
-    match end {
-        End::Done => (out.as_slice() == RELEASE.as_bytes()).then_some(true),
-        End::Store => out.as_slice().is_empty().then_some(false),
-        _ => None,
-    }
+    ended(end, out.as_slice())
 }
 
 /// The rows after such a run of a station over them, and whether it ended well.

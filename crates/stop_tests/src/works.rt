@@ -1,8 +1,9 @@
 //! What is done to saved rows, and what has to be found where a disk stopped meanwhile.
 
-use crate::disks::{Disks, Left, Saved, Side, count, found, left_of, made};
+use crate::disks::{ALONE, Database, Disks, Left, Side, Stored, opened, reopened};
 use crate::samples::{PROMISED, Sample, VOTED, are_there, goes_over, puts};
 use crate::stations::{offered, served, sought};
+use acceptor_store::{SqliteRows, into_files};
 use fixtures::{FLOOD, LIGATURE};
 use saved_rows::{Rows, RowsFault};
 use std::alloc::Global;
@@ -116,8 +117,8 @@ fn done<R: Rows>(alloc: Global, rows: R, work: Work) -> Option<(R, Told)> {
 }
 
 /// Whether the list has the first of these rows, so many as were acknowledged, or one more where that was refused.
-fn is_listed(rows: &mut Saved, samples: &[Sample], told: Told) -> bool {
-    let Some(listed) = count(rows) else {
+fn is_listed<R: Stored>(rows: &mut R, samples: &[Sample], told: Told) -> bool {
+    let Some(listed) = rows.count() else {
         return false;
     };
     let is_told = listed == told.saved || (told.refused && listed > 0 && listed - 1 == told.saved);
@@ -146,7 +147,7 @@ fn is_sought<R: Rows>(alloc: Global, rows: R, told: Told) -> bool {
 }
 
 /// Whether the rows are those that a work may have left.
-fn is_left(alloc: Global, mut rows: Saved, work: Work, told: Told) -> bool {
+fn is_left<R: Stored>(alloc: Global, mut rows: R, work: Work, told: Told) -> bool {
     if !is_at(rows.version(), work, told) {
         return false;
     }
@@ -158,32 +159,115 @@ fn is_left(alloc: Global, mut rows: Saved, work: Work, told: Told) -> bool {
     }
 }
 
-/// Whether a database that was not made is found empty, or made at this version with no row.
-fn is_unmade(alloc: Global, disks: Disks, version: Version) -> bool {
-    match found(alloc, disks) {
-        Some(Ok(mut rows)) => rows.version() == version && count(&mut rows) == Some(0),
-        Some(Err(fault)) => fault == RowsFault::Store,
+/// What may be found on the disks after a stop.
+#[derive(Clone, Copy)]
+enum Expected {
+    /// A database that was not made: it is empty, or made at this version with no row.
+    Unmade(Version),
+    /// The rows that this work may have left, of which this was told.
+    Left(Work, Told),
+}
+
+/// Whether the rows that are found are as they may be.
+fn holds<R: Stored>(alloc: Global, mut rows: R, expected: Expected) -> bool {
+    match expected {
+        Expected::Unmade(version) => rows.version() == version && rows.count() == Some(0),
+        Expected::Left(work, told) => is_left(alloc, rows, work, told),
+    }
+}
+
+/// Whether rows may be refused for this reason.
+fn may_be_refused(fault: RowsFault, expected: Expected) -> bool {
+    match expected {
+        Expected::Unmade(_) => fault == RowsFault::Store,
+        Expected::Left(..) => false,
+    }
+}
+
+/// What is to be done with the rows of a database.
+#[derive(Clone, Copy)]
+enum Task {
+    /// They are made for a work, which is done.
+    Do(Work),
+    /// They are taken up, to be as they may be.
+    Find(Expected),
+}
+
+/// What came of it.
+#[derive(Drop)]
+enum Came {
+    /// The work ended, or was refused: what is left, and what was told.
+    Ended(Left, Told),
+    /// The rows were not made: what is left.
+    Unmade(Disks),
+    /// Whether they are as they may be.
+    Found(bool),
+    /// The work did something else than it may.
+    Strange,
+}
+
+/// What comes of a task with these rows.
+fn over<R: Stored>(alloc: Global, rows: R, task: Task) -> Came {
+    match task {
+        Task::Do(work) => match done(alloc, rows, work) {
+            Some((rows, told)) => Came::Ended(rows.left(), told),
+            None => Came::Strange,
+        },
+        Task::Find(expected) => Came::Found(holds(alloc, rows, expected)),
+    }
+}
+
+/// What comes of it where the rows are refused.
+fn refused(fault: RowsFault, disks: Disks, task: Task) -> Came {
+    match task {
+        Task::Do(_) => Came::Unmade(disks),
+        Task::Find(expected) => Came::Found(may_be_refused(fault, expected)),
+    }
+}
+
+/// What comes of a task with a database: here alone its rows have their whole type.
+fn taken(alloc: Global, conn: Database, task: Task) -> Came {
+    let rows = match task {
+        Task::Do(work) => SqliteRows::create(alloc, conn, ALONE, version_for(work)),
+        Task::Find(_) => SqliteRows::open(alloc, conn, Some(ALONE)),
+    };
+    match rows {
+        Ok(rows) => over(alloc, rows, task),
+        Err((fault, conn)) => refused(fault, into_files(conn), task),
+    }
+}
+
+/// What comes of a work with rows that are made over new disks, of which this one stops after so many calls.
+fn worked(alloc: Global, side: Side, calls: u64, work: Work) -> Came {
+    match opened(alloc, side, calls) {
+        Ok(conn) => taken(alloc, conn, Task::Do(work)),
+        Err(disks) => Came::Unmade(disks),
+    }
+}
+
+/// Whether what is found on the disks after a crash is as it may be.
+fn is_found(alloc: Global, disks: Disks, expected: Expected) -> bool {
+    match reopened(alloc, disks) {
+        Some(conn) => matches!(taken(alloc, conn, Task::Find(expected)), Came::Found(true)),
         None => false,
     }
 }
 
-/// Whether the rows that a work may have left are found.
-fn is_found(alloc: Global, disks: Disks, work: Work, told: Told) -> bool {
-    match found(alloc, disks) {
-        Some(Ok(rows)) => is_left(alloc, rows, work, told),
-        _ => false,
-    }
+/// Whether what a work left is found after a crash, and then whether it came to its end without a stop.
+fn is_ended(alloc: Global, left: Left, work: Work, told: Told) -> Option<bool> {
+    let Left { disks, closed } = left;
+    is_found(alloc, disks, Expected::Left(work, told)).then_some(closed && !told.refused)
 }
 
 /// Whether a run in which this disk stops after so many calls came to its end without a stop; nothing where something else
 /// is found after it than may be.
 pub fn is_whole(alloc: Global, side: Side, calls: u64, work: Work) -> Option<bool> {
-    let version = version_for(work);
-    let rows = match made(alloc, side, calls, version) {
-        Ok(rows) => rows,
-        Err(disks) => return is_unmade(alloc, disks, version).then_some(false),
-    };
-    let (rows, told) = done(alloc, rows, work)?;
-    let Left { disks, closed } = left_of(rows);
-    is_found(alloc, disks, work, told).then_some(closed && !told.refused)
+    match worked(alloc, side, calls, work) {
+        Came::Ended(left, told) => is_ended(alloc, left, work, told),
+        Came::Unmade(disks) => {
+            let expected = Expected::Unmade(version_for(work));
+            is_found(alloc, disks, expected).then_some(false)
+        }
+        Came::Found(_) | Came::Strange => None,
+    }
 }
