@@ -1,21 +1,24 @@
 //! What a rehearsal shows of a step: a line for what it did, one for each datagram, and the release.
 
-ghost use Rattle.std.specs.Prelude.{◌≡◌, ◌+◌, ◌≤◌, Some, IfOk, OnOk, OnErr, flat_map, length, string_bytes};
+ghost use Rattle.std.specs.Prelude.{◌≡◌, ◌+◌, ◌++◌, ◌≤◌, Some, IfOk, OnOk, OnErr, codes, flat_map, length, string_bytes};
 ghost use Rattle.std.specs.Io.KnownBytes.{Appends};
+ghost use Rattle.command_ends.specs.ReleaseText.{plain_line};
+ghost use Rattle.line_check.specs.Galley.{galley_of};
 ghost use Rattle.streams.specs.Fronts.{AppendsFront};
 ghost use Rattle.rehearse_command.specs.Lines.{datagram_line, datagrams_text, kind_word, outcome_line, packet_line, released_text, route_text};
 ghost use Rattle.rehearse_command.specs.Scenes.{scene_text};
 
 use crate::notes::BallotText;
 use crate::outcomes::OutcomeText;
-use command_ends::{Fault, put_release};
+use command_ends::{Fault, entry_text, put_release};
+use line_check::{Slug, galley};
 use packets::{BodyRef, PacketRef, decode};
 use station::Datagram;
 use std::alloc::{AllocError, Global};
 use std::fmt;
 use std::io::Write;
 use streams::put_all;
-use tape_frames::Version;
+use tape_frames::{Entry, Version};
 use world::{Outcome, ReleaseLog, Seen};
 
 /// Makes `line` the line for what became of a member's step.
@@ -133,9 +136,61 @@ fn put_datagrams<'a, W: Write>(
     Ok(())
 }
 
-/// Writes a release, behind a blank.
+/// Makes `line` the line of a release whose entry has this text, behind a blank.
+fn release_line(line: &mut String, number: u32, text: &str) -> Result<(), AllocError>
+    ensures { OnOk result (string_bytes line.new ≡ plain_line (codes " ") number text.now) }
+{
+    let lead = " ";
+    line.clear();
+    write!(line, "{lead}release {number} {text}\n")
+}
+
+/// Writes the line of a release whose entry has this text.
+fn put_release_line<'a, W: Write>(
+    line: &mut String,
+    number: u32,
+    text: &str,
+    out: &mut W,
+) -> Result<(), Fault<'a>>
+    ensures ok { OnOk result (Appends (W.contents out.old) (W.contents out.new) (plain_line (codes " ") number text.now)) }
+    ensures err { OnErr result (AppendsFront (W.contents out.old) (W.contents out.new) (plain_line (codes " ") number text.now)) }
+{
+    match release_line(line, number, text) {
+        Ok(()) => put_line(line, out),
+        Err(_) => Err(Fault::OutOfMemory),
+    }
+}
+
+/// Writes the galley of slugs.
+fn put_galley<'a, W: Write>(slugs: &[Slug], out: &mut W) -> Result<(), Fault<'a>>
+    ensures ok { OnOk result (Appends (W.contents out.old) (W.contents out.new) (galley_of slugs.now)) }
+    ensures err { OnErr result (AppendsFront (W.contents out.old) (W.contents out.new) (galley_of slugs.now)) }
+{
+    match galley(slugs, out) {
+        Ok(()) => Ok(()),
+        Err(_) => Err(Fault::CannotWrite),
+    }
+}
+
+/// Writes the release of a tape that sets, whose frames are this text: its line, and the galley of its slugs.
+fn put_set<'a, W: Write>(
+    line: &mut String,
+    number: u32,
+    text: &str,
+    slugs: &[Slug],
+    out: &mut W,
+) -> Result<(), Fault<'a>>
+    ensures ok { OnOk result (Appends (W.contents out.old) (W.contents out.new) (plain_line (codes " ") number text.now ++ galley_of slugs.now)) }
+    ensures err { OnErr result (AppendsFront (W.contents out.old) (W.contents out.new) (plain_line (codes " ") number text.now ++ galley_of slugs.now)) }
+{
+    put_release_line(line, number, text, out)?;
+    put_galley(slugs, out)
+}
+
+/// Writes a release, behind a blank. The line of a tape that sets is made in `line`.
 fn put_released<'a, W: Write>(
     alloc: Global,
+    line: &mut String,
     release: &ReleaseLog,
     out: &mut W,
 ) -> Result<(), Fault<'a>>
@@ -143,13 +198,20 @@ fn put_released<'a, W: Write>(
     ensures err { OnErr result (AppendsFront (W.contents out.old) (W.contents out.new) (released_text release.now)) }
 {
     let number = release.number();
-    let entry = release.entry().lend();
-    put_release(alloc, " ", number, &entry, release.set(), out)
+    let entry = release.entry();
+    match (entry, release.set()) {
+        (Entry::Tape(_), Ok(slugs)) => match entry_text(alloc, &entry.lend()) {
+            Ok(text) => put_set(line, number, &text, slugs, out),
+            Err(_) => Err(Fault::OutOfMemory),
+        },
+        (_, set) => put_release(alloc, " ", number, &entry.lend(), set, out),
+    }
 }
 
 /// Writes the releases of a step: one at most, as a station releases one entry at a time.
 fn put_releases<'a, W: Write>(
     alloc: Global,
+    line: &mut String,
     releases: &[ReleaseLog],
     out: &mut W,
 ) -> Result<(), Fault<'a>>
@@ -157,7 +219,7 @@ fn put_releases<'a, W: Write>(
     ensures err { OnErr result (AppendsFront (W.contents out.old) (W.contents out.new) (flat_map released_text releases.now)) }
 {
     for release in releases {
-        put_released(alloc, release, out)?;
+        put_released(alloc, line, release, out)?;
     }
     Ok(())
 }
@@ -165,7 +227,7 @@ fn put_releases<'a, W: Write>(
 /// Writes all that is seen of a step, before which so many datagrams were sent: what it did, and the datagrams and the
 /// releases that it added. Where memory or the writer fails, a front of this text was written.
 ///
-/// Each line but a release's is made in `line`, whose memory serves them all.
+/// Each line but that of a release whose tape does not set is made in `line`, whose memory serves them all.
 pub fn put_scene<'a, W: Write>(
     alloc: Global,
     line: &mut String,
@@ -181,5 +243,5 @@ pub fn put_scene<'a, W: Write>(
 {
     put_outcome(line, seen.member, seen.outcome, out)?;
     put_datagrams(line, before, sent, out)?;
-    put_releases(alloc, releases, out)
+    put_releases(alloc, line, releases, out)
 }
