@@ -236,3 +236,7 @@ module _ {R N F : Type 0} (k : Known R N F) where
   -- a run that ended well has not stopped its station
   pub stays : (old new : Plant R N F) (end : End) → end ≡ ends.Done → Runs k old new end → new.station.stopped ≡ old.station.stopped
   stays old new end is a = subst (λ (e : End). HasCause a.log old.station.stopped new.station.stopped e) is a.cause
+
+  -- nothing waited at first
+  pub from_none : (s : Station R) (w : N) (f : F) (q : List File) (new : Plant R N F) (end : End) → q ≡ [] → Runs k (plant s w f q) new end → Runs k (plant s w f []) new end
+  from_none s w f q new end none a = subst (λ (l : List File). Runs k (plant s w f l) new end) none a

@@ -4,7 +4,7 @@ use Rattle.command_ends.specs.Ends.{end_of}
 use Rattle.command_ends.specs.declared.end.End.TheVariants as ends
 use Rattle.serve_command.proofs.Served.{Passes-nil}
 use Rattle.run_command.specs.Running.{known, plant}
-use Rattle.run_command.proofs.Run.{nothing, answered, stays}
+use Rattle.run_command.proofs.Run.{nothing, answered, stays, from_none}
 use Rattle.run_command.proofs.running.run_station.Goals as goal
 
 pub returns-then-stopped-clause-runs : goal.returns-then-stopped-clause-runs
@@ -26,18 +26,25 @@ returns-in_default-clause-runs g c =
     )
 
 pub returns-in-Ok-start-clause-runs : goal.returns-in-Ok-start-clause-runs
-returns-in-Ok-start-clause-runs g c = (c.start.new.waits.items, c.in-Ok-start.ensures.runs)
+returns-in-Ok-start-clause-runs g c =
+    let none : c.new-waits.result.items ≡ [] = search rules in (
+      c.start.new.waits.items,
+      from_none (known g.R.Rows g.N.Wire.passed g.F.Folders.written) c.args.station.now c.args.wire.now c.args.folders.now c.new-waits.result.items
+          (plant c.start.new.station c.start.new.wire c.start.new.folders c.start.new.waits.items) ends.Done none c.in-Ok-start.ensures.runs,
+    )
 
 pub returns-in-Ok-start-clause-goes_on : goal.returns-in-Ok-start-clause-goes_on
 returns-in-Ok-start-clause-goes_on g c = λ done.
     let k = known g.R.Rows g.N.Wire.passed g.F.Folders.written in
     let going : c.args.station.now.stopped ≡ false = search rules in
-    stays k (plant c.args.station.now c.args.wire.now c.args.folders.now []) (plant c.start.new.station c.start.new.wire c.start.new.folders c.start.new.waits.items) ends.Done refl c.in-Ok-start.ensures.runs ∙ going
+    stays k (plant c.args.station.now c.args.wire.now c.args.folders.now c.new-waits.result.items) (plant c.start.new.station c.start.new.wire c.start.new.folders c.start.new.waits.items) ends.Done refl c.in-Ok-start.ensures.runs ∙ going
 
 pub returns-clause-runs : goal.returns-clause-runs
 returns-clause-runs g c =
-    let k = known g.R.Rows g.N.Wire.passed g.F.Folders.written in (
+    let k = known g.R.Rows g.N.Wire.passed g.F.Folders.written in
+    let none : c.new-waits.result.items ≡ [] = search rules in
+    let new = plant c.start.new.station c.start.new.wire c.start.new.folders c.start.new.waits.items in (
       c.start.new.waits.items,
-      answered k (plant c.args.station.now c.args.wire.now c.args.folders.now []) (plant c.start.new.station c.start.new.wire c.start.new.folders c.start.new.waits.items)
-          (end_of c.in-Err.fault) c.tell-in-Err.result c.tell-in-Err.ensures.end c.in-Err.ensures.runs,
+      answered k (plant c.args.station.now c.args.wire.now c.args.folders.now []) new (end_of c.in-Err.fault) c.tell-in-Err.result c.tell-in-Err.ensures.end
+          (from_none k c.args.station.now c.args.wire.now c.args.folders.now c.new-waits.result.items new (end_of c.in-Err.fault) none c.in-Err.ensures.runs),
     )
