@@ -446,7 +446,10 @@ def store_cases(sweep):
     offer = ['--create', '--number', '12', '--tape', 'flood.tape']
     alone, two = 'station 1 of 1 circuit 7\n', 'station 1 of 2 circuit 7\n'
     voted, withdrawn = f'12 1.1 1.1 {STORY}\n', '12 1.1 1.1 void\n'
-    none = 'store: refused\n'
+    none = (
+        "store: refused\nno such file: it is made by --create, at a station's first start alone\n",
+        'store: refused\nnothing was made in it yet: start with --create\n',
+    )
     return [
         Case('rows', ['rows', 'made.db'], out=text),
         Case('upgrade', ['upgrade', 'own.db'], out='layout 2\n', begins='made.db', left=(text,)),
@@ -455,13 +458,13 @@ def store_cases(sweep):
         Case('serve, a search', ['serve', 'own.toml', '--turns', '1', '--seek', '12'], out=RELEASE, begins='alone.db',
              left=(alone + voted, alone + f'12 2.1 2.1 {STORY}\n')),
         Case('serve, made, an offer', ['serve', 'own.toml', '--turns', '1', *offer], out=RELEASE,
-             left=(none, alone, alone + voted)),
+             left=(*none, alone, alone + voted)),
         Case('serve, made, a withdrawal', ['serve', 'own.toml', '--turns', '1', '--create', '--withdraw', '12'],
-             err='refused wire-too-old\n', status=1, left=(none, alone)),
+             err='refused wire-too-old\n', status=1, left=(*none, alone)),
         Case('serve, layout 2, a withdrawal', ['serve', 'own.toml', '--turns', '1', '--create', '--layout', '2', '--withdraw', '12'],
-             out='release 12 void\n', left=(none, alone, alone + withdrawn)),
+             out='release 12 void\n', left=(*none, alone, alone + withdrawn)),
         Case('serve, made, beside another', ['serve', 'two.toml', '--turns', '6', *offer], out=RELEASE,
-             left=(none, two, two + '12 1.1 - -\n', two + voted), peer=Peer(peer, ('127.0.0.1', port))),
+             left=(*none, two, two + '12 1.1 - -\n', two + voted), peer=Peer(peer, ('127.0.0.1', port))),
     ]
 
 
