@@ -55,7 +55,11 @@ fn vote_row(alloc: Global) -> Option<Row> {
 fn rows_of(alloc: Global, run: &Run<'_>) -> Option<MemoryRows> {
     let mut rows = MemoryRows::at(alloc, run.version);
     if run.has_voted {
-        rows.save(Number::new(12)?, vote_row(alloc)?).ok()?;
+        let row = vote_row(alloc)?;
+        if !row.fits(run.version) {
+            return None;
+        }
+        rows.save(Number::new(12)?, row).ok()?;
     }
     Some(rows)
 }

@@ -38,7 +38,10 @@ impl<'a> Stage<'a> {
 
     fn act(&mut self, alloc: Global, what: What) -> Result<(), AllocError> {
         match what {
-            What::Laid(name, bytes) => self.folders.lay(alloc, name, bytes, self.looks as i64),
+            What::Laid(name, bytes) => {
+                let changed = i64::try_from(self.looks).unwrap_or(i64::MAX);
+                self.folders.lay(alloc, name, bytes, changed)
+            }
             What::Full(is_full) => {
                 self.folders.set_full(is_full);
                 Ok(())
@@ -48,7 +51,7 @@ impl<'a> Stage<'a> {
 
     /// Lets happen what happens before this look.
     fn pass(&mut self, alloc: Global) -> Result<(), AllocError> {
-        self.looks = self.looks.saturating_add(1) & 0xffff;
+        self.looks = self.looks.saturating_add(1);
         for act in self.acts {
             if act.look == self.looks {
                 self.act(alloc, act.what)?;
