@@ -135,3 +135,5 @@ if not all(well):
     sys.exit(1)
 print("Each command of the program prints what it has to, and ends with its status.")
 END
+python3 ../contrib/manpage.py "$circuitd" | cmp - ../contrib/circuitd.1
+echo "The manual page is that of the program's help."

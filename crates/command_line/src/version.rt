@@ -14,15 +14,25 @@ use streams::put_all;
 /// The version, as `clap` is told it.
 pub(crate) const VERSION: &str = "0.2.0";
 
-/// Writes the version, and hands it on.
+/// Writes the version.
 fn put_version<'a, W: Write>(out: &mut W) -> Result<(), Fault<'a>>
     ensures ok { OnOk result (Appends (W.contents out.old) (W.contents out.new) (codes "circuitd 0.2.0\n")) }
     ensures err { OnErr result (AppendsFront (W.contents out.old) (W.contents out.new) (codes "circuitd 0.2.0\n")) }
     ensures fault { IfErr result (λ fault. fault ≡ CannotWrite) }
 {
-    if put_all(out, b"circuitd 0.2.0\n").is_err() {
-        return Err(Fault::CannotWrite);
+    match put_all(out, b"circuitd 0.2.0\n") {
+        Ok(()) => Ok(()),
+        Err(_) => Err(Fault::CannotWrite),
     }
+}
+
+/// The same, with all of it handed on.
+fn hand_on_version<'a, W: Write>(out: &mut W) -> Result<(), Fault<'a>>
+    ensures ok { OnOk result (Appends (W.contents out.old) (W.contents out.new) (codes "circuitd 0.2.0\n")) }
+    ensures err { OnErr result (AppendsFront (W.contents out.old) (W.contents out.new) (codes "circuitd 0.2.0\n")) }
+    ensures fault { IfErr result (λ fault. fault ≡ CannotWrite) }
+{
+    put_version(out)?;
     match out.flush() {
         Ok(()) => Ok(()),
         Err(_) => Err(Fault::CannotWrite),
@@ -30,12 +40,13 @@ fn put_version<'a, W: Write>(out: &mut W) -> Result<(), Fault<'a>>
 }
 
 /// Prints the program's name and its version. Where the output can't be written, `err` has that fault.
+#[tactic(auto, using(streams::proofs::Fronts::front_of_all))]
 pub fn print_version<W: Write, E: Write>(out: &mut W, err: &mut E) -> End
     ensures done { result ≡ Done → Appends (W.contents out.old) (W.contents out.new) (codes "circuitd 0.2.0\n") }
     ensures front { AppendsFront (W.contents out.old) (W.contents out.new) (codes "circuitd 0.2.0\n") }
     ensures ends { IsOfInput result }
 {
-    match put_version(out) {
+    match hand_on_version(out) {
         Ok(()) => End::Done,
         Err(fault) => fault.tell(err),
     }

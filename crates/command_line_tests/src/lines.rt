@@ -139,11 +139,13 @@ fn is_run(rt: &HostRuntime, line: &str, made: Option<Version>, faults_alone: boo
     let mut told = Vec::new(rt.alloc());
     let mut mistakes = Vec::new(rt.alloc());
     match parse(rt.alloc(), &words, &mut told, &mut mistakes) {
-        Ok(Asked::Run {
-            config,
-            create,
-            quiet,
-        }) => config == "station.toml" && create == made && quiet == faults_alone,
+        Ok(
+            Asked::Run {
+                config,
+                create,
+                quiet,
+            },
+        ) => config == "station.toml" && create == made && quiet == faults_alone,
         _ => false,
     }
 }
@@ -171,7 +173,7 @@ fn prints_version(rt: &HostRuntime) -> bool {
     let mut out = Vec::new(rt.alloc());
     let mut err = Vec::new(rt.alloc());
     let end = print_version(&mut out, &mut err);
-    end == End::Done && out.as_slice() == b"circuitd 0.2.0\n" && err.is_empty()
+    end == End::Done && out.as_slice() == "circuitd 0.2.0\n".as_bytes() && err.is_empty()
 }
 
 #[test]

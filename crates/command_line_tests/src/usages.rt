@@ -204,7 +204,7 @@ const USAGES: &[(&str, &str, &str)] = &[
     (
         "circuitd run station.toml --turns 1",
         "unexpected argument '--turns' found\n\n  tip: to pass '--turns' as a value, use '-- --turns'",
-        "run [OPTIONS] <CONFIG>",
+        "run <CONFIG>",
     ),
 ];
 

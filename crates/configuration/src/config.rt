@@ -125,9 +125,9 @@ impl Config {
     /// The configuration of a TOML text.
     ///
     /// The first fault that holds is answered: `NotToml`; `Missing`, `WrongType` or `OutOfRange` of each key in the order
-    /// of [`ConfigKey`](crate::ConfigKey); `BadStation` of the first entry that is no address, or is at odds with an
-    /// earlier one; and then `OutOfRange` of a member above the number of stations. `OutOfMemory` comes where the text
-    /// could not be read or the configuration not be made for want of memory.
+    /// of [`ConfigKey`](crate::ConfigKey), where the table of the folders may be absent with its keys; `BadStation` of the
+    /// first entry that is no address, or is at odds with an earlier one; and then `OutOfRange` of a member above the number
+    /// of stations. `OutOfMemory` comes where the text could not be read or the configuration not be made for want of memory.
     #[tactic(auto, unfolding(crate::specs::Reading::read_config))]
     pub fn read(alloc: Global, text: &str) -> Result<Config, ConfigFault>
         ensures ok { IfOk result (λ c. read_config (parse_document text.now) ≡ Ok (file_of c)) }

@@ -7,4 +7,5 @@ mod printing;
 mod refusing;
 mod sending;
 mod sockets;
+mod strangers;
 mod withdrawing;

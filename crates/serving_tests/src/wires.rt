@@ -3,7 +3,8 @@
 use ballots::Member;
 use std::alloc::Global;
 use std::io::Write;
-use wire::{Arrival, Wire};
+use std::net::{IpAddr, Ipv4Addr, SocketAddr};
+use wire::{Arrival, Strangers, Wire};
 
 /// What a wire of the tests does.
 #[derive(Clone, Copy, PartialEq, Eq)]
@@ -14,6 +15,8 @@ pub enum Manner {
     Deaf,
     /// It fails to receive.
     Torn,
+    /// Strangers send to it, whenever it is asked.
+    Watched,
 }
 
 /// A wire to which these datagrams come, and then nothing. It keeps what it was asked to send.
@@ -94,5 +97,15 @@ impl Wire for Scripted {
 
     fn now(&mut self) -> u64 {
         self.moment
+    }
+
+    fn strangers(&mut self, _now: u64) -> Option<Strangers> {
+        if self.manner != Manner::Watched {
+            return None;
+        }
+        Some(Strangers {
+            count: 3,
+            last: SocketAddr::new(IpAddr::V4(Ipv4Addr::new(10, 0, 0, 9)), 7001),
+        })
     }
 }

@@ -1,5 +1,5 @@
 -- Nothing passes where nothing is done.
-use Rattle.std.proofs.Common.{◌≡◌, List, [], ◌++◌, Option, Some, None, sym}
+use Rattle.std.proofs.Common.{List, [], Option, Some, None, sym}
 use Rattle.std.proofs.lemmas.List.{append-nil}
 use Rattle.wire.specs.Passing.{Passed, Passes}
 

@@ -13,6 +13,12 @@ pub const CONFIG: &str =
     "circuit = 7\nmember = 1\ntable = \"codes.toml\"\nwidths = \"widths.toml\"\nrows = \"station1.db\"\n\
 [[station]]\nmember = 1\nip = \"127.0.0.1\"\nport = 7001\n";
 
+/// The same with folders, and with a key beside theirs, which says nothing.
+const WITH_FOLDERS: &str =
+    "circuit = 7\nmember = 1\ntable = \"codes.toml\"\nwidths = \"widths.toml\"\nrows = \"station1.db\"\n\
+[[station]]\nmember = 1\nip = \"127.0.0.1\"\nport = 7001\n\
+[folders]\noffers = \"in\"\nreleases = \"out\"\nsent = 1\n";
+
 /// The fault of a text.
 pub fn fault_of(alloc: Global, text: &str) -> Option<ConfigFault> {
     Config::read(alloc, text).err()
@@ -41,6 +47,21 @@ fn is_the_example(config: &Config) -> bool {
     config.circuit == 7 && config.member.get() == 1 && named && alone
 }
 
+/// Whether a text is the example with these folders, or with none.
+fn has_folders(alloc: Global, text: &str, wanted: Option<(&str, &str)>) -> bool {
+    let Ok(config) = Config::read(alloc, text) else {
+        return false;
+    };
+    let same = match (&config.folders, wanted) {
+        (Some(folders), Some((offers, releases))) => {
+            folders.offers.as_str() == offers && folders.releases.as_str() == releases
+        }
+        (None, None) => true,
+        _ => false,
+    };
+    same && is_the_example(&config)
+}
+
 /// Whether the file of this text gives what it says, and no fault is told.
 fn is_read(alloc: Global) -> bool {
     let mut err = Vec::new(alloc);
@@ -53,6 +74,8 @@ fn is_read(alloc: Global) -> bool {
 #[test]
 fn the_example(rt: HostRuntime) {
     assert!(rt; is_read(rt.alloc()));
+    assert!(rt; has_folders(rt.alloc(), CONFIG, None));
+    assert!(rt; has_folders(rt.alloc(), WITH_FOLDERS, Some(("in", "out"))));
 }
 
 /// What stands in the text, what stands there instead, and the fault.
@@ -120,6 +143,36 @@ const FAULTS: &[(&str, &str, ConfigFault)] = &[
     ),
     (
         "circuit = 7",
+        "folders = \"in\"\ncircuit = 7",
+        ConfigFault::WrongType(ConfigKey::Folders),
+    ),
+    (
+        "[[station]]",
+        "[[folders]]\noffers = \"in\"\nreleases = \"out\"\n[[station]]",
+        ConfigFault::WrongType(ConfigKey::Folders),
+    ),
+    (
+        "[[station]]",
+        "[folders]\nreleases = \"out\"\n[[station]]",
+        ConfigFault::Missing(ConfigKey::Offers),
+    ),
+    (
+        "[[station]]",
+        "[folders]\noffers = \"in\"\n[[station]]",
+        ConfigFault::Missing(ConfigKey::Releases),
+    ),
+    (
+        "[[station]]",
+        "[folders]\noffers = 1\n[[station]]",
+        ConfigFault::WrongType(ConfigKey::Offers),
+    ),
+    (
+        "[[station]]",
+        "[folders]\noffers = \"in\"\nreleases = [\"out\"]\n[[station]]",
+        ConfigFault::WrongType(ConfigKey::Releases),
+    ),
+    (
+        "circuit = 7",
         "circuit = 65536",
         ConfigFault::OutOfRange(ConfigKey::Circuit),
     ),
@@ -179,6 +232,14 @@ const FIRST_FAULTS: &[(&str, ConfigFault)] = &[
         ConfigFault::WrongType(ConfigKey::Rows),
     ),
     (
+        "circuit = 7\nmember = 9\ntable = \"\"\nwidths = \"\"\nrows = 1\nfolders = 1",
+        ConfigFault::WrongType(ConfigKey::Rows),
+    ),
+    (
+        "circuit = 7\nmember = 9\ntable = \"\"\nwidths = \"\"\nrows = \"\"\nstation = 1\nfolders = 1",
+        ConfigFault::WrongType(ConfigKey::Folders),
+    ),
+    (
         "circuit = 7\nmember = 9\ntable = \"\"\nwidths = \"\"\nrows = \"\"\nstation = [1]",
         ConfigFault::BadStation(1),
     ),
@@ -230,6 +291,21 @@ const TEXTS: &[(&str, &str, &str)] = &[
         "circuit = 7",
         "circuit = 65536",
         "config: out of range circuit\n",
+    ),
+    (
+        "circuit = 7",
+        "circuit = 7\nfolders = 1",
+        "config: wrong type folders\n",
+    ),
+    (
+        "[[station]]",
+        "[folders]\n[[station]]",
+        "config: missing offers\n",
+    ),
+    (
+        "[[station]]",
+        "[folders]\noffers = \"in\"\nreleases = 1\n[[station]]",
+        "config: wrong type releases\n",
     ),
     ("[[station]]", "[station]", "config: wrong type station\n"),
     ("[[station]]", "[[stations]]", "config: missing station\n"),

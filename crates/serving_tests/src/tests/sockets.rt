@@ -1,9 +1,10 @@
-//! Datagrams between two sockets of this machine.
+//! Datagrams between three sockets of this machine: a station's, one that its configuration names, and one that it does not.
 
 use ballots::Member;
+use std::net::UdpSocket;
 use wire::{Address, Arrival, UdpWire, Wire};
 
-/// A socket of this machine.
+/// A station's socket.
 type Socket<'a> = UdpWire<'a, HostRuntime>;
 
 /// The address of a member at a port of this machine. Port 0 stands for any that is free.
@@ -15,37 +16,87 @@ fn address_of(member: Member, port: u16) -> Address {
     }
 }
 
-/// A socket at a free port, that sends to these.
-fn socket<'a>(rt: &'a HostRuntime, member: Member, stations: Vec<Address>) -> Option<Socket<'a>> {
-    UdpWire::bind(rt, rt, &address_of(member, 0), stations).ok()
+/// A socket at a free port.
+fn any_socket(rt: &HostRuntime) -> Option<UdpSocket> {
+    UdpSocket::bind(rt, "127.0.0.1:0").ok()
 }
 
-/// A socket that sends to that one.
-fn socket_to<'a>(rt: &'a HostRuntime, member: Member, other: &Socket<'a>) -> Option<Socket<'a>> {
-    let port = other.port().ok()?;
-    let stations = vec![in rt.alloc(); address_of(member, port)].ok()?;
-    socket(rt, member, stations)
+/// The port of a socket.
+fn port_of(socket: &UdpSocket) -> Option<u16> {
+    Some(socket.local_addr().ok()?.port())
 }
 
-/// Whether nothing comes at first, then what the second sends comes whole, and the first, which has no address, sends
-/// nothing.
-fn pass_on<'a>(first: &mut Socket<'a>, second: &mut Socket<'a>, member: Member) -> bool {
+/// The first member's socket at a free port, where the second listens at this one.
+fn station_with<'a>(rt: &'a HostRuntime, port: u16) -> Option<Socket<'a>> {
+    let (first, second) = (Member::new(1)?, Member::new(2)?);
+    let own = address_of(first, 0);
+    let stations = vec![in rt.alloc(); own, address_of(second, port)].ok()?;
+    UdpWire::bind(rt, rt, &own, stations).ok()
+}
+
+/// Whether the station gets this length from a socket that sends it these bytes. A length of 0 stands for nothing.
+fn gets(station: &mut Socket<'_>, from: &UdpSocket, bytes: &[u8], length: usize) -> bool {
+    let Ok(port) = station.port() else {
+        return false;
+    };
+    let sent = from.send_to(bytes, ("127.0.0.1", port)).is_ok();
     let mut buffer = [0u8; 12_314];
-    let silent = first.receive(&mut buffer) == Arrival::Nothing;
-    let sent = second.send(member, b"hello");
-    let came = first.receive(&mut buffer) == Arrival::Datagram { length: 5 };
-    silent && sent && came && buffer.starts_with(b"hello") && !first.send(member, b"x")
+    match station.receive(&mut buffer) {
+        Arrival::Nothing => sent && length == 0,
+        Arrival::Datagram { length: came } => sent && came == length && buffer.starts_with(bytes),
+        Arrival::Failed => false,
+    }
 }
 
-/// Whether two sockets pass a datagram on.
-fn two_pass_on(rt: &HostRuntime) -> Option<bool> {
-    let member = Member::new(1)?;
-    let mut first = socket(rt, member, Vec::new(rt.alloc()))?;
-    let mut second = socket_to(rt, member, &first)?;
-    Some(pass_on(&mut first, &mut second, member))
+/// Whether so many strangers are told at a moment, the last of them at this port.
+fn tells(station: &mut Socket<'_>, now: u64, count: u64, port: u16) -> bool {
+    match station.strangers(now) {
+        Some(told) => told.count == count && told.last.port() == port,
+        None => count == 0,
+    }
+}
+
+/// Whether the station takes what its friend sends, takes nothing of the stranger, which is at this port, and tells it
+/// once a second at most.
+fn keeps_out(
+    station: &mut Socket<'_>,
+    friend: &UdpSocket,
+    stranger: &UdpSocket,
+    port: u16,
+) -> bool {
+    let silent = station.receive(&mut [0u8; 8]) == Arrival::Nothing && tells(station, 0, 0, port);
+    let out = gets(station, stranger, b"a forged one", 0) && gets(station, stranger, b"another", 0);
+    let taken = gets(station, friend, b"hello", 5);
+    let told = tells(station, 0, 2, port) && tells(station, 1_000, 0, port);
+    let again = gets(station, stranger, b"once more", 0);
+    silent
+        && out
+        && taken
+        && told
+        && again
+        && tells(station, 999, 0, port)
+        && tells(station, 1_000, 1, port)
+}
+
+/// Whether the station's datagram to its second member comes to its friend, and one to a third is not sent.
+fn sends_to(station: &mut Socket<'_>, friend: &UdpSocket) -> Option<bool> {
+    let (second, third) = (Member::new(2)?, Member::new(3)?);
+    let mut buffer = [0u8; 8];
+    let sent = station.send(second, b"back") && !station.send(third, b"x");
+    Some(sent && friend.recv_from(&mut buffer).ok()?.0 == 4 && buffer.starts_with(b"back"))
+}
+
+/// Whether a station takes datagrams of its configuration's sockets alone, and sends to them.
+fn three_pass_on(rt: &HostRuntime) -> Option<bool> {
+    let friend = any_socket(rt)?;
+    let stranger = any_socket(rt)?;
+    let port = port_of(&stranger)?;
+    let mut station = station_with(rt, port_of(&friend)?)?;
+    let kept = keeps_out(&mut station, &friend, &stranger, port);
+    Some(kept && sends_to(&mut station, &friend)?)
 }
 
 #[test]
-fn two_sockets(rt: HostRuntime) {
-    assert!(rt; two_pass_on(&rt) == Some(true));
+fn three_sockets(rt: HostRuntime) {
+    assert!(rt; three_pass_on(&rt) == Some(true));
 }
