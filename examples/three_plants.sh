@@ -65,8 +65,7 @@ echo "Each plant has the same ten tapes and galleys. Number 2 at plant 3:"
 sed 's/^/    /' plant3/releases/2.galley
 
 echo "Plant 2 is killed. Meanwhile the others agree on number 11, and plant 3 withdraws number 12."
-kill -9 "${pids[2]}"
-wait "${pids[2]}" 2> /dev/null || true
+{ kill -9 "${pids[2]}" && wait "${pids[2]}"; } 2> /dev/null || true
 hand_over 1 "$examples/flood.tape" 11.tape
 : > empty
 hand_over 3 empty 12.withdraw

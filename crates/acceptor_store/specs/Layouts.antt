@@ -1,6 +1,7 @@
 -- What the code's layouts are, in the words of the tables; and the layout that a schema tells.
-use Rattle.std.specs.Prelude.{ℕ, Option, Some, None, codes}
-use Rattle.sqlite_schema.specs.Names.{table_named}
+use Rattle.std.specs.Prelude.{ℕ, List, Option, Some, None, ◌&&◌, codes, is_some}
+use Rattle.std.specs.List.{position_from}
+use Rattle.sqlite_schema.specs.Names.{same_name, column_named}
 use Rattle.sqlite_schema.specs.declared.schema.Schema.{Schema}
 use Rattle.row_table.specs.Tables.{Layout as Tables}
 use Rattle.row_table.specs.Tables.Layout.{First, Second}
@@ -21,6 +22,10 @@ layout_by (Some row) None = Some First
 layout_by None (Some entry) = Some (Second Created)
 layout_by (Some row) (Some entry) = Some (Second Upgraded)
 
--- the layout that the tables of a schema tell by their names, if any
+-- where the first table stands that has this name and a column of that name, if there is one
+abbrev pub table_with : Schema → List ℕ → List ℕ → Option ℕ
+table_with schema name column = position_from (λ t. same_name t.name name && is_some (column_named t column)) 0 schema.tables
+
+-- the layout that the tables of a schema tell, by their names and by the column that the one or the other keeps an entry in, if any
 abbrev pub layout_in : Schema → Option Tables
-layout_in schema = layout_by (table_named schema (codes "acceptor_row")) (table_named schema (codes "acceptor_entry"))
+layout_in schema = layout_by (table_with schema (codes "acceptor_row") (codes "tape")) (table_with schema (codes "acceptor_entry") (codes "packed"))

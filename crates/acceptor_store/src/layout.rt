@@ -4,7 +4,7 @@ ghost use Rattle.std.specs.Prelude.{◌≡◌, None, is_some, option_map, IfSome
 ghost use Rattle.tape_frames.specs.Entries.{version_of};
 ghost use Rattle.row_table.specs.Tables.{Layout as Tables, layout_number, layout_schema};
 ghost use Rattle.acceptor_store.specs.Columns.{version_in};
-ghost use Rattle.acceptor_store.specs.Layouts.{layout_of, layout_by, layout_in};
+ghost use Rattle.acceptor_store.specs.Layouts.{layout_of, layout_by, layout_in, table_with};
 ghost use Rattle.acceptor_store.specs.Sqlite.{layout_now, made_in};
 
 use sqlite_schema::schema::Schema;
@@ -82,14 +82,23 @@ fn layout_by(rows: Option<usize>, entries: Option<usize>) -> Option<Layout>
     }
 }
 
-/// The layout that the tables of a schema tell by their names; `None` where no table of saved rows is among them.
+/// The place of the first table that has this name and a column of that name.
+fn table_with(schema: &Schema, name: &[u8], column: &[u8]) -> Option<usize>
+    ensures { result ≡ table_with schema.now name.now column.now }
+{
+    let mut tables = schema.tables.as_slice().iter();
+    tables.position(|t| t.is_named(name) && t.column_named(column).is_some())
+}
+
+/// The layout that the tables of a schema tell, by their names and by the column that the one or the other keeps an entry in;
+/// `None` where no table of saved rows is among them. A table of another program that has the name alone is none.
 pub(crate) fn layout_in(schema: &Schema) -> Option<Layout>
     ensures value { option_map layout_of result ≡ layout_in schema.now }
     ensures some { is_some result ≡ is_some (layout_in schema.now) }
     ensures laid { (layout : Tables) → schema.now ≡ layout_schema layout → IfSome result (λ l. layout_of l ≡ layout) }
     ensures none { result ≡ None → (layout : Tables) → ¬ (schema.now ≡ layout_schema layout) }
 {
-    let rows = schema.table_named(b"acceptor_row");
-    let entries = schema.table_named(b"acceptor_entry");
+    let rows = table_with(schema, b"acceptor_row", b"tape");
+    let entries = table_with(schema, b"acceptor_entry", b"packed");
     layout_by(rows, entries)
 }
