@@ -1,6 +1,6 @@
 //! What a database is tested for before its rows are taken up.
 
-ghost use Rattle.std.specs.Prelude.{◌≡◌, ◌≢◌, ◌⊎◌, ◌≤◌, false, Some, None, IsTrue, IfOk, IfErr, OnOk};
+ghost use Rattle.std.specs.Prelude.{◌≡◌, ◌≢◌, ◌⊎◌, ◌≤◌, false, Some, None, IsTrue, IfSome, IfOk, IfErr, OnOk};
 ghost use Rattle.sqlite_trees.specs.View.{doubt};
 ghost use Rattle.sqlite.specs.State.{HasCleanDisk, IsUnchanged};
 ghost use Rattle.sqlite.specs.Held.{state};
@@ -21,6 +21,7 @@ use crate::station_row::station_in;
 use row_table::{are_rising, get_station};
 use saved_rows::{Identity, RowsFault};
 use sqlite::{Alter, Connection};
+use sqlite_schema::schema::Schema;
 
 /// The layout's number and the identity that the database holds.
 fn read_station<S: Alter>(conn: &mut Connection<S>) -> Result<(u32, Identity), RowsFault>
@@ -127,6 +128,15 @@ fn test_rows<S: Alter>(conn: &mut Connection<S>, layout: Layout) -> Result<(), R
     }
 }
 
+/// The layout that the tables tell, in the one way that matters to whoever takes them up: tables of a layout tell it, and where
+/// none is told they are of none.
+fn told_layout(schema: &Schema) -> Option<Layout>
+    ensures laid { (layout : Tables) → schema.now ≡ layout_schema layout → IfSome result (λ l. layout_of l ≡ layout) }
+    ensures none { result ≡ None → (layout : Tables) → ¬ (schema.now ≡ layout_schema layout) }
+{
+    layout_in(schema)
+}
+
 /// Tests a database, in this order: the station and its layout, whose rows they are, and the rows.
 /// It gives the layout, which the tables tell, and the identity. Nothing is written.
 pub(crate) fn take_up<S: Alter>(
@@ -147,7 +157,7 @@ pub(crate) fn take_up<S: Alter>(
     ensures leaves { HasCleanDisk (state S.Store conn.new) → (layout : Tables) → (state S.Store conn.old).now.schema ≡ layout_schema layout → (db : _) → (state S.Store conn.new).may_leave db → (state S.Store conn.old).may_leave db }
     ensures clean { doubt (state S.Store conn.old).is_clean ≤ doubt (state S.Store conn.new).is_clean }
 {
-    let Some(layout) = layout_in(conn.schema()) else {
+    let Some(layout) = told_layout(conn.schema()) else {
         return Err(refuse_without_rows(conn, given));
     };
     let station = take_station(conn, layout, given)?;
