@@ -63,7 +63,7 @@ pub trait Folders {
     fn note(&mut self, alloc: Global, to: Place, name: &str, text: &str) -> Result<(), FolderFault>
         ensures { written self.new ≡ written self.old };
 
-    /// Moves a file of the offers to a place, under the same name.
+    /// Moves a file of the offers to a place, under the same name; what lies there already is not written over.
     fn set_aside(&mut self, alloc: Global, name: &str, to: Place) -> Result<(), FolderFault>
         ensures { written self.new ≡ written self.old };
 

@@ -9,6 +9,9 @@ use std::os::unix::fs::MetadataExt;
 use std::rt::Files;
 use std::{fs, io};
 
+/// How many files of one name are set aside in one place, less one.
+const MOST_COPIES: u32 = 1000;
+
 /// Two folders of the host. What is set aside lies in folders within the first.
 #[derive(Drop)]
 pub struct HostFolders<'a, R: Files> {
@@ -105,6 +108,27 @@ impl<'a, R: Files + AllocGlobal + Clone + Drop> HostFolders<'a, R> {
         }
     }
 
+    /// Whether a file has this path. One that can't be looked at may be there.
+    fn is_taken(&self, path: &str) -> bool {
+        !matches!(fs::exists(self.files, path), Ok(false))
+    }
+
+    /// A path in a folder under this name that no file has yet: the name alone, or with `.2`, `.3` and so on behind it. What
+    /// was set aside before is never written over.
+    fn free_path(&self, alloc: Global, folder: &str, name: &str) -> Result<String, FolderFault> {
+        let path = within(alloc, folder, name)?;
+        if !self.is_taken(&path) {
+            return Ok(path);
+        }
+        for copy in 2..MOST_COPIES {
+            let path = format!(in alloc; "{folder}/{name}.{copy}")?;
+            if !self.is_taken(&path) {
+                return Ok(path);
+            }
+        }
+        Err(FolderFault::CannotWrite)
+    }
+
     /// Lists the offers. A name that is not UTF-8 fails alone.
     fn list(&self, alloc: Global) -> io::Result<Listing> {
         let mut names = Vec::new(alloc);
@@ -170,7 +194,7 @@ impl<'a, R: Files + AllocGlobal + Clone + Drop> Folders for HostFolders<'a, R> {
     fn set_aside(&mut self, alloc: Global, name: &str, to: Place) -> Result<(), FolderFault> {
         let from = within(alloc, &self.offers, name)?;
         let folder = self.make_place(alloc, to)?;
-        let path = within(alloc, &folder, name)?;
+        let path = self.free_path(alloc, &folder, name)?;
         match fs::rename(self.files, from.as_str(), path.as_str()) {
             Ok(()) => Ok(()),
             Err(error) => Err(FolderFault::of(&error, FolderFault::CannotWrite)),
