@@ -1,10 +1,9 @@
 -- Stretches of a run, one after the other.
-use Rattle.std.proofs.Common.{◌≡◌, ℕ, List, [], ◌∷◌, ◌++◌, Bool, true, false, ◌||◌, Option, Some, None, Result, Ok, Err, OnOk, inl, inr, refl, sym, ap, ◌∙◌, subst, append_assoc, append-nil}
+use Rattle.std.proofs.Common.{◌≡◌, ℕ, List, [], ◌∷◌, ◌++◌, Bool, false, ◌||◌, Option, Some, None, Result, Ok, Err, OnOk, inl, refl, sym, ap, ◌∙◌, subst, append_assoc, append-nil}
 use Rattle.std.specs.Prelude.{flat_map, OnErr, IfErr, slice_get}
 use Rattle.std.specs.List.{remove}
 use Rattle.std.proofs.lemmas.Grind.{flat_map-append}
 use Rattle.protocol.specs.Refusals.{Call}
-use Rattle.saved_rows.specs.declared.rows.Rows.{Ghosts}
 use Rattle.station.specs.declared.answer.Answer.{Answer}
 use Rattle.refusals.specs.declared.refusal.StepRefusal.{StepRefusal}
 use Rattle.station.specs.declared.station.Station.{Station}
@@ -16,7 +15,7 @@ use Rattle.command_ends.specs.declared.end.End.TheVariants as ends
 use Rattle.command_ends.specs.declared.fault.Fault.{Fault}
 use Rattle.command_ends.specs.declared.fault.Fault.TheVariants as faults
 use Rattle.folders.specs.Written.{File, Writes}
-use Rattle.serve_command.specs.Serving.{Event, asked, took, coming, sending, going, passing, IsStep, Takes, HasCause, ended}
+use Rattle.serve_command.specs.Serving.{asked, took, coming, sending, going, passing, IsStep, HasCause, ended}
 use Rattle.serve_command.specs.Driving.{Rests}
 use Rattle.serve_command.proofs.Served.{ends_badly, Passes-nil, Passes-then, takes_then, cause_then, refused_cause}
 use Rattle.run_command.specs.Asking.{call_of}

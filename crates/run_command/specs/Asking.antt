@@ -1,6 +1,6 @@
 -- What the files among the offers ask for.
 use Rattle.std.specs.Prelude.{◌≡◌, ℕ, List, codes}
-use Rattle.protocol.specs.Entries.{Entry, Void, Taped}
+use Rattle.protocol.specs.Entries.{Entry}
 use Rattle.protocol.specs.Refusals.{Call, Offering, Seeking}
 use Rattle.tape_frames.specs.Entries.{owned_entry}
 use Rattle.refusals.specs.declared.refusal.StepRefusal.{StepRefusal}

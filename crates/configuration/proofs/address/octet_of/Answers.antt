@@ -1,6 +1,5 @@
 -- A word is short and has digits alone, or is none; then it is the number that it parses to.
-use Rattle.std.proofs.Common.{◌≡◌, ◌≤◌, ◌∙◌, true, nat_le, length, sym, arith}
-use Rattle.std.proofs.lemmas.Bool.Decides.{nat_tests}
+use Rattle.std.proofs.Common.{◌≡◌, ◌∙◌, true, nat_le, length, sym}
 use Rattle.configuration.proofs.Octets.{octet_read, octet_refused, octet_of_others, octet_long}
 use Rattle.configuration.proofs.address.octet_of.Goals as goal
 use Rattle.configuration.proofs.address.octet_of.Goals.{then-not-is_short-via-then-not-is_short, then-not-is_short-via-else-not-is_short+then-not-all_digits}

@@ -4,7 +4,7 @@ use Rattle.tape_frames.specs.declared.entry.Entry.TheVariants as entries
 use Rattle.serve_command.specs.Serving.{IsStep}
 use Rattle.run_command.specs.Asking.{call_of}
 use Rattle.run_command.specs.declared.asked.Wish.{Wish}
-use Rattle.run_command.specs.declared.asked.Wish.TheVariants.{Offered, Sought}
+use Rattle.run_command.specs.declared.asked.Wish.TheVariants.{Offered}
 use Rattle.run_command.proofs.asked.ask.Goals as goal
 
 pub returns-in-Offered-Tape-clause-step : goal.returns-in-Offered-Tape-clause-step

@@ -1,5 +1,5 @@
 -- What waited was written, and the rest is looking.
-use Rattle.std.proofs.Common.{rules, [], subst, sym, Option, List}
+use Rattle.std.proofs.Common.{[], subst, sym, Option, List}
 use Rattle.folders.specs.Written.{File}
 use Rattle.run_command.specs.Keeping.{Keeps}
 use Rattle.run_command.proofs.looking.see_folders.Goals as goal

@@ -1,5 +1,5 @@
 -- One turn more.
-use Rattle.std.proofs.Common.{rules, ◌≡◌, refl, sym, ◌∙◌}
+use Rattle.std.proofs.Common.{rules, ◌≡◌, refl}
 use Rattle.command_ends.specs.Ends.{end_of}
 use Rattle.command_ends.specs.declared.end.End.TheVariants.{Done}
 use Rattle.serve_command.specs.Serving.{ended}

@@ -1,5 +1,5 @@
 -- The turn, and then the look, if there is one.
-use Rattle.std.proofs.Common.{rules, ◌≡◌, sym, ◌∙◌}
+use Rattle.std.proofs.Common.{rules, ◌≡◌}
 use Rattle.command_ends.specs.Ends.{end_of}
 use Rattle.serve_command.specs.Serving.{ended}
 use Rattle.run_command.specs.Running.{known, plant}

@@ -3,7 +3,6 @@ use Rattle.std.proofs.Common.{refl}
 use Rattle.command_ends.specs.declared.end.End.TheVariants as ends
 use Rattle.serve_command.specs.Serving.{ended}
 use Rattle.serve_command.proofs.Served.{Passes-nil}
-use Rattle.run_command.specs.Asking.{call_of}
 use Rattle.run_command.specs.Running.{known, plant}
 use Rattle.run_command.proofs.Run.{nothing, handed, refused, moved, and_then, unwritten, asked_passes}
 use Rattle.run_command.proofs.stepping.ask_at.Goals as goal

@@ -1,5 +1,5 @@
 -- A turn is what was taken in, and then what was due.
-use Rattle.std.proofs.Common.{rules, ◌≡◌, sym, ◌∙◌}
+use Rattle.std.proofs.Common.{rules, ◌≡◌}
 use Rattle.command_ends.specs.Ends.{end_of}
 use Rattle.command_ends.specs.declared.end.End.TheVariants.{Done}
 use Rattle.serve_command.specs.Serving.{ended}

@@ -1,5 +1,4 @@
 -- What came is taken in by one step of the station.
-use Rattle.std.proofs.Common.{refl}
 use Rattle.serve_command.proofs.driving.take_datagram.Goals as goal
 
 pub returns-in-Ok-clause-takes : goal.returns-in-Ok-clause-takes

@@ -1,5 +1,5 @@
 -- What came is taken in by one step.
-use Rattle.std.proofs.Common.{inl, inr, refl, sym, subst}
+use Rattle.std.proofs.Common.{inl, inr, refl}
 use Rattle.protocol.specs.Refusals.{Receiving}
 use Rattle.command_ends.specs.declared.end.End.TheVariants as ends
 use Rattle.serve_command.specs.Serving.{known, post, IsTakingIn}
