@@ -53,6 +53,7 @@ told_as None = First
 told_as (Some false) = Second Created
 told_as (Some true) = Second Upgraded
 
+-- a layout is the one that is told by what it tells
 pub as_told : (layout : Layout) → told_as (told_by layout) ≡ layout
 as_told First = refl
 as_told (Second Created) = refl

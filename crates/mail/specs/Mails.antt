@@ -35,6 +35,7 @@ letter_sends s n b vote letters.Vote = of_entry (λ entry. to_others s n b (Acce
 letter_sends s n b vote (letters.Promise to) = packet_to s n b (Promise (vote_below b vote)) to ∷ []
 letter_sends s n b vote (letters.Nack to promised) = packet_to s n b (Nack promised) to ∷ []
 
+-- what a turn's mail sends; where it has none, nothing
 abbrev pub mail_sends : Option Mail → Option Vote → List Packet
 mail_sends None vote = []
 mail_sends (Some m) vote = letter_sends m.seat m.number m.ballot vote m.letter

@@ -21,6 +21,7 @@ pub record Inputs : Type 0 where
   pub table : Option (List ℕ)
   pub widths : Option (List ℕ)
 
+-- inputs of which so much is known
 abbrev pub inputs : Option (List ℕ) → Option (List ℕ) → Inputs
 inputs table widths = record { table = table; widths = widths }
 

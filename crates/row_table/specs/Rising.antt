@@ -8,10 +8,12 @@ use Rattle.row_table.specs.Tables.{Layout}
 use Rattle.row_table.specs.Tables.Layout.{First, Second}
 use Rattle.row_table.specs.Rows.{whole, AreRows, columns_at}
 
+-- the number that an integer is, where it is not negative
 abbrev pub number_in : ℤ → Option ℕ
 number_in (pos n) = Some n
 number_in (negsuc n) = None
 
+-- the number that a value stands for, where it is an integer that is not negative
 abbrev pub key_of : Value → Option ℕ
 key_of Null = None
 key_of (Int z) = number_in z
@@ -19,10 +21,12 @@ key_of (Real x) = None
 key_of (Text t) = None
 key_of (Blob b) = None
 
+-- above the number before, where there is one
 abbrev pub is_above : Option ℕ → ℕ → Bool
 is_above None n = true
 is_above (Some last) n = nat_lt last n
 
+-- this number is there and above the one before, and the rest goes on from it
 abbrev pub goes_on : Option ℕ → Option ℕ → (Option ℕ → Bool) → Bool
 goes_on last None rest = false
 goes_on last (Some n) rest = is_above last n && rest (Some n)
@@ -32,6 +36,7 @@ abbrev pub rise_from : Option ℕ → List Row → Bool
 rise_from last [] = true
 rise_from last (r ∷ rs) = goes_on last (key_of (column r 0)) (λ next. rise_from next rs)
 
+-- the number is there, and is this one
 abbrev pub is_at : ℕ → Option ℕ → Bool
 is_at n None = false
 is_at n (Some k) = n == k

@@ -11,9 +11,11 @@ use Rattle.row_table.specs.Tables.{Layout, layout_tree, layout_schema}
 use Rattle.row_table.specs.Tables.Layout.{First, Second}
 use Rattle.sqlite.specs.Values.{or_null}
 
+-- a number as the database stores it
 abbrev pub whole : ℕ → Value
 whole n = Int (pos n)
 
+-- the columns beside the number of a row in the first layout; what is missing is null
 abbrev pub columns_of : ℕ → ℕ → Option ℕ → Option ℕ → Option (List ℕ) → Row
 columns_of promised_round promised_owner vote_round vote_owner tape =
     whole promised_round ∷ whole promised_owner ∷ or_null whole vote_round ∷ or_null whole vote_owner ∷ or_null Blob tape ∷ []
@@ -26,6 +28,7 @@ stored n columns = whole n ∷ Null ∷ columns
 abbrev pub IsKeyed : Row → Type 0
 IsKeyed r = (n : ℕ) × (rowid r ≡ whole n)
 
+-- each row's key is a whole number
 abbrev pub AreKeyed : List Row → Type 0
 AreKeyed = AllByRecursion IsKeyed
 
@@ -33,6 +36,7 @@ AreKeyed = AllByRecursion IsKeyed
 abbrev pub AreOnce : List Row → Type 0
 AreOnce rows = (n : ℕ) → filter (has_rowid (pos n)) rows ≡ option_to_list (find (has_rowid (pos n)) rows)
 
+-- rows as a table holds them: each has a number, and none comes twice
 pub record AreRows (rows : List Row) : Type 0 where
   pub keyed : AreKeyed rows
   pub once : AreOnce rows
@@ -46,6 +50,7 @@ shown_of (Second origin) r = column r 2 ∷ column r 3 ∷ column r 4 ∷ column
 abbrev pub found_at : List Row → ℕ → Option Row
 found_at rows n = find (has_rowid (pos n)) rows
 
+-- what the row with the number shows beside it, if there is such a row
 abbrev pub columns_at : Layout → List Row → ℕ → Option Row
 columns_at layout rows n = option_map (shown_of layout) (found_at rows n)
 
@@ -59,12 +64,14 @@ pub record SavesIn (layout : Layout) (n : ℕ) (columns : Row) (old new : Trees)
   pub rows : Saves n columns (old (layout_tree layout)) (new (layout_tree layout))
   pub others : (t : ℕ) → t ≢ layout_tree layout → new t ≡ old t
 
+-- this row is put in the place of the one that had its number; no other row, no other tree and no table changes
 pub record IsSaved (layout : Layout) (n : ℕ) (columns : Row) (old new : Database) : Type 0 where
   pub schema : new.schema ≡ old.schema
   pub trees : SavesIn layout n columns old.trees new.trees
 
 -- ---- a connection on the tables of a layout
 
+-- the tables are those of the layout, its rows are rows, and nothing waits to be committed
 pub record IsAtRest (layout : Layout) (s : State) : Type 0 where
   pub schema : s.now.schema ≡ layout_schema layout
   pub rows : AreRows (s.now.trees (layout_tree layout))
@@ -90,6 +97,7 @@ pub record WasKept (old new : State) : Type 0 where
 abbrev pub listed_row : Layout → Row → Row
 listed_row layout r = column r 0 ∷ shown_of layout r
 
+-- a row's number, by which a listing is ordered, and the row as a listing shows it
 abbrev pub with_key : Layout → Row → Row × Row
 with_key layout r = (column r 0 ∷ [], listed_row layout r)
 

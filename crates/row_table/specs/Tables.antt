@@ -10,15 +10,19 @@ use Rattle.sqlite_schema.specs.declared.schema.Column.{Column}
 use Rattle.sqlite.specs.Schema.{Schema}
 use Rattle.sqlite.specs.Kind.TheVariants.{Integer, Blob}
 
+-- a column that always holds an integer
 abbrev pub number_column : List ℕ → Column
 number_column name = record { name = name; kind = Integer; is_strict = true; not_null = true; default = Null; collation = Binary }
 
+-- a column that holds an integer or null
 abbrev pub optional_column : List ℕ → Column
 optional_column name = record { name = name; kind = Integer; is_strict = true; not_null = false; default = Null; collation = Binary }
 
+-- where the station's table lies among the trees of a database
 abbrev pub station_tree : ℕ
 station_tree = 0
 
+-- where the first layout's rows lie among them
 abbrev pub rows_tree : ℕ
 rows_tree = 1
 
@@ -39,6 +43,7 @@ station = record {
   is_counted = false;
 }
 
+-- the rows of the first layout, by number: the promise, and the vote with its tape
 abbrev pub acceptor_row : Table
 acceptor_row = record {
   name = codes "acceptor_row";

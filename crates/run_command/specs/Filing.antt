@@ -31,6 +31,7 @@ abbrev pub entry_files : ℕ → Entry → Result (List Slug) SetFault → List 
 entry_files n Void set = file n (codes ".void") [] ∷ []
 entry_files n (Taped tape) set = file n (codes ".tape") tape ∷ file n (codes ".galley") (galley_text set) ∷ []
 
+-- the files of a release
 abbrev pub release_files : Release → List File
 release_files r = entry_files r.number (owned_entry r.entry) (slugs_of r.set)
 

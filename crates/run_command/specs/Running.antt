@@ -17,6 +17,7 @@ pub record Plant (R N F : Type 0) : Type 0 where
   pub folders : F
   pub waits : List File
 
+-- such a station with its wire, its folders and what waits
 abbrev pub plant : {R N F : Type 0} → Station R → N → F → List File → Plant R N F
 plant station wire folders waits = record { station = station; wire = wire; folders = folders; waits = waits }
 
@@ -26,6 +27,7 @@ pub record Known (R N F : Type 0) : Type 1 where
   pub passed : N → Option (List Passed)
   pub written : F → Option (List File)
 
+-- of these, this is known
 abbrev pub known : {R N F : Type 0} → Ghosts R → (N → Option (List Passed)) → (F → Option (List File)) → Known R N F
 known rows passed written = record { rows = rows; passed = passed; written = written }
 

@@ -113,6 +113,7 @@ pub record Post (R N W : Type 0) : Type 0 where
   pub wire : N
   pub out : W
 
+-- such a station with its wire and its output
 abbrev pub post : {R N W : Type 0} → Station R → N → W → Post R N W
 post station wire out = record { station = station; wire = wire; out = out }
 
@@ -122,6 +123,7 @@ pub record Known (R N W : Type 0) : Type 1 where
   pub passed : N → Option (List Passed)
   pub contents : W → Option (List ℕ)
 
+-- of these, this is known
 abbrev pub known : {R N W : Type 0} → Ghosts R → (N → Option (List Passed)) → (W → Option (List ℕ)) → Known R N W
 known rows passed contents = record { rows = rows; passed = passed; contents = contents }
 
