@@ -82,6 +82,10 @@ await plant2/offers/lost/2.tape
 await plant2/offers/refused/note.txt
 cmp plant2/releases/11.tape plant1/releases/11.tape
 cmp plant2/releases/2.tape "$examples/flood.tape"
+# what was set aside before is not written over
+hand_over 2 "$examples/harvest.tape" 2.tape
+await plant2/offers/lost/2.tape.2
+cmp plant2/offers/lost/2.tape plant2/offers/lost/2.tape.2
 echo "Number 2 still means the flood story, at all three. What plant 2 told since:"
 sed 's/^/    /' plant2/told | tail -n 12
 
