@@ -1,6 +1,6 @@
 #!/usr/bin/env bash
 # The tests have the files and the tapes of the examples as constants, in the crate fixtures: this tells whether they are the same.
-# Then, where the program is built, each example of the pages is run, and has to print what stands there, byte for byte.
+# Then, where the program is built, each example of the pages and of the program's own help is run, and has to print what stands there, byte for byte.
 set -eu
 cd "$(dirname "$0")"
 python3 - <<'END'
@@ -121,3 +121,4 @@ if differing:
     sys.exit("".join(differing))
 print("The program prints what the README and the pages say.")
 END
+./helps.py "$circuitd"

@@ -34,7 +34,7 @@ impl Datagram {
         self.to
     }
 
-    /// Its bytes, 17 to 4,121 of them.
+    /// Its bytes, 17 at least; 4,121 at most in version 1, and 12,313 in version 2.
     pub fn bytes(&self) -> &[u8]
         ensures { result.now ≡ self.now.bytes }
     {
