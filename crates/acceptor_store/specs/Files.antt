@@ -49,7 +49,7 @@ pub record RefusesFiles {D : Type 0} {g : Ghosts D} (start : Image) (given : Opt
   pub unwritten : HasCleanDisk (file_state conn) → (layout : Layout) → (file_state was).now.schema ≡ layout_schema layout → IsTrue (file_state conn).is_open → (file_state conn).now ≡ (file_state was).now
   pub crash : HasCleanDisk (file_state conn) → (layout : Layout) → (file_state was).now.schema ≡ layout_schema layout → (db : Trees) → (file_state conn).may_leave db → (file_state was).may_leave db
 
--- What the store owes where it made the tables: the database that the files held had none of them, and they are its own if it had no table at all
+-- What the store owes where it made the tables: the database that the files held did not have both of them, and they are its own if it had no table at all
 pub record MakesItsOwn {D : Type 0} {g : Ghosts D} (start : Image) (s : SqliteOf (FileStore D g)) : Type 0 where
   pub was : Held (FileStore D g)
   pub opened : HasCleanDisk (file_state was) → IsOpened was

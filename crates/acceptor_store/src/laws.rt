@@ -21,7 +21,8 @@ pub fn an_upgrade_outlives_crashes<D: Disk, E: Disk>()
     ensures { UpgradeOutlivesCrash D D.Disk E E.Disk }
 {}
 
-/// After a crash while the tables were made an open is refused, or finds the station that they were made for and no row.
+/// After a crash while the tables were made, in a database that had no station, an open that takes up tables of the store's
+/// own finds the station that they were made for, and no row.
 pub fn tables_outlive_crashes<D: Disk, E: Disk>()
     ensures { CreateOutlivesCrash D D.Disk E E.Disk }
 {}

@@ -67,6 +67,6 @@ pub struct Plan<'a> {
     pub tape: Option<&'a str>,
     /// The number that is withdrawn.
     pub withdraw: Option<u32>,
-    /// The number whose tape is sought.
+    /// The number whose entry is sought.
     pub seek: Option<u32>,
 }

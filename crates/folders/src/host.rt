@@ -9,7 +9,7 @@ use std::os::unix::fs::MetadataExt;
 use std::rt::Files;
 use std::{fs, io};
 
-/// How many files of one name are set aside in one place, less one.
+/// One more than the files of one name that are set aside in one place.
 const MOST_COPIES: u32 = 1000;
 
 /// Two folders of the host. What is set aside lies in folders within the first.

@@ -154,7 +154,7 @@ fn written(alloc: Global, packet: &PacketRef<'_>, version: Version) -> Result<Ve
 }
 
 /// The one spelling of a packet in a version that has one for its entry, if it carries any: 17 bytes or more,
-/// in version 1 at most 4,121. Its memory is asked for once.
+/// at most 4,121 in version 1, and 12,313 in version 2. Its memory is asked for once.
 pub fn encode(
     alloc: Global,
     packet: &PacketRef<'_>,

@@ -7,7 +7,7 @@ use ballots::Ballot;
 pub enum BeginRefusal {
     /// There is no round above the one that was seen.
     RoundsSpent,
-    /// Memory was refused.
+    /// Memory was refused; a proposal that begins takes none, so this never comes.
     OutOfMemory,
 }
 

@@ -1,4 +1,4 @@
-//! The laws over every history, at the packets' own reading and at what tables and widths make of entries.
+//! The laws over every history; of these `agreement` is at the packets' own reading and at what tables and widths make of entries.
 //! The functions do nothing but cite the laws that they rest on.
 
 ghost use Rattle.world.specs.Taking.{TearsForMemory};
