@@ -6,7 +6,8 @@ use saved_rows::RowsFault;
 
 /// Why a step was refused. The first that holds is answered, in the order in which they stand here, but that
 /// `Store` and `OutOfMemory` come where the store or a growth fails. These two stop the station: nothing is
-/// handed out, and it refuses each step until a restart, or an upgrade that is Ok. No other changes anything.
+/// handed out, and it refuses each step until a restart, or an upgrade that is Ok. No other changes anything, but that a
+/// station that is not stopped speaks the version of its rows then.
 #[derive(Clone, Copy, PartialEq, Eq)]
 pub enum StepRefusal {
     /// An earlier step stopped the station.
