@@ -86,6 +86,11 @@ cmp plant2/releases/2.tape "$examples/flood.tape"
 hand_over 2 "$examples/harvest.tape" 2.tape
 await plant2/offers/lost/2.tape.2
 cmp plant2/offers/lost/2.tape plant2/offers/lost/2.tape.2
+cmp note plant2/offers/refused/note.txt
+hand_over 2 note note
+await plant2/offers/refused/note
+cmp note plant2/offers/refused/note.txt
+grep -q "no number" plant2/offers/refused/note.txt.2
 echo "Number 2 still means the flood story, at all three. What plant 2 told since:"
 sed 's/^/    /' plant2/told | tail -n 12
 

@@ -59,7 +59,7 @@ pub trait Folders {
         ensures ok { OnOk result (Writes (written self.old) (written self.new) (record { name = name.now; bytes = bytes.now } ∷ [])) }
         ensures err { OnErr result (written self.new ≡ written self.old) };
 
-    /// Writes a text beside the files that are set aside at a place.
+    /// Writes a text beside the files that are set aside at a place; what lies there already is not written over.
     fn note(&mut self, alloc: Global, to: Place, name: &str, text: &str) -> Result<(), FolderFault>
         ensures { written self.new ≡ written self.old };
 

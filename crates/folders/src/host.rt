@@ -113,17 +113,43 @@ impl<'a, R: Files + AllocGlobal + Clone + Drop> HostFolders<'a, R> {
         !matches!(fs::exists(self.files, path), Ok(false))
     }
 
-    /// A path in a folder under this name that no file has yet: the name alone, or with `.2`, `.3` and so on behind it. What
-    /// was set aside before is never written over.
-    fn free_path(&self, alloc: Global, folder: &str, name: &str) -> Result<String, FolderFault> {
+    /// Whether the file at this path holds this text, and no more.
+    fn holds(&self, alloc: Global, path: &str, text: &str) -> bool {
+        match read_front(alloc, self.files, path, text.len()) {
+            Ok(bytes) => bytes.as_slice() == text.as_bytes(),
+            Err(_) => false,
+        }
+    }
+
+    /// Whether nothing is lost where a file is put at this path: no file has it, or one that holds this text already.
+    fn is_free(&self, alloc: Global, path: &str, text: Option<&str>) -> bool {
+        if !self.is_taken(path) {
+            return true;
+        }
+        match text {
+            Some(text) => self.holds(alloc, path, text),
+            None => false,
+        }
+    }
+
+    /// The name under which a file is put in a folder: this one, or with `.2`, `.3` and so on behind it. What was set aside or
+    /// written there before is never written over.
+    fn free_name(
+        &self,
+        alloc: Global,
+        folder: &str,
+        name: &str,
+        text: Option<&str>,
+    ) -> Result<String, FolderFault> {
         let path = within(alloc, folder, name)?;
-        if !self.is_taken(&path) {
-            return Ok(path);
+        if self.is_free(alloc, &path, text) {
+            return Ok(String::from_str(alloc, name)?);
         }
         for copy in 2..MOST_COPIES {
-            let path = format!(in alloc; "{folder}/{name}.{copy}")?;
-            if !self.is_taken(&path) {
-                return Ok(path);
+            let name = format!(in alloc; "{name}.{copy}")?;
+            let path = within(alloc, folder, &name)?;
+            if self.is_free(alloc, &path, text) {
+                return Ok(name);
             }
         }
         Err(FolderFault::CannotWrite)
@@ -188,13 +214,15 @@ impl<'a, R: Files + AllocGlobal + Clone + Drop> Folders for HostFolders<'a, R> {
         text: &str,
     ) -> Result<(), FolderFault> {
         let folder = self.make_place(alloc, to)?;
-        put_within(alloc, self.files, &folder, name, text.as_bytes())
+        let name = self.free_name(alloc, &folder, name, Some(text))?;
+        put_within(alloc, self.files, &folder, &name, text.as_bytes())
     }
 
     fn set_aside(&mut self, alloc: Global, name: &str, to: Place) -> Result<(), FolderFault> {
         let from = within(alloc, &self.offers, name)?;
         let folder = self.make_place(alloc, to)?;
-        let path = self.free_path(alloc, &folder, name)?;
+        let free = self.free_name(alloc, &folder, name, None)?;
+        let path = within(alloc, &folder, &free)?;
         match fs::rename(self.files, from.as_str(), path.as_str()) {
             Ok(()) => Ok(()),
             Err(error) => Err(FolderFault::of(&error, FolderFault::CannotWrite)),
