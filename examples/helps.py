@@ -84,12 +84,16 @@ def started(work, command):
 
 def first_of(process, told):
     """As much of what a station prints as stands in its help, or what it printed in half a minute."""
-    os.set_blocking(process.stdout.fileno(), False)
-    printed, end = "", time.monotonic() + LONGEST
-    while len(printed) < len(told) and time.monotonic() < end:
-        printed += process.stdout.read() or ""
+    source = process.stdout.fileno()
+    os.set_blocking(source, False)
+    printed, end = b"", time.monotonic() + LONGEST
+    while len(printed) < len(told.encode()) and time.monotonic() < end:
+        try:
+            printed += os.read(source, 65536)
+        except BlockingIOError:
+            pass
         time.sleep(0.05)
-    return printed
+    return printed.decode()
 
 
 def serve(work, command, told, others):
