@@ -16,6 +16,8 @@ pub enum Step {
     Hear(u8, At, Agreed, Option<At>),
     /// The entry that then stands at a ballot.
     Entry(At, Option<Agreed>),
+    /// The entry that is given up at a ballot; nothing is heard after that.
+    Release(At, Option<Agreed>),
 }
 
 /// What the member of a circuit of so many hears.
@@ -81,6 +83,21 @@ fn stands(heard: &Heard, voted: At, agreed: Option<Agreed>) -> bool {
     }
 }
 
+/// Whether this entry is given up at the ballot, and nothing is heard then.
+fn gives_up(heard: &mut Heard, voted: At, agreed: Option<Agreed>) -> bool
+    ensures { heard.new.members ≡ heard.old.members }
+{
+    let Some(ballot) = ballot(voted) else {
+        return false;
+    };
+    let is_it = match (heard.release_at(ballot), agreed) {
+        (None, None) => true,
+        (Some(entry), Some(agreed)) => is_entry(&entry.lend(), agreed),
+        _ => false,
+    };
+    is_it && heard.is_empty()
+}
+
 /// Whether a step comes to what it has to, where each vote is heard so many times.
 fn takes(heard: &mut Heard, members: u8, times: u32, step: Step) -> bool
     requires { heard.old.members ≡ members }
@@ -91,6 +108,7 @@ fn takes(heard: &mut Heard, members: u8, times: u32, step: Step) -> bool
             answers(heard, members, times, (member, voted, agreed), ripe)
         }
         Step::Entry(voted, agreed) => stands(heard, voted, agreed),
+        Step::Release(voted, agreed) => gives_up(heard, voted, agreed),
     }
 }
 
@@ -192,6 +210,25 @@ const STORIES: &[Story] = &[
             Step::Entry((1, 3), Some(FLOOD)),
             Step::Hear(3, (1, 3), FLOOD, Some((1, 3))),
             Step::Entry((1, 1), Some(VOID)),
+        ],
+    },
+    // what is given up is the least member's, and a number is heard of anew after it
+    Story {
+        name: "what is given up is forgotten",
+        members: 3,
+        steps: &[
+            Step::Release((1, 1), None),
+            Step::Hear(3, (1, 1), LIGATURE, None),
+            Step::Hear(2, (1, 1), FLOOD, Some((1, 1))),
+            Step::Release((1, 1), Some(FLOOD)),
+            Step::Entry((1, 1), None),
+            Step::Release((1, 1), None),
+            Step::Hear(3, (1, 1), VOID, None),
+            Step::Hear(1, (1, 2), LIGATURE, None),
+            Step::Release((1, 2), Some(LIGATURE)),
+            Step::Hear(2, (1, 1), VOID, None),
+            Step::Hear(1, (1, 1), VOID, Some((1, 1))),
+            Step::Release((1, 1), Some(VOID)),
         ],
     },
     Story {
