@@ -1,11 +1,9 @@
-//! The command line: what the words of a call ask the program for.
+//! The command line: the command that the words of a call give, and what is written where they give none.
 #![tactic(auto)]
 
-mod asked;
-mod grammar;
 mod parsing;
 mod version;
 
-pub use asked::{Asked, Plan};
+pub use arguments::{Asked, Plan};
 pub use parsing::parse;
 pub use version::print_version;

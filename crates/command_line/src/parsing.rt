@@ -3,119 +3,12 @@
 ghost use Rattle.std.specs.Prelude.{IfErr};
 ghost use Rattle.command_ends.specs.Ends.{IsOfUsage};
 
-use crate::asked::{Asked, Plan};
-use crate::grammar::grammar;
-use ballots::Member;
+use arguments::{Asked, asked_by};
+use clap::Error;
 use clap::error::ErrorKind;
-use clap::{ArgMatches, Error};
-use command_ends::{End, Fault, ScriptPaths, TapePaths};
+use command_ends::{End, Fault};
 use std::alloc::Global;
 use std::io::Write;
-use tape_drawing::Page;
-use tape_frames::Version;
-
-fn matches_of<'a>(alloc: Global, words: &'a [String]) -> Result<ArgMatches<'a>, Error> {
-    grammar(alloc)?.try_get_matches_from(words)
-}
-
-/// The version whose number a line gives for an option.
-fn version_of<'a>(matches: &ArgMatches<'a>, name: &str) -> Option<Version> {
-    match matches.get_str(name) {
-        Some("1") => Some(Version::One),
-        Some("2") => Some(Version::Two),
-        _ => None,
-    }
-}
-
-fn answer_of<'a>(matches: &ArgMatches<'a>) -> Option<Asked<'a>> {
-    let circuit = matches.get_one::<u16>("CIRCUIT")?;
-    let me = Member::new(matches.get_one::<u8>("MEMBER")?)?;
-    let wire = version_of(matches, "wire")?;
-    Some(Asked::Answer { circuit, me, wire })
-}
-
-fn tape_paths_of<'a>(matches: &ArgMatches<'a>) -> Option<TapePaths<'a>> {
-    Some(TapePaths {
-        table: matches.get_str("TABLE")?,
-        widths: matches.get_str("WIDTHS")?,
-        tape: matches.get_str("TAPE")?,
-    })
-}
-
-fn check_of<'a>(matches: &ArgMatches<'a>) -> Option<Asked<'a>> {
-    let paths = tape_paths_of(matches)?;
-    let listing = matches.get_flag("holes");
-    Some(Asked::Check { paths, listing })
-}
-
-fn draw_of<'a>(matches: &ArgMatches<'a>) -> Option<Asked<'a>> {
-    let paths = tape_paths_of(matches)?;
-    let page = if matches.get_flag("html") {
-        Page::Html
-    } else {
-        Page::Svg
-    };
-    Some(Asked::Draw { paths, page })
-}
-
-fn rows_of<'a>(matches: &ArgMatches<'a>) -> Option<Asked<'a>> {
-    let path = matches.get_str("DB")?;
-    Some(Asked::Rows { path })
-}
-
-fn upgrade_of<'a>(matches: &ArgMatches<'a>) -> Option<Asked<'a>> {
-    let path = matches.get_str("DB")?;
-    Some(Asked::Upgrade { path })
-}
-
-fn serve_of<'a>(matches: &ArgMatches<'a>) -> Option<Asked<'a>> {
-    let plan = Plan {
-        config: matches.get_str("CONFIG")?,
-        turns: matches.get_one::<u32>("turns")?,
-        create: matches.get_flag("create"),
-        layout: version_of(matches, "layout"),
-        number: matches.get_one::<u32>("number"),
-        tape: matches.get_str("tape"),
-        withdraw: matches.get_one::<u32>("withdraw"),
-        seek: matches.get_one::<u32>("seek"),
-    };
-    Some(Asked::Serve(plan))
-}
-
-fn run_of<'a>(matches: &ArgMatches<'a>) -> Option<Asked<'a>> {
-    let config = matches.get_str("CONFIG")?;
-    let layout = version_of(matches, "layout")?;
-    let create = matches.get_flag("create").then_some(layout);
-    let quiet = matches.get_flag("quiet");
-    Some(Asked::Run {
-        config,
-        create,
-        quiet,
-    })
-}
-
-fn rehearse_of<'a>(matches: &ArgMatches<'a>) -> Option<Asked<'a>> {
-    let paths = ScriptPaths {
-        table: matches.get_str("TABLE")?,
-        widths: matches.get_str("WIDTHS")?,
-        script: matches.get_str("SCRIPT")?,
-    };
-    Some(Asked::Rehearse { paths })
-}
-
-fn asked_of<'a>(matches: &ArgMatches<'a>) -> Option<Asked<'a>> {
-    match matches.subcommand() {
-        Some(("answer", given)) => answer_of(given),
-        Some(("check", given)) => check_of(given),
-        Some(("draw", given)) => draw_of(given),
-        Some(("rows", given)) => rows_of(given),
-        Some(("upgrade", given)) => upgrade_of(given),
-        Some(("serve", given)) => serve_of(given),
-        Some(("run", given)) => run_of(given),
-        Some(("rehearse", given)) => rehearse_of(given),
-        _ => None,
-    }
-}
 
 /// Writes what `clap` says of a line that asks for no command: help to `out`, a mistake to `err`. That the writer fails
 /// is ignored.
@@ -145,11 +38,9 @@ pub fn parse<'a, W: Write, E: Write>(
 ) -> Result<Asked<'a>, End>
     ensures { IfErr result IsOfUsage }
 {
-    match matches_of(alloc, words) {
-        Ok(matches) => match asked_of(&matches) {
-            Some(asked) => Ok(asked),
-            None => Err(End::Usage),
-        },
+    match asked_by(alloc, words) {
+        Ok(Some(asked)) => Ok(asked),
+        Ok(None) => Err(End::Usage),
         Err(error) if error.kind() == ErrorKind::DisplayVersion => Ok(Asked::Version),
         Err(error) => Err(tell(&error, out, err)),
     }

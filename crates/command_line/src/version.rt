@@ -11,9 +11,6 @@ use command_ends::{End, Fault};
 use std::io::Write;
 use streams::put_all;
 
-/// The version, as `clap` is told it.
-pub(crate) const VERSION: &str = "0.2.0";
-
 /// Writes the version.
 fn put_version<'a, W: Write>(out: &mut W) -> Result<(), Fault<'a>>
     ensures ok { OnOk result (Appends (W.contents out.old) (W.contents out.new) (codes "circuitd 0.2.0\n")) }

@@ -7,7 +7,7 @@ ghost use Rattle.tape_frames.specs.Entries.{version_of};
 ghost use Rattle.tape_frames.specs.declared.version.Version.{Version as VersionValue};
 ghost use Rattle.answer_command.specs.AnswerText.{answer_text};
 ghost use Rattle.command_ends.specs.declared.end.End.TheVariants.{Done};
-ghost use Rattle.command_line.specs.declared.asked.Asked.TheVariants.{Answer, Upgrade};
+ghost use Rattle.arguments.specs.declared.asked.Asked.TheVariants.{Answer, Upgrade};
 
 use answer_command::answer;
 use check_command::check;

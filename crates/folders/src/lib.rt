@@ -3,14 +3,12 @@
 
 mod fault;
 mod folders;
-mod host;
 mod memory;
 mod none;
 mod paper;
 
 pub use fault::FolderFault;
 pub use folders::{Folders, Listing, Place, Stamp};
-pub use host::HostFolders;
 pub use memory::{MemoryFolders, Moved, Noted};
 pub use none::NoFolders;
 pub use paper::Paper;

@@ -19,8 +19,8 @@ use Rattle.serve_command.specs.Serving.{asked, took, coming, sending, going, pas
 use Rattle.serve_command.specs.Driving.{Rests}
 use Rattle.serve_command.proofs.Served.{ends_badly, Passes-nil, Passes-then, takes_then, cause_then, refused_cause}
 use Rattle.run_command.specs.Asking.{call_of}
-use Rattle.run_command.specs.declared.asked.Wish.{Wish}
-use Rattle.run_command.specs.declared.asked.Wish.TheVariants.{Offered, Sought}
+use Rattle.run_command.specs.declared.wishes.Wish.{Wish}
+use Rattle.run_command.specs.declared.wishes.Wish.TheVariants.{Offered, Sought}
 use Rattle.run_command.specs.Filing.{files_of, answer_files, filing}
 use Rattle.run_command.specs.Keeping.{Keeps, KeepsFront}
 use Rattle.run_command.specs.Running.{Plant, plant, Known, Runs}

@@ -3,12 +3,12 @@
 ghost use Rattle.std.specs.Prelude.{◌≡◌, []};
 ghost use Rattle.run_command.specs.Keeping.{Keeps};
 
-use crate::asked::Asked;
-use crate::pauses::{LAST_PAUSE, LOOK, STILL, has_passed};
-use crate::settling::{refuse, settle};
-use crate::telling::{Event, Reason, tell, tell_folder, tell_wrong_circuit};
-use crate::waiting::write_waiting;
+use crate::backlog::write_waiting;
+use crate::departures::{refuse, settle};
+use crate::messages::{Event, Reason, tell, tell_folder, tell_wrong_circuit};
+use crate::pauses::{LAST_PAUSE, LOOK, TELL, has_passed};
 use crate::watch::{Watched, is_whole, place_of};
+use crate::wishes::Asked;
 use ballots::Number;
 use folders::{Folders, Paper, Stamp};
 use node_core::Note;
@@ -417,7 +417,7 @@ impl Desk {
             return;
         }
         let is_time = match self.strayed {
-            Some(strayed) => has_passed(strayed, STILL, now),
+            Some(strayed) => has_passed(strayed, TELL, now),
             None => true,
         };
         if is_time {

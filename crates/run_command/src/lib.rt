@@ -1,17 +1,17 @@
 //! The command `run`: a station that stays up, and works with the folders of its plant.
 #![tactic(auto)]
 
-mod asked;
+mod backlog;
+mod departures;
 mod desk;
-mod filing;
-mod looking;
-mod naming;
+mod look;
+mod messages;
+mod names;
 mod pauses;
-mod running;
-mod settling;
-mod stepping;
-mod telling;
-mod waiting;
+mod release_files;
+mod steps;
+mod turns;
 mod watch;
+mod wishes;
 
-pub use running::run_station;
+pub use turns::run_station;

@@ -8,6 +8,9 @@ pub(crate) const LOOK: u64 = 250;
 /// How long a file has to stay as it is before it is taken up.
 pub(crate) const STILL: u64 = 1000;
 
+/// The least pause between two messages that a station speaks for another circuit.
+pub(crate) const TELL: u64 = 1000;
+
 /// The pause after a ballot that was given up, or found nothing, the first time, and the longest.
 pub(crate) const FIRST_PAUSE: u64 = 1000;
 

@@ -3,11 +3,11 @@
 
 mod files;
 mod host;
-mod running;
-mod serving;
-mod starting;
+mod run_start;
+mod serve_start;
+mod start_up;
 
 pub use host::Host;
-pub use running::run;
-pub use serving::serve;
-pub use starting::{Started, start};
+pub use run_start::run;
+pub use serve_start::serve;
+pub use start_up::{Started, start};

@@ -1,0 +1,9 @@
+//! What the words of a call ask the program for, by the grammar that `clap` is told.
+#![tactic(auto)]
+
+mod asked;
+mod grammar;
+mod taking;
+
+pub use asked::{Asked, Plan};
+pub use taking::asked_by;

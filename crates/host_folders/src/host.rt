@@ -1,0 +1,247 @@
+//! What a station asks of two folders of the host, call by call.
+
+use folders::{FolderFault, Folders, Listing, Place, Stamp};
+use std::alloc::{AllocError, Global};
+use std::fs::{File, OpenFile};
+use std::io::{ErrorKind, Read, Write};
+use std::os::unix::fs::MetadataExt;
+use std::rt::Files;
+use std::{fs, io};
+
+/// One more than the files of one name that are set aside in one place.
+const MOST_COPIES: u32 = 1000;
+
+/// Two folders of the host. What is set aside lies in folders within the first.
+#[derive(Drop)]
+pub struct HostFolders<'a, R: Files> {
+    files: &'a R,
+    offers: String,
+    releases: String,
+}
+
+/// What an error of the host means, where it is neither that there is no such file nor want of memory.
+fn fault_of(error: &io::Error, other: FolderFault) -> FolderFault {
+    match error.kind() {
+        ErrorKind::NotFound => FolderFault::Missing,
+        ErrorKind::OutOfMemory => FolderFault::OutOfMemory,
+        _ => other,
+    }
+}
+
+/// The path of a file in a folder.
+fn within(alloc: Global, folder: &str, name: &str) -> Result<String, AllocError> {
+    format!(in alloc; "{folder}/{name}")
+}
+
+/// The name under which a file is written until it is whole.
+fn part_of(alloc: Global, folder: &str, name: &str) -> Result<String, AllocError> {
+    format!(in alloc; "{folder}/.{name}.part")
+}
+
+/// Writes a file, and waits until the disk has what it holds.
+fn write_and_sync<R: Files>(files: &R, path: &str, bytes: &[u8]) -> io::Result<()> {
+    let mut file = File::create(files, path)?;
+    file.write_all(bytes)?;
+    file.sync_all()
+}
+
+/// Waits until the disk has the names in a folder.
+fn sync_names<R: Files>(files: &R, folder: &str) -> io::Result<()> {
+    File::open(files, folder)?.sync_all()
+}
+
+/// Writes a file under another name, gives it its own, and waits for the disk after each.
+fn write_whole<R: Files>(
+    files: &R,
+    folder: &str,
+    part: &str,
+    path: &str,
+    bytes: &[u8],
+) -> io::Result<()> {
+    write_and_sync(files, part, bytes)?;
+    fs::rename(files, part, path)?;
+    sync_names(files, folder)
+}
+
+/// The same within a folder, under a name.
+fn put_within<R: Files>(
+    alloc: Global,
+    files: &R,
+    folder: &str,
+    name: &str,
+    bytes: &[u8],
+) -> Result<(), FolderFault> {
+    let path = within(alloc, folder, name)?;
+    let part = part_of(alloc, folder, name)?;
+    match write_whole(files, folder, &part, &path, bytes) {
+        Ok(()) => Ok(()),
+        Err(error) => Err(fault_of(&error, FolderFault::CannotWrite)),
+    }
+}
+
+/// What a file holds, one byte more than so many at most.
+fn read_front<R: Files>(alloc: Global, files: &R, path: &str, most: usize) -> io::Result<Vec<u8>> {
+    let file = File::open(files, path)?;
+    let mut bytes = Vec::new(alloc);
+    let mut front = file.take((most as u64).saturating_add(1));
+    front.read_to_end(&mut bytes)?;
+    Ok(bytes)
+}
+
+impl<'a, R: Files + AllocGlobal + Clone + Drop> HostFolders<'a, R> {
+    /// The folders at these paths.
+    pub fn new(files: &'a R, offers: String, releases: String) -> HostFolders<'a, R> {
+        HostFolders {
+            files,
+            offers,
+            releases,
+        }
+    }
+
+    /// The folder of a place.
+    fn folder_of(&self, alloc: Global, to: Place) -> Result<String, AllocError> {
+        match to {
+            Place::Sent => within(alloc, &self.offers, "sent"),
+            Place::Lost => within(alloc, &self.offers, "lost"),
+            Place::Refused => within(alloc, &self.offers, "refused"),
+        }
+    }
+
+    /// Makes the folder of a place where it is not there.
+    fn make_place(&self, alloc: Global, to: Place) -> Result<String, FolderFault> {
+        let folder = self.folder_of(alloc, to)?;
+        match fs::create_dir_all(self.files, folder.as_str()) {
+            Ok(()) => Ok(folder),
+            Err(error) => Err(fault_of(&error, FolderFault::CannotWrite)),
+        }
+    }
+
+    /// Whether a file has this path. One that can't be looked at may be there.
+    fn is_taken(&self, path: &str) -> bool {
+        !matches!(fs::exists(self.files, path), Ok(false))
+    }
+
+    /// Whether the file at this path holds this text, and no more.
+    fn holds(&self, alloc: Global, path: &str, text: &str) -> bool {
+        match read_front(alloc, self.files, path, text.len()) {
+            Ok(bytes) => bytes.as_slice() == text.as_bytes(),
+            Err(_) => false,
+        }
+    }
+
+    /// Whether nothing is lost where a file is put at this path: no file has it, or one that holds this text already.
+    fn is_free(&self, alloc: Global, path: &str, text: Option<&str>) -> bool {
+        if !self.is_taken(path) {
+            return true;
+        }
+        match text {
+            Some(text) => self.holds(alloc, path, text),
+            None => false,
+        }
+    }
+
+    /// The name under which a file is put in a folder: this one, or with `.2`, `.3` and so on behind it. What was set aside or
+    /// written there before is never written over.
+    fn free_name(
+        &self,
+        alloc: Global,
+        folder: &str,
+        name: &str,
+        text: Option<&str>,
+    ) -> Result<String, FolderFault> {
+        let path = within(alloc, folder, name)?;
+        if self.is_free(alloc, &path, text) {
+            return Ok(String::from_str(alloc, name)?);
+        }
+        for copy in 2..MOST_COPIES {
+            let name = format!(in alloc; "{name}.{copy}")?;
+            let path = within(alloc, folder, &name)?;
+            if self.is_free(alloc, &path, text) {
+                return Ok(name);
+            }
+        }
+        Err(FolderFault::CannotWrite)
+    }
+
+    /// Lists the offers. A name that is not UTF-8 fails alone.
+    fn list(&self, alloc: Global) -> io::Result<Listing> {
+        let mut names = Vec::new(alloc);
+        let mut skipped: usize = 0;
+        for entry in fs::read_dir(self.files, self.offers.as_str())? {
+            match entry {
+                Ok(entry) => names.push(String::from_str(alloc, entry.file_name())?)?,
+                Err(error) if error.kind() == ErrorKind::InvalidFilename => {
+                    skipped = skipped.saturating_add(1);
+                }
+                Err(error) => return Err(error),
+            }
+        }
+        Ok(Listing { names, skipped })
+    }
+}
+
+impl<'a, R: Files + AllocGlobal + Clone + Drop> Folders for HostFolders<'a, R> {
+    fn names(&mut self, alloc: Global) -> Result<Listing, FolderFault> {
+        match self.list(alloc) {
+            Ok(listing) => Ok(listing),
+            Err(error) => Err(fault_of(&error, FolderFault::CannotRead)),
+        }
+    }
+
+    fn stamp(&mut self, alloc: Global, name: &str) -> Result<Stamp, FolderFault> {
+        let path = within(alloc, &self.offers, name)?;
+        match fs::metadata(self.files, path.as_str()) {
+            Ok(data) if data.is_file() => Ok(Stamp {
+                length: data.len(),
+                changed: (data.mtime(), data.mtime_nsec()),
+                touched: (data.ctime(), data.ctime_nsec()),
+            }),
+            Ok(_) => Err(FolderFault::Missing),
+            Err(error) => Err(fault_of(&error, FolderFault::CannotRead)),
+        }
+    }
+
+    fn read(&mut self, alloc: Global, name: &str, most: usize) -> Result<Vec<u8>, FolderFault> {
+        let path = within(alloc, &self.offers, name)?;
+        match read_front(alloc, self.files, &path, most) {
+            Ok(bytes) if bytes.len() <= most => Ok(bytes),
+            Ok(_) => Err(FolderFault::TooLong),
+            Err(error) => Err(fault_of(&error, FolderFault::CannotRead)),
+        }
+    }
+
+    fn put(&mut self, alloc: Global, name: &str, bytes: &[u8]) -> Result<(), FolderFault> {
+        put_within(alloc, self.files, &self.releases, name, bytes)
+    }
+
+    fn note(
+        &mut self,
+        alloc: Global,
+        to: Place,
+        name: &str,
+        text: &str,
+    ) -> Result<(), FolderFault> {
+        let folder = self.make_place(alloc, to)?;
+        let name = self.free_name(alloc, &folder, name, Some(text))?;
+        put_within(alloc, self.files, &folder, &name, text.as_bytes())
+    }
+
+    fn set_aside(&mut self, alloc: Global, name: &str, to: Place) -> Result<(), FolderFault> {
+        let from = within(alloc, &self.offers, name)?;
+        let folder = self.make_place(alloc, to)?;
+        let free = self.free_name(alloc, &folder, name, None)?;
+        let path = within(alloc, &folder, &free)?;
+        match fs::rename(self.files, from.as_str(), path.as_str()) {
+            Ok(()) => Ok(()),
+            Err(error) => Err(fault_of(&error, FolderFault::CannotWrite)),
+        }
+    }
+
+    fn remove(&mut self, alloc: Global, name: &str) -> Result<(), FolderFault> {
+        let path = within(alloc, &self.offers, name)?;
+        match fs::remove_file(self.files, path.as_str()) {
+            Ok(()) => Ok(()),
+            Err(error) => Err(fault_of(&error, FolderFault::CannotWrite)),
+        }
+    }
+}

@@ -1,0 +1,6 @@
+//! The folders of a plant, of the host. What they hold is not known to a contract.
+#![tactic(auto)]
+
+mod host;
+
+pub use host::HostFolders;

@@ -1,0 +1,239 @@
+//! A look at the folders: what lies among the offers, what is taken up, and what the station is asked.
+
+ghost use Rattle.std.specs.Prelude.{◌≡◌, []};
+ghost use Rattle.serve_command.specs.Serving.{ended};
+ghost use Rattle.run_command.specs.Keeping.{Keeps};
+ghost use Rattle.run_command.specs.Running.{known, plant, Runs};
+
+use crate::departures::refuse;
+use crate::desk::Desk;
+use crate::messages::{Reason, tell_folder};
+use crate::names::{Kind, Request, has_stop, is_left, named};
+use crate::steps::ask_at;
+use crate::watch::Watched;
+use crate::wishes::{Asked, Wish};
+use ballots::Number;
+use command_ends::Fault;
+use folders::{FolderFault, Folders, Paper, Stamp};
+use saved_rows::Rows;
+use station::Station;
+use std::alloc::Global;
+use std::io::Write;
+use tape_frames::{Entry, MAX_FRAMES, Tape, TapeFault};
+use wire::Wire;
+
+/// The tape in a file of this stamp, or why it is none.
+fn read_tape<F: Folders>(
+    alloc: Global,
+    folders: &mut F,
+    name: &str,
+    stamp: Stamp,
+) -> Result<Result<Tape, TapeFault>, FolderFault>
+    ensures { F.written folders.new ≡ F.written folders.old }
+{
+    match folders.read(alloc, name, MAX_FRAMES) {
+        Ok(bytes) => Ok(Tape::from_bytes(alloc, bytes.as_slice())),
+        Err(FolderFault::TooLong) => {
+            let len = usize::try_from(stamp.length).unwrap_or(usize::MAX);
+            Ok(Err(TapeFault::TooLong { len }))
+        }
+        Err(fault) => Err(fault),
+    }
+}
+
+/// What a file of this stamp asks for, or why it is no offer. Where there is no memory for its tape, it can't be read now.
+fn read_wish<F: Folders>(
+    alloc: Global,
+    folders: &mut F,
+    name: &str,
+    kind: Kind,
+    stamp: Stamp,
+) -> Result<Result<Wish, Reason>, FolderFault>
+    ensures { F.written folders.new ≡ F.written folders.old }
+{
+    match kind {
+        Kind::Withdraw => Ok(Ok(Wish::Offered(Entry::Void))),
+        Kind::Seek => Ok(Ok(Wish::Sought)),
+        Kind::Tape => match read_tape(alloc, folders, name, stamp)? {
+            Ok(tape) => Ok(Ok(Wish::Offered(Entry::Tape(tape)))),
+            Err(TapeFault::OutOfMemory) => Err(FolderFault::OutOfMemory),
+            Err(fault) => Ok(Err(Reason::Tape(fault))),
+        },
+    }
+}
+
+/// The same, where the file is still as it was once it is read.
+fn read_still<F: Folders>(
+    alloc: Global,
+    folders: &mut F,
+    name: &str,
+    kind: Kind,
+    stamp: Stamp,
+) -> Result<Result<Wish, Reason>, FolderFault>
+    ensures { F.written folders.new ≡ F.written folders.old }
+{
+    let wish = read_wish(alloc, folders, name, kind, stamp)?;
+    if folders.stamp(alloc, name)? == stamp {
+        Ok(wish)
+    } else {
+        Err(FolderFault::CannotRead)
+    }
+}
+
+/// Takes up a file of this name, or says why it is no offer.
+fn read_asked<F: Folders>(
+    alloc: Global,
+    folders: &mut F,
+    file: &Watched,
+    now: u64,
+) -> Result<Result<Asked, Reason>, FolderFault>
+    ensures { F.written folders.new ≡ F.written folders.old }
+{
+    let Some(Request { number, kind }) = named(alloc, file.name.as_str())? else {
+        return Ok(Err(Reason::Name));
+    };
+    match read_still(alloc, folders, file.name.as_str(), kind, file.stamp)? {
+        Ok(wish) => asked_of(file, number, wish, now),
+        Err(reason) => Ok(Err(reason)),
+    }
+}
+
+/// A file that was read, as it is kept in mind.
+fn asked_of(
+    file: &Watched,
+    number: Number,
+    wish: Wish,
+    now: u64,
+) -> Result<Result<Asked, Reason>, FolderFault> {
+    let name = file.name.clone()?;
+    Ok(Ok(Asked::new(name, number, wish, file.stamp, now)))
+}
+
+/// Takes up a file that is whole, or refuses it. One that can't be read, or moved, is watched again.
+fn take_up<F: Folders, E: Write>(
+    folders: &mut F,
+    desk: &mut Desk,
+    file: Watched,
+    now: u64,
+    err: &mut E,
+)
+    ensures { F.written folders.new ≡ F.written folders.old }
+{
+    match read_asked(desk.alloc, folders, &file, now) {
+        Ok(Ok(asked)) => desk.add(asked),
+        Ok(Err(reason)) => {
+            if !refuse(
+                desk.alloc,
+                folders,
+                file.name.as_str(),
+                reason,
+                desk.quiet,
+                err,
+            ) {
+                desk.watch_later(file, now);
+            }
+        }
+        Err(_) => {
+            tell_folder("cannot read", file.name.as_str(), err);
+            desk.watch_later(file, now);
+        }
+    }
+}
+
+/// Looks at a file that was not taken up yet.
+fn watch<F: Folders, E: Write>(folders: &mut F, desk: &mut Desk, name: &str, now: u64, err: &mut E)
+    ensures { F.written folders.new ≡ F.written folders.old }
+{
+    let Ok(stamp) = folders.stamp(desk.alloc, name) else {
+        return;
+    };
+    if let Some(file) = desk.whole(name, stamp, now) {
+        take_up(folders, desk, file, now, err);
+    }
+}
+
+/// Looks at each file that was not taken up yet.
+fn watch_all<F: Folders, E: Write>(
+    folders: &mut F,
+    desk: &mut Desk,
+    names: &[String],
+    now: u64,
+    err: &mut E,
+)
+    ensures { F.written folders.new ≡ F.written folders.old }
+{
+    for name in names {
+        if !is_left(name.as_str()) && !desk.has_asked(name.as_str()) {
+            watch(folders, desk, name.as_str(), now, err);
+        }
+    }
+}
+
+/// Looks at what lies among the offers; whether the file that ends the run does.
+fn see_offers<F: Folders, E: Write>(folders: &mut F, desk: &mut Desk, now: u64, err: &mut E) -> bool
+    ensures { F.written folders.new ≡ F.written folders.old }
+{
+    match folders.names(desk.alloc) {
+        Ok(listing) => {
+            desk.read(true, listing.skipped, err);
+            desk.forget(listing.names.as_slice());
+            watch_all(folders, desk, listing.names.as_slice(), now, err);
+            has_stop(listing.names.as_slice())
+        }
+        Err(_) => {
+            desk.read(false, 0, err);
+            false
+        }
+    }
+}
+
+/// Asks the station for each file for which it is time to.
+fn ask_all<R: Rows, N: Wire, F: Folders, E: Write>(
+    station: &mut Station<R>,
+    wire: &mut N,
+    folders: &mut F,
+    waits: &mut Vec<Paper>,
+    desk: &mut Desk,
+    now: u64,
+    err: &mut E,
+) -> Result<(), Fault<'static>>
+    ensures was_kept { R.kept station.new.rows → R.kept station.old.rows }
+    ensures runs { Runs (known R.Rows N.passed F.written) (plant station.old wire.old folders.old waits.old.items) (plant station.new wire.new folders.new waits.new.items) (ended result) }
+{
+    for place in 0..desk.asked.len() {
+        ask_at(station, wire, folders, waits, desk, place, now, err)?;
+    }
+    Ok(())
+}
+
+/// Writes the files that wait, and looks at the offers; whether the file that ends the run lies there.
+fn see_folders<F: Folders, E: Write>(
+    folders: &mut F,
+    waits: &mut Vec<Paper>,
+    desk: &mut Desk,
+    now: u64,
+    err: &mut E,
+) -> bool
+    ensures { Keeps (F.written folders.old) (F.written folders.new) waits.old.items waits.new.items [] }
+{
+    desk.write(folders, waits, err);
+    see_offers(folders, desk, now, err)
+}
+
+/// A look at the folders; whether the run ends well.
+pub(crate) fn look<R: Rows, N: Wire, F: Folders, E: Write>(
+    station: &mut Station<R>,
+    wire: &mut N,
+    folders: &mut F,
+    waits: &mut Vec<Paper>,
+    desk: &mut Desk,
+    now: u64,
+    err: &mut E,
+) -> Result<bool, Fault<'static>>
+    ensures was_kept { R.kept station.new.rows → R.kept station.old.rows }
+    ensures runs { Runs (known R.Rows N.passed F.written) (plant station.old wire.old folders.old waits.old.items) (plant station.new wire.new folders.new waits.new.items) (ended result) }
+{
+    let is_over = see_folders(folders, waits, desk, now, err);
+    ask_all(station, wire, folders, waits, desk, now, err)?;
+    Ok(is_over)
+}

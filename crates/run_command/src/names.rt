@@ -1,0 +1,91 @@
+//! What the names of the files among the offers ask for.
+
+ghost use Rattle.std.specs.Prelude.{◌≡◌, ◌++◌, ◌↔◌, IfOk, IfSome, IsTrue, codes, decimal, string_bytes};
+ghost use Rattle.run_command.specs.Asking.{kind_word};
+
+use crate::release_files::file_name;
+use ballots::Number;
+use std::alloc::{AllocError, Global};
+
+/// The file that ends a run.
+pub(crate) const STOP: &str = "stop";
+
+/// What a file asks for, by the end of its name.
+#[derive(Clone, Copy, PartialEq, Eq)]
+pub(crate) enum Kind {
+    /// Its frames are offered.
+    Tape,
+    /// The number's withdrawal is offered.
+    Withdraw,
+    /// The number's entry is sought.
+    Seek,
+}
+
+/// A number and what is asked for it.
+#[derive(Clone, Copy)]
+pub(crate) struct Request {
+    pub(crate) number: Number,
+    pub(crate) kind: Kind,
+}
+
+/// The end of the names of this kind.
+pub(crate) fn kind_word(kind: Kind) -> &'static str
+    ensures { result.now ≡ kind_word kind }
+{
+    match kind {
+        Kind::Tape => ".tape",
+        Kind::Withdraw => ".withdraw",
+        Kind::Seek => ".seek",
+    }
+}
+
+/// Whether this is the file that ends a run.
+fn is_stop(name: &str) -> bool
+    ensures { IsTrue result ↔ (name.now ≡ codes "stop") }
+{
+    name == STOP
+}
+
+/// Whether the file that ends a run is among these.
+pub(crate) fn has_stop(names: &[String]) -> bool {
+    names.iter().any(|name| is_stop(name.as_str()))
+}
+
+/// Whether a file is left alone: one that is being handed over, or the one that ends a run.
+pub(crate) fn is_left(name: &str) -> bool {
+    name.starts_with('.') || name.ends_with(".part") || is_stop(name)
+}
+
+/// The number that a name begins with, where the rest is the end of this kind.
+fn number_before(name: &str, kind: Kind) -> Option<Number> {
+    let digits = name.strip_suffix(kind_word(kind))?;
+    Number::new(digits.parse::<u32>().ok()?)
+}
+
+/// What a name asks for, if it ends as one of this kind: it has to be the very name of the number's file.
+fn named_as(alloc: Global, name: &str, kind: Kind) -> Result<Option<Request>, AllocError>
+    ensures { IfOk result (λ named. IfSome named (λ n. name.now ≡ decimal n.number ++ kind_word n.kind)) }
+{
+    let Some(number) = number_before(name, kind) else {
+        return Ok(None);
+    };
+    let own = file_name(alloc, number.get(), kind_word(kind))?;
+    if own.as_str() == name {
+        Ok(Some(Request { number, kind }))
+    } else {
+        Ok(None)
+    }
+}
+
+/// What a name asks for; `None` where it asks for nothing that there is.
+pub(crate) fn named(alloc: Global, name: &str) -> Result<Option<Request>, AllocError>
+    ensures { IfOk result (λ named. IfSome named (λ n. name.now ≡ decimal n.number ++ kind_word n.kind)) }
+{
+    for kind in [Kind::Tape, Kind::Withdraw, Kind::Seek] {
+        let found = named_as(alloc, name, kind)?;
+        if found.is_some() {
+            return Ok(found);
+        }
+    }
+    Ok(None)
+}

@@ -1,0 +1,173 @@
+//! The steps of a run: what its station takes in, sees to and is asked, and what comes of each.
+
+ghost use Rattle.std.specs.Prelude.{◌≡◌, ◌↔◌, IsTrue, OnOk, OnErr, IfErr};
+ghost use Rattle.command_ends.specs.declared.fault.Fault.TheVariants.{OutOfMemory};
+ghost use Rattle.wire.specs.Passing.{Passes};
+ghost use Rattle.serve_command.specs.Serving.{sending, ended};
+ghost use Rattle.run_command.specs.Asking.{IsOfOffer};
+ghost use Rattle.run_command.specs.Filing.{files_of};
+ghost use Rattle.run_command.specs.Keeping.{Keeps};
+ghost use Rattle.run_command.specs.Running.{known, plant, Runs};
+
+use crate::desk::Desk;
+use crate::messages::Reason;
+use crate::release_files::keep_any;
+use crate::wishes::ask;
+use command_ends::Fault;
+use folders::{Folders, Paper};
+use saved_rows::Rows;
+use serve_command::{Outcome, pass_over, send_answer, take_datagram, tell_strangers};
+use station::{Answer, Station, StepRefusal};
+use std::io::Write;
+use wire::Wire;
+
+/// Hands on what a step of the station hands out: its datagrams to the wire, and then its release to the folders.
+fn hand_on<R: Rows, N: Wire, F: Folders, E: Write>(
+    station: &Station<R>,
+    answer: &Answer,
+    wire: &mut N,
+    folders: &mut F,
+    waits: &mut Vec<Paper>,
+    desk: &mut Desk,
+    now: u64,
+    err: &mut E,
+) -> Result<(), Fault<'static>>
+    ensures sends { Passes (N.passed wire.old) (N.passed wire.new) (sending answer.now.out.items) }
+    ensures ok { OnOk result (Keeps (F.written folders.old) (F.written folders.new) waits.old.items waits.new.items (files_of answer.now.release)) }
+    ensures err { OnErr result (F.written folders.new ≡ F.written folders.old) }
+    ensures fault { IfErr result (λ fault. fault ≡ OutOfMemory) }
+{
+    send_answer(answer, wire, err);
+    if keep_any(desk.alloc, &answer.release, waits).is_err() {
+        return Err(Fault::OutOfMemory);
+    }
+    desk.write(folders, waits, err);
+    desk.take(station, folders, answer, now, err);
+    Ok(())
+}
+
+/// Takes in what comes, one datagram at most. One that the station refuses is passed over.
+fn take_in<R: Rows, N: Wire, F: Folders, E: Write>(
+    station: &mut Station<R>,
+    wire: &mut N,
+    folders: &mut F,
+    waits: &mut Vec<Paper>,
+    desk: &mut Desk,
+    now: u64,
+    buffer: &mut [u8],
+    err: &mut E,
+) -> Result<(), Fault<'static>>
+    ensures was_kept { R.kept station.new.rows → R.kept station.old.rows }
+    ensures runs { Runs (known R.Rows N.passed F.written) (plant station.old wire.old folders.old waits.old.items) (plant station.new wire.new folders.new waits.new.items) (ended result) }
+{
+    match take_datagram(station, wire, now, buffer) {
+        Outcome::Nothing => Ok(()),
+        Outcome::Failed => Err(Fault::Socket("receive failed")),
+        Outcome::Done(answer) => hand_on(station, &answer, wire, folders, waits, desk, now, err),
+        Outcome::Refused(refusal) => {
+            desk.hear_refusal(refusal, now, err);
+            pass_over(refusal)
+        }
+    }
+}
+
+/// Sees to what is due, one number at most.
+fn see_to_due<R: Rows, N: Wire, F: Folders, E: Write>(
+    station: &mut Station<R>,
+    wire: &mut N,
+    folders: &mut F,
+    waits: &mut Vec<Paper>,
+    desk: &mut Desk,
+    now: u64,
+    err: &mut E,
+) -> Result<(), Fault<'static>>
+    ensures was_kept { R.kept station.new.rows → R.kept station.old.rows }
+    ensures runs { Runs (known R.Rows N.passed F.written) (plant station.old wire.old folders.old waits.old.items) (plant station.new wire.new folders.new waits.new.items) (ended result) }
+{
+    match station.due(now) {
+        Ok(answer) => hand_on(station, &answer, wire, folders, waits, desk, now, err),
+        Err(refusal) => pass_over(refusal),
+    }
+}
+
+/// One turn, as `serve` takes it: one datagram at most, what is told of strangers, and then what is due.
+pub(crate) fn turn<R: Rows, N: Wire, F: Folders, E: Write>(
+    station: &mut Station<R>,
+    wire: &mut N,
+    folders: &mut F,
+    waits: &mut Vec<Paper>,
+    desk: &mut Desk,
+    now: u64,
+    buffer: &mut [u8],
+    err: &mut E,
+) -> Result<(), Fault<'static>>
+    ensures was_kept { R.kept station.new.rows → R.kept station.old.rows }
+    ensures runs { Runs (known R.Rows N.passed F.written) (plant station.old wire.old folders.old waits.old.items) (plant station.new wire.new folders.new waits.new.items) (ended result) }
+{
+    take_in(station, wire, folders, waits, desk, now, buffer, err)?;
+    tell_strangers(wire, now, err);
+    see_to_due(station, wire, folders, waits, desk, now, err)
+}
+
+/// Whether a refusal is of what is offered, so that it would be refused ever again.
+fn is_of_offer(refusal: StepRefusal) -> bool
+    ensures { IsTrue result ↔ IsOfOffer refusal }
+{
+    matches!(
+        refusal,
+        StepRefusal::BadNumber
+            | StepRefusal::WireTooOld
+            | StepRefusal::TapeFaulty(_)
+            | StepRefusal::RoundsSpent
+    )
+}
+
+/// What becomes of a file for which the station did not take the step: its number is settled already, or it waits, or it is no
+/// offer.
+fn take_refusal<F: Folders, E: Write>(
+    folders: &mut F,
+    desk: &mut Desk,
+    place: usize,
+    refusal: StepRefusal,
+    now: u64,
+    err: &mut E,
+)
+    ensures { F.written folders.new ≡ F.written folders.old }
+{
+    match refusal {
+        StepRefusal::AlreadyReleased => desk.settle_late(folders, place, now, err),
+        _ if is_of_offer(refusal) => {
+            desk.refuse_at(folders, place, Reason::Step(refusal), now, err);
+        }
+        _ => desk.put_off(place, now),
+    }
+}
+
+/// Asks the station what the file at a place asks for, if it is time to.
+pub(crate) fn ask_at<R: Rows, N: Wire, F: Folders, E: Write>(
+    station: &mut Station<R>,
+    wire: &mut N,
+    folders: &mut F,
+    waits: &mut Vec<Paper>,
+    desk: &mut Desk,
+    place: usize,
+    now: u64,
+    err: &mut E,
+) -> Result<(), Fault<'static>>
+    ensures was_kept { R.kept station.new.rows → R.kept station.old.rows }
+    ensures runs { Runs (known R.Rows N.passed F.written) (plant station.old wire.old folders.old waits.old.items) (plant station.new wire.new folders.new waits.new.items) (ended result) }
+{
+    let Some(asked) = desk.due_at(place, now) else {
+        return Ok(());
+    };
+    match ask(station, &asked.wish, asked.number.get(), now) {
+        Ok(answer) => {
+            desk.set_out(place);
+            hand_on(station, &answer, wire, folders, waits, desk, now, err)
+        }
+        Err(refusal) => {
+            take_refusal(folders, desk, place, refusal, now, err);
+            pass_over(refusal)
+        }
+    }
+}

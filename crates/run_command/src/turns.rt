@@ -1,0 +1,140 @@
+//! The command `run`: the turns of a station that stays up, until a file says that it ends.
+
+ghost use Rattle.std.specs.Prelude.{◌≡◌, [], List, false};
+ghost use Rattle.command_ends.specs.declared.end.End.TheVariants.{Done};
+ghost use Rattle.folders.specs.Written.{File};
+ghost use Rattle.serve_command.specs.Serving.{ended};
+ghost use Rattle.run_command.specs.Running.{known, plant, Runs};
+
+use crate::desk::Desk;
+use crate::look::look;
+use crate::names::STOP;
+use crate::steps::turn;
+use command_ends::{End, Fault};
+use folders::{Folders, Paper};
+use saved_rows::Rows;
+use serve_command::BUFFER;
+use station::{Station, StepRefusal};
+use std::alloc::Global;
+use std::io::Write;
+use wire::Wire;
+
+/// One turn, and a look at the folders where it is time for one; whether the run ends well.
+fn turn_and_look<R: Rows, N: Wire, F: Folders, E: Write>(
+    station: &mut Station<R>,
+    wire: &mut N,
+    folders: &mut F,
+    waits: &mut Vec<Paper>,
+    desk: &mut Desk,
+    now: u64,
+    buffer: &mut [u8],
+    err: &mut E,
+) -> Result<bool, Fault<'static>>
+    ensures was_kept { R.kept station.new.rows → R.kept station.old.rows }
+    ensures runs { Runs (known R.Rows N.passed F.written) (plant station.old wire.old folders.old waits.old.items) (plant station.new wire.new folders.new waits.new.items) (ended result) }
+{
+    turn(station, wire, folders, waits, desk, now, buffer, err)?;
+    if desk.looks(now) {
+        look(station, wire, folders, waits, desk, now, err)
+    } else {
+        Ok(false)
+    }
+}
+
+/// The same, at the moment of the clock.
+fn timed_turn<R: Rows, N: Wire, F: Folders, E: Write>(
+    station: &mut Station<R>,
+    wire: &mut N,
+    folders: &mut F,
+    waits: &mut Vec<Paper>,
+    desk: &mut Desk,
+    buffer: &mut [u8],
+    err: &mut E,
+) -> Result<bool, Fault<'static>>
+    ensures was_kept { R.kept station.new.rows → R.kept station.old.rows }
+    ensures runs { Runs (known R.Rows N.passed F.written) (plant station.old wire.old folders.old waits.old.items) (plant station.new wire.new folders.new waits.new.items) (ended result) }
+{
+    let now = wire.now();
+    turn_and_look(station, wire, folders, waits, desk, now, buffer, err)
+}
+
+/// The turns of a station, one after the other, until the run ends.
+fn take_turns<R: Rows, N: Wire, F: Folders, E: Write>(
+    station: &mut Station<R>,
+    wire: &mut N,
+    folders: &mut F,
+    waits: &mut Vec<Paper>,
+    desk: &mut Desk,
+    buffer: &mut [u8],
+    err: &mut E,
+) -> Result<bool, Fault<'static>>
+    ensures was_kept { R.kept station.new.rows → R.kept station.old.rows }
+    ensures runs { Runs (known R.Rows N.passed F.written) (plant station.old wire.old folders.old waits.old.items) (plant station.new wire.new folders.new waits.new.items) (ended result) }
+{
+    for _ in 0..u64::MAX {
+        if timed_turn(station, wire, folders, waits, desk, buffer, err)? {
+            return Ok(true);
+        }
+    }
+    Ok(false)
+}
+
+/// The same, once a file that ended the run before is taken away.
+fn start<R: Rows, N: Wire, F: Folders, E: Write>(
+    alloc: Global,
+    station: &mut Station<R>,
+    wire: &mut N,
+    folders: &mut F,
+    waits: &mut Vec<Paper>,
+    quiet: bool,
+    buffer: &mut [u8],
+    err: &mut E,
+) -> Result<bool, Fault<'static>>
+    ensures was_kept { R.kept station.new.rows → R.kept station.old.rows }
+    ensures runs { Runs (known R.Rows N.passed F.written) (plant station.old wire.old folders.old waits.old.items) (plant station.new wire.new folders.new waits.new.items) (ended result) }
+{
+    let _ = folders.remove(alloc, STOP);
+    let mut desk = Desk::new(alloc, quiet);
+    take_turns(station, wire, folders, waits, &mut desk, buffer, err)
+}
+
+/// Runs a station over the folders of its plant, until a file `stop` lies among the offers, or the station stops, the network
+/// fails, or there is no memory for the files of a release; `err` has the fault. A file `stop` that lies there at the start is
+/// taken away. The buffer for what comes is made before the first turn.
+///
+/// What the station hands out is sent, what it releases is written among the releases, or waits to be where the folder does
+/// not take it. What lies among the offers is taken up once it is whole, and leaves them once its number is released, or
+/// where it is no offer. A folder that does not serve is told, and the station goes on.
+pub fn run_station<R: Rows, N: Wire, F: Folders, E: Write>(
+    alloc: Global,
+    station: &mut Station<R>,
+    wire: &mut N,
+    folders: &mut F,
+    quiet: bool,
+    err: &mut E,
+) -> End
+    ensures was_kept { R.kept station.new.rows → R.kept station.old.rows }
+    ensures runs { (waits : List File) × Runs (known R.Rows N.passed F.written) (plant station.old wire.old folders.old []) (plant station.new wire.new folders.new waits) result }
+    ensures goes_on { result ≡ Done → station.new.stopped ≡ false }
+{
+    if station.stopped() {
+        return Fault::of_step(StepRefusal::Stopped).tell(err);
+    }
+    let Ok(mut buffer) = vec![in alloc; 0u8; BUFFER] else {
+        return Fault::OutOfMemory.tell(err);
+    };
+    let mut waits = Vec::new(alloc);
+    match start(
+        alloc,
+        station,
+        wire,
+        folders,
+        &mut waits,
+        quiet,
+        &mut buffer,
+        err,
+    ) {
+        Ok(_) => End::Done,
+        Err(fault) => fault.tell(err),
+    }
+}

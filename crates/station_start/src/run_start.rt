@@ -1,0 +1,84 @@
+//! The command `run`.
+
+ghost use Rattle.configuration.specs.Stations.{IsCircuit};
+
+use crate::host::{Host, ThisHost};
+use crate::start_up::{Started, start};
+use command_ends::End;
+use configuration::{Config, Folders, read_config};
+use folders::NoFolders;
+use host_folders::HostFolders;
+use row_files::{RowFiles, close_rows};
+use run_command::run_station;
+use saved_rows::Rows;
+use station::Station;
+use std::io::Write;
+use tape_frames::Version;
+use wire::Wire;
+
+/// Runs a station over the folders at these paths; one that has none only votes.
+fn run_over<R: Rows, N: Wire, E: Write>(
+    rt: &HostRuntime,
+    station: &mut Station<R>,
+    wire: &mut N,
+    paths: Option<Folders>,
+    quiet: bool,
+    err: &mut E,
+) -> End {
+    match paths {
+        Some(Folders { offers, releases }) => {
+            let mut folders = HostFolders::new(rt, offers, releases);
+            run_station(rt.alloc(), station, wire, &mut folders, quiet, err)
+        }
+        None => run_station(rt.alloc(), station, wire, &mut NoFolders, quiet, err),
+    }
+}
+
+/// Starts the station of a configuration, and runs it over these folders; at a good end its rows are closed.
+fn run_from<F: RowFiles, E: Write>(
+    rt: &HostRuntime,
+    making: Option<Version>,
+    config: Config,
+    paths: Option<Folders>,
+    quiet: bool,
+    row_files: &F,
+    err: &mut E,
+) -> End
+    requires { IsCircuit config.member config.stations.items }
+{
+    let host = ThisHost { rt };
+    let Started {
+        mut station,
+        mut wire,
+        offer: _,
+    } = match start(rt, &host, row_files, config, making, None, err) {
+        Ok(started) => started,
+        Err(end) => return end,
+    };
+    let end = run_over(rt, &mut station, &mut wire, paths, quiet, err);
+    close_rows(row_files, station.into_rows(), end, err)
+}
+
+/// Runs the station of the configuration at a path until it is stopped, with its rows saved in one of the files, made in a
+/// version first where one is given. Where `quiet` is set faults alone are told.
+///
+/// What it starts from is looked for in this order, and the first fault ends it: the configuration, the code table, the
+/// widths, the saved rows, the socket. After a good end the rows are closed.
+pub fn run<F: RowFiles, E: Write>(
+    rt: &HostRuntime,
+    config: &str,
+    making: Option<Version>,
+    quiet: bool,
+    row_files: &F,
+    err: &mut E,
+) -> End {
+    let host = ThisHost { rt };
+    let mut input = host.open(config);
+    match read_config(rt.alloc(), &mut input, config, err) {
+        Ok(mut config) => {
+            let paths = config.folders.take();
+            run_from(rt, making, config, paths, quiet, row_files, err)
+        }
+        Err(end) => end,
+    }
+}
