@@ -6,7 +6,7 @@ use Rattle.sqlite.specs.declared.FileStore.{FileStore}
 use Rattle.sqlite.specs.Closing.{IsCopied}
 use Rattle.sqlite.specs.Effect.{Database}
 use Rattle.sqlite.specs.Files.{file_state, over_files}
-use Rattle.acceptor_store.specs.Columns.{saved_in}
+use Rattle.row_columns.specs.Columns.{saved_in}
 use Rattle.acceptor_store.specs.Files.{HoldsRowsAlone}
 use Rattle.acceptor_store.specs.Sqlite.{SqliteOf, IsOfStation, Stands, rows_layout}
 

@@ -1,12 +1,10 @@
 pub mod ColumnLemmas
-pub mod EntryColumnLemmas
-pub mod FitLemmas
 pub mod ListLemmas
 pub mod MovingLemmas
 pub mod IdentityLemmas
 pub mod StandLemmas
 pub mod UpgradeLemmas
-pub mod LayoutLemmas
+pub mod OpeningLemmas
 mod ClosingLemmas
 mod TableLemmas
 mod RestartLemmas

@@ -12,10 +12,9 @@ use Rattle.row_table.specs.Tables.Layout.{First, Second}
 use Rattle.row_table.specs.Rows.{whole, columns_at}
 use Rattle.row_table.specs.Rising.{key_of, is_above, is_at, goes_on, rise_from, listed_columns, listed_at, IsInTable, AreListed}
 use Rattle.protocol.specs.Rows.{Row, blank}
-use Rattle.saved_rows.specs.Saved.{saved_by, RiseFrom, IsListOf}
-use Rattle.acceptor_store.specs.Columns.{row_in, is_number, damage_of, first_of, damage_in, item_in, row_or_blank, whole_in, IsSound, AreSound}
+use Rattle.saved_rows.specs.Saved.{HasPromise, saved_by, RiseFrom, IsListOf}
+use Rattle.row_columns.specs.Columns.{row_in, is_number, damage_of, first_of, damage_in, item_in, row_or_blank, whole_in, IsSound, AreSound}
 use Rattle.acceptor_store.proofs.ColumnLemmas.{ranged}
-use Rattle.acceptor_store.proofs.FitLemmas.{items_promise}
 
 split : (a b : Bool) → (a && b) ≡ true → (a ≡ true) × (b ≡ true)
 split true b e = (refl, e)
@@ -127,10 +126,10 @@ module _ (layout : Layout) where
       rw (item_is r it) (above_low last it.number it.low (subst (λ n. is_above last n ≡ true) same g.above), subst (λ n. RiseFrom n (filter_map (item_in layout) rs)) same more)
 
   pub lists : (table rows : List Columns) (saved : ℕ → Row) → ((n : ℕ) → saved n ≡ row_or_blank layout (columns_at layout table n)) → AreListed layout table rows → rise_from None rows ≡ true → damage_in layout rows ≡ None
-      → IsListOf saved (filter_map (item_in layout) rows)
-  lists table rows saved is listed rises none = record {
+      → AllByRecursion (λ (p : ℕ × Row). HasPromise p.1) (filter_map (item_in layout) rows) → IsListOf saved (filter_map (item_in layout) rows)
+  lists table rows saved is listed rises none promised = record {
     rise = rise_all None rows rises none;
-    promised = items_promise layout rows;
+    promised = promised;
     same = λ n. same_map None rows rises none n ∙ ap (row_or_blank layout) (sym (listed.found n)) ∙ sym (is n);
   }
 

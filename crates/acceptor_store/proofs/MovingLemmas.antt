@@ -18,7 +18,7 @@ use Rattle.row_table.specs.declared.entries.EntryColumns.{EntryColumns}
 use Rattle.row_table.proofs.KeyLemmas.{find_new, find_other, once_put}
 use Rattle.protocol.specs.Rows.{Row, blank}
 use Rattle.saved_rows.specs.Saved.{HasPromise, saved_by, RiseFrom}
-use Rattle.acceptor_store.specs.Columns.{columns_for, row_or_blank, saved_at, AreSound}
+use Rattle.row_columns.specs.Columns.{columns_for, row_or_blank, saved_at, AreSound}
 use Rattle.acceptor_store.specs.Moving.{IsEntryOf, AreEntriesOf, MovesMap}
 use Rattle.acceptor_store.proofs.ColumnLemmas.{puts_row, puts_sound}
 

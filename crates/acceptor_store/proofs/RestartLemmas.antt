@@ -27,9 +27,10 @@ use Rattle.saved_rows.specs.contracts.identity.Identity as identity
 use Rattle.saved_rows.specs.Saved.{Saved, IsEither}
 use Rattle.saved_rows.specs.declared.identity.Identity.{Identity}
 use Rattle.protocol.specs.Versions.{Version, One, Two}
-use Rattle.acceptor_store.specs.Columns.{version_in, saved_in}
-use Rattle.acceptor_store.specs.StationRow.{IsStationOf}
-use Rattle.acceptor_store.specs.Sqlite.{SqliteOf, layout_code, layout_now, rows_layout, rows_version, IsOurs, IsOfStation, saved_of}
+use Rattle.row_columns.specs.Layouts.{layout_now}
+use Rattle.row_columns.specs.Columns.{version_in, saved_in}
+use Rattle.row_columns.specs.StationRow.{IsStationOf}
+use Rattle.acceptor_store.specs.Sqlite.{SqliteOf, layout_code, rows_layout, rows_version, IsOurs, IsOfStation, saved_of}
 use Rattle.acceptor_store.specs.Files.{IsTakenUp}
 use Rattle.acceptor_store.specs.Restarts.{GivesUp, AreOpenedFrom, AreTorn, OpensWhatIsLeft, PutOutlivesCrash, UpgradeOutlivesCrash, CreateOutlivesCrash}
 use Rattle.acceptor_store.proofs.IdentityLemmas.{added}

@@ -17,9 +17,10 @@ use Rattle.saved_rows.specs.declared.identity.Identity.{Identity}
 use Rattle.saved_rows.specs.Identity.{IsIdentity}
 use Rattle.sqlite_trees.specs.Objects.{catalog_tree}
 use Rattle.sqlite_catalog.specs.Listing.{Lists as ListsTables}
-use Rattle.acceptor_store.specs.StationRow.{station_in}
-use Rattle.acceptor_store.specs.Columns.{row_or_blank, columns_for, saved_in, ComesBack}
-use Rattle.acceptor_store.specs.Sqlite.{layout_now, HoldsRows, IsOfStation, HoldsAll, Stands}
+use Rattle.row_columns.specs.Layouts.{layout_now}
+use Rattle.row_columns.specs.StationRow.{station_in}
+use Rattle.row_columns.specs.Columns.{row_or_blank, columns_for, saved_in, ComesBack}
+use Rattle.acceptor_store.specs.Sqlite.{HoldsRows, IsOfStation, HoldsAll, Stands}
 use Rattle.acceptor_store.proofs.ColumnLemmas.{stays_sound, stays_station}
 use Rattle.acceptor_store.proofs.IdentityLemmas.{added}
 

@@ -6,7 +6,7 @@ use Rattle.saved_rows.specs.declared.fault.RowsFault.{RowsFault}
 use Rattle.saved_rows.specs.declared.fault.RowsFault.TheVariants.{Store}
 use Rattle.acceptor_store.specs.declared.faults.FileFault.{FileFault}
 use Rattle.acceptor_store.specs.declared.faults.FileFault.TheVariants as faults
-use Rattle.acceptor_store.specs.Layouts.{layout_in}
+use Rattle.row_columns.specs.Layouts.{layout_in}
 
 -- as a fault of rows it is that of the rows in the file, or a refused store
 abbrev pub rows_fault : FileFault → RowsFault

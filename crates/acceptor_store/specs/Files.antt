@@ -16,8 +16,8 @@ use Rattle.row_table.specs.Tables.{Layout, layout_schema, no_schema}
 use Rattle.saved_rows.specs.Saved.{SameRows}
 use Rattle.saved_rows.specs.declared.identity.Identity.{Identity}
 use Rattle.saved_rows.specs.declared.fault.RowsFault.{RowsFault}
-use Rattle.acceptor_store.specs.Columns.{saved_in}
-use Rattle.acceptor_store.specs.StationRow.{IsStationOf}
+use Rattle.row_columns.specs.Columns.{saved_in}
+use Rattle.row_columns.specs.StationRow.{IsStationOf}
 use Rattle.acceptor_store.specs.Sqlite.{SqliteOf, IsOurs, IsOfStation, rows_layout, saved_of, RefusesToOpen}
 use Rattle.acceptor_store.specs.Faults.{has_tables}
 

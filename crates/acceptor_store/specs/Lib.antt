@@ -1,10 +1,7 @@
 pub use Rattle.saved_rows.specs.Saved
 pub use Rattle.saved_rows.specs.Memory
 pub use Rattle.saved_rows.specs.Identity
-pub mod Layouts
-pub mod Columns
 pub mod Moving
-pub mod StationRow
 pub mod Sqlite
 pub mod Faults
 pub mod Files

@@ -9,7 +9,7 @@ use Rattle.row_table.specs.Entries.{entry_row, with_entries}
 use Rattle.row_table.specs.declared.entries.EntryColumns.{EntryColumns}
 use Rattle.protocol.specs.Rows.{Row}
 use Rattle.saved_rows.specs.Saved.{Saved, SameRows, IsListOf}
-use Rattle.acceptor_store.specs.Columns.{columns_for, ComesBack, saved_at, AreSound}
+use Rattle.row_columns.specs.Columns.{columns_for, ComesBack, saved_at, AreSound}
 
 -- an entry is a circuit number with its row, in the columns of layout 2, out of which the row comes back
 pub record IsEntryOf (item : ℕ × Row) (entry : EntryColumns) : Type 0 where

@@ -18,7 +18,7 @@ use Rattle.protocol.specs.Circuit.{MayLeave as MayLeaveTorn, Torn_by_store}
 use Rattle.saved_rows.specs.Saved.{Saved, SameRows, IsEither}
 use Rattle.saved_rows.specs.Identity.{IsIdentity}
 use Rattle.saved_rows.specs.declared.identity.Identity.{Identity}
-use Rattle.acceptor_store.specs.StationRow.{stored_station}
+use Rattle.row_columns.specs.StationRow.{stored_station}
 use Rattle.acceptor_store.specs.Sqlite.{SqliteOf, IsOurs, rows_layout, rows_version, saved_of, MayLeave, LeavesStation, LeavesAll}
 use Rattle.acceptor_store.specs.Files.{TakesItsOwn, IsTakenUp}
 

@@ -15,14 +15,15 @@ use Rattle.row_table.specs.Tables.Layout.{First, Second}
 use Rattle.row_table.specs.Tables.Origin.{Created, Upgraded}
 use Rattle.row_table.specs.Rows.{Serves, IsListing}
 use Rattle.row_table.specs.Rising.{rise_from}
-use Rattle.protocol.specs.Versions.{Version, One, Two}
+use Rattle.protocol.specs.Versions.{Version}
 use Rattle.saved_rows.specs.contracts.identity.Identity as identity
 use Rattle.saved_rows.specs.declared.identity.Identity.{Identity}
 use Rattle.saved_rows.specs.declared.fault.RowsFault.{RowsFault}
 use Rattle.saved_rows.specs.declared.fault.RowsFault.TheVariants.{Store, WrongStation, WrongSchema, Damaged, OutOfMemory}
-use Rattle.acceptor_store.specs.StationRow.{IsStationOf}
+use Rattle.row_columns.specs.StationRow.{IsStationOf}
 use Rattle.saved_rows.specs.Saved.{Saved, SameRows}
-use Rattle.acceptor_store.specs.Columns.{version_in, saved_in, AreSound, damage_in}
+use Rattle.row_columns.specs.Layouts.{layout_now}
+use Rattle.row_columns.specs.Columns.{version_in, saved_in, AreSound, damage_in}
 
 -- rows in a database, as clauses see them
 pub record SqliteOf (S : Type 0) : Type 0 where
@@ -80,17 +81,6 @@ sqlite_code {S} store =
       refusals = p.1.1.1.1.1.1.1;
     })
     (λ _. refl)
-
--- the layout now: that which was found or made, until it is upgraded
-abbrev pub layout_now : Layout → Bool → Layout
-layout_now First false = First
-layout_now First true = Second Upgraded
-layout_now (Second origin) upgraded = Second origin
-
--- the layout that rows of a version are made in
-abbrev pub made_in : Version → Layout
-made_in One = First
-made_in Two = Second Created
 
 -- the layout that the rows are in
 abbrev pub rows_layout : {S : Type 0} → SqliteOf S → Layout

@@ -8,7 +8,7 @@ ghost use Rattle.tape_frames.specs.Entries.{version_of};
 ghost use Rattle.row_table.specs.Tables.{no_schema};
 ghost use Rattle.row_table.specs.Rows.{Serves};
 ghost use Rattle.row_table.specs.Station.{HoldsNone, WasMade};
-ghost use Rattle.acceptor_store.specs.Sqlite.{made_in};
+ghost use Rattle.row_columns.specs.Layouts.{made_in};
 
 use row_table::{create_entry_tables, create_tables};
 use saved_rows::Identity;

@@ -2,21 +2,17 @@
 #![tactic(auto)]
 
 mod closing;
-mod columns;
 mod creating;
-mod entry_columns;
 mod faults;
 mod files;
 mod finding;
 pub mod laws;
-mod layout;
 mod moving;
 mod paths;
 mod queries;
 mod restarts;
 mod sqlite_rows;
 mod statements;
-mod station_row;
 mod taking_up;
 mod upgrading;
 

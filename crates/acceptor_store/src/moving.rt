@@ -5,8 +5,8 @@ ghost use Rattle.std.specs.List.{AllByRecursion};
 ghost use Rattle.saved_rows.specs.Saved.{HasPromise};
 ghost use Rattle.acceptor_store.specs.Moving.{AreEntriesOf, MovesMap};
 
-use crate::entry_columns::entry_columns_for;
 use ballots::{Number, Row};
+use row_columns::entry_columns_for;
 use row_table::EntryColumns;
 use std::alloc::{AllocError, Global};
 

@@ -10,7 +10,7 @@ ghost use Rattle.saved_rows.specs.Identity.{IsIdentity};
 ghost use Rattle.acceptor_store.specs.Sqlite.{IsOurs, Agrees, rows_version, saved_of};
 
 use crate::faults::{FileFault, file_fault_of};
-use crate::finding::{has_none, has_tables};
+use crate::finding::{has_none, test_unmade};
 use crate::sqlite_rows::SqliteRows;
 use saved_rows::Identity;
 use sqlite::{Connection, FileFrom, FileStore, Start};
@@ -74,9 +74,7 @@ impl<T: Start> SqliteRows<FileStore<FileFrom<T>>> {
             Ok(conn) => conn,
             Err((error, _)) => return Err(file_fault_of(&error)),
         };
-        if has_tables(conn.schema()) {
-            return Err(FileFault::Made);
-        }
+        test_unmade(conn.schema())?;
         match SqliteRows::create(rt.alloc(), conn, identity, version) {
             Ok(rows) => Ok(rows),
             Err((fault, _)) => Err(FileFault::Rows(fault)),

@@ -6,9 +6,9 @@ ghost use Rattle.sqlite.specs.State.{HasCleanDisk, IsUnchanged};
 ghost use Rattle.sqlite.specs.Held.{state};
 ghost use Rattle.row_table.specs.Tables.{layout_tree, layout_schema};
 ghost use Rattle.row_table.specs.Rows.{columns_at, Serves, WasKept, IsListing, AreRows};
-ghost use Rattle.acceptor_store.specs.Layouts.{layout_of};
+ghost use Rattle.row_columns.specs.Layouts.{layout_of};
 
-use crate::layout::Layout;
+use row_columns::Layout;
 use row_table::{all_entries, all_rows, get_entry, get_row};
 use sqlite::{Alter, Connection, Error, Row};
 

@@ -9,16 +9,17 @@ ghost use Rattle.row_table.specs.Tables.{Layout as Tables, no_schema, layout_sch
 ghost use Rattle.row_table.specs.Station.{HoldsNone};
 ghost use Rattle.saved_rows.specs.Identity.{IsIdentity};
 ghost use Rattle.protocol.specs.Versions.{Two};
-ghost use Rattle.acceptor_store.specs.StationRow.{IsStationOf};
-ghost use Rattle.acceptor_store.specs.Sqlite.{rows_layout, rows_version, made_in, layout_now};
+ghost use Rattle.row_columns.specs.StationRow.{IsStationOf};
+ghost use Rattle.row_columns.specs.Layouts.{layout_now, made_in};
+ghost use Rattle.acceptor_store.specs.Sqlite.{rows_layout, rows_version};
 ghost use Rattle.saved_rows.specs.Saved.{SameRows, WithRow, IsEither, IsListOf, HasPromise, RowFits, AreFitting, Rises};
 
 use crate::creating::make_tables;
-use crate::layout::{Layout, layout_now, made_in, version_in};
 use crate::statements::{fault_of, list, read, save};
 use crate::taking_up::take_up;
 use crate::upgrading::go_over;
 use ballots::{Number, Row};
+use row_columns::{Layout, layout_now, made_in, version_in};
 use saved_rows::{Identity, Rows, RowsFault};
 use sqlite::{Alter, Connection};
 use sqlite_schema::schema::Schema;
@@ -54,7 +55,7 @@ pub struct SqliteRows<S: Alter + Drop> {
 
 impl<S: Alter + Drop> Model for SqliteRows<S> {
     ghost use Rattle.acceptor_store.specs.Sqlite.{SqliteOf, sqlite_code, IsServing};
-    ghost use Rattle.acceptor_store.specs.Layouts.{layout_of};
+    ghost use Rattle.row_columns.specs.Layouts.{layout_of};
 
     ghost Value = { SqliteOf S };
 
@@ -75,7 +76,7 @@ fn is_empty(schema: &Schema) -> bool
 
 impl<S: Alter + Drop> SqliteRows<S> {
     ghost use Rattle.acceptor_store.specs.Sqlite.{IsKept, IsOpen, IsOurs, Stands, saved_of, MayLeave, IsRefusal, RefusesToOpen, Agrees};
-    ghost use Rattle.acceptor_store.specs.Columns.{saved_in};
+    ghost use Rattle.row_columns.specs.Columns.{saved_in};
     ghost use Rattle.sqlite.specs.Held.{state};
 
     /// Makes the two tables of this version's layout in one transaction: the empty map of this station.

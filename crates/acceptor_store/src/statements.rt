@@ -10,15 +10,13 @@ ghost use Rattle.row_table.specs.Tables.Layout.{First, Second};
 ghost use Rattle.row_table.specs.Rows.{Serves, SavesIn, WasSaved, WasKept};
 ghost use Rattle.protocol.specs.Versions.{One};
 ghost use Rattle.saved_rows.specs.Saved.{HasPromise, RowFits, AreFitting, IsListOf};
-ghost use Rattle.acceptor_store.specs.Columns.{version_in, columns_for, saved_in, AreSound, ComesBack};
-ghost use Rattle.acceptor_store.specs.Layouts.{layout_of};
+ghost use Rattle.row_columns.specs.Columns.{version_in, columns_for, saved_in, AreSound, ComesBack};
+ghost use Rattle.row_columns.specs.Layouts.{layout_of};
 ghost use Rattle.acceptor_store.specs.Sqlite.{IsRefusal};
 
-use crate::columns::{columns_for, damage_in, items_in, row_in};
-use crate::entry_columns::entry_columns_for;
-use crate::layout::Layout;
 use crate::queries::{find, find_all};
 use ballots::{Number, Row};
+use row_columns::{Layout, columns_for, damage_in, entry_columns_for, items_in, row_in};
 use row_table::{are_rising, put_entry, put_row};
 use saved_rows::RowsFault;
 use sqlite::{Alter, Connection, Error, ErrorCode};

@@ -9,15 +9,15 @@ ghost use Rattle.row_table.specs.Tables.Layout.{First, Second};
 ghost use Rattle.row_table.specs.Rows.{WasKept};
 ghost use Rattle.row_table.specs.Entries.{with_entries};
 ghost use Rattle.saved_rows.specs.declared.identity.Identity.{Identity};
-ghost use Rattle.acceptor_store.specs.Layouts.{layout_of};
-ghost use Rattle.acceptor_store.specs.Columns.{saved_in};
+ghost use Rattle.row_columns.specs.Layouts.{layout_of};
+ghost use Rattle.row_columns.specs.Columns.{saved_in};
 ghost use Rattle.acceptor_store.specs.Moving.{HoldsMap};
 ghost use Rattle.acceptor_store.specs.Sqlite.{HoldsAll, Stands, WentOver, IsRefusal};
 
-use crate::layout::Layout;
 use crate::moving::entries_for;
 use crate::queries::find;
 use crate::statements::{fault_of, list};
+use row_columns::Layout;
 use row_table::{EntryColumns, upgrade_tables};
 use saved_rows::RowsFault;
 use sqlite::{Alter, Connection};

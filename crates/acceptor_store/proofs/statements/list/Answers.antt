@@ -1,11 +1,11 @@
-use Rattle.std.proofs.Common.{rules, ◌≡◌, true, Some, None, IsTrue, sym, ◌∙◌, subst, refl}
-use Rattle.std.specs.List.{filter_map}
+use Rattle.std.proofs.Common.{rules, ◌≡◌, ℕ, true, Some, None, IsTrue, sym, ◌∙◌, subst, refl}
+use Rattle.std.specs.List.{AllByRecursion, filter_map}
 use Rattle.row_table.specs.Tables.{layout_tree}
 use Rattle.row_table.specs.Rising.{rise_from, AreListed}
-use Rattle.acceptor_store.specs.Columns.{damage_in, item_in, saved_in, version_in}
-use Rattle.acceptor_store.specs.Layouts.{layout_of}
-use Rattle.saved_rows.specs.Saved.{AreFitting, IsListOf}
-use Rattle.acceptor_store.proofs.FitLemmas.{items_fit}
+use Rattle.row_columns.specs.Columns.{damage_in, item_in, saved_in}
+use Rattle.row_columns.specs.Layouts.{layout_of}
+use Rattle.protocol.specs.Rows.{Row}
+use Rattle.saved_rows.specs.Saved.{HasPromise, IsListOf}
 use Rattle.acceptor_store.proofs.ListLemmas.{lists, no_damage}
 use Rattle.acceptor_store.proofs.statements.list.Goals as goal
 
@@ -33,11 +33,5 @@ returns-in-Ok-items_in-clause-listed g c serves clean =
     let went : IsTrue c.are_rising.result = search rules in
     let listed : AreListed layout table rows = (rw c.as_slice.ensures.value at c.are_rising.ensures.table) went layout table (c.in-Ok.ensures.listed clean has) in
     let items : c.in-Ok-items_in.items.items ≡ filter_map (item_in layout) rows = search rules in
-    subst (IsListOf (saved_in layout trees)) (sym items) (lists layout table rows (saved_in layout trees) (λ n. refl) listed rises none)
-
-pub returns-in-Ok-items_in-clause-fits : goal.returns-in-Ok-items_in-clause-fits
-returns-in-Ok-items_in-clause-fits g c =
-    let layout = layout_of c.args.layout in
-    let rows = c.in-Ok.rows.items in
-    let items : c.in-Ok-items_in.items.items ≡ filter_map (item_in layout) rows = search rules in
-    subst (AreFitting (version_in layout)) (sym items) (items_fit layout rows)
+    let promised : AllByRecursion (λ (p : ℕ × Row). HasPromise p.1) c.in-Ok-items_in.items.items = search rules in
+    subst (IsListOf (saved_in layout trees)) (sym items) (lists layout table rows (saved_in layout trees) (λ n. refl) listed rises none (subst (AllByRecursion (λ (p : ℕ × Row). HasPromise p.1)) items promised))

@@ -3,9 +3,9 @@ use Rattle.std.specs.Prelude.{option_to_list}
 use Rattle.sqlite_value.specs.Order.{Row as Columns}
 use Rattle.row_table.specs.Tables.{layout_tree}
 use Rattle.row_table.specs.Rows.{columns_at}
-use Rattle.acceptor_store.specs.Layouts.{layout_of}
+use Rattle.row_columns.specs.Layouts.{layout_of}
 use Rattle.protocol.specs.Rows.{blank}
-use Rattle.acceptor_store.specs.Columns.{row_in, row_or_blank}
+use Rattle.row_columns.specs.Columns.{row_in, row_or_blank}
 use Rattle.acceptor_store.proofs.statements.read.Goals as goal
 
 popped : (o : Option Columns) (rest : List Columns) (c : Columns) → option_to_list o ≡ rest ++ c ∷ [] → o ≡ Some c
@@ -20,7 +20,7 @@ returns-in-Ok-None-clause-refusal g c serves clean sound =
     let here : columns_at layout ((g.S.Store.view c.args.conn.now.store).trees (layout_tree layout)) c.args.number ≡ Some c.in-Some.columns =
     popped _ c.pop.new.self.items c.in-Some.columns (sym found ∙ c.in-Some.ensures.items) in
     let was = (c.find.ensures.same serves clean (c.in-Ok.ensures.open serves clean)).was_open in
-    let none : row_in layout 0 c.in-Some.columns ≡ None = sym c.in-Ok-None.ensures ∙ c.in-Ok-None.field-0-is in
+    let none : row_in layout 0 c.in-Some.columns ≡ None = sym c.in-Ok-None.ensures.row ∙ c.in-Ok-None.field-0-is in
     absurd (true≢false (sym (sound was c.args.number c.in-Some.columns here).row ∙ ap is_some none))
 
 pub returns-in-Ok-Some-clause-row : goal.returns-in-Ok-Some-clause-row

@@ -1,4 +1,4 @@
-use Rattle.acceptor_store.specs.Layouts.{layout_of}
+use Rattle.row_columns.specs.Layouts.{layout_of}
 use Rattle.acceptor_store.proofs.taking_up.take_station.Goals as goal
 
 pub returns-in_err-number-clause-leaves : goal.returns-in_err-number-clause-leaves

@@ -4,11 +4,11 @@ use Rattle.sqlite.specs.Effect.{Database}
 use Rattle.sqlite.specs.Held.{state}
 use Rattle.sqlite.specs.State.{HasCleanDisk, IsUnchanged}
 use Rattle.row_table.specs.Tables.{Layout, layout_tree, layout_schema}
-use Rattle.acceptor_store.specs.Columns.{AreSound}
-use Rattle.acceptor_store.specs.Layouts.{layout_of}
+use Rattle.row_columns.specs.Columns.{AreSound}
+use Rattle.row_columns.specs.Layouts.{layout_of}
 use Rattle.acceptor_store.specs.Sqlite.{RefusesRows}
-use Rattle.acceptor_store.specs.StationRow.{IsStationOf}
-use Rattle.acceptor_store.proofs.LayoutLemmas.{refuses_to_open}
+use Rattle.row_columns.specs.StationRow.{IsStationOf}
+use Rattle.acceptor_store.proofs.OpeningLemmas.{refuses_to_open}
 use Rattle.acceptor_store.proofs.taking_up.take_up.Goals as goal
 
 pub returns-clause-holds : goal.returns-clause-holds

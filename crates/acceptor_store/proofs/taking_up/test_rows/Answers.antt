@@ -1,8 +1,8 @@
 use Rattle.std.proofs.Common.{rules, ◌≡◌, true, None}
 use Rattle.row_table.specs.Rising.{rise_from, AreListed}
 use Rattle.row_table.specs.Tables.{layout_tree}
-use Rattle.acceptor_store.specs.Layouts.{layout_of}
-use Rattle.acceptor_store.specs.Columns.{damage_in}
+use Rattle.row_columns.specs.Layouts.{layout_of}
+use Rattle.row_columns.specs.Columns.{damage_in}
 use Rattle.acceptor_store.proofs.ListLemmas.{sound_table}
 use Rattle.acceptor_store.proofs.taking_up.test_rows.Goals as goal
 

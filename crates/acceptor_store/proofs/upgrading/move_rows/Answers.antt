@@ -6,7 +6,7 @@ use Rattle.row_table.specs.Tables.Layout.{First}
 use Rattle.row_table.specs.Rows.{WasKept}
 use Rattle.row_table.specs.Entries.{with_entries}
 use Rattle.saved_rows.specs.Saved.{IsListOf}
-use Rattle.acceptor_store.specs.Columns.{saved_in}
+use Rattle.row_columns.specs.Columns.{saved_in}
 use Rattle.acceptor_store.specs.Moving.{MovesMap, HoldsMap}
 use Rattle.acceptor_store.specs.Sqlite.{Stands, WentOver}
 use Rattle.acceptor_store.proofs.StandLemmas.{stands_kept}

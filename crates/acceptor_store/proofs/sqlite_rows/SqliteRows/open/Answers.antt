@@ -1,7 +1,7 @@
 use Rattle.std.proofs.Common.{rules, ◌≡◌, false, IsTrue}
 use Rattle.sqlite.specs.Held.{state}
 use Rattle.row_table.specs.Tables.{layout_schema}
-use Rattle.acceptor_store.specs.Layouts.{layout_of}
+use Rattle.row_columns.specs.Layouts.{layout_of}
 use Rattle.acceptor_store.proofs.StandLemmas.{taken_stands}
 use Rattle.acceptor_store.proofs.sqlite_rows.SqliteRows.open.Goals as goal
 

@@ -1,8 +1,8 @@
 use Rattle.std.proofs.Common.{rules, ◌≡◌, false, true≢false, sym, ◌∙◌, subst}
 use Rattle.sqlite.specs.Held.{state}
 use Rattle.row_table.specs.Tables.{Layout}
-use Rattle.acceptor_store.specs.Layouts.{layout_of}
-use Rattle.acceptor_store.specs.Sqlite.{layout_now, Stands}
+use Rattle.row_columns.specs.Layouts.{layout_of, layout_now}
+use Rattle.acceptor_store.specs.Sqlite.{Stands}
 use Rattle.acceptor_store.proofs.StandLemmas.{same_rows, was_clean}
 use Rattle.acceptor_store.proofs.sqlite_rows.SqliteRowsRows.get.Goals as goal
 

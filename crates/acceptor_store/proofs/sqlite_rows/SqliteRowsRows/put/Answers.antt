@@ -3,9 +3,9 @@ use Rattle.sqlite.specs.Held.{state}
 use Rattle.std.proofs.lemmas.Bool.{cases_Bool}
 use Rattle.row_table.specs.Tables.{Layout}
 use Rattle.saved_rows.specs.Saved.{WithRow}
-use Rattle.acceptor_store.specs.Layouts.{layout_of}
-use Rattle.acceptor_store.specs.Sqlite.{layout_now, IsOfStation, Stands}
-use Rattle.acceptor_store.specs.Columns.{saved_in}
+use Rattle.row_columns.specs.Layouts.{layout_of, layout_now}
+use Rattle.acceptor_store.specs.Sqlite.{IsOfStation, Stands}
+use Rattle.row_columns.specs.Columns.{saved_in}
 use Rattle.acceptor_store.proofs.ColumnLemmas.{saves_row}
 use Rattle.acceptor_store.proofs.StandLemmas.{same_rows, stands_saved, left_station, was_clean}
 use Rattle.acceptor_store.proofs.sqlite_rows.SqliteRowsRows.put.Goals as goal

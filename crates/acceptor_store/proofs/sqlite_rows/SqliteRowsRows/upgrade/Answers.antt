@@ -3,9 +3,9 @@ use Rattle.sqlite.specs.Held.{state}
 use Rattle.sqlite_trees.specs.Tree.{Trees}
 use Rattle.row_table.specs.Tables.{Layout}
 use Rattle.saved_rows.specs.Saved.{SameRows}
-use Rattle.acceptor_store.specs.Layouts.{layout_of}
-use Rattle.acceptor_store.specs.Sqlite.{layout_now, IsOfStation, Stands, WentOver}
-use Rattle.acceptor_store.specs.Columns.{saved_in}
+use Rattle.row_columns.specs.Layouts.{layout_of, layout_now}
+use Rattle.acceptor_store.specs.Sqlite.{IsOfStation, Stands, WentOver}
+use Rattle.row_columns.specs.Columns.{saved_in}
 use Rattle.acceptor_store.proofs.StandLemmas.{once_over, same_rows}
 use Rattle.acceptor_store.proofs.sqlite_rows.SqliteRowsRows.upgrade.Goals as goal
 

@@ -6,8 +6,8 @@ use Rattle.row_table.specs.Tables.Layout.{Second}
 use Rattle.protocol.specs.Ballots.{Ballot, IsBallot}
 use Rattle.protocol.specs.Entries.{Entry, Void, Taped}
 use Rattle.protocol.specs.Rows.{vote_for, may_stand}
-use Rattle.acceptor_store.specs.Columns.{row_of, row_in, columns_with, EntriesComeBack}
-use Rattle.acceptor_store.proofs.ColumnLemmas.{ranged, a_ballot}
+use Rattle.row_columns.specs.Columns.{row_of, row_in, columns_with, EntriesComeBack}
+use Rattle.row_columns.proofs.ColumnLemmas.{ranged, a_ballot}
 
 few_frames : (e : Entry) → IsEntry e → length (entry_frames e) < 2 ^ 32
 few_frames Void is = omega arith

@@ -8,7 +8,7 @@ ghost use Rattle.row_table.specs.Tables.{Origin};
 ghost use Rattle.row_table.specs.Tables.Layout.{Second};
 ghost use Rattle.row_table.specs.Entries.{entry_columns};
 ghost use Rattle.saved_rows.specs.Saved.{HasPromise};
-ghost use Rattle.acceptor_store.specs.Columns.{packed_entry, entry_in, columns_for, ComesBack, EntriesComeBack};
+ghost use Rattle.row_columns.specs.Columns.{packed_entry, entry_in, columns_for, ComesBack, EntriesComeBack};
 
 use crate::columns::whole_in;
 use ballots::{Number, Row};
@@ -61,7 +61,7 @@ fn packed_frames(alloc: Global, entry: &EntryRef<'_>) -> Result<Vec<u8>, AllocEr
 }
 
 /// The columns, in layout 2, of a row that has a promise; they are the row again.
-pub(crate) fn entry_columns_for(
+pub fn entry_columns_for(
     alloc: Global,
     number: Number,
     row: &Row,

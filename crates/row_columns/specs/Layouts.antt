@@ -1,19 +1,31 @@
 -- What the code's layouts are, in the words of the tables; and the layout that a schema tells.
-use Rattle.std.specs.Prelude.{ℕ, List, Option, Some, None, ◌&&◌, codes, is_some}
+use Rattle.std.specs.Prelude.{ℕ, Bool, true, false, List, Option, Some, None, ◌&&◌, codes, is_some}
 use Rattle.std.specs.List.{position_from}
 use Rattle.sqlite_schema.specs.Names.{same_name, column_named}
 use Rattle.sqlite_schema.specs.declared.schema.Schema.{Schema}
 use Rattle.row_table.specs.Tables.{Layout as Tables}
 use Rattle.row_table.specs.Tables.Layout.{First, Second}
 use Rattle.row_table.specs.Tables.Origin.{Created, Upgraded}
-use Rattle.acceptor_store.specs.declared.layout.Layout.{Layout}
-use Rattle.acceptor_store.specs.declared.layout.Layout.TheVariants as coded
+use Rattle.protocol.specs.Versions.{Version, One, Two}
+use Rattle.row_columns.specs.declared.layout.Layout.{Layout}
+use Rattle.row_columns.specs.declared.layout.Layout.TheVariants as coded
 
 -- the layout of a database
 abbrev pub layout_of : Layout → Tables
 layout_of coded.First = First
 layout_of coded.Created = Second Created
 layout_of coded.Upgraded = Second Upgraded
+
+-- the layout now: that which was found or made, until it is upgraded
+abbrev pub layout_now : Tables → Bool → Tables
+layout_now First false = First
+layout_now First true = Second Upgraded
+layout_now (Second origin) upgraded = Second origin
+
+-- the layout that rows of a version are made in
+abbrev pub made_in : Version → Tables
+made_in One = First
+made_in Two = Second Created
 
 -- where the table of rows stands, and that of entries: both are there after an upgrade
 abbrev pub layout_by : Option ℕ → Option ℕ → Option Tables

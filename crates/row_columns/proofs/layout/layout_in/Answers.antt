@@ -1,8 +1,8 @@
 use Rattle.std.proofs.Common.{rules, ◌≡◌}
 use Rattle.std.specs.Prelude.{option_map}
-use Rattle.acceptor_store.specs.Layouts.{layout_of, layout_in}
-use Rattle.acceptor_store.proofs.LayoutLemmas.{tells, tells_none, tells_some}
-use Rattle.acceptor_store.proofs.layout.layout_in.Goals as goal
+use Rattle.row_columns.specs.Layouts.{layout_of, layout_in}
+use Rattle.row_columns.proofs.LayoutLemmas.{tells, tells_none, tells_some}
+use Rattle.row_columns.proofs.layout.layout_in.Goals as goal
 
 pub returns-clause-laid : goal.returns-clause-laid
 returns-clause-laid c layout same =

@@ -3,9 +3,9 @@ use Rattle.row_table.specs.Tables.Layout.{Second}
 use Rattle.tape_frames.specs.Entries.{lent_entry}
 use Rattle.protocol.specs.Entries.{Entry}
 use Rattle.protocol.specs.Rows.{Vote, vote_for, may_stand}
-use Rattle.acceptor_store.specs.Columns.{row_in, columns_with}
-use Rattle.acceptor_store.proofs.EntryColumnLemmas.{back_with}
-use Rattle.acceptor_store.proofs.entry_columns.entry_columns_for.Goals as goal
+use Rattle.row_columns.specs.Columns.{row_in, columns_with}
+use Rattle.row_columns.proofs.EntryColumnLemmas.{back_with}
+use Rattle.row_columns.proofs.entry_columns.entry_columns_for.Goals as goal
 
 pub returns-clause-back : goal.returns-clause-back
 returns-clause-back c origin =

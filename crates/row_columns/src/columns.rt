@@ -1,6 +1,6 @@
 //! A row as the columns of its table, and back.
 
-ghost use Rattle.std.specs.Prelude.{◌≡◌, ◌≤◌, IfOk, OnOk, option_map, Some};
+ghost use Rattle.std.specs.Prelude.{◌≡◌, ◌≤◌, IfOk, IfSome, OnOk, option_map, Some};
 ghost use Rattle.std.specs.List.{AllByRecursion};
 ghost use Rattle.std.specs.List.{filter_map};
 ghost use Rattle.sqlite_value.specs.Value.{owned};
@@ -12,9 +12,9 @@ ghost use Rattle.tape_frames.specs.Frames.{IsTape};
 ghost use Rattle.tape_frames.specs.Entries.{lent_entry};
 ghost use Rattle.row_table.specs.Tables.Layout.{First};
 ghost use Rattle.row_table.specs.Rows.{columns_of};
-ghost use Rattle.acceptor_store.specs.Columns.{whole_in, ballot_from, stored_tape, tape_in, is_null, entry_at, no_entry_at, vote_at, row_of, row_in, damage_of, damage_in, item_in, columns_for, ComesBack};
-ghost use Rattle.acceptor_store.specs.Layouts.{layout_of};
-ghost use Rattle.saved_rows.specs.Saved.{HasPromise, RowFits};
+ghost use Rattle.row_columns.specs.Columns.{version_in, whole_in, ballot_from, stored_tape, tape_in, is_null, entry_at, no_entry_at, vote_at, row_of, row_in, damage_of, damage_in, item_in, columns_for, ComesBack};
+ghost use Rattle.row_columns.specs.Layouts.{layout_of};
+ghost use Rattle.saved_rows.specs.Saved.{HasPromise, RowFits, AreFitting};
 
 use crate::entry_columns::entry_in;
 use crate::layout::Layout;
@@ -172,14 +172,18 @@ fn copied(alloc: Global, vote: Option<VoteRef<'_>>) -> Result<Option<Vote>, Allo
 }
 
 /// The row that the columns from `first` on are: five of them in layout 1, six in layout 2; `None` where they are no row.
-pub(crate) fn row_in(
+/// The version of the layout has it.
+pub fn row_in(
     alloc: Global,
     layout: Layout,
     columns: &sqlite::Row,
     first: usize,
 ) -> Result<Option<Row>, AllocError>
     requires { first ≤ 1 }
-    ensures { IfOk result (λ row. row ≡ row_in (layout_of layout) first columns.now) }
+    ensures row { IfOk result (λ row. row ≡ row_in (layout_of layout) first columns.now) }
+
+    // The version of the layout has it.
+    ensures fits { IfOk result (λ row. IfSome row (RowFits (version_in (layout_of layout)))) }
 {
     let Some((promise, vote)) = parts_in(layout, columns, first) else {
         return Ok(None);
@@ -202,8 +206,8 @@ fn damage_of(layout: Layout, row: &sqlite::Row) -> Option<i64>
     }
 }
 
-/// The key of the first row of a listing that is none, or that stands under no circuit number.
-pub(crate) fn damage_in(layout: Layout, rows: &[sqlite::Row]) -> Option<i64>
+/// The key of the first row of a listing that is none, or that stands under no circuit number; `None` where there is no such row.
+pub fn damage_in(layout: Layout, rows: &[sqlite::Row]) -> Option<i64>
     ensures { result ≡ damage_in (layout_of layout) rows.now }
 {
     for row in rows {
@@ -234,14 +238,15 @@ fn item_in(
     }
 }
 
-/// The numbers and rows of a listing. Each row has a promise.
-pub(crate) fn items_in(
+/// The numbers and rows of a listing, without what is no row. Each row has a promise, and the version of the layout has it.
+pub fn items_in(
     alloc: Global,
     layout: Layout,
     rows: &[sqlite::Row],
 ) -> Result<Vec<(Number, Row)>, AllocError>
     ensures items { IfOk result (λ items. items.items ≡ filter_map (item_in (layout_of layout)) rows.now) }
     ensures promised { IfOk result (λ items. AllByRecursion (λ p. HasPromise p.1) items.items) }
+    ensures fits { IfOk result (λ items. AreFitting (version_in (layout_of layout)) items.items) }
 {
     let mut items = Vec::new(alloc);
     for row in rows {
@@ -254,17 +259,21 @@ pub(crate) fn items_in(
 
 /// The columns of a row in layout 1.
 #[derive(Drop)]
-pub(crate) struct RowColumns {
-    pub(crate) promised_round: u32,
-    pub(crate) promised_owner: u32,
-    pub(crate) vote_round: Option<u32>,
-    pub(crate) vote_owner: Option<u32>,
+pub struct RowColumns {
+    /// The round of the ballot that is promised.
+    pub promised_round: u32,
+    /// The member that owns that ballot.
+    pub promised_owner: u32,
+    /// The round of the ballot that the vote was cast in; `None` where there is no vote.
+    pub vote_round: Option<u32>,
+    /// The member that owns that ballot; `None` where there is no vote.
+    pub vote_owner: Option<u32>,
     tape: Option<Tape>,
 }
 
 impl RowColumns {
-    /// The frames of the tape that was voted for, one a byte.
-    pub(crate) fn frames(&self) -> Option<&[u8]>
+    /// The frames of the tape that was voted for, one a byte; `None` where there is no vote.
+    pub fn frames(&self) -> Option<&[u8]>
         ensures { option_map (λ b. b.now) result ≡ self.now.tape }
     {
         match &self.tape {
@@ -292,7 +301,7 @@ fn voted_tape(alloc: Global, vote: &Vote) -> Result<Tape, AllocError>
 }
 
 /// The columns, in layout 1, of a row that has a promise, and a vote for a tape where it has one; they are the row again.
-pub(crate) fn columns_for(alloc: Global, row: &Row) -> Result<RowColumns, AllocError>
+pub fn columns_for(alloc: Global, row: &Row) -> Result<RowColumns, AllocError>
     requires promise { HasPromise row.now }
     requires fits { RowFits One row.now }
     ensures columns { IfOk result (λ c. columns_of c.promised_round c.promised_owner c.vote_round c.vote_owner c.tape ≡ columns_for First row.now) }

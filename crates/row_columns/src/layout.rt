@@ -3,16 +3,15 @@
 ghost use Rattle.std.specs.Prelude.{◌≡◌, None, is_some, option_map, IfSome};
 ghost use Rattle.tape_frames.specs.Entries.{version_of};
 ghost use Rattle.row_table.specs.Tables.{Layout as Tables, layout_number, layout_schema};
-ghost use Rattle.acceptor_store.specs.Columns.{version_in};
-ghost use Rattle.acceptor_store.specs.Layouts.{layout_of, layout_by, layout_in, table_with};
-ghost use Rattle.acceptor_store.specs.Sqlite.{layout_now, made_in};
+ghost use Rattle.row_columns.specs.Columns.{version_in};
+ghost use Rattle.row_columns.specs.Layouts.{layout_of, layout_now, made_in, layout_by, layout_in, table_with};
 
 use sqlite_schema::schema::Schema;
 use tape_frames::Version;
 
 /// Which tables a database keeps its rows in, and how it came to them.
 #[derive(Clone, Copy, PartialEq, Eq)]
-pub(crate) enum Layout {
+pub enum Layout {
     /// Layout 1: the table of rows.
     First,
     /// Layout 2, made so: the table of entries.
@@ -22,7 +21,7 @@ pub(crate) enum Layout {
 }
 
 /// The version of the rows that a layout keeps.
-pub(crate) fn version_in(layout: Layout) -> Version
+pub fn version_in(layout: Layout) -> Version
     ensures { version_of result ≡ version_in (layout_of layout) }
 {
     match layout {
@@ -33,7 +32,7 @@ pub(crate) fn version_in(layout: Layout) -> Version
 }
 
 /// The layout that rows of a version are made in.
-pub(crate) fn made_in(version: Version) -> Layout
+pub fn made_in(version: Version) -> Layout
     ensures { layout_of result ≡ made_in (version_of version) }
 {
     match version {
@@ -43,7 +42,7 @@ pub(crate) fn made_in(version: Version) -> Layout
 }
 
 /// The layout now: that which was found or made, until it is upgraded.
-pub(crate) fn layout_now(was: Layout, upgraded: bool) -> Layout
+pub fn layout_now(was: Layout, upgraded: bool) -> Layout
     ensures { layout_of result ≡ layout_now (layout_of was) upgraded }
 {
     match was {
@@ -60,7 +59,7 @@ pub(crate) fn layout_now(was: Layout, upgraded: bool) -> Layout
 }
 
 /// The number of a layout, as the row of the station tells it.
-pub(crate) fn layout_number(layout: Layout) -> u32
+pub fn layout_number(layout: Layout) -> u32
     ensures { result ≡ layout_number (layout_of layout) }
 {
     match layout {
@@ -92,7 +91,7 @@ fn table_with(schema: &Schema, name: &[u8], column: &[u8]) -> Option<usize>
 
 /// The layout that the tables of a schema tell, by their names and by the column that the one or the other keeps an entry in;
 /// `None` where no table of saved rows is among them. A table of another program that has the name alone is none.
-pub(crate) fn layout_in(schema: &Schema) -> Option<Layout>
+pub fn layout_in(schema: &Schema) -> Option<Layout>
     ensures value { option_map layout_of result ≡ layout_in schema.now }
     ensures some { is_some result ≡ is_some (layout_in schema.now) }
     ensures laid { (layout : Tables) → schema.now ≡ layout_schema layout → IfSome result (λ l. layout_of l ≡ layout) }

@@ -1,7 +1,7 @@
 //! The station in its table: whose rows a database holds, and in which layout.
 
 ghost use Rattle.std.specs.Prelude.{◌≡◌};
-ghost use Rattle.acceptor_store.specs.StationRow.{station_of, station_in};
+ghost use Rattle.row_columns.specs.StationRow.{station_of, station_in};
 
 use crate::columns::{value_at, whole_in};
 use saved_rows::Identity;
@@ -35,8 +35,8 @@ fn station_of(row: &sqlite::Row) -> Option<(u32, Identity)>
     }
 }
 
-/// Those in the rows of the station table; `None` where there isn't one row of layout 1 or 2.
-pub(crate) fn station_in(rows: &[sqlite::Row]) -> Option<(u32, Identity)>
+/// The layout's number and the identity in the rows of the station table; `None` where there isn't one row of layout 1 or 2.
+pub fn station_in(rows: &[sqlite::Row]) -> Option<(u32, Identity)>
     ensures { result ≡ station_in rows.now }
 {
     match rows {

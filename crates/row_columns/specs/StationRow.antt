@@ -5,7 +5,7 @@ use Rattle.sqlite_trees.specs.Tree.{Trees}
 use Rattle.row_table.specs.Tables.{Layout, station_tree, layout_number}
 use Rattle.row_table.specs.Station.{station_columns}
 use Rattle.saved_rows.specs.declared.identity.Identity.{Identity}
-use Rattle.acceptor_store.specs.Columns.{whole_in}
+use Rattle.row_columns.specs.Columns.{whole_in}
 
 -- what the columns say, the layout's number and the station: the key is 1, the layout is 1 or 2, and the numbers are in range
 abbrev pub station_from : Option ℕ → Option ℕ → Option ℕ → Option ℕ → Option ℕ → Option (ℕ × Identity)

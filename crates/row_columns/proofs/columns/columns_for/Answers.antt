@@ -4,9 +4,9 @@ use Rattle.protocol.specs.Entries.{Taped}
 use Rattle.protocol.specs.Rows.{Vote, vote_for, may_stand}
 use Rattle.protocol.specs.Versions.{One}
 use Rattle.protocol.specs.Fitting.{Fits, VoteFits}
-use Rattle.acceptor_store.specs.Columns.{row_in, columns_with}
-use Rattle.acceptor_store.proofs.ColumnLemmas.{back_with}
-use Rattle.acceptor_store.proofs.columns.columns_for.Goals as goal
+use Rattle.row_columns.specs.Columns.{row_in, columns_with}
+use Rattle.row_columns.proofs.ColumnLemmas.{back_with}
+use Rattle.row_columns.proofs.columns.columns_for.Goals as goal
 
 pub returns-clause-back : goal.returns-clause-back
 returns-clause-back c =

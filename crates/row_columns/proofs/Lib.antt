@@ -1,0 +1,4 @@
+pub mod ColumnLemmas
+pub mod EntryColumnLemmas
+pub mod FitLemmas
+pub mod LayoutLemmas
