@@ -18,7 +18,7 @@ BEGINS = r"^\s*(?:pub(?:\(crate\))? )?(?:abbrev pub|fn|pub data|pub record|data|
 WITHIN = r"^\s*(?:ensures\*?|requires|pub) {}\b"
 LINK = re.compile(r"\[((?:`\w+`)(?:, `\w+`)*)\]\((\.\./crates/[^)#]+)#L\d+\)")
 
-WIDTH = 100
+WIDTH = 104
 HEAD = """# The crates
 
 Each stands on crates of the boxes below its own. `docs/pages.py` draws this from `crates.txt`.
