@@ -266,7 +266,7 @@ fn serve_command<'a>(alloc: Global) -> Result<Command<'a>, AllocError> {
 const RUN_EXAMPLE: &str = "\
 Example: the first start of a station, and then each later one:
 
-  $ circuitd run station1.toml --create
+  $ circuitd run station1.toml --create --layout 2
   $ circuitd run station1.toml
 
 Where the configuration names folders, the file `12.tape` among the offers is offered under number 12,

@@ -3,7 +3,7 @@
 
 use command_ends::{End, Fault};
 use command_line::parse;
-use commands::run_command;
+use commands::carry_out;
 use file_rows::HostFiles;
 use std::env;
 use std::io::{BufWriter, ErrorKind};
@@ -31,7 +31,7 @@ fn run_words(rt: &HostRuntime, words: &[String]) -> End {
         Err(end) => return end,
     };
     match BufWriter::new(rt.alloc(), rt.stdout()) {
-        Ok(mut out) => run_command(rt, &asked, &HostFiles, &mut input, &mut out, &mut err),
+        Ok(mut out) => carry_out(rt, &asked, &HostFiles, &mut input, &mut out, &mut err),
         Err(_) => Fault::OutOfMemory.tell(&mut err),
     }
 }

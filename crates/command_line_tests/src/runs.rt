@@ -3,7 +3,7 @@
 use crate::words::words_of;
 use command_ends::End;
 use command_line::parse;
-use commands::run_command;
+use commands::carry_out;
 use fixtures::{CODES, WIDTHS};
 use row_files::{RefusedRows, RowFiles, RowsCause};
 use saved_rows::{Identity, MemoryRows, RowsFault};
@@ -284,7 +284,7 @@ fn goes(rt: &HostRuntime, run: &Run) -> Option<bool> {
         Ok(asked) => asked,
         Err(_) => return None,
     };
-    let end = run_command(rt, &asked, &NoRows, &mut input, &mut out, &mut err);
+    let end = carry_out(rt, &asked, &NoRows, &mut input, &mut out, &mut err);
     Some(
         end == run.end
             && out.as_slice() == run.out.as_bytes()

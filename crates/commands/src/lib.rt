@@ -2,6 +2,6 @@
 //! each handed to its place.
 #![tactic(auto)]
 
-mod running;
+mod dispatch;
 
-pub use running::run_command;
+pub use dispatch::carry_out;

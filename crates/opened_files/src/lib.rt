@@ -1,6 +1,6 @@
 //! Files of the host that may not open.
 #![tactic(auto)]
 
-mod opened;
+mod file;
 
-pub use opened::Opened;
+pub use file::Opened;

@@ -90,7 +90,7 @@ fn run_rehearse<W: Write, E: Write>(
 
 /// Runs the command that was asked for: what it is given on a pipe is read from `input`, what it prints goes to `out`,
 /// and its fault to `err`. A path that can't be opened is told in the place in which the file would be read.
-pub fn run_command<F: RowFiles, R: Read, W: Write, E: Write>(
+pub fn carry_out<F: RowFiles, R: Read, W: Write, E: Write>(
     rt: &HostRuntime,
     asked: &Asked<'_>,
     row_files: &F,
