@@ -27,6 +27,16 @@ use std::alloc::Global;
 use std::marker::Model;
 use tape_frames::Version;
 
+/// Stops rows of which a call was refused, and counts the refusal.
+fn stop(stopped: &mut bool, refusals: &mut u64)
+    ensures stops { IsTrue stopped.new }
+    ensures counts { Rises refusals.old refusals.new }
+    ensures grows { refusals.old ≤ refusals.new }
+{
+    *stopped = true;
+    *refusals = refusals.saturating_add(1);
+}
+
 /// Rows in a database, beside the table `station` that says whose they are. At version 1 their layout is 1: they are in
 /// the table `acceptor_row`, and a vote in it is for a tape of at most 4,096 frames. At version 2 their layout is 2: they
 /// are in the table `acceptor_entry`, and a vote in it is for any entry. [`Rows::upgrade`] goes from the first to the second;
@@ -344,8 +354,8 @@ impl<S: Alter + Drop> Rows for SqliteRows<S> {
         match save(self.alloc, &mut self.conn, layout, number, row) {
             Ok(()) => Ok(()),
             Err(fault) => {
-                self.stopped = true; // Whether the row is saved is not known.
-                self.refusals = self.refusals.saturating_add(1);
+                // Whether the row is saved is not known.
+                stop(&mut self.stopped, &mut self.refusals);
                 Err(fault)
             }
         }
@@ -389,8 +399,8 @@ impl<S: Alter + Drop> Rows for SqliteRows<S> {
                 Ok(())
             }
             Err(fault) => {
-                self.stopped = true; // In which layout the rows are is not known.
-                self.refusals = self.refusals.saturating_add(1);
+                // In which layout the rows are is not known.
+                stop(&mut self.stopped, &mut self.refusals);
                 Err(fault)
             }
         }

@@ -58,7 +58,7 @@ fn ballot_from(round: Option<u32>, owner: Option<u32>) -> Option<Ballot>
 {
     let round = round?;
     let owner = owner?;
-    if 1 <= round && 1 <= owner && owner <= 15 {
+    if 1 <= round && 1 <= owner && owner <= u32::from(Member::LAST) {
         Ballot::new(round, Member::new(owner as u8)?)
     } else {
         None
@@ -199,7 +199,7 @@ fn damage_of(layout: Layout, row: &sqlite::Row) -> Option<i64>
     let ValueRef::Int(key) = value_at(row, 0) else {
         return None;
     };
-    if 1 <= key && key <= 999_999 && parts_in(layout, row, 1).is_some() {
+    if 1 <= key && key <= i64::from(Number::LAST) && parts_in(layout, row, 1).is_some() {
         None
     } else {
         Some(key)

@@ -4,6 +4,7 @@ ghost use Rattle.std.specs.Prelude.{◌≡◌};
 ghost use Rattle.row_columns.specs.StationRow.{station_of, station_in};
 
 use crate::columns::{value_at, whole_in};
+use ballots::Member;
 use saved_rows::Identity;
 
 /// The layout's number and the identity that the columns of a station are; `None` where the key is not 1, the layout is not 1 or 2,
@@ -22,7 +23,7 @@ fn station_of(row: &sqlite::Row) -> Option<(u32, Identity)>
         && circuit <= 65_535
         && 1 <= member
         && member <= members
-        && members <= 15
+        && members <= u32::from(Member::LAST)
     {
         let identity = Identity {
             circuit: circuit as u16,
