@@ -1,6 +1,6 @@
 //! The configuration of a station, read from TOML.
 
-ghost use Rattle.std.specs.Prelude.{◌≡◌, ◌⊎◌, Some, None, Ok, Err, IfOk, IfErr, option_map};
+ghost use Rattle.std.specs.Prelude.{◌≡◌, ◌⊎◌, Some, None, Ok, Err, IfOk, IfErr, option_map, nat_le, string_bytes};
 ghost use Rattle.toml.specs.Parse.{parse_document};
 ghost use Rattle.toml.specs.View.{table_view};
 ghost use Rattle.configuration.specs.Reading.{file_of, paths_of, read_file, read_config};
@@ -74,23 +74,48 @@ fn folders_at(alloc: Global, paths: &Option<FolderPaths<'_>>) -> Result<Option<F
     }
 }
 
-/// The configuration of these.
-fn config_of(
-    alloc: Global,
-    circuit: u16,
-    member: Member,
-    paths: &Paths<'_>,
-    folders: Option<Folders>,
-    stations: Vec<Address>,
-) -> Result<Config, AllocError>
-    ensures value { IfOk result (λ c. file_of c ≡ record { circuit = circuit; member = member; table = paths.now.table.now; widths = paths.now.widths.now; rows = paths.now.rows.now; folders = option_map paths_of folders; stations = stations.items }) }
-    ensures member { IfOk result (λ c. c.member ≡ member) }
-    ensures stations { IfOk result (λ c. c.stations ≡ stations) }
+/// The paths of three files, with texts of their own.
+#[derive(Drop)]
+struct Files {
+    table: String,
+    widths: String,
+    rows: String,
+}
+
+/// The files at these paths.
+fn files_of(alloc: Global, paths: &Paths<'_>) -> Result<Files, AllocError>
+    ensures table { IfOk result (λ f. string_bytes f.table ≡ paths.now.table.now) }
+    ensures widths { IfOk result (λ f. string_bytes f.widths ≡ paths.now.widths.now) }
+    ensures rows { IfOk result (λ f. string_bytes f.rows ≡ paths.now.rows.now) }
 {
     let table = paths.table.to_string(alloc)?;
     let widths = paths.widths.to_string(alloc)?;
     let rows = paths.rows.to_string(alloc)?;
-    Ok(Config {
+    Ok(Files {
+        table,
+        widths,
+        rows,
+    })
+}
+
+/// The configuration of these.
+fn config_of(
+    circuit: u16,
+    member: Member,
+    files: Files,
+    folders: Option<Folders>,
+    stations: Vec<Address>,
+) -> Config
+    ensures value { file_of result ≡ record { circuit = circuit; member = member; table = string_bytes files.table; widths = string_bytes files.widths; rows = string_bytes files.rows; folders = option_map paths_of folders; stations = stations.items } }
+    ensures member { result.member ≡ member }
+    ensures stations { result.stations ≡ stations }
+{
+    let Files {
+        table,
+        widths,
+        rows,
+    } = files;
+    Config {
         circuit,
         member,
         table,
@@ -98,7 +123,14 @@ fn config_of(
         rows,
         folders,
         stations,
-    })
+    }
+}
+
+/// Whether there is a station of this member, where they are those of the members from 1 to this count.
+fn has_station(count: usize, member: Member) -> bool
+    ensures { result ≡ nat_le member count }
+{
+    usize::from(member.get()) <= count
 }
 
 /// The configuration of a document.
@@ -114,11 +146,12 @@ fn read_file(alloc: Global, file: &Table) -> Result<Config, ConfigFault>
     let folders = folders_in(file)?;
     let entries = entries_at(file)?;
     let stations = read_stations(alloc, entries)?;
-    if usize::from(member.get()) > stations.len() {
+    if !has_station(stations.len(), member) {
         return Err(ConfigFault::OutOfRange(ConfigKey::Member));
     }
+    let files = files_of(alloc, &paths)?;
     let folders = folders_at(alloc, &folders)?;
-    Ok(config_of(alloc, circuit, member, &paths, folders, stations)?)
+    Ok(config_of(circuit, member, files, folders, stations))
 }
 
 impl Config {
