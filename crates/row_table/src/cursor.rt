@@ -6,21 +6,26 @@ ghost use Rattle.sqlite.specs.State.{HasCleanDisk, IsUnchanged, Survives, Shown,
 ghost use Rattle.sqlite.specs.Held.{state};
 ghost use Rattle.row_table.specs.Cursor.{OnlyReads, WritesNothing};
 
-use sqlite::{Alter, Connection, Error, Row};
+use sqlite::{Alter, Connection, Error, ErrorCode, Row};
 
 /// What takes the rows of a table, one by one and in their order.
 pub trait Taker {
     // It took these rows, in this order.
     ghost took: { Self → List RowValue → Type 0 };
 
+    // It has all that it wants.
+    ghost has_enough: { Self → Type 0 };
+
     /// Takes the next row, and answers whether it wants the one after it.
     fn take(&mut self, row: &Row) -> bool
-        ensures { (rows : List RowValue) → took self.old rows → took self.new (rows ++ row.now ∷ []) };
+        ensures took { (rows : List RowValue) → took self.old rows → took self.new (rows ++ row.now ∷ []) }
+        ensures enough { result ≡ false → has_enough self.new };
 }
 
 /// Hands the rows of a query to a taker, and answers whether these were all of them.
 ///
-/// They are not all where the taker wanted no more. An error comes where the database refuses the query; the taker may have had rows by then.
+/// They are not all where the taker wanted no more. An error comes where the database refuses the query, or the rows are more than 64 bits count;
+/// the taker may have had rows by then.
 pub(crate) fn each_row<S: Alter, T: Taker>(
     conn: &mut Connection<S>,
     sql: &str,
@@ -28,6 +33,7 @@ pub(crate) fn each_row<S: Alter, T: Taker>(
 ) -> Result<bool, Error>
     ensures all { HasCleanDisk (state S.Store conn.new) → OnlyReads (state S.Store conn.old) sql.now → T.took taker.old []
         → IfOk result (λ all. IsTrue all → (rows : List RowValue) × Shown sql.now [] (state S.Store conn.old) (state S.Store conn.new) rows × T.took taker.new rows) }
+    ensures enough { IfOk result (λ all. all ≡ false → T.has_enough taker.new) }
     ensures same { HasCleanDisk (state S.Store conn.new) → OnlyReads (state S.Store conn.old) sql.now → OnOk result (IsUnchanged (state S.Store conn.old) (state S.Store conn.new)) }
     ensures err { HasCleanDisk (state S.Store conn.new) → OnlyReads (state S.Store conn.old) sql.now → OnErr result (WritesNothing (state S.Store conn.old) (state S.Store conn.new)) }
     ensures mode { conn.old.in_transaction ≡ false → conn.new.in_transaction ≡ false }
@@ -42,5 +48,5 @@ pub(crate) fn each_row<S: Alter, T: Taker>(
             return Ok(false);
         }
     }
-    Ok(false)
+    Err(Error::SqliteFailure(ErrorCode::OperationInterrupted))
 }
