@@ -10,16 +10,19 @@ use sqlite::{Alter, Connection, Error, ErrorCode, Row};
 
 /// What takes the rows of a table, one by one and in their order.
 pub trait Taker {
-    // It took these rows, in this order.
-    ghost took: { Self → List RowValue → Type 0 };
+    // Taking these rows, in this order, leads from the one taker to the other.
+    ghost took: { Self → Self → List RowValue → Type 0 };
 
     // It has all that it wants.
     ghost has_enough: { Self → Type 0 };
 
     /// Takes the next row, and answers whether it wants the one after it.
     fn take(&mut self, row: &Row) -> bool
-        ensures took { (rows : List RowValue) → took self.old rows → took self.new (rows ++ row.now ∷ []) }
+        ensures took { (first : Self) (rows : List RowValue) → took first self.old rows → took first self.new (rows ++ row.now ∷ []) }
         ensures enough { result ≡ false → has_enough self.new };
+
+    // Taking none leads nowhere.
+    ghost took_none: { (it : Self) → took it it [] };
 }
 
 /// Hands the rows of a query to a taker, and answers whether these were all of them.
@@ -31,8 +34,8 @@ pub(crate) fn each_row<S: Alter, T: Taker>(
     sql: &str,
     taker: &mut T,
 ) -> Result<bool, Error>
-    ensures all { HasCleanDisk (state S.Store conn.new) → OnlyReads (state S.Store conn.old) sql.now → T.took taker.old []
-        → IfOk result (λ all. IsTrue all → (rows : List RowValue) × Shown sql.now [] (state S.Store conn.old) (state S.Store conn.new) rows × T.took taker.new rows) }
+    ensures all { HasCleanDisk (state S.Store conn.new) → OnlyReads (state S.Store conn.old) sql.now
+        → IfOk result (λ all. IsTrue all → (rows : List RowValue) × Shown sql.now [] (state S.Store conn.old) (state S.Store conn.new) rows × T.took taker.old taker.new rows) }
     ensures enough { IfOk result (λ all. all ≡ false → T.has_enough taker.new) }
     ensures same { HasCleanDisk (state S.Store conn.new) → OnlyReads (state S.Store conn.old) sql.now → OnOk result (IsUnchanged (state S.Store conn.old) (state S.Store conn.new)) }
     ensures err { HasCleanDisk (state S.Store conn.new) → OnlyReads (state S.Store conn.old) sql.now → OnErr result (WritesNothing (state S.Store conn.old) (state S.Store conn.new)) }

@@ -118,8 +118,8 @@ pub fn visit_entries<S: Alter, T: Taker>(
     taker: &mut T,
 ) -> Result<bool, Error>
     ensures unchanged { (origin : Origin) → HasCleanDisk (state S.Store conn.new) → (state S.Store conn.old).now.schema ≡ layout_schema (Second origin) → OnOk result (IsUnchanged (state S.Store conn.old) (state S.Store conn.new)) }
-    ensures listed { (origin : Origin) → HasCleanDisk (state S.Store conn.new) → (state S.Store conn.old).now.schema ≡ layout_schema (Second origin) → T.took taker.old []
-        → IfOk result (λ all. IsTrue all → (rows : List RowValue) × IsListing (Second origin) ((state S.Store conn.old).now.trees (entries_tree origin)) rows × T.took taker.new rows) }
+    ensures listed { (origin : Origin) → HasCleanDisk (state S.Store conn.new) → (state S.Store conn.old).now.schema ≡ layout_schema (Second origin)
+        → IfOk result (λ all. IsTrue all → (rows : List RowValue) × IsListing (Second origin) ((state S.Store conn.old).now.trees (entries_tree origin)) rows × T.took taker.old taker.new rows) }
     ensures enough { IfOk result (λ all. all ≡ false → T.has_enough taker.new) }
     ensures serves { (origin : Origin) → Serves (Second origin) (state S.Store conn.old) → Serves (Second origin) (state S.Store conn.new) }
     ensures open { (origin : Origin) → Serves (Second origin) (state S.Store conn.old) → HasCleanDisk (state S.Store conn.new) → OnOk result (IsTrue (state S.Store conn.new).is_open) }

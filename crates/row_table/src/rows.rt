@@ -131,8 +131,8 @@ pub fn visit_rows<S: Alter, T: Taker>(
     taker: &mut T,
 ) -> Result<bool, Error>
     ensures unchanged { HasCleanDisk (state S.Store conn.new) → (state S.Store conn.old).now.schema ≡ layout_schema First → OnOk result (IsUnchanged (state S.Store conn.old) (state S.Store conn.new)) }
-    ensures listed { HasCleanDisk (state S.Store conn.new) → (state S.Store conn.old).now.schema ≡ layout_schema First → T.took taker.old []
-        → IfOk result (λ all. IsTrue all → (rows : List RowValue) × IsListing First ((state S.Store conn.old).now.trees rows_tree) rows × T.took taker.new rows) }
+    ensures listed { HasCleanDisk (state S.Store conn.new) → (state S.Store conn.old).now.schema ≡ layout_schema First
+        → IfOk result (λ all. IsTrue all → (rows : List RowValue) × IsListing First ((state S.Store conn.old).now.trees rows_tree) rows × T.took taker.old taker.new rows) }
     ensures enough { IfOk result (λ all. all ≡ false → T.has_enough taker.new) }
     ensures serves { Serves First (state S.Store conn.old) → Serves First (state S.Store conn.new) }
     ensures open { Serves First (state S.Store conn.old) → HasCleanDisk (state S.Store conn.new) → OnOk result (IsTrue (state S.Store conn.new).is_open) }

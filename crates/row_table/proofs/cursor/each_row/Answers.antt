@@ -14,10 +14,10 @@ returns-in_err-rows-clause-err g c clean reads =
 pub rows-init : goal.rows-init
 rows-init g c =
     let made = c.in_ok-rows.ensures in
-    (refl, made.survives, made.mode, λ clean reads. let begun = begun_reading g.S.Store c.args.sql.now [] c.args.conn.now _ reads (made.begun clean) in (begun.1, [], begun.0, λ none. none))
+    (refl, made.survives, made.mode, λ clean reads. let begun = begun_reading g.S.Store c.args.sql.now [] c.args.conn.now _ reads (made.begun clean) in (begun.1, [], begun.0, g.met.T.Taker.took_none c.args.taker.now))
 
 pub returns-in_default-clause-all : goal.returns-in_default-clause-all
-returns-in_default-clause-all g c clean reads none _ =
+returns-in_default-clause-all g c clean reads _ =
     let moved = c.next.follows.holds-at-none in
     let now = c.next.follows.lender-at-none.conn.now in
     let late : HasCleanDisk (state g.S.Store now) = search rules in

@@ -12,4 +12,4 @@ invariant-rows g l =
     let old = state g.S.Store l.fn.conn in
     let now = state g.S.Store l.rows.conn.now in
     (l.rows.conn.ghost_name ≡ l.initial.rows.conn.ghost_name) × Survives old now (CommitsShowing l.sql [] old) × (l.fn.conn.in_transaction ≡ false → l.rows.conn.now.in_transaction ≡ false)
-    × (HasCleanDisk now → OnlyReads old l.sql → IsUnchanged old now × (given : List Row) × HasGiven g.S.Store l.sql [] l.rows.conn.now given × (g.T.Taker.took l.fn.taker [] → g.T.Taker.took l.taker given))
+    × (HasCleanDisk now → OnlyReads old l.sql → IsUnchanged old now × (given : List Row) × HasGiven g.S.Store l.sql [] l.rows.conn.now given × g.T.Taker.took l.fn.taker l.taker given)

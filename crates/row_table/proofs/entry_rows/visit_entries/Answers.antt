@@ -27,7 +27,7 @@ returns g c =
     let err : (origin : Origin) → Serves (Second origin) old → HasCleanDisk new → OnErr r (WritesNothing old new) = λ origin serves clean. gives.err clean (serving origin serves clean) in
     record {
       unchanged = λ origin clean has. gives.same clean (reads origin has);
-      listed = λ origin clean has none. mapped (λ all h sure. let shown = h sure in (shown.0, lists (Second origin) old new shown.0 has shown.1, shown.2)) r (gives.all clean (reads origin has) none);
+      listed = λ origin clean has. mapped (λ all h sure. let shown = h sure in (shown.0, lists (Second origin) old new shown.0 has shown.1, shown.2)) r (gives.all clean (reads origin has));
       enough = gives.enough;
       serves = λ origin serves. reading_serves (Second origin) old new survives.clean serves r (same origin serves) (err origin serves);
       «open» = λ origin serves. reading_open (Second origin) old new survives.clean serves r (same origin serves) (err origin serves);

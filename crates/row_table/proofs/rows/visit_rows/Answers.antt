@@ -27,7 +27,7 @@ returns g c =
     let err : Serves First old → HasCleanDisk new → OnErr r (WritesNothing old new) = λ serves clean. gives.err clean (serving serves clean) in
     record {
       unchanged = λ clean has. gives.same clean (reads has);
-      listed = λ clean has none. mapped (λ all h sure. let shown = h sure in (shown.0, lists First old new shown.0 has shown.1, shown.2)) r (gives.all clean (reads has) none);
+      listed = λ clean has. mapped (λ all h sure. let shown = h sure in (shown.0, lists First old new shown.0 has shown.1, shown.2)) r (gives.all clean (reads has));
       enough = gives.enough;
       serves = λ serves. reading_serves First old new survives.clean serves r (same serves) (err serves);
       «open» = λ serves. reading_open First old new survives.clean serves r (same serves) (err serves);
