@@ -10,3 +10,4 @@ mod TableLemmas
 mod RestartLemmas
 mod StepLemmas
 mod GivingLemmas
+mod TestingLemmas

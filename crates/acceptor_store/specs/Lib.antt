@@ -7,3 +7,4 @@ pub mod Faults
 pub mod Files
 pub mod Restarts
 pub mod Steps
+pub mod Testing

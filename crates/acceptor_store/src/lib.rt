@@ -14,6 +14,7 @@ mod restarts;
 mod sqlite_rows;
 mod statements;
 mod taking_up;
+mod testing;
 mod upgrading;
 
 pub use faults::FileFault;

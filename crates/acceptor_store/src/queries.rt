@@ -7,9 +7,10 @@ ghost use Rattle.sqlite.specs.Held.{state};
 ghost use Rattle.row_table.specs.Tables.{layout_tree, layout_schema};
 ghost use Rattle.row_table.specs.Rows.{columns_at, Serves, WasKept, IsListing, AreRows};
 ghost use Rattle.row_columns.specs.Layouts.{layout_of};
+ghost use Rattle.acceptor_store.specs.Sqlite.{Lists};
 
 use row_columns::Layout;
-use row_table::{all_entries, all_rows, get_entry, get_row};
+use row_table::{Taker, all_entries, all_rows, get_entry, get_row, visit_entries, visit_rows};
 use sqlite::{Alter, Connection, Error, Row};
 
 /// The columns that are saved under a number: at most one row.
@@ -66,5 +67,35 @@ pub(crate) fn find_all<S: Alter>(
         Layout::First => all_rows(conn),
         Layout::Created => all_entries(conn),
         Layout::Upgraded => all_entries(conn),
+    }
+}
+
+/// Hands all rows to a taker, one by one and by their numbers, and answers whether these were all of them.
+pub(crate) fn visit_all<S: Alter, T: Taker>(
+    conn: &mut Connection<S>,
+    layout: Layout,
+    taker: &mut T,
+) -> Result<bool, Error>
+    ensures unchanged { HasCleanDisk (state S.Store conn.new) → (state S.Store conn.old).now.schema ≡ layout_schema (layout_of layout) → OnOk result (IsUnchanged (state S.Store conn.old) (state S.Store conn.new)) }
+    ensures listed { HasCleanDisk (state S.Store conn.new) → (state S.Store conn.old).now.schema ≡ layout_schema (layout_of layout)
+        → IfOk result (λ all. IsTrue all → Lists (layout_of layout) (state S.Store conn.old).now.trees (T.took taker.old taker.new)) }
+    ensures enough { IfOk result (λ all. all ≡ false → T.has_enough taker.new) }
+
+    // On any table, outside a transaction, it changes nothing.
+    ensures rests { HasCleanDisk (state S.Store conn.new) → (state S.Store conn.old).now.schema ≡ layout_schema (layout_of layout)
+        → (IsTrue (state S.Store conn.old).is_open → (state S.Store conn.old).now ≡ (state S.Store conn.old).committed) → IsTrue (state S.Store conn.new).is_open
+        → WasKept (state S.Store conn.old) (state S.Store conn.new) × ((state S.Store conn.new).now ≡ (state S.Store conn.new).committed) }
+    ensures leaves { HasCleanDisk (state S.Store conn.new) → (state S.Store conn.old).now.schema ≡ layout_schema (layout_of layout) → (db : _) → (state S.Store conn.new).may_leave db → (state S.Store conn.old).may_leave db }
+
+    // A connection on such a table serves.
+    ensures begins { (state S.Store conn.old).now.schema ≡ layout_schema (layout_of layout) → (state S.Store conn.old).in_transaction ≡ false
+        → (IsTrue (state S.Store conn.old).is_open → (state S.Store conn.old).now ≡ (state S.Store conn.old).committed)
+        → AreRows ((state S.Store conn.old).now.trees (layout_tree (layout_of layout))) → HasCleanDisk (state S.Store conn.new) → OnOk result (Serves (layout_of layout) (state S.Store conn.new)) }
+    ensures clean { doubt (state S.Store conn.old).is_clean ≤ doubt (state S.Store conn.new).is_clean }
+{
+    match layout {
+        Layout::First => visit_rows(conn, taker),
+        Layout::Created => visit_entries(conn, taker),
+        Layout::Upgraded => visit_entries(conn, taker),
     }
 }

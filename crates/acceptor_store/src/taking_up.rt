@@ -13,10 +13,11 @@ ghost use Rattle.row_columns.specs.StationRow.{stored_station, IsStationOf};
 ghost use Rattle.row_columns.specs.Columns.{AreSound};
 ghost use Rattle.acceptor_store.specs.Sqlite.{Agrees, HoldsRows, IsRefusal, RefusesRows, RefusesToOpen};
 
-use crate::queries::find_all;
+use crate::queries::visit_all;
 use crate::statements::fault_of;
-use row_columns::{Layout, damage_in, layout_in, layout_number, station_in};
-use row_table::{are_rising, get_station};
+use crate::testing::RowTest;
+use row_columns::{Layout, layout_in, layout_number, station_in};
+use row_table::get_station;
 use saved_rows::{Identity, RowsFault};
 use sqlite::{Alter, Connection};
 use sqlite_schema::schema::Schema;
@@ -112,17 +113,11 @@ fn test_rows<S: Alter>(conn: &mut Connection<S>, layout: Layout) -> Result<(), R
     ensures leaves { HasCleanDisk (state S.Store conn.new) → (state S.Store conn.old).now.schema ≡ layout_schema (layout_of layout) → (db : _) → (state S.Store conn.new).may_leave db → (state S.Store conn.old).may_leave db }
     ensures clean { doubt (state S.Store conn.old).is_clean ≤ doubt (state S.Store conn.new).is_clean }
 {
-    let rows = match find_all(conn, layout) {
-        Ok(rows) => rows,
-        Err(error) => return Err(fault_of(&error)),
-    };
-    if let Some(number) = damage_in(layout, rows.as_slice()) {
-        return Err(RowsFault::Damaged { number });
-    }
-    if are_rising(rows.as_slice()) {
-        Ok(())
-    } else {
-        Err(RowsFault::WrongSchema)
+    let mut test = RowTest::new(layout);
+    match visit_all(conn, layout, &mut test) {
+        // The test wants every row, so these were all of them.
+        Ok(_) => test.verdict(),
+        Err(error) => Err(fault_of(&error)),
     }
 }
 

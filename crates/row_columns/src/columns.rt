@@ -193,7 +193,7 @@ pub fn row_in(
 }
 
 /// The key of a row of the listing, where it is no circuit number or its columns are no row.
-fn damage_of(layout: Layout, row: &sqlite::Row) -> Option<i64>
+pub fn damage_of(layout: Layout, row: &sqlite::Row) -> Option<i64>
     ensures { result ≡ damage_of (column row.now 0) (row_in (layout_of layout) 1 row.now) }
 {
     let ValueRef::Int(key) = value_at(row, 0) else {

@@ -58,3 +58,7 @@ mapped f (Err e) p = tt
 pub on_ok : {V E : Type 0} {P : V → Type 0} {X : Type 0} → ((v : V) → P v → X) → (r : Result V E) → IfOk r P → OnOk r X
 on_ok f (Ok v) p = f v p
 on_ok f (Err e) p = tt
+
+pub as_answered : {V E : Type 0} {X Y : Type 0} → (X → Y) → (r : Result V E) → OnOk r X → OnOk r Y
+as_answered f (Ok v) x = f x
+as_answered f (Err e) x = tt

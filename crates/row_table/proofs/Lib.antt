@@ -18,3 +18,4 @@ pub mod AddingLemmas
 pub mod LayoutLemmas
 pub mod UpgradeLemmas
 pub mod StationLemmas
+pub mod CursorLemmas

@@ -10,6 +10,7 @@ use Rattle.sqlite.specs.Listing.{understood}
 use Rattle.sqlite.proofs.Callers.{IsPlain, never_commits}
 use Rattle.row_table.specs.Tables.{Layout, layout_tree, layout_schema}
 use Rattle.row_table.specs.Rows.{AreRows, whole, SavesIn, Serves, IsAtRest, WasSaved, WasKept}
+use Rattle.row_table.specs.Cursor.{OnlyReads, WritesNothing}
 use Rattle.row_table.proofs.PutLemmas.{Replaces, puts, commits}
 use Rattle.row_table.proofs.StateLemmas.{executes_open, refused_leaves, shown_open, shown_same, query_leaves}
 
@@ -102,7 +103,77 @@ module _ (layout : Layout) (sql : List ℕ) (n : ℕ) (row : Row) (it : Replaces
         | inr by ↦ inr (commits layout sql n row it old rest.schema rest.rows db by)
       ]
 
+-- ---- what reads: what an answer left of a connection, and what an error left
+
+pub reads_in : (layout : Layout) (sql : List ℕ) (old : State) → IsPlain (understood (layout_schema layout) sql) → old.now.schema ≡ layout_schema layout → OnlyReads old sql
+reads_in layout sql old plain has opened = subst (λ s. IsPlain (understood s sql)) (sym has) plain
+
+pub reads_serving : (layout : Layout) (sql : List ℕ) (old : State) → IsPlain (understood (layout_schema layout) sql) → Serves layout old → HasCleanDisk old → OnlyReads old sql
+reads_serving layout sql old plain serves clean opened = reads_in layout sql old plain ((serves clean).1 opened).schema opened
+
+module _ {V : Type 0} (layout : Layout) (old new : State) (falls : doubt old.is_clean ≤ doubt new.is_clean) (serves : Serves layout old) (r : Result V Error)
+    (same : HasCleanDisk new → OnOk r (IsUnchanged old new)) (err : HasCleanDisk new → OnErr r (WritesNothing old new)) where
+  rest_at : HasCleanDisk new → IsTrue old.is_open → IsAtRest layout old
+  rest_at clean = (serves (was_early old new falls clean)).1
+
+  serves_after : (r : Result V Error) → OnOk r (IsUnchanged old new) → OnErr r (WritesNothing old new) → Serves layout new
+  serves_after (Ok v) kept left = serves_unchanged layout old new falls serves kept
+  serves_after (Err e) kept left = elim left [
+    | inl unchanged ↦ serves_unchanged layout old new falls serves unchanged
+    | inr undone ↦ serves_undone layout old new falls serves undone
+  ]
+
+  kept_after : (r : Result V Error) → OnOk r (IsUnchanged old new) → OnErr r (WritesNothing old new) → HasCleanDisk new → IsTrue new.is_open → WasKept old new
+  kept_after (Ok v) kept left clean opened = kept_unchanged old new kept
+  kept_after (Err e) kept left clean opened = elim left [
+    | inl unchanged ↦ kept_unchanged old new unchanged
+    | inr undone ↦ kept_undone layout old new opened (rest_at clean (undone.was_open opened)) undone
+  ]
+
+  open_after : (r : Result V Error) → OnOk r (IsUnchanged old new) → OnOk r (IsTrue new.is_open)
+  open_after (Ok v) kept = kept.0.is_open
+  open_after (Err e) kept = tt
+
+  has_after : (r : Result V Error) → OnOk r (IsUnchanged old new) → HasCleanDisk new → OnOk r (old.now.schema ≡ layout_schema layout)
+  has_after (Ok v) kept clean = (rest_at clean kept.0.was_open).schema
+  has_after (Err e) kept clean = tt
+
+  pub reading_serves : Serves layout new
+  reading_serves clean = serves_after r (same clean) (err clean) clean
+
+  pub reading_kept : HasCleanDisk new → IsTrue new.is_open → WasKept old new
+  reading_kept clean = kept_after r (same clean) (err clean) clean
+
+  pub reading_open : HasCleanDisk new → OnOk r (IsTrue new.is_open)
+  reading_open clean = open_after r (same clean)
+
+  pub reading_has : HasCleanDisk new → OnOk r (old.now.schema ≡ layout_schema layout)
+  reading_has clean = has_after r (same clean) clean
+
+-- ---- the same outside a transaction, on any rows
+
+abbrev pub IsStill : State → Type 0
+IsStill s = IsTrue s.is_open → s.now ≡ s.committed
+
+module _ (old new : State) (still : IsStill old) where
+  rests_unchanged : IsUnchanged old new → WasKept old new × (new.now ≡ new.committed)
+  rests_unchanged same = (kept_unchanged old new same, same.0.now_is ∙ still same.0.was_open ∙ sym same.0.committed_is)
+
+  rests_undone : IsTrue new.is_open → IsRolledBack old new → WasKept old new × (new.now ≡ new.committed)
+  rests_undone opened undone =
+      let was = undone.was_open opened in
+      let now = undone.undone opened in
+      (record { was_open = was; same = now.0 ∙ sym (still was) }, now.0 ∙ sym now.1)
+
+  pub reading_rests : {V : Type 0} → (r : Result V Error) → OnOk r (IsUnchanged old new) → OnErr r (WritesNothing old new) → IsTrue new.is_open → WasKept old new × (new.now ≡ new.committed)
+  reading_rests (Ok v) kept left opened = rests_unchanged kept
+  reading_rests (Err e) kept left opened = elim left [ inl unchanged ↦ rests_unchanged unchanged | inr undone ↦ rests_undone opened undone ]
+
 -- ---- a query
+
+refused_query : {V : Type 0} (sql : List ℕ) (params : Row) (old new : State) (r : Result V Error) → IfErr r (FailsToQuery sql params old new) → OnErr r (WritesNothing old new)
+refused_query sql params old new (Ok v) fails = tt
+refused_query sql params old new (Err e) fails = query_leaves sql params old new e fails
 
 module _ (layout : Layout) (sql : List ℕ) (params : Row) (old new : State) (plain : IsPlain (understood (layout_schema layout) sql)) (serves : Serves layout old) (law_old : IsSettled old)
     (survives : Survives old new (CommitsShowing sql params old)) where
@@ -117,24 +188,6 @@ module _ (layout : Layout) (sql : List ℕ) (params : Row) (old new : State) (pl
       let rest = (serves (early_q clean)).1 (shown_open sql params old new rows h) in
       (rest, shown_same sql params old new rows (plain_at rest) h)
 
-  pub shows_serves : (rows : List Row) → HasCleanDisk new → Shown sql params old new rows → Serves layout new
-  shows_serves rows clean h = serves_unchanged layout old new survives.clean serves (shows_same clean rows h).1
-
-  pub shows_kept : (rows : List Row) → HasCleanDisk new → Shown sql params old new rows → WasKept old new × IsTrue new.is_open
-  shows_kept rows clean h = let both = shows_same clean rows h in (kept_unchanged old new both.1, both.1.0.is_open)
-
-  pub fails_serves : (e : Error) → FailsToQuery sql params old new e → Serves layout new
-  fails_serves e h = elim (query_leaves sql params old new e h) [
-    | inl same ↦ serves_unchanged layout old new survives.clean serves same
-    | inr undone ↦ serves_undone layout old new survives.clean serves undone
-  ]
-
-  pub fails_kept : (e : Error) → HasCleanDisk new → IsTrue new.is_open → FailsToQuery sql params old new e → WasKept old new
-  fails_kept e clean opened h = elim (query_leaves sql params old new e h) [
-    | inl same ↦ kept_unchanged old new same
-    | inr undone ↦ kept_undone layout old new opened ((serves (early_q clean)).1 (undone.was_open opened)) undone
-  ]
-
   pub query_crash : HasCleanDisk new → IsTrue old.is_open → (db : Trees) → new.may_leave db → old.may_leave db
   query_crash clean opened db left = elim (survives.crash clean db left) [
     | inl before ↦ before
@@ -142,26 +195,24 @@ module _ (layout : Layout) (sql : List ℕ) (params : Row) (old new : State) (pl
   ]
 
   module _ {V : Type 0} (items : V → List Row) (r : Result V Error) (ok : HasCleanDisk new → IfOk r (λ v. Shown sql params old new (items v))) (err : HasCleanDisk new → IfErr r (FailsToQuery sql params old new)) where
-    serves_at : (r : Result V Error) → IfOk r (λ v. Shown sql params old new (items v)) → IfErr r (FailsToQuery sql params old new) → HasCleanDisk new → Serves layout new
-    serves_at (Ok v) h e clean = shows_serves (items v) clean h
-    serves_at (Err x) h e clean = fails_serves x e
+    kept_at : (r : Result V Error) → IfOk r (λ v. Shown sql params old new (items v)) → HasCleanDisk new → OnOk r (IsUnchanged old new)
+    kept_at (Ok v) h clean = (shows_same clean (items v) h).1
+    kept_at (Err x) h clean = tt
 
-    kept_at : (r : Result V Error) → IfOk r (λ v. Shown sql params old new (items v)) → IfErr r (FailsToQuery sql params old new) → HasCleanDisk new → IsTrue new.is_open → WasKept old new
-    kept_at (Ok v) h e clean opened = (shows_kept (items v) clean h).0
-    kept_at (Err x) h e clean opened = fails_kept x clean opened e
+    same_q : HasCleanDisk new → OnOk r (IsUnchanged old new)
+    same_q clean = kept_at r (ok clean) clean
 
-    open_at : (r : Result V Error) → IfOk r (λ v. Shown sql params old new (items v)) → HasCleanDisk new → OnOk r (IsTrue new.is_open)
-    open_at (Ok v) h clean = (shows_kept (items v) clean h).1
-    open_at (Err x) h clean = tt
+    err_q : HasCleanDisk new → OnErr r (WritesNothing old new)
+    err_q clean = refused_query sql params old new r (err clean)
 
     pub query_serves : Serves layout new
-    query_serves clean = serves_at r (ok clean) (err clean) clean clean
+    query_serves = reading_serves layout old new survives.clean serves r same_q err_q
 
     pub query_kept : HasCleanDisk new → IsTrue new.is_open → WasKept old new
-    query_kept clean = kept_at r (ok clean) (err clean) clean
+    query_kept = reading_kept layout old new survives.clean serves r same_q err_q
 
     pub query_open : HasCleanDisk new → OnOk r (IsTrue new.is_open)
-    query_open clean = open_at r (ok clean) clean
+    query_open = reading_open layout old new survives.clean serves r same_q err_q
 
     answers_at : (P : V → Type 0) → ((v : V) → IsAtRest layout old → Shown sql params old new (items v) → P v) → (r : Result V Error) → IfOk r (λ v. Shown sql params old new (items v)) → HasCleanDisk new → IfOk r P
     answers_at P f (Ok v) h clean = f v (shows_same clean (items v) h).0 h
@@ -172,22 +223,13 @@ module _ (layout : Layout) (sql : List ℕ) (params : Row) (old new : State) (pl
 
 -- ---- a query outside a transaction, on any rows
 
-abbrev pub IsStill : State → Type 0
-IsStill s = IsTrue s.is_open → s.now ≡ s.committed
-
 module _ (layout : Layout) {V : Type 0} (items : V → List Row) (sql : List ℕ) (params : Row) (old new : State) (plain : IsPlain (understood (layout_schema layout) sql)) (has : old.now.schema ≡ layout_schema layout) (still : IsStill old) where
-  rests_unchanged : IsUnchanged old new → WasKept old new × (new.now ≡ new.committed)
-  rests_unchanged same = (kept_unchanged old new same, same.0.now_is ∙ still same.0.was_open ∙ sym same.0.committed_is)
-
-  rests_undone : IsTrue new.is_open → IsRolledBack old new → WasKept old new × (new.now ≡ new.committed)
-  rests_undone opened undone =
-      let was = undone.was_open opened in
-      let now = undone.undone opened in
-      (record { was_open = was; same = now.0 ∙ sym (still was) }, now.0 ∙ sym now.1)
+  shows_in : (r : Result V Error) → IfOk r (λ v. Shown sql params old new (items v)) → OnOk r (IsUnchanged old new)
+  shows_in (Ok v) h = shown_same sql params old new (items v) (subst (λ s. IsPlain (understood s sql)) (sym has) plain) h
+  shows_in (Err x) h = tt
 
   pub query_rests : (r : Result V Error) → IfOk r (λ v. Shown sql params old new (items v)) → IfErr r (FailsToQuery sql params old new) → IsTrue new.is_open → WasKept old new × (new.now ≡ new.committed)
-  query_rests (Ok v) h e opened = rests_unchanged (shown_same sql params old new (items v) (subst (λ s. IsPlain (understood s sql)) (sym has) plain) h)
-  query_rests (Err x) h e opened = elim (query_leaves sql params old new x e) [ inl same ↦ rests_unchanged same | inr undone ↦ rests_undone opened undone ]
+  query_rests r h e = reading_rests old new still r (shows_in r h) (refused_query sql params old new r e)
 
 -- a crash leaves what it might have left before
 pub query_left : (layout : Layout) (sql : List ℕ) (params : Row) (old new : State) → IsPlain (understood (layout_schema layout) sql) → old.now.schema ≡ layout_schema layout → Survives old new (CommitsShowing sql params old)

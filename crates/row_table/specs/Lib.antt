@@ -3,3 +3,4 @@ pub mod Rows
 pub mod Rising
 pub mod Station
 pub mod Entries
+pub mod Cursor

@@ -1,6 +1,7 @@
 //! The statements on the table of entries, outside a transaction.
 
-ghost use Rattle.std.specs.Prelude.{◌≡◌, ◌⊎◌, ◌≤◌, false, OnOk, OnErr, IfOk, IsTrue, option_map, option_to_list};
+ghost use Rattle.std.specs.Prelude.{[], List, ◌≡◌, ◌⊎◌, ◌≤◌, false, OnOk, OnErr, IfOk, IsTrue, option_map, option_to_list};
+ghost use Rattle.sqlite_value.specs.Order.{Row as RowValue};
 ghost use Rattle.sqlite_trees.specs.View.{doubt};
 ghost use Rattle.sqlite.specs.State.{HasCleanDisk, IsUnchanged};
 ghost use Rattle.sqlite.specs.Held.{state};
@@ -9,8 +10,13 @@ ghost use Rattle.row_table.specs.Tables.Layout.{Second};
 ghost use Rattle.row_table.specs.Rows.{SavesIn, Serves, WasSaved, WasKept, columns_at, IsListing, AreRows};
 ghost use Rattle.row_table.specs.Entries.{entry_columns};
 
+use crate::cursor::{Taker, each_row};
 use crate::entries::EntryColumns;
 use sqlite::{Alter, Connection, Error, Row, params};
+
+/// The statement that lists all entries.
+const ALL_ENTRIES: &str =
+    "SELECT number, promised_round, promised_owner, vote_round, vote_owner, length, packed FROM acceptor_entry ORDER BY number";
 
 /// Puts one entry in place of the one under its number. It gives how many rows the statement changed.
 fn replace_entry<S: Alter>(conn: &mut Connection<S>, entry: &EntryColumns) -> Result<usize, Error>
@@ -101,8 +107,39 @@ pub fn all_entries<S: Alter>(conn: &mut Connection<S>) -> Result<Vec<Row>, Error
         → AreRows ((state S.Store conn.old).now.trees (entries_tree origin)) → HasCleanDisk (state S.Store conn.new) → OnOk result (Serves (Second origin) (state S.Store conn.new)) }
     ensures clean { doubt (state S.Store conn.old).is_clean ≤ doubt (state S.Store conn.new).is_clean }
 {
-    conn.query_all(
-        "SELECT number, promised_round, promised_owner, vote_round, vote_owner, length, packed FROM acceptor_entry ORDER BY number",
-        &[],
-    )
+    conn.query_all(ALL_ENTRIES, &[])
+}
+
+/// Hands all entries to a taker, one by one, each with its number first, by their numbers, and answers whether these were all of them.
+///
+/// They are not all where the taker wanted no more. An error comes where the database refuses the statement, as in `get_entry`; the taker may have had entries by then.
+pub fn visit_entries<S: Alter, T: Taker>(
+    conn: &mut Connection<S>,
+    taker: &mut T,
+) -> Result<bool, Error>
+    ensures unchanged { (origin : Origin) → HasCleanDisk (state S.Store conn.new) → (state S.Store conn.old).now.schema ≡ layout_schema (Second origin) → OnOk result (IsUnchanged (state S.Store conn.old) (state S.Store conn.new)) }
+    ensures listed { (origin : Origin) → HasCleanDisk (state S.Store conn.new) → (state S.Store conn.old).now.schema ≡ layout_schema (Second origin)
+        → IfOk result (λ all. IsTrue all → (rows : List RowValue) × IsListing (Second origin) ((state S.Store conn.old).now.trees (entries_tree origin)) rows × T.took taker.old taker.new rows) }
+    ensures enough { IfOk result (λ all. all ≡ false → T.has_enough taker.new) }
+    ensures serves { (origin : Origin) → Serves (Second origin) (state S.Store conn.old) → Serves (Second origin) (state S.Store conn.new) }
+    ensures open { (origin : Origin) → Serves (Second origin) (state S.Store conn.old) → HasCleanDisk (state S.Store conn.new) → OnOk result (IsTrue (state S.Store conn.new).is_open) }
+    ensures at_rest { (origin : Origin) → Serves (Second origin) (state S.Store conn.old) → HasCleanDisk (state S.Store conn.new) → OnOk result ((state S.Store conn.old).now.schema ≡ layout_schema (Second origin)) }
+    ensures same { (origin : Origin) → Serves (Second origin) (state S.Store conn.old) → HasCleanDisk (state S.Store conn.new) → IsTrue (state S.Store conn.new).is_open → WasKept (state S.Store conn.old) (state S.Store conn.new) }
+    ensures crash { (origin : Origin) → Serves (Second origin) (state S.Store conn.old) → HasCleanDisk (state S.Store conn.new) → IsTrue (state S.Store conn.old).is_open
+        → (db : _) → (state S.Store conn.new).may_leave db → (state S.Store conn.old).may_leave db }
+
+    // On any table, outside a transaction, it changes nothing.
+    ensures rests { (origin : Origin) → HasCleanDisk (state S.Store conn.new) → (state S.Store conn.old).now.schema ≡ layout_schema (Second origin)
+        → (IsTrue (state S.Store conn.old).is_open → (state S.Store conn.old).now ≡ (state S.Store conn.old).committed) → IsTrue (state S.Store conn.new).is_open
+        → WasKept (state S.Store conn.old) (state S.Store conn.new) × ((state S.Store conn.new).now ≡ (state S.Store conn.new).committed) }
+    ensures leaves { (origin : Origin) → HasCleanDisk (state S.Store conn.new) → (state S.Store conn.old).now.schema ≡ layout_schema (Second origin) → (db : _) → (state S.Store conn.new).may_leave db → (state S.Store conn.old).may_leave db }
+    ensures alone { (state S.Store conn.old).in_transaction ≡ false → (state S.Store conn.new).in_transaction ≡ false }
+
+    // A connection on a table of entries serves.
+    ensures begins { (origin : Origin) → (state S.Store conn.old).now.schema ≡ layout_schema (Second origin) → (state S.Store conn.old).in_transaction ≡ false
+        → (IsTrue (state S.Store conn.old).is_open → (state S.Store conn.old).now ≡ (state S.Store conn.old).committed)
+        → AreRows ((state S.Store conn.old).now.trees (entries_tree origin)) → HasCleanDisk (state S.Store conn.new) → OnOk result (Serves (Second origin) (state S.Store conn.new)) }
+    ensures clean { doubt (state S.Store conn.old).is_clean ≤ doubt (state S.Store conn.new).is_clean }
+{
+    each_row(conn, ALL_ENTRIES, taker)
 }

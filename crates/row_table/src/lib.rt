@@ -1,6 +1,7 @@
 //! The tables of a row store, as SQL: the statements, and what each makes of the tables.
 #![tactic(auto)]
 
+mod cursor;
 mod entries;
 mod entry_rows;
 mod rising;
@@ -9,10 +10,11 @@ mod station;
 mod tables;
 mod upgrading;
 
+pub use cursor::Taker;
 pub use entries::{EntryColumns, add_entries, add_entry, make_entry_table};
-pub use entry_rows::{all_entries, get_entry, put_entry};
-pub use rising::are_rising;
-pub use rows::{all_rows, get_row, put_row};
+pub use entry_rows::{all_entries, get_entry, put_entry, visit_entries};
+pub use rising::{are_rising, number_above, rising_is_listed};
+pub use rows::{all_rows, get_row, put_row, visit_rows};
 pub use station::get_station;
 pub use tables::{create_entry_tables, create_tables};
 pub use upgrading::upgrade_tables;

@@ -1,6 +1,7 @@
 //! The statements on the table of rows.
 
-ghost use Rattle.std.specs.Prelude.{◌≡◌, ◌⊎◌, ◌≤◌, OnOk, OnErr, IfOk, option_to_list, IsTrue, option_map, false};
+ghost use Rattle.std.specs.Prelude.{[], List, ◌≡◌, ◌⊎◌, ◌≤◌, OnOk, OnErr, IfOk, option_to_list, IsTrue, option_map, false};
+ghost use Rattle.sqlite_value.specs.Order.{Row as RowValue};
 ghost use Rattle.sqlite_trees.specs.View.{doubt};
 ghost use Rattle.sqlite.specs.State.{HasCleanDisk, IsUnchanged};
 ghost use Rattle.sqlite.specs.Held.{state};
@@ -8,7 +9,12 @@ ghost use Rattle.row_table.specs.Tables.{rows_tree, layout_schema};
 ghost use Rattle.row_table.specs.Tables.Layout.{First};
 ghost use Rattle.row_table.specs.Rows.{columns_of, columns_at, SavesIn, Serves, WasSaved, WasKept, IsListing, AreRows};
 
+use crate::cursor::{Taker, each_row};
 use sqlite::{Alter, Connection, Error, Row, params};
+
+/// The statement that lists all rows.
+const ALL_ROWS: &str =
+    "SELECT number, promised_round, promised_owner, vote_round, vote_owner, tape FROM acceptor_row ORDER BY number";
 
 /// Puts one row in place of the one under its number. It gives how many rows the statement changed.
 fn replace_row<S: Alter>(
@@ -114,8 +120,39 @@ pub fn all_rows<S: Alter>(conn: &mut Connection<S>) -> Result<Vec<Row>, Error>
         → AreRows ((state S.Store conn.old).now.trees rows_tree) → HasCleanDisk (state S.Store conn.new) → OnOk result (Serves First (state S.Store conn.new)) }
     ensures clean { doubt (state S.Store conn.old).is_clean ≤ doubt (state S.Store conn.new).is_clean }
 {
-    conn.query_all(
-        "SELECT number, promised_round, promised_owner, vote_round, vote_owner, tape FROM acceptor_row ORDER BY number",
-        &[],
-    )
+    conn.query_all(ALL_ROWS, &[])
+}
+
+/// Hands all rows to a taker, one by one and by their numbers, and answers whether these were all of them.
+///
+/// They are not all where the taker wanted no more. An error comes where the database refuses the statement, as in `all_rows`; the taker may have had rows by then.
+pub fn visit_rows<S: Alter, T: Taker>(
+    conn: &mut Connection<S>,
+    taker: &mut T,
+) -> Result<bool, Error>
+    ensures unchanged { HasCleanDisk (state S.Store conn.new) → (state S.Store conn.old).now.schema ≡ layout_schema First → OnOk result (IsUnchanged (state S.Store conn.old) (state S.Store conn.new)) }
+    ensures listed { HasCleanDisk (state S.Store conn.new) → (state S.Store conn.old).now.schema ≡ layout_schema First
+        → IfOk result (λ all. IsTrue all → (rows : List RowValue) × IsListing First ((state S.Store conn.old).now.trees rows_tree) rows × T.took taker.old taker.new rows) }
+    ensures enough { IfOk result (λ all. all ≡ false → T.has_enough taker.new) }
+    ensures serves { Serves First (state S.Store conn.old) → Serves First (state S.Store conn.new) }
+    ensures open { Serves First (state S.Store conn.old) → HasCleanDisk (state S.Store conn.new) → OnOk result (IsTrue (state S.Store conn.new).is_open) }
+    ensures at_rest { Serves First (state S.Store conn.old) → HasCleanDisk (state S.Store conn.new) → OnOk result ((state S.Store conn.old).now.schema ≡ layout_schema First) }
+    ensures same { Serves First (state S.Store conn.old) → HasCleanDisk (state S.Store conn.new) → IsTrue (state S.Store conn.new).is_open → WasKept (state S.Store conn.old) (state S.Store conn.new) }
+    ensures crash { Serves First (state S.Store conn.old) → HasCleanDisk (state S.Store conn.new) → IsTrue (state S.Store conn.old).is_open
+        → (db : _) → (state S.Store conn.new).may_leave db → (state S.Store conn.old).may_leave db }
+
+    // On any table, outside a transaction, it changes nothing.
+    ensures rests { HasCleanDisk (state S.Store conn.new) → (state S.Store conn.old).now.schema ≡ layout_schema First
+        → (IsTrue (state S.Store conn.old).is_open → (state S.Store conn.old).now ≡ (state S.Store conn.old).committed) → IsTrue (state S.Store conn.new).is_open
+        → WasKept (state S.Store conn.old) (state S.Store conn.new) × ((state S.Store conn.new).now ≡ (state S.Store conn.new).committed) }
+    ensures leaves { HasCleanDisk (state S.Store conn.new) → (state S.Store conn.old).now.schema ≡ layout_schema First → (db : _) → (state S.Store conn.new).may_leave db → (state S.Store conn.old).may_leave db }
+    ensures alone { (state S.Store conn.old).in_transaction ≡ false → (state S.Store conn.new).in_transaction ≡ false }
+
+    // A connection on a table of rows serves.
+    ensures begins { (state S.Store conn.old).now.schema ≡ layout_schema First → (state S.Store conn.old).in_transaction ≡ false
+        → (IsTrue (state S.Store conn.old).is_open → (state S.Store conn.old).now ≡ (state S.Store conn.old).committed)
+        → AreRows ((state S.Store conn.old).now.trees rows_tree) → HasCleanDisk (state S.Store conn.new) → OnOk result (Serves First (state S.Store conn.new)) }
+    ensures clean { doubt (state S.Store conn.old).is_clean ≤ doubt (state S.Store conn.new).is_clean }
+{
+    each_row(conn, ALL_ROWS, taker)
 }

@@ -1,17 +1,21 @@
-use Rattle.std.proofs.Common.{rules, ◌≡◌, true, None}
-use Rattle.row_table.specs.Rising.{rise_from, AreListed}
-use Rattle.row_table.specs.Tables.{layout_tree}
-use Rattle.row_columns.specs.Layouts.{layout_of}
-use Rattle.row_columns.specs.Columns.{damage_in}
-use Rattle.acceptor_store.proofs.ListLemmas.{sound_table}
+use Rattle.sqlite.specs.Held.{state}
+use Rattle.acceptor_store.proofs.TestingLemmas.{had_all, on_ok}
 use Rattle.acceptor_store.proofs.taking_up.test_rows.Goals as goal
 
-pub returns-then-are_rising-clause-sound : goal.returns-then-are_rising-clause-sound
-returns-then-are_rising-clause-sound g c clean has =
-    let layout = layout_of c.args.layout in
-    let rows = c.in-Ok.rows.items in
-    let table = (g.S.Store.view c.args.conn.now.store).trees (layout_tree layout) in
-    let rises : rise_from None rows ≡ true = search rules in
-    let none : damage_in layout rows ≡ None = search rules in
-    let listed : AreListed layout table rows = (rw c.as_slice-2.ensures.value at c.are_rising.ensures.table) c.if-are_rising.true layout table (c.in-Ok.ensures.listed clean has) in
-    sound_table layout table rows listed rises none
+pub returns-in-Ok-clause-sound : goal.returns-in-Ok-clause-sound
+returns-in-Ok-clause-sound g c clean has =
+    let trees = (state g.S.Store c.args.conn.now).now.trees in
+    let lists = had_all c.args.layout trees c.new-test.result c.visit_all.new.taker c.in-Ok.field-0 c.new-test.ensures (c.in-Ok.ensures.listed clean has) c.in-Ok.ensures.enough in
+    on_ok (λ both. both.1) c.verdict.result (c.verdict.ensures.sound c.args.layout trees lists)
+
+pub returns-in-Ok-clause-serves : goal.returns-in-Ok-clause-serves
+returns-in-Ok-clause-serves g c clean has alone settled =
+    let trees = (state g.S.Store c.args.conn.now).now.trees in
+    let lists = had_all c.args.layout trees c.new-test.result c.visit_all.new.taker c.in-Ok.field-0 c.new-test.ensures (c.in-Ok.ensures.listed clean has) c.in-Ok.ensures.enough in
+    on_ok (λ both. c.in-Ok.ensures.begins has alone settled both.0 clean) c.verdict.result (c.verdict.ensures.sound c.args.layout trees lists)
+
+pub returns-in-Ok-clause-refuses : goal.returns-in-Ok-clause-refuses
+returns-in-Ok-clause-refuses g c clean has =
+    let trees = (state g.S.Store c.args.conn.now).now.trees in
+    let lists = had_all c.args.layout trees c.new-test.result c.visit_all.new.taker c.in-Ok.field-0 c.new-test.ensures (c.in-Ok.ensures.listed clean has) c.in-Ok.ensures.enough in
+    c.verdict.ensures.refuses c.args.layout trees lists

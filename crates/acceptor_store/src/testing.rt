@@ -1,0 +1,96 @@
+//! A test of rows that has them one by one, as they are read.
+
+ghost use Rattle.std.specs.Prelude.{◌≡◌, ◌∷◌, ◌&&◌, List, IfErr, OnOk, refl};
+ghost use Rattle.sqlite_value.specs.Order.{Row as RowValue, column};
+ghost use Rattle.sqlite_trees.specs.Tree.{Trees};
+ghost use Rattle.row_table.specs.Tables.{layout_tree};
+ghost use Rattle.row_table.specs.Rows.{AreRows};
+ghost use Rattle.row_table.specs.Rising.{rise_from};
+ghost use Rattle.row_columns.specs.Layouts.{layout_of};
+ghost use Rattle.row_columns.specs.Columns.{row_in, damage_of, first_of, AreSound};
+ghost use Rattle.acceptor_store.specs.Sqlite.{Lists, RefusesRows};
+ghost use Rattle.acceptor_store.specs.Testing.{begun, LeadsTo};
+
+use row_columns::{Layout, damage_of};
+use row_table::{Taker, number_above, rising_is_listed};
+use saved_rows::RowsFault;
+use sqlite::Row;
+
+/// What was found in the rows of a listing up to here.
+#[derive(Drop)]
+pub(crate) struct RowTest {
+    layout: Layout,
+    /// The key of the first row that is damaged, if any is.
+    damage: Option<i64>,
+    /// The number of the last row.
+    last: Option<u64>,
+    /// Whether the numbers have risen from row to row.
+    rising: bool,
+}
+
+impl RowTest {
+    /// A test that has had no row.
+    pub(crate) fn new(layout: Layout) -> RowTest
+        ensures { result ≡ begun layout }
+    {
+        RowTest {
+            layout,
+            damage: None,
+            last: None,
+            rising: true,
+        }
+    }
+
+    /// Keeps the key of a damaged row, unless one came before.
+    fn see_damage(&mut self, row: &Row)
+        ensures damage { self.new.damage ≡ first_of self.old.damage (damage_of (column row.now 0) (row_in (layout_of self.old.layout) 1 row.now)) }
+        ensures same { self.new ≡ record self.old { damage = self.new.damage } }
+    {
+        if self.damage.is_none() {
+            self.damage = damage_of(self.layout, row);
+        }
+    }
+
+    /// Keeps the number of a row, or that it is not above the last.
+    fn see_number(&mut self, row: &Row)
+        ensures rises { (rows : List RowValue) → (self.old.rising && rise_from self.old.last (row.now ∷ rows)) ≡ (self.new.rising && rise_from self.new.last rows) }
+        ensures same { self.new ≡ record self.old { last = self.new.last; rising = self.new.rising } }
+    {
+        match number_above(self.last, row) {
+            Some(number) => self.last = Some(number),
+            None => self.rising = false,
+        }
+    }
+
+    /// What is wrong with the rows of a listing that it has had to the end: a row that is damaged, or else numbers that do not rise.
+    pub(crate) fn verdict(&self) -> Result<(), RowsFault>
+        ensures sound { (layout : _) (trees : Trees) → Lists (layout_of layout) trees (LeadsTo (begun layout) self.now)
+            → OnOk result (AreRows (trees (layout_tree (layout_of layout))) × AreSound (layout_of layout) (trees (layout_tree (layout_of layout)))) }
+        ensures refuses { (layout : _) (trees : Trees) → Lists (layout_of layout) trees (LeadsTo (begun layout) self.now) → IfErr result (RefusesRows (layout_of layout) trees) }
+    {
+        rising_is_listed();
+        if let Some(number) = self.damage {
+            return Err(RowsFault::Damaged { number });
+        }
+        if self.rising {
+            Ok(())
+        } else {
+            Err(RowsFault::WrongSchema)
+        }
+    }
+}
+
+impl Taker for RowTest {
+    ghost took = { LeadsTo };
+
+    // A damaged row may still come, so it wants every row.
+    ghost has_enough = { λ _. ⊥ };
+
+    fn take(&mut self, row: &Row) -> bool {
+        self.see_damage(row);
+        self.see_number(row);
+        true
+    }
+
+    ghost took_none = { λ _. record { layout = refl; damage = λ _. refl; rises = λ _. refl } };
+}

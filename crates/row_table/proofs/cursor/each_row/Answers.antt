@@ -1,0 +1,27 @@
+use Rattle.std.proofs.Common.{[], refl, rules, arith}
+use Rattle.sqlite.specs.State.{HasCleanDisk}
+use Rattle.sqlite.specs.Held.{state}
+use Rattle.row_table.proofs.StateLemmas.{query_leaves}
+use Rattle.row_table.proofs.CursorLemmas.{begun_reading, shown_since}
+use Rattle.row_table.proofs.cursor.each_row.Goals as goal
+
+pub returns-in_err-rows-clause-err : goal.returns-in_err-rows-clause-err
+returns-in_err-rows-clause-err g c clean reads =
+    let refused = rw c.in_err-rows.was at c.query.follows.holds-at-none in
+    let left = query_leaves c.args.sql.now [] (state g.S.Store c.args.conn.now) (state g.S.Store c.query.follows.lender-at-none) c.in_err-rows.field-0.0 (refused.err clean) in
+    search rules
+
+pub rows-init : goal.rows-init
+rows-init g c =
+    let made = c.in_ok-rows.ensures in
+    (refl, made.survives, made.mode, λ clean reads. let begun = begun_reading g.S.Store c.args.sql.now [] c.args.conn.now _ reads (made.begun clean) in (begun.1, [], begun.0, g.met.T.Taker.took_none c.args.taker.now))
+
+pub returns-in_default-clause-all : goal.returns-in_default-clause-all
+returns-in_default-clause-all g c clean reads _ =
+    let moved = c.next.follows.holds-at-none in
+    let now = c.next.follows.lender-at-none.conn.now in
+    let late : HasCleanDisk (state g.S.Store now) = search rules in
+    let was = c.rows.invariant.3 (omega (arith, moved.survives.clean)) reads in
+    let shown = (rw (c.in_ok-row.was, c.in_default.is) at (moved.ok late)) c.args.sql.now [] was.1 was.2 in
+    let since = shown_since c.args.sql.now [] (state g.S.Store c.args.conn.now) (state g.S.Store c.rows.rows.conn.now) (state g.S.Store now) was.1 reads was.0 shown in
+    search rules
