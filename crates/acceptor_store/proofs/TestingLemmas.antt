@@ -1,14 +1,14 @@
--- What a test knows of rows after one row more, and at their end.
-use Rattle.std.proofs.Common.{◌≡◌, ◌++◌, ◌&&◌, ◌∷◌, [], ℤ, Bool, true, false, List, Option, None, Some, Result, Ok, Err, OnOk, IfOk, IsTrue, refl, sym, ap, subst, ◌∙◌}
-use Rattle.std.proofs.lemmas.List.{append_assoc, append-nil}
-use Rattle.sqlite_value.specs.Order.{Row as Columns, column}
+-- What a test found in a listing that it had to the end.
+use Rattle.std.proofs.Common.{◌≡◌, ◌&&◌, [], ℤ, Bool, true, false, List, Option, None, Some, Result, Ok, Err, OnOk, IsTrue, refl, sym, ap, subst, ◌∙◌}
+use Rattle.std.proofs.lemmas.List.{append-nil}
+use Rattle.sqlite_value.specs.Order.{Row as Columns}
 use Rattle.sqlite_trees.specs.Tree.{Trees}
 use Rattle.row_table.specs.Tables.{Layout as Tables, layout_tree}
 use Rattle.row_table.specs.Rows.{IsListing, AreRows}
 use Rattle.row_table.specs.Rising.{rise_from, AreListed}
 use Rattle.row_columns.specs.declared.layout.Layout.{Layout}
 use Rattle.row_columns.specs.Layouts.{layout_of}
-use Rattle.row_columns.specs.Columns.{row_in, damage_of, first_of, damage_in, AreSound}
+use Rattle.row_columns.specs.Columns.{first_of, damage_in, AreSound}
 use Rattle.acceptor_store.specs.declared.testing.RowTest.{RowTest}
 use Rattle.acceptor_store.specs.Sqlite.{Lists}
 use Rattle.acceptor_store.specs.Testing.{begun, LeadsTo}
