@@ -1,27 +1,16 @@
-//! Stops while a station is offered a tape: a new one over the rows releases it, or finds nothing and releases another.
+//! Stops while a station is offered a tape, and behind that: what it released is saved, or its vote where it could not tell of it any
+//! more. A new station over the rows releases what is saved; where nothing is, it releases another tape. Started again it releases
+//! the same.
 
-use crate::disks::Side;
-use crate::stops::{Stops, all_stop};
+use crate::stops::{stops_in_the_closing, stops_in_the_work};
 use crate::works::Work;
 
 #[test]
 fn the_log_stops(rt: HostRuntime) {
-    let stops = Stops {
-        work: Work::Offer,
-        side: Side::Log,
-        from: 0,
-        to: 12,
-    };
-    assert!(rt; all_stop(rt.alloc(), &stops));
+    assert!(rt; stops_in_the_work(rt.alloc(), Work::Offer));
 }
 
 #[test]
 fn the_database_stops(rt: HostRuntime) {
-    let stops = Stops {
-        work: Work::Offer,
-        side: Side::Database,
-        from: 0,
-        to: 12,
-    };
-    assert!(rt; all_stop(rt.alloc(), &stops));
+    assert!(rt; stops_in_the_closing(rt.alloc(), Work::Offer));
 }

@@ -1,27 +1,15 @@
-//! Stops while `serve` is offered a tape: all that was saved is found.
+//! Stops while `serve` is offered a tape, and behind that: what it printed is saved, or its vote where it could not print it any more;
+//! and a new station releases that, as where a station is offered it.
 
-use crate::disks::Side;
-use crate::stops::{Stops, all_stop};
+use crate::stops::{stops_in_the_closing, stops_in_the_work};
 use crate::works::Work;
 
 #[test]
 fn the_log_stops(rt: HostRuntime) {
-    let stops = Stops {
-        work: Work::Serve,
-        side: Side::Log,
-        from: 0,
-        to: 12,
-    };
-    assert!(rt; all_stop(rt.alloc(), &stops));
+    assert!(rt; stops_in_the_work(rt.alloc(), Work::Serve));
 }
 
 #[test]
 fn the_database_stops(rt: HostRuntime) {
-    let stops = Stops {
-        work: Work::Serve,
-        side: Side::Database,
-        from: 0,
-        to: 12,
-    };
-    assert!(rt; all_stop(rt.alloc(), &stops));
+    assert!(rt; stops_in_the_closing(rt.alloc(), Work::Serve));
 }
