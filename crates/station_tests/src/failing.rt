@@ -1,11 +1,13 @@
 //! Stores that refuse a save, and memory that is refused as rows are read.
 
-use crate::circuits::Act::{Balk, Deliver, OfferFlood, OfferLigature, Restart, Seek};
+use crate::circuits::Act::{
+    Balk, Deliver, OfferFlood, OfferLigature, Restart, Seek, Upgrade, Withdraw,
+};
 use crate::circuits::{
     CALM, FLOOD_BODY, FLOOD_SET, Line, NO_REPORT, Offered, PREPARE, Released, Sent, Story,
     WIDTHS_WITHOUT_FI, Way, fails_at, fails_unread_at,
 };
-use crate::entries::FLOOD;
+use crate::entries::{FLOOD, VOID};
 
 /// The row was saved as the store failed: it is released after the restart.
 const SAVED: Story = Story {
@@ -63,9 +65,9 @@ fn a_store_that_refuses(rt: HostRuntime) {
     }
 }
 
-/// Each member is refused memory as it reads its row for the first time: it stops, and nothing is sent, saved or released. Once it
-/// has started again the same step goes as it does with a blank row, and the story is agreed.
-const UNREAD: &[Story] = &[Story {
+/// Each member is refused memory as it reads its row: it stops, and nothing is sent, saved or released. Once it has started
+/// again the same step goes as it does with a blank row, and the story is agreed.
+const UNREAD_ROW: Story = Story {
     lines: &[
         Line(OfferFlood(1), 1, 1, 0, false, "stopped memory"),
         Line(Seek(1), 1, 1, 0, false, "refused stopped"),
@@ -100,12 +102,29 @@ const UNREAD: &[Story] = &[Story {
         Released(2, FLOOD, Ok(FLOOD_SET)),
     ],
     ..CALM
-}];
+};
+
+/// A member is refused memory as it goes over, for which its rows are read: it stays at version 1.
+const UNREAD_ROWS: Story = Story {
+    members: 1,
+    lines: &[
+        Line(Upgrade(1), 1, 1, 0, false, "stopped memory"),
+        Line(Withdraw(1), 1, 1, 0, false, "refused stopped"),
+        Line(Restart(1), 1, 1, 0, false, "restarted"),
+        Line(Withdraw(1), 1, 1, 0, false, "refused wire-too-old"),
+        Line(Upgrade(1), 1, 1, 0, false, "upgraded"),
+        Line(Withdraw(1), 1, 1, 0, true, "proposed 1.1"),
+    ],
+    offers: &[Offered(1, VOID)],
+    releases: &[Released(1, VOID, Ok(""))],
+    ..CALM
+};
+
+const UNREAD: &[Story] = &[UNREAD_ROW, UNREAD_ROWS];
 
 #[test]
 fn where_memory_is_refused_nothing_else_changes(rt: HostRuntime) {
-    for story in UNREAD {
-        let place = fails_unread_at(rt.alloc(), story);
-        assert!(rt; place.is_none(), "{}", place.unwrap_or(0));
+    for (place, story) in UNREAD.iter().enumerate() {
+        assert!(rt; fails_unread_at(rt.alloc(), story).is_none(), "{place}");
     }
 }
