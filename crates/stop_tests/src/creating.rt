@@ -1,11 +1,23 @@
-//! Stops while saved rows are made in the second layout, whichever of the two disks stops: they are not there, or are there with no
-//! row. In the first layout they are made where two rows are saved.
+//! Stops while saved rows are made: they are not there, or are there with no row.
 
-use crate::stops::both_come_to_an_end;
+use crate::disks::Side;
+use crate::stops::stops_around;
 use crate::works::Work;
 use tape_frames::Version;
 
+/// Rows of either layout.
+const BLANK: &[Work] = &[Work::Create(Version::One), Work::Create(Version::Two)];
+
 #[test]
-fn either_stops(rt: HostRuntime) {
-    assert!(rt; both_come_to_an_end(rt.alloc(), Work::Create(Version::Two), 64));
+fn the_log_stops(rt: HostRuntime) {
+    for (place, work) in BLANK.iter().enumerate() {
+        assert!(rt; stops_around(rt.alloc(), *work, Side::Log), "{place}");
+    }
+}
+
+#[test]
+fn the_database_stops(rt: HostRuntime) {
+    for (place, work) in BLANK.iter().enumerate() {
+        assert!(rt; stops_around(rt.alloc(), *work, Side::Database), "{place}");
+    }
 }

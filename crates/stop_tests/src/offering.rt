@@ -1,16 +1,16 @@
-//! Stops while a station is offered a tape, and behind that: what it released is saved, or its vote where it could not tell of it any
-//! more. A new station over the rows releases what is saved; where nothing is, it releases another tape. Started again it releases
-//! the same.
+//! Stops while a station is offered a tape: a new one over the rows releases it, and again once it has started again. Where its
+//! vote was not saved, which is only where it was not released, they do so with another tape.
 
-use crate::stops::{stops_in_the_closing, stops_in_the_work};
+use crate::disks::Side;
+use crate::stops::{stops_around, stops_throughout};
 use crate::works::Work;
 
 #[test]
 fn the_log_stops(rt: HostRuntime) {
-    assert!(rt; stops_in_the_work(rt.alloc(), Work::Offer));
+    assert!(rt; stops_throughout(rt.alloc(), Work::Offer, Side::Log));
 }
 
 #[test]
 fn the_database_stops(rt: HostRuntime) {
-    assert!(rt; stops_in_the_closing(rt.alloc(), Work::Offer));
+    assert!(rt; stops_around(rt.alloc(), Work::Offer, Side::Database));
 }

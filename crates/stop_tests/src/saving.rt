@@ -1,16 +1,15 @@
-//! Stops while saved rows are made in the first layout and two are saved: they are not there, or are there with those that were
-//! acknowledged, or one more.
+//! Stops while two rows are saved: those are found that were acknowledged, or one more.
 
 use crate::disks::Side;
-use crate::stops::come_to_an_end;
+use crate::stops::{stops_around, stops_throughout};
 use crate::works::Work;
 
 #[test]
 fn the_log_stops(rt: HostRuntime) {
-    assert!(rt; come_to_an_end(rt.alloc(), Work::Put, Side::Log, 64));
+    assert!(rt; stops_throughout(rt.alloc(), Work::Put, Side::Log));
 }
 
 #[test]
 fn the_database_stops(rt: HostRuntime) {
-    assert!(rt; come_to_an_end(rt.alloc(), Work::Put, Side::Database, 64));
+    assert!(rt; stops_around(rt.alloc(), Work::Put, Side::Database));
 }

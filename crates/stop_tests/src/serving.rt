@@ -1,15 +1,15 @@
-//! Stops while `serve` is offered a tape, and behind that: what it printed is saved, or its vote where it could not print it any more;
-//! and a new station releases that, as where a station is offered it.
+//! Stops while `serve` is offered a tape: what is found is as where a station is offered it, and saved if its release was printed.
 
-use crate::stops::{stops_in_the_closing, stops_in_the_work};
+use crate::disks::Side;
+use crate::stops::{stops_around, stops_throughout};
 use crate::works::Work;
 
 #[test]
 fn the_log_stops(rt: HostRuntime) {
-    assert!(rt; stops_in_the_work(rt.alloc(), Work::Serve));
+    assert!(rt; stops_throughout(rt.alloc(), Work::Serve, Side::Log));
 }
 
 #[test]
 fn the_database_stops(rt: HostRuntime) {
-    assert!(rt; stops_in_the_closing(rt.alloc(), Work::Serve));
+    assert!(rt; stops_around(rt.alloc(), Work::Serve, Side::Database));
 }

@@ -280,12 +280,6 @@ fn stop_of(alloc: Global, left: Left, work: Work, told: Told) -> Option<Stop> {
     is_found(alloc, disks, Expected::Left(work, told)).then_some(stop)
 }
 
-/// Whether the rows for a work are made where this disk stops after so many calls.
-pub fn is_made(alloc: Global, side: Side, calls: u64, work: Work) -> bool {
-    let making = Work::Create(version_for(work));
-    matches!(worked(alloc, side, calls, making), Came::Ended(..))
-}
-
 /// Where a run stopped in which this disk stops after so many calls; nothing where something else is found after it than
 /// may be.
 pub fn stop_at(alloc: Global, side: Side, calls: u64, work: Work) -> Option<Stop> {
