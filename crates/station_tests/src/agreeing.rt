@@ -184,7 +184,7 @@ const ONE: Story = Story {
 const STORIES: &[Story] = &[THREE, REPEATED, REPORTED, TWO, UNSET, ONE];
 
 /// The story that is also taken in one run.
-pub const AGREED: &[Story] = &[THREE];
+const AGREED: &[Story] = &[THREE];
 
 #[test]
 fn a_story_is_agreed(rt: HostRuntime) {

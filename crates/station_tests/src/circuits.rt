@@ -2,11 +2,12 @@
 
 use crate::endings::{is_end, is_refusal};
 use crate::entries::{Given, is_given};
+use crate::unread::Unread;
 use ballots::Number;
 use code_table::CodeTable;
 use fixtures::{CODES, FLOOD, LIGATURE, LONGEST, WIDTHS};
 use line_check::{SetFault, galley};
-use saved_rows::{MemoryRows, Rows};
+use saved_rows::{MemoryRows, Rows, RowsFault};
 use station::Datagram;
 use std::alloc::Global;
 use tape_frames::{Tape, Version};
@@ -177,6 +178,17 @@ pub fn parts(
         parts.push((table, widths, rows)).ok()?;
     }
     Some(parts)
+}
+
+/// The same with rows whose first reading is refused for want of memory.
+fn unread(alloc: Global, parts: Parts<MemoryRows>) -> Option<Parts<Unread<MemoryRows>>> {
+    let mut all = Vec::new(alloc);
+    for (table, widths, rows) in parts {
+        let mut rows = Unread::new(rows);
+        rows.refuse(RowsFault::OutOfMemory);
+        all.push((table, widths, rows)).ok()?;
+    }
+    Some(all)
 }
 
 /// Circuit 7 of these members, before any step.
@@ -381,51 +393,6 @@ fn ran<R: Rows>(alloc: Global, world: &mut World<R>, story: &Story) -> usize {
     }
 }
 
-fn has_stopped<R: Rows>(world: &World<R>, member: u8) -> bool {
-    match world.station(member) {
-        Some(station) => station.stopped(),
-        None => false,
-    }
-}
-
-/// How long the logs are, and which of three members have stopped.
-fn all_seen<R: Rows>(world: &World<R>) -> ([usize; 3], [bool; 3]) {
-    let logs = [
-        world.sent().len(),
-        world.offers().len(),
-        world.releases().len(),
-    ];
-    let stopped = [
-        has_stopped(world, 1),
-        has_stopped(world, 2),
-        has_stopped(world, 3),
-    ];
-    (logs, stopped)
-}
-
-/// Whether a step that is refused memory leaves all as it was.
-fn keeps_all<R: Rows>(alloc: Global, world: &mut World<R>, act: Act) -> bool {
-    let Some(step) = step_of(alloc, act) else {
-        return true;
-    };
-    let before = all_seen(world);
-    match world.step(&step) {
-        Err(WorldRefusal::OutOfMemory) => all_seen(world) == before,
-        _ => true,
-    }
-}
-
-/// How many steps of a story leave all as it was where they are refused memory, up to the first that does not; and one
-/// more where all do.
-fn kept<R: Rows>(alloc: Global, world: &mut World<R>, lines: &[Line]) -> usize {
-    for (place, line) in lines.iter().enumerate() {
-        if !keeps_all(alloc, world, line.0) {
-            return place;
-        }
-    }
-    lines.len().saturating_add(1)
-}
-
 /// How the steps of a story are taken, and what is asked of them.
 #[derive(Clone, Copy)]
 pub enum Way {
@@ -433,8 +400,6 @@ pub enum Way {
     Steps,
     /// In one run: where it stops, and what the logs then have.
     Run,
-    /// One by one: that those that are refused memory change nothing.
-    Memory,
 }
 
 /// How many steps of a story come to what they have to in a circuit of these members, up to the first that does not, and
@@ -446,22 +411,36 @@ fn come<R: Rows>(alloc: Global, parts: Parts<R>, story: &Story, way: Way) -> usi
     match way {
         Way::Steps => told(alloc, &mut world, story),
         Way::Run => ran(alloc, &mut world, story),
-        Way::Memory => kept(alloc, &mut world, story.lines),
     }
+}
+
+/// How many steps of a story come to what they have to, and one more where all is as it has to be.
+fn counted(alloc: Global, story: &Story, way: Way) -> Option<usize> {
+    let parts = parts(alloc, story.members, story.versions, story.last)?;
+    Some(come(alloc, parts, story, way))
+}
+
+/// The same in a circuit each of whose members is refused memory as it reads its rows for the first time.
+fn counted_unread(alloc: Global, story: &Story) -> Option<usize> {
+    let parts = parts(alloc, story.members, story.versions, story.last)?;
+    Some(come(alloc, unread(alloc, parts)?, story, Way::Steps))
+}
+
+/// The place behind so many steps of a story, or nothing where these are more than it has.
+fn place(story: &Story, count: Option<usize>) -> Option<usize> {
+    let count = count.unwrap_or(0);
+    (count <= story.lines.len()).then_some(count)
 }
 
 /// The place of the first step of a story that does not come to what it has to, or its length where only the logs are
 /// not what they have to be; nothing where all is.
 pub fn fails_at(alloc: Global, story: &Story, way: Way) -> Option<usize> {
-    let count = match parts(alloc, story.members, story.versions, story.last) {
-        Some(parts) => come(alloc, parts, story, way),
-        None => 0,
-    };
-    if count > story.lines.len() {
-        None
-    } else {
-        Some(count)
-    }
+    place(story, counted(alloc, story, way))
+}
+
+/// The same of its steps one by one, where each member is refused memory as it reads its rows for the first time.
+pub fn fails_unread_at(alloc: Global, story: &Story) -> Option<usize> {
+    place(story, counted_unread(alloc, story))
 }
 
 /// Whether a circuit that was played stopped where a story has to, and its logs are what they have to be.

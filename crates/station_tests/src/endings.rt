@@ -43,6 +43,7 @@ fn ended(outcome: Outcome) -> (&'static str, Option<Ballot>) {
         Outcome::Refused(StepRefusal::WireTooOld) => ("refused wire-too-old", None),
         Outcome::Refused(StepRefusal::TapeFaulty(_)) => ("refused tape-faulty", None),
         Outcome::Refused(StepRefusal::Store(RowsFault::Store)) => ("stopped store", None),
+        Outcome::Refused(StepRefusal::Store(RowsFault::OutOfMemory)) => ("stopped memory", None),
         Outcome::Refused(_) => ("refused", None),
         Outcome::Restarted => ("restarted", None),
         Outcome::Upgraded => ("upgraded", None),

@@ -1,27 +1,16 @@
-//! Stops while a station is offered a tape: a new one over the rows releases it, or finds nothing and releases another.
+//! Stops while a station is offered a tape: a new one over the rows releases it, and again once it has started again. Where its
+//! vote was not saved, which is only where it was not released, they do so with another tape.
 
 use crate::disks::Side;
-use crate::stops::{Stops, all_stop};
+use crate::stops::{stops_around, stops_throughout};
 use crate::works::Work;
 
 #[test]
 fn the_log_stops(rt: HostRuntime) {
-    let stops = Stops {
-        work: Work::Offer,
-        side: Side::Log,
-        from: 0,
-        to: 12,
-    };
-    assert!(rt; all_stop(rt.alloc(), &stops));
+    assert!(rt; stops_throughout(rt.alloc(), Work::Offer, Side::Log));
 }
 
 #[test]
 fn the_database_stops(rt: HostRuntime) {
-    let stops = Stops {
-        work: Work::Offer,
-        side: Side::Database,
-        from: 0,
-        to: 12,
-    };
-    assert!(rt; all_stop(rt.alloc(), &stops));
+    assert!(rt; stops_around(rt.alloc(), Work::Offer, Side::Database));
 }

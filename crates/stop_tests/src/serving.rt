@@ -1,27 +1,15 @@
-//! Stops while `serve` is offered a tape: all that was saved is found.
+//! Stops while `serve` is offered a tape: what is found is as where a station is offered it, and saved if its release was printed.
 
 use crate::disks::Side;
-use crate::stops::{Stops, all_stop};
+use crate::stops::{stops_around, stops_throughout};
 use crate::works::Work;
 
 #[test]
 fn the_log_stops(rt: HostRuntime) {
-    let stops = Stops {
-        work: Work::Serve,
-        side: Side::Log,
-        from: 0,
-        to: 12,
-    };
-    assert!(rt; all_stop(rt.alloc(), &stops));
+    assert!(rt; stops_throughout(rt.alloc(), Work::Serve, Side::Log));
 }
 
 #[test]
 fn the_database_stops(rt: HostRuntime) {
-    let stops = Stops {
-        work: Work::Serve,
-        side: Side::Database,
-        from: 0,
-        to: 12,
-    };
-    assert!(rt; all_stop(rt.alloc(), &stops));
+    assert!(rt; stops_around(rt.alloc(), Work::Serve, Side::Database));
 }

@@ -84,18 +84,27 @@ fn finds<R: Rows>(
     if seeks(station, frames)? {
         return Some(true);
     }
-    if offers(alloc, station, other)? {
-        Some(false)
-    } else {
-        None
-    }
+    offers(alloc, station, other)?.then_some(false)
+}
+
+/// The same; and once it has started again it finds what it released, else this answers nothing.
+fn keeps<R: Rows>(
+    alloc: Global,
+    station: &mut Station<R>,
+    frames: &[u8],
+    other: &[u8],
+) -> Option<bool> {
+    let is_found = finds(alloc, station, frames, other)?;
+    station.restart();
+    let released = if is_found { frames } else { other };
+    seeks(station, released)?.then_some(is_found)
 }
 
 /// Whether a new station over these rows finds the tape of these frames for number 12. Where it finds none it releases the
-/// other tape, which it is offered then; else this answers nothing.
+/// other tape, which it is offered then; and once it has started again it finds what it released, else this answers nothing.
 pub fn sought<R: Rows>(alloc: Global, rows: R, frames: &[u8], other: &[u8]) -> Option<bool> {
     let mut station = station_over(alloc, rows)?;
-    finds(alloc, &mut station, frames, other)
+    keeps(alloc, &mut station, frames, other)
 }
 
 /// A wire to which nothing comes.

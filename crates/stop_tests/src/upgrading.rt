@@ -1,9 +1,15 @@
 //! Stops while two rows go over to the second layout: both are found, all in the one layout or all in the other.
 
-use crate::stops::both_come_to_an_end;
+use crate::disks::Side;
+use crate::stops::{stops_around, stops_throughout};
 use crate::works::Work;
 
 #[test]
-fn either_stops(rt: HostRuntime) {
-    assert!(rt; both_come_to_an_end(rt.alloc(), Work::Upgrade, 128));
+fn the_log_stops(rt: HostRuntime) {
+    assert!(rt; stops_throughout(rt.alloc(), Work::Upgrade, Side::Log));
+}
+
+#[test]
+fn the_database_stops(rt: HostRuntime) {
+    assert!(rt; stops_around(rt.alloc(), Work::Upgrade, Side::Database));
 }

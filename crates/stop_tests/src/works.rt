@@ -138,12 +138,14 @@ fn is_at(found: Version, work: Work, told: Told) -> bool {
     }
 }
 
-/// Whether what a new station finds is what the rows have.
-fn is_sought<R: Rows>(alloc: Global, rows: R, told: Told) -> bool {
-    match sought(alloc, rows, FLOOD, LIGATURE) {
-        Some(is_found) => is_found || told.refused,
-        None => false,
+/// Whether the rows have the vote of the offer, or none, as they may; and whether a new station over them releases what was voted for,
+/// and where there is none, what it is offered.
+fn is_kept<R: Stored>(alloc: Global, mut rows: R, told: Told) -> bool {
+    if !is_listed(&mut rows, OFFERED, told) {
+        return false;
     }
+    let is_saved = rows.count() == Some(1);
+    sought(alloc, rows, FLOOD, LIGATURE) == Some(is_saved)
 }
 
 /// Whether the rows are those that a work may have left.
@@ -154,8 +156,7 @@ fn is_left<R: Stored>(alloc: Global, mut rows: R, work: Work, told: Told) -> boo
     match work {
         Work::Create(_) => is_listed(&mut rows, &[], told),
         Work::Put | Work::Upgrade => is_listed(&mut rows, SAVES, told),
-        Work::Offer | Work::Serve => is_listed(&mut rows, OFFERED, told)
-            && is_sought(alloc, rows, told),
+        Work::Offer | Work::Serve => is_kept(alloc, rows, told),
     }
 }
 
@@ -253,20 +254,40 @@ fn is_found(alloc: Global, disks: Disks, expected: Expected) -> bool {
     }
 }
 
-/// Whether what a work left is found after a crash, and then whether it came to its end without a stop.
-fn is_ended(alloc: Global, left: Left, work: Work, told: Told) -> Option<bool> {
-    let Left { disks, closed } = left;
-    is_found(alloc, disks, Expected::Left(work, told)).then_some(closed && !told.refused)
+/// Where a run stopped.
+#[derive(Clone, Copy)]
+pub enum Stop {
+    /// Before its rows were made.
+    Making,
+    /// In its work, which was refused.
+    Working,
+    /// After that, as the database was closed.
+    Closing,
+    /// It came to its end.
+    Nowhere,
 }
 
-/// Whether a run in which this disk stops after so many calls came to its end without a stop; nothing where something else
-/// is found after it than may be.
-pub fn is_whole(alloc: Global, side: Side, calls: u64, work: Work) -> Option<bool> {
+/// Where a run stopped that made its rows, if what it left is found after a crash.
+fn stop_of(alloc: Global, left: Left, work: Work, told: Told) -> Option<Stop> {
+    let Left { disks, closed } = left;
+    let stop = if told.refused {
+        Stop::Working
+    } else if closed {
+        Stop::Nowhere
+    } else {
+        Stop::Closing
+    };
+    is_found(alloc, disks, Expected::Left(work, told)).then_some(stop)
+}
+
+/// Where a run stopped in which this disk stops after so many calls; nothing where something else is found after it than
+/// may be.
+pub fn stop_at(alloc: Global, side: Side, calls: u64, work: Work) -> Option<Stop> {
     match worked(alloc, side, calls, work) {
-        Came::Ended(left, told) => is_ended(alloc, left, work, told),
+        Came::Ended(left, told) => stop_of(alloc, left, work, told),
         Came::Unmade(disks) => {
             let expected = Expected::Unmade(version_for(work));
-            is_found(alloc, disks, expected).then_some(false)
+            is_found(alloc, disks, expected).then_some(Stop::Making)
         }
         Came::Found(_) | Came::Strange => None,
     }
