@@ -20,8 +20,8 @@ use Rattle.slug_reader.specs.Pieces.{InHand, StandsAt, first_met, MetFault, Push
 use Rattle.slug_reader.specs.Pieces as pieces
 use Rattle.line_check.specs.declared.slug.Slug.{Slug}
 use Rattle.line_check.specs.declared.fault.Cause.{Cause}
-use Rattle.line_check.specs.declared.setting.Unset.{Unset}
-use Rattle.line_check.specs.declared.setting.Unset.TheVariants as unset
+use Rattle.line_check.specs.declared.tape.Unset.{Unset}
+use Rattle.line_check.specs.declared.tape.Unset.TheVariants as unset
 use Rattle.line_check.specs.Sets.{first_fault, fault_at, Sets}
 use Rattle.line_check.specs.Spreading.{misfit_among}
 use Rattle.line_check.specs.Setting.{is_too_long, IsUnsetBy, IsFirstMisfit, IsFirstFault, AddsSlugs, Tells, SetTo}

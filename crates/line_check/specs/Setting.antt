@@ -13,8 +13,8 @@ use Rattle.line_check.specs.declared.fault.Cause.{Cause}
 use Rattle.line_check.specs.declared.fault.Cause.TheVariants as causes
 use Rattle.line_check.specs.declared.fault.LineFault.{LineFault}
 use Rattle.line_check.specs.declared.fault.LineFault.TheVariants as line_faults
-use Rattle.line_check.specs.declared.setting.Unset.{Unset}
-use Rattle.line_check.specs.declared.setting.Unset.TheVariants as unset
+use Rattle.line_check.specs.declared.tape.Unset.{Unset}
+use Rattle.line_check.specs.declared.tape.Unset.TheVariants as unset
 use Rattle.line_check.specs.Slugs.{AreSlugs}
 use Rattle.line_check.specs.Sets.{fault_at, first_fault}
 use Rattle.line_check.specs.Spreading.{misfit_among}

@@ -3,16 +3,16 @@
 
 mod fault;
 mod galleys;
-mod justifying;
+mod line;
 pub mod laws;
-mod setting;
+mod tape;
 mod slug;
 mod sort;
 
 pub use fault::{Cause, LineFault, SetError, SetFault};
 pub use galleys::galley;
-pub use justifying::check;
-pub use setting::set;
+pub use line::check;
+pub use tape::set;
 pub use slug::{Kind, Slug};
 pub use sort::{Sort, Sorts};
 pub use streams::CannotWrite as WriteFault;

@@ -3,6 +3,7 @@
 ghost use Rattle.std.specs.Prelude.{◌≡◌, ◌↔◌, IfOk, IsOk, IsTrue, false};
 ghost use Rattle.tape_frames.specs.Entries.{version_of};
 ghost use Rattle.protocol.specs.Fitting.{BodyFits};
+ghost use Rattle.protocol.specs.Packets.{Promise};
 ghost use Rattle.packets.specs.Bodies.{said, told, has_tape};
 ghost use Rattle.packets.specs.Rules.{kind_of, may_send, may_say};
 
@@ -58,6 +59,19 @@ pub(crate) fn may_send(kind: Kind, owner: Member, from: Member, to: Member) -> b
         Kind::Prepare | Kind::Accept => owner.get() == from.get(),
         Kind::Promise | Kind::Nack => owner.get() == to.get(),
         Kind::Accepted => true,
+    }
+}
+
+/// The promise with a copy of this report; it takes no memory where no tape is reported.
+fn copy_promise(alloc: Global, report: &Option<VoteRef<'_>>) -> Result<Body, AllocError>
+    ensures same { IfOk result (λ b. told b ≡ Promise report.now) }
+    ensures no_memory { has_tape (Promise report.now) ≡ false → IsOk result }
+{
+    match report {
+        None => Ok(Body::Promise { report: None }),
+        Some(vote) => Ok(Body::Promise {
+            report: Some(vote.copy(alloc)?),
+        }),
     }
 }
 
@@ -126,10 +140,7 @@ impl<'a> BodyRef<'a> {
     {
         let body = match self {
             BodyRef::Prepare => Body::Prepare,
-            BodyRef::Promise { report: None } => Body::Promise { report: None },
-            BodyRef::Promise { report: Some(vote) } => Body::Promise {
-                report: Some(vote.copy(alloc)?),
-            },
+            BodyRef::Promise { report } => copy_promise(alloc, report)?,
             BodyRef::Accept { entry } => Body::Accept {
                 entry: entry.copy(alloc)?,
             },

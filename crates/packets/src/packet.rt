@@ -1,6 +1,6 @@
 //! Packets, owned and lent.
 
-ghost use Rattle.std.specs.Prelude.{◌≡◌, ◌↔◌, IsSome, IfSome, IfOk, IsOk, IsTrue, false};
+ghost use Rattle.std.specs.Prelude.{◌≡◌, ◌↔◌, ◌==◌, IsSome, IfSome, IfOk, IsOk, IsTrue, false};
 ghost use Rattle.tape_frames.specs.Entries.{version_of};
 ghost use Rattle.protocol.specs.Fitting.{BodyFits};
 ghost use Rattle.packets.specs.Bodies.{said, has_tape};
@@ -64,6 +64,13 @@ impl Model for Packet {
     ghost invariant = { λ p. IsTrue (keeps_rules (record { circuit = p.circuit; from = p.from; to = p.to; number = p.number; ballot = p.ballot; body = told p.body })) };
 }
 
+/// Whether they are one member.
+fn is_one_member(from: Member, to: Member) -> bool
+    ensures { result ≡ (from == to) }
+{
+    from.get() == to.get()
+}
+
 impl<'a> PacketRef<'a> {
     /// The packet of these fields; `None` where they break a rule. `circuit` is any number.
     pub fn new(
@@ -77,7 +84,7 @@ impl<'a> PacketRef<'a> {
         ensures some { IsSome result ↔ IsTrue (keeps_rules (record { circuit = circuit; from = from; to = to; number = number; ballot = ballot; body = said body.entry })) }
         ensures value { IfSome result (λ p. p ≡ record { circuit = circuit; from = from; to = to; number = number; ballot = ballot; body = said body.entry }) }
     {
-        if from.get() == to.get() {
+        if is_one_member(from, to) {
             return None;
         }
         if !may_send(body.kind(), ballot.owner(), from, to) || !body.may_say(ballot) {

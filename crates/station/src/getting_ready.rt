@@ -1,14 +1,14 @@
 //! What a turn hands out is made ready, and then its row is saved.
 
-ghost use Rattle.std.specs.Prelude.{◌≡◌, ◌≤◌, [], None, IfOk, IfErr, OnErr, IfSome, true, length, option_map};
+ghost use Rattle.std.specs.Prelude.{◌≡◌, ◌≤◌, [], None, IfOk, IfErr, OnOk, OnErr, IfSome, true, length, option_map};
 ghost use Rattle.std.specs.List.{AllZip};
 ghost use Rattle.protocol.specs.Fitting.{BodyFits};
 ghost use Rattle.tape_frames.specs.Entries.{owned_entry, version_of};
-ghost use Rattle.saved_rows.specs.Saved.{HasPromise, Rises};
+ghost use Rattle.saved_rows.specs.Saved.{HasPromise, RowFits, Rises};
 ghost use Rattle.node_core.specs.Turns.{sent};
 ghost use Rattle.station.specs.Speaking.{AllFit, TurnSpeaks};
 ghost use Rattle.station.specs.Stations.{sight};
-ghost use Rattle.station.specs.Readiness.{Carries, IsReleased, Saves, WasChecked};
+ghost use Rattle.station.specs.Readiness.{Carries, IsReleased, RowSaved, RowBalked, Saves, WasChecked};
 ghost use Rattle.station.specs.Steps.{OnStore, IfStore, tears};
 
 use crate::answer::{Answer, Release};
@@ -19,7 +19,7 @@ use code_table::CodeTable;
 use node_core::{Outgoing, Turn};
 use packets::{PacketRef, encode};
 use refusals::StepRefusal;
-use saved_rows::Rows;
+use saved_rows::{Rows, RowsFault};
 use std::alloc::{AllocError, Global};
 use tape_frames::{Entry, Version};
 use widths::Widths;
@@ -78,6 +78,25 @@ fn release(
     Ok(Some(Release { number, entry, set }))
 }
 
+/// Saves a row, where there is one.
+fn save_row<R: Rows>(rows: &mut R, number: Number, row: &Option<Row>) -> Result<(), RowsFault>
+    requires promised { IfSome row.now HasPromise }
+    requires fits { IfSome row.now (RowFits (R.version rows.old)) }
+    ensures saved { R.kept rows.new → OnOk result (RowSaved (sight R.Rows) number row.now rows.old rows.new) }
+    ensures balked { R.kept rows.new → IfErr result (λ fault. RowBalked (sight R.Rows) number row.now fault rows.old rows.new) }
+    ensures version { R.version rows.new ≡ R.version rows.old }
+    ensures was_kept { R.kept rows.new → R.kept rows.old }
+    ensures made { R.made rows.old → R.made rows.new }
+    ensures cause { OnErr result (Rises (R.refusals rows.old) (R.refusals rows.new)) }
+    ensures blames { IfErr result (R.blames rows.old rows.new) }
+    ensures counts { R.refusals rows.old ≤ R.refusals rows.new }
+{
+    match row {
+        Some(row) => rows.put(number, row),
+        None => Ok(()),
+    }
+}
+
 /// Makes ready what a turn hands out that was taken at the row `before`, spelled in the version of the rows, and then saves
 /// its row where it has one.
 pub(crate) fn save<R: Rows>(
@@ -109,10 +128,8 @@ pub(crate) fn save<R: Rows>(
     let Ok(release) = release(alloc, table, widths, number, turn.release, checked) else {
         return Err(StepRefusal::OutOfMemory);
     };
-    if let Some(row) = &turn.row {
-        if let Err(fault) = rows.put(number, row) {
-            return Err(StepRefusal::Store(fault));
-        }
+    if let Err(fault) = save_row(rows, number, &turn.row) {
+        return Err(StepRefusal::Store(fault));
     }
     Ok(Answer {
         out,

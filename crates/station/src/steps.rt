@@ -25,7 +25,7 @@ use crate::station::Station;
 use ballots::Number;
 use node_core::{CoreRefusal, Event};
 use refusals::StepRefusal;
-use saved_rows::Rows;
+use saved_rows::{Rows, RowsFault};
 use tape_frames::{Entry, EntryRef, Tape};
 
 impl<R: Rows> Station<R> {
@@ -237,7 +237,7 @@ impl<R: Rows> Station<R> {
     {
         let row = match self.rows.get(number) {
             Ok(row) => row,
-            Err(fault) => return Err(self.stop(StepRefusal::Store(fault))),
+            Err(fault) => return Err(self.stop_for(fault)),
         };
         match self.speaker.handle(event, &row) {
             Ok(turn) => match save(
@@ -259,6 +259,17 @@ impl<R: Rows> Station<R> {
             Err(CoreRefusal::Failed) => Err(self.stop(StepRefusal::OutOfMemory)),
             Err(CoreRefusal::OutOfMemory) => Err(self.stop(StepRefusal::OutOfMemory)),
         }
+    }
+
+    /// Stops, where the store refused with this fault.
+    fn stop_for(&mut self, fault: RowsFault) -> StepRefusal
+        ensures same { result ≡ StepRefusal.Store fault }
+        ensures stands { StandsFor self.new.speaker.core [] }
+        ensures wire { self.new.speaker.wire ≡ self.old.speaker.wire }
+        ensures fixed { IsFixed self.old self.new }
+        ensures stopped { self.new ≡ record self.old { speaker = self.new.speaker; stopped = true } }
+    {
+        self.stop(StepRefusal::Store(fault))
     }
 
     /// Stops: it forgets what it took in, and takes no step until a restart, or an upgrade that is Ok.

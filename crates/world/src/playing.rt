@@ -1,15 +1,15 @@
 //! A circuit that is played from its beginning.
 
-ghost use Rattle.std.specs.Prelude.{◌≡◌, ℕ, None, IfOk, IfErr, IfSome, OnOk, length, map};
+ghost use Rattle.std.specs.Prelude.{◌≡◌, ℕ, IfOk, IfErr, OnOk, length, map};
 ghost use Rattle.protocol.specs.Versions.{Version as VersionValue};
 ghost use Rattle.tape_frames.specs.Entries.{version_of};
-ghost use Rattle.world.specs.Founding.{AreAt, AreBlank, AreNewlyMade, IsCount, IsUnfounded, given_of};
+ghost use Rattle.world.specs.Founding.{AreAt, AreBlank, AreNewlyMade, IsCount, IsNewlyMade, IsUnfounded, given_of};
 ghost use Rattle.world.specs.Playing.{IsBeginning, IsFresh, IsUnplayed, Plays};
 ghost use Rattle.world.specs.Reach.{Agreed, AllHonest, AllKept, IsReached};
 ghost use Rattle.world.specs.Taking.{StopsAt};
 
 use crate::step::{RunStop, Step};
-use crate::world::{NewWorldFault, World};
+use crate::world::{NewWorldFault, World, member_count};
 use code_table::CodeTable;
 use saved_rows::{MemoryRows, Rows};
 use std::alloc::{AllocError, Global};
@@ -67,15 +67,12 @@ pub fn play<R: Rows>(
     }
 }
 
-/// The number of members as one that a circuit has; `None` where there are none or more than 15.
-fn member_count(members: usize) -> Option<u8>
-    ensures some { IfSome result (λ count. (count ≡ members) × IsCount members) }
-    ensures none { result ≡ None → ¬ IsCount members }
+/// Empty rows in memory at this version, for one member.
+fn rows_at(alloc: Global, version: Version) -> MemoryRows
+    ensures new { IsNewlyMade ⟦<MemoryRows as Rows>⟧ result }
+    ensures at { ⟦<MemoryRows as Rows>⟧.version result ≡ version_of version }
 {
-    match u8::try_from(members) {
-        Ok(count) if 1 <= count && count <= 15 => Some(count),
-        _ => None,
-    }
+    MemoryRows::at(alloc, version)
 }
 
 /// These members, each with rows in memory at this version.
@@ -90,7 +87,7 @@ fn with_memory(
 {
     let mut parts = Vec::with_capacity(alloc, members.len())?;
     for (table, widths) in members {
-        parts.push((table, widths, MemoryRows::at(alloc, version)))?;
+        parts.push((table, widths, rows_at(alloc, version)))?;
     }
     Ok(parts)
 }

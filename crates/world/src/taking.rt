@@ -14,7 +14,15 @@ use crate::upgrading::go_over;
 use crate::world::World;
 use line_check::laws::one_setting;
 use saved_rows::Rows;
+use station::Datagram;
 use tape_frames::{Entry, Tape};
+
+/// The member that a datagram goes to.
+fn addressee_of(datagram: &Datagram) -> u8
+    ensures { result ≡ datagram.now.to }
+{
+    datagram.to().get()
+}
 
 impl<R: Rows> World<R> {
     /// Takes one step. What the step did is logged, and what was logged is told.
@@ -105,7 +113,7 @@ impl<R: Rows> World<R> {
         if k < 1 || self.sent.len() < k {
             return Err(WorldRefusal::NoSuchDatagram);
         }
-        Ok(self.sent[k - 1].to().get())
+        Ok(addressee_of(&self.sent[k - 1]))
     }
 
     /// A member is offered a tape.

@@ -1,9 +1,10 @@
 //! A world: its members, and what went between them.
 
-ghost use Rattle.std.specs.Prelude.{◌≡◌, ◌≤◌, ℕ, IfOk, length, map, option_copied};
+ghost use Rattle.std.specs.Prelude.{◌≡◌, ◌≤◌, ℕ, None, IfOk, IfSome, length, map, option_copied};
 ghost use Rattle.protocol.specs.Circuit.{fresh};
+ghost use Rattle.protocol.specs.Seats.{sits};
 ghost use Rattle.protocol.specs.Versions.{Version};
-ghost use Rattle.world.specs.Founding.{AreAt, AreBlank, AreNew, AreNewlyMade, Founds, IsCircuitOf, given_of};
+ghost use Rattle.world.specs.Founding.{AreAt, AreBlank, AreNew, AreNewlyMade, Founds, IsCircuitOf, IsCount, IsNew, given_of};
 ghost use Rattle.world.specs.Reach.{IsReached, StandsFor};
 ghost use Rattle.world.specs.Setups.{StationCircuit};
 ghost use Rattle.world.specs.Worlds.{station_at};
@@ -36,6 +37,39 @@ pub enum NewWorldFault<R: Rows> {
     OutOfMemory,
 }
 
+/// The number of members as one that a circuit has; `None` where there are none or more than 15.
+pub(crate) fn member_count(members: usize) -> Option<u8>
+    ensures some { IfSome result (λ count. (count ≡ members) × IsCount members) }
+    ensures none { result ≡ None → ¬ IsCount members }
+{
+    match u8::try_from(members) {
+        Ok(count) if 1 <= count && count <= 15 => Some(count),
+        _ => None,
+    }
+}
+
+/// The station of a member of so many, with rows that can be armed.
+fn station_of<R: Rows>(
+    alloc: Global,
+    circuit: u16,
+    me: u8,
+    count: u8,
+    table: CodeTable,
+    widths: Widths,
+    rows: R,
+) -> Station<Balky<R>>
+    requires low { 1 ≤ me }
+    requires high { me ≤ count }
+    requires few { count ≤ 15 }
+    ensures { IsNew R.version (sits circuit me count) (table, widths, rows) result }
+{
+    let rows = Balky::new(rows);
+    match Station::new(alloc, circuit, me, count, table, widths, rows) {
+        Ok(station) => station,
+        Err(_) => unreachable!(),
+    }
+}
+
 /// The stations of these members, numbered from 1 in order.
 fn stations_of<R: Rows>(
     alloc: Global,
@@ -52,11 +86,8 @@ fn stations_of<R: Rows>(
     let mut me = 0;
     for (table, widths, rows) in members {
         me += 1;
-        let rows = Balky::new(rows);
-        match Station::new(alloc, circuit, me, count, table, widths, rows) {
-            Ok(station) => stations.push(station)?,
-            Err(_) => unreachable!(),
-        }
+        let station = station_of(alloc, circuit, me, count, table, widths, rows);
+        stations.push(station)?;
     }
     Ok(stations)
 }
@@ -78,9 +109,8 @@ impl<R: Rows> World<R> {
         ensures reached { IfOk result (λ v. AreNewlyMade R.Rows members.items → IsReached R.Rows v) }
     {
         laws::circuits_exist();
-        let count = match u8::try_from(members.len()) {
-            Ok(count) if 1 <= count && count <= 15 => count,
-            _ => return Err(NewWorldFault::BadCount(members)),
+        let Some(count) = member_count(members.len()) else {
+            return Err(NewWorldFault::BadCount(members));
         };
         let Ok(stations) = stations_of(alloc, circuit, count, members) else {
             return Err(NewWorldFault::OutOfMemory);

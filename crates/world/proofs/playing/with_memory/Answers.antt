@@ -21,12 +21,12 @@ loop-table-init c =
 pub loop-table-preserved : goal.loop-table-preserved
 loop-table-preserved c =
     let parts : List (Part MemoryRows) = c.loop-table.parts.items in
-    let part : Part MemoryRows = (c.in-Some.table, c.in-Some.widths, c.at.result) in
+    let part : Part MemoryRows = (c.in-Some.table, c.in-Some.widths, c.rows_at.result) in
     let P : List (Part MemoryRows) → Type 0 = AreNewlyMade ghosts in
     let A : List (Part MemoryRows) → Type 0 = AreAt ghosts.version (λ m. version_of c.args.version) in
     let Q : List (Part MemoryRows) → Type 0 = λ l. map given_of l ≡ c.loop-table.yielded ++ given_of part ∷ [] in
     record {
-      new = subst P (sym c.in_ok-push.ensures.items) (newly_more ghosts parts part c.loop-table.invariant.new (tt, λ kept here n. c.at.ensures.blank n));
-      at = subst A (sym c.in_ok-push.ensures.items) (at_more ghosts.version (version_of c.args.version) parts part c.loop-table.invariant.at c.at.ensures.version);
+      new = subst P (sym c.in_ok-push.ensures.items) (newly_more ghosts parts part c.loop-table.invariant.new c.rows_at.ensures.new);
+      at = subst A (sym c.in_ok-push.ensures.items) (at_more ghosts.version (version_of c.args.version) parts part c.loop-table.invariant.at c.rows_at.ensures.at);
       given = subst Q (sym c.in_ok-push.ensures.items) (given_more parts part c.loop-table.yielded c.loop-table.invariant.given);
     }

@@ -1,5 +1,5 @@
 -- One member more; at the end all of them.
-use Rattle.std.proofs.Common.{◌≡◌, ◌+◌, suc, sym, ap, subst, ◌∙◌, arith, List, [], ◌∷◌, ◌++◌, length, rules, length-append}
+use Rattle.std.proofs.Common.{◌≡◌, ◌+◌, ℕ, suc, sym, ap, subst, ◌∙◌, arith, List, [], ◌∷◌, ◌++◌, length, rules, length-append}
 use Rattle.std.proofs.lemmas.List.{map-id}
 use Rattle.std.proofs.lemmas.Iterator.Adapters.{YieldsList-from_vec}
 use Rattle.std.proofs.lemmas.Iterator.Consumers.{YieldsList-end}
@@ -15,27 +15,18 @@ loop-table-preserved g c =
     let parts : List (Part g.row.R.Denot) = c.loop-table.yielded in
     let part : Part g.row.R.Denot = (c.in-Some.table, c.in-Some.widths, c.in-Some.rows) in
     let stations : List (Station (Balky g.row.R.Denot)) = c.loop-table.stations.items in
-    let e = c.in-Ok.ensures in
+    let station : Station (Balky g.row.R.Denot) = c.station_of-station.result in
     let longer : length (parts ++ part ∷ []) ≡ length parts + 1 = length-append parts (part ∷ []) in
-    let pushed = c.in_ok-push-in-Ok.ensures.items in
+    let pushed = c.in_ok-push.ensures.items in
     let so_many : length stations ≡ length parts = c.loop-table.invariant.count in
-    let new : IsNew g.R.Rows.version (sits c.args.circuit (suc (length parts)) c.args.count) part c.in-Ok.station = record {
-      circuit = e.circuit;
-      members = e.members;
-      me = e.me ∙ (let i = c.loop-table.invariant.me in omega (arith, i));
-      table = e.table;
-      widths = e.widths;
-      rows = ap (λ (b : Balky g.row.R.Denot). b.rows) (e.rows ∙ c.new-rows.ensures);
-      unarmed = ap (λ (b : Balky g.row.R.Denot). b.armed) (e.rows ∙ c.new-rows.ensures);
-      goes = e.stopped;
-      stands = e.stands;
-      wire = e.wire ∙ ap (λ (b : Balky g.row.R.Denot). g.R.Rows.version b.rows) c.new-rows.ensures;
-    } in
+    let me : c.loop-table.me + 1 ≡ suc (length parts) = (let i = c.loop-table.invariant.me in omega (arith, i)) in
+    let new : IsNew g.R.Rows.version (sits c.args.circuit (suc (length parts)) c.args.count) part station =
+    subst (λ (m : ℕ). IsNew g.R.Rows.version (sits c.args.circuit m c.args.count) part station) me c.station_of-station.ensures in
     record {
       me = (let i = c.loop-table.invariant.me in omega (arith, longer, i));
-      count = ap length pushed ∙ (length-append stations (c.in-Ok.station ∷ []) ∙ omega (arith, longer, so_many));
+      count = ap length pushed ∙ (length-append stations (station ∷ []) ∙ omega (arith, longer, so_many));
       new = subst (λ (ss : List (Station (Balky g.row.R.Denot))). AreNew g.R.Rows.version c.args.circuit c.args.count (parts ++ part ∷ []) ss) (sym pushed)
-          (more g.R.Rows.version c.args.circuit c.args.count parts stations part c.in-Ok.station so_many c.loop-table.invariant.new new);
+          (more g.R.Rows.version c.args.circuit c.args.count parts stations part station so_many c.loop-table.invariant.new new);
     }
 
 pub returns-clause-new : goal.returns-clause-new

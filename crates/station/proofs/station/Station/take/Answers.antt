@@ -28,7 +28,7 @@ returns-in-Ok-save-clause-takes g c = λ kept marks stands free.
 pub returns-in-Ok-handle-clause-takes : goal.returns-in-Ok-handle-clause-takes
 returns-in-Ok-handle-clause-takes g c = λ kept marks stands free.
     let x = sight g.R.Rows in
-    let here : g.R.Rows.kept c.save.new.rows = rw c.stop-in-Err-save.ensures.stopped at kept in
+    let here : g.R.Rows.kept c.save.new.rows = rw c.stop.ensures.stopped at kept in
     let l = c.in-Ok-handle.ensures.ok marks stands in
     let k : Taking x (event_value c.args.event) c.args.self.now marks c.get.new.self c.handle.new.self c.in-Ok-handle.turn c.in-Ok.row c.args.number = record {
       number = c.requires.number;
@@ -45,8 +45,8 @@ returns-in-Ok-handle-clause-takes g c = λ kept marks stands free.
       version = c.get.ensures.version ∙ sym c.requires.wire;
     } in
     ended x (event_value c.args.event) c.args.self.now marks c.get.new.self c.save.new.rows c.handle.new.self c.in-Ok-handle.turn c.in-Ok.row c.args.number k
-    (record c.args.self.now { speaker = c.handle.new.self; rows = c.save.new.rows }) c.stop-in-Err-save.new.self c.in-Err-save.refusal c.stop-in-Err-save.result refl
-    c.stop-in-Err-save.ensures.fixed c.stop-in-Err-save.ensures.stopped c.stop-in-Err-save.ensures.same c.stop-in-Err-save.ensures.stands (c.in-Err-save.ensures.saves here)
+    (record c.args.self.now { speaker = c.handle.new.self; rows = c.save.new.rows }) c.stop.new.self c.in-Err-save.refusal c.stop.result refl
+    c.stop.ensures.fixed c.stop.ensures.stopped c.stop.ensures.same c.stop.ensures.stands (c.in-Err-save.ensures.saves here)
 
 pub returns-clause-takes : goal.returns-clause-takes
 returns-clause-takes g c = λ kept marks stands free.

@@ -6,22 +6,23 @@ use Rattle.world.proofs.world.World.new.Goals as goal
 pub returns-clause-founds : goal.returns-clause-founds
 returns-clause-founds g c =
     let len : vec_len c.args.members ≡ length c.args.members.items = c.args.members.ok.0 in
-    let many : length c.args.members.items ≡ c.in-Ok.count = omega (arith, len, c.len.ensures, c.in-Ok.ensures.1) in
-    let a = c.in-Ok-stations_of.ensures in
-    ((omega (arith, many), omega (arith, many)), are_founded g.R.Rows.version c.args.circuit c.in-Ok.count c.args.members.items _ many a.new a.count c.new.ensures.items c.new-2.ensures.items c.new-3.ensures.items)
+    let many : length c.args.members.items ≡ c.in-Some.count = omega (arith, len, c.len.ensures, c.in-Some.ensures.some.0) in
+    let a = c.in-Ok.ensures in
+    let is = c.in-Some.ensures.some.1 in
+    ((omega (arith, len, c.len.ensures, is.0), omega (arith, len, c.len.ensures, is.1)), are_founded g.R.Rows.version c.args.circuit c.in-Some.count c.args.members.items _ many a.new a.count c.new.ensures.items c.new-2.ensures.items c.new-3.ensures.items)
 
 pub returns-clause-fresh : goal.returns-clause-fresh
 returns-clause-fresh g c =
     let len : vec_len c.args.members ≡ length c.args.members.items = c.args.members.ok.0 in
-    let many : length c.args.members.items ≡ c.in-Ok.count = omega (arith, len, c.len.ensures, c.in-Ok.ensures.1) in
-    let a = c.in-Ok-stations_of.ensures in
-    let f = are_founded g.R.Rows.version c.args.circuit c.in-Ok.count c.args.members.items _ many a.new a.count c.new.ensures.items c.new-2.ensures.items c.new-3.ensures.items in
+    let many : length c.args.members.items ≡ c.in-Some.count = omega (arith, len, c.len.ensures, c.in-Some.ensures.some.0) in
+    let a = c.in-Ok.ensures in
+    let f = are_founded g.R.Rows.version c.args.circuit c.in-Some.count c.args.members.items _ many a.new a.count c.new.ensures.items c.new-2.ensures.items c.new-3.ensures.items in
     founded g.R.Rows.is_open g.R.Rows.saved g.R.Rows.version c.args.circuit c.args.members.items _ f
 
 pub returns-clause-reached : goal.returns-clause-reached
 returns-clause-reached g c =
     let len : vec_len c.args.members ≡ length c.args.members.items = c.args.members.ok.0 in
-    let many : length c.args.members.items ≡ c.in-Ok.count = omega (arith, len, c.len.ensures, c.in-Ok.ensures.1) in
-    let a = c.in-Ok-stations_of.ensures in
-    let f = are_founded g.R.Rows.version c.args.circuit c.in-Ok.count c.args.members.items _ many a.new a.count c.new.ensures.items c.new-2.ensures.items c.new-3.ensures.items in
-    newly_reached g.R.Rows g.met.R.Rows.halves c.circuits_exist.ensures c.args.circuit c.args.members.items _ (omega (arith, many)) f
+    let many : length c.args.members.items ≡ c.in-Some.count = omega (arith, len, c.len.ensures, c.in-Some.ensures.some.0) in
+    let a = c.in-Ok.ensures in
+    let f = are_founded g.R.Rows.version c.args.circuit c.in-Some.count c.args.members.items _ many a.new a.count c.new.ensures.items c.new-2.ensures.items c.new-3.ensures.items in
+    newly_reached g.R.Rows g.met.R.Rows.halves c.circuits_exist.ensures c.args.circuit c.args.members.items _ (omega (arith, len, c.len.ensures, c.in-Some.ensures.some.1.0)) f

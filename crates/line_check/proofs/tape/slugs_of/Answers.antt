@@ -5,7 +5,7 @@ use Rattle.code_table.specs.Tables.{mean}
 use Rattle.line_check.specs.Spreading.{misfit_among}
 use Rattle.line_check.specs.Setting.{AddsSlugs, IsFirstMisfit, IsFirstFault}
 use Rattle.line_check.proofs.ByPieces.{set_start, piece_is, rest_left, at_end, piece_set, piece_misfits, piece_told, finish_told, finish_sets, told_short, told_on}
-use Rattle.line_check.proofs.setting.slugs_of.Goals as goal
+use Rattle.line_check.proofs.tape.slugs_of.Goals as goal
 
 pub loop-piece-init : goal.loop-piece-init
 loop-piece-init c =

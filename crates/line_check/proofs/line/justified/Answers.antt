@@ -2,7 +2,7 @@ use Rattle.std.proofs.Common.{◌≡◌, ◌-◌, refl}
 use Rattle.std.proofs.lemmas.Bool.{le-ltb}
 use Rattle.line_check.specs.Slugs.{fixed_of, greatest_width}
 use Rattle.line_check.proofs.Spread.{items_kept, justifies}
-use Rattle.line_check.proofs.justifying.justified.Goals as goal
+use Rattle.line_check.proofs.line.justified.Goals as goal
 
 pub returns-clause-slug : goal.returns-clause-slug
 returns-clause-slug c =

@@ -1,6 +1,6 @@
 use Rattle.std.proofs.Common.{refl, sym, ◌∙◌}
 use Rattle.line_check.proofs.FirstFault.{are_more, misfit_rest}
-use Rattle.line_check.proofs.setting.add_slugs.Goals as goal
+use Rattle.line_check.proofs.tape.add_slugs.Goals as goal
 
 pub loop-line-preserved : goal.loop-line-preserved
 loop-line-preserved c =

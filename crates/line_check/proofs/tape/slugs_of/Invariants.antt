@@ -1,7 +1,7 @@
 use Rattle.std.proofs.Common.{◌≡◌, ◌≤◌, ℕ, length, drop}
 use Rattle.std.specs.Slice.Iter.{chunks_rest, chunks_size}
 use Rattle.line_check.specs.Setting.{SetTo}
-use Rattle.line_check.proofs.setting.slugs_of.Given as goal
+use Rattle.line_check.proofs.tape.slugs_of.Given as goal
 
 -- the tape was set to a position, from which on the rest is left
 abbrev pub invariant-loop-piece : goal.invariant-loop-piece

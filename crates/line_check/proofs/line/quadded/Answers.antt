@@ -1,7 +1,7 @@
 use Rattle.std.proofs.Common.{◌≡◌, ◌+◌, arith}
 use Rattle.line_check.specs.Slugs.{least_width}
 use Rattle.line_check.proofs.Spread.{items_kept, quads_line}
-use Rattle.line_check.proofs.justifying.quadded.Goals as goal
+use Rattle.line_check.proofs.line.quadded.Goals as goal
 
 pub returns-clause-slug : goal.returns-clause-slug
 returns-clause-slug c =

@@ -2,7 +2,7 @@ use Rattle.std.proofs.Common.{◌≡◌, ◌++◌, List, take, drop}
 use Rattle.slug_reader.specs.declared.line.Line.{Line}
 use Rattle.line_check.specs.Slugs.{AreSlugs}
 use Rattle.line_check.specs.Spreading.{misfit_among}
-use Rattle.line_check.proofs.setting.add_slugs.Given as goal
+use Rattle.line_check.proofs.tape.add_slugs.Given as goal
 
 abbrev pub invariant-loop-line : goal.invariant-loop-line
 invariant-loop-line l = record {

@@ -1,6 +1,6 @@
 use Rattle.std.proofs.Common.{◌≡◌, ◌*◌, ◌≤◌, take}
 use Rattle.line_check.specs.Slugs.{fixed_of, bands_of}
-use Rattle.line_check.proofs.justifying.tally_of.Given as goal
+use Rattle.line_check.proofs.line.tally_of.Given as goal
 
 abbrev pub invariant-loop-item : goal.invariant-loop-item
 invariant-loop-item l = record {

@@ -2,13 +2,13 @@
 
 ghost use Rattle.std.specs.Prelude.{◌≡◌, Ok, Err, None, IfOk, IfErr, OnOk, false};
 ghost use Rattle.code_table.specs.Tables.{mean};
-ghost use Rattle.line_check.specs.declared.setting.Unset.TheVariants.{OutOfMemory};
+ghost use Rattle.line_check.specs.declared.tape.Unset.TheVariants.{OutOfMemory};
 ghost use Rattle.line_check.specs.Sets.{Sets, IfFault};
 ghost use Rattle.line_check.specs.Spreading.{misfit_among};
 ghost use Rattle.line_check.specs.Setting.{unset_line, is_too_long, IsUnsetBy, IsFirstMisfit, IsFirstFault, AddsSlugs};
 
 use crate::fault::{Cause, LineFault, SetError, SetFault};
-use crate::justifying::check;
+use crate::line::check;
 use crate::slug::Slug;
 use code_table::CodeTable;
 use slug_reader::{Line, PIECE_FRAMES, ReadFault, Reader, line_at};
