@@ -2,20 +2,20 @@
 #![tactic(auto)]
 
 mod closing;
-mod creating;
 mod faults;
 mod files;
-mod finding;
 pub mod laws;
-mod moving;
+mod migration;
+mod new_tables;
+mod old_tables;
+mod opening;
 mod paths;
 mod queries;
 mod restarts;
 mod sqlite_rows;
 mod statements;
-mod taking_up;
 mod testing;
-mod upgrading;
+mod upgrade;
 
 pub use faults::FileFault;
 pub use restarts::into_files;

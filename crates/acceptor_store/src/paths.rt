@@ -10,7 +10,7 @@ ghost use Rattle.saved_rows.specs.Identity.{IsIdentity};
 ghost use Rattle.acceptor_store.specs.Sqlite.{IsOurs, Agrees, rows_version, saved_of};
 
 use crate::faults::{FileFault, file_fault_of};
-use crate::finding::{has_none, test_unmade};
+use crate::old_tables::{has_none, test_unmade};
 use crate::sqlite_rows::SqliteRows;
 use saved_rows::Identity;
 use sqlite::{Connection, FileFrom, FileStore, Start};

@@ -14,10 +14,10 @@ ghost use Rattle.row_columns.specs.Layouts.{layout_now, made_in};
 ghost use Rattle.acceptor_store.specs.Sqlite.{rows_layout, rows_version};
 ghost use Rattle.saved_rows.specs.Saved.{SameRows, WithRow, IsEither, IsListOf, HasPromise, RowFits, AreFitting, Rises};
 
-use crate::creating::make_tables;
+use crate::new_tables::make_tables;
+use crate::opening::take_up;
 use crate::statements::{fault_of, list, read, save};
-use crate::taking_up::take_up;
-use crate::upgrading::go_over;
+use crate::upgrade::go_over;
 use ballots::{Number, Row};
 use row_columns::{Layout, layout_now, made_in, version_in};
 use saved_rows::{Identity, Rows, RowsFault};

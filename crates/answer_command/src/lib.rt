@@ -1,7 +1,7 @@
 //! The command `answer`: one acceptor of a circuit, a line out for each line in.
 #![tactic(auto)]
 
-mod answering;
+mod answers;
 mod line;
 
-pub use answering::answer;
+pub use answers::answer;

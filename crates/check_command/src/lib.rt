@@ -1,6 +1,6 @@
 //! The command `check`: the galley of a tape by a code table and widths.
 #![tactic(auto)]
 
-mod checking;
+mod galley;
 
-pub use checking::check;
+pub use galley::check;

@@ -2,12 +2,12 @@
 #![tactic(auto)]
 
 mod case;
+mod entries;
 mod entry;
 mod fault;
 mod keys;
 mod meaning;
 mod name;
-mod reading;
 mod table;
 
 pub use case::Case;

@@ -8,10 +8,10 @@ ghost use Rattle.code_table.specs.declared.fault.TableFault.TheVariants.{NotToml
 ghost use Rattle.code_table.specs.Tables.{mean, case_of};
 
 use crate::case::Case;
+use crate::entries::{FRAMES, codes_in, read_places};
 use crate::entry::{Entry, copied};
 use crate::fault::TableFault;
 use crate::meaning::Meaning;
-use crate::reading::{FRAMES, codes_in, read_places};
 use std::alloc::{AllocError, Global};
 use std::marker::Model;
 use toml::Table;

@@ -3,12 +3,12 @@
 
 mod address;
 mod config;
+mod config_file;
 mod entry;
 mod fault;
 mod keys;
-mod reading;
 mod stations;
 
 pub use config::{Config, Folders};
+pub use config_file::read_config;
 pub use fault::{ConfigFault, ConfigKey};
-pub use reading::read_config;

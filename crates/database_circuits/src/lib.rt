@@ -1,6 +1,6 @@
 //! Circuits whose stations save their rows in databases.
 #![tactic(auto)]
 
-mod playing;
+mod plays;
 
-pub use playing::play_in_databases;
+pub use plays::play_in_databases;

@@ -28,7 +28,7 @@ use Rattle.world.specs.Worlds.{GoesOn}
 use Rattle.world.proofs.Asking.{ends_more}
 use Rattle.rehearse_command.specs.Scenes.{Scene, ArePlayed, TakesAs, Takes, scene_text, scenes_text}
 use Rattle.rehearse_command.specs.Rehearsals.{Inputs, IsSetUpBy, Shows, Stands, StandsFront, IsOn, IsStaged, Rehearses}
-use Rattle.rehearse_command.specs.declared.rehearsing.Stage.{Stage}
+use Rattle.rehearse_command.specs.declared.rehearsal.Stage.{Stage}
 use Rattle.rehearse_command.proofs.Listing.{sent_in, scenes_more}
 
 -- what is behind the old list is what it goes on by

@@ -14,7 +14,7 @@ use Rattle.world.specs.Founding.{Given}
 use Rattle.world.specs.Playing.{IsFresh}
 use Rattle.world.specs.Reach.{Agreed, IsReached}
 use Rattle.rehearse_command.specs.Scenes.{Scene, AreOf, ArePlayed, scenes_text}
-use Rattle.rehearse_command.specs.declared.rehearsing.Stage.{Stage}
+use Rattle.rehearse_command.specs.declared.rehearsal.Stage.{Stage}
 
 -- what is known of the texts that the members are set up from: a code table's, and a width file's
 pub record Inputs : Type 0 where

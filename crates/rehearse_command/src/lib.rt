@@ -3,9 +3,9 @@
 
 mod notes;
 mod outcomes;
-mod rehearsing;
+mod rehearsal;
+mod scene_lines;
 mod script;
-mod showing;
 
 pub use notes::NoteText;
-pub use rehearsing::rehearse;
+pub use rehearsal::rehearse;

@@ -8,7 +8,7 @@ mod rising;
 mod rows;
 mod station;
 mod tables;
-mod upgrading;
+mod upgrade;
 
 pub use cursor::Taker;
 pub use entries::{EntryColumns, add_entries, add_entry, make_entry_table};
@@ -17,4 +17,4 @@ pub use rising::{are_rising, number_above, rising_is_listed};
 pub use rows::{all_rows, get_row, put_row, visit_rows};
 pub use station::get_station;
 pub use tables::{create_entry_tables, create_tables};
-pub use upgrading::upgrade_tables;
+pub use upgrade::upgrade_tables;

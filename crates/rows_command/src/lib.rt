@@ -3,7 +3,7 @@
 #![tactic(auto)]
 
 mod listing;
-mod upgrading;
+mod upgrade;
 
 pub use listing::print_rows;
-pub use upgrading::upgrade_rows;
+pub use upgrade::upgrade_rows;

@@ -7,14 +7,14 @@ mod fault;
 mod item;
 mod items;
 mod line;
-mod numbering;
+mod line_numbers;
+mod lines;
 mod reader;
-mod reading;
 
 pub use fault::ReadFault;
 pub use item::{Item, Rail};
 pub use items::Items;
 pub use line::{Line, Quad};
-pub use numbering::line_at;
+pub use line_numbers::line_at;
+pub use lines::{PIECE_FRAMES, read_lines};
 pub use reader::Reader;
-pub use reading::{PIECE_FRAMES, read_lines};

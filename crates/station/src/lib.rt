@@ -4,12 +4,12 @@
 mod answer;
 mod checks;
 mod datagram;
-mod getting_ready;
+mod save;
 mod setting;
 mod speaker;
 mod station;
 mod steps;
-mod upgrading;
+mod upgrade;
 
 pub use answer::{Answer, Release};
 pub use datagram::Datagram;

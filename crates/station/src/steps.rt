@@ -19,7 +19,7 @@ ghost use Rattle.station.specs.Steps.{Ends, IsFree, TakesStep, OnStore, IfStore,
 
 use crate::answer::Answer;
 use crate::checks::check_packet;
-use crate::getting_ready::save;
+use crate::save::save;
 use crate::setting::{Checked, setting};
 use crate::station::Station;
 use ballots::Number;

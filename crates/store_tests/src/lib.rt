@@ -25,4 +25,6 @@ mod sessions;
 #[cfg(test)]
 mod statements;
 #[cfg(test)]
+mod takers;
+#[cfg(test)]
 mod upgrades;

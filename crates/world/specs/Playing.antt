@@ -6,8 +6,8 @@ use Rattle.saved_rows.specs.declared.rows.Rows.{Ghosts}
 use Rattle.world.specs.declared.world.World.{World}
 use Rattle.world.specs.declared.step.Step.{Step}
 use Rattle.world.specs.declared.step.RunStop.{RunStop}
-use Rattle.world.specs.declared.playing.PlayFault.{PlayFault}
-use Rattle.world.specs.declared.playing.PlayFault.TheVariants.{BadCount, OutOfMemory}
+use Rattle.world.specs.declared.plays.PlayFault.{PlayFault}
+use Rattle.world.specs.declared.plays.PlayFault.TheVariants.{BadCount, OutOfMemory}
 use Rattle.world.specs.Setups.{StationCircuit}
 use Rattle.world.specs.Founding.{Part, Given, given_of, IsCount, IsFounded, IsCircuitOf}
 use Rattle.world.specs.Reach.{Runs, StandsFor}

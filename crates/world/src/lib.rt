@@ -2,17 +2,17 @@
 #![tactic(auto)]
 
 pub mod laws;
-mod logging;
+mod log_growth;
 mod logs;
-mod playing;
+mod plays;
 mod slugs;
 mod step;
-mod taking;
-mod upgrading;
+mod steps;
+mod upgrade;
 mod world;
 
 pub use logs::{OfferLog, ReleaseLog};
-pub use playing::{PlayFault, Played, circuit_in_memory, play, play_in_memory};
+pub use plays::{PlayFault, Played, circuit_in_memory, play, play_in_memory};
 pub use slugs::Slugs;
 pub use step::{Outcome, RunStop, Seen, Step, WorldRefusal};
 pub use world::{NewWorldFault, World};

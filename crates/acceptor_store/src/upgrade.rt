@@ -1,0 +1,99 @@
+//! The upgrade of the rows of layout 1 to layout 2.
+
+ghost use Rattle.std.specs.Prelude.{◌≡◌, ◌≤◌, [], IsTrue, IfErr, OnOk, OnErr};
+ghost use Rattle.sqlite_trees.specs.View.{doubt};
+ghost use Rattle.sqlite.specs.State.{HasCleanDisk};
+ghost use Rattle.sqlite.specs.Held.{state};
+ghost use Rattle.row_table.specs.Tables.{Origin};
+ghost use Rattle.row_table.specs.Tables.Layout.{First, Second};
+ghost use Rattle.row_table.specs.Rows.{WasKept};
+ghost use Rattle.row_table.specs.Entries.{with_entries};
+ghost use Rattle.saved_rows.specs.declared.identity.Identity.{Identity};
+ghost use Rattle.row_columns.specs.Layouts.{layout_of};
+ghost use Rattle.row_columns.specs.Columns.{saved_in};
+ghost use Rattle.acceptor_store.specs.Moving.{HoldsMap};
+ghost use Rattle.acceptor_store.specs.Sqlite.{HoldsAll, Stands, WentOver, IsRefusal};
+
+use crate::migration::entries_for;
+use crate::queries::find;
+use crate::statements::{fault_of, list};
+use row_columns::Layout;
+use row_table::{EntryColumns, upgrade_tables};
+use saved_rows::RowsFault;
+use sqlite::{Alter, Connection};
+use std::alloc::Global;
+
+/// Puts these entries, which hold the map of layout 1, into a table of entries that is made for them, and sets the layout, in one transaction.
+fn move_entries<S: Alter>(
+    conn: &mut Connection<S>,
+    entries: &[EntryColumns],
+) -> Result<(), RowsFault>
+    ensures over { (i : Identity) → Stands S.Store First conn.old i → HoldsMap (saved_in First (state S.Store conn.old).now.trees) (with_entries entries.now [])
+        → IsTrue (state S.Store conn.old).is_open → HasCleanDisk (state S.Store conn.new) → OnOk result (WentOver S.Store First i conn.old conn.new) }
+    ensures kept { (i : Identity) → Stands S.Store First conn.old i → HasCleanDisk (state S.Store conn.new) → IsTrue (state S.Store conn.new).is_open → OnErr result (WasKept (state S.Store conn.old) (state S.Store conn.new)) }
+    ensures crash { (i : Identity) → Stands S.Store First conn.old i → HoldsMap (saved_in First (state S.Store conn.old).now.trees) (with_entries entries.now [])
+        → IsTrue (state S.Store conn.old).is_open → HasCleanDisk (state S.Store conn.new)
+        → (db : _) → (state S.Store conn.new).may_leave db → HoldsAll First i (saved_in First (state S.Store conn.old).now.trees) db }
+    ensures clean { doubt (state S.Store conn.old).is_clean ≤ doubt (state S.Store conn.new).is_clean }
+    ensures refusal { IfErr result IsRefusal }
+{
+    if !conn.is_autocommit() {
+        return Err(RowsFault::Store);
+    }
+    match upgrade_tables(conn, entries) {
+        Ok(()) => Ok(()),
+        Err(error) => Err(fault_of(&error)),
+    }
+}
+
+/// Reads and packs all rows of layout 1, and moves them to layout 2.
+fn move_rows<S: Alter>(alloc: Global, conn: &mut Connection<S>) -> Result<(), RowsFault>
+    ensures over { (i : Identity) → Stands S.Store First conn.old i → HasCleanDisk (state S.Store conn.new) → OnOk result (WentOver S.Store First i conn.old conn.new) }
+    ensures kept { (i : Identity) → Stands S.Store First conn.old i → HasCleanDisk (state S.Store conn.new) → IsTrue (state S.Store conn.new).is_open → OnErr result (WasKept (state S.Store conn.old) (state S.Store conn.new)) }
+    ensures crash { (i : Identity) → Stands S.Store First conn.old i → IsTrue (state S.Store conn.old).is_open → HasCleanDisk (state S.Store conn.new)
+        → (db : _) → (state S.Store conn.new).may_leave db → HoldsAll First i (saved_in First (state S.Store conn.old).now.trees) db }
+    ensures clean { doubt (state S.Store conn.old).is_clean ≤ doubt (state S.Store conn.new).is_clean }
+    ensures refusal { (i : Identity) → Stands S.Store First conn.old i → HasCleanDisk (state S.Store conn.new) → IfErr result IsRefusal }
+{
+    let items = list(alloc, conn, Layout::First)?;
+    let Ok(entries) = entries_for(alloc, items.as_slice()) else {
+        return Err(RowsFault::OutOfMemory);
+    };
+    move_entries(conn, entries.as_slice())
+}
+
+/// Tests that a connection still answers what is saved in layout 2. Nothing is written.
+fn test_open<S: Alter>(conn: &mut Connection<S>, layout: Layout) -> Result<(), RowsFault>
+    ensures over { (origin : Origin) (i : Identity) → layout_of layout ≡ Second origin → Stands S.Store (Second origin) conn.old i → HasCleanDisk (state S.Store conn.new)
+        → OnOk result (WentOver S.Store (Second origin) i conn.old conn.new) }
+    ensures kept { (i : Identity) → Stands S.Store (layout_of layout) conn.old i → HasCleanDisk (state S.Store conn.new) → IsTrue (state S.Store conn.new).is_open → OnErr result (WasKept (state S.Store conn.old) (state S.Store conn.new)) }
+    ensures crash { (i : Identity) → Stands S.Store (layout_of layout) conn.old i → IsTrue (state S.Store conn.old).is_open → HasCleanDisk (state S.Store conn.new)
+        → (db : _) → (state S.Store conn.new).may_leave db → HoldsAll (layout_of layout) i (saved_in (layout_of layout) (state S.Store conn.old).now.trees) db }
+    ensures clean { doubt (state S.Store conn.old).is_clean ≤ doubt (state S.Store conn.new).is_clean }
+    ensures refusal { IfErr result IsRefusal }
+{
+    match find(conn, layout, 1) {
+        Ok(_) => Ok(()),
+        Err(error) => Err(fault_of(&error)),
+    }
+}
+
+/// Goes over to layout 2 with the rows of layout 1; from layout 2 nothing is changed.
+pub(crate) fn go_over<S: Alter>(
+    alloc: Global,
+    conn: &mut Connection<S>,
+    layout: Layout,
+) -> Result<(), RowsFault>
+    ensures over { (i : Identity) → Stands S.Store (layout_of layout) conn.old i → HasCleanDisk (state S.Store conn.new) → OnOk result (WentOver S.Store (layout_of layout) i conn.old conn.new) }
+    ensures kept { (i : Identity) → Stands S.Store (layout_of layout) conn.old i → HasCleanDisk (state S.Store conn.new) → IsTrue (state S.Store conn.new).is_open → OnErr result (WasKept (state S.Store conn.old) (state S.Store conn.new)) }
+    ensures crash { (i : Identity) → Stands S.Store (layout_of layout) conn.old i → IsTrue (state S.Store conn.old).is_open → HasCleanDisk (state S.Store conn.new)
+        → (db : _) → (state S.Store conn.new).may_leave db → HoldsAll (layout_of layout) i (saved_in (layout_of layout) (state S.Store conn.old).now.trees) db }
+    ensures clean { doubt (state S.Store conn.old).is_clean ≤ doubt (state S.Store conn.new).is_clean }
+    ensures refusal { (i : Identity) → Stands S.Store (layout_of layout) conn.old i → HasCleanDisk (state S.Store conn.new) → IfErr result IsRefusal }
+{
+    match layout {
+        Layout::First => move_rows(alloc, conn),
+        Layout::Created => test_open(conn, layout),
+        Layout::Upgraded => test_open(conn, layout),
+    }
+}

@@ -1,0 +1,17 @@
+-- One datagram more.
+use Rattle.streams.proofs.Parts.{at_err}
+use Rattle.rehearse_command.proofs.Listing.{wrote_datagram, stopped_datagram}
+use Rattle.rehearse_command.proofs.scene_lines.put_datagrams.Goals as goal
+
+pub returns-in_err-put_datagram-clause-err : goal.returns-in_err-put_datagram-clause-err
+returns-in_err-put_datagram-clause-err g c =
+    at_err c.from_residual.result
+    (stopped_datagram c.args.before c.args.sent.now c.loop-index.index c.index-sent-index.result
+    (g.W.Write.contents c.args.out.now) (g.W.Write.contents c.loop-index.out) (g.W.Write.contents c.put_datagram.new.out)
+    c.loop-index-test.true c.index-sent-index.is c.loop-index.invariant c.in_err-put_datagram.ensures.err)
+
+pub loop-index-preserved : goal.loop-index-preserved
+loop-index-preserved g c =
+    wrote_datagram c.args.before c.args.sent.now c.loop-index.index c.index-sent-index.result
+    (g.W.Write.contents c.args.out.now) (g.W.Write.contents c.loop-index.out) (g.W.Write.contents c.put_datagram.new.out)
+    c.loop-index-test.true c.index-sent-index.is c.loop-index.invariant c.in_ok-put_datagram.ensures.ok

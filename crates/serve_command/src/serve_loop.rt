@@ -1,0 +1,270 @@
+//! The command `serve`: what a station takes in from the wire, and what it hands out.
+
+ghost use Rattle.std.specs.Prelude.{◌≡◌, false, OnOk};
+ghost use Rattle.serve_command.specs.Serving.{Serves, known, post, ended, IsTakingIn, IsSeeingToDue, IsTurn, IsOffer, IsWithdrawal, IsSearch, IsAsking, AtClock, Then, AreTurns, IsRun};
+ghost use Rattle.command_ends.specs.declared.end.End.TheVariants.{Done};
+
+use crate::handing_on::hand_on;
+use crate::station_steps::{BUFFER, Outcome, pass_over, take_datagram};
+use crate::strangers::tell_strangers;
+use command_ends::{End, Fault};
+use saved_rows::Rows;
+use station::{Station, StepRefusal};
+use std::alloc::Global;
+use std::io::Write;
+use tape_frames::Tape;
+use wire::Wire;
+
+/// Takes in what comes, one datagram at most. One that the station refuses is passed over.
+fn take_in<R: Rows, N: Wire, W: Write, E: Write>(
+    alloc: Global,
+    station: &mut Station<R>,
+    wire: &mut N,
+    now: u64,
+    buffer: &mut [u8],
+    out: &mut W,
+    err: &mut E,
+) -> Result<(), Fault<'static>>
+    ensures was_kept { R.kept station.new.rows → R.kept station.old.rows }
+    ensures serves { Serves (known R.Rows N.passed W.contents) (post station.old wire.old out.old) (post station.new wire.new out.new) (ended result) (IsTakingIn now) }
+{
+    match take_datagram(station, wire, now, buffer) {
+        Outcome::Nothing => Ok(()),
+        Outcome::Failed => Err(Fault::Socket("receive failed")),
+        Outcome::Done(answer) => hand_on(alloc, &answer, wire, out, err),
+        Outcome::Refused(refusal) => pass_over(refusal),
+    }
+}
+
+/// Sees to what is due, one number at most.
+fn see_to_due<R: Rows, N: Wire, W: Write, E: Write>(
+    alloc: Global,
+    station: &mut Station<R>,
+    wire: &mut N,
+    now: u64,
+    out: &mut W,
+    err: &mut E,
+) -> Result<(), Fault<'static>>
+    ensures was_kept { R.kept station.new.rows → R.kept station.old.rows }
+    ensures serves { Serves (known R.Rows N.passed W.contents) (post station.old wire.old out.old) (post station.new wire.new out.new) (ended result) (IsSeeingToDue now) }
+    ensures goes_on { OnOk result (station.new.stopped ≡ false) }
+{
+    match station.due(now) {
+        Ok(due) => hand_on(alloc, &due, wire, out, err),
+        Err(refusal) => pass_over(refusal),
+    }
+}
+
+/// One turn, up to its first fault. Strangers are told behind what came, so that no reply waits for it.
+fn turn<R: Rows, N: Wire, W: Write, E: Write>(
+    alloc: Global,
+    station: &mut Station<R>,
+    wire: &mut N,
+    now: u64,
+    buffer: &mut [u8],
+    out: &mut W,
+    err: &mut E,
+) -> Result<(), Fault<'static>>
+    ensures was_kept { R.kept station.new.rows → R.kept station.old.rows }
+    ensures serves { Serves (known R.Rows N.passed W.contents) (post station.old wire.old out.old) (post station.new wire.new out.new) (ended result) (IsTurn now) }
+    ensures goes_on { OnOk result (station.new.stopped ≡ false) }
+{
+    take_in(alloc, station, wire, now, buffer, out, err)?;
+    tell_strangers(wire, now, err);
+    see_to_due(alloc, station, wire, now, out, err)
+}
+
+/// One turn of a station at a moment in milliseconds: it takes in one datagram at most, and then sees to what is due.
+///
+/// What the station hands out is sent, and a release is written. A datagram that it refuses is passed over, a
+/// datagram that can't be sent is lost and told, and so are, once a second at most, those of strangers. The turn ends otherwise than by `Done` where the wire fails to
+/// receive, the station stops, or the output can't be written; `err` has the fault.
+pub fn serve_turn<R: Rows, N: Wire, W: Write, E: Write>(
+    alloc: Global,
+    station: &mut Station<R>,
+    wire: &mut N,
+    now: u64,
+    buffer: &mut [u8],
+    out: &mut W,
+    err: &mut E,
+) -> End
+    ensures was_kept { R.kept station.new.rows → R.kept station.old.rows }
+    ensures serves { Serves (known R.Rows N.passed W.contents) (post station.old wire.old out.old) (post station.new wire.new out.new) result (IsTurn now) }
+    ensures goes_on { result ≡ Done → station.new.stopped ≡ false }
+{
+    match turn(alloc, station, wire, now, buffer, out, err) {
+        Ok(()) => End::Done,
+        Err(fault) => fault.tell(err),
+    }
+}
+
+/// The same, at the moment of the clock.
+fn timed_turn<R: Rows, N: Wire, W: Write, E: Write>(
+    alloc: Global,
+    station: &mut Station<R>,
+    wire: &mut N,
+    buffer: &mut [u8],
+    out: &mut W,
+    err: &mut E,
+) -> End
+    ensures was_kept { R.kept station.new.rows → R.kept station.old.rows }
+    ensures serves { Serves (known R.Rows N.passed W.contents) (post station.old wire.old out.old) (post station.new wire.new out.new) result (AtClock IsTurn) }
+{
+    let now = wire.now();
+    serve_turn(alloc, station, wire, now, buffer, out, err)
+}
+
+/// Offers a tape for a number, where there is one to offer.
+fn make_offer<R: Rows, N: Wire, W: Write, E: Write>(
+    alloc: Global,
+    station: &mut Station<R>,
+    wire: &mut N,
+    offer: Option<(u32, Tape)>,
+    out: &mut W,
+    err: &mut E,
+) -> Result<(), Fault<'static>>
+    ensures was_kept { R.kept station.new.rows → R.kept station.old.rows }
+    ensures serves { Serves (known R.Rows N.passed W.contents) (post station.old wire.old out.old) (post station.new wire.new out.new) (ended result) (IsOffer offer) }
+{
+    let Some((number, tape)) = offer else {
+        return Ok(());
+    };
+    let now = wire.now();
+    match station.offer(number, &tape, now) {
+        Ok(answer) => hand_on(alloc, &answer, wire, out, err),
+        Err(refusal) => Err(Fault::of_step(refusal)),
+    }
+}
+
+/// Offers the withdrawal of a number, where there is one to withdraw.
+fn make_withdrawal<R: Rows, N: Wire, W: Write, E: Write>(
+    alloc: Global,
+    station: &mut Station<R>,
+    wire: &mut N,
+    withdraw: Option<u32>,
+    out: &mut W,
+    err: &mut E,
+) -> Result<(), Fault<'static>>
+    ensures was_kept { R.kept station.new.rows → R.kept station.old.rows }
+    ensures serves { Serves (known R.Rows N.passed W.contents) (post station.old wire.old out.old) (post station.new wire.new out.new) (ended result) (IsWithdrawal withdraw) }
+{
+    let Some(number) = withdraw else {
+        return Ok(());
+    };
+    let now = wire.now();
+    match station.withdraw(number, now) {
+        Ok(answer) => hand_on(alloc, &answer, wire, out, err),
+        Err(refusal) => Err(Fault::of_step(refusal)),
+    }
+}
+
+/// Seeks what was agreed on for a number, where there is one to seek.
+fn make_search<R: Rows, N: Wire, W: Write, E: Write>(
+    alloc: Global,
+    station: &mut Station<R>,
+    wire: &mut N,
+    seek: Option<u32>,
+    out: &mut W,
+    err: &mut E,
+) -> Result<(), Fault<'static>>
+    ensures was_kept { R.kept station.new.rows → R.kept station.old.rows }
+    ensures serves { Serves (known R.Rows N.passed W.contents) (post station.old wire.old out.old) (post station.new wire.new out.new) (ended result) (IsSearch seek) }
+{
+    let Some(number) = seek else {
+        return Ok(());
+    };
+    let now = wire.now();
+    match station.seek(number, now) {
+        Ok(answer) => hand_on(alloc, &answer, wire, out, err),
+        Err(refusal) => Err(Fault::of_step(refusal)),
+    }
+}
+
+/// Makes the withdrawal, and then the search.
+fn withdraw_and_seek<R: Rows, N: Wire, W: Write, E: Write>(
+    alloc: Global,
+    station: &mut Station<R>,
+    wire: &mut N,
+    withdraw: Option<u32>,
+    seek: Option<u32>,
+    out: &mut W,
+    err: &mut E,
+) -> Result<(), Fault<'static>>
+    ensures was_kept { R.kept station.new.rows → R.kept station.old.rows }
+    ensures serves { Serves (known R.Rows N.passed W.contents) (post station.old wire.old out.old) (post station.new wire.new out.new) (ended result) (Then (IsWithdrawal withdraw) (IsSearch seek)) }
+{
+    make_withdrawal(alloc, station, wire, withdraw, out, err)?;
+    make_search(alloc, station, wire, seek, out, err)
+}
+
+/// Makes the offer, then the withdrawal, and then the search.
+fn ask<R: Rows, N: Wire, W: Write, E: Write>(
+    alloc: Global,
+    station: &mut Station<R>,
+    wire: &mut N,
+    offer: Option<(u32, Tape)>,
+    withdraw: Option<u32>,
+    seek: Option<u32>,
+    out: &mut W,
+    err: &mut E,
+) -> Result<(), Fault<'static>>
+    ensures was_kept { R.kept station.new.rows → R.kept station.old.rows }
+    ensures serves { Serves (known R.Rows N.passed W.contents) (post station.old wire.old out.old) (post station.new wire.new out.new) (ended result) (IsAsking offer withdraw seek) }
+{
+    make_offer(alloc, station, wire, offer, out, err)?;
+    withdraw_and_seek(alloc, station, wire, withdraw, seek, out, err)
+}
+
+/// The turns of a station, one after the other, up to the first that does not end well.
+fn take_turns<R: Rows, N: Wire, W: Write, E: Write>(
+    alloc: Global,
+    station: &mut Station<R>,
+    wire: &mut N,
+    turns: u32,
+    buffer: &mut [u8],
+    out: &mut W,
+    err: &mut E,
+) -> End
+    ensures was_kept { R.kept station.new.rows → R.kept station.old.rows }
+    ensures serves { Serves (known R.Rows N.passed W.contents) (post station.old wire.old out.old) (post station.new wire.new out.new) result (AreTurns turns) }
+{
+    for _ in 0..turns {
+        let end = timed_turn(alloc, station, wire, buffer, out, err);
+        if end != End::Done {
+            return end;
+        }
+    }
+    End::Done
+}
+
+/// Serves a station: the offer, then the withdrawal, then the search, if given, and then so many turns, up to the first
+/// that does not end well. The buffer for what comes is made before all of them.
+///
+/// An offer, a withdrawal or a search that the station refuses ends it, and so does that it has stopped; `err` has the
+/// word. A station at version 1 refuses each withdrawal.
+pub fn serve_run<R: Rows, N: Wire, W: Write, E: Write>(
+    alloc: Global,
+    station: &mut Station<R>,
+    wire: &mut N,
+    offer: Option<(u32, Tape)>,
+    withdraw: Option<u32>,
+    seek: Option<u32>,
+    turns: u32,
+    out: &mut W,
+    err: &mut E,
+) -> End
+    ensures was_kept { R.kept station.new.rows → R.kept station.old.rows }
+    ensures serves { Serves (known R.Rows N.passed W.contents) (post station.old wire.old out.old) (post station.new wire.new out.new) result (IsRun offer withdraw seek turns) }
+    ensures goes_on { result ≡ Done → station.new.stopped ≡ false }
+{
+    if station.stopped() {
+        return Fault::of_step(StepRefusal::Stopped).tell(err);
+    }
+    let Ok(mut buffer) = vec![in alloc; 0u8; BUFFER] else {
+        return Fault::OutOfMemory.tell(err);
+    };
+    match ask(alloc, station, wire, offer, withdraw, seek, out, err) {
+        Ok(()) => take_turns(alloc, station, wire, turns, &mut buffer, out, err),
+        Err(fault) => fault.tell(err),
+    }
+}

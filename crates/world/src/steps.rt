@@ -1,0 +1,258 @@
+//! The steps of a world, one function for each kind.
+
+ghost use Rattle.std.specs.Prelude.{◌≡◌, ◌<◌, ◌≤◌, ◌+◌, suc, false, Some, None, IfOk, IfErr, OnOk, OnErr, length, option_map};
+ghost use Rattle.protocol.specs.Circuit.{datagram_at, member_missing};
+ghost use Rattle.world.specs.Reach.{Agreed, AllHonest, AllKept, AllMade, IsReached, Moves, Runs, StandsFor};
+ghost use Rattle.world.specs.Setups.{StationCircuit, StationState};
+ghost use Rattle.world.specs.Taking.{Found, StopsAt, TakesFront, Tells, TellsWhy};
+ghost use Rattle.world.specs.Worlds.{count_of};
+
+use crate::laws;
+use crate::log_growth::log_offer;
+use crate::step::{Outcome, RunStop, Seen, Step, WorldRefusal};
+use crate::upgrade::go_over;
+use crate::world::World;
+use line_check::laws::one_setting;
+use saved_rows::Rows;
+use station::Datagram;
+use tape_frames::{Entry, Tape};
+
+/// The member that a datagram goes to.
+fn addressee_of(datagram: &Datagram) -> u8
+    ensures { result ≡ datagram.now.to }
+{
+    datagram.to().get()
+}
+
+impl<R: Rows> World<R> {
+    /// Takes one step. What the step did is logged, and what was logged is told.
+    ///
+    /// Refused as `NoSuchMember`, `NoSuchDatagram` or `OutOfMemory`, each of which changes nothing: the logs grow
+    /// before the station is asked. That a station refuses a step is an outcome, also where its store or its memory does.
+    /// A fault of its store is that of the member's own rows; an armed store tells its refusal as [`saved_rows::RowsFault::Store`].
+    pub fn step(&mut self, step: &Step) -> Result<Seen, WorldRefusal>
+        // Of every circuit and state that the world stands for, it takes the step, and ends as the circuit's step does.
+        ensures steps { AllKept R.kept self.new → (z : StationCircuit) (w : StationState) → StandsFor R.is_open R.saved R.version z self.old w → Moves R.is_open R.saved R.version R.refusals z w step.now self.old self.new result }
+        // Whatever the rows do, what is seen is what was logged, and a refusal changes nothing and has its reason.
+        ensures tells { Tells step.now self.old self.new result }
+        // Where the store tears the step, it is told why: the fault is that of an armed store, or one that the member's own rows blame.
+        ensures why { TellsWhy R.Rows self.old self.new result }
+        ensures was_kept { AllKept R.kept self.new → AllKept R.kept self.old }
+        ensures made { AllMade R.made self.old → AllMade R.made self.new }
+        // The headline: a world that is reached stays so; and where the hosts of its rows were honest, what is released in it is agreed.
+        ensures reached { IsReached R.Rows self.old → IsReached R.Rows self.new }
+        ensures agreed { IsReached R.Rows self.new → AllHonest R.honest self.new → Agreed self.new }
+    {
+        laws::agreement();
+        match step {
+            Step::Offer {
+                member,
+                number,
+                tape,
+                now,
+            } => self.offer(*member, *number, tape, *now),
+            Step::Withdraw {
+                member,
+                number,
+                now,
+            } => self.withdraw(*member, *number, *now),
+            Step::Seek {
+                member,
+                number,
+                now,
+            } => self.seek(*member, *number, *now),
+            Step::Due { member, now } => self.due(*member, *now),
+            Step::Deliver { k, now } => self.deliver(*k, *now),
+            Step::Restart { member } => self.restart(*member),
+            Step::Upgrade { member } => self.upgrade(*member),
+            Step::Balk { member, saved } => self.balk(*member, *saved),
+        }
+    }
+
+    /// Takes steps in order, up to the first that is refused. The steps before it stand.
+    pub fn run(&mut self, steps: &[Step]) -> Result<(), RunStop>
+        // Whatever the rows do, each of these steps was told, and where a store tore it, why.
+        ensures takes { TakesFront R.Rows self.old steps.now self.new result }
+        ensures runs { AllKept R.kept self.new → (z : StationCircuit) (w : StationState) → StandsFor R.is_open R.saved R.version z self.old w → Runs R.is_open R.saved R.version z w steps.now self.new result }
+        ensures stops { IfErr result (StopsAt steps.now self.new) }
+        ensures was_kept { AllKept R.kept self.new → AllKept R.kept self.old }
+        ensures made { AllMade R.made self.old → AllMade R.made self.new }
+        ensures reached { IsReached R.Rows self.old → IsReached R.Rows self.new }
+        ensures agreed { IsReached R.Rows self.new → AllHonest R.honest self.new → Agreed self.new }
+    {
+        laws::agreement();
+        for (at, step) in steps.iter().enumerate() {
+            if let Err(refusal) = self.step(step) {
+                return Err(RunStop { at, refusal });
+            }
+        }
+        Ok(())
+    }
+
+    /// The place of a member in the list of stations.
+    fn place(&self, member: u8) -> Result<usize, WorldRefusal>
+        ensures place { IfOk result (λ i. suc i ≡ member) }
+        ensures within { IfOk result (λ i. i < count_of self.now) }
+        ensures found { Found (member_missing (count_of self.now) member) result }
+    {
+        let member = usize::from(member);
+        if member < 1 || self.stations.len() < member {
+            return Err(WorldRefusal::NoSuchMember);
+        }
+        Ok(member - 1)
+    }
+
+    /// The addressee of a datagram.
+    fn addressee(&self, k: usize) -> Result<u8, WorldRefusal>
+        ensures low { OnOk result (1 ≤ k) }
+        ensures high { OnOk result (k ≤ length self.now.sent.items) }
+        ensures found { IfOk result (λ m. option_map (λ d. d.to) (datagram_at self.now.sent.items k) ≡ Some m) }
+        ensures unsent { OnErr result (datagram_at self.now.sent.items k ≡ None) }
+        ensures refused { IfErr result (λ r. r ≡ WorldRefusal.NoSuchDatagram) }
+    {
+        if k < 1 || self.sent.len() < k {
+            return Err(WorldRefusal::NoSuchDatagram);
+        }
+        Ok(addressee_of(&self.sent[k - 1]))
+    }
+
+    /// A member is offered a tape.
+    fn offer(
+        &mut self,
+        member: u8,
+        number: u32,
+        tape: &Tape,
+        now: u64,
+    ) -> Result<Seen, WorldRefusal>
+        ensures steps { AllKept R.kept self.new → (z : StationCircuit) (w : StationState) → StandsFor R.is_open R.saved R.version z self.old w → Moves R.is_open R.saved R.version R.refusals z w (Step.Offer member number tape.now now) self.old self.new result }
+        ensures tells { Tells (Step.Offer member number tape.now now) self.old self.new result }
+        ensures why { TellsWhy R.Rows self.old self.new result }
+        ensures was_kept { AllKept R.kept self.new → AllKept R.kept self.old }
+        ensures made { AllMade R.made self.old → AllMade R.made self.new }
+    {
+        one_setting();
+        let place = self.place(member)?;
+        let Ok(copy) = tape.copy(self.alloc) else {
+            return Err(WorldRefusal::OutOfMemory);
+        };
+        self.make_room()?;
+        let step = self.stations[place].offer(number, tape, now);
+        log_offer(&mut self.offers, member, number, Entry::Tape(copy), &step);
+        Ok(self.take_in(member, step))
+    }
+
+    /// A member is asked to withdraw a number.
+    fn withdraw(&mut self, member: u8, number: u32, now: u64) -> Result<Seen, WorldRefusal>
+        ensures steps { AllKept R.kept self.new → (z : StationCircuit) (w : StationState) → StandsFor R.is_open R.saved R.version z self.old w → Moves R.is_open R.saved R.version R.refusals z w (Step.Withdraw member number now) self.old self.new result }
+        ensures tells { Tells (Step.Withdraw member number now) self.old self.new result }
+        ensures why { TellsWhy R.Rows self.old self.new result }
+        ensures was_kept { AllKept R.kept self.new → AllKept R.kept self.old }
+        ensures made { AllMade R.made self.old → AllMade R.made self.new }
+    {
+        one_setting();
+        let place = self.place(member)?;
+        self.make_room()?;
+        let step = self.stations[place].withdraw(number, now);
+        log_offer(&mut self.offers, member, number, Entry::Void, &step);
+        Ok(self.take_in(member, step))
+    }
+
+    /// A member seeks what is agreed on.
+    fn seek(&mut self, member: u8, number: u32, now: u64) -> Result<Seen, WorldRefusal>
+        ensures steps { AllKept R.kept self.new → (z : StationCircuit) (w : StationState) → StandsFor R.is_open R.saved R.version z self.old w → Moves R.is_open R.saved R.version R.refusals z w (Step.Seek member number now) self.old self.new result }
+        ensures tells { Tells (Step.Seek member number now) self.old self.new result }
+        ensures why { TellsWhy R.Rows self.old self.new result }
+        ensures was_kept { AllKept R.kept self.new → AllKept R.kept self.old }
+        ensures made { AllMade R.made self.old → AllMade R.made self.new }
+    {
+        one_setting();
+        let place = self.place(member)?;
+        self.make_room()?;
+        let step = self.stations[place].seek(number, now);
+        Ok(self.take_in(member, step))
+    }
+
+    /// A member sees to what is due.
+    fn due(&mut self, member: u8, now: u64) -> Result<Seen, WorldRefusal>
+        ensures steps { AllKept R.kept self.new → (z : StationCircuit) (w : StationState) → StandsFor R.is_open R.saved R.version z self.old w → Moves R.is_open R.saved R.version R.refusals z w (Step.Due member now) self.old self.new result }
+        ensures tells { Tells (Step.Due member now) self.old self.new result }
+        ensures why { TellsWhy R.Rows self.old self.new result }
+        ensures was_kept { AllKept R.kept self.new → AllKept R.kept self.old }
+        ensures made { AllMade R.made self.old → AllMade R.made self.new }
+    {
+        one_setting();
+        let place = self.place(member)?;
+        self.make_room()?;
+        let step = self.stations[place].due(now);
+        Ok(self.take_in(member, step))
+    }
+
+    /// A datagram comes to its addressee.
+    fn deliver(&mut self, k: usize, now: u64) -> Result<Seen, WorldRefusal>
+        ensures steps { AllKept R.kept self.new → (z : StationCircuit) (w : StationState) → StandsFor R.is_open R.saved R.version z self.old w → Moves R.is_open R.saved R.version R.refusals z w (Step.Deliver k now) self.old self.new result }
+        ensures tells { Tells (Step.Deliver k now) self.old self.new result }
+        ensures why { TellsWhy R.Rows self.old self.new result }
+        ensures was_kept { AllKept R.kept self.new → AllKept R.kept self.old }
+        ensures made { AllMade R.made self.old → AllMade R.made self.new }
+    {
+        one_setting();
+        let member = self.addressee(k)?;
+        let place = self.place(member)?;
+        self.make_room()?;
+        let datagram = &self.sent[k - 1];
+        let step = self.stations[place].receive(datagram.bytes(), now);
+        Ok(self.take_in(member, step))
+    }
+
+    /// A member starts again.
+    fn restart(&mut self, member: u8) -> Result<Seen, WorldRefusal>
+        ensures steps { AllKept R.kept self.new → (z : StationCircuit) (w : StationState) → StandsFor R.is_open R.saved R.version z self.old w → Moves R.is_open R.saved R.version R.refusals z w (Step.Restart member) self.old self.new result }
+        ensures tells { Tells (Step.Restart member) self.old self.new result }
+        ensures why { TellsWhy R.Rows self.old self.new result }
+        ensures was_kept { AllKept R.kept self.new → AllKept R.kept self.old }
+        ensures made { AllMade R.made self.old → AllMade R.made self.new }
+    {
+        let place = self.place(member)?;
+        self.stations[place].restart();
+        Ok(self.unsent(member, Outcome::Restarted))
+    }
+
+    /// A member goes over to version 2. Nothing is sent or logged, and no memory is taken.
+    fn upgrade(&mut self, member: u8) -> Result<Seen, WorldRefusal>
+        ensures steps { AllKept R.kept self.new → (z : StationCircuit) (w : StationState) → StandsFor R.is_open R.saved R.version z self.old w → Moves R.is_open R.saved R.version R.refusals z w (Step.Upgrade member) self.old self.new result }
+        ensures tells { Tells (Step.Upgrade member) self.old self.new result }
+        ensures why { TellsWhy R.Rows self.old self.new result }
+        ensures was_kept { AllKept R.kept self.new → AllKept R.kept self.old }
+        ensures made { AllMade R.made self.old → AllMade R.made self.new }
+    {
+        let place = self.place(member)?;
+        let outcome = go_over(&mut self.stations[place]);
+        Ok(self.unsent(member, outcome))
+    }
+
+    /// A member's store is armed to refuse a save or an upgrade.
+    fn balk(&mut self, member: u8, saved: bool) -> Result<Seen, WorldRefusal>
+        ensures steps { AllKept R.kept self.new → (z : StationCircuit) (w : StationState) → StandsFor R.is_open R.saved R.version z self.old w → Moves R.is_open R.saved R.version R.refusals z w (Step.Balk member saved) self.old self.new result }
+        ensures tells { Tells (Step.Balk member saved) self.old self.new result }
+        ensures why { TellsWhy R.Rows self.old self.new result }
+        ensures was_kept { AllKept R.kept self.new → AllKept R.kept self.old }
+        ensures made { AllMade R.made self.old → AllMade R.made self.new }
+    {
+        let place = self.place(member)?;
+        self.stations[place].rows_mut().arm(saved);
+        Ok(self.unsent(member, Outcome::Armed { saved }))
+    }
+
+    /// What is seen of a step that sent nothing.
+    fn unsent(&self, member: u8, outcome: Outcome) -> Seen
+        ensures { result ≡ record { member = member; first = length self.now.sent.items + 1; count = 0; released = false; outcome = outcome } }
+    {
+        Seen {
+            member,
+            first: self.sent.len() + 1,
+            count: 0,
+            released: false,
+            outcome,
+        }
+    }
+}
