@@ -10,6 +10,7 @@ ghost use Rattle.node_core.specs.Standing.{StandsFor, Kept, Moves, IsDeskOf, IsS
 ghost use Rattle.node_core.specs.Turns.{event_value, note_value, is_quiet, HandsNothing, IsOrderly, sent};
 
 use crate::desk::Desk;
+use crate::desks::DeskBox;
 use crate::event::Event;
 use crate::turn::{CoreRefusal, Turn};
 use crate::{desks, settled};
@@ -27,7 +28,7 @@ pub struct NodeCore {
     alloc: Global,
     seat: Seat,
     failed: bool,
-    desks: BTreeMap<u32, Desk>,
+    desks: BTreeMap<u32, DeskBox>,
     released: BTreeSet<u32>,
 }
 
@@ -117,7 +118,7 @@ impl NodeCore {
         }
         match self.desks.get(&number.get()) {
             None => None,
-            Some(desk) => desk.open_ballot(),
+            Some(boxed) => boxed.desk.open_ballot(),
         }
     }
 
@@ -158,7 +159,7 @@ impl NodeCore {
         if desk.is_empty() {
             return Ok(());
         }
-        desks::put(&mut self.desks, desk)
+        desks::put(self.alloc, &mut self.desks, desk)
     }
 
     /// Takes an event of a number of which nothing is in hand.
@@ -198,7 +199,7 @@ impl NodeCore {
         learner::laws::other_marks_pass();
         proposer::laws::other_marks_pass();
         match self.desks.get_mut(&number.get()) {
-            Some(desk) => desk.take(self.alloc, self.seat, event, row),
+            Some(boxed) => boxed.desk.take(self.alloc, self.seat, event, row),
             None => self.act_anew(number, event, row),
         }
     }

@@ -5,27 +5,29 @@ use Rattle.node_core.specs.Standing.{IsLeastPassing}
 use Rattle.node_core.proofs.Dueing.{all_left, there, less_left, least_left, none_left}
 use Rattle.node_core.proofs.desks.least_due.Goals as goal
 
-pub loop-desk-init : goal.loop-desk-init
-loop-desk-init c = λ s marks of stand. all_left (is_due_number s.me c.args.now marks) c.args.desks.now.entries c.into_iter-desk-iterator.result c.into_iter-desk-iterator.ensures.into_iter_gives.0 c.into_iter-desk-iterator.ensures.into_iter_gives.5
+pub loop-boxed-init : goal.loop-boxed-init
+loop-boxed-init c = λ s marks of stand. all_left (is_due_number s.me c.args.now marks) c.args.desks.now.entries c.into_iter-boxed-iterator.result c.into_iter-boxed-iterator.ensures.into_iter_gives.0 c.into_iter-boxed-iterator.ensures.into_iter_gives.5
 
 pub returns-then-is_due : goal.returns-then-is_due
 returns-then-is_due c = λ s marks of stand.
-    let h = c.loop-desk.invariant s marks of stand in
+    let h = c.loop-boxed.invariant s marks of stand in
     let n = c.in-Some.field-0-0.now in
-    let here = there (is_due_number s.me c.args.now marks) c.args.desks.now.entries c.loop-desk.desk-iterator c.next.new.self n c.in-Some.desk.now c.in-Some.ensures.steps h in
-    let stands = stand n c.in-Some.desk.now here in
-    let due : is_due_number s.me c.args.now marks n ≡ true = ap (is_due_number s.me c.args.now marks) (sym stands.0) ∙ sym (c.is_due.ensures s marks (of n c.in-Some.desk.now here).0 stands.1) ∙ c.if-is_due.true in
+    let d = c.as_ref-desk.result.now in
+    let here = there (is_due_number s.me c.args.now marks) c.args.desks.now.entries c.loop-boxed.boxed-iterator c.next.new.self n c.in-Some.boxed.now c.in-Some.ensures.steps h ∙ ap Some (sym (c.as_ref-desk.ensures ∙ c.boxed.view_is)) in
+    let stands = stand n d here in
+    let due : is_due_number s.me c.args.now marks n ≡ true = ap (is_due_number s.me c.args.now marks) (sym stands.0) ∙ sym (c.is_due.ensures s marks (of n d here).0 stands.1) ∙ c.if-is_due.true in
     subst (λ k. IsLeastPassing (is_due_number s.me c.args.now marks) c.args.desks.now.entries (Some k)) (sym stands.0)
-    (least_left (is_due_number s.me c.args.now marks) c.args.desks.now.entries c.loop-desk.desk-iterator c.next.new.self n c.in-Some.desk.now c.in-Some.ensures.steps h due)
+    (least_left (is_due_number s.me c.args.now marks) c.args.desks.now.entries c.loop-boxed.boxed-iterator c.next.new.self n c.in-Some.boxed.now c.in-Some.ensures.steps h due)
 
-pub loop-desk-preserved : goal.loop-desk-preserved
-loop-desk-preserved c = λ s marks of stand.
-    let h = c.loop-desk.invariant s marks of stand in
+pub loop-boxed-preserved : goal.loop-boxed-preserved
+loop-boxed-preserved c = λ s marks of stand.
+    let h = c.loop-boxed.invariant s marks of stand in
     let n = c.in-Some.field-0-0.now in
-    let here = there (is_due_number s.me c.args.now marks) c.args.desks.now.entries c.loop-desk.desk-iterator c.next.new.self n c.in-Some.desk.now c.in-Some.ensures.steps h in
-    let stands = stand n c.in-Some.desk.now here in
-    let idle : is_due_number s.me c.args.now marks n ≡ false = ap (is_due_number s.me c.args.now marks) (sym stands.0) ∙ sym (c.is_due.ensures s marks (of n c.in-Some.desk.now here).0 stands.1) ∙ c.if-is_due.false in
-    less_left (is_due_number s.me c.args.now marks) c.args.desks.now.entries c.loop-desk.desk-iterator c.next.new.self n c.in-Some.desk.now c.in-Some.ensures.steps h idle
+    let d = c.as_ref-desk.result.now in
+    let here = there (is_due_number s.me c.args.now marks) c.args.desks.now.entries c.loop-boxed.boxed-iterator c.next.new.self n c.in-Some.boxed.now c.in-Some.ensures.steps h ∙ ap Some (sym (c.as_ref-desk.ensures ∙ c.boxed.view_is)) in
+    let stands = stand n d here in
+    let idle : is_due_number s.me c.args.now marks n ≡ false = ap (is_due_number s.me c.args.now marks) (sym stands.0) ∙ sym (c.is_due.ensures s marks (of n d here).0 stands.1) ∙ c.if-is_due.false in
+    less_left (is_due_number s.me c.args.now marks) c.args.desks.now.entries c.loop-boxed.boxed-iterator c.next.new.self n c.in-Some.boxed.now c.in-Some.ensures.steps h idle
 
 pub returns : goal.returns
-returns c = λ s marks of stand. none_left (is_due_number s.me c.args.now marks) c.args.desks.now.entries c.loop-desk.desk-iterator c.in-None.ensures.steps.0 (c.loop-desk.invariant s marks of stand)
+returns c = λ s marks of stand. none_left (is_due_number s.me c.args.now marks) c.args.desks.now.entries c.loop-boxed.boxed-iterator c.in-None.ensures.steps.0 (c.loop-boxed.invariant s marks of stand)

@@ -7,5 +7,5 @@ use Rattle.node_core.proofs.Dueing.{Left}
 use Rattle.node_core.proofs.desks.least_due.Given as goal
 
 -- all that is due is left
-abbrev pub invariant-loop-desk : goal.invariant-loop-desk
-invariant-loop-desk l = (s : Seat) (marks : List Mark) → AreDesksOf s l.desks.entries → AllStand l.desks.entries marks → Left (is_due_number s.me l.now marks) l.desks.entries l.desk-iterator
+abbrev pub invariant-loop-boxed : goal.invariant-loop-boxed
+invariant-loop-boxed l = (s : Seat) (marks : List Mark) → AreDesksOf s l.desks.entries → AllStand l.desks.entries marks → Left (is_due_number s.me l.now marks) l.desks.entries l.boxed-iterator

@@ -16,11 +16,11 @@ use Rattle.node_core.proofs.node.NodeCore.act.Goals as goal
 
 pub returns-in-Some-clause-turn : goal.returns-in-Some-clause-turn
 returns-in-Some-clause-turn c = λ marks h.
-    let s = stands_there c.args.self.now c.self.inside.desks c.args.number (Some c.in-Some.desk.now) marks (ap (λ (v : Core). v.desks) c.self.view_is) (c.in-Some.ensures.value ∙ ap (get nat_cmp c.self.inside.desks) c.get.ensures.value) h in
+    let s = stands_there c.args.self.now c.self.inside.desks c.args.number (Some c.deref_mut.result.now) marks (ap (λ (v : Core). v.desks) c.self.view_is) (ap Some (c.deref_mut.ensures.value ∙ c.boxed.view_is) ∙ c.in-Some.ensures.value ∙ ap (get nat_cmp c.self.inside.desks) c.get.ensures.value) h in
     let m = c.get_mut.follows.lender c.take.new.self in
     let number = c.take.ensures.number ∙ s.0 in
     let after : Core = record { circuit = c.self.inside.seat.circuit; me = c.self.inside.seat.me; members = c.self.inside.seat.members; failed = c.self.inside.failed; desks = m.entries; released = c.self.inside.released.keys } in
-    let there = subst (λ n. Written c.self.inside.desks m n c.take.new.self) c.get.ensures.value (written c.self.inside.desks m c.get.result c.in-Some.desk.now c.take.new.self c.in-Some.ensures.value (c.get_mut.follows.holds c.take.new.self)) in
+    let there = subst (λ n. Written c.self.inside.desks m n c.take.new.self) c.get.ensures.value (written c.self.inside.desks m c.get.result c.deref_mut.result.now c.take.new.self (ap Some (c.deref_mut.ensures.value ∙ c.boxed.view_is) ∙ c.in-Some.ensures.value) (c.get_mut.follows.holds c.take.new.self)) in
     let kept = subst (λ (v : Core). Kept v c.take.new.self after) c.self.view_is
     (in_place c.self.inside.seat.circuit c.self.inside.seat.me c.self.inside.seat.members c.self.inside.failed c.self.inside.released.keys c.self.inside.desks m c.args.number c.take.new.self there number) in
     MatchResult-weaker c.take.result (c.take.ensures.turn marks s.1)
@@ -41,7 +41,7 @@ returns-in-Some-clause-refused c =
     MatchResult-weaker c.take.result c.take.ensures.refused (λ _ _. tt)
     (λ e r.
     subst (λ i. IsRefused c.args.event e (core m.entries ≡ c.args.self.now) (StandsFor c.args.self.now) i c.args.row.now) (ap (λ (v : Core). v.me) c.self.view_is)
-    (refused_told (c.take.new.self ≡ c.in-Some.desk.now) (core m.entries ≡ c.args.self.now) (DeskStands c.in-Some.desk.now) (StandsFor c.args.self.now)
-    (λ same. ap core (unwritten c.self.inside.desks m c.get.result c.in-Some.desk.now c.take.new.self c.in-Some.ensures.value (c.get_mut.follows.holds c.take.new.self) same) ∙ c.self.view_is)
-    (λ marks h. (stands_there c.args.self.now c.self.inside.desks c.args.number (Some c.in-Some.desk.now) marks (ap (λ (v : Core). v.desks) c.self.view_is) (c.in-Some.ensures.value ∙ ap (get nat_cmp c.self.inside.desks) c.get.ensures.value) h).1)
+    (refused_told (c.take.new.self ≡ c.deref_mut.result.now) (core m.entries ≡ c.args.self.now) (DeskStands c.deref_mut.result.now) (StandsFor c.args.self.now)
+    (λ same. ap core (unwritten c.self.inside.desks m c.get.result c.deref_mut.result.now c.take.new.self (ap Some (c.deref_mut.ensures.value ∙ c.boxed.view_is) ∙ c.in-Some.ensures.value) (c.get_mut.follows.holds c.take.new.self) same) ∙ c.self.view_is)
+    (λ marks h. (stands_there c.args.self.now c.self.inside.desks c.args.number (Some c.deref_mut.result.now) marks (ap (λ (v : Core). v.desks) c.self.view_is) (ap Some (c.deref_mut.ensures.value ∙ c.boxed.view_is) ∙ c.in-Some.ensures.value ∙ ap (get nat_cmp c.self.inside.desks) c.get.ensures.value) h).1)
     c.self.inside.seat.me c.args.row.now c.args.event e r))
