@@ -3,16 +3,16 @@
 
 mod fault;
 mod galleys;
-mod line;
 pub mod laws;
-mod tape;
+mod line;
 mod slug;
 mod sort;
+mod tape;
 
 pub use fault::{Cause, LineFault, SetError, SetFault};
 pub use galleys::galley;
 pub use line::check;
-pub use tape::set;
 pub use slug::{Kind, Slug};
 pub use sort::{Sort, Sorts};
 pub use streams::CannotWrite as WriteFault;
+pub use tape::set;
