@@ -12,11 +12,16 @@ use std::{fs, io};
 const MOST_COPIES: u32 = 1000;
 
 /// Two folders of the host. What is set aside lies in folders within the first.
+///
+/// A file among the releases has its name there as soon as the disk has all that it holds. Until the disk has the name too, no file
+/// leaves the offers: of two files that are written one after the other, the second does not wait for the name of the first.
 #[derive(Drop)]
 pub struct HostFolders<'a, R: Files> {
     files: &'a R,
     offers: String,
     releases: String,
+    /// Whether a file was written among the releases whose name the disk is not known to have.
+    has_new_names: bool,
 }
 
 /// What an error of the host means, where it is neither that there is no such file nor want of memory.
@@ -45,22 +50,22 @@ fn write_and_sync<R: Files>(files: &R, path: &str, bytes: &[u8]) -> io::Result<(
     file.sync_all()
 }
 
-/// Waits until the disk has the names in a folder.
-fn sync_names<R: Files>(files: &R, folder: &str) -> io::Result<()> {
+fn open_and_sync<R: Files>(files: &R, folder: &str) -> io::Result<()> {
     File::open(files, folder)?.sync_all()
 }
 
-/// Writes a file under another name, gives it its own, and waits for the disk after each.
-fn write_whole<R: Files>(
-    files: &R,
-    folder: &str,
-    part: &str,
-    path: &str,
-    bytes: &[u8],
-) -> io::Result<()> {
+/// Waits until the disk has the names in a folder.
+fn sync_names<R: Files>(files: &R, folder: &str) -> Result<(), FolderFault> {
+    match open_and_sync(files, folder) {
+        Ok(()) => Ok(()),
+        Err(error) => Err(fault_of(&error, FolderFault::CannotWrite)),
+    }
+}
+
+/// Writes a file under another name, waits until the disk has it, and gives it its own.
+fn write_whole<R: Files>(files: &R, part: &str, path: &str, bytes: &[u8]) -> io::Result<()> {
     write_and_sync(files, part, bytes)?;
-    fs::rename(files, part, path)?;
-    sync_names(files, folder)
+    fs::rename(files, part, path)
 }
 
 /// The same within a folder, under a name.
@@ -73,7 +78,7 @@ fn put_within<R: Files>(
 ) -> Result<(), FolderFault> {
     let path = within(alloc, folder, name)?;
     let part = part_of(alloc, folder, name)?;
-    match write_whole(files, folder, &part, &path, bytes) {
+    match write_whole(files, &part, &path, bytes) {
         Ok(()) => Ok(()),
         Err(error) => Err(fault_of(&error, FolderFault::CannotWrite)),
     }
@@ -95,7 +100,18 @@ impl<'a, R: Files + AllocGlobal + Clone + Drop> HostFolders<'a, R> {
             files,
             offers,
             releases,
+            has_new_names: false,
         }
+    }
+
+    /// Waits until the disk has the names of all files that were written among the releases.
+    fn settle_names(&mut self) -> Result<(), FolderFault> {
+        if !self.has_new_names {
+            return Ok(());
+        }
+        sync_names(self.files, self.releases.as_str())?;
+        self.has_new_names = false;
+        Ok(())
     }
 
     /// The folder of a place.
@@ -182,6 +198,8 @@ impl<'a, R: Files + AllocGlobal + Clone + Drop> HostFolders<'a, R> {
 
 impl<'a, R: Files + AllocGlobal + Clone + Drop> Folders for HostFolders<'a, R> {
     fn names(&mut self, alloc: Global) -> Result<Listing, FolderFault> {
+        // Where the disk refuses the names, no file leaves the offers.
+        let _ = self.settle_names();
         match self.list(alloc) {
             Ok(listing) => Ok(listing),
             Err(error) => Err(fault_of(&error, FolderFault::CannotRead)),
@@ -211,6 +229,7 @@ impl<'a, R: Files + AllocGlobal + Clone + Drop> Folders for HostFolders<'a, R> {
     }
 
     fn put(&mut self, alloc: Global, name: &str, bytes: &[u8]) -> Result<(), FolderFault> {
+        self.has_new_names = true;
         put_within(alloc, self.files, &self.releases, name, bytes)
     }
 
@@ -223,10 +242,12 @@ impl<'a, R: Files + AllocGlobal + Clone + Drop> Folders for HostFolders<'a, R> {
     ) -> Result<(), FolderFault> {
         let folder = self.make_place(alloc, to)?;
         let name = self.free_name(alloc, &folder, name, Some(text))?;
-        put_within(alloc, self.files, &folder, &name, text.as_bytes())
+        put_within(alloc, self.files, &folder, &name, text.as_bytes())?;
+        sync_names(self.files, &folder)
     }
 
     fn set_aside(&mut self, alloc: Global, name: &str, to: Place) -> Result<(), FolderFault> {
+        self.settle_names()?;
         let from = within(alloc, &self.offers, name)?;
         let folder = self.make_place(alloc, to)?;
         let free = self.free_name(alloc, &folder, name, None)?;
