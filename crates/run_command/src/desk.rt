@@ -114,6 +114,17 @@ fn remember(alloc: Global, released: &mut Vec<Known>, release: &Release) -> Resu
     }
 }
 
+/// Puts each file of a number off.
+fn put_off_all(asked: &mut Vec<Asked>, number: Number, now: u64) {
+    for place in 0..asked.len() {
+        if let Some(each) = asked.get_mut(place) {
+            if each.number == number {
+                each.put_off(now);
+            }
+        }
+    }
+}
+
 /// Settles a file that is of a number, which has this entry, and is not settled yet.
 fn settle_one<F: Folders, E: Write>(
     alloc: Global,
@@ -288,7 +299,8 @@ impl Desk {
         follow_all(station, &mut self.asked, note, now, quiet, err);
     }
 
-    /// Tells a release, keeps it in mind, and settles the files of its number.
+    /// Tells a release, keeps it in mind, and settles the files of its number. They stay where files wait to be written among the
+    /// releases, for what is offered again at the next start is released again, and a release that waits would be lost.
     fn take_release<F: Folders, E: Write>(
         &mut self,
         folders: &mut F,
@@ -302,6 +314,10 @@ impl Desk {
         tell(self.quiet, Event::Released { number }, err);
         if remember(self.alloc, &mut self.released, release).is_err() {
             tell_folder("no memory for", "releases", err);
+        }
+        if self.is_unwritten {
+            put_off_all(&mut self.asked, release.number, now);
+            return;
         }
         let entry = release.entry.lend();
         let (alloc, quiet) = (self.alloc, self.quiet);
@@ -334,7 +350,7 @@ impl Desk {
         }
     }
 
-    /// Settles the file at a place whose number was released before it was taken up.
+    /// Settles the file at a place whose number was released before, unless files wait to be written among the releases.
     pub(crate) fn settle_late<F: Folders, E: Write>(
         &mut self,
         folders: &mut F,
@@ -347,6 +363,10 @@ impl Desk {
         let Some(asked) = self.asked.get_mut(place) else {
             return;
         };
+        if self.is_unwritten {
+            asked.put_off(now);
+            return;
+        }
         let number = asked.number;
         match self.released.iter().find(|known| known.number == number) {
             Some(known) => {

@@ -49,7 +49,7 @@ fn growing(rt: HostRuntime) -> Result<(), Fail> {
     Ok(())
 }
 
-/// A release that can't be written is written later.
+/// A release that can't be written is written later, and the file that asked for it stays until then.
 #[test]
 fn full_disk(rt: HostRuntime) -> Result<(), Fail> {
     let kept = Run {
@@ -58,8 +58,7 @@ fn full_disk(rt: HostRuntime) -> Result<(), Fail> {
             laid(1, "12.tape", FLOOD),
             laid(20, "stop", &[]),
         ],
-        folders: "sent 12.tape\n",
-        err: "folders: cannot write releases\n12 released\n12 sent\n",
+        err: "folders: cannot write releases\n12 released\n",
         ..RUN
     };
     let later = Run {
@@ -70,7 +69,8 @@ fn full_disk(rt: HostRuntime) -> Result<(), Fail> {
             laid(20, "stop", &[]),
         ],
         folders: "wrote 12.tape 7\nwrote 12.galley 25\nsent 12.tape\n",
-        ..kept
+        err: "folders: cannot write releases\n12 released\n12 sent\n",
+        ..RUN
     };
     assert!(rt; is_true(rt.alloc(), &kept));
     assert!(rt; is_true(rt.alloc(), &later));
