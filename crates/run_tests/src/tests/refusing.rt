@@ -6,6 +6,9 @@ use fixtures::{FLOOD, OVERSET};
 use std::test::Fail;
 use tape_frames::Version;
 
+/// One frame more than a tape has at most.
+const TOO_LONG: &[u8] = &[1; 16_385];
+
 fn laid(look: usize, name: &'static str, bytes: &'static [u8]) -> Act {
     Act {
         look,
@@ -30,9 +33,14 @@ fn refused(rt: HostRuntime) -> Result<(), Fail> {
         ..RUN
     };
     let tapes = Run {
-        acts: &[laid(1, "12.tape", &[1, 64]), laid(9, "stop", &[])],
-        folders: "refused 12.tape\nrefused 12.tape.txt: tape: bad frame at 1\n",
-        err: "refused 12.tape: tape: bad frame at 1\n",
+        acts: &[
+            laid(1, "12.tape", &[1, 64]),
+            laid(1, "13.tape", &[]),
+            laid(1, "14.tape", TOO_LONG),
+            laid(9, "stop", &[]),
+        ],
+        folders: "refused 12.tape\nrefused 13.tape\nrefused 14.tape\nrefused 12.tape.txt: tape: bad frame at 1\nrefused 13.tape.txt: tape: empty\nrefused 14.tape.txt: tape: too long 16385\n",
+        err: "refused 12.tape: tape: bad frame at 1\nrefused 13.tape: tape: empty\nrefused 14.tape: tape: too long 16385\n",
         ..RUN
     };
     assert!(rt; is_true(rt.alloc(), &names));

@@ -3,7 +3,7 @@
 use crate::plant::{RUN, Run, is_true};
 use crate::stage::{Act, What};
 use command_ends::End;
-use fixtures::FLOOD;
+use fixtures::{FLOOD, LIGATURE};
 use std::test::Fail;
 
 fn laid(look: usize, name: &'static str, bytes: &'static [u8]) -> Act {
@@ -74,6 +74,25 @@ fn full_disk(rt: HostRuntime) -> Result<(), Fail> {
     };
     assert!(rt; is_true(rt.alloc(), &kept));
     assert!(rt; is_true(rt.alloc(), &later));
+    Ok(())
+}
+
+/// A file that was written anew once it was taken up is no longer the one that was: it is taken up again, and loses the number.
+#[test]
+fn written_anew(rt: HostRuntime) -> Result<(), Fail> {
+    let run = Run {
+        acts: &[
+            full(1, true),
+            laid(1, "12.tape", FLOOD),
+            laid(7, "12.tape", LIGATURE),
+            full(10, false),
+            laid(40, "stop", &[]),
+        ],
+        folders: "wrote 12.tape 7\nwrote 12.galley 25\nlost 12.tape\nlost 12.tape.txt: release 12 01020301030204\n",
+        err: "folders: cannot write releases\n12 released\n12 lost\n",
+        ..RUN
+    };
+    assert!(rt; is_true(rt.alloc(), &run));
     Ok(())
 }
 
