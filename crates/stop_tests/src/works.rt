@@ -9,13 +9,13 @@ use saved_rows::{Rows, RowsFault};
 use std::alloc::Global;
 use tape_frames::Version;
 
-/// What is done to saved rows once they are made, at version 1 where nothing else is said.
+/// What is done to saved rows once they are made, at this version, or at version 1 where none is named.
 #[derive(Clone, Copy, PartialEq, Eq)]
 pub enum Work {
-    /// Nothing; they are made at this version.
+    /// Nothing.
     Create(Version),
     /// Two rows are saved.
-    Put,
+    Put(Version),
     /// Two rows are saved, and go over to version 2.
     Upgrade,
     /// A station over them is offered a tape.
@@ -30,7 +30,7 @@ const SAVES: &[Sample] = &[VOTED, PROMISED];
 /// The version at which the rows are made for a work.
 fn version_for(work: Work) -> Version {
     match work {
-        Work::Create(version) => version,
+        Work::Create(version) | Work::Put(version) => version,
         _ => Version::One,
     }
 }
@@ -109,7 +109,7 @@ fn done<R: Rows>(alloc: Global, rows: R, work: Work) -> Option<(R, Told)> {
                 },
             ));
         }
-        Work::Put | Work::Upgrade => return put(alloc, rows, work),
+        Work::Put(_) | Work::Upgrade => return put(alloc, rows, work),
         Work::Offer => offered(alloc, rows, FLOOD)?,
         Work::Serve => served(alloc, rows, FLOOD)?,
     };
@@ -155,7 +155,7 @@ fn is_left<R: Stored>(alloc: Global, mut rows: R, work: Work, told: Told) -> boo
     }
     match work {
         Work::Create(_) => is_listed(&mut rows, &[], told),
-        Work::Put | Work::Upgrade => is_listed(&mut rows, SAVES, told),
+        Work::Put(_) | Work::Upgrade => is_listed(&mut rows, SAVES, told),
         Work::Offer | Work::Serve => is_kept(alloc, rows, told),
     }
 }
