@@ -3,10 +3,10 @@
 
 mod backlog;
 mod departures;
-mod desk;
 mod look;
 mod messages;
 mod names;
+mod offer_book;
 mod pauses;
 mod release_files;
 mod steps;

@@ -6,9 +6,9 @@ ghost use Rattle.run_command.specs.Keeping.{Keeps};
 ghost use Rattle.run_command.specs.Running.{known, plant, Runs};
 
 use crate::departures::refuse;
-use crate::desk::Desk;
 use crate::messages::{Reason, tell_folder};
 use crate::names::{Kind, Request, has_stop, is_left, named};
+use crate::offer_book::OfferBook;
 use crate::steps::ask_at;
 use crate::watch::Watched;
 use crate::wishes::{Asked, Wish};
@@ -112,50 +112,56 @@ fn asked_of(
 /// Takes up a file that is whole, or refuses it. One that can't be read, or moved, is watched again.
 fn take_up<F: Folders, E: Write>(
     folders: &mut F,
-    desk: &mut Desk,
+    book: &mut OfferBook,
     file: Watched,
     now: u64,
     err: &mut E,
 )
     ensures { F.written folders.new ≡ F.written folders.old }
 {
-    match read_asked(desk.alloc, folders, &file, now) {
-        Ok(Ok(asked)) => desk.add(asked),
+    match read_asked(book.alloc, folders, &file, now) {
+        Ok(Ok(asked)) => book.add(asked),
         Ok(Err(reason)) => {
             if !refuse(
-                desk.alloc,
+                book.alloc,
                 folders,
                 file.name.as_str(),
                 reason,
-                desk.quiet,
+                book.quiet,
                 err,
             ) {
-                desk.watch_later(file, now);
+                book.watch_later(file, now);
             }
         }
         Err(_) => {
             tell_folder("cannot read", file.name.as_str(), err);
-            desk.watch_later(file, now);
+            book.watch_later(file, now);
         }
     }
 }
 
 /// Looks at a file that was not taken up yet.
-fn watch<F: Folders, E: Write>(folders: &mut F, desk: &mut Desk, name: &str, now: u64, err: &mut E)
+fn watch<F: Folders, E: Write>(
+    folders: &mut F,
+    book: &mut OfferBook,
+    name: &str,
+    now: u64,
+    err: &mut E,
+)
     ensures { F.written folders.new ≡ F.written folders.old }
 {
-    let Ok(stamp) = folders.stamp(desk.alloc, name) else {
+    let Ok(stamp) = folders.stamp(book.alloc, name) else {
         return;
     };
-    if let Some(file) = desk.whole(name, stamp, now) {
-        take_up(folders, desk, file, now, err);
+    if let Some(file) = book.whole(name, stamp, now) {
+        take_up(folders, book, file, now, err);
     }
 }
 
 /// Looks at each file that was not taken up yet.
 fn watch_all<F: Folders, E: Write>(
     folders: &mut F,
-    desk: &mut Desk,
+    book: &mut OfferBook,
     names: &[String],
     now: u64,
     err: &mut E,
@@ -163,25 +169,30 @@ fn watch_all<F: Folders, E: Write>(
     ensures { F.written folders.new ≡ F.written folders.old }
 {
     for name in names {
-        if !is_left(name.as_str()) && !desk.has_asked(name.as_str()) {
-            watch(folders, desk, name.as_str(), now, err);
+        if !is_left(name.as_str()) && !book.has_asked(name.as_str()) {
+            watch(folders, book, name.as_str(), now, err);
         }
     }
 }
 
 /// Looks at what lies among the offers; whether the file that ends the run does.
-fn see_offers<F: Folders, E: Write>(folders: &mut F, desk: &mut Desk, now: u64, err: &mut E) -> bool
+fn see_offers<F: Folders, E: Write>(
+    folders: &mut F,
+    book: &mut OfferBook,
+    now: u64,
+    err: &mut E,
+) -> bool
     ensures { F.written folders.new ≡ F.written folders.old }
 {
-    match folders.names(desk.alloc) {
+    match folders.names(book.alloc) {
         Ok(listing) => {
-            desk.read(true, listing.skipped, err);
-            desk.forget(listing.names.as_slice());
-            watch_all(folders, desk, listing.names.as_slice(), now, err);
+            book.note_reading(true, listing.skipped, err);
+            book.forget(listing.names.as_slice());
+            watch_all(folders, book, listing.names.as_slice(), now, err);
             has_stop(listing.names.as_slice())
         }
         Err(_) => {
-            desk.read(false, 0, err);
+            book.note_reading(false, 0, err);
             false
         }
     }
@@ -193,31 +204,31 @@ fn ask_all<R: Rows, N: Wire, F: Folders, E: Write>(
     wire: &mut N,
     folders: &mut F,
     waits: &mut Vec<Paper>,
-    desk: &mut Desk,
+    book: &mut OfferBook,
     now: u64,
     err: &mut E,
 ) -> Result<(), Fault<'static>>
     ensures was_kept { R.kept station.new.rows → R.kept station.old.rows }
     ensures runs { Runs (known R.Rows N.passed F.written) (plant station.old wire.old folders.old waits.old.items) (plant station.new wire.new folders.new waits.new.items) (ended result) }
 {
-    for place in 0..desk.asked.len() {
-        ask_at(station, wire, folders, waits, desk, place, now, err)?;
+    for place in 0..book.asked.len() {
+        ask_at(station, wire, folders, waits, book, place, now, err)?;
     }
     Ok(())
 }
 
 /// Writes the files that wait, and looks at the offers; whether the file that ends the run lies there.
-fn see_folders<F: Folders, E: Write>(
+fn write_and_look<F: Folders, E: Write>(
     folders: &mut F,
     waits: &mut Vec<Paper>,
-    desk: &mut Desk,
+    book: &mut OfferBook,
     now: u64,
     err: &mut E,
 ) -> bool
     ensures { Keeps (F.written folders.old) (F.written folders.new) waits.old.items waits.new.items [] }
 {
-    desk.write(folders, waits, err);
-    see_offers(folders, desk, now, err)
+    book.write(folders, waits, err);
+    see_offers(folders, book, now, err)
 }
 
 /// A look at the folders; whether the run ends well.
@@ -226,14 +237,14 @@ pub(crate) fn look<R: Rows, N: Wire, F: Folders, E: Write>(
     wire: &mut N,
     folders: &mut F,
     waits: &mut Vec<Paper>,
-    desk: &mut Desk,
+    book: &mut OfferBook,
     now: u64,
     err: &mut E,
 ) -> Result<bool, Fault<'static>>
     ensures was_kept { R.kept station.new.rows → R.kept station.old.rows }
     ensures runs { Runs (known R.Rows N.passed F.written) (plant station.old wire.old folders.old waits.old.items) (plant station.new wire.new folders.new waits.new.items) (ended result) }
 {
-    let is_over = see_folders(folders, waits, desk, now, err);
-    ask_all(station, wire, folders, waits, desk, now, err)?;
+    let is_over = write_and_look(folders, waits, book, now, err);
+    ask_all(station, wire, folders, waits, book, now, err)?;
     Ok(is_over)
 }

@@ -9,8 +9,8 @@ ghost use Rattle.run_command.specs.Filing.{files_of};
 ghost use Rattle.run_command.specs.Keeping.{Keeps};
 ghost use Rattle.run_command.specs.Running.{known, plant, Runs};
 
-use crate::desk::Desk;
 use crate::messages::Reason;
+use crate::offer_book::OfferBook;
 use crate::release_files::keep_any;
 use crate::wishes::ask;
 use command_ends::Fault;
@@ -28,7 +28,7 @@ fn hand_on<R: Rows, N: Wire, F: Folders, E: Write>(
     wire: &mut N,
     folders: &mut F,
     waits: &mut Vec<Paper>,
-    desk: &mut Desk,
+    book: &mut OfferBook,
     now: u64,
     err: &mut E,
 ) -> Result<(), Fault<'static>>
@@ -38,11 +38,11 @@ fn hand_on<R: Rows, N: Wire, F: Folders, E: Write>(
     ensures fault { IfErr result (λ fault. fault ≡ OutOfMemory) }
 {
     send_answer(answer, wire, err);
-    if keep_any(desk.alloc, &answer.release, waits).is_err() {
+    if keep_any(book.alloc, &answer.release, waits).is_err() {
         return Err(Fault::OutOfMemory);
     }
-    desk.write(folders, waits, err);
-    desk.take(station, folders, answer, now, err);
+    book.write(folders, waits, err);
+    book.take(station, folders, answer, now, err);
     Ok(())
 }
 
@@ -52,7 +52,7 @@ fn take_in<R: Rows, N: Wire, F: Folders, E: Write>(
     wire: &mut N,
     folders: &mut F,
     waits: &mut Vec<Paper>,
-    desk: &mut Desk,
+    book: &mut OfferBook,
     now: u64,
     buffer: &mut [u8],
     err: &mut E,
@@ -63,9 +63,9 @@ fn take_in<R: Rows, N: Wire, F: Folders, E: Write>(
     match take_datagram(station, wire, now, buffer) {
         Outcome::Nothing => Ok(()),
         Outcome::Failed => Err(Fault::Socket("receive failed")),
-        Outcome::Done(answer) => hand_on(station, &answer, wire, folders, waits, desk, now, err),
+        Outcome::Done(answer) => hand_on(station, &answer, wire, folders, waits, book, now, err),
         Outcome::Refused(refusal) => {
-            desk.hear_refusal(refusal, now, err);
+            book.hear_refusal(refusal, now, err);
             pass_over(refusal)
         }
     }
@@ -77,7 +77,7 @@ fn see_to_due<R: Rows, N: Wire, F: Folders, E: Write>(
     wire: &mut N,
     folders: &mut F,
     waits: &mut Vec<Paper>,
-    desk: &mut Desk,
+    book: &mut OfferBook,
     now: u64,
     err: &mut E,
 ) -> Result<(), Fault<'static>>
@@ -85,7 +85,7 @@ fn see_to_due<R: Rows, N: Wire, F: Folders, E: Write>(
     ensures runs { Runs (known R.Rows N.passed F.written) (plant station.old wire.old folders.old waits.old.items) (plant station.new wire.new folders.new waits.new.items) (ended result) }
 {
     match station.due(now) {
-        Ok(answer) => hand_on(station, &answer, wire, folders, waits, desk, now, err),
+        Ok(answer) => hand_on(station, &answer, wire, folders, waits, book, now, err),
         Err(refusal) => pass_over(refusal),
     }
 }
@@ -96,7 +96,7 @@ pub(crate) fn turn<R: Rows, N: Wire, F: Folders, E: Write>(
     wire: &mut N,
     folders: &mut F,
     waits: &mut Vec<Paper>,
-    desk: &mut Desk,
+    book: &mut OfferBook,
     now: u64,
     buffer: &mut [u8],
     err: &mut E,
@@ -104,9 +104,9 @@ pub(crate) fn turn<R: Rows, N: Wire, F: Folders, E: Write>(
     ensures was_kept { R.kept station.new.rows → R.kept station.old.rows }
     ensures runs { Runs (known R.Rows N.passed F.written) (plant station.old wire.old folders.old waits.old.items) (plant station.new wire.new folders.new waits.new.items) (ended result) }
 {
-    take_in(station, wire, folders, waits, desk, now, buffer, err)?;
+    take_in(station, wire, folders, waits, book, now, buffer, err)?;
     tell_strangers(wire, now, err);
-    see_to_due(station, wire, folders, waits, desk, now, err)
+    see_to_due(station, wire, folders, waits, book, now, err)
 }
 
 /// Whether a refusal is of what is offered, so that it would be refused ever again.
@@ -126,7 +126,7 @@ fn is_of_offer(refusal: StepRefusal) -> bool
 /// offer.
 fn take_refusal<F: Folders, E: Write>(
     folders: &mut F,
-    desk: &mut Desk,
+    book: &mut OfferBook,
     place: usize,
     refusal: StepRefusal,
     now: u64,
@@ -135,11 +135,11 @@ fn take_refusal<F: Folders, E: Write>(
     ensures { F.written folders.new ≡ F.written folders.old }
 {
     match refusal {
-        StepRefusal::AlreadyReleased => desk.settle_late(folders, place, now, err),
+        StepRefusal::AlreadyReleased => book.settle_late(folders, place, now, err),
         _ if is_of_offer(refusal) => {
-            desk.refuse_at(folders, place, Reason::Step(refusal), now, err);
+            book.refuse_at(folders, place, Reason::Step(refusal), now, err);
         }
-        _ => desk.put_off(place, now),
+        _ => book.put_off(place, now),
     }
 }
 
@@ -149,7 +149,7 @@ pub(crate) fn ask_at<R: Rows, N: Wire, F: Folders, E: Write>(
     wire: &mut N,
     folders: &mut F,
     waits: &mut Vec<Paper>,
-    desk: &mut Desk,
+    book: &mut OfferBook,
     place: usize,
     now: u64,
     err: &mut E,
@@ -157,16 +157,16 @@ pub(crate) fn ask_at<R: Rows, N: Wire, F: Folders, E: Write>(
     ensures was_kept { R.kept station.new.rows → R.kept station.old.rows }
     ensures runs { Runs (known R.Rows N.passed F.written) (plant station.old wire.old folders.old waits.old.items) (plant station.new wire.new folders.new waits.new.items) (ended result) }
 {
-    let Some(asked) = desk.due_at(place, now) else {
+    let Some(asked) = book.due_at(place, now) else {
         return Ok(());
     };
     match ask(station, &asked.wish, asked.number.get(), now) {
         Ok(answer) => {
-            desk.set_out(place);
-            hand_on(station, &answer, wire, folders, waits, desk, now, err)
+            book.set_out(place);
+            hand_on(station, &answer, wire, folders, waits, book, now, err)
         }
         Err(refusal) => {
-            take_refusal(folders, desk, place, refusal, now, err);
+            take_refusal(folders, book, place, refusal, now, err);
             pass_over(refusal)
         }
     }

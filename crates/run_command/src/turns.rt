@@ -6,9 +6,9 @@ ghost use Rattle.folders.specs.Written.{File};
 ghost use Rattle.serve_command.specs.Serving.{ended};
 ghost use Rattle.run_command.specs.Running.{known, plant, Runs};
 
-use crate::desk::Desk;
 use crate::look::look;
 use crate::names::STOP;
+use crate::offer_book::OfferBook;
 use crate::steps::turn;
 use command_ends::{End, Fault};
 use folders::{Folders, Paper};
@@ -25,7 +25,7 @@ fn turn_and_look<R: Rows, N: Wire, F: Folders, E: Write>(
     wire: &mut N,
     folders: &mut F,
     waits: &mut Vec<Paper>,
-    desk: &mut Desk,
+    book: &mut OfferBook,
     now: u64,
     buffer: &mut [u8],
     err: &mut E,
@@ -33,9 +33,9 @@ fn turn_and_look<R: Rows, N: Wire, F: Folders, E: Write>(
     ensures was_kept { R.kept station.new.rows → R.kept station.old.rows }
     ensures runs { Runs (known R.Rows N.passed F.written) (plant station.old wire.old folders.old waits.old.items) (plant station.new wire.new folders.new waits.new.items) (ended result) }
 {
-    turn(station, wire, folders, waits, desk, now, buffer, err)?;
-    if desk.looks(now) {
-        look(station, wire, folders, waits, desk, now, err)
+    turn(station, wire, folders, waits, book, now, buffer, err)?;
+    if book.looks(now) {
+        look(station, wire, folders, waits, book, now, err)
     } else {
         Ok(false)
     }
@@ -47,7 +47,7 @@ fn timed_turn<R: Rows, N: Wire, F: Folders, E: Write>(
     wire: &mut N,
     folders: &mut F,
     waits: &mut Vec<Paper>,
-    desk: &mut Desk,
+    book: &mut OfferBook,
     buffer: &mut [u8],
     err: &mut E,
 ) -> Result<bool, Fault<'static>>
@@ -55,7 +55,7 @@ fn timed_turn<R: Rows, N: Wire, F: Folders, E: Write>(
     ensures runs { Runs (known R.Rows N.passed F.written) (plant station.old wire.old folders.old waits.old.items) (plant station.new wire.new folders.new waits.new.items) (ended result) }
 {
     let now = wire.now();
-    turn_and_look(station, wire, folders, waits, desk, now, buffer, err)
+    turn_and_look(station, wire, folders, waits, book, now, buffer, err)
 }
 
 /// The turns of a station, one after the other, until the run ends.
@@ -64,7 +64,7 @@ fn take_turns<R: Rows, N: Wire, F: Folders, E: Write>(
     wire: &mut N,
     folders: &mut F,
     waits: &mut Vec<Paper>,
-    desk: &mut Desk,
+    book: &mut OfferBook,
     buffer: &mut [u8],
     err: &mut E,
 ) -> Result<bool, Fault<'static>>
@@ -72,7 +72,7 @@ fn take_turns<R: Rows, N: Wire, F: Folders, E: Write>(
     ensures runs { Runs (known R.Rows N.passed F.written) (plant station.old wire.old folders.old waits.old.items) (plant station.new wire.new folders.new waits.new.items) (ended result) }
 {
     for _ in 0..u64::MAX {
-        if timed_turn(station, wire, folders, waits, desk, buffer, err)? {
+        if timed_turn(station, wire, folders, waits, book, buffer, err)? {
             return Ok(true);
         }
     }
@@ -94,8 +94,8 @@ fn start<R: Rows, N: Wire, F: Folders, E: Write>(
     ensures runs { Runs (known R.Rows N.passed F.written) (plant station.old wire.old folders.old waits.old.items) (plant station.new wire.new folders.new waits.new.items) (ended result) }
 {
     let _ = folders.remove(alloc, STOP);
-    let mut desk = Desk::new(alloc, quiet);
-    take_turns(station, wire, folders, waits, &mut desk, buffer, err)
+    let mut book = OfferBook::new(alloc, quiet);
+    take_turns(station, wire, folders, waits, &mut book, buffer, err)
 }
 
 /// Runs a station over the folders of its plant, until a file `stop` lies among the offers, or the station stops, the network

@@ -37,6 +37,6 @@ pub(crate) fn is_whole(before: Stamp, since: u64, stamp: Stamp, now: u64) -> boo
 }
 
 /// The place of a name among the files that are watched.
-pub(crate) fn place_of(watched: &[Watched], name: &str) -> Option<usize> {
+pub(crate) fn index_of(watched: &[Watched], name: &str) -> Option<usize> {
     watched.iter().position(|each| each.name.as_str() == name)
 }

@@ -7,7 +7,7 @@ use crate::backlog::write_waiting;
 use crate::departures::{refuse, settle};
 use crate::messages::{Event, Reason, tell, tell_folder, tell_wrong_circuit};
 use crate::pauses::{LAST_PAUSE, LOOK, TELL, has_passed};
-use crate::watch::{Watched, is_whole, place_of};
+use crate::watch::{Watched, index_of, is_whole};
 use crate::wishes::Asked;
 use ballots::Number;
 use folders::{Folders, Paper, Stamp};
@@ -27,7 +27,7 @@ pub(crate) struct Known {
 
 /// What a run keeps in mind.
 #[derive(Drop)]
-pub(crate) struct Desk {
+pub(crate) struct OfferBook {
     pub(crate) alloc: Global,
     /// Whether faults alone are told.
     pub(crate) quiet: bool,
@@ -176,10 +176,10 @@ fn is_of_ballot(note: &Note) -> bool {
     )
 }
 
-impl Desk {
+impl OfferBook {
     /// Nothing is known yet.
-    pub(crate) fn new(alloc: Global, quiet: bool) -> Desk {
-        Desk {
+    pub(crate) fn new(alloc: Global, quiet: bool) -> OfferBook {
+        OfferBook {
             alloc,
             quiet,
             watched: Vec::new(alloc),
@@ -206,7 +206,7 @@ impl Desk {
     }
 
     /// The folder of offers can be read, or can't, and it has so many names that are passed over: a change of either is told.
-    pub(crate) fn read<E: Write>(&mut self, is_read: bool, skipped: usize, err: &mut E) {
+    pub(crate) fn note_reading<E: Write>(&mut self, is_read: bool, skipped: usize, err: &mut E) {
         if !is_read && !self.is_unread {
             tell_folder("cannot read", "offers", err);
         }
@@ -242,7 +242,7 @@ impl Desk {
 
     /// The file of this name that is found with this stamp, if it is whole; then it is no longer watched.
     pub(crate) fn whole(&mut self, name: &str, stamp: Stamp, now: u64) -> Option<Watched> {
-        let Some(place) = place_of(self.watched.as_slice(), name) else {
+        let Some(place) = index_of(self.watched.as_slice(), name) else {
             self.watch(name, stamp, now);
             return None;
         };

@@ -2,7 +2,7 @@
 use Rattle.std.proofs.Common.{[], subst, sym, Option, List}
 use Rattle.folders.specs.Written.{File}
 use Rattle.run_command.specs.Keeping.{Keeps}
-use Rattle.run_command.proofs.look.see_folders.Goals as goal
+use Rattle.run_command.proofs.look.write_and_look.Goals as goal
 
 pub returns : goal.returns
 returns g c =
