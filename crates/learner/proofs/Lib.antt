@@ -1,3 +1,4 @@
+pub mod Fewness
 pub mod Looking
 pub mod Marks
 pub mod Opening

@@ -1,6 +1,6 @@
 //! Votes that were heard, in a slot for each member.
 
-ghost use Rattle.std.specs.Prelude.{◌≡◌, ◌≤◌, ◌<◌, ℕ, List, [], ◌∷◌, Option, Some, None, Bool, false, IfOk, IsOk, OnOk, OnErr, length, option_map, option_copied, count_by, slice_index_or, MatchBool, MatchOption};
+ghost use Rattle.std.specs.Prelude.{◌≡◌, ◌≤◌, ◌<◌, ℕ, List, [], ◌∷◌, Option, Some, None, Bool, false, IfOk, IsOk, OnOk, OnErr, length, option_map, option_copied, count_by, is_some, slice_index_or, MatchBool, MatchOption};
 ghost use Rattle.protocol.specs.Ballots.{is_below, members as all_members};
 ghost use Rattle.protocol.specs.Rows.{Vote as VoteValue};
 ghost use Rattle.protocol.specs.Marks.{Mark, Heard as HeardMark};
@@ -108,6 +108,32 @@ fn majority_at(slots: &[Slot]) -> Option<Ballot>
         }
     }
     None
+}
+
+/// How many slots have a vote.
+fn count_votes(slots: &[Slot]) -> u8
+    requires { length slots.now ≤ 15 }
+    ensures { result ≡ count_by is_some slots.now }
+{
+    let mut votes = 0;
+    for slot in slots {
+        if slot.has_vote() {
+            votes += 1;
+        }
+    }
+    votes
+}
+
+/// The same as `majority_at`, where so few slots have votes that no ballot has a majority without a look at each ballot.
+fn chosen_at(slots: &[Slot]) -> Option<Ballot>
+    requires { length slots.now ≤ 15 }
+    ensures { result ≡ option_map (λ (v : VoteValue). v.ballot) (ripe_in slots.now) }
+{
+    if majority(count_votes(slots), slots.len() as u8) {
+        majority_at(slots)
+    } else {
+        None
+    }
 }
 
 /// The place of the least member whose vote has this ballot.
@@ -257,7 +283,7 @@ impl Heard {
             ballot,
             entry,
         )?;
-        Ok(majority_at(lent(&self.slots)))
+        Ok(chosen_at(lent(&self.slots)))
     }
 
     /// The entry of the least member whose latest vote has this ballot, lent.

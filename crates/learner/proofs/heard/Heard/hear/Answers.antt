@@ -19,7 +19,7 @@ pub returns-clause-ripe : goal.returns-clause-ripe
 returns-clause-ripe c = λ n marks h.
     let slots = opened c.self.inside.members c.self.inside.slots in
     let member : IsMember c.args.self.now.members c.args.member = (omega (arith, c.get-range.ensures), c.requires) in
-    c.majority_at.ensures
+    c.chosen_at.ensures
     ∙ ap (option_map (λ (v : Vote). v.ballot))
     (after_ripe n marks slots c.args.self.now c.self.view_is h c.args.member member c.slots_of_members.ensures.read c.slots_of_members.ensures.set c.args.ballot (lent_entry c.args.entry)
     c.slots_of_members.ensures.many c.lent.result.now (c.lent.ensures.value ∙ c.in_ok-keep.ensures.written ∙ c.in_ok-keep.ensures.kept) c.slots_of_members.ensures.count)
