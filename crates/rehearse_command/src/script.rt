@@ -84,7 +84,7 @@ fn tape(alloc: Global, word: &str) -> Result<Tape, LineFault> {
         Err(FromHexError::OutOfMemory) => return Err(LineFault::OutOfMemory),
         Err(_) => return Err(LineFault::BadTape),
     };
-    match Tape::from_bytes(alloc, &frames) {
+    match Tape::from_vec(alloc, frames) {
         Ok(tape) => Ok(tape),
         Err(TapeFault::OutOfMemory) => Err(LineFault::OutOfMemory),
         Err(_) => Err(LineFault::BadTape),

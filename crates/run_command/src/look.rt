@@ -32,7 +32,7 @@ fn read_tape<F: Folders>(
     ensures { F.written folders.new ≡ F.written folders.old }
 {
     match folders.read(alloc, name, MAX_FRAMES) {
-        Ok(bytes) => Ok(Tape::from_bytes(alloc, bytes.as_slice())),
+        Ok(bytes) => Ok(Tape::from_vec(alloc, bytes)),
         Err(FolderFault::TooLong) => {
             let len = usize::try_from(stamp.length).unwrap_or(usize::MAX);
             Ok(Err(TapeFault::TooLong { len }))

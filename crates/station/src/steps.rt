@@ -56,7 +56,7 @@ impl<R: Rows> Station<R> {
             Err(_) => return Err(self.stop(StepRefusal::OutOfMemory)),
         };
         let checked = Checked { tape, slugs };
-        match tape.copy(self.alloc) {
+        match tape.copy() {
             Ok(tape) => {
                 let entry = Entry::Tape(tape);
                 self.take(number, Event::Offer { number, entry, now }, Some(checked))

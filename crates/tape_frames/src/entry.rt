@@ -141,7 +141,8 @@ impl<'a> EntryRef<'a> {
         }
     }
 
-    /// An equal entry with frames of its own, one a byte. A withdrawal takes no memory, and a tape asks for its memory once.
+    /// An equal entry, its frames one a byte. A withdrawal takes no memory, nor does a tape that is lent by its owner, since both
+    /// share its frames; those of other bytes are copied, and the memory for them is asked for once.
     pub fn copy(&self, alloc: Global) -> Result<Entry, AllocError>
         ensures same { IfOk result (λ e. owned_entry e ≡ lent_entry self.now) }
         ensures no_memory { lent_entry self.now ≡ Void → IsOk result }

@@ -158,11 +158,11 @@ impl<'a> PackedRef<'a> {
         Ok(())
     }
 
-    /// The tape with frames of its own, one a byte. Its memory is asked for once.
+    /// The tape with frames of its own, one a byte. The memory for them is asked for once.
     pub(crate) fn unpack(&self, alloc: Global) -> Result<Tape, AllocError>
         ensures { IfOk result (λ t. t ≡ self.now) }
     {
         let frames = frames_of(alloc, self.bytes, usize::from(self.length))?;
-        Ok(Tape::of_frames(frames))
+        Tape::of_frames(alloc, frames)
     }
 }

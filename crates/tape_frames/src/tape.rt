@@ -8,14 +8,17 @@ ghost use Rattle.tape_frames.specs.declared.fault.TapeFault.TheVariants.{OutOfMe
 use crate::fault::TapeFault;
 use std::alloc::{AllocError, Global};
 use std::marker::Model;
+use std::rc::Rc;
 
 /// The most frames that a tape has.
 pub const MAX_FRAMES: usize = 16_384;
 
-/// A tape that owns its frames: 1 to [`MAX_FRAMES`] of them, each below 64. Clauses see the list of its frames.
+/// A tape: 1 to [`MAX_FRAMES`] frames, each below 64. Clauses see the list of its frames.
+///
+/// Nothing changes the frames of a tape, so its copies share them.
 #[derive(Drop)]
 pub struct Tape {
-    frames: Vec<u8>,
+    frames: Rc<Vec<u8>>,
 }
 
 impl Model for Tape {
@@ -24,26 +27,28 @@ impl Model for Tape {
 
     ghost Value = { List ℕ };
 
-    ghost view = { λ t. t.frames.items };
+    ghost view = { λ t. t.frames.value.items };
 
-    ghost invariant = { λ t. IsTape t.frames.items };
+    ghost invariant = { λ t. IsTape t.frames.value.items };
 }
 
-/// A tape whose frames are lent. Clauses see the list of its frames.
+/// A tape whose frames are lent, by a tape or from other bytes. Clauses see the list of its frames.
 #[derive(Drop)]
 pub struct TapeRef<'a> {
     frames: &'a [u8],
+    /// The tape that lends them, if one does: a copy shares its frames.
+    owner: Option<&'a Rc<Vec<u8>>>,
 }
 
 impl<'a> Model for TapeRef<'a> {
-    ghost use Rattle.std.specs.Prelude.{List, ℕ};
+    ghost use Rattle.std.specs.Prelude.{◌≡◌, List, ℕ, IfSome};
     ghost use Rattle.tape_frames.specs.Frames.{IsTape};
 
     ghost Value = { List ℕ };
 
     ghost view = { λ t. t.frames.now };
 
-    ghost invariant = { λ t. IsTape t.frames.now };
+    ghost invariant = { λ t. IsTape t.frames.now × IfSome t.owner (λ o. o.now.value.items ≡ t.frames.now) };
 }
 
 /// Whether each byte is a frame. It looks at all of them, without a stop at one that is none, so that many are compared
@@ -95,7 +100,10 @@ impl<'a> TapeRef<'a> {
         ensures { MatchResult result (λ t. (tape_fault bytes.now ≡ None) × (t ≡ bytes.now)) (λ e. tape_fault bytes.now ≡ Some e) }
     {
         match fault_of(bytes) {
-            None => Ok(TapeRef { frames: bytes }),
+            None => Ok(TapeRef {
+                frames: bytes,
+                owner: None,
+            }),
             Some(fault) => Err(fault),
         }
     }
@@ -128,25 +136,41 @@ impl<'a> TapeRef<'a> {
     {
         TapeRef {
             frames: self.frames,
+            owner: self.owner,
         }
     }
 
-    /// An equal tape with frames of its own.
+    /// An equal tape. It shares the frames of the tape that lends them, and takes no memory then; those that no tape lends are
+    /// copied.
     pub fn copy(&self, alloc: Global) -> Result<Tape, AllocError>
         ensures { IfOk result (λ t. t ≡ self.now) }
     {
-        let frames = Vec::from_slice(alloc, self.frames)?;
-        Ok(Tape { frames })
+        match self.owner {
+            Some(owner) => share(owner),
+            None => Tape::of_frames(alloc, Vec::from_slice(alloc, self.frames)?),
+        }
     }
+}
+
+/// One more owner of the same frames.
+fn share(owner: &Rc<Vec<u8>>) -> Result<Tape, AllocError>
+    requires { IsTape owner.now.value.items }
+    ensures { IfOk result (λ t. t ≡ owner.now.value.items) }
+{
+    let frames = owner.clone()?;
+    Ok(Tape { frames })
 }
 
 impl Tape {
     /// The tape that owns these frames.
-    pub(crate) fn of_frames(frames: Vec<u8>) -> Tape
+    pub(crate) fn of_frames(alloc: Global, frames: Vec<u8>) -> Result<Tape, AllocError>
         requires { IsTape frames.items }
-        ensures { result ≡ frames.items }
+        ensures { IfOk result (λ t. t ≡ frames.items) }
     {
-        Tape { frames }
+        match Rc::new(alloc, frames) {
+            Ok(frames) => Ok(Tape { frames }),
+            Err(_) => Err(AllocError),
+        }
     }
 
     /// The tape of these frames, one a byte, copied.
@@ -160,12 +184,27 @@ impl Tape {
         tape.copy(alloc).map_err(|_| TapeFault::OutOfMemory)
     }
 
+    /// The tape of these frames, one a byte, which it takes over.
+    ///
+    /// The faults are those of [`Tape::from_bytes`].
+    #[tactic(auto, using(crate::proofs::Frames::is_tape))]
+    pub fn from_vec(alloc: Global, bytes: Vec<u8>) -> Result<Tape, TapeFault>
+        ensures ok { IfOk result (λ t. (tape_fault bytes.items ≡ None) × (t ≡ bytes.items)) }
+        ensures err { IfErr result (λ e. MatchOption (tape_fault bytes.items) (e ≡ OutOfMemory) (λ f. e ≡ f)) }
+    {
+        match fault_of(&bytes) {
+            None => Tape::of_frames(alloc, bytes).map_err(|_| TapeFault::OutOfMemory),
+            Some(fault) => Err(fault),
+        }
+    }
+
     /// The same tape, lent.
     pub fn lend(&self) -> TapeRef<'_>
         ensures { result ≡ self.now }
     {
         TapeRef {
-            frames: self.frames.as_slice(),
+            frames: self.frames.as_ref().as_slice(),
+            owner: Some(&self.frames),
         }
     }
 
@@ -191,10 +230,10 @@ impl Tape {
         self.lend().same(other)
     }
 
-    /// An equal tape with frames of its own.
-    pub fn copy(&self, alloc: Global) -> Result<Tape, AllocError>
+    /// An equal tape, which shares the frames. It takes no memory.
+    pub fn copy(&self) -> Result<Tape, AllocError>
         ensures { IfOk result (λ t. t ≡ self.now) }
     {
-        self.lend().copy(alloc)
+        share(&self.frames)
     }
 }

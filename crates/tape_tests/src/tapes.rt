@@ -3,8 +3,22 @@
 use std::alloc::Global;
 use tape_frames::{Tape, TapeFault, TapeRef, holes};
 
+// The tape that takes these frames over.
+fn taken_over(alloc: Global, frames: &[u8]) -> Result<Tape, TapeFault> {
+    match Vec::from_slice(alloc, frames) {
+        Ok(own) => Tape::from_vec(alloc, own),
+        Err(_) => Err(TapeFault::OutOfMemory),
+    }
+}
+
+// What is wrong with these bytes, where both ways to a tape of its own say the same.
 fn fault_of(alloc: Global, bytes: &[u8]) -> Option<TapeFault> {
-    Tape::from_bytes(alloc, bytes).err()
+    let fault = Tape::from_bytes(alloc, bytes).err();
+    if taken_over(alloc, bytes).err() == fault {
+        fault
+    } else {
+        None
+    }
 }
 
 fn fault_of_zeros(alloc: Global, len: usize) -> Option<TapeFault> {
@@ -16,9 +30,29 @@ fn fault_of_zeros(alloc: Global, len: usize) -> Option<TapeFault> {
 
 // Whether the copy of a tape, lent or not, is the same tape.
 fn copies(alloc: Global, tape: &Tape) -> bool {
-    match (tape.copy(alloc), tape.lend().copy(alloc)) {
+    match (tape.copy(), tape.lend().copy(alloc)) {
         (Ok(copy), Ok(other)) => copy.same(tape.lend()) && other.same(tape.lend()),
         _ => false,
+    }
+}
+
+// Whether a copy is left when the tape is gone.
+fn outlives(alloc: Global, frames: &[u8]) -> bool {
+    let copy = match Tape::from_bytes(alloc, frames) {
+        Ok(tape) => tape.copy(),
+        Err(_) => return false,
+    };
+    match copy {
+        Ok(copy) => copy.frames() == frames,
+        Err(_) => false,
+    }
+}
+
+// Whether frames that a tape takes over are its frames.
+fn is_taken_over(alloc: Global, frames: &[u8]) -> bool {
+    match taken_over(alloc, frames) {
+        Ok(tape) => tape.frames() == frames && copies(alloc, &tape),
+        Err(_) => false,
     }
 }
 
@@ -29,7 +63,9 @@ fn is_kept(alloc: Global, frames: &[u8]) -> bool {
             tape.len() == frames.len()
                 && tape.frames() == frames
                 && copies(alloc, &tape)
-                && is_lent(frames)
+                && is_lent(alloc, frames)
+                && is_taken_over(alloc, frames)
+                && outlives(alloc, frames)
         }
         Err(_) => false,
     }
@@ -43,10 +79,13 @@ fn are_kept(alloc: Global, len: usize) -> bool {
     }
 }
 
-// Whether a lent tape has these frames.
-fn is_lent(frames: &[u8]) -> bool {
-    match TapeRef::from_bytes(frames) {
-        Ok(tape) => tape.len() == frames.len() && tape.frames() == frames,
+// Whether a lent tape has these frames, and its copy too.
+fn is_lent(alloc: Global, frames: &[u8]) -> bool {
+    let Ok(tape) = TapeRef::from_bytes(frames) else {
+        return false;
+    };
+    match tape.copy(alloc) {
+        Ok(copy) => tape.len() == frames.len() && copy.frames() == frames && copy.same(tape),
         Err(_) => false,
     }
 }

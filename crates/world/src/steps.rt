@@ -132,7 +132,7 @@ impl<R: Rows> World<R> {
     {
         one_setting();
         let place = self.place(member)?;
-        let Ok(copy) = tape.copy(self.alloc) else {
+        let Ok(copy) = tape.copy() else {
             return Err(WorldRefusal::OutOfMemory);
         };
         self.make_room()?;
