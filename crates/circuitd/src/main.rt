@@ -4,7 +4,7 @@
 use command_ends::{End, Fault};
 use command_line::parse;
 use commands::carry_out;
-use file_rows::HostFiles;
+use host_row_files::HostFiles;
 use std::env;
 use std::io::{BufWriter, ErrorKind};
 use std::process::ExitCode;

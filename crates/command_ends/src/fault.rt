@@ -4,9 +4,9 @@ ghost use Rattle.std.specs.Prelude.{◌≡◌};
 ghost use Rattle.command_ends.specs.Ends.{end_of, end_of_rows, end_of_step, IsOfInput, IsOfRows};
 ghost use Rattle.command_ends.specs.declared.end.End.TheVariants.{Done};
 
+use crate::cause_words::{CauseText, RefusalText};
 use crate::end::End;
-use crate::texts::{RowsText, TableText, TapeText, WidthsText};
-use crate::words::{CauseText, RefusalText};
+use crate::fault_texts::{RowsText, TableText, TapeText, WidthsText};
 use code_table::TableFault;
 use line_check::SetFault;
 use refusals::StepRefusal;

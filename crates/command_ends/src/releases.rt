@@ -8,9 +8,9 @@ ghost use Rattle.tape_frames.specs.Entries.{lent_entry};
 ghost use Rattle.command_ends.specs.Ends.{IsOfWriting};
 ghost use Rattle.command_ends.specs.ReleaseText.{plain_line, faulty_line, tape_release, release_text, lent};
 
-use crate::entries::entry_text;
+use crate::cause_words::CauseText;
+use crate::entry_texts::entry_text;
 use crate::fault::Fault;
-use crate::words::CauseText;
 use line_check::{SetFault, Slug, galley};
 use std::alloc::{AllocError, Global};
 use std::io::Write;

@@ -2,9 +2,9 @@
 #![tactic(auto)]
 
 #[cfg(test)]
-mod bench;
-#[cfg(test)]
 mod events;
+#[cfg(test)]
+mod kept_core;
 #[cfg(test)]
 mod random_requests;
 #[cfg(test)]

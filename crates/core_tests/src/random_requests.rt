@@ -1,7 +1,7 @@
 //! Random requests to a core, which keeps a saved row, beside a run of an acceptor over all of them.
 
-use crate::bench::{Bench, bench_of, noted};
 use crate::events::{ballot_of, owned};
+use crate::kept_core::{KeptCore, kept_core_of, noted};
 use crate::steps::{Agreed, At, Coming, FLOOD, IDLE, LIGATURE, NONE, Says, Step, VOID};
 use crate::turns::parts;
 use acceptor::{Reply, Request, run};
@@ -80,22 +80,26 @@ fn are_one_vote(vote: Option<&Vote>, other: Option<&Vote>) -> bool {
 }
 
 /// Whether each turn is noted as the acceptor replies, and the row that is saved at last is the acceptor's.
-fn follows(alloc: Global, bench: &mut Bench, list: &[Asked], row: &Row, replies: &[Reply]) -> bool {
+fn follows(
+    alloc: Global,
+    kept: &mut KeptCore,
+    list: &[Asked],
+    row: &Row,
+    replies: &[Reply],
+) -> bool {
     for (asked, reply) in list.iter().zip(replies) {
-        let note = noted(alloc, bench, &step_of(*asked));
+        let note = noted(alloc, kept, &step_of(*asked));
         if note != Some(words_for(reply, asked.0)) {
             return false;
         }
     }
-    bench.row.promised() == row.promised() && are_one_vote(bench.row.vote(), row.vote())
+    kept.row.promised() == row.promised() && are_one_vote(kept.row.vote(), row.vote())
 }
 
 /// Whether the core of member 2 of three does.
 fn is_acceptor(alloc: Global, list: &[Asked], requests: &[Request]) -> bool {
-    match (run(alloc, requests), bench_of(alloc, 2, 3)) {
-        (Ok((row, replies)), Some(mut bench)) => {
-            follows(alloc, &mut bench, list, &row, &replies)
-        }
+    match (run(alloc, requests), kept_core_of(alloc, 2, 3)) {
+        (Ok((row, replies)), Some(mut kept)) => { follows(alloc, &mut kept, list, &row, &replies) }
         _ => false,
     }
 }

@@ -1,6 +1,6 @@
 //! The worked examples. Tapes: what was offered first is the flood story, what was offered against it the one with the ligature.
 
-use crate::bench::Story;
+use crate::kept_core::Story;
 use crate::steps::{
     Coming, Did, FLOOD, IDLE, LIGATURE, LONGEST, NONE, OFFER, OFFER_OF_THREE, PACKED, PROMISE,
     SEEK, SEEK_OF_THREE, Saved, Says, Step, VOID, VOTE,

@@ -1,6 +1,6 @@
 //! Turns of one core, by worked examples.
 
-use crate::bench::{Bench, Story, answer, bench_of, is_answer, taken, told};
+use crate::kept_core::{KeptCore, Story, answer, is_answer, kept_core_of, taken, told};
 use crate::steps::{Did, IDLE, SEEK_OF_THREE, Step};
 use crate::stories::{ANSWERING, ASKING, ENDING, GATHERING, WITHDRAWING};
 use node_core::CoreRefusal;
@@ -62,17 +62,17 @@ const FAILED: &[Step] = &[
 ];
 
 /// Whether a step comes to what it has to; or, where memory was refused to it, whether these do.
-fn takes_or_fails(alloc: Global, bench: &mut Bench, step: &Step, failed: &[Step]) -> bool {
-    match answer(alloc, bench, step) {
-        Some(Err(CoreRefusal::OutOfMemory)) => taken(alloc, bench, failed) == failed.len(),
+fn takes_or_fails(alloc: Global, kept: &mut KeptCore, step: &Step, failed: &[Step]) -> bool {
+    match answer(alloc, kept, step) {
+        Some(Err(CoreRefusal::OutOfMemory)) => taken(alloc, kept, failed) == failed.len(),
         answer => is_answer(answer, step),
     }
 }
 
 fn asks_or_fails(alloc: Global) -> bool {
-    match bench_of(alloc, 1, 3) {
+    match kept_core_of(alloc, 1, 3) {
         None => false,
-        Some(mut bench) => takes_or_fails(alloc, &mut bench, &SEEK_OF_THREE, FAILED),
+        Some(mut kept) => takes_or_fails(alloc, &mut kept, &SEEK_OF_THREE, FAILED),
     }
 }
 

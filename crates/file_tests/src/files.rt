@@ -4,7 +4,7 @@ ghost use Rattle.saved_rows.specs.Saved.{HasPromise};
 ghost use Rattle.std.specs.Prelude.{IfSome};
 
 use ballots::{Ballot, Member, Number, Row};
-use file_rows::{HostFiles, RefusedRows, RowFiles, RowsCause};
+use host_row_files::{HostFiles, RefusedRows, RowFiles, RowsCause};
 use saved_rows::{Identity, Rows, RowsFault};
 use std::fs;
 use tape_frames::Version;

@@ -3,8 +3,8 @@
 use ballots::Member;
 use command_ends::End;
 use command_line::Plan;
-use file_rows::{HostFiles, RowFiles};
 use fixtures::{CODES, FLOOD, WIDTHS};
+use host_row_files::{HostFiles, RowFiles};
 use station_start::serve;
 use std::alloc::Global;
 use std::fs;

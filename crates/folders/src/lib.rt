@@ -4,11 +4,11 @@
 mod fault;
 mod folders;
 mod memory;
+mod named_file;
 mod none;
-mod paper;
 
 pub use fault::FolderFault;
 pub use folders::{Folders, Listing, Place, Stamp};
 pub use memory::{MemoryFolders, Moved, Noted};
+pub use named_file::NamedFile;
 pub use none::NoFolders;
-pub use paper::Paper;

@@ -4,7 +4,7 @@ ghost use Rattle.std.specs.Prelude.{◌≡◌};
 
 use crate::fault::FolderFault;
 use crate::folders::{Folders, Listing, Place, Stamp};
-use crate::paper::Paper;
+use crate::named_file::NamedFile;
 use std::alloc::{AllocError, Global};
 
 /// A file among the offers.
@@ -35,7 +35,7 @@ pub struct Noted {
 #[derive(Drop)]
 pub struct MemoryFolders {
     offers: Vec<Offer>,
-    filed: Vec<Paper>,
+    filed: Vec<NamedFile>,
     moved: Vec<Moved>,
     noted: Vec<Noted>,
     is_full: bool,
@@ -59,7 +59,7 @@ impl MemoryFolders {
     }
 
     /// What was written among the releases, in order.
-    pub fn filed(&self) -> &[Paper] {
+    pub fn filed(&self) -> &[NamedFile] {
         &self.filed
     }
 
@@ -159,8 +159,8 @@ impl Folders for MemoryFolders {
         if self.is_full {
             return Err(FolderFault::CannotWrite);
         }
-        let paper = Paper::of(alloc, name, bytes)?;
-        match self.filed.push(paper) {
+        let named = NamedFile::of(alloc, name, bytes)?;
+        match self.filed.push(named) {
             Ok(()) => Ok(()),
             Err(_) => Err(FolderFault::OutOfMemory),
         }

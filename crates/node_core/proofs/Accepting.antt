@@ -13,7 +13,7 @@ use Rattle.protocol.specs.Proposals.{was_released}
 use Rattle.tape_frames.specs.Entries.{owned_entry, lent_entry}
 use Rattle.tape_frames.specs.declared.entry.Entry.{Entry as OwnedEntry}
 use Rattle.tape_frames.specs.declared.entry.EntryRef.{EntryRef}
-use Rattle.node_core.specs.declared.desk.Desk.{Desk}
+use Rattle.node_core.specs.declared.instance.Instance.{Instance}
 use Rattle.node_core.specs.declared.turn.Turn.{Turn}
 use Rattle.mail.specs.declared.letter.Letter.TheVariants as letters
 use Rattle.node_core.specs.declared.turn.Note.{Note}
@@ -150,7 +150,7 @@ module _ (s : Seat) (row : Row) (p : Packet) (entry : Entry) where
 
   -- the turn, once the vote is heard
   pub vote_heard :
-      (marks : List Mark) (x y : Turn) (voted : Entry) (d : Desk) (release : Option OwnedEntry) → IsVote s row p entry x voted
+      (marks : List Mark) (x y : Turn) (voted : Entry) (d : Instance) (release : Option OwnedEntry) → IsVote s row p entry x voted
       → y.row ≡ x.row → y.mail ≡ x.mail → y.release ≡ release → y.note ≡ x.note
       → (option_map owned_entry release ≡ (hear s.members p.number s.me p.ballot voted marks).release) × IsLeft d release (hear s.members p.number s.me p.ballot voted marks).marks
       → Answers row (accept_turn s marks row p entry) y d

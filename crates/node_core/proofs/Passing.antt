@@ -5,8 +5,8 @@ use Rattle.protocol.specs.Marks.{Mark, Began, Promised, Proposed, Denied, Heard,
 use Rattle.protocol.specs.Proposals.{was_released, open_proposal, opening_of}
 use Rattle.learner.specs.Latest.{hears, OtherMarksPass as OtherVotesPass}
 use Rattle.proposer.specs.InHand.{InHand, concerns, OtherMarksPass as OtherProposalsPass}
-use Rattle.node_core.specs.declared.desk.Desk.{Desk}
-use Rattle.node_core.specs.Standing.{DeskStands, ProposalStands, marked_number, AreAbout, Grows}
+use Rattle.node_core.specs.declared.instance.Instance.{Instance}
+use Rattle.node_core.specs.Standing.{InstanceStands, ProposalStands, marked_number, AreAbout, Grows}
 
 -- the mark says nothing of k
 record SaysNothing (k : ℕ) (x : Mark) : Type 0 where
@@ -42,8 +42,8 @@ module _ (votes : OtherVotesPass) (proposals : OtherProposalsPass) where
   stands_by None k x marks h s = same_proposal k x marks h ∙ s
   stands_by (Some p) k x marks h s = proposals p k x marks h.concerns s
 
-  desk_stands_by : (d : Desk) (x : Mark) (marks : List Mark) → SaysNothing d.number x → DeskStands d marks → DeskStands d (x ∷ marks)
-  desk_stands_by d x marks h s = record {
+  instance_stands_by : (d : Instance) (x : Mark) (marks : List Mark) → SaysNothing d.number x → InstanceStands d marks → InstanceStands d (x ∷ marks)
+  instance_stands_by d x marks h s = record {
     unreleased = same_release d.number x marks h ∙ s.unreleased;
     proposal = stands_by d.proposal d.number x marks h s.proposal;
     heard = votes d.heard d.number x marks h.hears s.heard;
@@ -57,12 +57,12 @@ module _ (votes : OtherVotesPass) (proposals : OtherProposalsPass) where
     released_after [] marks a = refl
     released_after (x ∷ new) marks a = same_release k x (new ++ marks) (about_other x a.0) ∙ released_after new marks a.1
 
-    desk_after : (d : Desk) (new marks : List Mark) → d.number ≡ k → AreAbout n new → DeskStands d marks → DeskStands d (new ++ marks)
-    desk_after d [] marks e a s = s
-    desk_after d (x ∷ new) marks e a s = desk_stands_by d x (new ++ marks) (subst (λ j. SaysNothing j x) (sym e) (about_other x a.0)) (desk_after d new marks e a.1 s)
+    instance_after : (d : Instance) (new marks : List Mark) → d.number ≡ k → AreAbout n new → InstanceStands d marks → InstanceStands d (new ++ marks)
+    instance_after d [] marks e a s = s
+    instance_after d (x ∷ new) marks e a s = instance_stands_by d x (new ++ marks) (subst (λ j. SaysNothing j x) (sym e) (about_other x a.0)) (instance_after d new marks e a.1 s)
 
     pub other_released : (before after : List Mark) → Grows n before after → was_released k after ≡ was_released k before
     other_released before after g = ap (was_released k) g.is ∙ released_after g.new before g.about
 
-    pub other_desk : (d : Desk) (before after : List Mark) → d.number ≡ k → Grows n before after → DeskStands d before → DeskStands d after
-    other_desk d before after e g s = subst (DeskStands d) (sym g.is) (desk_after d g.new before e g.about s)
+    pub other_instance : (d : Instance) (before after : List Mark) → d.number ≡ k → Grows n before after → InstanceStands d before → InstanceStands d after
+    other_instance d before after e g s = subst (InstanceStands d) (sym g.is) (instance_after d g.new before e g.about s)

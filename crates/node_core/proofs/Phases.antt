@@ -17,12 +17,12 @@ use Rattle.proposer.specs.Answers.{IsNew, IsRepeated, completes, IsCountedAs}
 use Rattle.proposer.specs.declared.answer.Counted.{Counted}
 use Rattle.proposer.specs.declared.answer.Counted.TheVariants as kinds
 use Rattle.tape_frames.specs.Entries.{owned_entry}
-use Rattle.node_core.specs.declared.desk.Desk.{Desk}
+use Rattle.node_core.specs.declared.instance.Instance.{Instance}
 use Rattle.node_core.specs.declared.turn.Turn.{Turn}
 use Rattle.protocol.specs.Seats.{Seat}
 use Rattle.learner.specs.Latest.{hears, OtherMarksPass as OtherVotesPass}
 use Rattle.proposer.specs.InHand.{InHand, StandsFor as ProposalStandsFor}
-use Rattle.node_core.specs.Standing.{Answers, DeskStands, ProposalStands}
+use Rattle.node_core.specs.Standing.{Answers, InstanceStands, ProposalStands}
 use Rattle.node_core.specs.Turns.{HandsNothing, note_value}
 use Rattle.node_core.specs.declared.turn.Note.TheVariants as notes
 use Rattle.node_core.specs.Handling.{IsTurnAlone}
@@ -89,7 +89,7 @@ not_below_greater (Some p) (Some q) b h = go (is_below p q) refl
     go false e = rw e at h
 
 -- a turn that saves, sends and releases nothing
-pub stays_so : {row : Row} {marks : List Mark} {note : said.Note} {x : Turn} {d : Desk} → HandsNothing x → note_value x.note ≡ note → DeskStands d marks → Answers row (stays row marks note) x d
+pub stays_so : {row : Row} {marks : List Mark} {note : said.Note} {x : Turn} {d : Instance} → HandsNothing x → note_value x.note ≡ note → InstanceStands d marks → Answers row (stays row marks note) x d
 stays_so h noted stands = record { is_turn = record { row_after = rw h.saves refl; out = rw h.sends refl; release = ap (option_map owned_entry) h.releases; note = noted }; left = rw h.releases stands }
 
 not_at_it : (p : Option Ballot) (b : Ballot) → (p ≡ Some b → ⊥) → is_at p b ≡ false
@@ -140,7 +140,7 @@ module _ (s : Seat) (now : ℕ) (marks : List Mark) (row : Row) (p : Packet) (r 
         rw (e, t, f, many) refl
 
     pub completes_as :
-        (x : Turn) (d : Desk) → IsCountedAs kinds.Quorum s.members s.me p.number p.ballot p.from r marks
+        (x : Turn) (d : Instance) → IsCountedAs kinds.Quorum s.members s.me p.number p.ballot p.from r marks
         → ((o : Opening) → open_proposal p.number marks ≡ Some o → o.ballot ≡ p.ballot → Answers row (propose s p.number p.ballot now (Promised p.number p.from p.ballot r ∷ marks) (raised row p.ballot) (pick o.own (counted s.me p.number o (Promised p.number p.from p.ballot r ∷ since_began p.number marks)))) x d)
         → Answers row (promise_turn s now marks row p r (gathering_at p.number p.ballot marks)) x d
     completes_as x d h turn =
@@ -190,11 +190,11 @@ not_below_itself a = grind (arith, nat_tests)
 pub promised_not_above : (p : Option Ballot) (b : Ballot) → p ≡ Some b → is_above p b ≡ false
 promised_not_above p b e = ap (λ (a : Option Ballot). is_above a b) e ∙ not_below_itself b
 
--- a proposing desk's answer, told of another's number and ballot that are equal to its own
+-- a proposing instance's answer, told of another's number and ballot that are equal to its own
 pub told :
-    (s : Seat) (now : ℕ) (row : Row) (x : Turn) (d e : Desk) (b : Ballot) (n : ℕ) (a : Ballot) (marks : List Mark) → e.number ≡ n → b ≡ a
-    → ((o : Opening) → is_above row.promised b ≡ false → DeskStands e marks → open_proposal e.number marks ≡ Some o → o.ballot ≡ b → Answers row (propose s e.number b now marks (raised row b) (pick o.own (counted s.me e.number o (since_began e.number marks)))) x d)
-    → is_above row.promised a ≡ false → DeskStands e marks
+    (s : Seat) (now : ℕ) (row : Row) (x : Turn) (d e : Instance) (b : Ballot) (n : ℕ) (a : Ballot) (marks : List Mark) → e.number ≡ n → b ≡ a
+    → ((o : Opening) → is_above row.promised b ≡ false → InstanceStands e marks → open_proposal e.number marks ≡ Some o → o.ballot ≡ b → Answers row (propose s e.number b now marks (raised row b) (pick o.own (counted s.me e.number o (since_began e.number marks)))) x d)
+    → is_above row.promised a ≡ false → InstanceStands e marks
     → (o : Opening) → open_proposal n marks ≡ Some o → o.ballot ≡ a → Answers row (propose s n a now marks (raised row a) (pick o.own (counted s.me n o (since_began n marks)))) x d
 told s now row x d e b n a marks is_n is_a h above stands o opens at =
     subst (λ j. Answers row (propose s j a now marks (raised row a) (pick o.own (counted s.me j o (since_began j marks)))) x d) is_n
@@ -210,20 +210,20 @@ idle_alone s n now marks row x released h noted = rw released (record {
 })
 
 -- where one more mark comes that hears and releases nothing, and the proposal in hand stands for it
-pub one_more : (votes : OtherVotesPass) (d : Desk) (q : InHand) (x : Mark) (marks : List Mark) → hears d.number x ≡ false → releases d.number x ≡ false → DeskStands d marks → ProposalStandsFor q d.number (x ∷ marks) → DeskStands (record d { proposal = Some q }) (x ∷ marks)
+pub one_more : (votes : OtherVotesPass) (d : Instance) (q : InHand) (x : Mark) (marks : List Mark) → hears d.number x ≡ false → releases d.number x ≡ false → InstanceStands d marks → ProposalStandsFor q d.number (x ∷ marks) → InstanceStands (record d { proposal = Some q }) (x ∷ marks)
 one_more votes d q x marks unheard unreleased s p = record { unreleased = rw unreleased s.unreleased; proposal = p; heard = votes d.heard d.number x marks unheard s.heard }
 
-pub still : (d : Desk) (q : InHand) (marks : List Mark) → DeskStands d marks → ProposalStandsFor q d.number marks → DeskStands (record d { proposal = Some q }) marks
+pub still : (d : Instance) (q : InHand) (marks : List Mark) → InstanceStands d marks → ProposalStandsFor q d.number marks → InstanceStands (record d { proposal = Some q }) marks
 still d q marks s p = record { unreleased = s.unreleased; proposal = p; heard = s.heard }
 
 pub promised_told : (n j m k : ℕ) (b a : Ballot) (r : Option Vote) → n ≡ j → m ≡ k → b ≡ a → Promised n m b r ≡ Promised j k a r
 promised_told n j m k b a r e f g = ap (λ i. Promised i m b r) e ∙ ap (λ i. Promised j i b r) f ∙ ap (λ (x : Ballot). Promised j k x r) g
 
 -- what is read of a proposal in hand
-pub proposal_stands : (d : Desk) (q : InHand) (marks : List Mark) → d.proposal ≡ Some q → DeskStands d marks → ProposalStandsFor q d.number marks
+pub proposal_stands : (d : Instance) (q : InHand) (marks : List Mark) → d.proposal ≡ Some q → InstanceStands d marks → ProposalStandsFor q d.number marks
 proposal_stands d q marks is s = subst (λ (o : Option InHand). ProposalStands o d.number marks) is s.proposal
 
-pub none_stands : (d : Desk) (marks : List Mark) → d.proposal ≡ None → DeskStands d marks → open_proposal d.number marks ≡ None
+pub none_stands : (d : Instance) (marks : List Mark) → d.proposal ≡ None → InstanceStands d marks → open_proposal d.number marks ≡ None
 none_stands d marks is s = subst (λ (o : Option InHand). ProposalStands o d.number marks) is s.proposal
 
 -- no other proposal of a number is open
@@ -239,7 +239,7 @@ none_gathers n b marks e = go (has (proposes n b) (since_began n marks)) refl
     go false h = rw (h, e) refl
 
 -- whether a proposal in hand is due
-pub due_so : (d : Desk) (q : InHand) (m now moment : ℕ) (marks : List Mark) (p : ProposalStandsFor q d.number marks) → q.me ≡ m → moment ≡ due_moment q.me d.number p.opening (since_began d.number marks) → moment ≤ now → is_due_number m now marks d.number ≡ true
+pub due_so : (d : Instance) (q : InHand) (m now moment : ℕ) (marks : List Mark) (p : ProposalStandsFor q d.number marks) → q.me ≡ m → moment ≡ due_moment q.me d.number p.opening (since_began d.number marks) → moment ≤ now → is_due_number m now marks d.number ≡ true
 due_so d q m now moment marks p of is h =
     let e : open_proposal d.number marks ≡ Some p.opening = p.is_open in
     let f : moment ≡ due_moment m d.number p.opening (since_began d.number marks) = is ∙ ap (λ i. due_moment i d.number p.opening (since_began d.number marks)) of in

@@ -6,32 +6,32 @@ use Rattle.protocol.specs.Marks.{Mark}
 use Rattle.protocol.specs.Turn as said
 use Rattle.tape_frames.specs.Entries.{lent_entry}
 use Rattle.tape_frames.specs.declared.entry.EntryRef.{EntryRef}
-use Rattle.node_core.specs.declared.desk.Desk.{Desk}
+use Rattle.node_core.specs.declared.instance.Instance.{Instance}
 use Rattle.node_core.specs.declared.event.Event.{Event}
 use Rattle.node_core.specs.declared.turn.Turn.{Turn}
 use Rattle.node_core.specs.declared.turn.CoreRefusal.{CoreRefusal}
 use Rattle.node_core.specs.declared.turn.CoreRefusal.TheVariants as refusals
 use Rattle.protocol.specs.Seats.{Seat}
-use Rattle.node_core.specs.Standing.{Core, StandsFor, DeskStands, Answers, Settles, seat_of}
+use Rattle.node_core.specs.Standing.{Core, StandsFor, InstanceStands, Answers, Settles, seat_of}
 use Rattle.node_core.specs.Calls.{StartIs, TurnIs, MayTakeMemory}
 use Rattle.node_core.specs.Turns.{IsTurn, IsRowAfter, note_value, Stirs, sent}
 use Rattle.protocol.specs.Packets.{Packet, Accepted}
 use Rattle.protocol.specs.Turn.{accept_turn, vote_turn, to_others}
 
 -- it was taken by the turn that is read from the marks, or memory was refused to it where that turn is not quiet
-abbrev pub Handles : {E : Type 0} → Row → (List Mark → said.Turn) → Result Turn E → Desk → Desk → Type 0
-Handles row turn result old new = (marks : List Mark) → DeskStands old marks → MatchResult result (λ x. Answers row (turn marks) x new) (λ _. Stirs (turn marks))
+abbrev pub Handles : {E : Type 0} → Row → (List Mark → said.Turn) → Result Turn E → Instance → Instance → Type 0
+Handles row turn result old new = (marks : List Mark) → InstanceStands old marks → MatchResult result (λ x. Answers row (turn marks) x new) (λ _. Stirs (turn marks))
 
 -- the same of an offer or a search, which may be refused for another cause
-abbrev pub Starts : Seat → ℕ → Option Entry → ℕ → Row → Result Turn CoreRefusal → Desk → Desk → Type 0
+abbrev pub Starts : Seat → ℕ → Option Entry → ℕ → Row → Result Turn CoreRefusal → Instance → Instance → Type 0
 Starts s n own now row result old new =
-    (marks : List Mark) → DeskStands old marks
+    (marks : List Mark) → InstanceStands old marks
     → MatchResult result (λ x. StartIs s n own now marks row (λ t. Answers row t x new)) (λ e. e ≡ refusals.OutOfMemory → StartIs s n own now marks row Stirs)
 
 -- and of any event
-abbrev pub Takes : Seat → Event → Row → Result Turn CoreRefusal → Desk → Desk → Type 0
+abbrev pub Takes : Seat → Event → Row → Result Turn CoreRefusal → Instance → Instance → Type 0
 Takes s event row result old new =
-    (marks : List Mark) → DeskStands old marks
+    (marks : List Mark) → InstanceStands old marks
     → MatchResult result (λ x. TurnIs s event marks row (λ t. Answers row t x new)) (λ e. e ≡ refusals.OutOfMemory → TurnIs s event marks row Stirs)
 
 -- the code's turn is the turn t of the definitions, which takes nothing in and releases nothing

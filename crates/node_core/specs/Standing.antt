@@ -11,7 +11,7 @@ use Rattle.proposer.specs.InHand.{InHand, StandsFor as ProposalStandsFor}
 use Rattle.protocol.specs.Rows.{Row}
 use Rattle.protocol.specs.Turn as said
 use Rattle.tape_frames.specs.declared.entry.Entry.{Entry}
-use Rattle.node_core.specs.declared.desk.Desk.{Desk}
+use Rattle.node_core.specs.declared.instance.Instance.{Instance}
 use Rattle.node_core.specs.declared.turn.Turn.{Turn}
 use Rattle.protocol.specs.Seats.{Seat}
 use Rattle.node_core.specs.Turns.{IsTurn}
@@ -23,7 +23,7 @@ pub record Core : Type 0 where
   pub me : ℕ
   pub members : ℕ
   pub failed : Bool
-  pub desks : List (ℕ × Desk)
+  pub instances : List (ℕ × Instance)
   pub released : List ℕ
 
 -- the proposal in hand, if any, is the open one that is read from the marks
@@ -32,38 +32,38 @@ ProposalStands None n marks = open_proposal n marks ≡ None
 ProposalStands (Some p) n marks = ProposalStandsFor p n marks
 
 -- what is in hand of a number that was not released is its open proposal and its latest votes
-pub record DeskStands (d : Desk) (marks : List Mark) : Type 0 where
+pub record InstanceStands (d : Instance) (marks : List Mark) : Type 0 where
   pub unreleased : was_released d.number marks ≡ false
   pub proposal : ProposalStands d.proposal d.number marks
   pub heard : VotesStandFor d.heard d.number marks
 
--- a desk where nothing is in hand
-abbrev pub fresh : ℕ → ℕ → Desk
+-- an instance where nothing is in hand
+abbrev pub fresh : ℕ → ℕ → Instance
 fresh c n = record { number = n; proposal = None; heard = latest_votes c n [] }
 
 -- what is in hand of n among these, if anything is
-abbrev pub desk_in : List (ℕ × Desk) → ℕ → Option Desk
-desk_in desks n = lookup (is_at (nat_cmp n)) desks
+abbrev pub instance_in : List (ℕ × Instance) → ℕ → Option Instance
+instance_in instances n = lookup (is_at (nat_cmp n)) instances
 
 -- what the core has in hand of n, if anything
-abbrev pub desk_at : Core → ℕ → Option Desk
-desk_at v n = desk_in v.desks n
+abbrev pub instance_at : Core → ℕ → Option Instance
+instance_at v n = instance_in v.instances n
 
 -- whether the core has noted n as released
 abbrev pub is_noted : Core → ℕ → Bool
 is_noted v n = list_any (is_at (nat_cmp n)) v.released
 
 -- what is in hand of n is read from the marks; where nothing is, either n was released or nothing was taken in of it
-abbrev pub InHandStands : ℕ → ℕ → Option Desk → List Mark → Type 0
-InHandStands c n None marks = was_released n marks ≡ false → DeskStands (fresh c n) marks
-InHandStands c n (Some d) marks = (d.number ≡ n) × DeskStands d marks
+abbrev pub InHandStands : ℕ → ℕ → Option Instance → List Mark → Type 0
+InHandStands c n None marks = was_released n marks ≡ false → InstanceStands (fresh c n) marks
+InHandStands c n (Some d) marks = (d.number ≡ n) × InstanceStands d marks
 
 -- no memory was refused to the core, its released numbers are those of the marks,
 -- and of each other number it has in hand what is read from the marks
 pub record StandsFor (v : Core) (marks : List Mark) : Type 0 where
   pub unfailed : v.failed ≡ false
   pub released : (n : ℕ) → is_noted v n ≡ was_released n marks
-  pub in_hand : (n : ℕ) → InHandStands v.members n (desk_at v n) marks
+  pub in_hand : (n : ℕ) → InHandStands v.members n (instance_at v n) marks
 
 -- where the core sits
 abbrev pub seat_of : Core → Seat
@@ -74,22 +74,22 @@ abbrev pub IsProposalOf : Seat → Option InHand → Type 0
 IsProposalOf s None = Unit {0}
 IsProposalOf s (Some p) = (p.me ≡ s.me) × (p.members ≡ s.members)
 
--- the desk is this seat's
-pub record IsDeskOf (s : Seat) (d : Desk) : Type 0 where
+-- the instance is this seat's
+pub record IsInstanceOf (s : Seat) (d : Instance) : Type 0 where
   pub proposal : IsProposalOf s d.proposal
   pub heard : d.heard.members ≡ s.members
 
--- all that is in hand is this seat's, each desk under its own number
-abbrev pub AreDesksOf : Seat → List (ℕ × Desk) → Type 0
-AreDesksOf s desks = (n : ℕ) (d : Desk) → desk_in desks n ≡ Some d → IsDeskOf s d × (d.number ≡ n)
+-- all that is in hand is this seat's, each instance under its own number
+abbrev pub AreInstancesOf : Seat → List (ℕ × Instance) → Type 0
+AreInstancesOf s instances = (n : ℕ) (d : Instance) → instance_in instances n ≡ Some d → IsInstanceOf s d × (d.number ≡ n)
 
 -- what is left in hand where this entry is released, or none is
-abbrev pub IsLeft : Desk → Option Entry → List Mark → Type 0
-IsLeft d None marks = DeskStands d marks
+abbrev pub IsLeft : Instance → Option Entry → List Mark → Type 0
+IsLeft d None marks = InstanceStands d marks
 IsLeft d (Some t) marks = was_released d.number marks ≡ true
 
 -- the code's turn is the turn t of the definitions, from this row, and what is left in hand stands for the marks after it
-pub record Answers (row : Row) (t : said.Turn) (x : Turn) (d : Desk) : Type 0 where
+pub record Answers (row : Row) (t : said.Turn) (x : Turn) (d : Instance) : Type 0 where
   pub is_turn : IsTurn row t x
   pub left : IsLeft d x.release t.marks
 
@@ -121,19 +121,19 @@ pub record IsSameSeat (old new : Core) : Type 0 where
   pub members : new.members ≡ old.members
 
 -- the core after is the one before, but that it has d in hand of d's number, or nothing where d is empty
-pub record Kept (before : Core) (d : Desk) (after : Core) : Type 0 where
+pub record Kept (before : Core) (d : Instance) (after : Core) : Type 0 where
   pub failed : after.failed ≡ before.failed
   pub members : after.members ≡ before.members
   pub released : after.released ≡ before.released
-  pub here : (desk_at after d.number ≡ Some d) ⊎ ((desk_at after d.number ≡ None) × (d ≡ fresh d.heard.members d.number))
-  pub others : (k : ℕ) → (k ≡ d.number → ⊥) → desk_at after k ≡ desk_at before k
+  pub here : (instance_at after d.number ≡ Some d) ⊎ ((instance_at after d.number ≡ None) × (d ≡ fresh d.heard.members d.number))
+  pub others : (k : ℕ) → (k ≡ d.number → ⊥) → instance_at after k ≡ instance_at before k
 
 -- the core after is the one before, but that it has d in hand of n, and has noted n as released where is_released says so
-pub record Moves (before : Core) (n : ℕ) (d : Option Desk) (is_released : Bool) (after : Core) : Type 0 where
+pub record Moves (before : Core) (n : ℕ) (d : Option Instance) (is_released : Bool) (after : Core) : Type 0 where
   pub failed : after.failed ≡ before.failed
   pub members : after.members ≡ before.members
-  pub here : desk_at after n ≡ d
-  pub others : (k : ℕ) → (k ≡ n → ⊥) → desk_at after k ≡ desk_at before k
+  pub here : instance_at after n ≡ d
+  pub others : (k : ℕ) → (k ≡ n → ⊥) → instance_at after k ≡ instance_at before k
   pub noted : is_released ≡ true → is_noted after n ≡ true
   pub unnoted : (k : ℕ) → (is_released ≡ true → k ≡ n → ⊥) → is_noted after k ≡ is_noted before k
 
@@ -145,13 +145,13 @@ pub record Took (row : Row) (t : said.Turn) (x : Turn) (v : Core) : Type 0 where
 -- the code's turn is the turn t of the definitions, and once n is settled the core stands for the marks after it
 pub record Settles (n : ℕ) (row : Row) (t : said.Turn) (x : Turn) (v : Core) : Type 0 where
   pub is_turn : IsTurn row t x
-  pub settled : (after : Core) → Moves v n (if is_some x.release then None else desk_at v n) (is_some x.release) after → StandsFor after t.marks
+  pub settled : (after : Core) → Moves v n (if is_some x.release then None else instance_at v n) (is_some x.release) after → StandsFor after t.marks
 
 -- all that is in hand stands for the marks, under its number
-abbrev pub AllStand : List (ℕ × Desk) → List Mark → Type 0
-AllStand desks marks = (n : ℕ) (d : Desk) → desk_in desks n ≡ Some d → (d.number ≡ n) × DeskStands d marks
+abbrev pub AllStand : List (ℕ × Instance) → List Mark → Type 0
+AllStand instances marks = (n : ℕ) (d : Instance) → instance_in instances n ≡ Some d → (d.number ≡ n) × InstanceStands d marks
 
 -- the number passes, and no number in hand that passes is less; with no number, none passes
-abbrev pub IsLeastPassing : (ℕ → Bool) → List (ℕ × Desk) → Option ℕ → Type 0
-IsLeastPassing passes desks None = (k : ℕ) (d : Desk) → desk_in desks k ≡ Some d → passes k ≡ false
-IsLeastPassing passes desks (Some n) = (passes n ≡ true) × ((k : ℕ) (d : Desk) → desk_in desks k ≡ Some d → passes k ≡ true → n ≤ k)
+abbrev pub IsLeastPassing : (ℕ → Bool) → List (ℕ × Instance) → Option ℕ → Type 0
+IsLeastPassing passes instances None = (k : ℕ) (d : Instance) → instance_in instances k ≡ Some d → passes k ≡ false
+IsLeastPassing passes instances (Some n) = (passes n ≡ true) × ((k : ℕ) (d : Instance) → instance_in instances k ≡ Some d → passes k ≡ true → n ≤ k)

@@ -1,9 +1,9 @@
 //! A station's turn: what it takes in, and what then goes out.
 #![tactic(auto)]
 
-mod desk;
-mod desks;
 mod event;
+mod instance;
+mod instances;
 mod node;
 mod rows;
 mod settled;

@@ -6,14 +6,14 @@ ghost use Rattle.protocol.specs.Proposals.{was_released, open_ballot, next_due};
 ghost use Rattle.protocol.specs.Turn.{number_of};
 ghost use Rattle.node_core.specs.Calls.{MayCome, TookTurn, RefusesEvent, Refuses, MayTakeMemory};
 ghost use Rattle.node_core.specs.Handling.{Acts};
-ghost use Rattle.node_core.specs.Standing.{StandsFor, Kept, Moves, IsDeskOf, IsSameSeat, seat_of, desk_at, fresh};
+ghost use Rattle.node_core.specs.Standing.{StandsFor, Kept, Moves, IsInstanceOf, IsSameSeat, seat_of, instance_at, fresh};
 ghost use Rattle.node_core.specs.Turns.{event_value, note_value, is_quiet, HandsNothing, IsOrderly, sent};
 
-use crate::desk::Desk;
-use crate::desks::DeskBox;
 use crate::event::Event;
+use crate::instance::Instance;
+use crate::instances::InstanceBox;
 use crate::turn::{CoreRefusal, Turn};
-use crate::{desks, settled};
+use crate::{instances, settled};
 use ballots::{Ballot, Member, Number, Row};
 use mail::Seat;
 use std::alloc::{AllocError, Global};
@@ -28,18 +28,18 @@ pub struct NodeCore {
     alloc: Global,
     seat: Seat,
     failed: bool,
-    desks: BTreeMap<u32, DeskBox>,
+    instances: BTreeMap<u32, InstanceBox>,
     released: BTreeSet<u32>,
 }
 
 impl Model for NodeCore {
-    ghost use Rattle.node_core.specs.Standing.{Core, AreDesksOf};
+    ghost use Rattle.node_core.specs.Standing.{Core, AreInstancesOf};
 
     ghost Value = { Core };
 
-    ghost view = { λ c. record { circuit = c.seat.circuit; me = c.seat.me; members = c.seat.members; failed = c.failed; desks = c.desks.entries; released = c.released.keys } };
+    ghost view = { λ c. record { circuit = c.seat.circuit; me = c.seat.me; members = c.seat.members; failed = c.failed; instances = c.instances.entries; released = c.released.keys } };
 
-    ghost invariant = { λ c. AreDesksOf c.seat c.desks.entries };
+    ghost invariant = { λ c. AreInstancesOf c.seat c.instances.entries };
 }
 
 impl NodeCore {
@@ -58,7 +58,7 @@ impl NodeCore {
             alloc,
             seat: Seat::new(circuit, me, members),
             failed: false,
-            desks: BTreeMap::new(alloc),
+            instances: BTreeMap::new(alloc),
             released: BTreeSet::new(alloc),
         }
     }
@@ -72,7 +72,7 @@ impl NodeCore {
         ensures stands { StandsFor self.new [] }
     {
         self.failed = false;
-        self.desks.clear();
+        self.instances.clear();
         self.released.clear();
     }
 
@@ -116,9 +116,9 @@ impl NodeCore {
         if self.failed {
             return None;
         }
-        match self.desks.get(&number.get()) {
+        match self.instances.get(&number.get()) {
             None => None,
-            Some(boxed) => boxed.desk.open_ballot(),
+            Some(boxed) => boxed.instance.open_ballot(),
         }
     }
 
@@ -132,40 +132,40 @@ impl NodeCore {
             return None;
         }
         protocol::laws::next_due_is_least();
-        desks::least_due(&self.desks, now)
+        instances::least_due(&self.instances, now)
     }
 
     /// Notes the number as released, where it is: nothing is in hand of it then.
     fn settle(&mut self, number: Number, is_released: bool) -> Result<(), AllocError>
-        ensures moves { OnOk result (Moves self.old number (if is_released then None else desk_at self.old number) is_released self.new) }
+        ensures moves { OnOk result (Moves self.old number (if is_released then None else instance_at self.old number) is_released self.new) }
         ensures memory { OnErr result (is_released ≡ true) }
         ensures seat { IsSameSeat self.old self.new }
     {
         if is_released {
-            desks::note(&mut self.released, number)?;
-            desks::take_out(&mut self.desks, number);
+            instances::note(&mut self.released, number)?;
+            instances::take_out(&mut self.instances, number);
         }
         Ok(())
     }
 
     /// Keeps what is in hand of a number of which nothing was, if anything is.
-    fn keep(&mut self, desk: Desk) -> Result<(), AllocError>
-        requires new { desk_at self.old desk.number ≡ None }
-        requires of { IsDeskOf (seat_of self.old) desk }
-        ensures kept { OnOk result (Kept self.old desk self.new) }
-        ensures memory { OnErr result (desk ≡ fresh desk.heard.members desk.number → ⊥) }
+    fn keep(&mut self, instance: Instance) -> Result<(), AllocError>
+        requires new { instance_at self.old instance.number ≡ None }
+        requires of { IsInstanceOf (seat_of self.old) instance }
+        ensures kept { OnOk result (Kept self.old instance self.new) }
+        ensures memory { OnErr result (instance ≡ fresh instance.heard.members instance.number → ⊥) }
         ensures seat { IsSameSeat self.old self.new }
     {
-        if desk.is_empty() {
+        if instance.is_empty() {
             return Ok(());
         }
-        desks::put(self.alloc, &mut self.desks, desk)
+        instances::put(self.alloc, &mut self.instances, instance)
     }
 
     /// Takes an event of a number of which nothing is in hand.
     fn act_anew(&mut self, number: Number, event: Event<'_>, row: &Row) -> Result<Turn, CoreRefusal>
         requires unfailed { self.old.failed ≡ false }
-        requires nothing { desk_at self.old number ≡ None }
+        requires nothing { instance_at self.old number ≡ None }
         requires arrived { MayCome self.old.me self.old.members event }
         requires number { number_of (event_value event) ≡ number }
         ensures turn { Acts number event.entry row.now result self.old self.new }
@@ -179,9 +179,9 @@ impl NodeCore {
         if self.released(number) {
             return settled::take(self.alloc, self.seat, &event, row);
         }
-        let mut desk = Desk::new(self.alloc, number, self.seat);
-        let turn = desk.take(self.alloc, self.seat, event, row)?;
-        self.keep(desk)?;
+        let mut instance = Instance::new(self.alloc, number, self.seat);
+        let turn = instance.take(self.alloc, self.seat, event, row)?;
+        self.keep(instance)?;
         Ok(turn)
     }
 
@@ -198,8 +198,8 @@ impl NodeCore {
         // Marks of one number change nothing that is read of another.
         learner::laws::other_marks_pass();
         proposer::laws::other_marks_pass();
-        match self.desks.get_mut(&number.get()) {
-            Some(boxed) => boxed.desk.take(self.alloc, self.seat, event, row),
+        match self.instances.get_mut(&number.get()) {
+            Some(boxed) => boxed.instance.take(self.alloc, self.seat, event, row),
             None => self.act_anew(number, event, row),
         }
     }

@@ -3,19 +3,19 @@
 ghost use Rattle.std.specs.Prelude.{◌≡◌, [], OnOk, OnErr};
 ghost use Rattle.run_command.specs.Keeping.{Keeps};
 
-use folders::{FolderFault, Folders, Paper};
+use folders::{FolderFault, Folders, NamedFile};
 use std::alloc::Global;
 
 /// Writes the first of the files that wait. One that the folder refuses goes on waiting.
 fn write_first<F: Folders>(
     alloc: Global,
     folders: &mut F,
-    waits: &mut Vec<Paper>,
+    waits: &mut Vec<NamedFile>,
 ) -> Result<(), FolderFault>
     ensures { Keeps (F.written folders.old) (F.written folders.new) waits.old.items waits.new.items [] }
 {
     match waits.first() {
-        Some(paper) => folders.put(alloc, paper.name(), paper.bytes())?,
+        Some(named) => folders.put(alloc, named.name(), named.bytes())?,
         None => return Ok(()),
     }
     let _ = waits.remove(0);
@@ -26,7 +26,7 @@ fn write_first<F: Folders>(
 pub(crate) fn write_waiting<F: Folders>(
     alloc: Global,
     folders: &mut F,
-    waits: &mut Vec<Paper>,
+    waits: &mut Vec<NamedFile>,
 ) -> Result<(), FolderFault>
     ensures { Keeps (F.written folders.old) (F.written folders.new) waits.old.items waits.new.items [] }
 {

@@ -14,7 +14,7 @@ use crate::watch::Watched;
 use crate::wishes::{Asked, Wish};
 use ballots::Number;
 use command_ends::Fault;
-use folders::{FolderFault, Folders, Paper, Stamp};
+use folders::{FolderFault, Folders, NamedFile, Stamp};
 use saved_rows::Rows;
 use station::Station;
 use std::alloc::Global;
@@ -203,7 +203,7 @@ fn ask_all<R: Rows, N: Wire, F: Folders, E: Write>(
     station: &mut Station<R>,
     wire: &mut N,
     folders: &mut F,
-    waits: &mut Vec<Paper>,
+    waits: &mut Vec<NamedFile>,
     book: &mut OfferBook,
     now: u64,
     err: &mut E,
@@ -220,7 +220,7 @@ fn ask_all<R: Rows, N: Wire, F: Folders, E: Write>(
 /// Writes the files that wait, and looks at the offers; whether the file that ends the run lies there.
 fn write_and_look<F: Folders, E: Write>(
     folders: &mut F,
-    waits: &mut Vec<Paper>,
+    waits: &mut Vec<NamedFile>,
     book: &mut OfferBook,
     now: u64,
     err: &mut E,
@@ -236,7 +236,7 @@ pub(crate) fn look<R: Rows, N: Wire, F: Folders, E: Write>(
     station: &mut Station<R>,
     wire: &mut N,
     folders: &mut F,
-    waits: &mut Vec<Paper>,
+    waits: &mut Vec<NamedFile>,
     book: &mut OfferBook,
     now: u64,
     err: &mut E,

@@ -10,7 +10,7 @@ use crate::pauses::{LAST_PAUSE, LOOK, TELL, has_passed};
 use crate::watch::{Watched, index_of, is_whole};
 use crate::wishes::Asked;
 use ballots::Number;
-use folders::{Folders, Paper, Stamp};
+use folders::{Folders, NamedFile, Stamp};
 use node_core::Note;
 use saved_rows::Rows;
 use station::{Answer, Release, Station, StepRefusal};
@@ -272,7 +272,7 @@ impl OfferBook {
     pub(crate) fn write<F: Folders, E: Write>(
         &mut self,
         folders: &mut F,
-        waits: &mut Vec<Paper>,
+        waits: &mut Vec<NamedFile>,
         err: &mut E,
     )
         ensures { Keeps (F.written folders.old) (F.written folders.new) waits.old.items waits.new.items [] }

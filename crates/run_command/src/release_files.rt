@@ -7,7 +7,7 @@ ghost use Rattle.station.specs.Readiness.{slugs_of};
 ghost use Rattle.run_command.specs.Filing.{file, galley_text, release_files, files_of};
 
 use command_ends::CauseText;
-use folders::Paper;
+use folders::NamedFile;
 use line_check::{SetFault, Slug, galley};
 use station::Release;
 use std::alloc::{AllocError, Global};
@@ -21,11 +21,11 @@ pub(crate) fn file_name(alloc: Global, number: u32, kind: &str) -> Result<String
 }
 
 /// A file of this number and kind.
-fn file(alloc: Global, number: u32, kind: &str, bytes: Vec<u8>) -> Result<Paper, AllocError>
+fn file(alloc: Global, number: u32, kind: &str, bytes: Vec<u8>) -> Result<NamedFile, AllocError>
     ensures { IfOk result (λ p. p ≡ file number kind.now bytes.items) }
 {
     let name = file_name(alloc, number, kind)?;
-    Ok(Paper::new(name, bytes))
+    Ok(NamedFile::new(name, bytes))
 }
 
 /// The text of slugs, a line for each.
@@ -58,7 +58,7 @@ fn galley_text(alloc: Global, set: &Result<Vec<Slug>, SetFault>) -> Result<Vec<u
 }
 
 /// The file of a number's frames.
-fn tape_file(alloc: Global, number: u32, tape: &Tape) -> Result<Paper, AllocError>
+fn tape_file(alloc: Global, number: u32, tape: &Tape) -> Result<NamedFile, AllocError>
     ensures { IfOk result (λ p. p ≡ file number (codes ".tape") tape.now) }
 {
     let frames = Vec::from_slice(alloc, tape.frames())?;
@@ -70,7 +70,7 @@ fn galley_file(
     alloc: Global,
     number: u32,
     set: &Result<Vec<Slug>, SetFault>,
-) -> Result<Paper, AllocError>
+) -> Result<NamedFile, AllocError>
     ensures { IfOk result (λ p. p ≡ file number (codes ".galley") (galley_text (slugs_of set.now))) }
 {
     let text = galley_text(alloc, set)?;
@@ -78,10 +78,10 @@ fn galley_file(
 }
 
 /// Lets a file wait behind the others.
-fn wait_for(waits: &mut Vec<Paper>, paper: Paper) -> Result<(), AllocError>
-    ensures { OnOk result (waits.new.items ≡ waits.old.items ++ paper ∷ []) }
+fn wait_for(waits: &mut Vec<NamedFile>, named: NamedFile) -> Result<(), AllocError>
+    ensures { OnOk result (waits.new.items ≡ waits.old.items ++ named ∷ []) }
 {
-    match waits.push(paper) {
+    match waits.push(named) {
         Ok(()) => Ok(()),
         Err(_) => Err(AllocError),
     }
@@ -93,7 +93,7 @@ fn keep_tape(
     number: u32,
     tape: &Tape,
     set: &Result<Vec<Slug>, SetFault>,
-    waits: &mut Vec<Paper>,
+    waits: &mut Vec<NamedFile>,
 ) -> Result<(), AllocError>
     ensures { OnOk result (waits.new.items ≡ waits.old.items ++ (file number (codes ".tape") tape.now ∷ file number (codes ".galley") (galley_text (slugs_of set.now)) ∷ [])) }
 {
@@ -104,7 +104,7 @@ fn keep_tape(
 }
 
 /// Lets the file of a withdrawal wait behind the others. It is empty.
-fn keep_void(alloc: Global, number: u32, waits: &mut Vec<Paper>) -> Result<(), AllocError>
+fn keep_void(alloc: Global, number: u32, waits: &mut Vec<NamedFile>) -> Result<(), AllocError>
     ensures { OnOk result (waits.new.items ≡ waits.old.items ++ (file number (codes ".void") [] ∷ [])) }
 {
     let empty = file(alloc, number, ".void", Vec::new(alloc))?;
@@ -112,7 +112,7 @@ fn keep_void(alloc: Global, number: u32, waits: &mut Vec<Paper>) -> Result<(), A
 }
 
 /// Lets the files of a release wait behind the others.
-fn keep(alloc: Global, release: &Release, waits: &mut Vec<Paper>) -> Result<(), AllocError>
+fn keep(alloc: Global, release: &Release, waits: &mut Vec<NamedFile>) -> Result<(), AllocError>
     ensures { OnOk result (waits.new.items ≡ waits.old.items ++ release_files release.now) }
 {
     let number = release.number.get();
@@ -126,7 +126,7 @@ fn keep(alloc: Global, release: &Release, waits: &mut Vec<Paper>) -> Result<(), 
 pub(crate) fn keep_any(
     alloc: Global,
     release: &Option<Release>,
-    waits: &mut Vec<Paper>,
+    waits: &mut Vec<NamedFile>,
 ) -> Result<(), AllocError>
     ensures { OnOk result (waits.new.items ≡ waits.old.items ++ files_of release.now) }
 {

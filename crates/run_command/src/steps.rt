@@ -14,7 +14,7 @@ use crate::offer_book::OfferBook;
 use crate::release_files::keep_any;
 use crate::wishes::ask;
 use command_ends::Fault;
-use folders::{Folders, Paper};
+use folders::{Folders, NamedFile};
 use saved_rows::Rows;
 use serve_command::{Outcome, pass_over, send_answer, take_datagram, tell_strangers};
 use station::{Answer, Station, StepRefusal};
@@ -27,7 +27,7 @@ fn hand_on<R: Rows, N: Wire, F: Folders, E: Write>(
     answer: &Answer,
     wire: &mut N,
     folders: &mut F,
-    waits: &mut Vec<Paper>,
+    waits: &mut Vec<NamedFile>,
     book: &mut OfferBook,
     now: u64,
     err: &mut E,
@@ -51,7 +51,7 @@ fn take_in<R: Rows, N: Wire, F: Folders, E: Write>(
     station: &mut Station<R>,
     wire: &mut N,
     folders: &mut F,
-    waits: &mut Vec<Paper>,
+    waits: &mut Vec<NamedFile>,
     book: &mut OfferBook,
     now: u64,
     buffer: &mut [u8],
@@ -76,7 +76,7 @@ fn see_to_due<R: Rows, N: Wire, F: Folders, E: Write>(
     station: &mut Station<R>,
     wire: &mut N,
     folders: &mut F,
-    waits: &mut Vec<Paper>,
+    waits: &mut Vec<NamedFile>,
     book: &mut OfferBook,
     now: u64,
     err: &mut E,
@@ -95,7 +95,7 @@ pub(crate) fn turn<R: Rows, N: Wire, F: Folders, E: Write>(
     station: &mut Station<R>,
     wire: &mut N,
     folders: &mut F,
-    waits: &mut Vec<Paper>,
+    waits: &mut Vec<NamedFile>,
     book: &mut OfferBook,
     now: u64,
     buffer: &mut [u8],
@@ -148,7 +148,7 @@ pub(crate) fn ask_at<R: Rows, N: Wire, F: Folders, E: Write>(
     station: &mut Station<R>,
     wire: &mut N,
     folders: &mut F,
-    waits: &mut Vec<Paper>,
+    waits: &mut Vec<NamedFile>,
     book: &mut OfferBook,
     place: usize,
     now: u64,

@@ -11,7 +11,7 @@ use crate::names::STOP;
 use crate::offer_book::OfferBook;
 use crate::steps::turn;
 use command_ends::{End, Fault};
-use folders::{Folders, Paper};
+use folders::{Folders, NamedFile};
 use saved_rows::Rows;
 use serve_command::BUFFER;
 use station::{Station, StepRefusal};
@@ -24,7 +24,7 @@ fn turn_and_look<R: Rows, N: Wire, F: Folders, E: Write>(
     station: &mut Station<R>,
     wire: &mut N,
     folders: &mut F,
-    waits: &mut Vec<Paper>,
+    waits: &mut Vec<NamedFile>,
     book: &mut OfferBook,
     now: u64,
     buffer: &mut [u8],
@@ -46,7 +46,7 @@ fn timed_turn<R: Rows, N: Wire, F: Folders, E: Write>(
     station: &mut Station<R>,
     wire: &mut N,
     folders: &mut F,
-    waits: &mut Vec<Paper>,
+    waits: &mut Vec<NamedFile>,
     book: &mut OfferBook,
     buffer: &mut [u8],
     err: &mut E,
@@ -63,7 +63,7 @@ fn take_turns<R: Rows, N: Wire, F: Folders, E: Write>(
     station: &mut Station<R>,
     wire: &mut N,
     folders: &mut F,
-    waits: &mut Vec<Paper>,
+    waits: &mut Vec<NamedFile>,
     book: &mut OfferBook,
     buffer: &mut [u8],
     err: &mut E,
@@ -85,7 +85,7 @@ fn start<R: Rows, N: Wire, F: Folders, E: Write>(
     station: &mut Station<R>,
     wire: &mut N,
     folders: &mut F,
-    waits: &mut Vec<Paper>,
+    waits: &mut Vec<NamedFile>,
     quiet: bool,
     buffer: &mut [u8],
     err: &mut E,

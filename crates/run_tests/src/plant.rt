@@ -91,8 +91,8 @@ fn place_word(to: Option<Place>) -> &'static str {
 /// Writes what folders hold; whether there was memory for it.
 fn write_folders(folders: &MemoryFolders, text: &mut Vec<u8>) -> bool {
     let mut is_whole = true;
-    for paper in folders.filed() {
-        let (name, count) = (paper.name(), paper.bytes().len());
+    for named in folders.filed() {
+        let (name, count) = (named.name(), named.bytes().len());
         is_whole &= writeln!(text, "wrote {name} {count}").is_ok();
     }
     for moved in folders.moved() {

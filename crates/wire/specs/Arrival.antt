@@ -1,7 +1,7 @@
 -- What came, and that it fits the buffer.
 use Rattle.std.specs.Prelude.{ℕ, ◌≤◌, List, [], ◌∷◌, take}
-use Rattle.wire.specs.declared.arrival.Arrival.{Arrival}
-use Rattle.wire.specs.declared.arrival.Arrival.TheVariants as arrivals
+use Rattle.wire.specs.declared.wire.Arrival.{Arrival}
+use Rattle.wire.specs.declared.wire.Arrival.TheVariants as arrivals
 use Rattle.wire.specs.Passing.{Passed, came}
 
 -- a datagram is no longer than the buffer

@@ -4,8 +4,8 @@ use Rattle.std.specs.List.{All, Any}
 use Rattle.std.specs.declared.net.socket_addr.SocketAddr.{SocketAddr}
 use Rattle.wire.specs.Addresses.{IsAt}
 use Rattle.wire.specs.declared.address.Address.{Address}
-use Rattle.wire.specs.declared.arrival.Arrival.{Arrival}
-use Rattle.wire.specs.declared.arrival.Arrival.TheVariants as arrivals
+use Rattle.wire.specs.declared.wire.Arrival.{Arrival}
+use Rattle.wire.specs.declared.wire.Arrival.TheVariants as arrivals
 use Rattle.wire.specs.declared.strangers.Strangers.{Strangers}
 
 -- how many were counted, and one more, as far as there are numbers

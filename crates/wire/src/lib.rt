@@ -2,11 +2,11 @@
 #![tactic(auto)]
 
 mod address;
-mod arrival;
 mod strangers;
 mod udp;
+mod wire;
 
 pub use address::Address;
-pub use arrival::{Arrival, Wire};
 pub use strangers::Strangers;
 pub use udp::UdpWire;
+pub use wire::{Arrival, Wire};

@@ -7,8 +7,8 @@ ghost use Rattle.wire.specs.Strangers.{Admits, kept_after, later};
 ghost use Rattle.wire.specs.Passing.{Passes};
 
 use crate::address::{Address, is_among};
-use crate::arrival::{Arrival, Wire};
 use crate::strangers::{Strangers, Untold};
+use crate::wire::{Arrival, Wire};
 use ballots::Member;
 use std::io;
 use std::io::ErrorKind;

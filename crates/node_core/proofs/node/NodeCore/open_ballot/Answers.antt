@@ -10,10 +10,10 @@ use Rattle.node_core.proofs.node.NodeCore.open_ballot.Goals as goal
 pub returns-in-None-clause-value : goal.returns-in-None-clause-value
 returns-in-None-clause-value c = λ marks h.
     none_in_hand c.args.self.now.members c.args.number marks
-    (stands_there c.args.self.now c.self.inside.desks c.args.number None marks (ap (λ (v : Core). v.desks) c.self.view_is) (c.in-None.ensures.value ∙ ap (get nat_cmp c.self.inside.desks) c.get.ensures.value) h)
+    (stands_there c.args.self.now c.self.inside.instances c.args.number None marks (ap (λ (v : Core). v.instances) c.self.view_is) (c.in-None.ensures.value ∙ ap (get nat_cmp c.self.inside.instances) c.get.ensures.value) h)
 
 pub returns-in-Some-clause-value : goal.returns-in-Some-clause-value
 returns-in-Some-clause-value c = λ marks h.
-    let s = stands_there c.args.self.now c.self.inside.desks c.args.number (Some c.deref.result.now) marks (ap (λ (v : Core). v.desks) c.self.view_is)
-    (ap Some (c.deref.ensures ∙ c.boxed.view_is) ∙ c.in-Some.ensures.value ∙ ap (get nat_cmp c.self.inside.desks) c.get.ensures.value) h in
+    let s = stands_there c.args.self.now c.self.inside.instances c.args.number (Some c.deref.result.now) marks (ap (λ (v : Core). v.instances) c.self.view_is)
+    (ap Some (c.deref.ensures ∙ c.boxed.view_is) ∙ c.in-Some.ensures.value ∙ ap (get nat_cmp c.self.inside.instances) c.get.ensures.value) h in
     c.open_ballot.ensures marks s.1 ∙ ap (λ n. open_ballot n marks) s.0

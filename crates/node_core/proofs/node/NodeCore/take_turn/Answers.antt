@@ -2,7 +2,7 @@
 use Rattle.std.proofs.Common.{sym, subst, ◌∙◌, None}
 use Rattle.std.specs.Prelude.{if◌then◌else◌}
 use Rattle.std.proofs.lemmas.Result.{err_from_is_err_and, MatchResult-from_err}
-use Rattle.node_core.specs.Standing.{Moves, desk_at, seat_of}
+use Rattle.node_core.specs.Standing.{Moves, instance_at, seat_of}
 use Rattle.node_core.proofs.Calling.{turn_so, released_stirs}
 use Rattle.node_core.proofs.node.NodeCore.take_turn.Goals as goal
 
@@ -15,7 +15,7 @@ returns-clause-ok c = λ marks h.
       is_the_turn = t.is_the_turn;
       took = record {
         is_turn = t.holds.is_turn;
-        stands = t.holds.settled c.settle.new.self (subst (λ r. Moves c.act.new.self c.number-number.result (if r then None else desk_at c.act.new.self c.number-number.result) r c.settle.new.self) c.is_some.ensures c.in_ok-settle.ensures.moves);
+        stands = t.holds.settled c.settle.new.self (subst (λ r. Moves c.act.new.self c.number-number.result (if r then None else instance_at c.act.new.self c.number-number.result) r c.settle.new.self) c.is_some.ensures c.in_ok-settle.ensures.moves);
       };
     }
 
