@@ -8,13 +8,14 @@ use Rattle.row_table.specs.Rows.{stored, AreRows}
 use Rattle.row_table.specs.Entries.{entry_row, with_entries}
 use Rattle.row_table.specs.declared.entries.EntryColumns.{EntryColumns}
 use Rattle.protocol.specs.Rows.{Row}
+use Rattle.protocol.specs.Limits.{last_number}
 use Rattle.saved_rows.specs.Saved.{Saved, SameRows, IsListOf}
 use Rattle.row_columns.specs.Columns.{columns_for, ComesBack, saved_at, AreSound}
 
 -- an entry is a circuit number with its row, in the columns of layout 2, out of which the row comes back
 pub record IsEntryOf (item : ℕ × Row) (entry : EntryColumns) : Type 0 where
   pub low : 1 ≤ item.0
-  pub high : item.0 ≤ 999999
+  pub high : item.0 ≤ last_number
   pub columns : entry_row entry ≡ stored item.0 (columns_for (Second Upgraded) item.1)
   pub back : ComesBack (Second Upgraded) item.1
 

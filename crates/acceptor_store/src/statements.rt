@@ -9,6 +9,7 @@ ghost use Rattle.row_table.specs.Tables.{Origin, layout_tree};
 ghost use Rattle.row_table.specs.Tables.Layout.{First, Second};
 ghost use Rattle.row_table.specs.Rows.{Serves, SavesIn, WasSaved, WasKept};
 ghost use Rattle.protocol.specs.Versions.{One};
+ghost use Rattle.protocol.specs.Limits.{last_number};
 ghost use Rattle.saved_rows.specs.Saved.{HasPromise, RowFits, AreFitting, IsListOf};
 ghost use Rattle.row_columns.specs.Columns.{version_in, columns_for, saved_in, AreSound, ComesBack};
 ghost use Rattle.row_columns.specs.Layouts.{layout_of};
@@ -119,7 +120,7 @@ pub(crate) fn save<S: Alter>(
     // The columns are the row again.
     ensures back { OnOk result (ComesBack (layout_of layout) row.now) }
     ensures low { 1 ≤ number }
-    ensures high { number ≤ 999999 }
+    ensures high { number ≤ last_number }
 {
     // Which numbers there are is known once it is read.
     let _key = number.get();

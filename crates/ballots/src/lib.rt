@@ -11,7 +11,7 @@ mod vote;
 
 pub use ballot::Ballot;
 pub use majorities::majority;
-pub use member::Member;
+pub use member::{MOST_MEMBERS, Member};
 pub use number::Number;
 pub use row::Row;
 pub use vote::{Vote, VoteRef};

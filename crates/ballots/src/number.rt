@@ -1,6 +1,7 @@
 //! The numbers that name the tapes of a circuit.
 
 ghost use Rattle.std.specs.Prelude.{◌≡◌, ◌≤◌, IsSome, IfSome, ◌↔◌};
+ghost use Rattle.protocol.specs.Limits.{last_number};
 
 use std::marker::Model;
 
@@ -12,12 +13,13 @@ pub struct Number {
 
 impl Model for Number {
     ghost use Rattle.std.specs.Prelude.{ℕ, ◌≤◌};
+    ghost use Rattle.protocol.specs.Limits.{last_number};
 
     ghost Value = { ℕ };
 
     ghost view = { λ m. m.value };
 
-    ghost invariant = { λ m. (1 ≤ m.value) × (m.value ≤ 999999) };
+    ghost invariant = { λ m. (1 ≤ m.value) × (m.value ≤ last_number) };
 
     ghost inverse = { λ n. record { value = n } };
 }
@@ -27,7 +29,7 @@ impl Number {
 
     /// The circuit number of this value; `None` outside 1 to 999,999.
     pub fn new(value: u32) -> Option<Number>
-        ensures some { IsSome result ↔ ((1 ≤ value) × (value ≤ 999999)) }
+        ensures some { IsSome result ↔ ((1 ≤ value) × (value ≤ last_number)) }
         ensures value { IfSome result (λ n. n ≡ value) }
     {
         if 1 <= value && value <= Number::LAST {
@@ -41,7 +43,7 @@ impl Number {
     pub fn get(self) -> u32
         ensures value { result ≡ self }
         ensures low { 1 ≤ result }
-        ensures high { result ≤ 999999 }
+        ensures high { result ≤ last_number }
     {
         self.value
     }

@@ -15,7 +15,7 @@ use toml::{Table, Value};
 const LAST_CIRCUIT: u16 = 65535;
 
 /// The most stations of a circuit, and the last member.
-const MOST: u16 = 15;
+const MOST: u16 = Member::LAST as u16;
 
 /// The paths of three files.
 #[derive(Clone, Copy)]

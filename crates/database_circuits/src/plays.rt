@@ -1,6 +1,7 @@
 //! A circuit over databases that is played from its beginning.
 
 ghost use Rattle.std.specs.Prelude.{◌≡◌, ◌≤◌, IfOk, IfErr, length, map};
+ghost use Rattle.protocol.specs.Limits.{most_members};
 ghost use Rattle.tape_frames.specs.Entries.{version_of};
 ghost use Rattle.world.specs.Founding.{AreAt, AreNewlyMade, given_of};
 ghost use Rattle.world.specs.Playing.{IsUnplayed, Plays};
@@ -14,7 +15,7 @@ use sqlite::{Connection, MemStore};
 use std::alloc::{AllocError, Global};
 use tape_frames::Version;
 use widths::Widths;
-use world::{PlayFault, Played, Step, play};
+use world::{PlayFault, Played, Step, member_count, play};
 
 /// These members, each with rows at this version in a database of its own, which lies in memory.
 fn with_databases(
@@ -25,7 +26,7 @@ fn with_databases(
     members: Vec<(CodeTable, Widths)>,
 ) -> Result<Vec<(CodeTable, Widths, SqliteRows<MemStore>)>, AllocError>
     requires many { length members.items ≤ count }
-    requires few { count ≤ 15 }
+    requires few { count ≤ most_members }
     ensures new { IfOk result (λ v. AreNewlyMade ⟦<SqliteRows<MemStore> as Rows>⟧ v.items) }
     ensures at { IfOk result (λ v. AreAt ⟦<SqliteRows<MemStore> as Rows>⟧.version (λ _. version_of version) v.items) }
     ensures given { IfOk result (λ v. map given_of v.items ≡ members.items) }
@@ -68,9 +69,8 @@ pub fn play_in_databases(
     ensures stops { IfOk result (λ p. IfErr p.run (StopsAt steps.now p.world)) }
     ensures agreed { IfOk result (λ p. Agreed p.world) }
 {
-    let count = match u8::try_from(members.len()) {
-        Ok(count) if 1 <= count && count <= 15 => count,
-        _ => return Err(PlayFault::BadCount),
+    let Some(count) = member_count(members.len()) else {
+        return Err(PlayFault::BadCount);
     };
     let Ok(members) = with_databases(alloc, circuit, count, version, members) else {
         return Err(PlayFault::OutOfMemory);

@@ -5,6 +5,7 @@ ghost use Rattle.protocol.specs.Ballots.{is_below, members as all_members};
 ghost use Rattle.protocol.specs.Rows.{Vote as VoteValue};
 ghost use Rattle.protocol.specs.Marks.{Mark, Heard as HeardMark};
 ghost use Rattle.protocol.specs.Learner.{latest, ripe, votes_at};
+ghost use Rattle.protocol.specs.Limits.{most_members};
 ghost use Rattle.learner.specs.Latest.{StandsFor, latest_votes, least_at};
 ghost use Rattle.learner.specs.Slots.{is_newer, kept, slot_of, nothing_heard, opened, written, ripe_in, least_in};
 ghost use Rattle.tape_frames.specs.Entries.{lent_entry, owned_entry};
@@ -12,13 +13,13 @@ ghost use Rattle.tape_frames.specs.Entries.{lent_entry, owned_entry};
 use crate::slot::Slot;
 use arrayvec::ArrayVec;
 use ballots::laws::slots_of_members;
-use ballots::{Ballot, Member, Vote, majority};
+use ballots::{Ballot, MOST_MEMBERS, Member, Vote, majority};
 use std::alloc::{AllocError, Global};
 use std::marker::Model;
 use tape_frames::{Entry, EntryRef};
 
 /// Of each member, in rising order, the vote that was heard. As many are used as the circuit has members.
-type Slots = ArrayVec<Slot, 15>;
+type Slots = ArrayVec<Slot, MOST_MEMBERS>;
 
 /// The votes for one number that were heard since the station's start: of each member the one of greatest ballot.
 ///
@@ -36,17 +37,18 @@ impl Model for Heard {
     ghost use Rattle.std.specs.Prelude.{◌≡◌};
     ghost use Rattle.learner.specs.Latest.{LatestVotes};
     ghost use Rattle.learner.specs.Slots.{opened};
+    ghost use Rattle.protocol.specs.Limits.{most_members};
 
     ghost Value = { LatestVotes };
 
     ghost view = { λ h. record { members = length (opened h.members h.slots); votes = opened h.members h.slots } };
 
-    ghost invariant = { λ h. (h.members ≤ 15) × (length (opened h.members h.slots) ≡ h.members) };
+    ghost invariant = { λ h. (h.members ≤ most_members) × (length (opened h.members h.slots) ≡ h.members) };
 }
 
 /// A slot for each of so many members, with nothing heard.
 fn empty_slots(members: u8) -> Slots
-    requires { members ≤ 15 }
+    requires { members ≤ most_members }
     ensures items { result.items ≡ nothing_heard members }
     ensures many { length result.items ≡ members }
 {
@@ -60,7 +62,7 @@ fn empty_slots(members: u8) -> Slots
 /// The slots, lent; none as long as no vote is kept.
 fn lent(slots: &Option<Box<Slots>>) -> &[Slot]
     ensures value { result.now ≡ written slots.now }
-    ensures few { length result.now ≤ 15 }
+    ensures few { length result.now ≤ most_members }
 {
     match slots {
         None => &[],
@@ -82,7 +84,7 @@ fn are_empty(slots: &[Slot]) -> bool
 
 /// How many slots have a vote at the ballot.
 fn count_at(slots: &[Slot], ballot: Ballot) -> u8
-    requires { length slots.now ≤ 15 }
+    requires { length slots.now ≤ most_members }
     ensures { result ≡ count_by (votes_at ballot) slots.now }
 {
     let mut count = 0;
@@ -96,7 +98,7 @@ fn count_at(slots: &[Slot], ballot: Ballot) -> u8
 
 /// The ballot of the least member's vote at whose ballot the votes of a majority stand.
 fn majority_at(slots: &[Slot]) -> Option<Ballot>
-    requires { length slots.now ≤ 15 }
+    requires { length slots.now ≤ most_members }
     ensures { result ≡ option_map (λ (v : VoteValue). v.ballot) (ripe_in slots.now) }
 {
     for slot in slots {
@@ -112,7 +114,7 @@ fn majority_at(slots: &[Slot]) -> Option<Ballot>
 
 /// How many slots have a vote.
 fn count_votes(slots: &[Slot]) -> u8
-    requires { length slots.now ≤ 15 }
+    requires { length slots.now ≤ most_members }
     ensures { result ≡ count_by is_some slots.now }
 {
     let mut votes = 0;
@@ -126,7 +128,7 @@ fn count_votes(slots: &[Slot]) -> u8
 
 /// The same as `majority_at`, where so few slots have votes that no ballot has a majority without a look at each ballot.
 fn chosen_at(slots: &[Slot]) -> Option<Ballot>
-    requires { length slots.now ≤ 15 }
+    requires { length slots.now ≤ most_members }
     ensures { result ≡ option_map (λ (v : VoteValue). v.ballot) (ripe_in slots.now) }
 {
     if majority(count_votes(slots), slots.len() as u8) {
@@ -214,7 +216,7 @@ fn keep(
     ballot: Ballot,
     entry: EntryRef<'_>,
 ) -> Result<(), AllocError>
-    requires few { members ≤ 15 }
+    requires few { members ≤ most_members }
     requires member { member ≤ length (opened members slots.old) }
     ensures kept { OnOk result (opened members slots.new ≡ kept (opened members slots.old) member ballot (lent_entry entry.entry)) }
     ensures written { OnOk result (written slots.new ≡ opened members slots.new) }
@@ -236,7 +238,7 @@ impl Heard {
     /// Nothing was heard yet, in a circuit of so many members.
     pub fn new(alloc: Global, members: u8) -> Heard
         requires low { 1 ≤ members }
-        requires high { members ≤ 15 }
+        requires high { members ≤ most_members }
         ensures members { result.members ≡ members }
         ensures stands { (n : ℕ) → StandsFor result n [] }
     {

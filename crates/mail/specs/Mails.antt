@@ -7,6 +7,7 @@ use Rattle.protocol.specs.Packets.{Packet, Prepare, Promise, Accept, Accepted, N
 use Rattle.protocol.specs.Turn.{packet_to, to_others}
 use Rattle.packets.specs.Rules.{keeps_rules}
 use Rattle.protocol.specs.Seats.{Seat}
+use Rattle.protocol.specs.Limits.{most_sent}
 use Rattle.mail.specs.declared.letter.Letter.{Letter}
 use Rattle.mail.specs.declared.letter.Letter.TheVariants as letters
 
@@ -50,4 +51,4 @@ MayGo s n b (letters.Nack to promised) = IsTrue (keeps_rules (packet_to s n b (N
 
 -- two packets go out to each of 14 others at most
 abbrev pub IsFew : Option Mail → Type 0
-IsFew mail = (vote : Option Vote) → length (mail_sends mail vote) ≤ 28
+IsFew mail = (vote : Option Vote) → length (mail_sends mail vote) ≤ most_sent

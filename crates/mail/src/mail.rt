@@ -3,6 +3,7 @@
 ghost use Rattle.std.specs.Prelude.{◌≡◌, ℕ, ◌≤◌, ◌<◌, ◌+◌, ◌++◌, ◌∷◌, [], Some, IsTrue, length, slice_get};
 ghost use Rattle.protocol.specs.Packets.{Accept, Accepted};
 ghost use Rattle.protocol.specs.Turn.{packet_to, to_others, others};
+ghost use Rattle.protocol.specs.Limits.{most_members};
 ghost use Rattle.packets.specs.Bodies.{said};
 ghost use Rattle.tape_frames.specs.Entries.{lent_entry};
 ghost use Rattle.packets.specs.Rules.{keeps_rules, may_send, kind_of, may_say};
@@ -39,7 +40,7 @@ impl Model for Mail {
 /// The member of this number.
 fn member(number: u8) -> Member
     requires low { 1 ≤ number }
-    requires high { number ≤ 15 }
+    requires high { number ≤ most_members }
     ensures { result ≡ number }
 {
     match Member::new(number) {
@@ -85,7 +86,7 @@ impl Mail {
     /// The member that sends it.
     fn me(&self) -> Member
         ensures value { result ≡ self.now.seat.me }
-        ensures member { (1 ≤ self.now.seat.me) × (self.now.seat.me ≤ self.now.seat.members) × (self.now.seat.members ≤ 15) }
+        ensures member { (1 ≤ self.now.seat.me) × (self.now.seat.me ≤ self.now.seat.members) × (self.now.seat.members ≤ most_members) }
     {
         self.seat.me()
     }

@@ -1,6 +1,7 @@
 //! Where a station sits.
 
 ghost use Rattle.std.specs.Prelude.{◌≡◌, ◌≤◌};
+ghost use Rattle.protocol.specs.Limits.{most_members};
 
 use ballots::Member;
 use std::marker::Model;
@@ -16,12 +17,13 @@ pub struct Seat {
 impl Model for Seat {
     ghost use Rattle.std.specs.Prelude.{◌≤◌};
     ghost use Rattle.protocol.specs.Seats.{Seat as SeatValue};
+    ghost use Rattle.protocol.specs.Limits.{most_members};
 
     ghost Value = { SeatValue };
 
     ghost view = { λ s. record { circuit = s.circuit; me = s.me; members = s.members } };
 
-    ghost invariant = { λ s. (1 ≤ s.me) × (s.me ≤ s.members) × (s.members ≤ 15) };
+    ghost invariant = { λ s. (1 ≤ s.me) × (s.me ≤ s.members) × (s.members ≤ most_members) };
 
     ghost inverse = { λ s. record { circuit = s.circuit; me = s.me; members = s.members } };
 }
@@ -30,7 +32,7 @@ impl Seat {
     /// The seat of a member, in a circuit of at most 15.
     pub fn new(circuit: u16, me: Member, members: u8) -> Seat
         requires member { me ≤ members }
-        requires few { members ≤ 15 }
+        requires few { members ≤ most_members }
         ensures { result ≡ record { circuit = circuit; me = me; members = members } }
     {
         // The member is one at least.
@@ -52,7 +54,7 @@ impl Seat {
     /// The member.
     pub fn me(self) -> Member
         ensures value { result ≡ self.me }
-        ensures member { (1 ≤ self.me) × (self.me ≤ self.members) × (self.members ≤ 15) }
+        ensures member { (1 ≤ self.me) × (self.me ≤ self.members) × (self.members ≤ most_members) }
     {
         self.me
     }
@@ -61,7 +63,7 @@ impl Seat {
     pub fn members(self) -> u8
         ensures value { result ≡ self.members }
         ensures low { 1 ≤ result }
-        ensures few { result ≤ 15 }
+        ensures few { result ≤ most_members }
     {
         self.members
     }

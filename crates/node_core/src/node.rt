@@ -4,6 +4,7 @@ ghost use Rattle.std.specs.Prelude.{◌≡◌, ◌≤◌, List, [], None, Err, I
 ghost use Rattle.protocol.specs.Marks.{Mark};
 ghost use Rattle.protocol.specs.Proposals.{was_released, open_ballot, next_due};
 ghost use Rattle.protocol.specs.Turn.{number_of};
+ghost use Rattle.protocol.specs.Limits.{most_members, most_sent};
 ghost use Rattle.node_core.specs.Calls.{MayCome, TookTurn, RefusesEvent, Refuses, MayTakeMemory};
 ghost use Rattle.node_core.specs.Handling.{Acts};
 ghost use Rattle.node_core.specs.Standing.{StandsFor, Kept, Moves, IsInstanceOf, IsSameSeat, seat_of, instance_at, fresh};
@@ -46,7 +47,7 @@ impl NodeCore {
     /// The core of a member of a circuit that just started.
     pub fn new(alloc: Global, circuit: u16, me: Member, members: u8) -> NodeCore
         requires low { 1 ≤ members }
-        requires high { members ≤ 15 }
+        requires high { members ≤ most_members }
         requires member { me ≤ members }
         ensures circuit { result.circuit ≡ circuit }
         ensures me { result.me ≡ me }
@@ -95,7 +96,7 @@ impl NodeCore {
     pub fn members(&self) -> u8
         ensures value { result ≡ self.now.members }
         ensures low { 1 ≤ result }
-        ensures few { result ≤ 15 }
+        ensures few { result ≤ most_members }
     {
         self.seat.members()
     }
@@ -241,7 +242,7 @@ impl NodeCore {
         requires arrived { MayCome self.old.me self.old.members event }
         ensures ok { IfOk result (λ x. (marks : List Mark) → StandsFor self.old marks → TookTurn self.old event.entry marks row.now x self.new) }
         ensures promised { IfOk result (λ x. IfSome x.row (λ r. IsSome r.promised)) }
-        ensures few { IfOk result (λ x. length (sent row.now x) ≤ 28) }
+        ensures few { IfOk result (λ x. length (sent row.now x) ≤ most_sent) }
         ensures quiet { IfOk result (λ x. is_quiet (note_value x.note) ≡ true → HandsNothing x) }
         ensures refused { IfErr result (λ e. Refuses e event.entry self.old row.now self.new) }
         ensures memory { IfErr result (λ e. e ≡ CoreRefusal.OutOfMemory → (marks : List Mark) → StandsFor self.old marks → MayTakeMemory self.old event.entry marks row.now) }

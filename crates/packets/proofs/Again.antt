@@ -6,7 +6,8 @@ use Rattle.std.proofs.lemmas.List.{take_at, drop_at, length-append}
 use Rattle.std.proofs.lemmas.Nat.{from_be_bytes-to_be_bytes_2, from_be_bytes-to_be_bytes_4}
 use Rattle.tape_frames.specs.Frames.{most_frames}
 use Rattle.tape_frames.specs.Packing.{packed_len, packing_of, pad_of}
-use Rattle.tape_frames.specs.Entries.{most_frames_one, entry_frames, IsEntry}
+use Rattle.tape_frames.specs.Entries.{entry_frames, IsEntry}
+use Rattle.protocol.specs.Limits.{most_frames_one}
 use Rattle.protocol.specs.Ballots.{Ballot, IsBallot, IsMember, is_below}
 use Rattle.protocol.specs.Entries.{Tape, Entry, Void, Taped}
 use Rattle.protocol.specs.Rows.{Vote}

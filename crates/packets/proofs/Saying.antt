@@ -4,7 +4,7 @@ use Rattle.std.specs.Prelude.{is_some, slice_index}
 use Rattle.std.proofs.lemmas.Bool.{ltb-false, eqb-true, not-false}
 use Rattle.std.proofs.lemmas.List.{length-take-le}
 use Rattle.tape_frames.specs.Frames.{tape_fault}
-use Rattle.tape_frames.specs.Entries.{most_frames_one}
+use Rattle.protocol.specs.Limits.{most_frames_one}
 use Rattle.protocol.specs.Ballots.{Ballot, is_below}
 use Rattle.protocol.specs.Entries.{Tape, Entry, Taped}
 use Rattle.protocol.specs.Rows.{Vote, vote_for}

@@ -6,7 +6,8 @@ use Rattle.std.proofs.lemmas.Bool.{ltb-false, leb-true, eqb-true, ne_eqb, and_pa
 use Rattle.std.proofs.lemmas.List.{take-append-drop, length-take-le, get_or-drop, append-nil}
 use Rattle.tape_frames.specs.Frames.{most_frames, tape_fault}
 use Rattle.tape_frames.specs.Packing.{AreBytes, Packs, none, packed_len, pad_of, unpacked, IsPacked}
-use Rattle.tape_frames.specs.Entries.{most_frames_one, entry_frames, IsEntry}
+use Rattle.tape_frames.specs.Entries.{entry_frames, IsEntry}
+use Rattle.protocol.specs.Limits.{most_frames_one}
 use Rattle.protocol.specs.Ballots.{Ballot, IsMember, is_below}
 use Rattle.protocol.specs.Entries.{Tape, Entry, Void, Taped}
 use Rattle.protocol.specs.Rows.{Vote, vote_for}

@@ -5,7 +5,7 @@ use Rattle.std.specs.List.{position_from}
 use Rattle.std.proofs.lemmas.Bool.{le-ltb, ltb-false, le-leb, leb-true, ne_eqb, eqb-false, and_parts}
 use Rattle.tape_frames.specs.Frames.{most_frames, AreFrames, IsTape, tape_fault}
 use Rattle.tape_frames.specs.declared.fault.TapeFault.TheVariants.{BadFrame}
-use Rattle.tape_frames.specs.Entries.{most_frames_one}
+use Rattle.protocol.specs.Limits.{most_frames_one}
 use Rattle.protocol.specs.Entries.{Tape, Taped}
 use Rattle.protocol.specs.Versions.{One}
 use Rattle.protocol.specs.Fitting.{Fits}

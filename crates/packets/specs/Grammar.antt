@@ -4,12 +4,13 @@
 use Rattle.std.specs.Prelude.{◌≡◌, ℕ, ◌+◌, ◌*◌, ◌<◌, ◌≤◌, ◌⊎◌, List, [], ◌∷◌, ◌++◌, length, slice_index, Some, None, IsTrue, ◌==◌, if◌then◌else◌}
 use Rattle.tape_frames.specs.Frames.{AreFrames}
 use Rattle.tape_frames.specs.Packing.{AreBytes, Packs}
-use Rattle.tape_frames.specs.Entries.{most_frames_one, entry_frames, IsEntry}
+use Rattle.tape_frames.specs.Entries.{entry_frames, IsEntry}
 use Rattle.protocol.specs.Ballots.{Ballot, IsBallot, IsMember}
 use Rattle.protocol.specs.Entries.{Tape, Entry, Void, Taped}
 use Rattle.protocol.specs.Rows.{Vote}
 use Rattle.protocol.specs.Versions.{Version, One, Two}
 use Rattle.protocol.specs.Packets.{Packet, Body, Prepare, Promise, Accept, Accepted, Nack}
+use Rattle.protocol.specs.Limits.{most_members, last_number, most_frames_one}
 use Rattle.packets.specs.Rules.{keeps_rules}
 
 -- a tape that version 1 spells: one frame or more, up to its most
@@ -104,11 +105,11 @@ pub record Spells (v : Version) (bytes : List ℕ) (p : Packet) : Type 0 where
       bytes
       ≡ 84 ∷ 78 ∷ number_of_version v ∷ number_of_kind p.body ∷ [] ++ circuit ++ p.from ∷ p.to ∷ [] ++ number ++ ballot ++ body
   pub spells_circuit : SpellsTwo circuit p.circuit
-  pub from_is_member : IsMember 15 p.from
-  pub to_is_member : IsMember 15 p.to
+  pub from_is_member : IsMember most_members p.from
+  pub to_is_member : IsMember most_members p.to
   pub spells_number : SpellsFour number p.number
   pub number_low : 1 ≤ p.number
-  pub number_high : p.number ≤ 999999
+  pub number_high : p.number ≤ last_number
   pub spells_ballot : SpellsBallot ballot p.ballot
   pub spells_body : SpellsBody v body p.body
   pub rules : IsTrue (keeps_rules p)
@@ -134,10 +135,10 @@ IsBody (Nack promised) = IsBallot promised
 -- what has a spelling in some version: each field is in its range, and the rules are kept
 pub record IsPacket (p : Packet) : Type 0 where
   pub circuit : p.circuit < 65536
-  pub from : IsMember 15 p.from
-  pub to : IsMember 15 p.to
+  pub from : IsMember most_members p.from
+  pub to : IsMember most_members p.to
   pub number_low : 1 ≤ p.number
-  pub number_high : p.number ≤ 999999
+  pub number_high : p.number ≤ last_number
   pub ballot : IsBallot p.ballot
   pub body : IsBody p.body
   pub rules : IsTrue (keeps_rules p)

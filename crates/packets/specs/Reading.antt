@@ -3,12 +3,12 @@ use Rattle.std.specs.Prelude.{◌≡◌, ℕ, zero, suc, ◌+◌, List, [], ◌�
 use Rattle.std.specs.Int.{w16, w32, from_be_bytes}
 use Rattle.tape_frames.specs.Frames.{most_frames, tape_fault}
 use Rattle.tape_frames.specs.Packing.{packed_len, pad_of, unpacked}
-use Rattle.tape_frames.specs.Entries.{most_frames_one}
 use Rattle.protocol.specs.Ballots.{Ballot, is_below}
 use Rattle.protocol.specs.Entries.{Tape, Entry, Void, Taped}
 use Rattle.protocol.specs.Rows.{Vote, vote_for}
 use Rattle.protocol.specs.Versions.{Version, One, Two}
 use Rattle.protocol.specs.Packets.{Packet, Body, Prepare, Promise, Accept, Accepted, Nack}
+use Rattle.protocol.specs.Limits.{most_members, is_number, most_frames_one}
 use Rattle.packets.specs.Rules.{may_send}
 use Rattle.packets.specs.Grammar.{number_of_version, said_version}
 use Rattle.packets.specs.declared.fault.PacketFault.{PacketFault}
@@ -60,7 +60,7 @@ kind_at v bytes =
 
 -- the member at this place
 unfoldable pub member_at : List ℕ → ℕ → Result ℕ PacketFault
-member_at bytes at = if nat_le 1 (slice_index bytes at) && nat_le (slice_index bytes at) 15 then Ok (slice_index bytes at) else Err BadMember
+member_at bytes at = if nat_le 1 (slice_index bytes at) && nat_le (slice_index bytes at) most_members then Ok (slice_index bytes at) else Err BadMember
 
 -- two members that differ
 unfoldable pub members_at : List ℕ → Result (ℕ × ℕ) PacketFault
@@ -71,12 +71,12 @@ members_at bytes = do
 
 -- the circuit number
 unfoldable pub number_at : List ℕ → Result ℕ PacketFault
-number_at bytes = if nat_le 1 (u32_at bytes 8) && nat_le (u32_at bytes 8) 999999 then Ok (u32_at bytes 8) else Err BadNumber
+number_at bytes = if is_number (u32_at bytes 8) then Ok (u32_at bytes 8) else Err BadNumber
 
 -- a round and an owner, where they are a ballot
 unfoldable pub ballot_at : List ℕ → ℕ → Option Ballot
 ballot_at bytes at =
-    if nat_le 1 (u32_at bytes at) && (nat_le 1 (slice_index bytes (at + 4)) && nat_le (slice_index bytes (at + 4)) 15)
+    if nat_le 1 (u32_at bytes at) && (nat_le 1 (slice_index bytes (at + 4)) && nat_le (slice_index bytes (at + 4)) most_members)
     then Some (record { round = u32_at bytes at; owner = slice_index bytes (at + 4) })
     else None
 

@@ -19,10 +19,7 @@ use crate::header::{HEADER_LEN, ballot_of, header_of, u16_of};
 use crate::laws::packings;
 use crate::packet::PacketRef;
 use ballots::{Ballot, VoteRef};
-use tape_frames::{EntryRef, MAX_FRAMES, PackedRef, TapeRef, Version, packed_len};
-
-/// The most frames of a tape that version 1 spells.
-const MAX_FRAMES_ONE: usize = 4096;
+use tape_frames::{EntryRef, MAX_FRAMES, MAX_FRAMES_ONE, PackedRef, TapeRef, Version, packed_len};
 
 #[tactic(auto, unfolding(crate::specs::Reading::frames_at))]
 fn frames_of(bytes: &[u8]) -> Result<(TapeRef<'_>, &[u8]), PacketFault>

@@ -2,18 +2,19 @@
 
 ghost use Rattle.std.specs.Prelude.{◌≡◌, ◌≤◌, ◌<◌, ◌+◌, ◌*◌, ◌-◌, Some, IfOk, IsOk, OnOk, OnErr, true, false, not, is_some, count_by, length, nat_lt, slice_set, option_copied, if◌then◌else◌};
 ghost use Rattle.protocol.specs.Proposals.{vote_above};
+ghost use Rattle.protocol.specs.Limits.{most_members};
 ghost use Rattle.proposer.specs.Slots.{nothing_counted, report_at, slots_with, vote_at};
 ghost use Rattle.proposer.specs.Greatest.{IsGreatest};
 
 use crate::slot::Slot;
 use arrayvec::ArrayVec;
 use ballots::laws::slots_of_members;
-use ballots::{Member, Vote, VoteRef, majority};
+use ballots::{MOST_MEMBERS, Member, Vote, VoteRef, majority};
 use std::alloc::{AllocError, Global};
 use std::marker::Model;
 
 /// Of each member, in rising order: what it reported, where it is counted. As many are used as the circuit has members.
-type Reports = ArrayVec<Slot, 15>;
+type Reports = ArrayVec<Slot, MOST_MEMBERS>;
 
 /// Of each member, in rising order: what it reported, where it is counted. Clauses see this list.
 #[derive(Drop)]
@@ -30,17 +31,18 @@ impl Model for Slots {
     ghost use Rattle.std.specs.Prelude.{◌≡◌, ◌≤◌, List, Option, length};
     ghost use Rattle.protocol.specs.Rows.{Vote as VoteValue};
     ghost use Rattle.proposer.specs.Slots.{slots_with};
+    ghost use Rattle.protocol.specs.Limits.{most_members};
 
     ghost Value = { List (Option (Option VoteValue)) };
 
     ghost view = { λ s. slots_with s.members s.me s.own s.slots };
 
-    ghost invariant = { λ s. (s.members ≤ 15) × (s.me ≤ s.members) × (length (slots_with s.members s.me s.own s.slots) ≡ s.members) };
+    ghost invariant = { λ s. (s.members ≤ most_members) × (s.me ≤ s.members) × (length (slots_with s.members s.me s.own s.slots) ≡ s.members) };
 }
 
 /// A slot for each of so many members, of whom none is counted.
 fn empty_slots(members: u8) -> Reports
-    requires { members ≤ 15 }
+    requires { members ≤ most_members }
     ensures items { result.items ≡ nothing_counted members }
     ensures many { length result.items ≡ members }
 {
@@ -76,7 +78,7 @@ fn spread(
     me: Member,
     own: &mut Option<Vote>,
 ) -> Result<Box<Reports>, AllocError>
-    requires few { members ≤ 15 }
+    requires few { members ≤ most_members }
     requires member { me ≤ members }
     ensures spread { IfOk result (λ slots. slots.value.items ≡ slice_set (nothing_counted members) (me - 1) (Some own.old)) }
     ensures own { OnErr result (own.new ≡ own.old) }
@@ -90,7 +92,7 @@ impl Slots {
     /// How many members there are.
     fn len(&self) -> u8
         ensures value { result ≡ length self.now }
-        ensures few { result ≤ 15 }
+        ensures few { result ≤ most_members }
     {
         self.members
     }
@@ -154,7 +156,7 @@ impl Slots {
 /// The slots of so many members, of whom this one alone is counted. It takes no memory.
 #[tactic(auto, using(crate::proofs::Alone::alone_many))]
 pub(crate) fn counted_alone(me: Member, members: u8, report: Option<Vote>) -> Slots
-    requires few { members ≤ 15 }
+    requires few { members ≤ most_members }
     requires member { me ≤ members }
     ensures items { result ≡ slice_set (nothing_counted members) (me - 1) (Some report) }
     ensures many { length result ≡ members }

@@ -7,6 +7,7 @@ ghost use Rattle.protocol.specs.Rows.{Row};
 ghost use Rattle.protocol.specs.Marks.{Mark, Began, Proposed, Denied};
 ghost use Rattle.protocol.specs.Proposals.{Opening, was_released, open_proposal, open_ballot, proposal_at, gathering_at, since_began, counted, entry_or, pick, due_moment};
 ghost use Rattle.protocol.specs.Turn.{greater_ballot, most_ballots};
+ghost use Rattle.protocol.specs.Limits.{most_members};
 ghost use Rattle.tape_frames.specs.Entries.{owned_entry, lent_entry};
 ghost use Rattle.proposer.specs.InHand.{StandsFor, IsOfTheSame};
 ghost use Rattle.proposer.specs.Answers.{IsNew, IsCountedAs, marks_after_promise, StaysWhereUncounted, IsDueAnswer, marks_after_due, StaysWhereNotBegun, IsOwnAndAbove};
@@ -43,12 +44,13 @@ impl Model for Proposal {
     ghost use Rattle.std.specs.Prelude.{◌≤◌, length, option_map};
     ghost use Rattle.tape_frames.specs.Entries.{owned_entry};
     ghost use Rattle.proposer.specs.InHand.{InHand};
+    ghost use Rattle.protocol.specs.Limits.{most_members};
 
     ghost Value = { InHand };
 
     ghost view = { λ p. record { me = p.me; members = length p.slots; ballot = p.ballot; own = option_map owned_entry p.own; reports = p.slots; gathers = p.gathers; denied = p.denied; begun = p.begun; moved = p.moved } };
 
-    ghost invariant = { λ p. (length p.slots ≤ 15) × (p.me ≤ length p.slots) };
+    ghost invariant = { λ p. (length p.slots ≤ most_members) × (p.me ≤ length p.slots) };
 }
 
 /// The greater of two ballots that may be none.
@@ -97,7 +99,7 @@ impl Proposal {
         now: u64,
     ) -> Result<Proposal, BeginRefusal>
         requires member { me ≤ members }
-        requires few { members ≤ 15 }
+        requires few { members ≤ most_members }
         ensures ballot { MatchResult result (λ p. next seen me ≡ Some p.ballot) (λ e. (e ≡ BeginRefusal.RoundsSpent) × (next seen me ≡ None)) }
         ensures stands { IfOk result (λ p. (n : ℕ) (marks : List Mark) → was_released n marks ≡ false → open_proposal n marks ≡ None → StandsFor p n (Began n p.ballot (option_map owned_entry own) report now ∷ marks)) }
         ensures circuit { IfOk result (λ p. (p.me ≡ me) × (p.members ≡ members)) }

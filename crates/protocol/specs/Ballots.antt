@@ -2,6 +2,7 @@
 -- Lamport, Paxos Made Simple: proposals carry numbers that are totally ordered,
 -- and different proposers draw theirs from disjoint sets. Here a number is a ballot.
 use Rattle.std.specs.Prelude.{◌≡◌, ℕ, zero, suc, ◌*◌, ◌<◌, ◌≤◌, ◌⊎◌, List, [], ◌∷◌, ◌++◌, Bool, true, Option, Some, None, nat_lt, ◌==◌, ◌&&◌, ◌||◌, count_by, if◌then◌else◌}
+use Rattle.protocol.specs.Limits.{most_members}
 
 -- a round, and the member that it belongs to
 pub record Ballot : Type 0 where
@@ -13,7 +14,7 @@ pub record IsBallot (b : Ballot) : Type 0 where
   pub round_low : 1 ≤ b.round
   pub round_high : b.round ≤ 4294967295
   pub owner_low : 1 ≤ b.owner
-  pub owner_high : b.owner ≤ 15
+  pub owner_high : b.owner ≤ most_members
 
 -- the two are one ballot
 abbrev pub is_same : Ballot → Ballot → Bool

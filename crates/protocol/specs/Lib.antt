@@ -1,4 +1,5 @@
 pub mod Lists
+pub mod Limits
 pub mod Seats
 pub mod Ballots
 pub mod Entries

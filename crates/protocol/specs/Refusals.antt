@@ -7,6 +7,7 @@ use Rattle.protocol.specs.Packets.{Packet, Body, Prepare, Promise, Accept, Accep
 use Rattle.protocol.specs.Marks.{Mark}
 use Rattle.protocol.specs.Proposals.{was_released, open_proposal, next_due}
 use Rattle.protocol.specs.Turn.{Event, Offered, Sought, Came_due, Arrived}
+use Rattle.protocol.specs.Limits.{is_number}
 
 -- how a station is set up: where it sits,
 -- which packet it reads in bytes or why it reads none, whether its version has a spelling for an entry,
@@ -59,10 +60,6 @@ packet_refusal s p =
 abbrev pub reading_refusal : {D F : Type 0} → Seat → Result Packet D → Option (Refusal D F)
 reading_refusal s (Err fault) = Some (Bad_datagram fault)
 reading_refusal s (Ok p) = packet_refusal s p
-
--- numbers are 1 to 999,999
-abbrev pub is_number : ℕ → Bool
-is_number n = nat_le 1 n && nat_le n 999999
 
 -- why it refuses to offer or seek n
 abbrev pub number_refusal : {D F : Type 0} → ℕ → List Mark → Option (Refusal D F)

@@ -5,6 +5,7 @@ ghost use Rattle.rehearse_command.specs.Orders.{written};
 ghost use Rattle.rehearse_command.specs.Words.{version_word};
 ghost use Rattle.rehearse_command.specs.declared.script.Order.TheVariants.{Upgrade};
 
+use ballots::Member;
 use hex::FromHexError;
 use std::alloc::{AllocError, Global};
 use std::str;
@@ -101,7 +102,7 @@ fn saved(word: &str) -> Result<bool, LineFault> {
 
 fn members(word: &str) -> Result<u8, LineFault> {
     let count = member(word)?;
-    if 1 <= count && count <= 15 {
+    if 1 <= count && count <= Member::LAST {
         Ok(count)
     } else {
         Err(LineFault::BadLine)

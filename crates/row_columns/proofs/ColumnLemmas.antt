@@ -10,7 +10,8 @@ use Rattle.protocol.specs.Entries.{Taped}
 use Rattle.protocol.specs.Rows.{vote_for, may_stand}
 use Rattle.protocol.specs.Versions.{One}
 use Rattle.protocol.specs.Fitting.{Fits}
-use Rattle.row_columns.specs.Columns.{most_frames_one, small, ballot_from, row_of, row_in, columns_with}
+use Rattle.row_columns.specs.Columns.{small, ballot_from, row_of, row_in, columns_with}
+use Rattle.protocol.specs.Limits.{most_frames_one}
 
 pub ranged : (n : ℕ) → n < 2 ^ 32 → small (pos n) ≡ Some n
 ranged n h = ap (λ b. cond b (Some n) None) ((Decides-ltb n (2 ^ 32)).1 h)

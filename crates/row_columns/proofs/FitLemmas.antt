@@ -16,7 +16,8 @@ use Rattle.protocol.specs.Rows.{Vote, Row, may_stand}
 use Rattle.protocol.specs.Versions.{One, Two}
 use Rattle.protocol.specs.Fitting.{Fits, VoteFits}
 use Rattle.saved_rows.specs.Saved.{HasPromise, RowFits, AreFitting}
-use Rattle.row_columns.specs.Columns.{version_in, most_frames_one, unless, stored_tape, tape_in, entry_in, entry_at, no_entry_at, vote_from, vote_at, ballot_from, whole_in, is_null, row_of, row_from, row_in, item_from, item_in}
+use Rattle.row_columns.specs.Columns.{version_in, unless, stored_tape, tape_in, entry_in, entry_at, no_entry_at, vote_from, vote_at, ballot_from, whole_in, is_null, row_of, row_from, row_in, item_from, item_in}
+use Rattle.protocol.specs.Limits.{most_frames_one}
 
 -- what is no fault has a frame
 has_frames : (frames : List ℕ) → tape_fault frames ≡ None → nat_le 1 (length frames) ≡ true

@@ -15,6 +15,7 @@ use Rattle.protocol.specs.Ballots.{Ballot}
 use Rattle.protocol.specs.Entries.{Tape, Entry, Void, Taped}
 use Rattle.protocol.specs.Rows.{Vote, Row, vote_for, blank, may_stand}
 use Rattle.protocol.specs.Versions.{Version, One, Two}
+use Rattle.protocol.specs.Limits.{most_members, last_number, most_frames_one, is_number as is_circuit_number}
 use Rattle.saved_rows.specs.Saved.{Saved}
 
 -- the version of the rows that a layout keeps
@@ -41,16 +42,12 @@ whole_in (Blob b) = None
 abbrev pub ballot_from : Option ℕ → Option ℕ → Option Ballot
 ballot_from None owner = None
 ballot_from (Some round) None = None
-ballot_from (Some round) (Some owner) = if nat_le 1 round && (nat_le 1 owner && nat_le owner 15) then Some (record { round = round; owner = owner }) else None
+ballot_from (Some round) (Some owner) = if nat_le 1 round && (nat_le 1 owner && nat_le owner most_members) then Some (record { round = round; owner = owner }) else None
 
 -- this value, unless there is a fault
 abbrev pub unless : {A B : Type 0} → Option A → B → Option B
 unless None b = Some b
 unless (Some a) b = None
-
--- the most frames of a tape that a row of layout 1 holds
-abbrev pub most_frames_one : ℕ
-most_frames_one = 4096
 
 -- the tape of these frames, if they are one and a row of layout 1 holds so many
 abbrev pub stored_tape : List ℕ → Option Tape
@@ -197,7 +194,7 @@ saved_in layout trees = saved_at layout (trees (layout_tree layout))
 -- the key is a circuit number, and the columns are a row
 pub record IsSound (layout : Layout) (n : ℕ) (c : Columns) : Type 0 where
   pub low : 1 ≤ n
-  pub high : n ≤ 999999
+  pub high : n ≤ last_number
   pub row : IsSome (row_in layout 0 c)
 
 -- each row of the table is sound
@@ -208,7 +205,7 @@ AreSound layout table = (n : ℕ) (c : Columns) → columns_at layout table n �
 
 -- the key is a circuit number
 abbrev pub is_number : ℤ → Bool
-is_number (pos n) = nat_le 1 n && nat_le n 999999
+is_number (pos n) = is_circuit_number n
 is_number (negsuc n) = false
 
 -- the key, where it is no circuit number or its columns are no row
@@ -233,7 +230,7 @@ damage_in layout (r ∷ rs) = first_of (damage_of (column r 0) (row_in layout 1 
 abbrev pub item_from : Option ℕ → Option Row → Option (ℕ × Row)
 item_from None row = None
 item_from (Some n) None = None
-item_from (Some n) (Some row) = if nat_le 1 n && nat_le n 999999 then Some (n, row) else None
+item_from (Some n) (Some row) = if is_circuit_number n then Some (n, row) else None
 
 -- the number and the row that a line of the listing is
 abbrev pub item_in : Layout → Columns → Option (ℕ × Row)

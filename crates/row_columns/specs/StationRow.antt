@@ -1,5 +1,6 @@
 -- The station in its table: whose rows a database holds, and in which layout.
 use Rattle.std.specs.Prelude.{◌≡◌, ◌==◌, ℕ, nat_le, ◌&&◌, if◌then◌else◌, map, List, [], ◌∷◌, Option, Some, None}
+use Rattle.protocol.specs.Limits.{most_members}
 use Rattle.sqlite_value.specs.Order.{Row as Columns, column}
 use Rattle.sqlite_trees.specs.Tree.{Trees}
 use Rattle.row_table.specs.Tables.{Layout, station_tree, layout_number}
@@ -15,7 +16,7 @@ station_from (Some key) (Some layout) None member members = None
 station_from (Some key) (Some layout) (Some circuit) None members = None
 station_from (Some key) (Some layout) (Some circuit) (Some member) None = None
 station_from (Some key) (Some layout) (Some circuit) (Some member) (Some members) =
-    if key == 1 && ((nat_le 1 layout && nat_le layout 2) && (nat_le circuit 65535 && (nat_le 1 member && (nat_le member members && nat_le members 15))))
+    if key == 1 && ((nat_le 1 layout && nat_le layout 2) && (nat_le circuit 65535 && (nat_le 1 member && (nat_le member members && nat_le members most_members))))
     then Some (layout, record { circuit = circuit; member = member; members = members })
     else None
 

@@ -21,10 +21,7 @@ use crate::layout::Layout;
 use ballots::{Ballot, Member, Number, Row, Vote, VoteRef};
 use sqlite::types::ValueRef;
 use std::alloc::{AllocError, Global};
-use tape_frames::{Entry, EntryRef, Tape, TapeRef};
-
-/// The most frames of a tape that a row of layout 1 holds.
-const MOST_FRAMES: usize = 4096;
+use tape_frames::{Entry, EntryRef, MAX_FRAMES_ONE, Tape, TapeRef};
 
 /// What stands in a column; null where there is no such column.
 pub(crate) fn value_at(columns: &sqlite::Row, at: usize) -> ValueRef<'_>
@@ -69,7 +66,7 @@ fn ballot_from(round: Option<u32>, owner: Option<u32>) -> Option<Ballot>
 fn stored_tape(frames: &[u8]) -> Option<TapeRef<'_>>
     ensures { result ≡ stored_tape frames.now }
 {
-    if frames.len() > MOST_FRAMES {
+    if frames.len() > MAX_FRAMES_ONE {
         return None;
     }
     match TapeRef::from_bytes(frames) {

@@ -1,6 +1,7 @@
 //! A row as the columns of the table of entries, and back.
 
 ghost use Rattle.std.specs.Prelude.{◌≡◌, ◌≤◌, IfOk, OnOk, option_map};
+ghost use Rattle.protocol.specs.Limits.{last_number};
 ghost use Rattle.sqlite_value.specs.Value.{owned};
 ghost use Rattle.tape_frames.specs.Entries.{lent_entry, entry_frames};
 ghost use Rattle.tape_frames.specs.Packing.{packing_of};
@@ -68,7 +69,7 @@ pub fn entry_columns_for(
 ) -> Result<EntryColumns, AllocError>
     requires promise { HasPromise row.now }
     ensures low { 1 ≤ number }
-    ensures high { number ≤ 999999 }
+    ensures high { number ≤ last_number }
     ensures number { IfOk result (λ c. c.number ≡ number) }
     ensures columns { (origin : Origin) → IfOk result (λ c. entry_columns c.promised_round c.promised_owner c.vote_round c.vote_owner c.length (option_map (λ v. v.items) c.packed) ≡ columns_for (Second origin) row.now) }
     ensures back { (origin : Origin) → OnOk result (ComesBack (Second origin) row.now) }

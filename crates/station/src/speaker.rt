@@ -4,6 +4,7 @@ ghost use Rattle.std.specs.Prelude.{◌≡◌, ◌≤◌, List, [], IfOk, IfErr,
 ghost use Rattle.protocol.specs.Marks.{Mark};
 ghost use Rattle.protocol.specs.Versions.{fits};
 ghost use Rattle.protocol.specs.Fitting.{BodyFits, EventFits};
+ghost use Rattle.protocol.specs.Limits.{most_members, most_sent};
 ghost use Rattle.saved_rows.specs.Saved.{RowFits};
 ghost use Rattle.tape_frames.specs.Entries.{version_of, lent_entry};
 ghost use Rattle.packets.specs.Reading.{packet_at};
@@ -54,7 +55,7 @@ impl Speaker {
     #[tactic(auto, using(crate::proofs::Remembering::nothing_speaks))]
     pub fn new(alloc: Global, circuit: u16, me: Member, members: u8, wire: Version) -> Speaker
         requires low { 1 ≤ members }
-        requires high { members ≤ 15 }
+        requires high { members ≤ most_members }
         requires member { me ≤ members }
         ensures circuit { result.core.circuit ≡ circuit }
         ensures me { result.core.me ≡ me }
@@ -124,7 +125,7 @@ impl Speaker {
         ensures ok { IfOk result (λ x. (marks : List Mark) → StandsFor self.old.core marks → TookTurn self.old.core event.entry marks row.now x self.new.core) }
         ensures fits { IfOk result (λ x. TurnSpeaks self.old.wire row.now x) }
         ensures promised { IfOk result (λ x. IfSome x.row (λ r. IsSome r.promised)) }
-        ensures few { IfOk result (λ x. length (sent row.now x) ≤ 28) }
+        ensures few { IfOk result (λ x. length (sent row.now x) ≤ most_sent) }
         ensures quiet { IfOk result (λ x. is_quiet (note_value x.note) ≡ true → HandsNothing x) }
         ensures refused { IfErr result (λ e. RefusesEvent event.entry e self.old.core row.now self.new.core) }
         ensures memory { IfErr result (λ e. e ≡ CoreRefusal.OutOfMemory → (marks : List Mark) → StandsFor self.old.core marks → MayTakeMemory self.old.core event.entry marks row.now) }

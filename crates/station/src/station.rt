@@ -4,6 +4,7 @@ ghost use Rattle.std.specs.Prelude.{◌≡◌, ◌≤◌, ◌↔◌, List, [], t
 ghost use Rattle.std.specs.Borrow.{Lends, sem};
 ghost use Rattle.protocol.specs.Marks.{Mark};
 ghost use Rattle.protocol.specs.Proposals.{was_released, open_ballot};
+ghost use Rattle.protocol.specs.Limits.{most_members};
 ghost use Rattle.node_core.specs.Standing.{StandsFor, IsSameSeat};
 ghost use Rattle.station.specs.Stations.{sight, IsFixed, Follows, with_rows};
 ghost use Rattle.station.specs.contracts.station.Station.{the_row};
@@ -48,7 +49,7 @@ impl<R: Rows> Station<R> {
         widths: Widths,
         rows: R,
     ) -> Result<Station<R>, BadMember<R>>
-        ensures some { IsOk result ↔ ((1 ≤ me) × (me ≤ members) × (members ≤ 15)) }
+        ensures some { IsOk result ↔ ((1 ≤ me) × (me ≤ members) × (members ≤ most_members)) }
         ensures circuit { IfOk result (λ s. s.speaker.core.circuit ≡ circuit) }
         ensures me { IfOk result (λ s. s.speaker.core.me ≡ me) }
         ensures members { IfOk result (λ s. s.speaker.core.members ≡ members) }

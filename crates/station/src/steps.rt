@@ -7,6 +7,7 @@ ghost use Rattle.protocol.specs.Marks.{Mark};
 ghost use Rattle.protocol.specs.Turn.{number_of};
 ghost use Rattle.protocol.specs.Refusals.{Offering, Seeking, Falling_due, Receiving};
 ghost use Rattle.protocol.specs.Fitting.{EventFits};
+ghost use Rattle.protocol.specs.Limits.{most_sent};
 ghost use Rattle.tape_frames.specs.Entries.{lent_entry};
 ghost use Rattle.saved_rows.specs.Saved.{Rises};
 ghost use Rattle.node_core.specs.Standing.{StandsFor};
@@ -37,7 +38,7 @@ impl<R: Rows> Station<R> {
         ensures steps { R.kept self.new.rows → TakesStep (sight R.Rows) (Offering number (Taped tape.now) now) self.old self.new result }
         ensures was_kept { R.kept self.new.rows → R.kept self.old.rows }
         ensures made { R.made self.old.rows → R.made self.new.rows }
-        ensures few { IfOk result (λ a. length a.out.items ≤ 28) }
+        ensures few { IfOk result (λ a. length a.out.items ≤ most_sent) }
         ensures cause { OnStore result (Rises (R.refusals self.old.rows) (R.refusals self.new.rows)) }
         ensures blames { IfStore result (IsBlamed (sight R.Rows) self.old.rows self.new.rows) }
         ensures version { R.version self.new.rows ≡ R.version self.old.rows }
@@ -73,7 +74,7 @@ impl<R: Rows> Station<R> {
         ensures steps { R.kept self.new.rows → TakesStep (sight R.Rows) (Offering number Void now) self.old self.new result }
         ensures was_kept { R.kept self.new.rows → R.kept self.old.rows }
         ensures made { R.made self.old.rows → R.made self.new.rows }
-        ensures few { IfOk result (λ a. length a.out.items ≤ 28) }
+        ensures few { IfOk result (λ a. length a.out.items ≤ most_sent) }
         ensures cause { OnStore result (Rises (R.refusals self.old.rows) (R.refusals self.new.rows)) }
         ensures blames { IfStore result (IsBlamed (sight R.Rows) self.old.rows self.new.rows) }
         ensures version { R.version self.new.rows ≡ R.version self.old.rows }
@@ -98,7 +99,7 @@ impl<R: Rows> Station<R> {
         ensures steps { R.kept self.new.rows → TakesStep (sight R.Rows) (Seeking number now) self.old self.new result }
         ensures was_kept { R.kept self.new.rows → R.kept self.old.rows }
         ensures made { R.made self.old.rows → R.made self.new.rows }
-        ensures few { IfOk result (λ a. length a.out.items ≤ 28) }
+        ensures few { IfOk result (λ a. length a.out.items ≤ most_sent) }
         ensures cause { OnStore result (Rises (R.refusals self.old.rows) (R.refusals self.new.rows)) }
         ensures blames { IfStore result (IsBlamed (sight R.Rows) self.old.rows self.new.rows) }
         ensures version { R.version self.new.rows ≡ R.version self.old.rows }
@@ -122,7 +123,7 @@ impl<R: Rows> Station<R> {
         ensures steps { R.kept self.new.rows → TakesStep (sight R.Rows) (Falling_due now) self.old self.new result }
         ensures was_kept { R.kept self.new.rows → R.kept self.old.rows }
         ensures made { R.made self.old.rows → R.made self.new.rows }
-        ensures few { IfOk result (λ a. length a.out.items ≤ 28) }
+        ensures few { IfOk result (λ a. length a.out.items ≤ most_sent) }
         ensures cause { OnStore result (Rises (R.refusals self.old.rows) (R.refusals self.new.rows)) }
         ensures blames { IfStore result (IsBlamed (sight R.Rows) self.old.rows self.new.rows) }
         ensures version { R.version self.new.rows ≡ R.version self.old.rows }
@@ -149,7 +150,7 @@ impl<R: Rows> Station<R> {
         ensures steps { R.kept self.new.rows → TakesStep (sight R.Rows) (Receiving bytes.now now) self.old self.new result }
         ensures was_kept { R.kept self.new.rows → R.kept self.old.rows }
         ensures made { R.made self.old.rows → R.made self.new.rows }
-        ensures few { IfOk result (λ a. length a.out.items ≤ 28) }
+        ensures few { IfOk result (λ a. length a.out.items ≤ most_sent) }
         ensures cause { OnStore result (Rises (R.refusals self.old.rows) (R.refusals self.new.rows)) }
         ensures blames { IfStore result (IsBlamed (sight R.Rows) self.old.rows self.new.rows) }
         ensures version { R.version self.new.rows ≡ R.version self.old.rows }
@@ -228,7 +229,7 @@ impl<R: Rows> Station<R> {
             → Ends (sight R.Rows) (event_value event.entry) self.old self.new marks result }
         ensures was_kept { R.kept self.new.rows → R.kept self.old.rows }
         ensures made { R.made self.old.rows → R.made self.new.rows }
-        ensures few { IfOk result (λ a. length a.out.items ≤ 28) }
+        ensures few { IfOk result (λ a. length a.out.items ≤ most_sent) }
         ensures cause { OnStore result (Rises (R.refusals self.old.rows) (R.refusals self.new.rows)) }
         ensures blames { IfStore result (IsBlamed (sight R.Rows) self.old.rows self.new.rows) }
         ensures version { R.version self.new.rows ≡ R.version self.old.rows }

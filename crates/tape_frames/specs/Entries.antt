@@ -11,10 +11,6 @@ use Rattle.tape_frames.specs.declared.entry.Entry.TheVariants as owned
 use Rattle.tape_frames.specs.declared.entry.EntryRef.{EntryRef}
 use Rattle.tape_frames.specs.declared.entry.EntryRef.TheVariants as lent
 
--- the most frames of a tape that version 1 has a spelling and a row for
-abbrev pub most_frames_one : ℕ
-most_frames_one = 4096
-
 -- the version of packets and rows
 abbrev pub version_of : Version → VersionValue
 version_of versions.One = One

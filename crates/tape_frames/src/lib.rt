@@ -16,4 +16,4 @@ pub use fault::TapeFault;
 pub use levels::holes;
 pub use packed::{PackedRef, packed_len};
 pub use tape::{MAX_FRAMES, Tape, TapeRef};
-pub use version::Version;
+pub use version::{MAX_FRAMES_ONE, Version};

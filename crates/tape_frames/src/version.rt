@@ -1,10 +1,10 @@
 //! Versions of packets and saved rows.
 
 ghost use Rattle.std.specs.Prelude.{◌≡◌, ◌&&◌, nat_le};
-ghost use Rattle.tape_frames.specs.Entries.{most_frames_one};
+ghost use Rattle.protocol.specs.Limits.{most_frames_one};
 
 /// The most frames of a tape that version 1 has a spelling and a row for.
-const MAX_FRAMES_ONE: usize = 4096;
+pub const MAX_FRAMES_ONE: usize = 4096;
 
 /// The version in which a station spells its packets and saves its rows.
 #[derive(Clone, Copy, PartialEq, Eq)]

@@ -3,6 +3,7 @@ use Rattle.std.specs.Prelude.{◌≡◌, ◌≤◌, ℕ, suc, List, [], Some, No
 use Rattle.protocol.specs.Seats.{Seat, sits}
 use Rattle.protocol.specs.Rows.{blank}
 use Rattle.protocol.specs.Versions.{Version}
+use Rattle.protocol.specs.Limits.{most_members}
 use Rattle.code_table.specs.Tables.{Places}
 use Rattle.widths.specs.Widths.{WidthFile}
 use Rattle.saved_rows.specs.Saved.{Saved}
@@ -30,7 +31,7 @@ given_of part = (part.0, part.1)
 
 -- a circuit has 1 to 15 members
 abbrev pub IsCount : ℕ → Type 0
-IsCount n = (1 ≤ n) × (n ≤ 15)
+IsCount n = (1 ≤ n) × (n ≤ most_members)
 
 -- the station of this seat, which has taken nothing in, with this table, these widths and these rows, unarmed, and in their version
 pub record IsNew {R : Type 0} (version : R → Version) (seat : Seat) (part : Part R) (s : Station (Balky R)) : Type 0 where

@@ -2,6 +2,7 @@
 use Rattle.std.specs.Prelude.{◌≡◌, ℕ, ◌+◌, ◌≤◌, ◌<◌, List, [], ◌∷◌, Option, Some, None, Result, Ok, Err, Bool, false, length, is_some, vec_len, vec_capacity, if◌then◌else◌}
 use Rattle.protocol.specs.Entries.{Entry}
 use Rattle.protocol.specs.Circuit as circuit
+use Rattle.protocol.specs.Limits.{most_sent}
 use Rattle.tape_frames.specs.Entries.{owned_entry}
 use Rattle.line_check.specs.declared.slug.Slug.{Slug}
 use Rattle.line_check.specs.declared.fault.SetFault.{SetFault}
@@ -62,6 +63,6 @@ seen_of m sent r = record { member = m; first = sent + 1; count = length (out_of
 
 -- there is room for what one step adds to the logs
 pub record HasRoom {R : Type 0} (v : World R) : Type 0 where
-  pub sent : vec_len v.sent + 28 ≤ vec_capacity v.sent
+  pub sent : vec_len v.sent + most_sent ≤ vec_capacity v.sent
   pub offers : vec_len v.offers < vec_capacity v.offers
   pub releases : vec_len v.releases < vec_capacity v.releases

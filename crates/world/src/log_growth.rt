@@ -1,6 +1,7 @@
 //! The logs of a world: they grow before a station is asked, and take in what it answers.
 
 ghost use Rattle.std.specs.Prelude.{◌≡◌, ◌+◌, ◌<◌, ◌≤◌, ◌∷◌, [], ◌++◌, OnOk, IfErr, length, vec_len, vec_capacity};
+ghost use Rattle.protocol.specs.Limits.{most_sent};
 ghost use Rattle.tape_frames.specs.Entries.{owned_entry};
 ghost use Rattle.world.specs.Taking.{was_taken};
 ghost use Rattle.world.specs.Logging.{HasRoom, logged, offered_of, out_of, outcome_of, released_of, seen_of};
@@ -101,9 +102,9 @@ impl<R: Rows> World<R> {
 
     /// Logs what a station answered. There is room for it.
     pub(crate) fn take_in(&mut self, member: u8, step: Result<Answer, StepRefusal>) -> Seen
-        requires sent { vec_len self.old.sent + 28 ≤ vec_capacity self.old.sent }
+        requires sent { vec_len self.old.sent + most_sent ≤ vec_capacity self.old.sent }
         requires releases { vec_len self.old.releases < vec_capacity self.old.releases }
-        requires few { length (out_of step) ≤ 28 }
+        requires few { length (out_of step) ≤ most_sent }
         ensures stations { self.new.stations ≡ self.old.stations }
         ensures sent { self.new.sent.items ≡ self.old.sent.items ++ out_of step }
         ensures offers { self.new.offers ≡ self.old.offers }

@@ -4,6 +4,7 @@ ghost use Rattle.std.specs.Prelude.{◌≡◌, ◌≤◌, ℕ, None, IfOk, IfSom
 ghost use Rattle.protocol.specs.Circuit.{fresh};
 ghost use Rattle.protocol.specs.Seats.{sits};
 ghost use Rattle.protocol.specs.Versions.{Version};
+ghost use Rattle.protocol.specs.Limits.{most_members};
 ghost use Rattle.world.specs.Founding.{AreAt, AreBlank, AreNew, AreNewlyMade, Founds, IsCircuitOf, IsCount, IsNew, given_of};
 ghost use Rattle.world.specs.Reach.{IsReached, StandsFor};
 ghost use Rattle.world.specs.Setups.{StationCircuit};
@@ -11,6 +12,7 @@ ghost use Rattle.world.specs.Worlds.{station_at};
 
 use crate::laws;
 use crate::logs::{OfferLog, ReleaseLog};
+use ballots::Member;
 use code_table::CodeTable;
 use saved_rows::{Balky, Rows};
 use station::{Datagram, Station};
@@ -38,12 +40,12 @@ pub enum NewWorldFault<R: Rows> {
 }
 
 /// The number of members as one that a circuit has; `None` where there are none or more than 15.
-pub(crate) fn member_count(members: usize) -> Option<u8>
+pub fn member_count(members: usize) -> Option<u8>
     ensures some { IfSome result (λ count. (count ≡ members) × IsCount members) }
     ensures none { result ≡ None → ¬ IsCount members }
 {
     match u8::try_from(members) {
-        Ok(count) if 1 <= count && count <= 15 => Some(count),
+        Ok(count) if 1 <= count && count <= Member::LAST => Some(count),
         _ => None,
     }
 }
@@ -60,7 +62,7 @@ fn station_of<R: Rows>(
 ) -> Station<Balky<R>>
     requires low { 1 ≤ me }
     requires high { me ≤ count }
-    requires few { count ≤ 15 }
+    requires few { count ≤ most_members }
     ensures { IsNew R.version (sits circuit me count) (table, widths, rows) result }
 {
     let rows = Balky::new(rows);
@@ -78,7 +80,7 @@ fn stations_of<R: Rows>(
     members: Vec<(CodeTable, Widths, R)>,
 ) -> Result<Vec<Station<Balky<R>>>, AllocError>
     requires many { length members.items ≡ count }
-    requires few { count ≤ 15 }
+    requires few { count ≤ most_members }
     ensures new { IfOk result (λ v. AreNew R.version circuit count members.items v.items) }
     ensures count { IfOk result (λ v. length v.items ≡ count) }
 {
