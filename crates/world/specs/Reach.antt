@@ -72,6 +72,12 @@ Moves is_open saved version count z w step old new (Ok seen) =
     × (o : Outcome PacketFault SetFault) × EndsAs seen.outcome (RowsRefused count old new seen.member) o × StepsTo z w (step_value step) o after
 Moves is_open saved version count z w step old new (Err refusal) = StandsFor is_open saved version z new w
 
+-- where each member's rows are kept: of every circuit and state that the world stands for, it takes the step, and ends as the circuit's step does
+abbrev pub TakesStep : {R : Type 0} → Ghosts R → Step → World R → World R → Result Seen WorldRefusal → Type 0
+TakesStep g step old new result =
+    AllKept g.kept new → (z : StationCircuit) (w : StationState) → StandsFor g.is_open g.saved g.version z old w
+    → Moves g.is_open g.saved g.version g.refusals z w step old new result
+
 -- these steps, one after the other, lead from one state to another
 abbrev pub Leads : StationCircuit → StationState → List Step → StationState → Type 0
 Leads z w [] after = after ≡ w
@@ -82,6 +88,12 @@ Leads z w (step ∷ steps) after =
 abbrev pub Runs : {R A : Type 0} → (R → Type 0) → (R → Saved) → (R → Version) → StationCircuit → StationState → List Step → World R → Result A RunStop → Type 0
 Runs is_open saved version z w steps new (Ok x) = (after : StationState) × StandsFor is_open saved version z new after × Leads z w steps after
 Runs is_open saved version z w steps new (Err stop) = (after : StationState) × StandsFor is_open saved version z new after × Leads z w (take stop.at steps) after
+
+-- the same of a list of steps
+abbrev pub TakesSteps : {R A : Type 0} → Ghosts R → List Step → World R → World R → Result A RunStop → Type 0
+TakesSteps g steps old new result =
+    AllKept g.kept new → (z : StationCircuit) (w : StationState) → StandsFor g.is_open g.saved g.version z old w
+    → Runs g.is_open g.saved g.version z w steps new result
 
 -- some history of the circuit leads to a state that the world stands for
 abbrev pub Reached : {R : Type 0} → (R → Type 0) → (R → Saved) → (R → Version) → StationCircuit → World R → Type 0

@@ -1,11 +1,10 @@
 //! A circuit that is played from its beginning.
 
 ghost use Rattle.std.specs.Prelude.{◌≡◌, ℕ, IfOk, IfErr, OnOk, length, map};
-ghost use Rattle.protocol.specs.Versions.{Version as VersionValue};
 ghost use Rattle.tape_frames.specs.Entries.{version_of};
-ghost use Rattle.world.specs.Founding.{AreAt, AreBlank, AreNewlyMade, IsCount, IsNewlyMade, IsUnfounded, given_of};
-ghost use Rattle.world.specs.Playing.{IsBeginning, IsFresh, IsUnplayed, Plays};
-ghost use Rattle.world.specs.Reach.{Agreed, AllHonest, AllKept, IsReached};
+ghost use Rattle.world.specs.Founding.{AreAt, AreNewlyMade, IsCount, IsNewlyMade, IsUnfounded, given_of};
+ghost use Rattle.world.specs.Playing.{IsBeginning, IsFresh, IsUnplayed, Plays, PlaysParts};
+ghost use Rattle.world.specs.Reach.{Agreed, AllHonest, IsReached};
 ghost use Rattle.world.specs.Taking.{StopsAt};
 
 use crate::step::{RunStop, Step};
@@ -51,7 +50,7 @@ pub fn play<R: Rows>(
     ensures unfounded { IfErr result (IsUnfounded members.items) }
     ensures count { IfOk result (λ _. IsCount (length members.items)) }
     // The world is what these steps make of these members, each at the version of its rows.
-    ensures plays { IfOk result (λ p. AreBlank R.is_open R.saved members.items → AllKept R.kept p.world → (at : ℕ → VersionValue) → AreAt R.version at members.items → Plays R.Rows circuit (map given_of members.items) at steps.now p.world p.run) }
+    ensures plays { IfOk result (λ p. PlaysParts R.Rows circuit members.items steps.now p.world p.run) }
     ensures stops { IfOk result (λ p. IfErr p.run (StopsAt steps.now p.world)) }
     // The headline.
     ensures reached { IfOk result (λ p. AreNewlyMade R.Rows members.items → IsReached R.Rows p.world) }

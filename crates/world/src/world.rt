@@ -1,13 +1,11 @@
 //! A world: its members, and what went between them.
 
 ghost use Rattle.std.specs.Prelude.{◌≡◌, ◌≤◌, ℕ, None, IfOk, IfSome, length, map, option_copied};
-ghost use Rattle.protocol.specs.Circuit.{fresh};
 ghost use Rattle.protocol.specs.Seats.{sits};
-ghost use Rattle.protocol.specs.Versions.{Version};
 ghost use Rattle.protocol.specs.Limits.{most_members};
-ghost use Rattle.world.specs.Founding.{AreAt, AreBlank, AreNew, AreNewlyMade, Founds, IsCircuitOf, IsCount, IsNew, given_of};
-ghost use Rattle.world.specs.Reach.{IsReached, StandsFor};
-ghost use Rattle.world.specs.Setups.{StationCircuit};
+ghost use Rattle.world.specs.Founding.{AreNew, AreNewlyMade, Founds, IsCount, IsNew};
+ghost use Rattle.world.specs.Playing.{IsFreshOf};
+ghost use Rattle.world.specs.Reach.{IsReached};
 ghost use Rattle.world.specs.Worlds.{station_at};
 
 use crate::laws;
@@ -106,7 +104,7 @@ impl<R: Rows> World<R> {
     ) -> Result<World<R>, NewWorldFault<R>>
         ensures founds { Founds R.version circuit members.items result }
         // Over rows of which none is saved it stands for a fresh state of the circuit of these members, each at the version of its rows.
-        ensures fresh { IfOk result (λ v. AreBlank R.is_open R.saved members.items → (at : ℕ → Version) → AreAt R.version at members.items → (z : StationCircuit) → IsCircuitOf circuit (map given_of members.items) z → StandsFor R.is_open R.saved R.version z v (fresh at)) }
+        ensures fresh { IfOk result (IsFreshOf R.Rows circuit members.items) }
         // Over rows that were just made for its members it is reached by no step at all: there is a circuit of them.
         ensures reached { IfOk result (λ v. AreNewlyMade R.Rows members.items → IsReached R.Rows v) }
     {
