@@ -14,6 +14,7 @@ use Rattle.protocol.specs.Proposals.{Opening, pick, was_released, open_proposal,
 use Rattle.protocol.specs.Turn.{Event, Offered, Sought, Came_due, Arrived, propose, begin, start_turn}
 use Rattle.protocol.specs.Turn as said
 use Rattle.protocol.specs.Refusals as refusals
+use Rattle.protocol.specs.Limits.{is_number}
 use Rattle.code_table.specs.Tables.{mean}
 use Rattle.packets.specs.Reading.{packet_at}
 use Rattle.packets.specs.declared.fault.PacketFault.{PacketFault}
@@ -90,9 +91,9 @@ number_free true false None h = (refl, refl)
 -- a number that is not refused is neither released nor open
 pub free : (n : ℕ) (marks : List Mark) → refusals.number_refusal {D = PacketFault} {F = SetFault} n marks ≡ None → (was_released n marks ≡ false) × (open_proposal n marks ≡ None)
 unfolding number_test
-free n marks h = number_free (refusals.is_number n) (was_released n marks) (open_proposal n marks) h
+free n marks h = number_free (is_number n) (was_released n marks) (open_proposal n marks) h
 
-is_known : (n : ℕ) → 1 ≤ n → n ≤ 999999 → refusals.is_number n ≡ true
+is_known : (n : ℕ) → 1 ≤ n → n ≤ 999999 → is_number n ≡ true
 is_known n low high = rw (le-leb 1 n low) (le-leb n 999999 high)
 
 is_opened : (o : Option Opening) → is_some (opening_ballot o) ≡ is_some o
@@ -116,7 +117,7 @@ module _ (n : ℕ) (marks : List Mark) (low : 1 ≤ n) (high : n ≤ 999999) (m 
   pub refused_released : (b : Bool) → b ≡ was_released m marks → b ≡ true → refusals.number_refusal {D = PacketFault} {F = SetFault} n marks ≡ Some refusals.Already_released
   unfolding number_test
   refused_released b is h =
-      known_released (refusals.is_number n) (was_released n marks) (open_proposal n marks) (is_known n low high) (sym (is ∙ ap (λ (k : ℕ). was_released k marks) same) ∙ h)
+      known_released (is_number n) (was_released n marks) (open_proposal n marks) (is_known n low high) (sym (is ∙ ap (λ (k : ℕ). was_released k marks) same) ∙ h)
 
   module _ (b : Bool) (is : b ≡ was_released m marks) (kept : b ≡ false) (o : Option Ballot) (opened : o ≡ open_ballot m marks) where
     unreleased : was_released n marks ≡ false
@@ -128,11 +129,11 @@ module _ (n : ℕ) (marks : List Mark) (low : 1 ≤ n) (high : n ≤ 999999) (m 
 
     pub refused_open : is_some o ≡ true → refusals.number_refusal {D = PacketFault} {F = SetFault} n marks ≡ Some refusals.Already_open
     unfolding number_test
-    refused_open h = known_open (refusals.is_number n) (was_released n marks) (open_proposal n marks) (is_known n low high) unreleased (has_ballot true h)
+    refused_open h = known_open (is_number n) (was_released n marks) (open_proposal n marks) (is_known n low high) unreleased (has_ballot true h)
 
     pub unrefused : is_some o ≡ false → refusals.number_refusal {D = PacketFault} {F = SetFault} n marks ≡ None
     unfolding number_test
-    unrefused h = known_free (refusals.is_number n) (was_released n marks) (open_proposal n marks) (is_known n low high) unreleased (has_ballot false h)
+    unrefused h = known_free (is_number n) (was_released n marks) (open_proposal n marks) (is_known n low high) unreleased (has_ballot false h)
 
 -- the same of an equal number
 pub free_at :

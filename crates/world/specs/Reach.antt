@@ -73,8 +73,8 @@ Moves is_open saved version count z w step old new (Ok seen) =
 Moves is_open saved version count z w step old new (Err refusal) = StandsFor is_open saved version z new w
 
 -- where each member's rows are kept: of every circuit and state that the world stands for, it takes the step, and ends as the circuit's step does
-abbrev pub TakesStep : {R : Type 0} → Ghosts R → Step → World R → World R → Result Seen WorldRefusal → Type 0
-TakesStep g step old new result =
+abbrev pub FollowsStep : {R : Type 0} → Ghosts R → Step → World R → World R → Result Seen WorldRefusal → Type 0
+FollowsStep g step old new result =
     AllKept g.kept new → (z : StationCircuit) (w : StationState) → StandsFor g.is_open g.saved g.version z old w
     → Moves g.is_open g.saved g.version g.refusals z w step old new result
 
@@ -90,8 +90,8 @@ Runs is_open saved version z w steps new (Ok x) = (after : StationState) × Stan
 Runs is_open saved version z w steps new (Err stop) = (after : StationState) × StandsFor is_open saved version z new after × Leads z w (take stop.at steps) after
 
 -- the same of a list of steps
-abbrev pub TakesSteps : {R A : Type 0} → Ghosts R → List Step → World R → World R → Result A RunStop → Type 0
-TakesSteps g steps old new result =
+abbrev pub FollowsSteps : {R A : Type 0} → Ghosts R → List Step → World R → World R → Result A RunStop → Type 0
+FollowsSteps g steps old new result =
     AllKept g.kept new → (z : StationCircuit) (w : StationState) → StandsFor g.is_open g.saved g.version z old w
     → Runs g.is_open g.saved g.version z w steps new result
 

@@ -2,7 +2,7 @@
 
 ghost use Rattle.std.specs.Prelude.{◌≡◌, ◌<◌, ◌≤◌, ◌+◌, suc, false, Some, None, IfOk, IfErr, OnOk, OnErr, length, option_map};
 ghost use Rattle.protocol.specs.Circuit.{datagram_at, member_missing};
-ghost use Rattle.world.specs.Reach.{Agreed, AllHonest, AllKept, AllMade, TakesStep, TakesSteps, IsReached};
+ghost use Rattle.world.specs.Reach.{Agreed, AllHonest, AllKept, AllMade, FollowsStep, FollowsSteps, IsReached};
 ghost use Rattle.world.specs.Taking.{Found, StopsAt, TakesFront, Tells, TellsWhy};
 ghost use Rattle.world.specs.Worlds.{count_of};
 
@@ -31,7 +31,7 @@ impl<R: Rows> World<R> {
     /// A fault of its store is that of the member's own rows; an armed store tells its refusal as [`saved_rows::RowsFault::Store`].
     pub fn step(&mut self, step: &Step) -> Result<Seen, WorldRefusal>
         // Of every circuit and state that the world stands for, it takes the step, and ends as the circuit's step does.
-        ensures steps { TakesStep R.Rows step.now self.old self.new result }
+        ensures steps { FollowsStep R.Rows step.now self.old self.new result }
         // Whatever the rows do, what is seen is what was logged, and a refusal changes nothing and has its reason.
         ensures tells { Tells step.now self.old self.new result }
         // Where the store tears the step, it is told why: the fault is that of an armed store, or one that the member's own rows blame.
@@ -72,7 +72,7 @@ impl<R: Rows> World<R> {
     pub fn run(&mut self, steps: &[Step]) -> Result<(), RunStop>
         // Whatever the rows do, each of these steps was told, and where a store tore it, why.
         ensures takes { TakesFront R.Rows self.old steps.now self.new result }
-        ensures runs { TakesSteps R.Rows steps.now self.old self.new result }
+        ensures runs { FollowsSteps R.Rows steps.now self.old self.new result }
         ensures stops { IfErr result (StopsAt steps.now self.new) }
         ensures was_kept { AllKept R.kept self.new → AllKept R.kept self.old }
         ensures made { AllMade R.made self.old → AllMade R.made self.new }
@@ -123,7 +123,7 @@ impl<R: Rows> World<R> {
         tape: &Tape,
         now: u64,
     ) -> Result<Seen, WorldRefusal>
-        ensures steps { TakesStep R.Rows (Step.Offer member number tape.now now) self.old self.new result }
+        ensures steps { FollowsStep R.Rows (Step.Offer member number tape.now now) self.old self.new result }
         ensures tells { Tells (Step.Offer member number tape.now now) self.old self.new result }
         ensures why { TellsWhy R.Rows self.old self.new result }
         ensures was_kept { AllKept R.kept self.new → AllKept R.kept self.old }
@@ -142,7 +142,7 @@ impl<R: Rows> World<R> {
 
     /// A member is asked to withdraw a number.
     fn withdraw(&mut self, member: u8, number: u32, now: u64) -> Result<Seen, WorldRefusal>
-        ensures steps { TakesStep R.Rows (Step.Withdraw member number now) self.old self.new result }
+        ensures steps { FollowsStep R.Rows (Step.Withdraw member number now) self.old self.new result }
         ensures tells { Tells (Step.Withdraw member number now) self.old self.new result }
         ensures why { TellsWhy R.Rows self.old self.new result }
         ensures was_kept { AllKept R.kept self.new → AllKept R.kept self.old }
@@ -158,7 +158,7 @@ impl<R: Rows> World<R> {
 
     /// A member seeks what is agreed on.
     fn seek(&mut self, member: u8, number: u32, now: u64) -> Result<Seen, WorldRefusal>
-        ensures steps { TakesStep R.Rows (Step.Seek member number now) self.old self.new result }
+        ensures steps { FollowsStep R.Rows (Step.Seek member number now) self.old self.new result }
         ensures tells { Tells (Step.Seek member number now) self.old self.new result }
         ensures why { TellsWhy R.Rows self.old self.new result }
         ensures was_kept { AllKept R.kept self.new → AllKept R.kept self.old }
@@ -173,7 +173,7 @@ impl<R: Rows> World<R> {
 
     /// A member sees to what is due.
     fn due(&mut self, member: u8, now: u64) -> Result<Seen, WorldRefusal>
-        ensures steps { TakesStep R.Rows (Step.Due member now) self.old self.new result }
+        ensures steps { FollowsStep R.Rows (Step.Due member now) self.old self.new result }
         ensures tells { Tells (Step.Due member now) self.old self.new result }
         ensures why { TellsWhy R.Rows self.old self.new result }
         ensures was_kept { AllKept R.kept self.new → AllKept R.kept self.old }
@@ -188,7 +188,7 @@ impl<R: Rows> World<R> {
 
     /// A datagram comes to its addressee.
     fn deliver(&mut self, k: usize, now: u64) -> Result<Seen, WorldRefusal>
-        ensures steps { TakesStep R.Rows (Step.Deliver k now) self.old self.new result }
+        ensures steps { FollowsStep R.Rows (Step.Deliver k now) self.old self.new result }
         ensures tells { Tells (Step.Deliver k now) self.old self.new result }
         ensures why { TellsWhy R.Rows self.old self.new result }
         ensures was_kept { AllKept R.kept self.new → AllKept R.kept self.old }
@@ -205,7 +205,7 @@ impl<R: Rows> World<R> {
 
     /// A member starts again.
     fn restart(&mut self, member: u8) -> Result<Seen, WorldRefusal>
-        ensures steps { TakesStep R.Rows (Step.Restart member) self.old self.new result }
+        ensures steps { FollowsStep R.Rows (Step.Restart member) self.old self.new result }
         ensures tells { Tells (Step.Restart member) self.old self.new result }
         ensures why { TellsWhy R.Rows self.old self.new result }
         ensures was_kept { AllKept R.kept self.new → AllKept R.kept self.old }
@@ -218,7 +218,7 @@ impl<R: Rows> World<R> {
 
     /// A member goes over to version 2. Nothing is sent or logged, and no memory is taken.
     fn upgrade(&mut self, member: u8) -> Result<Seen, WorldRefusal>
-        ensures steps { TakesStep R.Rows (Step.Upgrade member) self.old self.new result }
+        ensures steps { FollowsStep R.Rows (Step.Upgrade member) self.old self.new result }
         ensures tells { Tells (Step.Upgrade member) self.old self.new result }
         ensures why { TellsWhy R.Rows self.old self.new result }
         ensures was_kept { AllKept R.kept self.new → AllKept R.kept self.old }
@@ -231,7 +231,7 @@ impl<R: Rows> World<R> {
 
     /// A member's store is armed to refuse a save or an upgrade.
     fn balk(&mut self, member: u8, saved: bool) -> Result<Seen, WorldRefusal>
-        ensures steps { TakesStep R.Rows (Step.Balk member saved) self.old self.new result }
+        ensures steps { FollowsStep R.Rows (Step.Balk member saved) self.old self.new result }
         ensures tells { Tells (Step.Balk member saved) self.old self.new result }
         ensures why { TellsWhy R.Rows self.old self.new result }
         ensures was_kept { AllKept R.kept self.new → AllKept R.kept self.old }
