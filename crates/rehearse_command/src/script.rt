@@ -162,8 +162,17 @@ fn order_of_two(name: &str, who: &str, word: &str) -> Result<Order, LineFault> {
     }
 }
 
-/// The offer of a member's tape for a number.
-fn offer(alloc: Global, who: &str, what: &str, frames: &str) -> Result<Order, LineFault> {
+/// What a name with a member, a number and a tape behind it asks for.
+fn order_of_three(
+    alloc: Global,
+    name: &str,
+    who: &str,
+    what: &str,
+    frames: &str,
+) -> Result<Order, LineFault> {
+    if name != "offer" {
+        return Err(LineFault::BadLine);
+    }
     let (member, number) = (member(who)?, small(what)?);
     Ok(Order::Offer {
         member,
@@ -172,12 +181,14 @@ fn offer(alloc: Global, who: &str, what: &str, frames: &str) -> Result<Order, Li
     })
 }
 
+/// A word as text.
+fn text(word: &[u8]) -> Result<&str, LineFault> {
+    str::from_utf8(word).map_err(|_| LineFault::BadLine)
+}
+
 /// What a line that is not ignored asks for. Its words stand between spaces.
 pub fn order_of(alloc: Global, line: &[u8]) -> Result<Order, LineFault> {
-    let Ok(text) = str::from_utf8(line) else {
-        return Err(LineFault::BadLine);
-    };
-    let mut words = text.split(' ').filter(|w| !w.is_empty());
+    let mut words = line.split(|b| *b == b' ').filter(|w| !w.is_empty());
     match (
         words.next(),
         words.next(),
@@ -185,11 +196,17 @@ pub fn order_of(alloc: Global, line: &[u8]) -> Result<Order, LineFault> {
         words.next(),
         words.next(),
     ) {
-        (Some("offer"), Some(who), Some(what), Some(frames), None) => {
-            offer(alloc, who, what, frames)
+        (Some(name), Some(who), Some(what), Some(frames), None) => order_of_three(
+            alloc,
+            text(name)?,
+            text(who)?,
+            text(what)?,
+            text(frames)?,
+        ),
+        (Some(name), Some(who), Some(word), None, _) => {
+            order_of_two(text(name)?, text(who)?, text(word)?)
         }
-        (Some(name), Some(who), Some(word), None, _) => order_of_two(name, who, word),
-        (Some(name), Some(word), None, _, _) => order_of_one(name, word),
+        (Some(name), Some(word), None, _, _) => order_of_one(text(name)?, text(word)?),
         _ => Err(LineFault::BadLine),
     }
 }
