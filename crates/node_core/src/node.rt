@@ -252,12 +252,10 @@ impl NodeCore {
         if self.failed {
             return Err(CoreRefusal::Failed);
         }
-        match self.take_turn(event, row) {
-            Err(CoreRefusal::OutOfMemory) => {
-                self.fail();
-                Err(CoreRefusal::OutOfMemory)
-            }
-            answer => answer,
+        let answer = self.take_turn(event, row);
+        if matches!(answer, Err(CoreRefusal::OutOfMemory)) {
+            self.fail();
         }
+        answer
     }
 }
