@@ -1,5 +1,5 @@
 -- All that a station remembers fits the version in which it speaks.
-use Rattle.std.proofs.Common.{◌≡◌, ℕ, refl, sym, subst, ◌∙◌, List, [], Option, Some, None, true, false}
+use Rattle.std.proofs.Common.{◌≡◌, ℕ, refl, sym, ap, subst, ◌∙◌, List, [], Option, Some, None, Result, Ok, Err, IfOk, IfErr, true, false}
 use Rattle.std.specs.Prelude.{IfSome}
 use Rattle.protocol.specs.Lists.{IsAmong}
 use Rattle.protocol.specs.Ballots.{IsMember}
@@ -101,3 +101,17 @@ refused_event refusals.AlreadyReleased event old new row marks stands h = h
 refused_event refusals.AlreadyOpen event old new row marks stands h = h
 refused_event refusals.RoundsSpent event old new row marks stands h = h
 refused_event refusals.OutOfMemory event old new row marks stands h = wants_memory event old new row
+
+-- of what came of an event, but want of memory, that came when the marks fitted
+module _ (v : Version) (event : Event) (old new : Core) (row : Row) (law : TurnsFit) (member : IsMember old.members old.me) (h : Speaks old v) (row_fits : RowFits v row)
+    (event_fits : EventFits v (event_value event)) where
+  pub answered_speaks :
+      (r : Result Turn CoreRefusal) → IfOk r (λ x. (marks : List Mark) → StandsFor old marks → TookTurn old event marks row x new) → IfErr r (λ e. Refuses e event old row new)
+      → (r ≡ Err refusals.OutOfMemory → ⊥) → Speaks new v
+  answered_speaks (Ok x) ok err other = speaks_after v event old new row x law member h row_fits event_fits (ok h.marks h.stands_for)
+  answered_speaks (Err e) ok err other =
+      subst (λ (c : Core). Speaks c v) (sym (core_stays e event old new row (λ is. other (ap Err is)) (refused_event e event old new row h.marks h.stands_for err))) h
+
+  pub answered_fits : (r : Result Turn CoreRefusal) → IfOk r (λ x. (marks : List Mark) → StandsFor old marks → TookTurn old event marks row x new) → IfOk r (TurnSpeaks v row)
+  answered_fits (Ok x) ok = turn_speaks v event old new row x law member h row_fits event_fits (ok h.marks h.stands_for)
+  answered_fits (Err e) ok = tt

@@ -135,13 +135,10 @@ impl Speaker {
         // A turn makes no entry up, where the core's member is one of its circuit.
         protocol::laws::turns_fit();
         let _me = self.core.me();
-        match self.core.handle(event, row) {
-            Ok(turn) => Ok(turn),
-            Err(CoreRefusal::OutOfMemory) => {
-                self.core.clear();
-                Err(CoreRefusal::OutOfMemory)
-            }
-            Err(refusal) => Err(refusal),
+        let answer = self.core.handle(event, row);
+        if matches!(answer, Err(CoreRefusal::OutOfMemory)) {
+            self.core.clear();
         }
+        answer
     }
 }
