@@ -117,7 +117,7 @@ fn answer_command<'a>(alloc: Global) -> Result<Command<'a>, AllocError> {
     let circuit = clap::value_parser!(u16);
     let help = "The circuit's number, 0 to 65535";
     let command = with_number(alloc, command, "CIRCUIT", circuit, help)?;
-    let member = clap::value_parser!(u8).range(1..=Member::LAST);
+    let member = clap::value_parser!(u8).range(1..=i64::from(Member::LAST));
     let help = "The member that answers, 1 to 15";
     let command = with_number(alloc, command, "MEMBER", member, help)?;
     with_wire(alloc, command)
