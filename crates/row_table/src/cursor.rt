@@ -41,6 +41,9 @@ pub(crate) fn each_row<S: Alter, T: Taker>(
     // However it ends, the taker has had the first of them, or is as it was.
     ensures front { HasCleanDisk (state S.Store conn.new) → OnlyReads (state S.Store conn.old) sql.now
         → (taker.new ≡ taker.old) ⊎ ((rows : List RowValue) × HasGivenFirst sql.now (state S.Store conn.old) rows × T.took taker.old taker.new rows) }
+
+    // It has had some rows, and nothing else.
+    ensures only { (rows : List RowValue) × T.took taker.old taker.new rows }
     ensures same { HasCleanDisk (state S.Store conn.new) → OnlyReads (state S.Store conn.old) sql.now → OnOk result (IsUnchanged (state S.Store conn.old) (state S.Store conn.new)) }
     ensures err { HasCleanDisk (state S.Store conn.new) → OnlyReads (state S.Store conn.old) sql.now → OnErr result (WritesNothing (state S.Store conn.old) (state S.Store conn.new)) }
     ensures mode { conn.old.in_transaction ≡ false → conn.new.in_transaction ≡ false }

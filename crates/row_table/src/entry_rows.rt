@@ -126,6 +126,9 @@ pub fn visit_entries<S: Alter, T: Taker>(
     // However it ends, the taker has had the first of them, or is as it was.
     ensures front { (origin : Origin) → HasCleanDisk (state S.Store conn.new) → (IsTrue (state S.Store conn.old).is_open → (state S.Store conn.old).now.schema ≡ layout_schema (Second origin))
         → (taker.new ≡ taker.old) ⊎ ((rows : List RowValue) × ListsFirst (Second origin) (state S.Store conn.old) rows × T.took taker.old taker.new rows) }
+
+    // It has had some rows, and nothing else.
+    ensures only { (rows : List RowValue) × T.took taker.old taker.new rows }
     ensures serves { (origin : Origin) → Serves (Second origin) (state S.Store conn.old) → Serves (Second origin) (state S.Store conn.new) }
     ensures open { (origin : Origin) → Serves (Second origin) (state S.Store conn.old) → HasCleanDisk (state S.Store conn.new) → OnOk result (IsTrue (state S.Store conn.new).is_open) }
     ensures at_rest { (origin : Origin) → Serves (Second origin) (state S.Store conn.old) → HasCleanDisk (state S.Store conn.new) → OnOk result ((state S.Store conn.old).now.schema ≡ layout_schema (Second origin)) }

@@ -139,6 +139,9 @@ pub fn visit_rows<S: Alter, T: Taker>(
     // However it ends, the taker has had the first of them, or is as it was.
     ensures front { HasCleanDisk (state S.Store conn.new) → (IsTrue (state S.Store conn.old).is_open → (state S.Store conn.old).now.schema ≡ layout_schema First)
         → (taker.new ≡ taker.old) ⊎ ((rows : List RowValue) × ListsFirst First (state S.Store conn.old) rows × T.took taker.old taker.new rows) }
+
+    // It has had some rows, and nothing else.
+    ensures only { (rows : List RowValue) × T.took taker.old taker.new rows }
     ensures serves { Serves First (state S.Store conn.old) → Serves First (state S.Store conn.new) }
     ensures open { Serves First (state S.Store conn.old) → HasCleanDisk (state S.Store conn.new) → OnOk result (IsTrue (state S.Store conn.new).is_open) }
     ensures at_rest { Serves First (state S.Store conn.old) → HasCleanDisk (state S.Store conn.new) → OnOk result ((state S.Store conn.old).now.schema ≡ layout_schema First) }

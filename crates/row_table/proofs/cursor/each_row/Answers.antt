@@ -15,7 +15,7 @@ returns-in_err-rows-clause-err g c clean reads =
 pub rows-init : goal.rows-init
 rows-init g c =
     let made = c.in_ok-rows.ensures in
-    (refl, made.survives, made.mode, λ clean reads. let begun = begun_reading g.S.Store c.args.sql.now [] c.args.conn.now _ reads (made.begun clean) in (begun.1, [], begun.0, g.met.T.Taker.took_none c.args.taker.now))
+    (refl, made.survives, made.mode, λ clean reads. let begun = begun_reading g.S.Store c.args.sql.now [] c.args.conn.now _ reads (made.begun clean) in (begun.1, [], begun.0, g.met.T.Taker.took_none c.args.taker.now), ([], g.met.T.Taker.took_none c.args.taker.now))
 
 pub returns-in_default-clause-all : goal.returns-in_default-clause-all
 returns-in_default-clause-all g c clean reads _ =
@@ -59,3 +59,10 @@ returns-clause-front g c clean reads =
     let now : HasCleanDisk (state g.S.Store c.rows.rows.conn.now) = search rules in
     let was = c.rows.invariant.3 now reads in
     inr (was.1, given_first g.S.Store c.args.sql.now (state g.S.Store c.args.conn.now) c.rows.rows.conn.now was.1 was.0 was.2, was.3)
+
+-- whatever rows came, the taker has had them and nothing else
+pub returns-in_err-rows-clause-only : goal.returns-in_err-rows-clause-only
+returns-in_err-rows-clause-only g c = ([], g.met.T.Taker.took_none c.args.taker.now)
+
+pub returns-then-not-take-clause-only : goal.returns-then-not-take-clause-only
+returns-then-not-take-clause-only g c = (_, c.take.ensures.took _ c.rows.invariant.4.0 c.rows.invariant.4.1)

@@ -30,6 +30,7 @@ returns g c =
       listed = λ origin clean has. mapped (λ all h sure. let shown = h sure in (shown.0, lists (Second origin) old new shown.0 has shown.1, shown.2)) r (gives.all clean (reads origin has));
       enough = gives.enough;
       front = λ origin clean has. took_first g.T.Taker.took c.args.taker.now c.each_row.new.taker (Second origin) old has (gives.front clean (reads_open (Second origin) (all_text (Second origin)) old (plain origin) has));
+      only = gives.only;
       serves = λ origin serves. reading_serves (Second origin) old new survives.clean serves r (same origin serves) (err origin serves);
       «open» = λ origin serves. reading_open (Second origin) old new survives.clean serves r (same origin serves) (err origin serves);
       at_rest = λ origin serves. reading_has (Second origin) old new survives.clean serves r (same origin serves) (err origin serves);

@@ -30,6 +30,7 @@ returns g c =
       listed = λ clean has. mapped (λ all h sure. let shown = h sure in (shown.0, lists First old new shown.0 has shown.1, shown.2)) r (gives.all clean (reads has));
       enough = gives.enough;
       front = λ clean has. took_first g.T.Taker.took c.args.taker.now c.each_row.new.taker First old has (gives.front clean (reads_open First (all_text First) old plain has));
+      only = gives.only;
       serves = λ serves. reading_serves First old new survives.clean serves r (same serves) (err serves);
       «open» = λ serves. reading_open First old new survives.clean serves r (same serves) (err serves);
       at_rest = λ serves. reading_has First old new survives.clean serves r (same serves) (err serves);
