@@ -11,3 +11,4 @@ mod RestartLemmas
 mod StepLemmas
 mod GivingLemmas
 mod TestingLemmas
+pub mod ReadingLemmas

@@ -8,3 +8,4 @@ pub mod Files
 pub mod Restarts
 pub mod Steps
 pub mod Testing
+pub mod Reading

@@ -11,6 +11,7 @@ mod old_tables;
 mod opening;
 mod paths;
 mod queries;
+mod reading;
 mod restarts;
 mod sqlite_rows;
 mod statements;
@@ -18,6 +19,7 @@ mod testing;
 mod upgrade;
 
 pub use faults::FileFault;
+pub use reading::RowVisitor;
 pub use restarts::into_files;
 pub use saved_rows::{Balky, Identity, MemoryRows, Rows, RowsFault};
 pub use sqlite_rows::SqliteRows;

@@ -1,11 +1,13 @@
 //! The queries on the table that a layout keeps its rows in.
 
-ghost use Rattle.std.specs.Prelude.{◌≡◌, ◌≤◌, false, option_to_list, IsTrue, IfOk, OnOk};
+ghost use Rattle.std.specs.Prelude.{◌≡◌, ◌⊎◌, ◌≤◌, false, List, option_to_list, IsTrue, IfOk, OnOk};
+ghost use Rattle.sqlite_value.specs.Order.{Row as RowValue};
 ghost use Rattle.sqlite_trees.specs.View.{doubt};
 ghost use Rattle.sqlite.specs.State.{HasCleanDisk, IsUnchanged};
 ghost use Rattle.sqlite.specs.Held.{state};
 ghost use Rattle.row_table.specs.Tables.{layout_tree, layout_schema};
 ghost use Rattle.row_table.specs.Rows.{columns_at, Serves, WasKept, IsListing, AreRows};
+ghost use Rattle.row_table.specs.Cursor.{ListsFirst};
 ghost use Rattle.row_columns.specs.Layouts.{layout_of};
 ghost use Rattle.acceptor_store.specs.Sqlite.{Lists};
 
@@ -80,6 +82,19 @@ pub(crate) fn visit_all<S: Alter, T: Taker>(
     ensures listed { HasCleanDisk (state S.Store conn.new) → (state S.Store conn.old).now.schema ≡ layout_schema (layout_of layout)
         → IfOk result (λ all. IsTrue all → Lists (layout_of layout) (state S.Store conn.old).now.trees (T.took taker.old taker.new)) }
     ensures enough { IfOk result (λ all. all ≡ false → T.has_enough taker.new) }
+
+    // However it ends, the taker has had the first of them, or is as it was.
+    ensures front { HasCleanDisk (state S.Store conn.new) → (IsTrue (state S.Store conn.old).is_open → (state S.Store conn.old).now.schema ≡ layout_schema (layout_of layout))
+        → (taker.new ≡ taker.old) ⊎ ((rows : List RowValue) × ListsFirst (layout_of layout) (state S.Store conn.old) rows × T.took taker.old taker.new rows) }
+
+    // It has had some rows, and nothing else.
+    ensures only { (rows : List RowValue) × T.took taker.old taker.new rows }
+    ensures serves { Serves (layout_of layout) (state S.Store conn.old) → Serves (layout_of layout) (state S.Store conn.new) }
+    ensures open { Serves (layout_of layout) (state S.Store conn.old) → HasCleanDisk (state S.Store conn.new) → OnOk result (IsTrue (state S.Store conn.new).is_open) }
+    ensures at_rest { Serves (layout_of layout) (state S.Store conn.old) → HasCleanDisk (state S.Store conn.new) → OnOk result ((state S.Store conn.old).now.schema ≡ layout_schema (layout_of layout)) }
+    ensures same { Serves (layout_of layout) (state S.Store conn.old) → HasCleanDisk (state S.Store conn.new) → IsTrue (state S.Store conn.new).is_open → WasKept (state S.Store conn.old) (state S.Store conn.new) }
+    ensures crash { Serves (layout_of layout) (state S.Store conn.old) → HasCleanDisk (state S.Store conn.new) → IsTrue (state S.Store conn.old).is_open
+        → (db : _) → (state S.Store conn.new).may_leave db → (state S.Store conn.old).may_leave db }
 
     // On any table, outside a transaction, it changes nothing.
     ensures rests { HasCleanDisk (state S.Store conn.new) → (state S.Store conn.old).now.schema ≡ layout_schema (layout_of layout)

@@ -1,7 +1,7 @@
 //! Rows in a database.
 
-ghost use Rattle.std.specs.Prelude.{◌≡◌, ◌≤◌, ◌⊎◌, ℕ, true, false, None, Err, IsTrue, IfOk, IfErr, OnOk, OnErr};
-ghost use Rattle.protocol.specs.Rows.{blank};
+ghost use Rattle.std.specs.Prelude.{◌≡◌, ◌≤◌, ◌⊎◌, ℕ, true, false, List, None, Err, IsTrue, IfOk, IfErr, OnOk, OnErr};
+ghost use Rattle.protocol.specs.Rows.{Row as RowValue, blank};
 ghost use Rattle.sqlite_trees.specs.View.{doubt};
 ghost use Rattle.sqlite.specs.State.{HasCleanDisk};
 ghost use Rattle.tape_frames.specs.Entries.{version_of};
@@ -12,10 +12,12 @@ ghost use Rattle.protocol.specs.Versions.{Two};
 ghost use Rattle.row_columns.specs.StationRow.{IsStationOf};
 ghost use Rattle.row_columns.specs.Layouts.{layout_now, made_in};
 ghost use Rattle.acceptor_store.specs.Sqlite.{rows_layout, rows_version};
+ghost use Rattle.acceptor_store.specs.Reading.{SeesAll, SeesFront};
 ghost use Rattle.saved_rows.specs.Saved.{SameRows, WithRow, IsEither, IsListOf, HasPromise, RowFits, AreFitting, Rises};
 
 use crate::new_tables::make_tables;
 use crate::opening::take_up;
+use crate::reading::{RowVisitor, show_all};
 use crate::statements::{fault_of, list, read, save};
 use crate::upgrade::go_over;
 use ballots::{Number, Row};
@@ -225,6 +227,47 @@ impl<S: Alter + Drop> SqliteRows<S> {
         let layout = layout_now(self.was, self.upgraded);
         match list(self.alloc, &mut self.conn, layout) {
             Ok(rows) => Ok(rows),
+            Err(fault) => {
+                self.refusals = self.refusals.saturating_add(1);
+                Err(fault)
+            }
+        }
+    }
+
+    /// Shows all rows that are saved to a visitor, one by one and in order of their numbers, and answers whether it has seen all of them. No row is changed.
+    ///
+    /// It has not where it wanted no more. A refusal is counted, as one of [`SqliteRows::all`] is, and may come after some rows: the visitor has then seen those
+    /// before the first that is damaged or could not be read. No list of the rows is kept.
+    pub fn visit<V: RowVisitor>(&mut self, visitor: &mut V) -> Result<bool, RowsFault>
+        ensures rows { IsKept S.Store self.new → IfOk result (λ all. IsTrue all → SeesAll V.saw visitor.old visitor.new (saved_of S.Store self.old)) }
+        ensures enough { IfOk result (λ all. all ≡ false → V.has_enough visitor.new) }
+
+        // However it ends, the visitor has seen the first rows, or is as it was.
+        ensures front { IsKept S.Store self.new → SeesFront V.saw visitor.old visitor.new (saved_of S.Store self.old) }
+
+        // Whoever wrote to the database, it has seen some rows, and nothing else.
+        ensures only { (items : List (ℕ × RowValue)) × V.saw visitor.old visitor.new items }
+        ensures open { IsKept S.Store self.new → OnOk result (IsOpen S.Store self.new) }
+        ensures same { IsKept S.Store self.new → IsOpen S.Store self.new → SameRows (saved_of S.Store self.old) (saved_of S.Store self.new) }
+        ensures cause { OnErr result (Rises self.old.refusals self.new.refusals) }
+        ensures counts { self.old.refusals ≤ self.new.refusals }
+        ensures was_kept { IsKept S.Store self.new → IsKept S.Store self.old }
+        ensures was_open { IsKept S.Store self.new → IsOpen S.Store self.new → IsOpen S.Store self.old }
+        ensures stopped { IsTrue self.old.stopped → (result ≡ Err RowsFault.Store) × (visitor.new ≡ visitor.old) }
+        ensures undamaged { IsKept S.Store self.new → IfErr result IsRefusal }
+        ensures stays { (self.new.stopped ≡ self.old.stopped) × (self.new.identity ≡ self.old.identity) × (self.new.upgraded ≡ self.old.upgraded) }
+
+        // What the store owes stays as it was.
+        ensures ours { (self.new.alone ≡ self.old.alone) × (self.new.was ≡ self.old.was) × (self.new.found ≡ self.old.found) }
+        ensures crash { IsKept S.Store self.new → IsOpen S.Store self.old → (left : _) → MayLeave S.Store self.new left → MayLeave S.Store self.old left }
+    {
+        if self.stopped {
+            self.refusals = self.refusals.saturating_add(1);
+            return Err(RowsFault::Store);
+        }
+        let layout = layout_now(self.was, self.upgraded);
+        match show_all(self.alloc, &mut self.conn, layout, visitor) {
+            Ok(all) => Ok(all),
             Err(fault) => {
                 self.refusals = self.refusals.saturating_add(1);
                 Err(fault)

@@ -215,8 +215,8 @@ pub fn damage_in(layout: Layout, rows: &[sqlite::Row]) -> Option<i64>
     None
 }
 
-/// The number and the row that a row of the listing is.
-fn item_in(
+/// The number and the row that a row of the listing is; `None` where it is no row of the layout, or stands under no circuit number.
+pub fn item_in(
     alloc: Global,
     layout: Layout,
     row: &sqlite::Row,

@@ -1,5 +1,5 @@
 -- What the query of all rows answers.
-use Rattle.std.proofs.Common.{Result, Ok, Err, IfOk, OnOk, ◌≡◌, ℕ, List, [], ◌∷◌, map, refl, ap, subst, ◌∙◌}
+use Rattle.std.proofs.Common.{Result, Ok, Err, IfOk, OnOk, ◌≡◌, ◌⊎◌, inl, inr, ℕ, List, [], ◌∷◌, ◌++◌, map, refl, sym, ap, subst, ◌∙◌, IsTrue}
 use Rattle.std.specs.Prelude.{flat_map, IsSorted}
 use Rattle.std.specs.List.Sorted.{IsPermutation}
 use Rattle.sqlite_value.specs.Order.{Row, column, value_cmp}
@@ -9,13 +9,16 @@ use Rattle.sqlite_value.specs.declared.value.Value.TheVariants.{Null}
 use Rattle.sqlite_trees.proofs.ListLemmas.{map-map}
 use Rattle.sqlite.specs.Command.TheVariants.{Select}
 use Rattle.sqlite.specs.Query.{Output, output, output_cmp}
-use Rattle.sqlite.specs.State.{State, Shown}
-use Rattle.sqlite.proofs.Callers.{reads_as}
+use Rattle.sqlite.specs.Clock.{timed}
+use Rattle.sqlite.specs.Listing.{understood}
+use Rattle.sqlite.specs.State.{State, Shown, IsUnchanged}
+use Rattle.sqlite.proofs.Callers.{reads_as, command_of, begins_shown, EndsIn}
 use Rattle.sqlite.specs.Program.{overlay}
 use Rattle.sqlite_trees.specs.Tree.{Trees}
 use Rattle.row_table.specs.Tables.{Layout, layout_tree, layout_schema}
 use Rattle.row_table.specs.Tables.Layout.{First, Second}
 use Rattle.row_table.specs.Rows.{with_key, IsListing}
+use Rattle.row_table.specs.Cursor.{HasGivenFirst, ListsFirst}
 use Rattle.row_table.proofs.ReadTexts.{all_text, all_is, in_order, all_names}
 use Rattle.row_table.proofs.QueryLemmas.{overlay_is}
 
@@ -49,6 +52,21 @@ lists layout old new rows schema h =
       sorted = subst (λ R. IsSorted R a.ordered) (by_key_alone layout) a.sorted;
       shown = a.shown;
     }
+
+-- rows that the answer begins with begin the listing: the query computes no table, so it ends
+pub lists_first : (layout : Layout) (s : State) (rows : List Row) → s.now.schema ≡ layout_schema layout → HasGivenFirst (all_text layout) s rows → ListsFirst layout s rows
+lists_first layout s rows schema h =
+    let same : IsUnchanged s s = (record { was_open = h.0; is_open = h.0; now_is = refl; committed_is = refl; mode = refl }, record { changes = refl; last_rowid = refl }, refl) in
+    let whole = begins_shown (all_text layout) [] s s rows h.1 same (λ c db it source.
+    let command = ap command_of (sym it.is ∙ ap (λ has. understood has (all_text layout)) schema) ∙ (all_is layout).command in
+    subst (λ k. EndsIn k db (timed [] c.formats it.now)) (sym command) tt) in
+    (h.0, whole.0, lists layout s s (rows ++ whole.0) schema whole.1)
+
+-- what was taken of an answer was taken of the listing
+pub took_first : {T : Type 0} (took : T → T → List Row → Type 0) (was now : T) (layout : Layout) (s : State) → (IsTrue s.is_open → s.now.schema ≡ layout_schema layout)
+    → (now ≡ was) ⊎ ((rows : List Row) × HasGivenFirst (all_text layout) s rows × took was now rows) → (now ≡ was) ⊎ ((rows : List Row) × ListsFirst layout s rows × took was now rows)
+took_first took was now layout s schema (inl same) = inl same
+took_first took was now layout s schema (inr h) = inr (h.0, lists_first layout s h.0 (schema h.1.0) h.1, h.2)
 
 -- what holds of an answer
 pub mapped : {V E : Type 0} {P Q : V → Type 0} → ((v : V) → P v → Q v) → (r : Result V E) → IfOk r P → IfOk r Q

@@ -8,11 +8,11 @@ use Rattle.sqlite.specs.Effect.{Database}
 use Rattle.sqlite.specs.Held.{Held, state}
 use Rattle.sqlite.specs.Given.{HasGiven, HasBegun}
 use Rattle.sqlite.specs.Listing.{understood, reads_listing, IsSourceOf}
-use Rattle.sqlite.specs.State.{State, Fails, IsUnchanged, IsRolledBack, Survives, Shown, ShowsRows}
+use Rattle.sqlite.specs.State.{State, Fails, IsUnchanged, IsRolledBack, Survives, Shown, ShowsRows, Begins}
 use Rattle.sqlite.specs.Clock.{timed}
 use Rattle.sqlite.proofs.StateLemmas.{survives_then}
-use Rattle.sqlite.proofs.Callers.{IsPlain, begun_plain, unchanged_then}
-use Rattle.row_table.specs.Cursor.{OnlyReads, WritesNothing}
+use Rattle.sqlite.proofs.Callers.{IsPlain, begun_plain, unchanged_then, given_begin}
+use Rattle.row_table.specs.Cursor.{OnlyReads, WritesNothing, HasGivenFirst}
 use Rattle.row_table.proofs.StateLemmas.{shown_open}
 
 -- a query that began found the connection open
@@ -60,3 +60,20 @@ shown_since sql params first old new rows reads same h =
         unchanged_then first old new same it.3,
       ),
     )
+
+-- an answer that begins with rows when all is as at first begins with them at first
+begins_since : (sql : List ℕ) (params : Row) (first old : State) (rows : List Row) → IsUnchanged first old → Begins sql params old rows → Begins sql params first rows
+unfolding Begins
+begins_since sql params first old rows same h =
+    let e = same.0.now_is in (
+      h.0,
+      record { is = subst (λ (d : Database). understood d.schema sql ≡ Ok h.0) e h.1.is; whole = h.1.whole; given = h.1.given; now = h.1.now },
+      h.2,
+      h.3,
+      subst (λ (d : Database). IsSourceOf (reads_listing d.schema sql) d h.3) e h.4,
+      h.5,
+    )
+
+-- the rows that were given so far are the first of the answer
+pub given_first : {S : Type 0} (g : Ghosts S) (sql : List ℕ) (first : State) (h : Held S) (rows : List Row) → IsUnchanged first (state g h) → HasGiven g sql [] h rows → HasGivenFirst sql first rows
+given_first g sql first h rows same it = (same.0.was_open, begins_since sql [] first (state g h) rows same (given_begin g sql [] h rows it))

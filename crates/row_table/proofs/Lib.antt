@@ -11,6 +11,7 @@ pub mod PutClauses
 pub mod GetLemmas
 pub mod AllLemmas
 pub mod RisingLemmas
+pub mod RiseLemmas
 pub mod MakeLemmas
 pub mod StationRowLemmas
 pub mod EntryLemmas

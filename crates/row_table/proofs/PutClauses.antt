@@ -108,6 +108,9 @@ module _ (layout : Layout) (sql : List ℕ) (n : ℕ) (row : Row) (it : Replaces
 pub reads_in : (layout : Layout) (sql : List ℕ) (old : State) → IsPlain (understood (layout_schema layout) sql) → old.now.schema ≡ layout_schema layout → OnlyReads old sql
 reads_in layout sql old plain has opened = subst (λ s. IsPlain (understood s sql)) (sym has) plain
 
+pub reads_open : (layout : Layout) (sql : List ℕ) (old : State) → IsPlain (understood (layout_schema layout) sql) → (IsTrue old.is_open → old.now.schema ≡ layout_schema layout) → OnlyReads old sql
+reads_open layout sql old plain has opened = reads_in layout sql old plain (has opened) opened
+
 pub reads_serving : (layout : Layout) (sql : List ℕ) (old : State) → IsPlain (understood (layout_schema layout) sql) → Serves layout old → HasCleanDisk old → OnlyReads old sql
 reads_serving layout sql old plain serves clean opened = reads_in layout sql old plain ((serves clean).1 opened).schema opened
 

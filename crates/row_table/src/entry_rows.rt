@@ -8,6 +8,7 @@ ghost use Rattle.sqlite.specs.Held.{state};
 ghost use Rattle.row_table.specs.Tables.{Origin, entries_tree, layout_schema};
 ghost use Rattle.row_table.specs.Tables.Layout.{Second};
 ghost use Rattle.row_table.specs.Rows.{SavesIn, Serves, WasSaved, WasKept, columns_at, IsListing, AreRows};
+ghost use Rattle.row_table.specs.Cursor.{ListsFirst};
 ghost use Rattle.row_table.specs.Entries.{entry_columns};
 
 use crate::cursor::{Taker, each_row};
@@ -121,6 +122,13 @@ pub fn visit_entries<S: Alter, T: Taker>(
     ensures listed { (origin : Origin) → HasCleanDisk (state S.Store conn.new) → (state S.Store conn.old).now.schema ≡ layout_schema (Second origin)
         → IfOk result (λ all. IsTrue all → (rows : List RowValue) × IsListing (Second origin) ((state S.Store conn.old).now.trees (entries_tree origin)) rows × T.took taker.old taker.new rows) }
     ensures enough { IfOk result (λ all. all ≡ false → T.has_enough taker.new) }
+
+    // However it ends, the taker has had the first of them, or is as it was.
+    ensures front { (origin : Origin) → HasCleanDisk (state S.Store conn.new) → (IsTrue (state S.Store conn.old).is_open → (state S.Store conn.old).now.schema ≡ layout_schema (Second origin))
+        → (taker.new ≡ taker.old) ⊎ ((rows : List RowValue) × ListsFirst (Second origin) (state S.Store conn.old) rows × T.took taker.old taker.new rows) }
+
+    // It has had some rows, and nothing else.
+    ensures only { (rows : List RowValue) × T.took taker.old taker.new rows }
     ensures serves { (origin : Origin) → Serves (Second origin) (state S.Store conn.old) → Serves (Second origin) (state S.Store conn.new) }
     ensures open { (origin : Origin) → Serves (Second origin) (state S.Store conn.old) → HasCleanDisk (state S.Store conn.new) → OnOk result (IsTrue (state S.Store conn.new).is_open) }
     ensures at_rest { (origin : Origin) → Serves (Second origin) (state S.Store conn.old) → HasCleanDisk (state S.Store conn.new) → OnOk result ((state S.Store conn.old).now.schema ≡ layout_schema (Second origin)) }

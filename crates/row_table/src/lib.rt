@@ -13,7 +13,7 @@ mod upgrade;
 pub use cursor::Taker;
 pub use entries::{EntryColumns, add_entries, add_entry, make_entry_table};
 pub use entry_rows::{all_entries, get_entry, put_entry, visit_entries};
-pub use rising::{are_rising, number_above, rising_is_listed};
+pub use rising::{are_rising, number_above, rising_is_listed, rows_rise};
 pub use rows::{all_rows, get_row, put_row, visit_rows};
 pub use station::get_station;
 pub use tables::{create_entry_tables, create_tables};

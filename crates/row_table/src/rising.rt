@@ -4,7 +4,7 @@ ghost use Rattle.std.specs.Prelude.{None, ◌≡◌, ◌∷◌, true, false, Lis
 ghost use Rattle.sqlite_value.specs.Order.{Row as RowValue, column};
 ghost use Rattle.row_table.specs.Tables.{Layout};
 ghost use Rattle.row_table.specs.Rising.{key_of, rise_from, AreListed};
-ghost use Rattle.row_table.specs.Rows.{IsListing};
+ghost use Rattle.row_table.specs.Rows.{IsListing, AreRows};
 
 use sqlite::Row;
 use sqlite::types::ValueRef;
@@ -57,4 +57,9 @@ pub fn are_rising(rows: &[Row]) -> bool
 /// A table whose listing rises has each number once, and what is found in the one is found in the other.
 pub fn rising_is_listed()
     ensures { (layout : Layout) (table rows : List RowValue) → IsListing layout table rows → rise_from None rows ≡ true → AreListed layout table rows }
+{}
+
+/// The listing of a table that has each number once rises.
+pub fn rows_rise()
+    ensures { (layout : Layout) (table rows : List RowValue) → IsListing layout table rows → AreRows table → rise_from None rows ≡ true }
 {}

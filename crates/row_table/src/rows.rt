@@ -8,6 +8,7 @@ ghost use Rattle.sqlite.specs.Held.{state};
 ghost use Rattle.row_table.specs.Tables.{rows_tree, layout_schema};
 ghost use Rattle.row_table.specs.Tables.Layout.{First};
 ghost use Rattle.row_table.specs.Rows.{columns_of, columns_at, SavesIn, Serves, WasSaved, WasKept, IsListing, AreRows};
+ghost use Rattle.row_table.specs.Cursor.{ListsFirst};
 
 use crate::cursor::{Taker, each_row};
 use sqlite::{Alter, Connection, Error, Row, params};
@@ -134,6 +135,13 @@ pub fn visit_rows<S: Alter, T: Taker>(
     ensures listed { HasCleanDisk (state S.Store conn.new) → (state S.Store conn.old).now.schema ≡ layout_schema First
         → IfOk result (λ all. IsTrue all → (rows : List RowValue) × IsListing First ((state S.Store conn.old).now.trees rows_tree) rows × T.took taker.old taker.new rows) }
     ensures enough { IfOk result (λ all. all ≡ false → T.has_enough taker.new) }
+
+    // However it ends, the taker has had the first of them, or is as it was.
+    ensures front { HasCleanDisk (state S.Store conn.new) → (IsTrue (state S.Store conn.old).is_open → (state S.Store conn.old).now.schema ≡ layout_schema First)
+        → (taker.new ≡ taker.old) ⊎ ((rows : List RowValue) × ListsFirst First (state S.Store conn.old) rows × T.took taker.old taker.new rows) }
+
+    // It has had some rows, and nothing else.
+    ensures only { (rows : List RowValue) × T.took taker.old taker.new rows }
     ensures serves { Serves First (state S.Store conn.old) → Serves First (state S.Store conn.new) }
     ensures open { Serves First (state S.Store conn.old) → HasCleanDisk (state S.Store conn.new) → OnOk result (IsTrue (state S.Store conn.new).is_open) }
     ensures at_rest { Serves First (state S.Store conn.old) → HasCleanDisk (state S.Store conn.new) → OnOk result ((state S.Store conn.old).now.schema ≡ layout_schema First) }

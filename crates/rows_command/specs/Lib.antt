@@ -1,1 +1,2 @@
 pub mod RowsText
+pub mod Printing

@@ -3,6 +3,8 @@
 #![tactic(auto)]
 
 mod listing;
+mod printing;
+mod texts;
 mod upgrade;
 
 pub use listing::print_rows;

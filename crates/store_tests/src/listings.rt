@@ -81,6 +81,35 @@ const DAMAGED: &[Session] = &[
     },
 ];
 
+/// The column gives back a text where a vote was saved.
+const DAMAGING_VOTES: &str =
+    "CREATE TABLE station (one INTEGER PRIMARY KEY, layout INTEGER, circuit INTEGER, member INTEGER, members INTEGER);
+INSERT INTO station VALUES (1, 1, 7, 2, 3);
+CREATE TABLE acceptor_row (number INTEGER PRIMARY KEY, promised_round INTEGER, promised_owner INTEGER, vote_round TEXT, vote_owner INTEGER, tape BLOB)";
+
+/// The rows before the first that is not read back are printed, and its fault is told, unless the writer failed before.
+const DAMAGED_LATER: &[Session] = &[Session {
+    statements: DAMAGING_VOTES,
+    deeds: &[
+        Deed::Put(3, PROMISED, None),
+        Deed::Put(12, VOTED, None),
+        Deed::Put(13, PROMISED, None),
+        Deed::Put(14, VOTED, None),
+    ],
+    listing: Listing::Refused(RowsFault::Damaged { number: 12 }),
+    prints: &[
+        Print {
+            text: "station 2 of 3 circuit 7\n3 1.1 - -\n",
+            end: End::Store,
+            fault: "store: damaged 12\n",
+            ..NO_ROWS
+        },
+        Print { room: 34, ..FRONT },
+        Print { room: 24, ..FRONT },
+    ],
+    ..OPENED
+}];
+
 /// The table refuses the save of 100.
 const REFUSING: &str =
     "CREATE TABLE station (one INTEGER PRIMARY KEY, layout INTEGER, circuit INTEGER, member INTEGER, members INTEGER);
@@ -185,6 +214,7 @@ const OVER_REFUSED: &[Session] = &[
 const STORIES: &[&[Session]] = &[
     PRINTED,
     DAMAGED,
+    DAMAGED_LATER,
     REFUSED,
     OVER_ONCE,
     OVER_UNWRITTEN,

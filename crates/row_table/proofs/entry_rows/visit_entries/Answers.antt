@@ -6,9 +6,9 @@ use Rattle.row_table.specs.Tables.Layout.{Second}
 use Rattle.row_table.specs.Rows.{Serves}
 use Rattle.row_table.specs.Cursor.{OnlyReads, WritesNothing}
 use Rattle.row_table.proofs.ReadTexts.{all_text, all_is}
-use Rattle.row_table.proofs.AllLemmas.{lists, mapped, as_answered}
+use Rattle.row_table.proofs.AllLemmas.{lists, took_first, mapped, as_answered}
 use Rattle.row_table.proofs.RisingLemmas.{opens}
-use Rattle.row_table.proofs.PutClauses.{IsSettled, was_early, reads_in, reads_serving, reading_serves, reading_kept, reading_open, reading_has, reading_rests, query_crash, query_left}
+use Rattle.row_table.proofs.PutClauses.{IsSettled, was_early, reads_in, reads_open, reads_serving, reading_serves, reading_kept, reading_open, reading_has, reading_rests, query_crash, query_left}
 use Rattle.row_table.proofs.entry_rows.visit_entries.Goals as goal
 
 pub returns : goal.returns
@@ -29,6 +29,8 @@ returns g c =
       unchanged = λ origin clean has. gives.same clean (reads origin has);
       listed = λ origin clean has. mapped (λ all h sure. let shown = h sure in (shown.0, lists (Second origin) old new shown.0 has shown.1, shown.2)) r (gives.all clean (reads origin has));
       enough = gives.enough;
+      front = λ origin clean has. took_first g.T.Taker.took c.args.taker.now c.each_row.new.taker (Second origin) old has (gives.front clean (reads_open (Second origin) (all_text (Second origin)) old (plain origin) has));
+      only = gives.only;
       serves = λ origin serves. reading_serves (Second origin) old new survives.clean serves r (same origin serves) (err origin serves);
       «open» = λ origin serves. reading_open (Second origin) old new survives.clean serves r (same origin serves) (err origin serves);
       at_rest = λ origin serves. reading_has (Second origin) old new survives.clean serves r (same origin serves) (err origin serves);

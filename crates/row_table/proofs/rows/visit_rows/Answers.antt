@@ -6,9 +6,9 @@ use Rattle.row_table.specs.Tables.Layout.{First}
 use Rattle.row_table.specs.Rows.{Serves}
 use Rattle.row_table.specs.Cursor.{OnlyReads, WritesNothing}
 use Rattle.row_table.proofs.ReadTexts.{all_text, all_is}
-use Rattle.row_table.proofs.AllLemmas.{lists, mapped, as_answered}
+use Rattle.row_table.proofs.AllLemmas.{lists, took_first, mapped, as_answered}
 use Rattle.row_table.proofs.RisingLemmas.{opens}
-use Rattle.row_table.proofs.PutClauses.{IsSettled, was_early, reads_in, reads_serving, reading_serves, reading_kept, reading_open, reading_has, reading_rests, query_crash, query_left}
+use Rattle.row_table.proofs.PutClauses.{IsSettled, was_early, reads_in, reads_open, reads_serving, reading_serves, reading_kept, reading_open, reading_has, reading_rests, query_crash, query_left}
 use Rattle.row_table.proofs.rows.visit_rows.Goals as goal
 
 pub returns : goal.returns
@@ -29,6 +29,8 @@ returns g c =
       unchanged = λ clean has. gives.same clean (reads has);
       listed = λ clean has. mapped (λ all h sure. let shown = h sure in (shown.0, lists First old new shown.0 has shown.1, shown.2)) r (gives.all clean (reads has));
       enough = gives.enough;
+      front = λ clean has. took_first g.T.Taker.took c.args.taker.now c.each_row.new.taker First old has (gives.front clean (reads_open First (all_text First) old plain has));
+      only = gives.only;
       serves = λ serves. reading_serves First old new survives.clean serves r (same serves) (err serves);
       «open» = λ serves. reading_open First old new survives.clean serves r (same serves) (err serves);
       at_rest = λ serves. reading_has First old new survives.clean serves r (same serves) (err serves);

@@ -1,10 +1,32 @@
-use Rattle.std.proofs.Common.{inr, rules}
-use Rattle.std.specs.Io.KnownBytes.{Appends}
+use Rattle.std.proofs.Common.{rules, inr}
 use Rattle.streams.proofs.Fronts.{front_of_all}
-use Rattle.rows_command.specs.RowsText.{rows_text}
+use Rattle.acceptor_store.specs.Sqlite.{saved_of}
+use Rattle.streams.specs.Fronts.{AppendsFront}
+use Rattle.std.specs.Io.KnownBytes.{Appends}
+use Rattle.rows_command.specs.Printing.{PrintsAll, head_text}
+use Rattle.rows_command.proofs.PrintLemmas.{end_stopped}
 use Rattle.rows_command.proofs.listing.print_rows.Goals as goal
 
-pub returns-in-Ok-put_and_flush-clause-front : goal.returns-in-Ok-put_and_flush-clause-front
-returns-in-Ok-put_and_flush-clause-front g c =
-    let wrote : Appends (g.W.Write.contents c.args.out.now) (g.W.Write.contents c.put_and_flush.new.out) (rows_text c.args.rows.now.identity c.in-Ok.all.items) = search rules in
-    λ kept. inr (record { rows = c.in-Ok.all.items; are_all = c.in-Ok.ensures.rows kept; wrote = front_of_all _ _ _ wrote })
+pub returns-in-Ok-clause-front : goal.returns-in-Ok-clause-front
+returns-in-Ok-clause-front g c kept =
+    let saved = saved_of g.S.Store c.args.rows.now in
+    let i = c.args.rows.now.identity in
+    let old = g.W.Write.contents c.args.out.now in
+    let mid = g.W.Write.contents c.print_seen-begun.new.out in
+    let new = g.W.Write.contents c.put_end.new.out in
+    let begun = c.print_seen-begun.result.0 in
+    let all : PrintsAll saved i old mid begun = (rw c.in_default.is at (c.print_seen-begun.ensures.all)) kept in
+    let rest : Appends mid new (head_text i begun) = search rules in
+    inr (end_stopped saved i old mid new begun all (front_of_all _ _ _ rest))
+
+pub returns-in-Err-put_end-clause-front : goal.returns-in-Err-put_end-clause-front
+returns-in-Err-put_end-clause-front g c kept =
+    let saved = saved_of g.S.Store c.args.rows.now in
+    let i = c.args.rows.now.identity in
+    let old = g.W.Write.contents c.args.out.now in
+    let mid = g.W.Write.contents c.print_seen-begun.new.out in
+    let new = g.W.Write.contents c.put_end.new.out in
+    let begun = c.print_seen-begun.result.0 in
+    let all : PrintsAll saved i old mid begun = (rw c.in_default.is at (c.print_seen-begun.ensures.all)) kept in
+    let rest : AppendsFront mid new (head_text i begun) = search rules in
+    inr (end_stopped saved i old mid new begun all rest)

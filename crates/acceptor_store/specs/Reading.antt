@@ -1,0 +1,36 @@
+-- Saved rows that are seen one by one, as they are read.
+use Rattle.std.specs.Prelude.{◌≡◌, ◌⊎◌, ◌++◌, ℕ, List, [], Option, None, IfSome, IsSome, refl}
+use Rattle.std.proofs.Common.{sym, subst}
+use Rattle.std.specs.List.{filter_map}
+use Rattle.sqlite_value.specs.Order.{Row as Columns}
+use Rattle.protocol.specs.Rows.{Row}
+use Rattle.row_table.specs.Tables.{Layout}
+use Rattle.saved_rows.specs.Saved.{Saved, IsListOf}
+use Rattle.saved_rows.specs.declared.fault.RowsFault.{RowsFault}
+use Rattle.row_columns.specs.Columns.{item_in, damage_in}
+use Rattle.acceptor_store.specs.Sqlite.{IsRefusal}
+
+-- the list that is the map begins with these numbers and rows
+abbrev pub IsFrontOf : Saved → List (ℕ × Row) → Type 0
+IsFrontOf saved items = (rest : List (ℕ × Row)) × IsListOf saved (items ++ rest)
+
+-- the visitor is as it was, or it has seen the first numbers and rows of the map
+abbrev pub SeesFront : {V : Type 0} → (V → V → List (ℕ × Row) → Type 0) → V → V → Saved → Type 0
+SeesFront saw was now saved = (now ≡ was) ⊎ ((items : List (ℕ × Row)) × IsFrontOf saved items × saw was now items)
+
+-- it has seen all of them
+abbrev pub SeesAll : {V : Type 0} → (V → V → List (ℕ × Row) → Type 0) → V → V → Saved → Type 0
+SeesAll saw was now saved = (items : List (ℕ × Row)) × IsListOf saved items × saw was now items
+
+-- of these rows of a listing the visitor has seen the first: all of them where there is no fault, and a fault that speaks of a row is a damage among them
+pub record HasSeen {V : Type 0} (saw : V → V → List (ℕ × Row) → Type 0) (layout : Layout) (fault : Option RowsFault) (was now : V) (rows : List Columns) : Type 0 where
+  pub seen : List Columns
+  pub unseen : List Columns
+  pub are : rows ≡ seen ++ unseen
+  pub all : fault ≡ None → unseen ≡ []
+  pub saw_them : saw was now (filter_map (item_in layout) seen)
+  pub cause : IfSome fault (λ f. IsRefusal f ⊎ IsSome (damage_in layout rows))
+
+-- before the first row
+pub seen_none : {V : Type 0} (saw : V → V → List (ℕ × Row) → Type 0) (layout : Layout) (fault : Option RowsFault) (it : V) → saw it it [] → fault ≡ None → HasSeen saw layout fault it it []
+seen_none saw layout fault it none is = subst (λ f. HasSeen saw layout f it it []) (sym is) (record { seen = []; unseen = []; are = refl; all = λ _. refl; saw_them = none; cause = tt })

@@ -1,0 +1,154 @@
+//! Saved rows that are shown one by one, as they are read.
+
+ghost use Rattle.std.specs.Prelude.{◌≡◌, ◌⊎◌, ◌≤◌, ◌++◌, ◌∷◌, [], ℕ, false, None, Some, List, IsTrue, IsSome, IfOk, IfErr, OnOk, refl};
+ghost use Rattle.sqlite_value.specs.Order.{column};
+ghost use Rattle.sqlite_trees.specs.View.{doubt};
+ghost use Rattle.sqlite.specs.State.{HasCleanDisk};
+ghost use Rattle.sqlite.specs.Held.{state};
+ghost use Rattle.protocol.specs.Rows.{Row as RowValue};
+ghost use Rattle.row_table.specs.Tables.{layout_tree};
+ghost use Rattle.row_table.specs.Rows.{Serves, WasKept};
+ghost use Rattle.row_columns.specs.Layouts.{layout_of};
+ghost use Rattle.row_columns.specs.Columns.{row_in, damage_of, item_in, saved_in, AreSound};
+ghost use Rattle.acceptor_store.specs.Sqlite.{IsRefusal};
+ghost use Rattle.acceptor_store.specs.Reading.{HasSeen, SeesAll, SeesFront, seen_none};
+
+use crate::queries::visit_all;
+use crate::statements::fault_of;
+use ballots::{Number, Row};
+use row_columns::{Layout, damage_of, item_in};
+use row_table::{Taker, number_above, rising_is_listed, rows_rise};
+use saved_rows::RowsFault;
+use sqlite::{Alter, Connection};
+use std::alloc::Global;
+
+/// What saved rows are shown to, one by one and in order of their numbers.
+pub trait RowVisitor {
+    // Seeing these numbers and rows, in this order, leads from the one visitor to the other.
+    ghost saw: { Self → Self → List (ℕ × RowValue) → Type 0 };
+
+    // It has all that it wants.
+    ghost has_enough: { Self → Type 0 };
+
+    /// Sees the next row, and answers whether it wants the one after it.
+    fn see(&mut self, number: Number, row: &Row) -> bool
+        ensures saw { (first : Self) (items : List (ℕ × RowValue)) → saw first self.old items → saw first self.new (items ++ (number, row.now) ∷ []) }
+        ensures enough { result ≡ false → has_enough self.new };
+
+    // Seeing none leads nowhere.
+    ghost saw_none: { (it : Self) → saw it it [] };
+}
+
+/// The number and the row that come next in a listing, behind the last number; or what is wrong with them, as a listing of all rows tells it.
+fn next_item(
+    alloc: Global,
+    layout: Layout,
+    last: Option<u64>,
+    columns: &sqlite::Row,
+) -> Result<(Number, Row), RowsFault>
+    ensures item { IfOk result (λ item. item_in (layout_of layout) columns.now ≡ Some item) }
+    ensures fault { IfErr result (λ fault. IsRefusal fault ⊎ IsSome (damage_of (column columns.now 0) (row_in (layout_of layout) 1 columns.now))) }
+{
+    if number_above(last, columns).is_none() {
+        return Err(RowsFault::Store);
+    }
+    if let Some(number) = damage_of(layout, columns) {
+        return Err(RowsFault::Damaged { number });
+    }
+    match item_in(alloc, layout, columns) {
+        Ok(Some(item)) => Ok(item),
+        Ok(None) => Err(RowsFault::Store),
+        Err(_) => Err(RowsFault::OutOfMemory),
+    }
+}
+
+/// Shows the rows of a listing to a visitor, up to the first that is no saved row.
+#[derive(Drop)]
+struct Reader<'a, V: RowVisitor> {
+    alloc: Global,
+    layout: Layout,
+    visitor: &'a mut V,
+    /// The number of the last row.
+    last: Option<u64>,
+    /// What was wrong with a row.
+    fault: Option<RowsFault>,
+}
+
+impl<V: RowVisitor> Taker for Reader<'_, V> {
+    ghost took = { λ old new rows. (old.visitor.ghost_name ≡ new.visitor.ghost_name) × (new.layout ≡ old.layout) × (old.fault ≡ None → HasSeen V.saw (layout_of old.layout) new.fault old.visitor.now new.visitor.now rows) };
+
+    ghost has_enough = { λ it. IsSome it.fault ⊎ V.has_enough it.visitor.now };
+
+    fn take(&mut self, columns: &sqlite::Row) -> bool {
+        if self.fault.is_some() {
+            return false;
+        }
+        match next_item(self.alloc, self.layout, self.last, columns) {
+            Ok((number, row)) => {
+                self.last = Some(u64::from(number.get()));
+                self.visitor.see(number, &row)
+            }
+            Err(fault) => {
+                self.fault = Some(fault);
+                false
+            }
+        }
+    }
+
+    ghost took_none = { λ it. (refl, refl, λ none. seen_none V.saw (layout_of it.layout) it.fault it.visitor.now (V.saw_none it.visitor.now) none) };
+}
+
+/// What came of showing rows, all of them or not, with the fault of one of them, if any has one.
+fn outcome(fault: Option<RowsFault>, all: bool) -> Result<bool, RowsFault>
+    ensures ok { IfOk result (λ of_all. (fault ≡ None) × (of_all ≡ all)) }
+    ensures err { IfErr result (λ of_row. fault ≡ Some of_row) }
+{
+    match fault {
+        None => Ok(all),
+        Some(fault) => Err(fault),
+    }
+}
+
+/// Shows all rows to a visitor, and answers whether these were all of them.
+///
+/// They are not all where the visitor wanted no more. At a fault the rows before it were shown.
+pub(crate) fn show_all<S: Alter, V: RowVisitor>(
+    alloc: Global,
+    conn: &mut Connection<S>,
+    layout: Layout,
+    visitor: &mut V,
+) -> Result<bool, RowsFault>
+    ensures serves { Serves (layout_of layout) (state S.Store conn.old) → Serves (layout_of layout) (state S.Store conn.new) }
+    ensures seen { Serves (layout_of layout) (state S.Store conn.old) → HasCleanDisk (state S.Store conn.new) → (IsTrue (state S.Store conn.old).is_open → AreSound (layout_of layout) ((state S.Store conn.old).now.trees (layout_tree (layout_of layout))))
+        → IfOk result (λ all. IsTrue all → SeesAll V.saw visitor.old visitor.new (saved_in (layout_of layout) (state S.Store conn.old).now.trees)) }
+    ensures enough { IfOk result (λ all. all ≡ false → V.has_enough visitor.new) }
+
+    // However it ends, the first rows were seen, or none.
+    ensures front { Serves (layout_of layout) (state S.Store conn.old) → HasCleanDisk (state S.Store conn.new) → (IsTrue (state S.Store conn.old).is_open → AreSound (layout_of layout) ((state S.Store conn.old).now.trees (layout_tree (layout_of layout))))
+        → SeesFront V.saw visitor.old visitor.new (saved_in (layout_of layout) (state S.Store conn.old).now.trees) }
+
+    // It has seen some rows, and nothing else.
+    ensures only { (items : List (ℕ × RowValue)) × V.saw visitor.old visitor.new items }
+    ensures open { Serves (layout_of layout) (state S.Store conn.old) → HasCleanDisk (state S.Store conn.new) → OnOk result (IsTrue (state S.Store conn.new).is_open) }
+    ensures same { Serves (layout_of layout) (state S.Store conn.old) → HasCleanDisk (state S.Store conn.new) → IsTrue (state S.Store conn.new).is_open → WasKept (state S.Store conn.old) (state S.Store conn.new) }
+    ensures crash { Serves (layout_of layout) (state S.Store conn.old) → HasCleanDisk (state S.Store conn.new) → IsTrue (state S.Store conn.old).is_open
+        → (db : _) → (state S.Store conn.new).may_leave db → (state S.Store conn.old).may_leave db }
+    ensures clean { doubt (state S.Store conn.old).is_clean ≤ doubt (state S.Store conn.new).is_clean }
+
+    // Sound rows are not damaged.
+    ensures refusal { Serves (layout_of layout) (state S.Store conn.old) → HasCleanDisk (state S.Store conn.new) → (IsTrue (state S.Store conn.old).is_open → AreSound (layout_of layout) ((state S.Store conn.old).now.trees (layout_tree (layout_of layout)))) → IfErr result IsRefusal }
+{
+    rising_is_listed();
+    rows_rise();
+    let mut reader = Reader {
+        alloc,
+        layout,
+        visitor,
+        last: None,
+        fault: None,
+    };
+    match visit_all(conn, layout, &mut reader) {
+        Ok(all) => outcome(reader.fault, all),
+        Err(error) => Err(fault_of(&error)),
+    }
+}
