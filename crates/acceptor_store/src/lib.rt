@@ -5,7 +5,6 @@ mod closing;
 mod faults;
 mod files;
 pub mod laws;
-mod migration;
 mod new_tables;
 mod old_tables;
 mod opening;

@@ -1,3 +1,4 @@
 pub mod Layouts
 pub mod Columns
 pub mod StationRow
+pub mod RowsAsEntries
