@@ -6,7 +6,6 @@ mod faults;
 mod files;
 pub mod laws;
 mod new_tables;
-mod old_tables;
 mod opening;
 mod paths;
 mod queries;
