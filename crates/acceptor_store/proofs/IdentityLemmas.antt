@@ -19,7 +19,7 @@ use Rattle.saved_rows.specs.declared.identity.Identity.{Identity}
 use Rattle.saved_rows.specs.Identity.{IsIdentity}
 use Rattle.row_columns.specs.Columns.{whole_in, small}
 use Rattle.row_columns.specs.StationRow.{station_from, station_of, station_in, IsStationOf}
-use Rattle.acceptor_store.proofs.ColumnLemmas.{ranged}
+use Rattle.row_columns.proofs.ColumnLemmas.{ranged}
 
 -- the order of the rows tells nothing
 pub same_station : (xs ys : List Columns) → IsPermutation xs ys → station_in xs ≡ station_in ys

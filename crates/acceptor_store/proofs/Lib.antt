@@ -1,6 +1,4 @@
-pub mod ColumnLemmas
 pub mod ListLemmas
-pub mod MovingLemmas
 pub mod IdentityLemmas
 pub mod StandLemmas
 pub mod UpgradeLemmas

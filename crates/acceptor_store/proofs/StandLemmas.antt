@@ -21,7 +21,7 @@ use Rattle.row_columns.specs.Layouts.{layout_now}
 use Rattle.row_columns.specs.StationRow.{station_in}
 use Rattle.row_columns.specs.Columns.{row_or_blank, columns_for, saved_in, ComesBack}
 use Rattle.acceptor_store.specs.Sqlite.{HoldsRows, IsOfStation, HoldsAll, Stands}
-use Rattle.acceptor_store.proofs.ColumnLemmas.{stays_sound, stays_station}
+use Rattle.row_columns.proofs.SaveLemmas.{stays_sound, stays_station}
 use Rattle.acceptor_store.proofs.IdentityLemmas.{added}
 
 -- rows that were not upgraded are in the layout that was found

@@ -15,7 +15,7 @@ use Rattle.row_table.specs.Entries.{HasLayoutOne, IsUpgraded, WasUpgraded}
 use Rattle.saved_rows.specs.Saved.{SameRows}
 use Rattle.saved_rows.specs.declared.identity.Identity.{Identity}
 use Rattle.row_columns.specs.Columns.{saved_in, saved_at, AreSound}
-use Rattle.acceptor_store.specs.Moving.{HoldsMap}
+use Rattle.row_columns.specs.RowsAsEntries.{HoldsMap}
 use Rattle.acceptor_store.specs.Sqlite.{IsOfStation, HoldsAll, Stands, WentOver}
 use Rattle.acceptor_store.proofs.IdentityLemmas.{lies_in_one, upgraded_station}
 use Rattle.acceptor_store.proofs.StandLemmas.{IsSettled, was_clean, leaves_now, holds_all}

@@ -17,9 +17,9 @@ use Rattle.saved_rows.specs.Saved.{SameRows}
 use Rattle.saved_rows.specs.declared.identity.Identity.{Identity}
 use Rattle.saved_rows.specs.declared.fault.RowsFault.{RowsFault}
 use Rattle.row_columns.specs.Columns.{saved_in}
+use Rattle.row_columns.specs.FoundTables.{has_tables}
 use Rattle.row_columns.specs.StationRow.{IsStationOf}
 use Rattle.acceptor_store.specs.Sqlite.{SqliteOf, IsOurs, IsOfStation, rows_layout, saved_of, RefusesToOpen}
-use Rattle.acceptor_store.specs.Faults.{has_tables}
 
 -- what the store owes: where the database that the files held has the tables of a layout, and no others, they are its own, in that layout
 pub record TakesItsOwn {D : Type 0} {g : Ghosts D} (start : Image) (s : SqliteOf (FileStore D g)) : Type 0 where

@@ -1,7 +1,6 @@
 pub use Rattle.saved_rows.specs.Saved
 pub use Rattle.saved_rows.specs.Memory
 pub use Rattle.saved_rows.specs.Identity
-pub mod Moving
 pub mod Sqlite
 pub mod Faults
 pub mod Files

@@ -21,6 +21,7 @@ use Rattle.saved_rows.specs.declared.identity.Identity.{Identity}
 use Rattle.saved_rows.specs.declared.fault.RowsFault.{RowsFault}
 use Rattle.saved_rows.specs.declared.fault.RowsFault.TheVariants.{Store, WrongStation, WrongSchema, Damaged, OutOfMemory}
 use Rattle.row_columns.specs.StationRow.{IsStationOf}
+pub use Rattle.row_columns.specs.StationRow.{Agrees}
 use Rattle.saved_rows.specs.Saved.{Saved, SameRows}
 use Rattle.row_columns.specs.Layouts.{layout_now}
 use Rattle.row_columns.specs.Columns.{version_in, saved_in, AreSound, damage_in}
@@ -114,10 +115,6 @@ pub record HoldsAll (before : Layout) (i : Identity) (saved : Saved) (db : Trees
 -- a refusal that speaks of no row
 abbrev pub IsRefusal : RowsFault → Type 0
 IsRefusal fault = (fault ≡ Store) ⊎ (fault ≡ OutOfMemory)
-
--- the identity that was given, if any, is this one
-abbrev pub Agrees : Option Identity → Identity → Type 0
-Agrees given i = IfSome given (λ wanted. wanted ≡ i)
 
 -- the listing of the table that the rows of a layout are in
 abbrev pub Lists : Layout → Trees → (List Columns → Type 0) → Type 0

@@ -1,11 +1,14 @@
 //! Why a file of the host gives no rows.
 
-ghost use Rattle.std.specs.Prelude.{◌≡◌};
+ghost use Rattle.std.specs.Prelude.{◌≡◌, false, OnOk};
+ghost use Rattle.row_columns.specs.FoundTables.{has_tables};
 ghost use Rattle.acceptor_store.specs.Faults.{rows_fault};
 ghost use Rattle.acceptor_store.specs.Sqlite.{IsRefusal};
 
+use row_columns::has_tables;
 use saved_rows::RowsFault;
 use sqlite::{Error, ErrorCode};
+use sqlite_schema::schema::Schema;
 
 /// Why rows are not taken up from a file, made in it, or closed.
 #[derive(Clone, Copy, PartialEq, Eq)]
@@ -62,5 +65,16 @@ pub(crate) fn file_fault_of(error: &Error) -> FileFault
         Error::SqliteFailure(ErrorCode::CannotOpen) => FileFault::Unopened,
         Error::SqliteFailure(ErrorCode::DiskFull) => FileFault::DiskFull,
         _ => FileFault::DiskFailed,
+    }
+}
+
+/// Refuses a database that has the tables of saved rows.
+pub(crate) fn test_unmade(schema: &Schema) -> Result<(), FileFault>
+    ensures { OnOk result (has_tables schema.now ≡ false) }
+{
+    if has_tables(schema) {
+        Err(FileFault::Made)
+    } else {
+        Ok(())
     }
 }

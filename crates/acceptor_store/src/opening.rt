@@ -1,13 +1,12 @@
 //! What a database is tested for before its rows are taken up.
 
-ghost use Rattle.std.specs.Prelude.{◌≡◌, ◌≢◌, ◌⊎◌, ◌≤◌, false, Some, None, IsTrue, IfSome, IfOk, IfErr, OnOk};
+ghost use Rattle.std.specs.Prelude.{◌≡◌, ◌⊎◌, ◌≤◌, false, Some, None, IsTrue, IfSome, IfOk, IfErr, OnOk};
 ghost use Rattle.sqlite_trees.specs.View.{doubt};
 ghost use Rattle.sqlite.specs.State.{HasCleanDisk, IsUnchanged};
 ghost use Rattle.sqlite.specs.Held.{state};
 ghost use Rattle.row_table.specs.Tables.{Layout as Tables, layout_schema, layout_tree};
 ghost use Rattle.row_table.specs.Rows.{Serves, WasKept};
 ghost use Rattle.row_columns.specs.Layouts.{layout_of};
-ghost use Rattle.saved_rows.specs.declared.identity.Identity.{Identity as IdentityValue};
 ghost use Rattle.saved_rows.specs.declared.fault.RowsFault.TheVariants.{WrongSchema};
 ghost use Rattle.row_columns.specs.StationRow.{stored_station, IsStationOf};
 ghost use Rattle.row_columns.specs.Columns.{AreSound};
@@ -16,7 +15,7 @@ ghost use Rattle.acceptor_store.specs.Sqlite.{Agrees, HoldsRows, IsRefusal, Refu
 use crate::queries::visit_all;
 use crate::statements::fault_of;
 use crate::testing::RowTest;
-use row_columns::{Layout, layout_in, layout_number, station_in};
+use row_columns::{Layout, agrees, layout_in, station_in, wanted_station};
 use row_table::get_station;
 use saved_rows::{Identity, RowsFault};
 use sqlite::{Alter, Connection};
@@ -44,17 +43,6 @@ fn read_station<S: Alter>(conn: &mut Connection<S>) -> Result<(u32, Identity), R
     }
 }
 
-/// Whether a station is the one given, if any.
-fn agrees(given: Option<Identity>, station: Identity) -> bool
-    ensures agrees { IsTrue result → Agrees given station }
-    ensures other { result ≡ false → (wanted : IdentityValue) × (given ≡ Some wanted) × (wanted ≢ station) }
-{
-    match given {
-        Some(wanted) => wanted == station,
-        None => true,
-    }
-}
-
 /// The identity that the database holds in this layout, where it is the one given, if any.
 fn take_station<S: Alter>(
     conn: &mut Connection<S>,
@@ -72,15 +60,8 @@ fn take_station<S: Alter>(
     ensures leaves { HasCleanDisk (state S.Store conn.new) → (state S.Store conn.old).now.schema ≡ layout_schema (layout_of layout) → (db : _) → (state S.Store conn.new).may_leave db → (state S.Store conn.old).may_leave db }
     ensures clean { doubt (state S.Store conn.old).is_clean ≤ doubt (state S.Store conn.new).is_clean }
 {
-    let (number, station) = read_station(conn)?;
-    if number != layout_number(layout) {
-        return Err(RowsFault::WrongSchema);
-    }
-    if agrees(given, station) {
-        Ok(station)
-    } else {
-        Err(RowsFault::WrongStation)
-    }
+    let stored = read_station(conn)?;
+    wanted_station(stored, layout, given)
 }
 
 /// Why a database without a table of saved rows is refused: its row of the station may tell another layout, or another station.

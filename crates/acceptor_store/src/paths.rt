@@ -9,9 +9,9 @@ ghost use Rattle.tape_frames.specs.Entries.{version_of};
 ghost use Rattle.saved_rows.specs.Identity.{IsIdentity};
 ghost use Rattle.acceptor_store.specs.Sqlite.{IsOurs, Agrees, rows_version, saved_of};
 
-use crate::faults::{FileFault, file_fault_of};
-use crate::old_tables::{has_none, test_unmade};
+use crate::faults::{FileFault, file_fault_of, test_unmade};
 use crate::sqlite_rows::SqliteRows;
+use row_columns::has_none;
 use saved_rows::Identity;
 use sqlite::{Connection, FileFrom, FileStore, Start};
 use std::fs;

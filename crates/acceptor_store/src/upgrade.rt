@@ -11,13 +11,12 @@ ghost use Rattle.row_table.specs.Entries.{with_entries};
 ghost use Rattle.saved_rows.specs.declared.identity.Identity.{Identity};
 ghost use Rattle.row_columns.specs.Layouts.{layout_of};
 ghost use Rattle.row_columns.specs.Columns.{saved_in};
-ghost use Rattle.acceptor_store.specs.Moving.{HoldsMap};
+ghost use Rattle.row_columns.specs.RowsAsEntries.{HoldsMap};
 ghost use Rattle.acceptor_store.specs.Sqlite.{HoldsAll, Stands, WentOver, IsRefusal};
 
-use crate::migration::entries_for;
 use crate::queries::find;
 use crate::statements::{fault_of, list};
-use row_columns::Layout;
+use row_columns::{Layout, entries_for};
 use row_table::{EntryColumns, upgrade_tables};
 use saved_rows::RowsFault;
 use sqlite::{Alter, Connection};

@@ -1,11 +1,13 @@
 -- The station in its table: whose rows a database holds, and in which layout.
-use Rattle.std.specs.Prelude.{◌≡◌, ◌==◌, ℕ, nat_le, ◌&&◌, if◌then◌else◌, map, List, [], ◌∷◌, Option, Some, None}
+use Rattle.std.specs.Prelude.{◌≡◌, ◌≢◌, ◌==◌, ℕ, nat_le, ◌&&◌, if◌then◌else◌, map, List, [], ◌∷◌, Option, Some, None, IfSome}
 use Rattle.protocol.specs.Limits.{most_members}
 use Rattle.sqlite_value.specs.Order.{Row as Columns, column}
 use Rattle.sqlite_trees.specs.Tree.{Trees}
 use Rattle.row_table.specs.Tables.{Layout, station_tree, layout_number}
 use Rattle.row_table.specs.Station.{station_columns}
 use Rattle.saved_rows.specs.declared.identity.Identity.{Identity}
+use Rattle.saved_rows.specs.declared.fault.RowsFault.{RowsFault}
+use Rattle.saved_rows.specs.declared.fault.RowsFault.TheVariants.{Store, WrongStation, WrongSchema, Damaged, OutOfMemory}
 use Rattle.row_columns.specs.Columns.{whole_in}
 
 -- what the columns say, the layout's number and the station: the key is 1, the layout is 1 or 2, and the numbers are in range
@@ -37,3 +39,15 @@ stored_station trees = station_in (map station_columns (trees station_tree))
 -- the database holds this station, in this layout
 abbrev pub IsStationOf : Layout → Identity → Trees → Type 0
 IsStationOf layout i trees = stored_station trees ≡ Some (layout_number layout, i)
+
+-- the identity that was given, if any, is this one
+abbrev pub Agrees : Option Identity → Identity → Type 0
+Agrees given i = IfSome given (λ wanted. wanted ≡ i)
+
+-- why a station, stored with its layout's number, is not taken up in this layout: the number is another's, or else it is not the one that was given
+abbrev pub RefusesStation : Layout → Option Identity → ℕ × Identity → RowsFault → Type 0
+RefusesStation layout given stored Store = ⊥
+RefusesStation layout given stored OutOfMemory = ⊥
+RefusesStation layout given stored WrongSchema = stored.0 ≢ layout_number layout
+RefusesStation layout given stored WrongStation = (stored.0 ≡ layout_number layout) × (wanted : Identity) × (given ≡ Some wanted) × (wanted ≢ stored.1)
+RefusesStation layout given stored (Damaged number) = ⊥

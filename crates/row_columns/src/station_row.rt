@@ -1,11 +1,15 @@
 //! The station in its table: whose rows a database holds, and in which layout.
 
-ghost use Rattle.std.specs.Prelude.{◌≡◌};
-ghost use Rattle.row_columns.specs.StationRow.{station_of, station_in};
+ghost use Rattle.std.specs.Prelude.{◌≡◌, ◌≢◌, false, Some, IsTrue, IfOk, IfErr};
+ghost use Rattle.row_table.specs.Tables.{layout_number};
+ghost use Rattle.saved_rows.specs.declared.identity.Identity.{Identity as IdentityValue};
+ghost use Rattle.row_columns.specs.Layouts.{layout_of};
+ghost use Rattle.row_columns.specs.StationRow.{station_of, station_in, Agrees, RefusesStation};
 
 use crate::columns::{value_at, whole_in};
+use crate::layout::{Layout, layout_number};
 use ballots::Member;
-use saved_rows::Identity;
+use saved_rows::{Identity, RowsFault};
 
 /// The layout's number and the identity that the columns of a station are; `None` where the key is not 1, the layout is not 1 or 2,
 /// or a number is out of range.
@@ -43,5 +47,38 @@ pub fn station_in(rows: &[sqlite::Row]) -> Option<(u32, Identity)>
     match rows {
         [row] => station_of(row),
         _ => None,
+    }
+}
+
+/// Whether a station is the one given, if any.
+pub fn agrees(given: Option<Identity>, station: Identity) -> bool
+    ensures agrees { IsTrue result → Agrees given station }
+    ensures other { result ≡ false → (wanted : IdentityValue) × (given ≡ Some wanted) × (wanted ≢ station) }
+{
+    match given {
+        Some(wanted) => wanted == station,
+        None => true,
+    }
+}
+
+/// The identity of a station that is stored with the number of its layout, where the number is that of this layout and the identity is the
+/// one given, if any. `WrongSchema` comes before `WrongStation`.
+pub fn wanted_station(
+    stored: (u32, Identity),
+    layout: Layout,
+    given: Option<Identity>,
+) -> Result<Identity, RowsFault>
+    ensures stored { IfOk result (λ i. (stored.0 ≡ layout_number (layout_of layout)) × (i ≡ stored.1)) }
+    ensures given { IfOk result (Agrees given) }
+    ensures refuses { IfErr result (RefusesStation (layout_of layout) given stored) }
+{
+    let (number, station) = stored;
+    if number != layout_number(layout) {
+        return Err(RowsFault::WrongSchema);
+    }
+    if agrees(given, station) {
+        Ok(station)
+    } else {
+        Err(RowsFault::WrongStation)
     }
 }

@@ -1,6 +1,6 @@
 use Rattle.std.proofs.Common.{rules, ◌≡◌, false}
 use Rattle.sqlite.specs.Files.{file_state}
-use Rattle.acceptor_store.specs.Faults.{has_tables}
+use Rattle.row_columns.specs.FoundTables.{has_tables}
 use Rattle.acceptor_store.proofs.paths.SqliteRows+FileStore+FileFrom+T.create_at.Goals as goal
 
 pub returns-in-Ok-create-clause-open : goal.returns-in-Ok-create-clause-open

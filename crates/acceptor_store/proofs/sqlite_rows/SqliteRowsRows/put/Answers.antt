@@ -6,7 +6,7 @@ use Rattle.saved_rows.specs.Saved.{WithRow}
 use Rattle.row_columns.specs.Layouts.{layout_of, layout_now}
 use Rattle.acceptor_store.specs.Sqlite.{IsOfStation, Stands}
 use Rattle.row_columns.specs.Columns.{saved_in}
-use Rattle.acceptor_store.proofs.ColumnLemmas.{saves_row}
+use Rattle.row_columns.proofs.SaveLemmas.{saves_row}
 use Rattle.acceptor_store.proofs.StandLemmas.{same_rows, stands_saved, left_station, was_clean}
 use Rattle.acceptor_store.proofs.sqlite_rows.SqliteRowsRows.put.Goals as goal
 

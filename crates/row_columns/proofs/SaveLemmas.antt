@@ -1,6 +1,6 @@
 -- A table after a save: it has the row, and those that it had.
-use Rattle.std.proofs.Common.{◌≡◌, ◌≢◌, ◌<◌, ◌≤◌, ◌^◌, ◌==◌, ℕ, pos, Bool, true, false, cond, List, Option, Some, None, option_map, unwrap_or, true≢false, IsSome, refl, sym, ap, subst, ◌∙◌, arith}
-use Rattle.std.proofs.lemmas.Bool.Decides.{Decides-ltb, Decides-eqb, same_from_decides}
+use Rattle.std.proofs.Common.{◌≡◌, ◌≢◌, ◌≤◌, ◌==◌, ℕ, Bool, true, false, cond, List, Option, Some, None, option_map, unwrap_or, true≢false, IsSome, refl, sym, ap, subst, ◌∙◌, arith}
+use Rattle.std.proofs.lemmas.Bool.Decides.{Decides-eqb, same_from_decides}
 use Rattle.sqlite_value.specs.Order.{Row as Columns}
 use Rattle.sqlite_trees.specs.Tree.{Trees}
 use Rattle.row_table.specs.Tables.{Layout, station_tree, layout_tree}
@@ -10,10 +10,7 @@ use Rattle.row_table.specs.Rows.{stored, found_at, columns_at, shown_of, Saves, 
 use Rattle.protocol.specs.Ballots.{Ballot}
 use Rattle.protocol.specs.Rows.{Vote, Row, blank}
 use Rattle.saved_rows.specs.Saved.{WithRow}
-use Rattle.row_columns.specs.Columns.{small, row_in, columns_with, columns_for, row_or_blank, saved_at, saved_in, ComesBack, IsSound, AreSound}
-
-pub ranged : (n : ℕ) → n < 2 ^ 32 → small (pos n) ≡ Some n
-ranged n h = ap (λ b. cond b (Some n) None) ((Decides-ltb n (2 ^ 32)).1 h)
+use Rattle.row_columns.specs.Columns.{row_in, columns_with, columns_for, row_or_blank, saved_at, saved_in, ComesBack, IsSound, AreSound}
 
 flip : (a b : ℕ) → (a == b) ≡ (b == a)
 flip a b = same_from_decides {P = a ≡ b} (a == b) (b == a) (Decides-eqb a b) ((λ t. sym ((Decides-eqb b a).0 t)), (λ e. (Decides-eqb b a).1 (sym e)))

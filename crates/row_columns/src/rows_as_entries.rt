@@ -3,19 +3,16 @@
 ghost use Rattle.std.specs.Prelude.{IfOk};
 ghost use Rattle.std.specs.List.{AllByRecursion};
 ghost use Rattle.saved_rows.specs.Saved.{HasPromise};
-ghost use Rattle.acceptor_store.specs.Moving.{AreEntriesOf, MovesMap};
+ghost use Rattle.row_columns.specs.RowsAsEntries.{AreEntriesOf, MovesMap};
 
+use crate::entry_columns::entry_columns_for;
 use ballots::{Number, Row};
-use row_columns::entry_columns_for;
 use row_table::EntryColumns;
 use std::alloc::{AllocError, Global};
 
 /// The entries of these numbers and rows, in their order: in a table of entries they are the same map.
 /// Each row has a promise.
-pub(crate) fn entries_for(
-    alloc: Global,
-    items: &[(Number, Row)],
-) -> Result<Vec<EntryColumns>, AllocError>
+pub fn entries_for(alloc: Global, items: &[(Number, Row)]) -> Result<Vec<EntryColumns>, AllocError>
     requires { AllByRecursion (λ p. HasPromise p.1) items.now }
     ensures entries { IfOk result (λ entries. AreEntriesOf items.now entries.items) }
     ensures same_map { IfOk result (λ entries. MovesMap items.now entries.items) }

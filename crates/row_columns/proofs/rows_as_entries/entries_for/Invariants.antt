@@ -2,8 +2,8 @@ use Rattle.std.proofs.Common.{◌++◌, List, drop}
 use Rattle.std.specs.List.{AllByRecursion}
 use Rattle.row_table.specs.declared.entries.EntryColumns.{EntryColumns}
 use Rattle.saved_rows.specs.Saved.{HasPromise}
-use Rattle.acceptor_store.specs.Moving.{AreEntriesOf}
-use Rattle.acceptor_store.proofs.migration.entries_for.Given as goal
+use Rattle.row_columns.specs.RowsAsEntries.{AreEntriesOf}
+use Rattle.row_columns.proofs.rows_as_entries.entries_for.Given as goal
 
 -- what is made and the entries of the rows that are left are the entries of all
 abbrev pub invariant-loop-number : goal.invariant-loop-number

@@ -6,9 +6,9 @@ use Rattle.row_table.specs.Rows.{stored}
 use Rattle.row_table.specs.declared.entries.EntryColumns.{EntryColumns}
 use Rattle.protocol.specs.Rows.{Row}
 use Rattle.saved_rows.specs.Saved.{HasPromise}
-use Rattle.acceptor_store.specs.Moving.{IsEntryOf, AreEntriesOf}
-use Rattle.acceptor_store.proofs.MovingLemmas.{moves}
-use Rattle.acceptor_store.proofs.migration.entries_for.Goals as goal
+use Rattle.row_columns.specs.RowsAsEntries.{IsEntryOf, AreEntriesOf}
+use Rattle.row_columns.proofs.RowsAsEntriesLemmas.{moves}
+use Rattle.row_columns.proofs.rows_as_entries.entries_for.Goals as goal
 
 module _ (items : List (ℕ × Row)) (made : List EntryColumns) where
   abbrev MakesAll : List (ℕ × Row) → List EntryColumns → Type 0

@@ -19,8 +19,8 @@ use Rattle.row_table.proofs.KeyLemmas.{find_new, find_other, once_put}
 use Rattle.protocol.specs.Rows.{Row, blank}
 use Rattle.saved_rows.specs.Saved.{HasPromise, saved_by, RiseFrom}
 use Rattle.row_columns.specs.Columns.{columns_for, row_or_blank, saved_at, AreSound}
-use Rattle.acceptor_store.specs.Moving.{IsEntryOf, AreEntriesOf, MovesMap}
-use Rattle.acceptor_store.proofs.ColumnLemmas.{puts_row, puts_sound}
+use Rattle.row_columns.specs.RowsAsEntries.{IsEntryOf, AreEntriesOf, MovesMap}
+use Rattle.row_columns.proofs.SaveLemmas.{puts_row, puts_sound}
 
 keyed_put : (n : ℕ) (columns : Columns) (rows : List Columns) → AreKeyed rows → AreKeyed (put_row (stored n columns) rows)
 keyed_put n columns [] keyed = ((n, refl), tt)
