@@ -9,7 +9,7 @@ use Rattle.row_table.specs.Rising.{rise_from, AreListed}
 use Rattle.row_columns.specs.declared.layout.Layout.{Layout}
 use Rattle.row_columns.specs.Layouts.{layout_of}
 use Rattle.row_columns.specs.Columns.{first_of, damage_in, AreSound}
-use Rattle.acceptor_store.specs.declared.testing.RowTest.{RowTest}
+use Rattle.acceptor_store.specs.declared.row_test.RowTest.{RowTest}
 use Rattle.acceptor_store.specs.Sqlite.{Lists}
 use Rattle.acceptor_store.specs.Testing.{begun, LeadsTo}
 use Rattle.acceptor_store.proofs.ListLemmas.{sound_table}

@@ -5,7 +5,7 @@ use Rattle.row_table.specs.Rising.{rise_from}
 use Rattle.row_columns.specs.declared.layout.Layout.{Layout}
 use Rattle.row_columns.specs.Layouts.{layout_of}
 use Rattle.row_columns.specs.Columns.{damage_in, first_of}
-use Rattle.acceptor_store.specs.declared.testing.RowTest.{RowTest}
+use Rattle.acceptor_store.specs.declared.row_test.RowTest.{RowTest}
 
 -- a test of rows in this layout, before the first of them
 abbrev pub begun : Layout → RowTest

@@ -3,21 +3,21 @@
 
 mod closing;
 mod faults;
-mod files;
+mod given_up;
+mod host_file;
 pub mod laws;
-mod new_tables;
+mod make_tables;
 mod opening;
-mod paths;
 mod queries;
 mod reading;
-mod restarts;
+mod row_test;
+mod rows_at_path;
 mod sqlite_rows;
 mod statements;
-mod testing;
 mod upgrade;
 
 pub use faults::FileFault;
+pub use given_up::into_files;
 pub use reading::RowVisitor;
-pub use restarts::into_files;
 pub use saved_rows::{Balky, Identity, MemoryRows, Rows, RowsFault};
 pub use sqlite_rows::SqliteRows;

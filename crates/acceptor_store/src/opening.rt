@@ -13,8 +13,8 @@ ghost use Rattle.row_columns.specs.Columns.{AreSound};
 ghost use Rattle.acceptor_store.specs.Sqlite.{Agrees, HoldsRows, IsRefusal, RefusesRows, RefusesToOpen};
 
 use crate::queries::visit_all;
+use crate::row_test::RowTest;
 use crate::statements::fault_of;
-use crate::testing::RowTest;
 use row_columns::{Layout, agrees, layout_in, station_in, wanted_station};
 use row_table::get_station;
 use saved_rows::{Identity, RowsFault};

@@ -15,7 +15,7 @@ ghost use Rattle.acceptor_store.specs.Sqlite.{rows_layout, rows_version};
 ghost use Rattle.acceptor_store.specs.Reading.{SeesAll, SeesFront};
 ghost use Rattle.saved_rows.specs.Saved.{SameRows, WithRow, IsEither, IsListOf, HasPromise, RowFits, AreFitting, Rises};
 
-use crate::new_tables::make_tables;
+use crate::make_tables::make_tables;
 use crate::opening::take_up;
 use crate::reading::{RowVisitor, show_all};
 use crate::statements::{fault_of, list, read, save};

@@ -23,7 +23,7 @@ event_fits c = subst (λ (v : Version). EventFits v (event_value c.args.event)) 
 pub invariant_of-self-else-matches : goal.invariant_of-self-else-matches
 invariant_of-self-else-matches c =
     let speaks = answered_speaks (version_of c.self.inside.wire) c.args.event c.self.inside.core c.handle-answer.new.self c.args.row.now c.turns_fit.ensures c.me-me.ensures.member c.self.invariant (row_fits c) (event_fits c)
-      c.handle-answer.result c.handle-answer.ensures.ok c.handle-answer.ensures.refused in
+    c.handle-answer.result c.handle-answer.ensures.ok c.handle-answer.ensures.refused in
     elim c.match-matches.branch [ in-Err-OutOfMemory w ↦ search rules | in_default w ↦ speaks (λ is. search rules) | in_default-2 w ↦ speaks (λ is. search rules) ]
 
 pub returns-then-matches-clause-memory : goal.returns-then-matches-clause-memory

@@ -1,7 +1,7 @@
 use Rattle.std.proofs.Common.{arith}
 use Rattle.sqlite.specs.State.{HasCleanDisk}
 use Rattle.sqlite.specs.Files.{file_state}
-use Rattle.acceptor_store.proofs.paths.SqliteRows+FileStore+FileFrom+T.open_at.Goals as goal
+use Rattle.acceptor_store.proofs.rows_at_path.SqliteRows+FileStore+FileFrom+T.open_at.Goals as goal
 
 pub returns-in-Ok-open-clause-open : goal.returns-in-Ok-open-clause-open
 returns-in-Ok-open-clause-open g c clean ours = c.in-Ok-open.ensures.«open» (clean, ours)

@@ -1,7 +1,7 @@
 use Rattle.std.proofs.Common.{rules, ◌≡◌, false}
 use Rattle.sqlite.specs.Files.{file_state}
 use Rattle.row_columns.specs.FoundTables.{has_tables}
-use Rattle.acceptor_store.proofs.paths.SqliteRows+FileStore+FileFrom+T.create_at.Goals as goal
+use Rattle.acceptor_store.proofs.rows_at_path.SqliteRows+FileStore+FileFrom+T.create_at.Goals as goal
 
 pub returns-in-Ok-create-clause-open : goal.returns-in-Ok-create-clause-open
 returns-in-Ok-create-clause-open g c clean ours = c.in-Ok-create.ensures.«open» (clean, ours)

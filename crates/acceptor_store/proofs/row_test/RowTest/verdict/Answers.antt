@@ -1,6 +1,6 @@
 use Rattle.std.proofs.Common.{rules, ◌≡◌, None, ◌∙◌}
 use Rattle.acceptor_store.proofs.TestingLemmas.{damage_is, rises_is, sound_listing}
-use Rattle.acceptor_store.proofs.testing.RowTest.verdict.Goals as goal
+use Rattle.acceptor_store.proofs.row_test.RowTest.verdict.Goals as goal
 
 pub returns-in-Some-clause-refuses : goal.returns-in-Some-clause-refuses
 returns-in-Some-clause-refuses c layout trees h =

@@ -3,7 +3,7 @@ use Rattle.std.proofs.lemmas.Option.{IfSome_then}
 use Rattle.sqlite_std_file.specs.File.{IsFresh}
 use Rattle.sqlite.specs.State.{HasCleanDisk}
 use Rattle.sqlite.specs.Files.{file_state, IsCleanLeft, LeavesFiles}
-use Rattle.acceptor_store.proofs.files.SqliteRows+FileStore+FileFrom+T.open_from.Goals as goal
+use Rattle.acceptor_store.proofs.host_file.SqliteRows+FileStore+FileFrom+T.open_from.Goals as goal
 
 pub returns-in-Ok-open-clause-open : goal.returns-in-Ok-open-clause-open
 returns-in-Ok-open-clause-open g c clean ours = c.in-Ok-open.ensures.«open» (clean, ours)
