@@ -1,13 +1,14 @@
 #!/usr/bin/env python3
 """How long a story takes from its offer to the files of its release, at three plants on one machine.
 
-    bench/latency.py PROGRAM [STORIES]
+    bench/latency.py PROGRAM [STORIES [PUTS]]
 
 Three plants `run` on 127.0.0.1 with no network between them but the machine's. 200 stories where no other count is given are laid into the first plant's
 folder, one after another, each once the one before it stands in all three folders `releases`. Told are the least and the median time from the line that
 says that the offer was taken up (`N began B`) to the last of the three files `N.galley`; and how long the offer waited for the folder to be looked at. Beside them the
 saves on that path: promise and vote at the offering station, promise and vote at one other, timed alone, by the stock SQLite library with the same
-durability (journal in a log, each commit synced), on the same disk.
+durability (journal in a log, each commit synced), on the same disk; and, where PUTS is the program that `bench/puts.py FOLDER` has built
+(`FOLDER/puts/crates/puts/out/puts`), by the rows of the stations themselves, which suppose nothing of a torn write and sync each commit twice.
 """
 import os
 import shutil
@@ -100,8 +101,21 @@ def time_of_saves(folder, count):
     return took
 
 
+def time_of_own_saves(puts, folder):
+    """The times of four saves by the stations' own rows, in sixteen rounds, each a hundredth of what 400 saves take more than none."""
+    def seconds(count, path):
+        begun = time.monotonic()
+        subprocess.run([puts, path, str(count), 'wary'], check=True)
+        return time.monotonic() - begun
+    took = []
+    for place in range(16):
+        none, many = (os.path.join(folder, f'{place}.{name}.db') for name in ('none', 'many'))
+        took.append((seconds(400, many) - seconds(0, none)) / 100)
+    return took
+
+
 def main():
-    if not 2 <= len(sys.argv) <= 3:
+    if not 2 <= len(sys.argv) <= 4:
         sys.exit(__doc__)
     program = os.path.abspath(sys.argv[1])
     count = int(sys.argv[2]) if len(sys.argv) > 2 else 200
@@ -112,6 +126,7 @@ def main():
         time.sleep(1)
         moments = [story(plants, number) for number in range(1, count + 1)]
         saves = time_of_saves(folder, count)
+        own = time_of_own_saves(os.path.abspath(sys.argv[3]), folder) if len(sys.argv) > 3 else None
     finally:
         for _, process in plants:
             process.kill()
@@ -121,6 +136,9 @@ def main():
     for what, took in (('taken up after', waits), ('from there to the last galley', paths), ('the saves alone', saves)):
         print(f'{what:32} least {1000 * min(took):7.1f} ms, median {1000 * statistics.median(took):7.1f} ms')
     print(f'median of the path over median of its saves: {statistics.median(paths) / statistics.median(saves):.2f}')
+    if own:
+        print(f'{"the saves alone, own rows":32} least {1000 * min(own):7.1f} ms, median {1000 * statistics.median(own):7.1f} ms')
+        print(f'median of the path over median of its own saves: {statistics.median(paths) / statistics.median(own):.2f}')
 
 
 main()
