@@ -337,6 +337,8 @@ fn rehearsed<'a, R: Read, S: Read, T: Read, W: Write>(
 /// The table is read and taken before the widths are read, and the widths before the script. The first fault ends it;
 /// a faulty line leaves what the lines before it wrote.
 ///
+/// Where it ends well, the memory of the circuit is left to the end of the process.
+///
 /// Whatever the lines are, what is written is what a circuit did, step by step, whose members are set up by these texts
 /// and begin in one version, and its releases agree: no two of one number differ, and each released entry was offered for
 /// its number.
