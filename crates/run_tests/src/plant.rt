@@ -15,14 +15,23 @@ use std::io::Write;
 use tape_frames::{Entry, Tape, Version};
 use widths::Widths;
 
+/// What the station saved of number 12 before.
+#[derive(Clone, Copy)]
+pub enum Saved {
+    Nothing,
+    /// A vote for the flood story.
+    Vote,
+    /// A promise of a ballot above which there is none.
+    LastPromise,
+}
+
 /// A run: what the station saved before, what happens to its folders, how many turns of 250 milliseconds there are, how it
 /// has to end, what the folders have to hold, and what has to be told.
 #[derive(Clone, Copy)]
 pub struct Run<'a> {
     pub members: u8,
     pub version: Version,
-    /// Whether the station voted for the flood story under number 12 before.
-    pub has_voted: bool,
+    pub saved: Saved,
     pub acts: &'a [Act],
     pub turns: u32,
     pub quiet: bool,
@@ -36,7 +45,7 @@ pub struct Run<'a> {
 pub const RUN: Run<'static> = Run {
     members: 1,
     version: Version::Two,
-    has_voted: false,
+    saved: Saved::Nothing,
     acts: &[],
     turns: 60,
     quiet: false,
@@ -44,6 +53,12 @@ pub const RUN: Run<'static> = Run {
     folders: "",
     err: "",
 };
+
+/// A promise of the last round.
+fn last_promise_row() -> Option<Row> {
+    let ballot = Ballot::new(u32::MAX, Member::new(1)?)?;
+    Row::new(Some(ballot), None)
+}
 
 /// The vote for the flood story.
 fn vote_row(alloc: Global) -> Option<Row> {
@@ -54,13 +69,15 @@ fn vote_row(alloc: Global) -> Option<Row> {
 
 fn rows_of(alloc: Global, run: &Run<'_>) -> Option<MemoryRows> {
     let mut rows = MemoryRows::at(alloc, run.version);
-    if run.has_voted {
-        let row = vote_row(alloc)?;
-        if !row.fits(run.version) {
-            return None;
-        }
-        rows.save(Number::new(12)?, row).ok()?;
+    let row = match run.saved {
+        Saved::Nothing => return Some(rows),
+        Saved::Vote => vote_row(alloc)?,
+        Saved::LastPromise => last_promise_row()?,
+    };
+    if !row.fits(run.version) {
+        return None;
     }
+    rows.save(Number::new(12)?, row).ok()?;
     Some(rows)
 }
 

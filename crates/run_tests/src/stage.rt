@@ -10,6 +10,8 @@ pub enum What {
     Laid(&'static str, &'static [u8]),
     /// The folder of releases is full, or no longer.
     Full(bool),
+    /// Nothing can be set aside, or it can again.
+    Stuck(bool),
 }
 
 /// What happens before a look at the folders, counted from 1.
@@ -25,6 +27,7 @@ pub struct Stage<'a> {
     pub folders: MemoryFolders,
     pub acts: &'a [Act],
     pub looks: usize,
+    pub is_stuck: bool,
 }
 
 impl<'a> Stage<'a> {
@@ -33,6 +36,7 @@ impl<'a> Stage<'a> {
             folders: MemoryFolders::new(alloc),
             acts,
             looks: 0,
+            is_stuck: false,
         }
     }
 
@@ -44,6 +48,10 @@ impl<'a> Stage<'a> {
             }
             What::Full(is_full) => {
                 self.folders.set_full(is_full);
+                Ok(())
+            }
+            What::Stuck(is_stuck) => {
+                self.is_stuck = is_stuck;
                 Ok(())
             }
         }
@@ -90,6 +98,9 @@ impl<'a> Folders for Stage<'a> {
     }
 
     fn set_aside(&mut self, alloc: Global, name: &str, to: Place) -> Result<(), FolderFault> {
+        if self.is_stuck {
+            return Err(FolderFault::CannotWrite);
+        }
         self.folders.set_aside(alloc, name, to)
     }
 

@@ -1,6 +1,6 @@
 //! Stories, withdrawals and searches among the offers, and where they are put.
 
-use crate::plant::{RUN, Run, is_true};
+use crate::plant::{RUN, Run, Saved, is_true};
 use crate::stage::{Act, What};
 use fixtures::{FLOOD, HARVEST};
 use std::test::Fail;
@@ -35,7 +35,7 @@ fn sent(rt: HostRuntime) -> Result<(), Fail> {
 #[test]
 fn lost(rt: HostRuntime) -> Result<(), Fail> {
     let run = Run {
-        has_voted: true,
+        saved: Saved::Vote,
         acts: &[laid(1, "12.tape", HARVEST), laid(20, "stop", &[])],
         folders: "wrote 12.tape 7\nwrote 12.galley 25\nlost 12.tape\nlost 12.tape.txt: release 12 01020301030204\n",
         err: "12 released\n12 lost\n",
@@ -60,7 +60,7 @@ fn lost(rt: HostRuntime) -> Result<(), Fail> {
 #[test]
 fn sought(rt: HostRuntime) -> Result<(), Fail> {
     let run = Run {
-        has_voted: true,
+        saved: Saved::Vote,
         acts: &[laid(1, "12.seek", &[]), laid(20, "stop", &[])],
         folders: "wrote 12.tape 7\nwrote 12.galley 25\nsent 12.seek\n",
         err: "12 released\n12 sent\n",

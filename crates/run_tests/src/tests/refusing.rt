@@ -1,6 +1,6 @@
 //! Files that are no offers.
 
-use crate::plant::{RUN, Run, is_true};
+use crate::plant::{RUN, Run, Saved, is_true};
 use crate::stage::{Act, What};
 use fixtures::{FLOOD, OVERSET};
 use std::test::Fail;
@@ -48,7 +48,7 @@ fn refused(rt: HostRuntime) -> Result<(), Fail> {
     Ok(())
 }
 
-/// What the station does not take: a tape that does not set, a withdrawal over layout 1.
+/// What the station does not take: a tape that does not set, a withdrawal over layout 1, a number whose rounds are spent.
 #[test]
 fn not_taken(rt: HostRuntime) -> Result<(), Fail> {
     let overset = Run {
@@ -64,7 +64,15 @@ fn not_taken(rt: HostRuntime) -> Result<(), Fail> {
         err: "refused 14.withdraw: wire-too-old\n",
         ..RUN
     };
+    let spent = Run {
+        saved: Saved::LastPromise,
+        acts: &[laid(1, "12.tape", FLOOD), laid(9, "stop", &[])],
+        folders: "refused 12.tape\nrefused 12.tape.txt: rounds-spent\n",
+        err: "refused 12.tape: rounds-spent\n",
+        ..RUN
+    };
     assert!(rt; is_true(rt.alloc(), &overset));
     assert!(rt; is_true(rt.alloc(), &old));
+    assert!(rt; is_true(rt.alloc(), &spent));
     Ok(())
 }

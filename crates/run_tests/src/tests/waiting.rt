@@ -77,6 +77,31 @@ fn full_disk(rt: HostRuntime) -> Result<(), Fail> {
     Ok(())
 }
 
+fn stuck(look: usize, is_stuck: bool) -> Act {
+    Act {
+        look,
+        what: What::Stuck(is_stuck),
+    }
+}
+
+/// A file that can't be moved once its number is released is moved a second later.
+#[test]
+fn moved_later(rt: HostRuntime) -> Result<(), Fail> {
+    let run = Run {
+        acts: &[
+            stuck(1, true),
+            laid(1, "12.tape", FLOOD),
+            stuck(8, false),
+            laid(20, "stop", &[]),
+        ],
+        folders: "wrote 12.tape 7\nwrote 12.galley 25\nsent 12.tape\n",
+        err: "12 released\nfolders: cannot move 12.tape\n12 sent\n",
+        ..RUN
+    };
+    assert!(rt; is_true(rt.alloc(), &run));
+    Ok(())
+}
+
 /// A file that was written anew once it was taken up is no longer the one that was: it is taken up again, and loses the number.
 #[test]
 fn written_anew(rt: HostRuntime) -> Result<(), Fail> {
