@@ -1,3 +1,4 @@
 pub mod Asked
 pub mod Replies
 pub mod AnswerText
+pub mod Seats

@@ -6,9 +6,9 @@ ghost use Rattle.std.specs.Io.KnownBytes.{Appends};
 ghost use Rattle.streams.specs.Fronts.{AppendsFront};
 ghost use Rattle.tape_frames.specs.Entries.{version_of};
 ghost use Rattle.saved_rows.specs.Memory.{saved};
-ghost use Rattle.answer_command.specs.Asked.{asked_of};
-ghost use Rattle.answer_command.specs.Replies.{answered, rows_after};
-ghost use Rattle.answer_command.specs.AnswerText.{is_blank, lines_of, lines_text, answer_text};
+ghost use Rattle.answer_command.specs.Replies.{rows_after};
+ghost use Rattle.answer_command.specs.AnswerText.{is_blank, lines_of, answer_text};
+ghost use Rattle.answer_command.specs.Seats.{asked_at, line_at, lines_at, answer_at};
 ghost use Rattle.command_ends.specs.Ends.{IsOfInput};
 ghost use Rattle.command_ends.specs.declared.end.End.TheVariants.{Done};
 
@@ -49,9 +49,9 @@ fn put_line<W: Write>(
     out: &mut W,
 ) -> Result<(), Stop>
     requires { rows.old.version ≡ version_of seat.now.wire }
-    ensures text { OnOk result (Appends (W.contents out.old) (W.contents out.new) (answered seat.now.circuit seat.now.me (version_of seat.now.wire) (saved rows.old) (asked_of seat.now.circuit seat.now.me (version_of seat.now.wire) line.now) ++ 10 ∷ [])) }
-    ensures front { OnErr result (AppendsFront (W.contents out.old) (W.contents out.new) (answered seat.now.circuit seat.now.me (version_of seat.now.wire) (saved rows.old) (asked_of seat.now.circuit seat.now.me (version_of seat.now.wire) line.now) ++ 10 ∷ [])) }
-    ensures rows { OnOk result ((n : ℕ) → saved rows.new n ≡ rows_after (saved rows.old) (asked_of seat.now.circuit seat.now.me (version_of seat.now.wire) line.now) n) }
+    ensures text { OnOk result (Appends (W.contents out.old) (W.contents out.new) (line_at seat.now (saved rows.old) line.now ++ 10 ∷ [])) }
+    ensures front { OnErr result (AppendsFront (W.contents out.old) (W.contents out.new) (line_at seat.now (saved rows.old) line.now ++ 10 ∷ [])) }
+    ensures rows { OnOk result ((n : ℕ) → saved rows.new n ≡ rows_after (saved rows.old) (asked_at seat.now line.now) n) }
     ensures version { rows.new.version ≡ rows.old.version }
 {
     let Ok(mut text) = answer_line(alloc, *seat, rows, line) else {
@@ -68,8 +68,8 @@ fn put_line<W: Write>(
 
 /// Answers the lines, one after the other.
 fn put_lines<W: Write>(alloc: Global, seat: &Seat, lines: &[&[u8]], out: &mut W) -> Result<(), Stop>
-    ensures text { OnOk result (Appends (W.contents out.old) (W.contents out.new) (lines_text seat.now.circuit seat.now.me (version_of seat.now.wire) [] (map (λ l. l.now) lines.now))) }
-    ensures front { OnErr result (AppendsFront (W.contents out.old) (W.contents out.new) (lines_text seat.now.circuit seat.now.me (version_of seat.now.wire) [] (map (λ l. l.now) lines.now))) }
+    ensures text { OnOk result (Appends (W.contents out.old) (W.contents out.new) (lines_at seat.now (map (λ l. l.now) lines.now))) }
+    ensures front { OnErr result (AppendsFront (W.contents out.old) (W.contents out.new) (lines_at seat.now (map (λ l. l.now) lines.now))) }
 {
     // The rows of the loop are those of all the requests heard.
     protocol::laws::acceptor_steps();
@@ -83,8 +83,8 @@ fn put_lines<W: Write>(alloc: Global, seat: &Seat, lines: &[&[u8]], out: &mut W)
 }
 
 fn put_answer<W: Write>(alloc: Global, seat: &Seat, input: &[u8], out: &mut W) -> Result<(), Stop>
-    ensures text { OnOk result (Appends (W.contents out.old) (W.contents out.new) (answer_text seat.now.circuit seat.now.me (version_of seat.now.wire) input.now)) }
-    ensures front { OnErr result (AppendsFront (W.contents out.old) (W.contents out.new) (answer_text seat.now.circuit seat.now.me (version_of seat.now.wire) input.now)) }
+    ensures text { OnOk result (Appends (W.contents out.old) (W.contents out.new) (answer_at seat.now input.now)) }
+    ensures front { OnErr result (AppendsFront (W.contents out.old) (W.contents out.new) (answer_at seat.now input.now)) }
 {
     match lines_of(alloc, input) {
         Ok(lines) => put_lines(alloc, seat, &lines, out),
@@ -99,8 +99,8 @@ fn put_and_flush<W: Write>(
     input: &[u8],
     out: &mut W,
 ) -> Result<(), Stop>
-    ensures text { OnOk result (Appends (W.contents out.old) (W.contents out.new) (answer_text seat.now.circuit seat.now.me (version_of seat.now.wire) input.now)) }
-    ensures front { OnErr result (AppendsFront (W.contents out.old) (W.contents out.new) (answer_text seat.now.circuit seat.now.me (version_of seat.now.wire) input.now)) }
+    ensures text { OnOk result (Appends (W.contents out.old) (W.contents out.new) (answer_at seat.now input.now)) }
+    ensures front { OnErr result (AppendsFront (W.contents out.old) (W.contents out.new) (answer_at seat.now input.now)) }
 {
     put_answer(alloc, seat, input, out)?;
     match out.flush() {
@@ -123,7 +123,8 @@ pub fn answer<R: Read, W: Write, E: Write>(
     out: &mut W,
     err: &mut E,
 ) -> End
-    ensures done { result ≡ Done → IfSome (R.remaining input.old) (λ xs. Appends (W.contents out.old) (W.contents out.new) (answer_text circuit me (version_of wire) xs)) }
+    ensures done { result ≡ Done
+        → IfSome (R.remaining input.old) (λ xs. Appends (W.contents out.old) (W.contents out.new) (answer_text circuit me (version_of wire) xs)) }
     ensures front { IfSome (R.remaining input.old) (λ xs. AppendsFront (W.contents out.old) (W.contents out.new) (answer_text circuit me (version_of wire) xs)) }
     ensures ends { IsOfInput result }
 {

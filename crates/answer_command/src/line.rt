@@ -5,15 +5,16 @@ ghost use Rattle.hex.specs.Hex.{encode_lower};
 ghost use Rattle.protocol.specs.Fitting.{BodyFits, Fits};
 ghost use Rattle.protocol.specs.Packets.{Prepare, Accept, Accepted};
 ghost use Rattle.protocol.specs.Rows.{raised};
-ghost use Rattle.protocol.specs.Acceptor.{Prepares, Accepts, is_above, next_row};
+ghost use Rattle.protocol.specs.Acceptor.{Prepares, Accepts, is_above};
 ghost use Rattle.tape_frames.specs.Entries.{version_of, lent_entry};
 ghost use Rattle.packets.specs.Bodies.{said};
 ghost use Rattle.packets.specs.Rules.{keeps_rules};
 ghost use Rattle.packets.specs.Spelling.{spelling};
 ghost use Rattle.saved_rows.specs.Saved.{WithRow, RowFits};
 ghost use Rattle.saved_rows.specs.Memory.{saved};
-ghost use Rattle.answer_command.specs.Asked.{asked_of, asked_of_packet, asked_in};
-ghost use Rattle.answer_command.specs.Replies.{refused_text, answered, rows_after, back, voted_entry};
+ghost use Rattle.answer_command.specs.Asked.{asked_of_packet, asked_in};
+ghost use Rattle.answer_command.specs.Replies.{refused_text, rows_after, back, voted_entry};
+ghost use Rattle.answer_command.specs.Seats.{asked_at, answered_at, line_at, back_at, TakesRequest};
 
 use acceptor::{AcceptAnswer, PrepareAnswer, accept, prepare};
 use ballots::{Ballot, Member, Number, Row};
@@ -60,7 +61,7 @@ fn send_back(
 ) -> Result<Vec<u8>, AllocError>
     requires rules { IsTrue (keeps_rules (back seat.circuit seat.me packet.now.from packet.now.number packet.now.ballot (said body))) }
     requires fits { BodyFits (version_of seat.wire) (said body) }
-    ensures { IfOk result (λ t. t.items ≡ encode_lower (spelling (version_of seat.wire) (back seat.circuit seat.me packet.now.from packet.now.number packet.now.ballot (said body.entry)))) }
+    ensures { IfOk result (λ t. t.items ≡ back_at seat packet.now (said body.entry)) }
 {
     match PacketRef::new(
         seat.circuit,
@@ -100,8 +101,8 @@ fn answer_prepare(
     requires kind { packet.now.body ≡ Prepare }
     requires to { packet.now.to ≡ seat.me }
     requires version { rows.old.version ≡ version_of seat.wire }
-    ensures text { IfOk result (λ t. t.items ≡ answered seat.circuit seat.me (version_of seat.wire) (saved rows.old) (Ok (asked_in packet.now (Prepares packet.now.ballot)))) }
-    ensures rows { OnOk result (WithRow (saved rows.old) packet.now.number (next_row (saved rows.old packet.now.number) (Prepares packet.now.ballot)) (saved rows.new)) }
+    ensures text { IfOk result (λ t. t.items ≡ answered_at seat (saved rows.old) (Ok (asked_in packet.now (Prepares packet.now.ballot)))) }
+    ensures rows { OnOk result (TakesRequest (saved rows.old) packet.now.number (Prepares packet.now.ballot) (saved rows.new)) }
     ensures version { rows.new.version ≡ rows.old.version }
 {
     // The packet's rules are known once its body is read.
@@ -140,8 +141,8 @@ fn answer_accept(
     requires to { packet.now.to ≡ seat.me }
     requires fits { Fits (version_of seat.wire) (lent_entry entry.now) }
     requires version { rows.old.version ≡ version_of seat.wire }
-    ensures text { IfOk result (λ t. t.items ≡ answered seat.circuit seat.me (version_of seat.wire) (saved rows.old) (Ok (asked_in packet.now (Accepts packet.now.ballot (lent_entry entry.now))))) }
-    ensures rows { OnOk result (WithRow (saved rows.old) packet.now.number (next_row (saved rows.old packet.now.number) (Accepts packet.now.ballot (lent_entry entry.now))) (saved rows.new)) }
+    ensures text { IfOk result (λ t. t.items ≡ answered_at seat (saved rows.old) (Ok (asked_in packet.now (Accepts packet.now.ballot (lent_entry entry.now))))) }
+    ensures rows { OnOk result (TakesRequest (saved rows.old) packet.now.number (Accepts packet.now.ballot (lent_entry entry.now)) (saved rows.new)) }
     ensures version { rows.new.version ≡ rows.old.version }
 {
     // The packet's rules are known once its body is read.
@@ -173,7 +174,7 @@ fn send_vote(
     requires differ { (seat.me == packet.now.from) ≡ false }
     requires some { IsSome row.now.vote }
     requires fits { RowFits (version_of seat.wire) row.now }
-    ensures { IfOk result (λ t. t.items ≡ encode_lower (spelling (version_of seat.wire) (back seat.circuit seat.me packet.now.from packet.now.number packet.now.ballot (Accepted (voted_entry row.now.vote))))) }
+    ensures { IfOk result (λ t. t.items ≡ back_at seat packet.now (Accepted (voted_entry row.now.vote))) }
 {
     match row.vote() {
         Some(vote) => {
@@ -192,7 +193,7 @@ fn answer_packet(
 ) -> Result<Vec<u8>, AllocError>
     requires fits { BodyFits (version_of seat.wire) packet.now.body }
     requires version { rows.old.version ≡ version_of seat.wire }
-    ensures text { IfOk result (λ t. t.items ≡ answered seat.circuit seat.me (version_of seat.wire) (saved rows.old) (asked_of_packet seat.circuit seat.me (Ok packet.now))) }
+    ensures text { IfOk result (λ t. t.items ≡ answered_at seat (saved rows.old) (asked_of_packet seat.circuit seat.me (Ok packet.now))) }
     ensures rows { OnOk result ((n : ℕ) → saved rows.new n ≡ rows_after (saved rows.old) (asked_of_packet seat.circuit seat.me (Ok packet.now)) n) }
     ensures version { rows.new.version ≡ rows.old.version }
 {
@@ -217,8 +218,8 @@ pub fn answer_line(
     line: &[u8],
 ) -> Result<Vec<u8>, AllocError>
     requires { rows.old.version ≡ version_of seat.wire }
-    ensures text { IfOk result (λ t. t.items ≡ answered seat.circuit seat.me (version_of seat.wire) (saved rows.old) (asked_of seat.circuit seat.me (version_of seat.wire) line.now)) }
-    ensures rows { OnOk result ((n : ℕ) → saved rows.new n ≡ rows_after (saved rows.old) (asked_of seat.circuit seat.me (version_of seat.wire) line.now) n) }
+    ensures text { IfOk result (λ t. t.items ≡ line_at seat (saved rows.old) line.now) }
+    ensures rows { OnOk result ((n : ℕ) → saved rows.new n ≡ rows_after (saved rows.old) (asked_at seat line.now) n) }
     ensures version { rows.new.version ≡ rows.old.version }
 {
     let bytes = match hex::decode(alloc, line) {

@@ -1,5 +1,5 @@
 -- What a rehearsal has written: what is shown of a circuit that agrees.
-use Rattle.std.specs.Prelude.{◌≡◌, ℕ, ◌⊎◌, List, [], Option, Some, None, Ok, true, IfSome}
+use Rattle.std.specs.Prelude.{◌≡◌, ℕ, ◌⊎◌, List, [], Option, Some, None, Result, Ok, OnOk, OnErr, true, IfSome}
 use Rattle.std.specs.List.{All}
 use Rattle.std.specs.Io.KnownBytes.{Appends}
 use Rattle.toml.specs.Parse.{parse_document}
@@ -51,6 +51,14 @@ Stands by start now v = Shows by v (Appends start now)
 -- the same of a front of it
 abbrev pub StandsFront : Inputs → Option (List ℕ) → Option (List ℕ) → World MemoryOf → Type 0
 StandsFront by start now v = Shows by v (AppendsFront start now)
+
+-- what was written goes on to be what is shown of the world
+abbrev pub GoesOn : {A E : Type 0} → Result A E → Option (List ℕ) → World MemoryOf → Option (List ℕ) → World MemoryOf → Type 0
+GoesOn result was old now new = (by : Inputs) (start : Option (List ℕ)) → Stands by start was old → OnOk result (Stands by start now new)
+
+-- or stops as a front of it
+abbrev pub Stops : {A E : Type 0} → Result A E → Option (List ℕ) → World MemoryOf → Option (List ℕ) → World MemoryOf → Type 0
+Stops result was old now new = (by : Inputs) (start : Option (List ℕ)) → Stands by start was old → OnErr result (StandsFront by start now new)
 
 -- nothing has happened yet, and all members are in this version
 abbrev pub BeginsIn : Version → World MemoryOf → Type 0

@@ -10,6 +10,7 @@ use Rattle.line_check.specs.declared.slug.Slug.{Slug}
 use Rattle.line_check.specs.declared.fault.SetFault.{SetFault}
 use Rattle.world.specs.declared.world.World.{World}
 use Rattle.world.specs.declared.step.Outcome.{Outcome}
+use Rattle.world.specs.declared.step.Seen.{Seen}
 use Rattle.world.specs.declared.step.Step.{Step}
 use Rattle.world.specs.Setups.{StationCircuit, StationState}
 use Rattle.world.specs.Founding.{Given, IsCircuitOf}
@@ -23,6 +24,10 @@ pub record Scene : Type 0 where
   pub outcome : Outcome
   pub sent : List Datagram
   pub releases : List (Release (List Slug) SetFault)
+
+-- the scene of what was seen of a step, with the datagrams and the releases that it added
+abbrev pub scene_of : Seen → List Datagram → List (Release (List Slug) SetFault) → Scene
+scene_of seen sent releases = record { member = seen.member; outcome = seen.outcome; sent = sent; releases = releases }
 
 -- what is shown of a step, before which so many datagrams were sent
 abbrev pub scene_text : ℕ → Scene → List ℕ

@@ -8,7 +8,7 @@ ghost use Rattle.command_ends.specs.declared.end.End.TheVariants.{Done};
 ghost use Rattle.protocol.specs.Versions.{One};
 ghost use Rattle.tape_frames.specs.Entries.{version_of};
 ghost use Rattle.rehearse_command.specs.Orders.{step_of};
-ghost use Rattle.rehearse_command.specs.Rehearsals.{BeginsIn, Inputs, IsOn, IsSetUpBy, IsStaged, inputs, Rehearses, Stands, StandsFront};
+ghost use Rattle.rehearse_command.specs.Rehearsals.{BeginsIn, GoesOn, Inputs, IsOn, IsSetUpBy, IsStaged, inputs, Rehearses, Stands, StandsFront, Stops};
 
 use crate::scene_lines::put_scene;
 use crate::script::{LineFault, Order, is_ignored, order_of};
@@ -69,7 +69,8 @@ fn stage_of<'a>(
     version: Version,
 ) -> Result<Stage, Fault<'a>>
     ensures begins { IfOk result (λ stage. BeginsIn (version_of version) stage.world) }
-    ensures stands { IfOk result (λ stage. (by : Inputs) (start now : Option (List ℕ)) → IsSetUpBy by (setting.entry.table.now, setting.entry.widths.now) → Appends start now [] → Stands by start now stage.world) }
+    ensures stands { IfOk result (λ stage. (by : Inputs) (start now : Option (List ℕ)) → IsSetUpBy by (setting.entry.table.now, setting.entry.widths.now)
+        → Appends start now [] → Stands by start now stage.world) }
 {
     let Ok(members) = members_of(alloc, setting, count) else {
         return Err(Fault::OutOfMemory);
@@ -141,8 +142,8 @@ fn show_step<'a, W: Write>(
     text: &mut String,
     out: &mut W,
 ) -> Result<(), Fault<'a>>
-    ensures goes_on { (by : Inputs) (start : Option (List ℕ)) → Stands by start (W.contents out.old) world.old → OnOk result (Stands by start (W.contents out.new) world.new) }
-    ensures stops { (by : Inputs) (start : Option (List ℕ)) → Stands by start (W.contents out.old) world.old → OnErr result (StandsFront by start (W.contents out.new) world.new) }
+    ensures goes_on { GoesOn result (W.contents out.old) world.old (W.contents out.new) world.new }
+    ensures stops { Stops result (W.contents out.old) world.old (W.contents out.new) world.new }
 {
     let (sent, released) = (world.sent().len(), world.releases().len());
     match world.step(step) {
@@ -166,7 +167,8 @@ impl Stage {
     ) -> Result<(), Fault<'a>>
         ensures early { OnOk result (self.old.is_new ≡ true) }
         ensures begins { OnOk result (BeginsIn (version_of version) self.new.world) }
-        ensures goes_on { (by : Inputs) (start now : Option (List ℕ)) → IsSetUpBy by (setting.entry.table.now, setting.entry.widths.now) → IsOn by start now self.old → OnOk result (IsOn by start now self.new) }
+        ensures goes_on { (by : Inputs) (start now : Option (List ℕ)) → IsSetUpBy by (setting.entry.table.now, setting.entry.widths.now)
+            → IsOn by start now self.old → OnOk result (IsOn by start now self.new) }
         ensures stops { OnErr result (self.new.world ≡ self.old.world) }
         ensures no_more { OnOk result (self.new.is_new ≡ false) }
     {
@@ -187,8 +189,8 @@ impl Stage {
         line: usize,
         out: &mut W,
     ) -> Result<(), Fault<'a>>
-        ensures goes_on { (by : Inputs) (start : Option (List ℕ)) → Stands by start (W.contents out.old) self.old.world → OnOk result (Stands by start (W.contents out.new) self.new.world) }
-        ensures stops { (by : Inputs) (start : Option (List ℕ)) → Stands by start (W.contents out.old) self.old.world → OnErr result (StandsFront by start (W.contents out.new) self.new.world) }
+        ensures goes_on { GoesOn result (W.contents out.old) self.old.world (W.contents out.new) self.new.world }
+        ensures stops { Stops result (W.contents out.old) self.old.world (W.contents out.new) self.new.world }
         ensures no_more { self.new.is_new ≡ false }
     {
         self.is_new = false;
@@ -211,7 +213,8 @@ fn set_stage<'a>(
     order: Result<Order, LineFault>,
 ) -> Result<Stage, Fault<'a>>
     ensures begins { IfOk result (λ stage. BeginsIn One stage.world) }
-    ensures stands { IfOk result (λ stage. (by : Inputs) (start now : Option (List ℕ)) → IsSetUpBy by (setting.entry.table.now, setting.entry.widths.now) → Appends start now [] → IsOn by start now stage) }
+    ensures stands { IfOk result (λ stage. (by : Inputs) (start now : Option (List ℕ)) → IsSetUpBy by (setting.entry.table.now, setting.entry.widths.now)
+        → Appends start now [] → IsOn by start now stage) }
 {
     match order {
         Ok(Order::Members(count)) => stage_of(alloc, setting, line, count, Version::One),
@@ -229,8 +232,10 @@ fn play_order<'a, W: Write>(
     order: Result<Order, LineFault>,
     out: &mut W,
 ) -> Result<(), Fault<'a>>
-    ensures goes_on { (by : Inputs) (start : Option (List ℕ)) → IsSetUpBy by (setting.entry.table.now, setting.entry.widths.now) → IsOn by start (W.contents out.old) stage.old → OnOk result (IsOn by start (W.contents out.new) stage.new) }
-    ensures stops { (by : Inputs) (start : Option (List ℕ)) → IsOn by start (W.contents out.old) stage.old → OnErr result (StandsFront by start (W.contents out.new) stage.new.world) }
+    ensures goes_on { (by : Inputs) (start : Option (List ℕ)) → IsSetUpBy by (setting.entry.table.now, setting.entry.widths.now)
+        → IsOn by start (W.contents out.old) stage.old → OnOk result (IsOn by start (W.contents out.new) stage.new) }
+    ensures stops { (by : Inputs) (start : Option (List ℕ))
+        → IsOn by start (W.contents out.old) stage.old → OnErr result (StandsFront by start (W.contents out.new) stage.new.world) }
 {
     match order {
         Ok(Order::Wire(version)) => stage.turn_to(alloc, setting, line, version),
@@ -250,8 +255,10 @@ fn play_line<'a, W: Write>(
     words: &[u8],
     out: &mut W,
 ) -> Result<(), Fault<'a>>
-    ensures goes_on { (by : Inputs) (start : Option (List ℕ)) → IsSetUpBy by (setting.entry.table.now, setting.entry.widths.now) → IsStaged by start (W.contents out.old) stage.old → OnOk result (IsStaged by start (W.contents out.new) stage.new) }
-    ensures stops { (by : Inputs) (start : Option (List ℕ)) → IsSetUpBy by (setting.entry.table.now, setting.entry.widths.now) → IsStaged by start (W.contents out.old) stage.old → OnErr result (Rehearses by (AppendsFront start (W.contents out.new))) }
+    ensures goes_on { (by : Inputs) (start : Option (List ℕ)) → IsSetUpBy by (setting.entry.table.now, setting.entry.widths.now)
+        → IsStaged by start (W.contents out.old) stage.old → OnOk result (IsStaged by start (W.contents out.new) stage.new) }
+    ensures stops { (by : Inputs) (start : Option (List ℕ)) → IsSetUpBy by (setting.entry.table.now, setting.entry.widths.now)
+        → IsStaged by start (W.contents out.old) stage.old → OnErr result (Rehearses by (AppendsFront start (W.contents out.new))) }
 {
     let order = order_of(alloc, words);
     match stage {
@@ -275,8 +282,10 @@ fn play_lines<'a, W: Write>(
     lines: &[&[u8]],
     out: &mut W,
 ) -> Result<(), Fault<'a>>
-    ensures ok { (by : Inputs) → IsSetUpBy by (setting.entry.table.now, setting.entry.widths.now) → OnOk result (Rehearses by (Appends (W.contents out.old) (W.contents out.new))) }
-    ensures err { (by : Inputs) → IsSetUpBy by (setting.entry.table.now, setting.entry.widths.now) → OnErr result (Rehearses by (AppendsFront (W.contents out.old) (W.contents out.new))) }
+    ensures ok { (by : Inputs) → IsSetUpBy by (setting.entry.table.now, setting.entry.widths.now)
+        → OnOk result (Rehearses by (Appends (W.contents out.old) (W.contents out.new))) }
+    ensures err { (by : Inputs) → IsSetUpBy by (setting.entry.table.now, setting.entry.widths.now)
+        → OnErr result (Rehearses by (AppendsFront (W.contents out.old) (W.contents out.new))) }
 {
     let mut stage = None;
     for (index, words) in lines.iter().enumerate() {
@@ -297,8 +306,10 @@ fn play_all<'a, W: Write>(
     script: &[u8],
     out: &mut W,
 ) -> Result<(), Fault<'a>>
-    ensures ok { (by : Inputs) → IsSetUpBy by (setting.entry.table.now, setting.entry.widths.now) → OnOk result (Rehearses by (Appends (W.contents out.old) (W.contents out.new))) }
-    ensures err { (by : Inputs) → IsSetUpBy by (setting.entry.table.now, setting.entry.widths.now) → OnErr result (Rehearses by (AppendsFront (W.contents out.old) (W.contents out.new))) }
+    ensures ok { (by : Inputs) → IsSetUpBy by (setting.entry.table.now, setting.entry.widths.now)
+        → OnOk result (Rehearses by (Appends (W.contents out.old) (W.contents out.new))) }
+    ensures err { (by : Inputs) → IsSetUpBy by (setting.entry.table.now, setting.entry.widths.now)
+        → OnErr result (Rehearses by (AppendsFront (W.contents out.old) (W.contents out.new))) }
 {
     let Ok(lines) = lines_of(alloc, script) else {
         return Err(Fault::OutOfMemory);

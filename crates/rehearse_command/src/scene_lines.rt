@@ -6,7 +6,7 @@ ghost use Rattle.command_ends.specs.ReleaseText.{plain_line};
 ghost use Rattle.line_check.specs.Galley.{galley_of};
 ghost use Rattle.streams.specs.Fronts.{AppendsFront};
 ghost use Rattle.rehearse_command.specs.Lines.{datagram_line, datagrams_text, kind_word, outcome_line, packet_line, released_text, route_text};
-ghost use Rattle.rehearse_command.specs.Scenes.{scene_text};
+ghost use Rattle.rehearse_command.specs.Scenes.{scene_of, scene_text};
 
 use crate::notes::BallotText;
 use crate::outcomes::OutcomeText;
@@ -238,8 +238,8 @@ pub fn put_scene<'a, W: Write>(
     out: &mut W,
 ) -> Result<(), Fault<'a>>
     requires { before + length sent.now ≤ usize.MAX }
-    ensures ok { OnOk result (Appends (W.contents out.old) (W.contents out.new) (scene_text before (record { member = seen.now.member; outcome = seen.now.outcome; sent = sent.now; releases = releases.now }))) }
-    ensures err { OnErr result (AppendsFront (W.contents out.old) (W.contents out.new) (scene_text before (record { member = seen.now.member; outcome = seen.now.outcome; sent = sent.now; releases = releases.now }))) }
+    ensures ok { OnOk result (Appends (W.contents out.old) (W.contents out.new) (scene_text before (scene_of seen.now sent.now releases.now))) }
+    ensures err { OnErr result (AppendsFront (W.contents out.old) (W.contents out.new) (scene_text before (scene_of seen.now sent.now releases.now))) }
 {
     put_outcome(line, seen.member, seen.outcome, out)?;
     put_datagrams(line, before, sent, out)?;
