@@ -1,6 +1,6 @@
 //! The tables of a station that starts.
 
-ghost use Rattle.std.specs.Prelude.{◌≡◌, ◌⊎◌, ◌≤◌, false, OnOk, OnErr, IsTrue};
+ghost use Rattle.std.specs.Prelude.{◌≡◌, ◌⊎◌, ◌≤◌, false, OnOk};
 ghost use Rattle.sqlite_trees.specs.View.{doubt};
 ghost use Rattle.sqlite.specs.State.{HasCleanDisk};
 ghost use Rattle.sqlite.specs.Held.{state};
@@ -8,6 +8,7 @@ ghost use Rattle.tape_frames.specs.Entries.{version_of};
 ghost use Rattle.row_table.specs.Tables.{no_schema};
 ghost use Rattle.row_table.specs.Rows.{Serves};
 ghost use Rattle.row_table.specs.Station.{HoldsNone, WasMade};
+ghost use Rattle.row_table.specs.Keeping.{RolledBackWhereRefused, WasOpenWhereRefused};
 ghost use Rattle.row_columns.specs.Layouts.{made_in};
 
 use row_table::{create_entry_tables, create_tables};
@@ -27,9 +28,8 @@ pub(crate) fn make_tables<S: Alter>(
     ensures serves { (state S.Store conn.old).now.schema ≡ no_schema → HasCleanDisk (state S.Store conn.new) → OnOk result (Serves (made_in (version_of version)) (state S.Store conn.new)) }
     ensures lasting { HasCleanDisk (state S.Store conn.new) → (state S.Store conn.old).now.schema ≡ no_schema
         → OnOk result ((db : _) → (state S.Store conn.new).may_leave db → HoldsNone (made_in (version_of version)) identity.circuit identity.member identity.members db) }
-    ensures was_open { HasCleanDisk (state S.Store conn.new) → IsTrue (state S.Store conn.new).is_open → OnErr result (IsTrue (state S.Store conn.old).is_open) }
-    ensures neither { HasCleanDisk (state S.Store conn.new) → IsTrue (state S.Store conn.new).is_open
-        → OnErr result (((state S.Store conn.new).now ≡ (state S.Store conn.old).committed) × ((state S.Store conn.new).committed ≡ (state S.Store conn.old).committed)) }
+    ensures was_open { WasOpenWhereRefused result (state S.Store conn.old) (state S.Store conn.new) }
+    ensures neither { RolledBackWhereRefused result (state S.Store conn.old) (state S.Store conn.new) }
     ensures crash { HasCleanDisk (state S.Store conn.new) → (state S.Store conn.old).now.schema ≡ no_schema
         → (db : _) → (state S.Store conn.new).may_leave db → (state S.Store conn.old).may_leave db ⊎ HoldsNone (made_in (version_of version)) identity.circuit identity.member identity.members db }
     ensures clean { doubt (state S.Store conn.old).is_clean ≤ doubt (state S.Store conn.new).is_clean }

@@ -6,6 +6,7 @@ ghost use Rattle.sqlite.specs.State.{HasCleanDisk, IsUnchanged};
 ghost use Rattle.sqlite.specs.Held.{state};
 ghost use Rattle.row_table.specs.Tables.{Layout as Tables, layout_schema, layout_tree};
 ghost use Rattle.row_table.specs.Rows.{Serves, WasKept};
+ghost use Rattle.row_table.specs.Keeping.{ChangesNothing, LeavesAsBefore, StaysAtRest};
 ghost use Rattle.row_columns.specs.Layouts.{layout_of};
 ghost use Rattle.saved_rows.specs.declared.fault.RowsFault.TheVariants.{WrongSchema};
 ghost use Rattle.row_columns.specs.StationRow.{stored_station, IsStationOf};
@@ -52,12 +53,10 @@ fn take_station<S: Alter>(
     ensures stored { HasCleanDisk (state S.Store conn.new) → (state S.Store conn.old).now.schema ≡ layout_schema (layout_of layout) → IfOk result (λ i. IsStationOf (layout_of layout) i (state S.Store conn.old).now.trees) }
     ensures given { IfOk result (Agrees given) }
     ensures refuses { HasCleanDisk (state S.Store conn.new) → (state S.Store conn.old).now.schema ≡ layout_schema (layout_of layout) → IfErr result (RefusesToOpen (layout_of layout) given (state S.Store conn.old).now.trees) }
-    ensures unchanged { HasCleanDisk (state S.Store conn.new) → (state S.Store conn.old).now.schema ≡ layout_schema (layout_of layout) → OnOk result (IsUnchanged (state S.Store conn.old) (state S.Store conn.new)) }
-    ensures rests { HasCleanDisk (state S.Store conn.new) → (state S.Store conn.old).now.schema ≡ layout_schema (layout_of layout)
-        → (IsTrue (state S.Store conn.old).is_open → (state S.Store conn.old).now ≡ (state S.Store conn.old).committed) → IsTrue (state S.Store conn.new).is_open
-        → WasKept (state S.Store conn.old) (state S.Store conn.new) × ((state S.Store conn.new).now ≡ (state S.Store conn.new).committed) }
+    ensures unchanged { ChangesNothing (layout_of layout) result (state S.Store conn.old) (state S.Store conn.new) }
+    ensures rests { StaysAtRest (layout_of layout) (state S.Store conn.old) (state S.Store conn.new) }
     ensures alone { (state S.Store conn.old).in_transaction ≡ false → (state S.Store conn.new).in_transaction ≡ false }
-    ensures leaves { HasCleanDisk (state S.Store conn.new) → (state S.Store conn.old).now.schema ≡ layout_schema (layout_of layout) → (db : _) → (state S.Store conn.new).may_leave db → (state S.Store conn.old).may_leave db }
+    ensures leaves { LeavesAsBefore (layout_of layout) (state S.Store conn.old) (state S.Store conn.new) }
     ensures clean { doubt (state S.Store conn.old).is_clean ≤ doubt (state S.Store conn.new).is_clean }
 {
     let stored = read_station(conn)?;
@@ -87,11 +86,9 @@ fn test_rows<S: Alter>(conn: &mut Connection<S>, layout: Layout) -> Result<(), R
     ensures serves { HasCleanDisk (state S.Store conn.new) → (state S.Store conn.old).now.schema ≡ layout_schema (layout_of layout) → (state S.Store conn.old).in_transaction ≡ false
         → (IsTrue (state S.Store conn.old).is_open → (state S.Store conn.old).now ≡ (state S.Store conn.old).committed) → OnOk result (Serves (layout_of layout) (state S.Store conn.new)) }
     ensures refuses { HasCleanDisk (state S.Store conn.new) → (state S.Store conn.old).now.schema ≡ layout_schema (layout_of layout) → IfErr result (RefusesRows (layout_of layout) (state S.Store conn.old).now.trees) }
-    ensures unchanged { HasCleanDisk (state S.Store conn.new) → (state S.Store conn.old).now.schema ≡ layout_schema (layout_of layout) → OnOk result (IsUnchanged (state S.Store conn.old) (state S.Store conn.new)) }
-    ensures rests { HasCleanDisk (state S.Store conn.new) → (state S.Store conn.old).now.schema ≡ layout_schema (layout_of layout)
-        → (IsTrue (state S.Store conn.old).is_open → (state S.Store conn.old).now ≡ (state S.Store conn.old).committed) → IsTrue (state S.Store conn.new).is_open
-        → WasKept (state S.Store conn.old) (state S.Store conn.new) × ((state S.Store conn.new).now ≡ (state S.Store conn.new).committed) }
-    ensures leaves { HasCleanDisk (state S.Store conn.new) → (state S.Store conn.old).now.schema ≡ layout_schema (layout_of layout) → (db : _) → (state S.Store conn.new).may_leave db → (state S.Store conn.old).may_leave db }
+    ensures unchanged { ChangesNothing (layout_of layout) result (state S.Store conn.old) (state S.Store conn.new) }
+    ensures rests { StaysAtRest (layout_of layout) (state S.Store conn.old) (state S.Store conn.new) }
+    ensures leaves { LeavesAsBefore (layout_of layout) (state S.Store conn.old) (state S.Store conn.new) }
     ensures clean { doubt (state S.Store conn.old).is_clean ≤ doubt (state S.Store conn.new).is_clean }
 {
     let mut test = RowTest::new(layout);

@@ -1,13 +1,14 @@
 //! Saved rows that are shown one by one, as they are read.
 
-ghost use Rattle.std.specs.Prelude.{◌≡◌, ◌⊎◌, ◌≤◌, ◌++◌, ◌∷◌, [], ℕ, false, None, Some, List, IsTrue, IsSome, IfOk, IfErr, OnOk, refl};
+ghost use Rattle.std.specs.Prelude.{◌≡◌, ◌⊎◌, ◌≤◌, ◌++◌, ◌∷◌, [], ℕ, false, None, Some, List, IsTrue, IsSome, IfOk, IfErr, refl};
 ghost use Rattle.sqlite_value.specs.Order.{column};
 ghost use Rattle.sqlite_trees.specs.View.{doubt};
 ghost use Rattle.sqlite.specs.State.{HasCleanDisk};
 ghost use Rattle.sqlite.specs.Held.{state};
 ghost use Rattle.protocol.specs.Rows.{Row as RowValue};
 ghost use Rattle.row_table.specs.Tables.{layout_tree};
-ghost use Rattle.row_table.specs.Rows.{Serves, WasKept};
+ghost use Rattle.row_table.specs.Rows.{Serves};
+ghost use Rattle.row_table.specs.Keeping.{CrashesAsBefore, StaysKept, StaysOpen};
 ghost use Rattle.row_columns.specs.Layouts.{layout_of};
 ghost use Rattle.row_columns.specs.Columns.{row_in, damage_of, item_in, saved_in, AreSound};
 ghost use Rattle.acceptor_store.specs.Sqlite.{IsRefusal};
@@ -129,10 +130,9 @@ pub(crate) fn show_all<S: Alter, V: RowVisitor>(
 
     // It has seen some rows, and nothing else.
     ensures only { (items : List (ℕ × RowValue)) × V.saw visitor.old visitor.new items }
-    ensures open { Serves (layout_of layout) (state S.Store conn.old) → HasCleanDisk (state S.Store conn.new) → OnOk result (IsTrue (state S.Store conn.new).is_open) }
-    ensures same { Serves (layout_of layout) (state S.Store conn.old) → HasCleanDisk (state S.Store conn.new) → IsTrue (state S.Store conn.new).is_open → WasKept (state S.Store conn.old) (state S.Store conn.new) }
-    ensures crash { Serves (layout_of layout) (state S.Store conn.old) → HasCleanDisk (state S.Store conn.new) → IsTrue (state S.Store conn.old).is_open
-        → (db : _) → (state S.Store conn.new).may_leave db → (state S.Store conn.old).may_leave db }
+    ensures open { StaysOpen (layout_of layout) result (state S.Store conn.old) (state S.Store conn.new) }
+    ensures same { StaysKept (layout_of layout) (state S.Store conn.old) (state S.Store conn.new) }
+    ensures crash { CrashesAsBefore (layout_of layout) (state S.Store conn.old) (state S.Store conn.new) }
     ensures clean { doubt (state S.Store conn.old).is_clean ≤ doubt (state S.Store conn.new).is_clean }
 
     // Sound rows are not damaged.

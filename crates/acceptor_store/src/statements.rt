@@ -1,13 +1,14 @@
 //! Rows read and saved by the statements of the tables.
 
-ghost use Rattle.std.specs.Prelude.{◌≡◌, ◌⊎◌, ◌≤◌, IsTrue, IfOk, IfErr, OnOk, OnErr};
+ghost use Rattle.std.specs.Prelude.{◌≡◌, ◌⊎◌, ◌≤◌, IsTrue, IfOk, IfErr, OnOk};
 ghost use Rattle.std.specs.List.{AllByRecursion};
 ghost use Rattle.sqlite_trees.specs.View.{doubt};
 ghost use Rattle.sqlite.specs.State.{HasCleanDisk};
 ghost use Rattle.sqlite.specs.Held.{state};
 ghost use Rattle.row_table.specs.Tables.{Origin, layout_tree};
 ghost use Rattle.row_table.specs.Tables.Layout.{First, Second};
-ghost use Rattle.row_table.specs.Rows.{Serves, SavesIn, WasSaved, WasKept};
+ghost use Rattle.row_table.specs.Rows.{Serves, SavesIn};
+ghost use Rattle.row_table.specs.Keeping.{CrashesAsBefore, KeptWhereRefused, SavesRow, StaysKept, StaysOpen};
 ghost use Rattle.protocol.specs.Versions.{One};
 ghost use Rattle.protocol.specs.Limits.{last_number};
 ghost use Rattle.saved_rows.specs.Saved.{HasPromise, RowFits, AreFitting, IsListOf};
@@ -43,8 +44,8 @@ fn save_row<S: Alter>(
     requires promise { HasPromise row.now }
     requires fits { RowFits One row.now }
     ensures serves { Serves First (state S.Store conn.old) → Serves First (state S.Store conn.new) }
-    ensures saved { Serves First (state S.Store conn.old) → HasCleanDisk (state S.Store conn.new) → OnOk result (WasSaved First number (columns_for First row.now) (state S.Store conn.old) (state S.Store conn.new)) }
-    ensures err { Serves First (state S.Store conn.old) → HasCleanDisk (state S.Store conn.new) → IsTrue (state S.Store conn.new).is_open → OnErr result (WasKept (state S.Store conn.old) (state S.Store conn.new)) }
+    ensures saved { SavesRow First number (columns_for First row.now) result (state S.Store conn.old) (state S.Store conn.new) }
+    ensures err { KeptWhereRefused First result (state S.Store conn.old) (state S.Store conn.new) }
     ensures crash { Serves First (state S.Store conn.old) → HasCleanDisk (state S.Store conn.new) → IsTrue (state S.Store conn.old).is_open
         → (db : _) → (state S.Store conn.new).may_leave db → (db ≡ (state S.Store conn.old).now.trees) ⊎ (ComesBack First row.now × SavesIn First number (columns_for First row.now) (state S.Store conn.old).now.trees db) }
     ensures clean { doubt (state S.Store conn.old).is_clean ≤ doubt (state S.Store conn.new).is_clean }
@@ -80,8 +81,8 @@ fn save_entry<S: Alter>(
 ) -> Result<(), RowsFault>
     requires promise { HasPromise row.now }
     ensures serves { (origin : Origin) → Serves (Second origin) (state S.Store conn.old) → Serves (Second origin) (state S.Store conn.new) }
-    ensures saved { (origin : Origin) → Serves (Second origin) (state S.Store conn.old) → HasCleanDisk (state S.Store conn.new) → OnOk result (WasSaved (Second origin) number (columns_for (Second origin) row.now) (state S.Store conn.old) (state S.Store conn.new)) }
-    ensures err { (origin : Origin) → Serves (Second origin) (state S.Store conn.old) → HasCleanDisk (state S.Store conn.new) → IsTrue (state S.Store conn.new).is_open → OnErr result (WasKept (state S.Store conn.old) (state S.Store conn.new)) }
+    ensures saved { (origin : Origin) → SavesRow (Second origin) number (columns_for (Second origin) row.now) result (state S.Store conn.old) (state S.Store conn.new) }
+    ensures err { (origin : Origin) → KeptWhereRefused (Second origin) result (state S.Store conn.old) (state S.Store conn.new) }
     ensures crash { (origin : Origin) → Serves (Second origin) (state S.Store conn.old) → HasCleanDisk (state S.Store conn.new) → IsTrue (state S.Store conn.old).is_open
         → (db : _) → (state S.Store conn.new).may_leave db → (db ≡ (state S.Store conn.old).now.trees) ⊎ (ComesBack (Second origin) row.now × SavesIn (Second origin) number (columns_for (Second origin) row.now) (state S.Store conn.old).now.trees db) }
     ensures clean { doubt (state S.Store conn.old).is_clean ≤ doubt (state S.Store conn.new).is_clean }
@@ -110,8 +111,8 @@ pub(crate) fn save<S: Alter>(
     requires promise { HasPromise row.now }
     requires fits { RowFits (version_in (layout_of layout)) row.now }
     ensures serves { Serves (layout_of layout) (state S.Store conn.old) → Serves (layout_of layout) (state S.Store conn.new) }
-    ensures saved { Serves (layout_of layout) (state S.Store conn.old) → HasCleanDisk (state S.Store conn.new) → OnOk result (WasSaved (layout_of layout) number (columns_for (layout_of layout) row.now) (state S.Store conn.old) (state S.Store conn.new)) }
-    ensures err { Serves (layout_of layout) (state S.Store conn.old) → HasCleanDisk (state S.Store conn.new) → IsTrue (state S.Store conn.new).is_open → OnErr result (WasKept (state S.Store conn.old) (state S.Store conn.new)) }
+    ensures saved { SavesRow (layout_of layout) number (columns_for (layout_of layout) row.now) result (state S.Store conn.old) (state S.Store conn.new) }
+    ensures err { KeptWhereRefused (layout_of layout) result (state S.Store conn.old) (state S.Store conn.new) }
     ensures crash { Serves (layout_of layout) (state S.Store conn.old) → HasCleanDisk (state S.Store conn.new) → IsTrue (state S.Store conn.old).is_open
         → (db : _) → (state S.Store conn.new).may_leave db → (db ≡ (state S.Store conn.old).now.trees) ⊎ (ComesBack (layout_of layout) row.now × SavesIn (layout_of layout) number (columns_for (layout_of layout) row.now) (state S.Store conn.old).now.trees db) }
     ensures clean { doubt (state S.Store conn.old).is_clean ≤ doubt (state S.Store conn.new).is_clean }
@@ -141,10 +142,9 @@ pub(crate) fn read<S: Alter>(
     ensures serves { Serves (layout_of layout) (state S.Store conn.old) → Serves (layout_of layout) (state S.Store conn.new) }
     ensures row { Serves (layout_of layout) (state S.Store conn.old) → HasCleanDisk (state S.Store conn.new) → IfOk result (λ row. row ≡ saved_in (layout_of layout) (state S.Store conn.old).now.trees number) }
     ensures fits { IfOk result (RowFits (version_in (layout_of layout))) }
-    ensures open { Serves (layout_of layout) (state S.Store conn.old) → HasCleanDisk (state S.Store conn.new) → OnOk result (IsTrue (state S.Store conn.new).is_open) }
-    ensures same { Serves (layout_of layout) (state S.Store conn.old) → HasCleanDisk (state S.Store conn.new) → IsTrue (state S.Store conn.new).is_open → WasKept (state S.Store conn.old) (state S.Store conn.new) }
-    ensures crash { Serves (layout_of layout) (state S.Store conn.old) → HasCleanDisk (state S.Store conn.new) → IsTrue (state S.Store conn.old).is_open
-        → (db : _) → (state S.Store conn.new).may_leave db → (state S.Store conn.old).may_leave db }
+    ensures open { StaysOpen (layout_of layout) result (state S.Store conn.old) (state S.Store conn.new) }
+    ensures same { StaysKept (layout_of layout) (state S.Store conn.old) (state S.Store conn.new) }
+    ensures crash { CrashesAsBefore (layout_of layout) (state S.Store conn.old) (state S.Store conn.new) }
     ensures clean { doubt (state S.Store conn.old).is_clean ≤ doubt (state S.Store conn.new).is_clean }
 
     // Sound rows are not damaged.
@@ -176,10 +176,9 @@ pub(crate) fn list<S: Alter>(
     ensures listed { Serves (layout_of layout) (state S.Store conn.old) → HasCleanDisk (state S.Store conn.new) → IfOk result (λ items. IsListOf (saved_in (layout_of layout) (state S.Store conn.old).now.trees) items.items) }
     ensures promised { IfOk result (λ items. AllByRecursion (λ p. HasPromise p.1) items.items) }
     ensures fits { IfOk result (λ items. AreFitting (version_in (layout_of layout)) items.items) }
-    ensures open { Serves (layout_of layout) (state S.Store conn.old) → HasCleanDisk (state S.Store conn.new) → OnOk result (IsTrue (state S.Store conn.new).is_open) }
-    ensures same { Serves (layout_of layout) (state S.Store conn.old) → HasCleanDisk (state S.Store conn.new) → IsTrue (state S.Store conn.new).is_open → WasKept (state S.Store conn.old) (state S.Store conn.new) }
-    ensures crash { Serves (layout_of layout) (state S.Store conn.old) → HasCleanDisk (state S.Store conn.new) → IsTrue (state S.Store conn.old).is_open
-        → (db : _) → (state S.Store conn.new).may_leave db → (state S.Store conn.old).may_leave db }
+    ensures open { StaysOpen (layout_of layout) result (state S.Store conn.old) (state S.Store conn.new) }
+    ensures same { StaysKept (layout_of layout) (state S.Store conn.old) (state S.Store conn.new) }
+    ensures crash { CrashesAsBefore (layout_of layout) (state S.Store conn.old) (state S.Store conn.new) }
     ensures clean { doubt (state S.Store conn.old).is_clean ≤ doubt (state S.Store conn.new).is_clean }
 
     // Sound rows are not damaged.

@@ -19,9 +19,13 @@ abbrev pub entry_columns : ℕ → ℕ → Option ℕ → Option ℕ → Option 
 entry_columns promised_round promised_owner vote_round vote_owner frames packed =
     whole promised_round ∷ whole promised_owner ∷ or_null whole vote_round ∷ or_null whole vote_owner ∷ or_null whole frames ∷ or_null Blob packed ∷ []
 
--- an entry's columns as the row that the table stores
+-- the columns of an entry
+abbrev pub columns_of_entry : EntryColumns → Row
+columns_of_entry e = entry_columns e.promised_round e.promised_owner e.vote_round e.vote_owner e.length (option_map (λ v. v.items) e.packed)
+
+-- an entry as the row that the table stores
 abbrev pub entry_row : EntryColumns → Row
-entry_row e = stored e.number (entry_columns e.promised_round e.promised_owner e.vote_round e.vote_owner e.length (option_map (λ v. v.items) e.packed))
+entry_row e = stored e.number (columns_of_entry e)
 
 -- a table into which these entries were put, each at its number
 abbrev pub with_entries : List EntryColumns → List Row → List Row

@@ -4,3 +4,4 @@ pub mod Rising
 pub mod Station
 pub mod Entries
 pub mod Cursor
+pub mod Keeping

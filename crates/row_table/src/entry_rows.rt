@@ -1,15 +1,16 @@
 //! The statements on the table of entries, outside a transaction.
 
-ghost use Rattle.std.specs.Prelude.{[], List, ◌≡◌, ◌⊎◌, ◌≤◌, false, OnOk, OnErr, IfOk, IsTrue, option_map, option_to_list};
+ghost use Rattle.std.specs.Prelude.{[], List, ◌≡◌, ◌⊎◌, ◌≤◌, false, IfOk, IsTrue, option_to_list};
 ghost use Rattle.sqlite_value.specs.Order.{Row as RowValue};
 ghost use Rattle.sqlite_trees.specs.View.{doubt};
-ghost use Rattle.sqlite.specs.State.{HasCleanDisk, IsUnchanged};
+ghost use Rattle.sqlite.specs.State.{HasCleanDisk};
 ghost use Rattle.sqlite.specs.Held.{state};
 ghost use Rattle.row_table.specs.Tables.{Origin, entries_tree, layout_schema};
 ghost use Rattle.row_table.specs.Tables.Layout.{Second};
-ghost use Rattle.row_table.specs.Rows.{SavesIn, Serves, WasSaved, WasKept, columns_at, IsListing, AreRows};
+ghost use Rattle.row_table.specs.Rows.{Serves, columns_at, IsListing};
 ghost use Rattle.row_table.specs.Cursor.{ListsFirst};
-ghost use Rattle.row_table.specs.Entries.{entry_columns};
+ghost use Rattle.row_table.specs.Entries.{columns_of_entry};
+ghost use Rattle.row_table.specs.Keeping.{BeginsToServe, ChangesNothing, CrashesAsBefore, CrashesAsSaved, KeptWhereRefused, LeavesAsBefore, SavesRow, ShowsTables, StaysAtRest, StaysKept, StaysOpen};
 
 use crate::cursor::{Taker, each_row};
 use crate::entries::EntryColumns;
@@ -22,12 +23,9 @@ const ALL_ENTRIES: &str =
 /// Puts one entry in place of the one under its number. It gives how many rows the statement changed.
 fn replace_entry<S: Alter>(conn: &mut Connection<S>, entry: &EntryColumns) -> Result<usize, Error>
     ensures serves { (origin : Origin) → Serves (Second origin) (state S.Store conn.old) → Serves (Second origin) (state S.Store conn.new) }
-    ensures saved { (origin : Origin) → Serves (Second origin) (state S.Store conn.old) → HasCleanDisk (state S.Store conn.new)
-        → OnOk result (WasSaved (Second origin) entry.now.number (entry_columns entry.now.promised_round entry.now.promised_owner entry.now.vote_round entry.now.vote_owner entry.now.length (option_map (λ v. v.items) entry.now.packed)) (state S.Store conn.old) (state S.Store conn.new)) }
-    ensures err { (origin : Origin) → Serves (Second origin) (state S.Store conn.old) → HasCleanDisk (state S.Store conn.new) → IsTrue (state S.Store conn.new).is_open → OnErr result (WasKept (state S.Store conn.old) (state S.Store conn.new)) }
-    ensures crash { (origin : Origin) → Serves (Second origin) (state S.Store conn.old) → HasCleanDisk (state S.Store conn.new) → IsTrue (state S.Store conn.old).is_open
-        → (db : _) → (state S.Store conn.new).may_leave db → (db ≡ (state S.Store conn.old).now.trees)
-        ⊎ SavesIn (Second origin) entry.now.number (entry_columns entry.now.promised_round entry.now.promised_owner entry.now.vote_round entry.now.vote_owner entry.now.length (option_map (λ v. v.items) entry.now.packed)) (state S.Store conn.old).now.trees db }
+    ensures saved { (origin : Origin) → SavesRow (Second origin) entry.now.number (columns_of_entry entry.now) result (state S.Store conn.old) (state S.Store conn.new) }
+    ensures err { (origin : Origin) → KeptWhereRefused (Second origin) result (state S.Store conn.old) (state S.Store conn.new) }
+    ensures crash { (origin : Origin) → CrashesAsSaved (Second origin) entry.now.number (columns_of_entry entry.now) (state S.Store conn.old) (state S.Store conn.new) }
     ensures clean { doubt (state S.Store conn.old).is_clean ≤ doubt (state S.Store conn.new).is_clean }
 {
     conn.execute(
@@ -50,12 +48,9 @@ fn replace_entry<S: Alter>(conn: &mut Connection<S>, entry: &EntryColumns) -> Re
 /// Nothing is then changed. A crash leaves the table as it was, or with this entry saved.
 pub fn put_entry<S: Alter>(conn: &mut Connection<S>, entry: &EntryColumns) -> Result<(), Error>
     ensures serves { (origin : Origin) → Serves (Second origin) (state S.Store conn.old) → Serves (Second origin) (state S.Store conn.new) }
-    ensures saved { (origin : Origin) → Serves (Second origin) (state S.Store conn.old) → HasCleanDisk (state S.Store conn.new)
-        → OnOk result (WasSaved (Second origin) entry.now.number (entry_columns entry.now.promised_round entry.now.promised_owner entry.now.vote_round entry.now.vote_owner entry.now.length (option_map (λ v. v.items) entry.now.packed)) (state S.Store conn.old) (state S.Store conn.new)) }
-    ensures err { (origin : Origin) → Serves (Second origin) (state S.Store conn.old) → HasCleanDisk (state S.Store conn.new) → IsTrue (state S.Store conn.new).is_open → OnErr result (WasKept (state S.Store conn.old) (state S.Store conn.new)) }
-    ensures crash { (origin : Origin) → Serves (Second origin) (state S.Store conn.old) → HasCleanDisk (state S.Store conn.new) → IsTrue (state S.Store conn.old).is_open
-        → (db : _) → (state S.Store conn.new).may_leave db → (db ≡ (state S.Store conn.old).now.trees)
-        ⊎ SavesIn (Second origin) entry.now.number (entry_columns entry.now.promised_round entry.now.promised_owner entry.now.vote_round entry.now.vote_owner entry.now.length (option_map (λ v. v.items) entry.now.packed)) (state S.Store conn.old).now.trees db }
+    ensures saved { (origin : Origin) → SavesRow (Second origin) entry.now.number (columns_of_entry entry.now) result (state S.Store conn.old) (state S.Store conn.new) }
+    ensures err { (origin : Origin) → KeptWhereRefused (Second origin) result (state S.Store conn.old) (state S.Store conn.new) }
+    ensures crash { (origin : Origin) → CrashesAsSaved (Second origin) entry.now.number (columns_of_entry entry.now) (state S.Store conn.old) (state S.Store conn.new) }
     ensures clean { doubt (state S.Store conn.old).is_clean ≤ doubt (state S.Store conn.new).is_clean }
 {
     match replace_entry(conn, entry) {
@@ -70,10 +65,9 @@ pub fn put_entry<S: Alter>(conn: &mut Connection<S>, entry: &EntryColumns) -> Re
 pub fn get_entry<S: Alter>(conn: &mut Connection<S>, number: u32) -> Result<Vec<Row>, Error>
     ensures serves { (origin : Origin) → Serves (Second origin) (state S.Store conn.old) → Serves (Second origin) (state S.Store conn.new) }
     ensures found { (origin : Origin) → Serves (Second origin) (state S.Store conn.old) → HasCleanDisk (state S.Store conn.new) → IfOk result (λ rows. rows.items ≡ option_to_list (columns_at (Second origin) ((state S.Store conn.old).now.trees (entries_tree origin)) number)) }
-    ensures open { (origin : Origin) → Serves (Second origin) (state S.Store conn.old) → HasCleanDisk (state S.Store conn.new) → OnOk result (IsTrue (state S.Store conn.new).is_open) }
-    ensures same { (origin : Origin) → Serves (Second origin) (state S.Store conn.old) → HasCleanDisk (state S.Store conn.new) → IsTrue (state S.Store conn.new).is_open → WasKept (state S.Store conn.old) (state S.Store conn.new) }
-    ensures crash { (origin : Origin) → Serves (Second origin) (state S.Store conn.old) → HasCleanDisk (state S.Store conn.new) → IsTrue (state S.Store conn.old).is_open
-        → (db : _) → (state S.Store conn.new).may_leave db → (state S.Store conn.old).may_leave db }
+    ensures open { (origin : Origin) → StaysOpen (Second origin) result (state S.Store conn.old) (state S.Store conn.new) }
+    ensures same { (origin : Origin) → StaysKept (Second origin) (state S.Store conn.old) (state S.Store conn.new) }
+    ensures crash { (origin : Origin) → CrashesAsBefore (Second origin) (state S.Store conn.old) (state S.Store conn.new) }
     ensures clean { doubt (state S.Store conn.old).is_clean ≤ doubt (state S.Store conn.new).is_clean }
 {
     conn.query_all(
@@ -86,26 +80,21 @@ pub fn get_entry<S: Alter>(conn: &mut Connection<S>, number: u32) -> Result<Vec<
 ///
 /// An error comes where the database refuses the statement, as in `get_entry`.
 pub fn all_entries<S: Alter>(conn: &mut Connection<S>) -> Result<Vec<Row>, Error>
-    ensures unchanged { (origin : Origin) → HasCleanDisk (state S.Store conn.new) → (state S.Store conn.old).now.schema ≡ layout_schema (Second origin) → OnOk result (IsUnchanged (state S.Store conn.old) (state S.Store conn.new)) }
+    ensures unchanged { (origin : Origin) → ChangesNothing (Second origin) result (state S.Store conn.old) (state S.Store conn.new) }
     ensures listed { (origin : Origin) → HasCleanDisk (state S.Store conn.new) → (state S.Store conn.old).now.schema ≡ layout_schema (Second origin) → IfOk result (λ rows. IsListing (Second origin) ((state S.Store conn.old).now.trees (entries_tree origin)) rows.items) }
     ensures serves { (origin : Origin) → Serves (Second origin) (state S.Store conn.old) → Serves (Second origin) (state S.Store conn.new) }
-    ensures open { (origin : Origin) → Serves (Second origin) (state S.Store conn.old) → HasCleanDisk (state S.Store conn.new) → OnOk result (IsTrue (state S.Store conn.new).is_open) }
-    ensures at_rest { (origin : Origin) → Serves (Second origin) (state S.Store conn.old) → HasCleanDisk (state S.Store conn.new) → OnOk result ((state S.Store conn.old).now.schema ≡ layout_schema (Second origin)) }
-    ensures same { (origin : Origin) → Serves (Second origin) (state S.Store conn.old) → HasCleanDisk (state S.Store conn.new) → IsTrue (state S.Store conn.new).is_open → WasKept (state S.Store conn.old) (state S.Store conn.new) }
-    ensures crash { (origin : Origin) → Serves (Second origin) (state S.Store conn.old) → HasCleanDisk (state S.Store conn.new) → IsTrue (state S.Store conn.old).is_open
-        → (db : _) → (state S.Store conn.new).may_leave db → (state S.Store conn.old).may_leave db }
+    ensures open { (origin : Origin) → StaysOpen (Second origin) result (state S.Store conn.old) (state S.Store conn.new) }
+    ensures at_rest { (origin : Origin) → ShowsTables (Second origin) result (state S.Store conn.old) (state S.Store conn.new) }
+    ensures same { (origin : Origin) → StaysKept (Second origin) (state S.Store conn.old) (state S.Store conn.new) }
+    ensures crash { (origin : Origin) → CrashesAsBefore (Second origin) (state S.Store conn.old) (state S.Store conn.new) }
 
     // On any table, outside a transaction, it changes nothing.
-    ensures rests { (origin : Origin) → HasCleanDisk (state S.Store conn.new) → (state S.Store conn.old).now.schema ≡ layout_schema (Second origin)
-        → (IsTrue (state S.Store conn.old).is_open → (state S.Store conn.old).now ≡ (state S.Store conn.old).committed) → IsTrue (state S.Store conn.new).is_open
-        → WasKept (state S.Store conn.old) (state S.Store conn.new) × ((state S.Store conn.new).now ≡ (state S.Store conn.new).committed) }
-    ensures leaves { (origin : Origin) → HasCleanDisk (state S.Store conn.new) → (state S.Store conn.old).now.schema ≡ layout_schema (Second origin) → (db : _) → (state S.Store conn.new).may_leave db → (state S.Store conn.old).may_leave db }
+    ensures rests { (origin : Origin) → StaysAtRest (Second origin) (state S.Store conn.old) (state S.Store conn.new) }
+    ensures leaves { (origin : Origin) → LeavesAsBefore (Second origin) (state S.Store conn.old) (state S.Store conn.new) }
     ensures alone { (state S.Store conn.old).in_transaction ≡ false → (state S.Store conn.new).in_transaction ≡ false }
 
     // A connection on a table of entries serves.
-    ensures begins { (origin : Origin) → (state S.Store conn.old).now.schema ≡ layout_schema (Second origin) → (state S.Store conn.old).in_transaction ≡ false
-        → (IsTrue (state S.Store conn.old).is_open → (state S.Store conn.old).now ≡ (state S.Store conn.old).committed)
-        → AreRows ((state S.Store conn.old).now.trees (entries_tree origin)) → HasCleanDisk (state S.Store conn.new) → OnOk result (Serves (Second origin) (state S.Store conn.new)) }
+    ensures begins { (origin : Origin) → BeginsToServe (Second origin) result (state S.Store conn.old) (state S.Store conn.new) }
     ensures clean { doubt (state S.Store conn.old).is_clean ≤ doubt (state S.Store conn.new).is_clean }
 {
     conn.query_all(ALL_ENTRIES, &[])
@@ -118,7 +107,7 @@ pub fn visit_entries<S: Alter, T: Taker>(
     conn: &mut Connection<S>,
     taker: &mut T,
 ) -> Result<bool, Error>
-    ensures unchanged { (origin : Origin) → HasCleanDisk (state S.Store conn.new) → (state S.Store conn.old).now.schema ≡ layout_schema (Second origin) → OnOk result (IsUnchanged (state S.Store conn.old) (state S.Store conn.new)) }
+    ensures unchanged { (origin : Origin) → ChangesNothing (Second origin) result (state S.Store conn.old) (state S.Store conn.new) }
     ensures listed { (origin : Origin) → HasCleanDisk (state S.Store conn.new) → (state S.Store conn.old).now.schema ≡ layout_schema (Second origin)
         → IfOk result (λ all. IsTrue all → (rows : List RowValue) × IsListing (Second origin) ((state S.Store conn.old).now.trees (entries_tree origin)) rows × T.took taker.old taker.new rows) }
     ensures enough { IfOk result (λ all. all ≡ false → T.has_enough taker.new) }
@@ -130,23 +119,18 @@ pub fn visit_entries<S: Alter, T: Taker>(
     // It has had some rows, and nothing else.
     ensures only { (rows : List RowValue) × T.took taker.old taker.new rows }
     ensures serves { (origin : Origin) → Serves (Second origin) (state S.Store conn.old) → Serves (Second origin) (state S.Store conn.new) }
-    ensures open { (origin : Origin) → Serves (Second origin) (state S.Store conn.old) → HasCleanDisk (state S.Store conn.new) → OnOk result (IsTrue (state S.Store conn.new).is_open) }
-    ensures at_rest { (origin : Origin) → Serves (Second origin) (state S.Store conn.old) → HasCleanDisk (state S.Store conn.new) → OnOk result ((state S.Store conn.old).now.schema ≡ layout_schema (Second origin)) }
-    ensures same { (origin : Origin) → Serves (Second origin) (state S.Store conn.old) → HasCleanDisk (state S.Store conn.new) → IsTrue (state S.Store conn.new).is_open → WasKept (state S.Store conn.old) (state S.Store conn.new) }
-    ensures crash { (origin : Origin) → Serves (Second origin) (state S.Store conn.old) → HasCleanDisk (state S.Store conn.new) → IsTrue (state S.Store conn.old).is_open
-        → (db : _) → (state S.Store conn.new).may_leave db → (state S.Store conn.old).may_leave db }
+    ensures open { (origin : Origin) → StaysOpen (Second origin) result (state S.Store conn.old) (state S.Store conn.new) }
+    ensures at_rest { (origin : Origin) → ShowsTables (Second origin) result (state S.Store conn.old) (state S.Store conn.new) }
+    ensures same { (origin : Origin) → StaysKept (Second origin) (state S.Store conn.old) (state S.Store conn.new) }
+    ensures crash { (origin : Origin) → CrashesAsBefore (Second origin) (state S.Store conn.old) (state S.Store conn.new) }
 
     // On any table, outside a transaction, it changes nothing.
-    ensures rests { (origin : Origin) → HasCleanDisk (state S.Store conn.new) → (state S.Store conn.old).now.schema ≡ layout_schema (Second origin)
-        → (IsTrue (state S.Store conn.old).is_open → (state S.Store conn.old).now ≡ (state S.Store conn.old).committed) → IsTrue (state S.Store conn.new).is_open
-        → WasKept (state S.Store conn.old) (state S.Store conn.new) × ((state S.Store conn.new).now ≡ (state S.Store conn.new).committed) }
-    ensures leaves { (origin : Origin) → HasCleanDisk (state S.Store conn.new) → (state S.Store conn.old).now.schema ≡ layout_schema (Second origin) → (db : _) → (state S.Store conn.new).may_leave db → (state S.Store conn.old).may_leave db }
+    ensures rests { (origin : Origin) → StaysAtRest (Second origin) (state S.Store conn.old) (state S.Store conn.new) }
+    ensures leaves { (origin : Origin) → LeavesAsBefore (Second origin) (state S.Store conn.old) (state S.Store conn.new) }
     ensures alone { (state S.Store conn.old).in_transaction ≡ false → (state S.Store conn.new).in_transaction ≡ false }
 
     // A connection on a table of entries serves.
-    ensures begins { (origin : Origin) → (state S.Store conn.old).now.schema ≡ layout_schema (Second origin) → (state S.Store conn.old).in_transaction ≡ false
-        → (IsTrue (state S.Store conn.old).is_open → (state S.Store conn.old).now ≡ (state S.Store conn.old).committed)
-        → AreRows ((state S.Store conn.old).now.trees (entries_tree origin)) → HasCleanDisk (state S.Store conn.new) → OnOk result (Serves (Second origin) (state S.Store conn.new)) }
+    ensures begins { (origin : Origin) → BeginsToServe (Second origin) result (state S.Store conn.old) (state S.Store conn.new) }
     ensures clean { doubt (state S.Store conn.old).is_clean ≤ doubt (state S.Store conn.new).is_clean }
 {
     each_row(conn, ALL_ENTRIES, taker)

@@ -1,14 +1,15 @@
 //! The statements on the table of rows.
 
-ghost use Rattle.std.specs.Prelude.{[], List, ◌≡◌, ◌⊎◌, ◌≤◌, OnOk, OnErr, IfOk, option_to_list, IsTrue, option_map, false};
+ghost use Rattle.std.specs.Prelude.{[], List, ◌≡◌, ◌⊎◌, ◌≤◌, IfOk, option_to_list, IsTrue, option_map, false};
 ghost use Rattle.sqlite_value.specs.Order.{Row as RowValue};
 ghost use Rattle.sqlite_trees.specs.View.{doubt};
-ghost use Rattle.sqlite.specs.State.{HasCleanDisk, IsUnchanged};
+ghost use Rattle.sqlite.specs.State.{HasCleanDisk};
 ghost use Rattle.sqlite.specs.Held.{state};
 ghost use Rattle.row_table.specs.Tables.{rows_tree, layout_schema};
 ghost use Rattle.row_table.specs.Tables.Layout.{First};
-ghost use Rattle.row_table.specs.Rows.{columns_of, columns_at, SavesIn, Serves, WasSaved, WasKept, IsListing, AreRows};
+ghost use Rattle.row_table.specs.Rows.{columns_of, columns_at, Serves, IsListing};
 ghost use Rattle.row_table.specs.Cursor.{ListsFirst};
+ghost use Rattle.row_table.specs.Keeping.{BeginsToServe, ChangesNothing, CrashesAsBefore, CrashesAsSaved, KeptWhereRefused, LeavesAsBefore, SavesRow, ShowsTables, StaysAtRest, StaysKept, StaysOpen};
 
 use crate::cursor::{Taker, each_row};
 use sqlite::{Alter, Connection, Error, Row, params};
@@ -28,11 +29,9 @@ fn replace_row<S: Alter>(
     tape: Option<&[u8]>,
 ) -> Result<usize, Error>
     ensures serves { Serves First (state S.Store conn.old) → Serves First (state S.Store conn.new) }
-    ensures saved { Serves First (state S.Store conn.old) → HasCleanDisk (state S.Store conn.new) → OnOk result (WasSaved First number (columns_of promised_round promised_owner vote_round vote_owner (option_map (λ b. b.now) tape.entry)) (state S.Store conn.old) (state S.Store conn.new)) }
-    ensures err { Serves First (state S.Store conn.old) → HasCleanDisk (state S.Store conn.new) → IsTrue (state S.Store conn.new).is_open → OnErr result (WasKept (state S.Store conn.old) (state S.Store conn.new)) }
-    ensures crash { Serves First (state S.Store conn.old) → HasCleanDisk (state S.Store conn.new) → IsTrue (state S.Store conn.old).is_open
-        → (db : _) → (state S.Store conn.new).may_leave db → (db ≡ (state S.Store conn.old).now.trees)
-        ⊎ SavesIn First number (columns_of promised_round promised_owner vote_round vote_owner (option_map (λ b. b.now) tape.entry)) (state S.Store conn.old).now.trees db }
+    ensures saved { SavesRow First number (columns_of promised_round promised_owner vote_round vote_owner (option_map (λ b. b.now) tape.entry)) result (state S.Store conn.old) (state S.Store conn.new) }
+    ensures err { KeptWhereRefused First result (state S.Store conn.old) (state S.Store conn.new) }
+    ensures crash { CrashesAsSaved First number (columns_of promised_round promised_owner vote_round vote_owner (option_map (λ b. b.now) tape.entry)) (state S.Store conn.old) (state S.Store conn.new) }
     ensures clean { doubt (state S.Store conn.old).is_clean ≤ doubt (state S.Store conn.new).is_clean }
 {
     conn.execute(
@@ -59,11 +58,9 @@ pub fn put_row<S: Alter>(
     tape: Option<&[u8]>,
 ) -> Result<(), Error>
     ensures serves { Serves First (state S.Store conn.old) → Serves First (state S.Store conn.new) }
-    ensures saved { Serves First (state S.Store conn.old) → HasCleanDisk (state S.Store conn.new) → OnOk result (WasSaved First number (columns_of promised_round promised_owner vote_round vote_owner (option_map (λ b. b.now) tape.entry)) (state S.Store conn.old) (state S.Store conn.new)) }
-    ensures err { Serves First (state S.Store conn.old) → HasCleanDisk (state S.Store conn.new) → IsTrue (state S.Store conn.new).is_open → OnErr result (WasKept (state S.Store conn.old) (state S.Store conn.new)) }
-    ensures crash { Serves First (state S.Store conn.old) → HasCleanDisk (state S.Store conn.new) → IsTrue (state S.Store conn.old).is_open
-        → (db : _) → (state S.Store conn.new).may_leave db → (db ≡ (state S.Store conn.old).now.trees)
-        ⊎ SavesIn First number (columns_of promised_round promised_owner vote_round vote_owner (option_map (λ b. b.now) tape.entry)) (state S.Store conn.old).now.trees db }
+    ensures saved { SavesRow First number (columns_of promised_round promised_owner vote_round vote_owner (option_map (λ b. b.now) tape.entry)) result (state S.Store conn.old) (state S.Store conn.new) }
+    ensures err { KeptWhereRefused First result (state S.Store conn.old) (state S.Store conn.new) }
+    ensures crash { CrashesAsSaved First number (columns_of promised_round promised_owner vote_round vote_owner (option_map (λ b. b.now) tape.entry)) (state S.Store conn.old) (state S.Store conn.new) }
     ensures clean { doubt (state S.Store conn.old).is_clean ≤ doubt (state S.Store conn.new).is_clean }
 {
     let replaced = replace_row(
@@ -85,10 +82,9 @@ pub fn put_row<S: Alter>(
 pub fn get_row<S: Alter>(conn: &mut Connection<S>, number: u32) -> Result<Vec<Row>, Error>
     ensures serves { Serves First (state S.Store conn.old) → Serves First (state S.Store conn.new) }
     ensures found { Serves First (state S.Store conn.old) → HasCleanDisk (state S.Store conn.new) → IfOk result (λ rows. rows.items ≡ option_to_list (columns_at First ((state S.Store conn.old).now.trees rows_tree) number)) }
-    ensures open { Serves First (state S.Store conn.old) → HasCleanDisk (state S.Store conn.new) → OnOk result (IsTrue (state S.Store conn.new).is_open) }
-    ensures same { Serves First (state S.Store conn.old) → HasCleanDisk (state S.Store conn.new) → IsTrue (state S.Store conn.new).is_open → WasKept (state S.Store conn.old) (state S.Store conn.new) }
-    ensures crash { Serves First (state S.Store conn.old) → HasCleanDisk (state S.Store conn.new) → IsTrue (state S.Store conn.old).is_open
-        → (db : _) → (state S.Store conn.new).may_leave db → (state S.Store conn.old).may_leave db }
+    ensures open { StaysOpen First result (state S.Store conn.old) (state S.Store conn.new) }
+    ensures same { StaysKept First (state S.Store conn.old) (state S.Store conn.new) }
+    ensures crash { CrashesAsBefore First (state S.Store conn.old) (state S.Store conn.new) }
     ensures clean { doubt (state S.Store conn.old).is_clean ≤ doubt (state S.Store conn.new).is_clean }
 {
     conn.query_all(
@@ -99,26 +95,21 @@ pub fn get_row<S: Alter>(conn: &mut Connection<S>, number: u32) -> Result<Vec<Ro
 
 /// All rows, by their numbers.
 pub fn all_rows<S: Alter>(conn: &mut Connection<S>) -> Result<Vec<Row>, Error>
-    ensures unchanged { HasCleanDisk (state S.Store conn.new) → (state S.Store conn.old).now.schema ≡ layout_schema First → OnOk result (IsUnchanged (state S.Store conn.old) (state S.Store conn.new)) }
+    ensures unchanged { ChangesNothing First result (state S.Store conn.old) (state S.Store conn.new) }
     ensures listed { HasCleanDisk (state S.Store conn.new) → (state S.Store conn.old).now.schema ≡ layout_schema First → IfOk result (λ rows. IsListing First ((state S.Store conn.old).now.trees rows_tree) rows.items) }
     ensures serves { Serves First (state S.Store conn.old) → Serves First (state S.Store conn.new) }
-    ensures open { Serves First (state S.Store conn.old) → HasCleanDisk (state S.Store conn.new) → OnOk result (IsTrue (state S.Store conn.new).is_open) }
-    ensures at_rest { Serves First (state S.Store conn.old) → HasCleanDisk (state S.Store conn.new) → OnOk result ((state S.Store conn.old).now.schema ≡ layout_schema First) }
-    ensures same { Serves First (state S.Store conn.old) → HasCleanDisk (state S.Store conn.new) → IsTrue (state S.Store conn.new).is_open → WasKept (state S.Store conn.old) (state S.Store conn.new) }
-    ensures crash { Serves First (state S.Store conn.old) → HasCleanDisk (state S.Store conn.new) → IsTrue (state S.Store conn.old).is_open
-        → (db : _) → (state S.Store conn.new).may_leave db → (state S.Store conn.old).may_leave db }
+    ensures open { StaysOpen First result (state S.Store conn.old) (state S.Store conn.new) }
+    ensures at_rest { ShowsTables First result (state S.Store conn.old) (state S.Store conn.new) }
+    ensures same { StaysKept First (state S.Store conn.old) (state S.Store conn.new) }
+    ensures crash { CrashesAsBefore First (state S.Store conn.old) (state S.Store conn.new) }
 
     // On any table, outside a transaction, it changes nothing.
-    ensures rests { HasCleanDisk (state S.Store conn.new) → (state S.Store conn.old).now.schema ≡ layout_schema First
-        → (IsTrue (state S.Store conn.old).is_open → (state S.Store conn.old).now ≡ (state S.Store conn.old).committed) → IsTrue (state S.Store conn.new).is_open
-        → WasKept (state S.Store conn.old) (state S.Store conn.new) × ((state S.Store conn.new).now ≡ (state S.Store conn.new).committed) }
-    ensures leaves { HasCleanDisk (state S.Store conn.new) → (state S.Store conn.old).now.schema ≡ layout_schema First → (db : _) → (state S.Store conn.new).may_leave db → (state S.Store conn.old).may_leave db }
+    ensures rests { StaysAtRest First (state S.Store conn.old) (state S.Store conn.new) }
+    ensures leaves { LeavesAsBefore First (state S.Store conn.old) (state S.Store conn.new) }
     ensures alone { (state S.Store conn.old).in_transaction ≡ false → (state S.Store conn.new).in_transaction ≡ false }
 
     // A connection on a table of rows serves.
-    ensures begins { (state S.Store conn.old).now.schema ≡ layout_schema First → (state S.Store conn.old).in_transaction ≡ false
-        → (IsTrue (state S.Store conn.old).is_open → (state S.Store conn.old).now ≡ (state S.Store conn.old).committed)
-        → AreRows ((state S.Store conn.old).now.trees rows_tree) → HasCleanDisk (state S.Store conn.new) → OnOk result (Serves First (state S.Store conn.new)) }
+    ensures begins { BeginsToServe First result (state S.Store conn.old) (state S.Store conn.new) }
     ensures clean { doubt (state S.Store conn.old).is_clean ≤ doubt (state S.Store conn.new).is_clean }
 {
     conn.query_all(ALL_ROWS, &[])
@@ -131,7 +122,7 @@ pub fn visit_rows<S: Alter, T: Taker>(
     conn: &mut Connection<S>,
     taker: &mut T,
 ) -> Result<bool, Error>
-    ensures unchanged { HasCleanDisk (state S.Store conn.new) → (state S.Store conn.old).now.schema ≡ layout_schema First → OnOk result (IsUnchanged (state S.Store conn.old) (state S.Store conn.new)) }
+    ensures unchanged { ChangesNothing First result (state S.Store conn.old) (state S.Store conn.new) }
     ensures listed { HasCleanDisk (state S.Store conn.new) → (state S.Store conn.old).now.schema ≡ layout_schema First
         → IfOk result (λ all. IsTrue all → (rows : List RowValue) × IsListing First ((state S.Store conn.old).now.trees rows_tree) rows × T.took taker.old taker.new rows) }
     ensures enough { IfOk result (λ all. all ≡ false → T.has_enough taker.new) }
@@ -143,23 +134,18 @@ pub fn visit_rows<S: Alter, T: Taker>(
     // It has had some rows, and nothing else.
     ensures only { (rows : List RowValue) × T.took taker.old taker.new rows }
     ensures serves { Serves First (state S.Store conn.old) → Serves First (state S.Store conn.new) }
-    ensures open { Serves First (state S.Store conn.old) → HasCleanDisk (state S.Store conn.new) → OnOk result (IsTrue (state S.Store conn.new).is_open) }
-    ensures at_rest { Serves First (state S.Store conn.old) → HasCleanDisk (state S.Store conn.new) → OnOk result ((state S.Store conn.old).now.schema ≡ layout_schema First) }
-    ensures same { Serves First (state S.Store conn.old) → HasCleanDisk (state S.Store conn.new) → IsTrue (state S.Store conn.new).is_open → WasKept (state S.Store conn.old) (state S.Store conn.new) }
-    ensures crash { Serves First (state S.Store conn.old) → HasCleanDisk (state S.Store conn.new) → IsTrue (state S.Store conn.old).is_open
-        → (db : _) → (state S.Store conn.new).may_leave db → (state S.Store conn.old).may_leave db }
+    ensures open { StaysOpen First result (state S.Store conn.old) (state S.Store conn.new) }
+    ensures at_rest { ShowsTables First result (state S.Store conn.old) (state S.Store conn.new) }
+    ensures same { StaysKept First (state S.Store conn.old) (state S.Store conn.new) }
+    ensures crash { CrashesAsBefore First (state S.Store conn.old) (state S.Store conn.new) }
 
     // On any table, outside a transaction, it changes nothing.
-    ensures rests { HasCleanDisk (state S.Store conn.new) → (state S.Store conn.old).now.schema ≡ layout_schema First
-        → (IsTrue (state S.Store conn.old).is_open → (state S.Store conn.old).now ≡ (state S.Store conn.old).committed) → IsTrue (state S.Store conn.new).is_open
-        → WasKept (state S.Store conn.old) (state S.Store conn.new) × ((state S.Store conn.new).now ≡ (state S.Store conn.new).committed) }
-    ensures leaves { HasCleanDisk (state S.Store conn.new) → (state S.Store conn.old).now.schema ≡ layout_schema First → (db : _) → (state S.Store conn.new).may_leave db → (state S.Store conn.old).may_leave db }
+    ensures rests { StaysAtRest First (state S.Store conn.old) (state S.Store conn.new) }
+    ensures leaves { LeavesAsBefore First (state S.Store conn.old) (state S.Store conn.new) }
     ensures alone { (state S.Store conn.old).in_transaction ≡ false → (state S.Store conn.new).in_transaction ≡ false }
 
     // A connection on a table of rows serves.
-    ensures begins { (state S.Store conn.old).now.schema ≡ layout_schema First → (state S.Store conn.old).in_transaction ≡ false
-        → (IsTrue (state S.Store conn.old).is_open → (state S.Store conn.old).now ≡ (state S.Store conn.old).committed)
-        → AreRows ((state S.Store conn.old).now.trees rows_tree) → HasCleanDisk (state S.Store conn.new) → OnOk result (Serves First (state S.Store conn.new)) }
+    ensures begins { BeginsToServe First result (state S.Store conn.old) (state S.Store conn.new) }
     ensures clean { doubt (state S.Store conn.old).is_clean ≤ doubt (state S.Store conn.new).is_clean }
 {
     each_row(conn, ALL_ROWS, taker)

@@ -1,13 +1,14 @@
 //! The upgrade from the table of rows to the table of entries, in one transaction.
 
-ghost use Rattle.std.specs.Prelude.{◌≡◌, ◌⊎◌, ◌≤◌, false, [], List, OnOk, OnErr, IsTrue};
+ghost use Rattle.std.specs.Prelude.{◌≡◌, ◌⊎◌, ◌≤◌, false, [], List, OnOk, IsTrue};
 ghost use Rattle.sqlite_value.specs.Order.{Row};
 ghost use Rattle.sqlite_trees.specs.View.{doubt};
-ghost use Rattle.sqlite.specs.State.{HasCleanDisk, KeepsCommit, Survives};
+ghost use Rattle.sqlite.specs.State.{HasCleanDisk, Survives};
 ghost use Rattle.sqlite.specs.Held.{state};
 ghost use Rattle.row_table.specs.Tables.{row_schema};
 ghost use Rattle.row_table.specs.Tables.Origin.{Upgraded};
 ghost use Rattle.row_table.specs.Entries.{HasEntries, HasLayoutOne, HasUpgraded, IsUpgraded, WasUpgraded, with_entries};
+ghost use Rattle.row_table.specs.Keeping.{CommitsNothing, RolledBackWhereRefused, StaysInside, WasOpenWhereRefused};
 
 use crate::entries::{EntryColumns, add_entries, make_entry_table};
 use sqlite::{Alter, Connection, Error, Transaction};
@@ -17,8 +18,8 @@ fn set_layout<S: Alter>(tx: &mut Transaction<'_, S>) -> Result<(), Error>
     ensures same_reference { tx.new.conn.ghost_name ≡ tx.old.conn.ghost_name }
     ensures laid { HasCleanDisk (state S.Store tx.new.conn.now) → (before : _) (rows : List Row) → HasEntries Upgraded before rows (state S.Store tx.old.conn.now) → HasLayoutOne before
         → OnOk result (HasUpgraded before rows (state S.Store tx.new.conn.now)) }
-    ensures inside { HasCleanDisk (state S.Store tx.new.conn.now) → IsTrue (state S.Store tx.old.conn.now).in_transaction → OnOk result (IsTrue (state S.Store tx.new.conn.now).in_transaction) }
-    ensures kept { HasCleanDisk (state S.Store tx.new.conn.now) → IsTrue (state S.Store tx.old.conn.now).in_transaction → KeepsCommit (state S.Store tx.old.conn.now) (state S.Store tx.new.conn.now) }
+    ensures inside { StaysInside result (state S.Store tx.old.conn.now) (state S.Store tx.new.conn.now) }
+    ensures kept { CommitsNothing (state S.Store tx.old.conn.now) (state S.Store tx.new.conn.now) }
     ensures survives { Survives (state S.Store tx.old.conn.now) (state S.Store tx.new.conn.now) (λ _. ⊥) }
 {
     tx.execute("UPDATE station SET layout = 2", &[])?;
@@ -34,8 +35,8 @@ fn move_to_entries<S: Alter>(
     ensures moved { HasCleanDisk (state S.Store tx.new.conn.now) → IsTrue (state S.Store tx.old.conn.now).in_transaction
         → (state S.Store tx.old.conn.now).now.schema ≡ row_schema → HasLayoutOne (state S.Store tx.old.conn.now).now.trees
         → OnOk result (HasUpgraded (state S.Store tx.old.conn.now).now.trees (with_entries entries.now []) (state S.Store tx.new.conn.now)) }
-    ensures inside { HasCleanDisk (state S.Store tx.new.conn.now) → IsTrue (state S.Store tx.old.conn.now).in_transaction → OnOk result (IsTrue (state S.Store tx.new.conn.now).in_transaction) }
-    ensures kept { HasCleanDisk (state S.Store tx.new.conn.now) → IsTrue (state S.Store tx.old.conn.now).in_transaction → KeepsCommit (state S.Store tx.old.conn.now) (state S.Store tx.new.conn.now) }
+    ensures inside { StaysInside result (state S.Store tx.old.conn.now) (state S.Store tx.new.conn.now) }
+    ensures kept { CommitsNothing (state S.Store tx.old.conn.now) (state S.Store tx.new.conn.now) }
     ensures survives { Survives (state S.Store tx.old.conn.now) (state S.Store tx.new.conn.now) (λ _. ⊥) }
 {
     make_entry_table(tx)?;
@@ -55,9 +56,8 @@ pub fn upgrade_tables<S: Alter>(
     requires { conn.old.in_transaction ≡ false }
     ensures upgraded { HasCleanDisk (state S.Store conn.new) → (state S.Store conn.old).now.schema ≡ row_schema → HasLayoutOne (state S.Store conn.old).now.trees
         → OnOk result (WasUpgraded (state S.Store conn.old).now.trees (with_entries entries.now []) (state S.Store conn.new)) }
-    ensures was_open { HasCleanDisk (state S.Store conn.new) → IsTrue (state S.Store conn.new).is_open → OnErr result (IsTrue (state S.Store conn.old).is_open) }
-    ensures neither { HasCleanDisk (state S.Store conn.new) → IsTrue (state S.Store conn.new).is_open
-        → OnErr result (((state S.Store conn.new).now ≡ (state S.Store conn.old).committed) × ((state S.Store conn.new).committed ≡ (state S.Store conn.old).committed)) }
+    ensures was_open { WasOpenWhereRefused result (state S.Store conn.old) (state S.Store conn.new) }
+    ensures neither { RolledBackWhereRefused result (state S.Store conn.old) (state S.Store conn.new) }
     ensures crash { HasCleanDisk (state S.Store conn.new) → (state S.Store conn.old).now.schema ≡ row_schema → HasLayoutOne (state S.Store conn.old).now.trees
         → (db : _) → (state S.Store conn.new).may_leave db → (state S.Store conn.old).may_leave db ⊎ IsUpgraded (state S.Store conn.old).now.trees (with_entries entries.now []) db }
     ensures clean { doubt (state S.Store conn.old).is_clean ≤ doubt (state S.Store conn.new).is_clean }
