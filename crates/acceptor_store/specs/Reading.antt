@@ -1,14 +1,19 @@
 -- Saved rows that are seen one by one, as they are read.
-use Rattle.std.specs.Prelude.{◌≡◌, ◌⊎◌, ◌++◌, ℕ, List, [], Option, None, IfSome, IsSome, refl}
+use Rattle.std.specs.Prelude.{◌≡◌, ◌⊎◌, ◌++◌, ℕ, List, [], Option, None, IfSome, IsSome, IsTrue, refl}
 use Rattle.std.proofs.Common.{sym, subst}
 use Rattle.std.specs.List.{filter_map}
 use Rattle.sqlite_value.specs.Order.{Row as Columns}
 use Rattle.protocol.specs.Rows.{Row}
-use Rattle.row_table.specs.Tables.{Layout}
+use Rattle.sqlite.specs.State.{State}
+use Rattle.row_table.specs.Tables.{Layout, layout_tree}
 use Rattle.saved_rows.specs.Saved.{Saved, IsListOf}
 use Rattle.saved_rows.specs.declared.fault.RowsFault.{RowsFault}
-use Rattle.row_columns.specs.Columns.{item_in, damage_in}
+use Rattle.row_columns.specs.Columns.{item_in, damage_in, AreSound}
 use Rattle.acceptor_store.specs.Sqlite.{IsRefusal}
+
+-- where the connection is open, each row of its table is sound
+abbrev pub HoldsSound : Layout → State → Type 0
+HoldsSound layout s = IsTrue s.is_open → AreSound layout (s.now.trees (layout_tree layout))
 
 -- the list that is the map begins with these numbers and rows
 abbrev pub IsFrontOf : Saved → List (ℕ × Row) → Type 0

@@ -6,13 +6,12 @@ ghost use Rattle.sqlite_trees.specs.View.{doubt};
 ghost use Rattle.sqlite.specs.State.{HasCleanDisk};
 ghost use Rattle.sqlite.specs.Held.{state};
 ghost use Rattle.protocol.specs.Rows.{Row as RowValue};
-ghost use Rattle.row_table.specs.Tables.{layout_tree};
 ghost use Rattle.row_table.specs.Rows.{Serves};
 ghost use Rattle.row_table.specs.Keeping.{CrashesAsBefore, StaysKept, StaysOpen};
 ghost use Rattle.row_columns.specs.Layouts.{layout_of};
-ghost use Rattle.row_columns.specs.Columns.{row_in, damage_of, item_in, saved_in, AreSound};
+ghost use Rattle.row_columns.specs.Columns.{row_in, damage_of, item_in, saved_in};
 ghost use Rattle.acceptor_store.specs.Sqlite.{IsRefusal};
-ghost use Rattle.acceptor_store.specs.Reading.{HasSeen, SeesAll, SeesFront, seen_none};
+ghost use Rattle.acceptor_store.specs.Reading.{HoldsSound, HasSeen, SeesAll, SeesFront, seen_none};
 
 use crate::queries::visit_all;
 use crate::statements::fault_of;
@@ -120,12 +119,12 @@ pub(crate) fn show_all<S: Alter, V: RowVisitor>(
     visitor: &mut V,
 ) -> Result<bool, RowsFault>
     ensures serves { Serves (layout_of layout) (state S.Store conn.old) → Serves (layout_of layout) (state S.Store conn.new) }
-    ensures seen { Serves (layout_of layout) (state S.Store conn.old) → HasCleanDisk (state S.Store conn.new) → (IsTrue (state S.Store conn.old).is_open → AreSound (layout_of layout) ((state S.Store conn.old).now.trees (layout_tree (layout_of layout))))
+    ensures seen { Serves (layout_of layout) (state S.Store conn.old) → HasCleanDisk (state S.Store conn.new) → HoldsSound (layout_of layout) (state S.Store conn.old)
         → IfOk result (λ all. IsTrue all → SeesAll V.saw visitor.old visitor.new (saved_in (layout_of layout) (state S.Store conn.old).now.trees)) }
     ensures enough { IfOk result (λ all. all ≡ false → V.has_enough visitor.new) }
 
     // However it ends, the first rows were seen, or none.
-    ensures front { Serves (layout_of layout) (state S.Store conn.old) → HasCleanDisk (state S.Store conn.new) → (IsTrue (state S.Store conn.old).is_open → AreSound (layout_of layout) ((state S.Store conn.old).now.trees (layout_tree (layout_of layout))))
+    ensures front { Serves (layout_of layout) (state S.Store conn.old) → HasCleanDisk (state S.Store conn.new) → HoldsSound (layout_of layout) (state S.Store conn.old)
         → SeesFront V.saw visitor.old visitor.new (saved_in (layout_of layout) (state S.Store conn.old).now.trees) }
 
     // It has seen some rows, and nothing else.
@@ -136,7 +135,7 @@ pub(crate) fn show_all<S: Alter, V: RowVisitor>(
     ensures clean { doubt (state S.Store conn.old).is_clean ≤ doubt (state S.Store conn.new).is_clean }
 
     // Sound rows are not damaged.
-    ensures refusal { Serves (layout_of layout) (state S.Store conn.old) → HasCleanDisk (state S.Store conn.new) → (IsTrue (state S.Store conn.old).is_open → AreSound (layout_of layout) ((state S.Store conn.old).now.trees (layout_tree (layout_of layout)))) → IfErr result IsRefusal }
+    ensures refusal { Serves (layout_of layout) (state S.Store conn.old) → HasCleanDisk (state S.Store conn.new) → HoldsSound (layout_of layout) (state S.Store conn.old) → IfErr result IsRefusal }
 {
     rising_is_listed();
     rows_rise();

@@ -5,16 +5,17 @@ ghost use Rattle.std.specs.List.{AllByRecursion};
 ghost use Rattle.sqlite_trees.specs.View.{doubt};
 ghost use Rattle.sqlite.specs.State.{HasCleanDisk};
 ghost use Rattle.sqlite.specs.Held.{state};
-ghost use Rattle.row_table.specs.Tables.{Origin, layout_tree};
+ghost use Rattle.row_table.specs.Tables.{Origin};
 ghost use Rattle.row_table.specs.Tables.Layout.{First, Second};
 ghost use Rattle.row_table.specs.Rows.{Serves, SavesIn};
 ghost use Rattle.row_table.specs.Keeping.{CrashesAsBefore, KeptWhereRefused, SavesRow, StaysKept, StaysOpen};
 ghost use Rattle.protocol.specs.Versions.{One};
 ghost use Rattle.protocol.specs.Limits.{last_number};
 ghost use Rattle.saved_rows.specs.Saved.{HasPromise, RowFits, AreFitting, IsListOf};
-ghost use Rattle.row_columns.specs.Columns.{version_in, columns_for, saved_in, AreSound, ComesBack};
+ghost use Rattle.row_columns.specs.Columns.{version_in, columns_for, saved_in, ComesBack};
 ghost use Rattle.row_columns.specs.Layouts.{layout_of};
 ghost use Rattle.acceptor_store.specs.Sqlite.{IsRefusal};
+ghost use Rattle.acceptor_store.specs.Reading.{HoldsSound};
 
 use crate::queries::{find, find_all};
 use ballots::{Number, Row};
@@ -148,7 +149,7 @@ pub(crate) fn read<S: Alter>(
     ensures clean { doubt (state S.Store conn.old).is_clean ≤ doubt (state S.Store conn.new).is_clean }
 
     // Sound rows are not damaged.
-    ensures refusal { Serves (layout_of layout) (state S.Store conn.old) → HasCleanDisk (state S.Store conn.new) → (IsTrue (state S.Store conn.old).is_open → AreSound (layout_of layout) ((state S.Store conn.old).now.trees (layout_tree (layout_of layout)))) → IfErr result IsRefusal }
+    ensures refusal { Serves (layout_of layout) (state S.Store conn.old) → HasCleanDisk (state S.Store conn.new) → HoldsSound (layout_of layout) (state S.Store conn.old) → IfErr result IsRefusal }
 {
     let mut rows = match find(conn, layout, number.get()) {
         Ok(rows) => rows,
@@ -182,7 +183,7 @@ pub(crate) fn list<S: Alter>(
     ensures clean { doubt (state S.Store conn.old).is_clean ≤ doubt (state S.Store conn.new).is_clean }
 
     // Sound rows are not damaged.
-    ensures refusal { Serves (layout_of layout) (state S.Store conn.old) → HasCleanDisk (state S.Store conn.new) → (IsTrue (state S.Store conn.old).is_open → AreSound (layout_of layout) ((state S.Store conn.old).now.trees (layout_tree (layout_of layout)))) → IfErr result IsRefusal }
+    ensures refusal { Serves (layout_of layout) (state S.Store conn.old) → HasCleanDisk (state S.Store conn.new) → HoldsSound (layout_of layout) (state S.Store conn.old) → IfErr result IsRefusal }
 {
     let rows = match find_all(conn, layout) {
         Ok(rows) => rows,
