@@ -8,10 +8,10 @@ use Rattle.database_circuits.proofs.plays.play_in_databases.Goals as goal
 
 pub returns-in-Ok-play-clause-plays : goal.returns-in-Ok-play-clause-plays
 returns-in-Ok-play-clause-plays c =
-    let new = c.in-Ok-with_databases.ensures.new in
+    let new = c.in-Ok.ensures.new in
     let kept : AllKept in_memory.kept c.in-Ok-play.played.world = λ m s at_m. keeps s.rows.rows ((c.in-Ok-play.ensures.reached new).made m s at_m) in
-    λ z of. c.in-Ok-play.ensures.plays (newly_is_blank in_memory keeps c.in-Ok-with_databases.members.items new) kept (λ _. version_of c.args.version) c.in-Ok-with_databases.ensures.at z
-    (subst (λ (members : List Given). IsCircuitOf c.args.circuit members z) (sym c.in-Ok-with_databases.ensures.given) of)
+    λ z of. c.in-Ok-play.ensures.plays (newly_is_blank in_memory keeps c.in-Ok.members.items new) kept (λ _. version_of c.args.version) c.in-Ok.ensures.at z
+    (subst (λ (members : List Given). IsCircuitOf c.args.circuit members z) (sym c.in-Ok.ensures.given) of)
 
 pub returns-in-Ok-play-clause-agreed : goal.returns-in-Ok-play-clause-agreed
-returns-in-Ok-play-clause-agreed c = c.in-Ok-play.ensures.agreed c.in-Ok-with_databases.ensures.new (λ m s at_m. no_doubt)
+returns-in-Ok-play-clause-agreed c = c.in-Ok-play.ensures.agreed c.in-Ok.ensures.new (λ m s at_m. no_doubt)
