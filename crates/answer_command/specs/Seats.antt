@@ -1,4 +1,4 @@
--- The same of the acceptor that answers at a seat: of its circuit and member, in its version.
+-- What is asked and answered at a seat: by the acceptor of its circuit and member, in its version.
 use Rattle.std.specs.Prelude.{ℕ, List, [], Result}
 use Rattle.hex.specs.Hex.{encode_lower}
 use Rattle.protocol.specs.Acceptor.{Request, next_row}

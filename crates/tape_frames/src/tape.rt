@@ -230,7 +230,7 @@ impl Tape {
         self.lend().same(other)
     }
 
-    /// An equal tape, which shares the frames. It takes no memory.
+    /// An equal tape, which shares the frames. It takes no memory: an error comes only where there are more owners than can be counted.
     pub fn copy(&self) -> Result<Tape, AllocError>
         ensures { IfOk result (λ t. t ≡ self.now) }
     {
