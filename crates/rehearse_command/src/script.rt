@@ -122,21 +122,21 @@ fn version(word: &str) -> Result<Version, LineFault>
 }
 
 /// What a name with one word behind it asks for.
-fn order_of_one(name: &str, word: &str) -> Result<Order, LineFault>
+fn order_of_one(name: &[u8], word: &str) -> Result<Order, LineFault>
     ensures upgrade { name.now ≡ codes "upgrade" → IfOk result (λ order. order ≡ Upgrade (written word.now)) }
 {
     match name {
-        "members" => Ok(Order::Members(members(word)?)),
-        "wire" => Ok(Order::Wire(version(word)?)),
-        "at" => Ok(Order::At(number(word)?)),
-        "due" => Ok(Order::Due {
+        b"members" => Ok(Order::Members(members(word)?)),
+        b"wire" => Ok(Order::Wire(version(word)?)),
+        b"at" => Ok(Order::At(number(word)?)),
+        b"due" => Ok(Order::Due {
             member: member(word)?,
         }),
-        "deliver" => Ok(Order::Deliver { k: small(word)? }),
-        "restart" => Ok(Order::Restart {
+        b"deliver" => Ok(Order::Deliver { k: small(word)? }),
+        b"restart" => Ok(Order::Restart {
             member: member(word)?,
         }),
-        "upgrade" => Ok(Order::Upgrade {
+        b"upgrade" => Ok(Order::Upgrade {
             member: member(word)?,
         }),
         _ => Err(LineFault::BadLine),
@@ -206,7 +206,7 @@ pub fn order_of(alloc: Global, line: &[u8]) -> Result<Order, LineFault> {
         (Some(name), Some(who), Some(word), None, _) => {
             order_of_two(text(name)?, text(who)?, text(word)?)
         }
-        (Some(name), Some(word), None, _, _) => order_of_one(text(name)?, text(word)?),
+        (Some(name), Some(word), None, _, _) => order_of_one(name, text(word)?),
         _ => Err(LineFault::BadLine),
     }
 }

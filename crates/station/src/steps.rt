@@ -241,19 +241,22 @@ impl<R: Rows> Station<R> {
             Err(fault) => return Err(self.stop_for(fault)),
         };
         match self.speaker.handle(event, &row) {
-            Ok(turn) => match save(
-                &mut self.rows,
-                self.alloc,
-                &self.table,
-                &self.widths,
-                number,
-                &row,
-                turn,
-                checked,
-            ) {
-                Ok(answer) => Ok(answer),
-                Err(refusal) => Err(self.stop(refusal)),
-            },
+            Ok(turn) => {
+                let answer = save(
+                    &mut self.rows,
+                    self.alloc,
+                    &self.table,
+                    &self.widths,
+                    number,
+                    &row,
+                    turn,
+                    checked,
+                );
+                if answer.is_err() {
+                    self.halt();
+                }
+                answer
+            }
             Err(CoreRefusal::RoundsSpent) => Err(StepRefusal::RoundsSpent),
             Err(CoreRefusal::AlreadyReleased) => Err(StepRefusal::AlreadyReleased),
             Err(CoreRefusal::AlreadyOpen) => Err(StepRefusal::AlreadyOpen),
@@ -273,9 +276,8 @@ impl<R: Rows> Station<R> {
         self.stop(StepRefusal::Store(fault))
     }
 
-    /// Stops: it forgets what it took in, and takes no step until a restart, or an upgrade that is Ok.
-    pub(crate) fn stop(&mut self, refusal: StepRefusal) -> StepRefusal
-        ensures same { result ≡ refusal }
+    /// It forgets what it took in, and takes no step until a restart, or an upgrade that is Ok.
+    fn halt(&mut self)
         ensures stands { StandsFor self.new.speaker.core [] }
         ensures wire { self.new.speaker.wire ≡ self.old.speaker.wire }
         ensures fixed { IsFixed self.old self.new }
@@ -283,6 +285,17 @@ impl<R: Rows> Station<R> {
     {
         self.speaker.clear();
         self.stopped = true;
+    }
+
+    /// The same, with the refusal that stops it.
+    pub(crate) fn stop(&mut self, refusal: StepRefusal) -> StepRefusal
+        ensures same { result ≡ refusal }
+        ensures stands { StandsFor self.new.speaker.core [] }
+        ensures wire { self.new.speaker.wire ≡ self.old.speaker.wire }
+        ensures fixed { IsFixed self.old self.new }
+        ensures stopped { self.new ≡ record self.old { speaker = self.new.speaker; stopped = true } }
+    {
+        self.halt();
         refusal
     }
 }

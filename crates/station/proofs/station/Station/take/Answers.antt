@@ -2,51 +2,55 @@
 use Rattle.std.proofs.Common.{rules, refl, sym, ◌∙◌}
 use Rattle.node_core.specs.Turns.{event_value}
 use Rattle.station.specs.Stations.{sight}
-use Rattle.station.proofs.Taking.{Taking, done, ended, wanted}
+use Rattle.station.proofs.Taking.{Taking, handed_on, stopped_at, wanted}
+use Rattle.station.proofs.station.Station.take.Goals.{then-is_err, else-is_err}
 use Rattle.station.proofs.station.Station.take.Goals as goal
-
-pub returns-in-Ok-save-clause-takes : goal.returns-in-Ok-save-clause-takes
-returns-in-Ok-save-clause-takes g c = λ kept marks stands free.
-    let x = sight g.R.Rows in
-    let l = c.in-Ok-handle.ensures.ok marks stands in
-    let k : Taking x (event_value c.args.event) c.args.self.now marks c.get.new.self c.handle.new.self c.in-Ok-handle.turn c.in-Ok.row c.args.number = record {
-      number = c.requires.number;
-      goes = c.requires.goes;
-      read = search rules;
-      is_open = search rules;
-      is_row = search rules;
-      taken = l.turn;
-      is_turn = l.is_the_turn;
-      gives = l.took.is_turn;
-      quiet = c.in-Ok-handle.ensures.quiet;
-      stands = l.took.stands;
-      seat = c.handle.ensures.seat;
-      version = c.get.ensures.version ∙ sym c.requires.wire;
-    } in
-    done x (event_value c.args.event) c.args.self.now marks c.get.new.self c.save.new.rows c.handle.new.self c.in-Ok-handle.turn c.in-Ok.row c.args.number k c.in-Ok-save.answer (c.in-Ok-save.ensures.saves kept)
 
 pub returns-in-Ok-handle-clause-takes : goal.returns-in-Ok-handle-clause-takes
 returns-in-Ok-handle-clause-takes g c = λ kept marks stands free.
     let x = sight g.R.Rows in
-    let here : g.R.Rows.kept c.save.new.rows = rw c.stop.ensures.stopped at kept in
     let l = c.in-Ok-handle.ensures.ok marks stands in
-    let k : Taking x (event_value c.args.event) c.args.self.now marks c.get.new.self c.handle.new.self c.in-Ok-handle.turn c.in-Ok.row c.args.number = record {
-      number = c.requires.number;
-      goes = c.requires.goes;
-      read = search rules;
-      is_open = search rules;
-      is_row = search rules;
-      taken = l.turn;
-      is_turn = l.is_the_turn;
-      gives = l.took.is_turn;
-      quiet = c.in-Ok-handle.ensures.quiet;
-      stands = l.took.stands;
-      seat = c.handle.ensures.seat;
-      version = c.get.ensures.version ∙ sym c.requires.wire;
-    } in
-    ended x (event_value c.args.event) c.args.self.now marks c.get.new.self c.save.new.rows c.handle.new.self c.in-Ok-handle.turn c.in-Ok.row c.args.number k
-    (record c.args.self.now { speaker = c.handle.new.self; rows = c.save.new.rows }) c.stop.new.self c.in-Err-save.refusal c.stop.result refl
-    c.stop.ensures.fixed c.stop.ensures.stopped c.stop.ensures.same c.stop.ensures.stands (c.in-Err-save.ensures.saves here)
+    elim c.if-is_err.branch [
+      | then-is_err w ↦
+          let here : g.R.Rows.kept c.save-answer.new.rows = rw (w.self-is, w.halt.ensures.stopped) at kept in
+          let k : Taking x (event_value c.args.event) c.args.self.now marks c.get.new.self c.handle.new.self c.in-Ok-handle.turn c.in-Ok.row c.args.number = record {
+            number = c.requires.number;
+            goes = c.requires.goes;
+            read = search rules;
+            is_open = search rules;
+            is_row = search rules;
+            taken = l.turn;
+            is_turn = l.is_the_turn;
+            gives = l.took.is_turn;
+            quiet = c.in-Ok-handle.ensures.quiet;
+            stands = l.took.stands;
+            seat = c.handle.ensures.seat;
+            version = c.get.ensures.version ∙ sym c.requires.wire;
+          } in
+          rw w.self-is
+          (stopped_at x (event_value c.args.event) c.args.self.now marks c.get.new.self c.save-answer.new.rows c.handle.new.self c.in-Ok-handle.turn c.in-Ok.row c.args.number k
+          (record c.args.self.now { speaker = c.handle.new.self; rows = c.save-answer.new.rows }) w.halt.new.self c.save-answer.result (sym c.is_err.ensures.value ∙ w.if-is_err.true) refl
+          w.halt.ensures.fixed w.halt.ensures.stopped w.halt.ensures.stands (c.save-answer.ensures.saves here))
+      | else-is_err w ↦
+          let here : g.R.Rows.kept c.save-answer.new.rows = rw w.self-is at kept in
+          let k : Taking x (event_value c.args.event) c.args.self.now marks c.get.new.self c.handle.new.self c.in-Ok-handle.turn c.in-Ok.row c.args.number = record {
+            number = c.requires.number;
+            goes = c.requires.goes;
+            read = search rules;
+            is_open = search rules;
+            is_row = search rules;
+            taken = l.turn;
+            is_turn = l.is_the_turn;
+            gives = l.took.is_turn;
+            quiet = c.in-Ok-handle.ensures.quiet;
+            stands = l.took.stands;
+            seat = c.handle.ensures.seat;
+            version = c.get.ensures.version ∙ sym c.requires.wire;
+          } in
+          rw w.self-is
+          (handed_on x (event_value c.args.event) c.args.self.now marks c.get.new.self c.save-answer.new.rows c.handle.new.self c.in-Ok-handle.turn c.in-Ok.row c.args.number k
+          c.save-answer.result (sym c.is_err.ensures.value ∙ w.if-is_err.false) (c.save-answer.ensures.saves here))
+    ]
 
 pub returns-clause-takes : goal.returns-clause-takes
 returns-clause-takes g c = λ kept marks stands free.
