@@ -8,83 +8,99 @@ use std::alloc::{AllocError, Global};
 /// The version of the program.
 const VERSION: &str = "0.2.0";
 
-/// Adds a required argument that is taken as it stands.
-fn with_word<'a>(
-    alloc: Global,
-    command: Command<'a>,
-    name: &'a str,
-    help: &'a str,
-) -> Result<Command<'a>, AllocError> {
-    command.arg(
-        Arg::new(alloc, name)
-            .required(true)
-            .action(ArgAction::Set)
-            .help(help),
-    )
+/// The versions of packets and the layouts of saved rows, as `--wire` and `--layout` name them.
+const VERSIONS: &[&str] = &["1", "2"];
+
+/// What a value has to be.
+#[derive(Clone, Copy)]
+enum Value {
+    Text,
+    Circuit,
+    Member,
+    Version,
+    Turns,
+    Number,
 }
 
-/// Adds required arguments that are taken as they stand, each by its name and its help.
-fn with_words<'a>(
-    alloc: Global,
-    command: Command<'a>,
-    words: &[(&'a str, &'a str)],
-) -> Result<Command<'a>, AllocError> {
-    let mut command = command;
-    for (name, help) in words {
-        command = with_word(alloc, command, *name, *help)?;
-    }
-    Ok(command)
+/// What is so where an option is left out.
+#[derive(Clone, Copy)]
+enum Absence<'a> {
+    /// It can't be left out.
+    Refused,
+    /// It has no value.
+    Empty,
+    /// It has this value.
+    Default(&'a str),
 }
 
-/// Adds a required argument that is a number of a range.
-fn with_number<'a>(
-    alloc: Global,
-    command: Command<'a>,
-    name: &'a str,
-    parser: ValueParser<'a>,
-    help: &'a str,
-) -> Result<Command<'a>, AllocError> {
-    command.arg(
-        Arg::new(alloc, name)
-            .required(true)
-            .action(ArgAction::Set)
-            .help(help)
-            .value_parser(parser),
-    )
+/// An option that takes a value.
+#[derive(Clone, Copy)]
+struct Choice<'a> {
+    /// What the help calls its value.
+    shown: &'a str,
+    value: Value,
+    absence: Absence<'a>,
+    /// The argument without which it is refused.
+    goes_with: Option<&'a str>,
 }
 
-/// Adds an option that takes no value.
-fn with_flag<'a>(
-    alloc: Global,
-    command: Command<'a>,
-    name: &'a str,
-    help: &'a str,
-) -> Result<Command<'a>, AllocError> {
-    command.arg(
-        Arg::new(alloc, name)
-            .long(name)
-            .action(ArgAction::SetTrue)
-            .help(help),
-    )
+/// How an argument stands on the line.
+#[derive(Clone, Copy)]
+enum Shape<'a> {
+    /// A value at its place, which can't be left out.
+    Word(Value),
+    /// Its name alone.
+    Flag,
+    /// Its name with a value behind it.
+    Choice(Choice<'a>),
 }
 
-/// Adds an option that takes a value.
-fn with_option<'a>(
-    alloc: Global,
-    command: Command<'a>,
+/// An argument, with its help.
+#[derive(Clone, Copy)]
+struct Given<'a> {
     name: &'a str,
-    value: &'a str,
-    parser: ValueParser<'a>,
+    shape: Shape<'a>,
     help: &'a str,
-) -> Result<Command<'a>, AllocError> {
-    command.arg(
-        Arg::new(alloc, name)
-            .long(name)
-            .value_name(value)
-            .value_parser(parser)
-            .help(help),
-    )
 }
+
+/// A command, with its help.
+#[derive(Clone, Copy)]
+struct Form<'a> {
+    name: &'a str,
+    about: &'a str,
+    example: &'a str,
+    given: &'a [Given<'a>],
+}
+
+const TABLE: Given = Given {
+    name: "TABLE",
+    shape: Shape::Word(Value::Text),
+    help: "The code table, as examples/codes.toml",
+};
+
+const WIDTHS: Given = Given {
+    name: "WIDTHS",
+    shape: Shape::Word(Value::Text),
+    help: "The width file, as examples/widths.toml",
+};
+
+const TAPE: Given = Given {
+    name: "TAPE",
+    shape: Shape::Word(Value::Text),
+    help: "The tape, one frame per byte",
+};
+
+const DB: Given = Given {
+    name: "DB",
+    shape: Shape::Word(Value::Text),
+    help: "The station's database, as its configuration names it",
+};
+
+const CREATE: Given = Given {
+    name: "create",
+    shape: Shape::Flag,
+    help: "Make the row file: for the first start of a station, and never again",
+};
 
 const ANSWER_EXAMPLE: &str = "\
 Example: member 1 asks member 2 of circuit 7 to promise ballot 1.1 for number 12, and gets its promise.
@@ -92,36 +108,33 @@ Example: member 1 asks member 2 of circuit 7 to promise ballot 1.1 for number 12
   $ echo 544e0101000701020000000c0000000101 | circuitd answer 7 2
   544e0102000702010000000c000000010100";
 
-/// The versions of packets and the layouts of saved rows, as `--wire` and `--layout` name them.
-const VERSIONS: &[&str] = &["1", "2"];
-
-/// Adds the version that an acceptor reads and replies in.
-fn with_wire<'a>(alloc: Global, command: Command<'a>) -> Result<Command<'a>, AllocError> {
-    let help =
-        "The version of packets that it replies in; at version 2 it reads both, and a number may be withdrawn";
-    let wire = Arg::new(alloc, "wire")
-        .long("wire")
-        .value_name("V")
-        .value_parser(ValueParser::Names(VERSIONS))
-        .default_value("1")
-        .help(help);
-    command.arg(wire)
-}
-
-fn answer_command<'a>(alloc: Global) -> Result<Command<'a>, AllocError> {
-    let command = Command::new(alloc, "answer")
-        .about(
-            "Answers requests as one acceptor: a datagram in hex per line in, its reply per line out",
-        )
-        .after_help(ANSWER_EXAMPLE);
-    let circuit = clap::value_parser!(u16);
-    let help = "The circuit's number, 0 to 65535";
-    let command = with_number(alloc, command, "CIRCUIT", circuit, help)?;
-    let member = clap::value_parser!(u8).range(1..=i64::from(Member::LAST));
-    let help = "The member that answers, 1 to 15";
-    let command = with_number(alloc, command, "MEMBER", member, help)?;
-    with_wire(alloc, command)
-}
+const ANSWER: Form = Form {
+    name: "answer",
+    about: "Answers requests as one acceptor: a datagram in hex per line in, its reply per line out",
+    example: ANSWER_EXAMPLE,
+    given: &[
+        Given {
+            name: "CIRCUIT",
+            shape: Shape::Word(Value::Circuit),
+            help: "The circuit's number, 0 to 65535",
+        },
+        Given {
+            name: "MEMBER",
+            shape: Shape::Word(Value::Member),
+            help: "The member that answers, 1 to 15",
+        },
+        Given {
+            name: "wire",
+            shape: Shape::Choice(Choice {
+                shown: "V",
+                value: Value::Version,
+                absence: Absence::Default("1"),
+                goes_with: None,
+            }),
+            help: "The version of packets that it replies in; at version 2 it reads both, and a number may be withdrawn",
+        },
+    ],
+};
 
 const CHECK_EXAMPLE: &str = "\
 Example: what the linecaster will cast of a tape, a line per slug: its number, J for justified,
@@ -135,22 +148,21 @@ A tape that does not set is told with its place, counted in frames from 0:
   $ circuitd check codes.toml widths.toml overset.tape
   fault: overset 1 at 7 line 1";
 
-const TAPE_WORDS: &[(&str, &str)] = &[
-    ("TABLE", "The code table, as examples/codes.toml"),
-    ("WIDTHS", "The width file, as examples/widths.toml"),
-    ("TAPE", "The tape, one frame per byte"),
-];
-
-fn check_command<'a>(alloc: Global) -> Result<Command<'a>, AllocError> {
-    let command = Command::new(alloc, "check")
-        .about(
-            "Sets a tape by a code table and a width file, and writes its galley: one line per slug",
-        )
-        .after_help(CHECK_EXAMPLE);
-    let command = with_words(alloc, command, TAPE_WORDS)?;
-    let help = "First write one line per frame: its holes, and the frame in decimal";
-    with_flag(alloc, command, "holes", help)
-}
+const CHECK: Form = Form {
+    name: "check",
+    about: "Sets a tape by a code table and a width file, and writes its galley: one line per slug",
+    example: CHECK_EXAMPLE,
+    given: &[
+        TABLE,
+        WIDTHS,
+        TAPE,
+        Given {
+            name: "holes",
+            shape: Shape::Flag,
+            help: "First write one line per frame: its holes, and the frame in decimal",
+        },
+    ],
+};
 
 const DRAW_EXAMPLE: &str = "\
 Example: the holes of a tape and its slugs to scale, in a file that a browser shows:
@@ -162,29 +174,31 @@ A tape that does not set is drawn as far as it sets, with a mark at its fault, w
   $ circuitd draw codes.toml widths.toml overset.tape > overset.svg
   fault: overset 1 at 7 line 1";
 
-fn draw_command<'a>(alloc: Global) -> Result<Command<'a>, AllocError> {
-    let command = Command::new(alloc, "draw")
-        .about(
-            "Draws a tape as an SVG document: its holes, what each frame means, and its slugs to scale",
-        )
-        .after_help(DRAW_EXAMPLE);
-    let command = with_words(alloc, command, TAPE_WORDS)?;
-    let help = "Write a page in HTML, with the drawing, the fault in words and the galley";
-    with_flag(alloc, command, "html", help)
-}
+const DRAW: Form = Form {
+    name: "draw",
+    about: "Draws a tape as an SVG document: its holes, what each frame means, and its slugs to scale",
+    example: DRAW_EXAMPLE,
+    given: &[
+        TABLE,
+        WIDTHS,
+        TAPE,
+        Given {
+            name: "html",
+            shape: Shape::Flag,
+            help: "Write a page in HTML, with the drawing, the fault in words and the galley",
+        },
+    ],
+};
 
 const ROWS_EXAMPLE: &str =
     "Example:\n  $ circuitd rows station2.db\n  station 2 of 3 circuit 7\n  3 1.1 - -\n  12 1.3 1.1 010204";
 
-fn rows_command<'a>(alloc: Global) -> Result<Command<'a>, AllocError> {
-    let command = Command::new(alloc, "rows")
-        .about(
-            "Lists what a station saved: per number its promise, its vote and the frames of that, in hex",
-        )
-        .after_help(ROWS_EXAMPLE);
-    let help = "The station's database, as its configuration names it";
-    with_word(alloc, command, "DB", help)
-}
+const ROWS: Form = Form {
+    name: "rows",
+    about: "Lists what a station saved: per number its promise, its vote and the frames of that, in hex",
+    example: ROWS_EXAMPLE,
+    given: &[DB],
+};
 
 const UPGRADE_EXAMPLE: &str = "\
 Example: a station goes over between two runs, and all that it saved stays:
@@ -192,15 +206,12 @@ Example: a station goes over between two runs, and all that it saved stays:
   $ circuitd upgrade station2.db
   layout 2";
 
-fn upgrade_command<'a>(alloc: Global) -> Result<Command<'a>, AllocError> {
-    let command = Command::new(alloc, "upgrade")
-        .about(
-            "Takes what a station saved over to layout 2: it speaks version 2 then, and a number may be withdrawn",
-        )
-        .after_help(UPGRADE_EXAMPLE);
-    let help = "The station's database, as its configuration names it";
-    with_word(alloc, command, "DB", help)
-}
+const UPGRADE: Form = Form {
+    name: "upgrade",
+    about: "Takes what a station saved over to layout 2: it speaks version 2 then, and a number may be withdrawn",
+    example: UPGRADE_EXAMPLE,
+    given: &[DB],
+};
 
 const SERVE_EXAMPLE: &str = "\
 Example: the first plant of a circuit makes its row file and puts a story on the wire as number 12.
@@ -215,54 +226,79 @@ Later a plant that missed the story asks the others for it:
 
   $ circuitd serve station3.toml --turns 1200 --seek 12";
 
-/// Adds how long a station serves, and whether it starts for the first time, in which layout.
-fn with_turns<'a>(alloc: Global, command: Command<'a>) -> Result<Command<'a>, AllocError> {
-    let help =
-        "How many turns to serve, 1 to 1000000: a turn takes in one datagram, or waits for 50 milliseconds";
-    let turns = Arg::new(alloc, "turns")
-        .long("turns")
-        .value_name("T")
-        .value_parser(clap::value_parser!(u32).range(1..=1_000_000))
-        .help(help)
-        .required(true);
-    let command = command.arg(turns)?;
-    let help = "Make the row file: for the first start of a station, and never again";
-    let command = with_flag(alloc, command, "create", help)?;
-    let help =
-        "The layout of the row file that is made, 1 where none is named: in layout 2 a number may be withdrawn; goes with --create";
-    let layout = ValueParser::Names(VERSIONS);
-    with_option(alloc, command, "layout", "L", layout, help)
-}
-
-/// Adds the story that a station offers first, the number that it withdraws, and the story that it seeks.
-fn with_beginning<'a>(alloc: Global, command: Command<'a>) -> Result<Command<'a>, AllocError> {
-    let number = clap::value_parser!(u32);
-    let help = "First offer a story under this number, 1 to 999999; goes with --tape";
-    let command = with_option(alloc, command, "number", "N", number, help)?;
-    let tape = ValueParser::string();
-    let help = "The tape that is offered, one frame per byte; goes with --number";
-    let command = with_option(alloc, command, "tape", "FILE", tape, help)?;
-    let withdraw = clap::value_parser!(u32);
-    let help =
-        "Then withdraw this number, 1 to 999999, so that no story goes out under it; refused by rows of version 1";
-    let command = with_option(alloc, command, "withdraw", "N", withdraw, help)?;
-    let seek = clap::value_parser!(u32);
-    let help = "Then ask the circuit for the story of this number";
-    with_option(alloc, command, "seek", "N", seek, help)
-}
-
-fn serve_command<'a>(alloc: Global) -> Result<Command<'a>, AllocError> {
-    let command = Command::new(alloc, "serve")
-        .about(
-            "Runs this plant's station on the wire, and prints each story that the circuit has agreed on",
-        )
-        .after_help(SERVE_EXAMPLE);
-    let help =
-        "The station's configuration: its circuit, its member, its files and the addresses of all stations";
-    let command = with_word(alloc, command, "CONFIG", help)?;
-    let command = with_turns(alloc, command)?;
-    with_beginning(alloc, command)
-}
+const SERVE: Form = Form {
+    name: "serve",
+    about: "Runs this plant's station on the wire, and prints each story that the circuit has agreed on",
+    example: SERVE_EXAMPLE,
+    given: &[
+        Given {
+            name: "CONFIG",
+            shape: Shape::Word(Value::Text),
+            help: "The station's configuration: its circuit, its member, its files and the addresses of all stations",
+        },
+        Given {
+            name: "turns",
+            shape: Shape::Choice(Choice {
+                shown: "T",
+                value: Value::Turns,
+                absence: Absence::Refused,
+                goes_with: None,
+            }),
+            help: "How many turns to serve, 1 to 1000000: a turn takes in one datagram, or waits for 50 milliseconds",
+        },
+        CREATE,
+        Given {
+            name: "layout",
+            shape: Shape::Choice(Choice {
+                shown: "L",
+                value: Value::Version,
+                absence: Absence::Empty,
+                goes_with: None,
+            }),
+            help: "The layout of the row file that is made, 1 where none is named: in layout 2 a number may be withdrawn; goes with --create",
+        },
+        Given {
+            name: "number",
+            shape: Shape::Choice(Choice {
+                shown: "N",
+                value: Value::Number,
+                absence: Absence::Empty,
+                goes_with: None,
+            }),
+            help: "First offer a story under this number, 1 to 999999; goes with --tape",
+        },
+        Given {
+            name: "tape",
+            shape: Shape::Choice(Choice {
+                shown: "FILE",
+                value: Value::Text,
+                absence: Absence::Empty,
+                goes_with: None,
+            }),
+            help: "The tape that is offered, one frame per byte; goes with --number",
+        },
+        Given {
+            name: "withdraw",
+            shape: Shape::Choice(Choice {
+                shown: "N",
+                value: Value::Number,
+                absence: Absence::Empty,
+                goes_with: None,
+            }),
+            help: "Then withdraw this number, 1 to 999999, so that no story goes out under it; refused by rows of version 1",
+        },
+        Given {
+            name: "seek",
+            shape: Shape::Choice(Choice {
+                shown: "N",
+                value: Value::Number,
+                absence: Absence::Empty,
+                goes_with: None,
+            }),
+            help: "Then ask the circuit for the story of this number",
+        },
+    ],
+};
 
 const RUN_EXAMPLE: &str = "\
 Example: the first start of a station, and then each later one:
@@ -275,35 +311,34 @@ Where the configuration names folders, the file `12.tape` among the offers is of
 among the releases: `12.tape` and `12.galley`, or `14.void`. The file `stop` among the offers ends the
 station, and is taken away at its next start.";
 
-/// Adds whether a station makes its row file, and in which layout.
-fn with_create<'a>(alloc: Global, command: Command<'a>) -> Result<Command<'a>, AllocError> {
-    let help = "Make the row file: for the first start of a station, and never again";
-    let command = with_flag(alloc, command, "create", help)?;
-    let help =
-        "The layout of the row file that is made: in layout 2 a number may be withdrawn; goes with --create";
-    let layout = Arg::new(alloc, "layout")
-        .long("layout")
-        .value_name("L")
-        .value_parser(ValueParser::Names(VERSIONS))
-        .default_value("1")
-        .requires_arg("create")?
-        .help(help);
-    command.arg(layout)
-}
-
-fn run_command<'a>(alloc: Global) -> Result<Command<'a>, AllocError> {
-    let command = Command::new(alloc, "run")
-        .about(
-            "Runs this plant's station until it is stopped: stories are offered and released as files",
-        )
-        .after_help(RUN_EXAMPLE);
-    let help =
-        "The station's configuration: its circuit, its member, its files and folders, and the addresses of all stations";
-    let command = with_word(alloc, command, "CONFIG", help)?;
-    let command = with_create(alloc, command)?;
-    let help = "Tell faults alone, and not what becomes of each number";
-    with_flag(alloc, command, "quiet", help)
-}
+const RUN: Form = Form {
+    name: "run",
+    about: "Runs this plant's station until it is stopped: stories are offered and released as files",
+    example: RUN_EXAMPLE,
+    given: &[
+        Given {
+            name: "CONFIG",
+            shape: Shape::Word(Value::Text),
+            help: "The station's configuration: its circuit, its member, its files and folders, and the addresses of all stations",
+        },
+        CREATE,
+        Given {
+            name: "layout",
+            shape: Shape::Choice(Choice {
+                shown: "L",
+                value: Value::Version,
+                absence: Absence::Default("1"),
+                goes_with: Some("create"),
+            }),
+            help: "The layout of the row file that is made: in layout 2 a number may be withdrawn; goes with --create",
+        },
+        Given {
+            name: "quiet",
+            shape: Shape::Flag,
+            help: "Tell faults alone, and not what becomes of each number",
+        },
+    ],
+};
 
 const REHEARSE_EXAMPLE: &str = "\
 Example: the first of three members offers a story, and its first request comes to member 2.
@@ -321,47 +356,104 @@ The lines of this script print what each member did and what it sent:
   2 promised 1.1
    #3 promise 2>1 12 1.1";
 
-const REHEARSE_WORDS: &[(&str, &str)] = &[
-    (
-        "TABLE",
-        "The code table of all members, as examples/codes.toml",
-    ),
-    (
-        "WIDTHS",
-        "The width file of all members, as examples/widths.toml",
-    ),
-    ("SCRIPT", "The script, as examples/story.script"),
-];
+const REHEARSE: Form = Form {
+    name: "rehearse",
+    about: "Rehearses a whole circuit by a script: who offers, what is delivered when, who starts again",
+    example: REHEARSE_EXAMPLE,
+    given: &[
+        Given {
+            name: "TABLE",
+            shape: Shape::Word(Value::Text),
+            help: "The code table of all members, as examples/codes.toml",
+        },
+        Given {
+            name: "WIDTHS",
+            shape: Shape::Word(Value::Text),
+            help: "The width file of all members, as examples/widths.toml",
+        },
+        Given {
+            name: "SCRIPT",
+            shape: Shape::Word(Value::Text),
+            help: "The script, as examples/story.script",
+        },
+    ],
+};
 
-fn rehearse_command<'a>(alloc: Global) -> Result<Command<'a>, AllocError> {
-    let command = Command::new(alloc, "rehearse")
-        .about(
-            "Rehearses a whole circuit by a script: who offers, what is delivered when, who starts again",
-        )
-        .after_help(REHEARSE_EXAMPLE);
-    with_words(alloc, command, REHEARSE_WORDS)
+/// The commands, in the order in which the help lists them: those over tapes, and those over stations.
+const FORMS: &[Form] = &[ANSWER, CHECK, DRAW, ROWS, UPGRADE, SERVE, RUN, REHEARSE];
+
+/// How `clap` tests a value.
+fn parser_of<'a>(value: Value) -> ValueParser<'a> {
+    match value {
+        Value::Text => ValueParser::string(),
+        Value::Circuit => clap::value_parser!(u16),
+        Value::Member => clap::value_parser!(u8).range(1..=i64::from(Member::LAST)),
+        Value::Version => ValueParser::Names(VERSIONS),
+        Value::Turns => clap::value_parser!(u32).range(1..=1_000_000),
+        Value::Number => clap::value_parser!(u32),
+    }
 }
 
-/// Adds a command to the program, unless memory was refused while it was made.
-fn with_command<'a>(
-    program: Command<'a>,
-    command: Result<Command<'a>, AllocError>,
-) -> Result<Command<'a>, AllocError> {
-    program.subcommand(command?)
+fn with_absence<'a>(arg: Arg<'a>, absence: Absence<'a>) -> Arg<'a> {
+    match absence {
+        Absence::Refused => arg.required(true),
+        Absence::Empty => arg,
+        Absence::Default(value) => arg.default_value(value),
+    }
 }
 
-/// All commands of the program: those over tapes, and those over stations.
-pub(crate) fn grammar<'a>(alloc: Global) -> Result<Command<'a>, AllocError> {
-    let program = Command::new(alloc, "circuitd")
+/// The option of this name, as far as its help.
+fn choice_of<'a>(arg: Arg<'a>, name: &'a str, choice: Choice<'a>) -> Result<Arg<'a>, AllocError> {
+    let arg = arg
+        .long(name)
+        .value_name(choice.shown)
+        .value_parser(parser_of(choice.value));
+    let arg = with_absence(arg, choice.absence);
+    match choice.goes_with {
+        Some(other) => arg.requires_arg(other),
+        None => Ok(arg),
+    }
+}
+
+fn arg_of<'a>(alloc: Global, given: Given<'a>) -> Result<Arg<'a>, AllocError> {
+    let arg = Arg::new(alloc, given.name).help(given.help);
+    match given.shape {
+        Shape::Word(value) => Ok(
+            arg.required(true)
+                .action(ArgAction::Set)
+                .value_parser(parser_of(value)),
+        ),
+        Shape::Flag => Ok(arg.long(given.name).action(ArgAction::SetTrue)),
+        Shape::Choice(choice) => choice_of(arg, given.name, choice),
+    }
+}
+
+fn command_of<'a>(alloc: Global, form: Form<'a>) -> Result<Command<'a>, AllocError> {
+    let mut command = Command::new(alloc, form.name)
+        .about(form.about)
+        .after_help(form.example);
+    for given in form.given {
+        command = command.arg(arg_of(alloc, *given)?)?;
+    }
+    Ok(command)
+}
+
+/// Whether the first word behind the program's name is this name, or that of no command.
+fn is_needed(name: &str, first: &str) -> bool {
+    name == first || !FORMS.iter().any(|form| form.name == first)
+}
+
+/// The grammar of a line whose first word, behind the program's own name, is this one: of the command that it names alone, since
+/// what is said of a command hangs on no other; of all commands for any other word.
+pub(crate) fn grammar<'a>(alloc: Global, first: &str) -> Result<Command<'a>, AllocError> {
+    let mut program = Command::new(alloc, "circuitd")
         .version(VERSION)
         .about("A wire circuit whose numbers never mean two stories")
         .subcommand_required(true);
-    let program = with_command(program, answer_command(alloc))?;
-    let program = with_command(program, check_command(alloc))?;
-    let program = with_command(program, draw_command(alloc))?;
-    let program = with_command(program, rows_command(alloc))?;
-    let program = with_command(program, upgrade_command(alloc))?;
-    let program = with_command(program, serve_command(alloc))?;
-    let program = with_command(program, run_command(alloc))?;
-    with_command(program, rehearse_command(alloc))
+    for form in FORMS {
+        if is_needed(form.name, first) {
+            program = program.subcommand(command_of(alloc, *form)?)?;
+        }
+    }
+    Ok(program)
 }

@@ -10,7 +10,11 @@ use tape_drawing::Page;
 use tape_frames::Version;
 
 fn matches_of<'a>(alloc: Global, words: &'a [String]) -> Result<ArgMatches<'a>, Error> {
-    grammar(alloc)?.try_get_matches_from(words)
+    let first = match words.get(1) {
+        Some(first) => first.as_str(),
+        None => "",
+    };
+    grammar(alloc, first)?.try_get_matches_from(words)
 }
 
 /// The version whose number a line gives for an option.
