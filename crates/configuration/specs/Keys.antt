@@ -1,5 +1,6 @@
 -- The keys of a configuration, as a TOML document has them.
 use Rattle.std.specs.Prelude.{ℕ, zero, suc, ℤ, pos, negsuc, List, Bool, codes, Option, Some, None, Result, Ok, Err, nat_le, ◌&&◌, if◌then◌else◌}
+use Rattle.protocol.specs.Limits.{most_members}
 use Rattle.toml.specs.Data.{Data, Items, no_items, item, Members, get_member, as_integer, as_str, as_array, as_table}
 use Rattle.configuration.specs.declared.fault.ConfigKey.{ConfigKey}
 use Rattle.configuration.specs.declared.fault.ConfigKey.TheVariants.{Circuit, Member, Table, Widths, Rows, Folders, Offers, Releases, Station}
@@ -98,10 +99,10 @@ abbrev pub count : Items → ℕ
 count no_items = zero
 count (item value rest) = suc (count rest)
 
--- the entries of the stations, 15 at most
+-- the entries of the stations, as many as a circuit has members at most
 unfoldable pub entries_at : Members → Result Items ConfigFault
 entries_at file = do
   value ← value_at Station file
   entries ← wanted (WrongType Station) (as_array value)
-  few ← holds (OutOfRange Station) (nat_le (count entries) 15)
+  few ← holds (OutOfRange Station) (nat_le (count entries) most_members)
   Ok entries

@@ -1,5 +1,6 @@
 -- A configuration as a TOML document gives it, or its first fault.
 use Rattle.std.specs.Prelude.{ℕ, List, length, string_bytes, Option, Some, None, option_map, Result, Ok, Err, nat_le}
+use Rattle.protocol.specs.Limits.{most_members}
 use Rattle.toml.specs.Data.{Members}
 use Rattle.wire.specs.declared.address.Address.{Address}
 use Rattle.configuration.specs.Keys.{◌>>=◌, holds, number_at, FolderPaths, paths_in, folders_in, entries_at}
@@ -40,7 +41,7 @@ file_of config = record {
 unfoldable pub read_file : Members → Result ConfigFile ConfigFault
 read_file file = do
   circuit ← number_at Circuit 0 65535 file
-  member ← number_at Member 1 15 file
+  member ← number_at Member 1 most_members file
   paths ← paths_in file
   folders ← folders_in file
   entries ← entries_at file

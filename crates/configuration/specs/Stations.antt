@@ -2,6 +2,7 @@
 use Rattle.std.specs.Prelude.{◌≡◌, ◌≤◌, ◌<◌, ◌+◌, ℕ, zero, suc, List, [], ◌∷◌, ◌++◌, length, Bool, Option, Some, slice_get, Result, Ok, ◌==◌, ◌&&◌, ◌||◌, not}
 use Rattle.std.specs.List.{find, list_any, cons_option}
 use Rattle.std.specs.Str.{bytes_eq}
+use Rattle.protocol.specs.Limits.{most_members}
 use Rattle.toml.specs.Data.{Data, Items, no_items, item}
 use Rattle.wire.specs.declared.address.Address.{Address}
 use Rattle.configuration.specs.Keys.{◌>>=◌, wanted, holds, count}
@@ -14,10 +15,10 @@ abbrev pub AreInOrder : List Address → Type 0
 AreInOrder stations =
     (i : ℕ) (address : Address) → slice_get stations i ≡ Some address → (address.member ≡ i + 1) × (0 < address.port)
 
--- at most 15 stations in the order of their members, and one of them is this member's
+-- as many stations as a circuit has members at most, in the order of their members, and one of them is this member's
 pub record IsCircuit (member : ℕ) (stations : List Address) : Type 0 where
   pub own : member ≤ length stations
-  pub most : length stations ≤ 15
+  pub most : length stations ≤ most_members
   pub order : AreInOrder stations
 
 -- two addresses are at odds: they are of one member, or have one IP address and port

@@ -1,6 +1,7 @@
 //! An entry of the stations as a TOML document has it.
 
 ghost use Rattle.std.specs.Prelude.{◌≡◌, ◌≤◌, IfSome, codes};
+ghost use Rattle.protocol.specs.Limits.{most_members};
 ghost use Rattle.toml.specs.View.{view, table_view};
 ghost use Rattle.configuration.specs.Addresses.{number_in, ip_in, address_of};
 
@@ -37,7 +38,7 @@ fn ip_in(entry: &Table) -> Option<[u8; 4]>
 
 /// The member of an entry, one of so many.
 fn member_in(entry: &Table, members: u16) -> Option<Member>
-    requires { members ≤ 15 }
+    requires { members ≤ most_members }
     ensures { result ≡ number_in (codes "member") 1 members (table_view entry.now) }
 {
     let number = number_in(entry, "member", 1, members)?;
@@ -47,7 +48,7 @@ fn member_in(entry: &Table, members: u16) -> Option<Member>
 /// The address of an entry: a table with the keys `member`, which is one of so many, `ip` and `port`.
 #[tactic(auto, unfolding(crate::specs::Addresses::address_of))]
 pub(crate) fn address_of(members: u16, entry: &Value) -> Option<Address>
-    requires { members ≤ 15 }
+    requires { members ≤ most_members }
     ensures { result ≡ address_of members (view entry.now) }
 {
     let keys = entry.as_table()?;

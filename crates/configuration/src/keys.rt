@@ -1,6 +1,7 @@
 //! The keys of a configuration in a TOML document.
 
 ghost use Rattle.std.specs.Prelude.{◌≡◌, ◌≤◌, IfSome, IfOk, MatchResult, Ok, Err, option_map, vec_len};
+ghost use Rattle.protocol.specs.Limits.{most_members};
 ghost use Rattle.toml.specs.Data.{get_member};
 ghost use Rattle.toml.specs.View.{view, table_view, array_view};
 ghost use Rattle.configuration.specs.Keys.{in_range, value_at, number_at, text_at, paths_in, folder_paths_in, folders_in, entries_at};
@@ -86,7 +87,7 @@ pub(crate) fn circuit_at(file: &Table) -> Result<u16, ConfigFault>
 
 /// The own member.
 pub(crate) fn member_at(file: &Table) -> Result<Member, ConfigFault>
-    ensures { result ≡ number_at MemberKey 1 15 (table_view file.now) }
+    ensures { result ≡ number_at MemberKey 1 most_members (table_view file.now) }
 {
     let number = number_at(file, ConfigKey::Member, 1, MOST)?;
     Member::new(number as u8).ok_or(ConfigFault::OutOfRange(ConfigKey::Member))
@@ -104,11 +105,11 @@ fn text_at(file: &Table, key: ConfigKey) -> Result<&str, ConfigFault>
     }
 }
 
-/// The entries of the stations, 15 at most.
+/// The entries of the stations, as many as a circuit has members at most.
 #[tactic(auto, using(crate::proofs::Entries::counted), unfolding(crate::specs::Keys::entries_at))]
 pub(crate) fn entries_at(file: &Table) -> Result<&Array, ConfigFault>
     ensures value { MatchResult result (λ a. entries_at (table_view file.now) ≡ Ok (array_view a.now)) (λ e. entries_at (table_view file.now) ≡ Err e) }
-    ensures few { IfOk result (λ a. vec_len a.now ≤ 15) }
+    ensures few { IfOk result (λ a. vec_len a.now ≤ most_members) }
 {
     let value = value_at(file, ConfigKey::Station)?;
     match value.as_array() {

@@ -1,6 +1,7 @@
 //! The stations of a configuration, entry by entry.
 
 ghost use Rattle.std.specs.Prelude.{◌≡◌, ◌≤◌, ◌⊎◌, [], length, IfOk, IfErr, Ok, Err, vec_len};
+ghost use Rattle.protocol.specs.Limits.{most_members};
 ghost use Rattle.toml.specs.View.{view, array_view};
 ghost use Rattle.configuration.specs.Keys.{count};
 ghost use Rattle.configuration.specs.Stations.{AreInOrder, are_at_odds, is_taken, read_entry, read_entries, address_among, in_order, read_stations};
@@ -35,7 +36,7 @@ fn read_entry(
     place: usize,
     entry: &Value,
 ) -> Result<Address, ConfigFault>
-    requires { members ≤ 15 }
+    requires { members ≤ most_members }
     ensures { result ≡ read_entry members earlier.now place (view entry.now) }
 {
     let address = address_of(members, entry).ok_or(ConfigFault::BadStation(place))?;
@@ -47,7 +48,7 @@ fn read_entry(
 
 /// The addresses of all entries, in their order.
 fn read_entries(alloc: Global, entries: &Array) -> Result<Vec<Address>, ConfigFault>
-    requires { vec_len entries.now ≤ 15 }
+    requires { vec_len entries.now ≤ most_members }
     ensures ok { IfOk result (λ addresses. read_entries (count (array_view entries.now)) [] (array_view entries.now) ≡ Ok addresses.items) }
     ensures err { IfErr result (λ e. (e ≡ OutOfMemory) ⊎ (read_entries (count (array_view entries.now)) [] (array_view entries.now) ≡ Err e)) }
 {
@@ -85,10 +86,10 @@ fn in_order(alloc: Global, addresses: &[Address]) -> Result<Vec<Address>, AllocE
 
 /// The stations of an array's entries, in order of their members: as many members as entries.
 pub(crate) fn read_stations(alloc: Global, entries: &Array) -> Result<Vec<Address>, ConfigFault>
-    requires { vec_len entries.now ≤ 15 }
+    requires { vec_len entries.now ≤ most_members }
     ensures ok { IfOk result (λ stations. read_stations (array_view entries.now) ≡ Ok stations.items) }
     ensures order { IfOk result (λ stations. AreInOrder stations.items) }
-    ensures most { IfOk result (λ stations. length stations.items ≤ 15) }
+    ensures most { IfOk result (λ stations. length stations.items ≤ most_members) }
     ensures err { IfErr result (λ e. (e ≡ OutOfMemory) ⊎ (read_stations (array_view entries.now) ≡ Err e)) }
 {
     let addresses = read_entries(alloc, entries)?;
