@@ -1,5 +1,5 @@
 -- Slots: what was heard of each member of a circuit, in rising order of members.
-use Rattle.std.specs.Prelude.{ℕ, Bool, true, List, [], Option, Some, None, length, map, filter_map, find, count_by, nat_lt, ◌*◌, ◌-◌, slice_index_or, slice_set, if◌then◌else◌}
+use Rattle.std.specs.Prelude.{ℕ, Bool, true, List, [], Option, Some, None, length, map, filter_map, find, count_by, nat_lt, MatchOption, ◌≡◌, ◌<◌, ◌*◌, ◌-◌, slice_index_or, slice_set, if◌then◌else◌}
 use Rattle.std.specs.Global.{Box}
 use Rattle.arrayvec.specs.ArrayVec.{ArrayVec}
 use Rattle.protocol.specs.Ballots.{Ballot, is_below, is_same, members}
@@ -54,3 +54,8 @@ ripe_in slots = find (is_ripe_in slots) (votes_in slots)
 -- the first vote at b
 abbrev pub least_in : Ballot → List (Option Vote) → Option Vote
 least_in b slots = find (λ (v : Vote). is_same v.ballot b) (votes_in slots)
+
+-- it is the place of that vote, if there is one
+abbrev pub IsPlaceOfLeast : Option ℕ → Ballot → List (Option Vote) → Type 0
+IsPlaceOfLeast place b slots =
+    MatchOption place (least_in b slots ≡ None) (λ i. (i < length slots) × (slice_index_or slots i None ≡ least_in b slots))

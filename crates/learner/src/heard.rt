@@ -1,13 +1,11 @@
 //! Votes that were heard, in a slot for each member.
 
-ghost use Rattle.std.specs.Prelude.{◌≡◌, ◌≤◌, ◌<◌, ℕ, List, [], ◌∷◌, Option, Some, None, Bool, false, IfOk, IsOk, OnOk, OnErr, length, option_map, option_copied, count_by, is_some, slice_index_or, MatchBool, MatchOption};
-ghost use Rattle.protocol.specs.Ballots.{is_below, members as all_members};
+ghost use Rattle.std.specs.Prelude.{◌≡◌, ◌≤◌, ℕ, [], Option, None, Bool, false, IfOk, IsOk, OnOk, OnErr, length, option_map, option_copied, count_by, is_some, MatchBool};
 ghost use Rattle.protocol.specs.Rows.{Vote as VoteValue};
-ghost use Rattle.protocol.specs.Marks.{Mark, Heard as HeardMark};
-ghost use Rattle.protocol.specs.Learner.{latest, ripe, votes_at};
+ghost use Rattle.protocol.specs.Learner.{votes_at};
 ghost use Rattle.protocol.specs.Limits.{most_members};
-ghost use Rattle.learner.specs.Latest.{StandsFor, latest_votes, least_at};
-ghost use Rattle.learner.specs.Slots.{is_newer, kept, slot_of, nothing_heard, opened, written, ripe_in, least_in};
+ghost use Rattle.learner.specs.Latest.{StandsFor, latest_votes, StandsAfterVote, TellsRipeBallot, IsOkWhereNotAbove, IsLeastEntry, IsRipeEntry};
+ghost use Rattle.learner.specs.Slots.{is_newer, kept, slot_of, nothing_heard, opened, written, ripe_in, least_in, IsPlaceOfLeast};
 ghost use Rattle.tape_frames.specs.Entries.{lent_entry, owned_entry};
 
 use crate::slot::Slot;
@@ -140,7 +138,7 @@ fn chosen_at(slots: &[Slot]) -> Option<Ballot>
 
 /// The place of the least member whose vote has this ballot.
 fn place_at(slots: &[Slot], ballot: Ballot) -> Option<usize>
-    ensures { MatchOption result (least_in ballot slots.now ≡ None) (λ i. (i < length slots.now) × (slice_index_or slots.now i None ≡ least_in ballot slots.now)) }
+    ensures { IsPlaceOfLeast result ballot slots.now }
 {
     for place in 0..slots.len() {
         if slots[place].is_at(ballot) {
@@ -268,11 +266,11 @@ impl Heard {
         entry: EntryRef<'_>,
     ) -> Result<Option<Ballot>, AllocError>
         requires { member ≤ self.old.members }
-        ensures ripe { IfOk result (λ chosen. (n : ℕ) (marks : List Mark) → StandsFor self.old n marks → chosen ≡ option_map (λ (v : VoteValue). v.ballot) (ripe self.old.members n (HeardMark n member ballot (lent_entry entry.entry) ∷ marks))) }
-        ensures stands { OnOk result ((n : ℕ) (marks : List Mark) → StandsFor self.old n marks → StandsFor self.new n (HeardMark n member ballot (lent_entry entry.entry) ∷ marks)) }
+        ensures ripe { IfOk result (λ chosen. TellsRipeBallot chosen member ballot (lent_entry entry.entry) self.old) }
+        ensures stands { OnOk result (StandsAfterVote member ballot (lent_entry entry.entry) self.old self.new) }
         ensures members { self.new.members ≡ self.old.members }
         ensures err { OnErr result (self.new ≡ self.old) }
-        ensures no_memory { (n : ℕ) (marks : List Mark) (v : VoteValue) → StandsFor self.old n marks → latest n marks member ≡ Some v → is_below v.ballot ballot ≡ false → IsOk result }
+        ensures no_memory { IsOkWhereNotAbove result member ballot self.old }
     {
         slots_of_members::<Option<Vote>>();
         // The member's range is known once it is read.
@@ -290,8 +288,8 @@ impl Heard {
 
     /// The entry of the least member whose latest vote has this ballot, lent.
     pub fn tape_at(&self, ballot: Ballot) -> Option<EntryRef<'_>>
-        ensures least { (n : ℕ) (marks : List Mark) → StandsFor self.now n marks → option_map lent_entry result ≡ option_map (λ (v : VoteValue). v.entry) (least_at self.now.members ballot (latest n marks)) }
-        ensures ripe { (n : ℕ) (marks : List Mark) (v : VoteValue) → StandsFor self.now n marks → ripe self.now.members n marks ≡ Some v → ballot ≡ v.ballot → option_map lent_entry result ≡ Some v.entry }
+        ensures least { IsLeastEntry (option_map lent_entry result) ballot self.now }
+        ensures ripe { IsRipeEntry (option_map lent_entry result) ballot self.now }
     {
         match least_at(lent(&self.slots), ballot) {
             None => None,
@@ -303,8 +301,8 @@ impl Heard {
     ///
     /// It takes no memory: the entry is not copied.
     pub fn release_at(&mut self, ballot: Ballot) -> Option<Entry>
-        ensures least { (n : ℕ) (marks : List Mark) → StandsFor self.old n marks → option_map owned_entry result ≡ option_map (λ (v : VoteValue). v.entry) (least_at self.old.members ballot (latest n marks)) }
-        ensures ripe { (n : ℕ) (marks : List Mark) (v : VoteValue) → StandsFor self.old n marks → ripe self.old.members n marks ≡ Some v → ballot ≡ v.ballot → option_map owned_entry result ≡ Some v.entry }
+        ensures least { IsLeastEntry (option_map owned_entry result) ballot self.old }
+        ensures ripe { IsRipeEntry (option_map owned_entry result) ballot self.old }
         ensures forgets { self.new ≡ latest_votes self.old.members 0 [] }
     {
         slots_of_members::<Option<Vote>>();

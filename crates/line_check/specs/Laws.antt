@@ -15,7 +15,9 @@ OneSlug = (widths : WidthFile) (line : Line) (a b : Slug) → IsSlug widths line
 
 -- left, items and right add up to the measure
 abbrev pub AddsUp : Type 0
-AddsUp = (widths : WidthFile) (line : Line) (slug : Slug) → IsSlug widths line slug → slug.left + sum_by sort_width slug.items + slug.right ≡ widths.measure
+AddsUp =
+    (widths : WidthFile) (line : Line) (slug : Slug) → IsSlug widths line slug
+    → slug.left + sum_by sort_width slug.items + slug.right ≡ widths.measure
 
 -- no slug meets the equations of a line that does not fit
 abbrev pub HasNoSlug : Type 0
@@ -27,7 +29,9 @@ HasSlug = (widths : WidthFile) (line : Line) → misfit widths line ≡ None →
 
 -- a tape sets in one way
 abbrev pub OneSetting : Type 0
-OneSetting = (means : Meanings) (widths : WidthFile) (tape : List ℕ) (a b : Result (List Slug) SetFault) → Sets means widths tape a → Sets means widths tape b → a ≡ b
+OneSetting =
+    (means : Meanings) (widths : WidthFile) (tape : List ℕ) (a b : Result (List Slug) SetFault)
+    → Sets means widths tape a → Sets means widths tape b → a ≡ b
 
 -- each tape sets in some way: as slugs, or with a fault
 abbrev pub HasSetting : Type 0

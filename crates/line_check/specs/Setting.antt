@@ -66,5 +66,7 @@ Tells means widths tape faults.OutOfMemory = Unit {0}
 -- how far a tape was set: to a position, with the slugs of the lines before it, or to the fault that waits
 abbrev pub SetTo : InHand → List ℕ → ℕ → List Slug → Option ReadFault → Type 0
 SetTo r tape i slugs None =
-    StandsAt r tape i × (misfit_among r.widths (lines_before (mean r.table) r.widths tape i) ≡ None) × AreSlugs r.widths (lines_before (mean r.table) r.widths tape i) slugs
+    StandsAt r tape i
+    × (misfit_among r.widths (lines_before (mean r.table) r.widths tape i) ≡ None)
+    × AreSlugs r.widths (lines_before (mean r.table) r.widths tape i) slugs
 SetTo r tape i slugs (Some fault) = Tells (mean r.table) r.widths tape fault

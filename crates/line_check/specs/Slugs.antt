@@ -110,8 +110,16 @@ greatest_width widths line = fixed_of line + bands_of line * widths.band_max
 
 -- a line without a quad is loose where its greatest width does not reach the measure
 abbrev pub looseness : WidthFile → List Item → Option Quad → Option Cause
-looseness widths line None = if nat_lt (greatest_width widths line) widths.measure then Some (causes.Loose (widths.measure - greatest_width widths line)) else None
+looseness widths line None =
+    if nat_lt (greatest_width widths line) widths.measure
+    then Some (causes.Loose (widths.measure - greatest_width widths line))
+    else None
 looseness widths line (Some quad) = None
+
+-- a line of these items without a quad is not loose, and the slug has them in order and fills the measure
+abbrev pub IsJustified : WidthFile → List Item → Slug → Type 0
+IsJustified widths line slug =
+    (looseness widths line None ≡ None) × (map item_of_sort slug.items ≡ line) × Justifies widths (fixed_of line) slug
 
 -- why a line has no slug: it is overset where its least width is above the measure, else it may be loose
 abbrev pub misfit : WidthFile → Line → Option Cause

@@ -3,7 +3,7 @@
 ghost use Rattle.std.specs.Prelude.{◌≡◌, [], ◌∷◌, ◌≤◌, ◌<◌, ◌+◌, ◌*◌, ◌-◌, length, Some, None, IfOk, IfErr, map};
 ghost use Rattle.tape_frames.specs.Frames.{most_frames};
 ghost use Rattle.line_check.specs.declared.fault.LineFault.TheVariants.{OutOfMemory};
-ghost use Rattle.line_check.specs.Slugs.{fixed_width, is_band, fixed_of, bands_of, least_width, greatest_width, kind_of, item_of_sort, misfit, looseness, StandsAt, IsSlug, Justifies, Quads};
+ghost use Rattle.line_check.specs.Slugs.{fixed_width, is_band, fixed_of, bands_of, least_width, greatest_width, kind_of, item_of_sort, misfit, looseness, StandsAt, IsSlug, IsJustified, Quads};
 ghost use Rattle.line_check.specs.Spreading.{sorts_of, IsMisfit};
 
 use crate::fault::LineFault;
@@ -107,7 +107,7 @@ fn justified(
     requires fixed { (fixed ≡ fixed_of items.now) × (fixed ≤ 65535 * most_frames) }
     requires bands { (bands ≡ bands_of items.now) × (bands ≤ most_frames) }
     requires fits { least_width widths.now items.now ≤ widths.now.measure }
-    ensures slug { IfOk result (λ slug. (looseness widths.now items.now None ≡ None) × (map item_of_sort slug.items ≡ items.now) × Justifies widths.now (fixed_of items.now) slug) }
+    ensures slug { IfOk result (λ slug. IsJustified widths.now items.now slug) }
     ensures fault { IfErr result (λ e. IsMisfit (looseness widths.now items.now None) e) }
 {
     let measure = u32::from(widths.measure());

@@ -1,10 +1,10 @@
 -- What goes out with a turn.
-use Rattle.std.specs.Prelude.{◌≡◌, ◌≤◌, ℕ, List, [], ◌∷◌, ◌++◌, Option, Some, None, IsTrue, length, if◌then◌else◌}
+use Rattle.std.specs.Prelude.{◌≡◌, ◌≤◌, ℕ, List, [], ◌∷◌, Option, Some, None, IsTrue, length, if◌then◌else◌}
 use Rattle.protocol.specs.Ballots.{Ballot, is_below}
 use Rattle.protocol.specs.Entries.{Entry}
 use Rattle.protocol.specs.Rows.{Vote}
-use Rattle.protocol.specs.Packets.{Packet, Prepare, Promise, Accept, Accepted, Nack}
-use Rattle.protocol.specs.Turn.{packet_to, to_others}
+use Rattle.protocol.specs.Packets.{Packet, Prepare, Promise, Accepted, Nack}
+use Rattle.protocol.specs.Turn.{packet_to, to_others, proposal_to_others}
 use Rattle.packets.specs.Rules.{keeps_rules}
 use Rattle.protocol.specs.Seats.{Seat}
 use Rattle.protocol.specs.Limits.{most_sent}
@@ -31,7 +31,7 @@ of_entry packets (Some v) = packets v.entry
 -- what goes out, where this is the vote of the row after the turn
 abbrev pub letter_sends : Seat → ℕ → Ballot → Option Vote → Letter → List Packet
 letter_sends s n b vote letters.Prepare = to_others s n b Prepare
-letter_sends s n b vote letters.Proposal = of_entry (λ entry. to_others s n b (Accept entry) ++ to_others s n b (Accepted entry)) vote
+letter_sends s n b vote letters.Proposal = of_entry (proposal_to_others s n b) vote
 letter_sends s n b vote letters.Vote = of_entry (λ entry. to_others s n b (Accepted entry)) vote
 letter_sends s n b vote (letters.Promise to) = packet_to s n b (Promise (vote_below b vote)) to ∷ []
 letter_sends s n b vote (letters.Nack to promised) = packet_to s n b (Nack promised) to ∷ []

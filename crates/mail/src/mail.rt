@@ -1,8 +1,7 @@
 //! The packets of a letter, each at its place.
 
-ghost use Rattle.std.specs.Prelude.{◌≡◌, ℕ, ◌≤◌, ◌<◌, ◌+◌, ◌++◌, ◌∷◌, [], Some, IsTrue, length, slice_get};
-ghost use Rattle.protocol.specs.Packets.{Accept, Accepted};
-ghost use Rattle.protocol.specs.Turn.{packet_to, to_others, others};
+ghost use Rattle.std.specs.Prelude.{◌≡◌, ℕ, ◌≤◌, ◌<◌, ◌+◌, ◌∷◌, [], Some, IsTrue, length, slice_get};
+ghost use Rattle.protocol.specs.Turn.{packet_to, to_others, proposal_to_others, others};
 ghost use Rattle.protocol.specs.Limits.{most_members};
 ghost use Rattle.packets.specs.Bodies.{said};
 ghost use Rattle.tape_frames.specs.Entries.{lent_entry};
@@ -164,7 +163,7 @@ impl Mail {
     /// The packet at this place of those that propose the entry, and then tell of the vote for it.
     pub(crate) fn proposal<'a>(&self, place: usize, entry: EntryRef<'a>) -> Option<PacketRef<'a>>
         requires { self.now.ballot.owner ≡ self.now.seat.me }
-        ensures { result ≡ slice_get (to_others self.now.seat self.now.number self.now.ballot (Accept (lent_entry entry.entry)) ++ to_others self.now.seat self.now.number self.now.ballot (Accepted (lent_entry entry.entry))) place }
+        ensures { result ≡ slice_get (proposal_to_others self.now.seat self.now.number self.now.ballot (lent_entry entry.entry)) place }
     {
         let others = self.others();
         if place < others {

@@ -1,7 +1,7 @@
 -- The laws of the grammar and of reading.
 use Rattle.std.specs.Prelude.{◌≡◌, ℕ, List, [], ◌∷◌, ◌++◌, Ok}
 use Rattle.tape_frames.specs.Packing.{OnePacking, PackingIsGiven, UnpackingUndoes, TapesArePacked, PackedAreTapes}
-use Rattle.protocol.specs.Entries.{Entry}
+use Rattle.protocol.specs.Entries.{Tape, Entry}
 use Rattle.protocol.specs.Versions.{Version, Two}
 use Rattle.protocol.specs.Packets.{Packet, Accepted}
 use Rattle.protocol.specs.Fitting.{BodyFits}
@@ -62,6 +62,14 @@ pub record Packings : Type 0 where
 abbrev pub worked_packet : Entry → Packet
 worked_packet entry = record { circuit = 7; from = 2; to = 1; number = 12; ballot = record { round = 1; owner = 1 }; body = Accepted entry }
 
--- its spelling in version 2 as far as the entry
+-- a tape of seven frames
+abbrev pub worked_tape : Tape
+worked_tape = 1 ∷ 2 ∷ 3 ∷ 1 ∷ 3 ∷ 2 ∷ 4 ∷ []
+
+-- its frames, packed
+abbrev pub worked_packing : List ℕ
+worked_packing = 4 ∷ 32 ∷ 193 ∷ 12 ∷ 33 ∷ 0 ∷ []
+
+-- the packet's spelling in version 2 as far as the entry
 abbrev pub worked_front : List ℕ
 worked_front = 84 ∷ 78 ∷ 2 ∷ 4 ∷ 0 ∷ 7 ∷ 2 ∷ 1 ∷ 0 ∷ 0 ∷ 0 ∷ 12 ∷ 0 ∷ 0 ∷ 0 ∷ 1 ∷ 1 ∷ []

@@ -30,6 +30,11 @@ may_say (Accept entry) b = true
 may_say (Accepted entry) b = true
 may_say (Nack promised) b = is_below b promised
 
+-- the packet of these fields
+abbrev pub packet_with : ℕ → ℕ → ℕ → ℕ → Ballot → Body → Packet
+packet_with circuit from to number ballot body =
+    record { circuit = circuit; from = from; to = to; number = number; ballot = ballot; body = body }
+
 -- the rules of a packet: two members that differ, whose ballot it is, and what it reports
 abbrev pub keeps_rules : Packet → Bool
 keeps_rules p = not (p.from == p.to) && may_send (kind_of p.body) p.ballot.owner p.from p.to && may_say p.body p.ballot

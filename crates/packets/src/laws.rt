@@ -4,7 +4,7 @@ ghost use Rattle.std.specs.Prelude.{[], ◌∷◌, ◌++◌};
 ghost use Rattle.protocol.specs.Entries.{Void, Taped};
 ghost use Rattle.protocol.specs.Versions.{Two};
 ghost use Rattle.packets.specs.Grammar.{Spells};
-ghost use Rattle.packets.specs.Laws.{HasOneSpelling, OnlyWhatFits, SaysItsVersion, OnePacket, NoFront, ReadsItAgain, FindsWhatIsSpelled, ReadAsSaid, ReadWhatFits, TwoReadsBoth, Packings, worked_packet, worked_front};
+ghost use Rattle.packets.specs.Laws.{HasOneSpelling, OnlyWhatFits, SaysItsVersion, OnePacket, NoFront, ReadsItAgain, FindsWhatIsSpelled, ReadAsSaid, ReadWhatFits, TwoReadsBoth, Packings, worked_packet, worked_front, worked_tape, worked_packing};
 
 use tape_frames::laws::{packed, packing, unpacking};
 
@@ -61,6 +61,6 @@ pub fn reading_by_version()
 
 /// The news of a vote in version 2: for seven frames, which are six bytes behind their number, and for a withdrawal.
 pub fn worked_spellings()
-    ensures tape { Spells Two (worked_front ++ 0 ∷ 7 ∷ 4 ∷ 32 ∷ 193 ∷ 12 ∷ 33 ∷ 0 ∷ []) (worked_packet (Taped (1 ∷ 2 ∷ 3 ∷ 1 ∷ 3 ∷ 2 ∷ 4 ∷ []))) }
+    ensures tape { Spells Two (worked_front ++ 0 ∷ 7 ∷ worked_packing) (worked_packet (Taped worked_tape)) }
     ensures void { Spells Two (worked_front ++ 0 ∷ 0 ∷ []) (worked_packet Void) }
 {}

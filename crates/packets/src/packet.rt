@@ -4,7 +4,7 @@ ghost use Rattle.std.specs.Prelude.{◌≡◌, ◌↔◌, ◌==◌, IsSome, IfSo
 ghost use Rattle.tape_frames.specs.Entries.{version_of};
 ghost use Rattle.protocol.specs.Fitting.{BodyFits};
 ghost use Rattle.packets.specs.Bodies.{said, has_tape};
-ghost use Rattle.packets.specs.Rules.{keeps_rules};
+ghost use Rattle.packets.specs.Rules.{packet_with, keeps_rules};
 
 use crate::body::{Body, BodyRef, may_send};
 use ballots::{Ballot, Member, Number};
@@ -31,13 +31,13 @@ impl<'a> Model for PacketRef<'a> {
     ghost use Rattle.std.specs.Prelude.{IsTrue};
     ghost use Rattle.protocol.specs.Packets.{Packet as PacketValue};
     ghost use Rattle.packets.specs.Bodies.{said};
-    ghost use Rattle.packets.specs.Rules.{keeps_rules};
+    ghost use Rattle.packets.specs.Rules.{packet_with, keeps_rules};
 
     ghost Value = { PacketValue };
 
     ghost view = { λ p. record { circuit = p.circuit; from = p.from; to = p.to; number = p.number; ballot = p.ballot; body = said p.body } };
 
-    ghost invariant = { λ p. IsTrue (keeps_rules (record { circuit = p.circuit; from = p.from; to = p.to; number = p.number; ballot = p.ballot; body = said p.body })) };
+    ghost invariant = { λ p. IsTrue (keeps_rules (packet_with p.circuit p.from p.to p.number p.ballot (said p.body))) };
 }
 
 /// A packet with frames of its own. It keeps the same rules.
@@ -55,13 +55,13 @@ impl Model for Packet {
     ghost use Rattle.std.specs.Prelude.{IsTrue};
     ghost use Rattle.protocol.specs.Packets.{Packet as PacketValue};
     ghost use Rattle.packets.specs.Bodies.{told};
-    ghost use Rattle.packets.specs.Rules.{keeps_rules};
+    ghost use Rattle.packets.specs.Rules.{packet_with, keeps_rules};
 
     ghost Value = { PacketValue };
 
     ghost view = { λ p. record { circuit = p.circuit; from = p.from; to = p.to; number = p.number; ballot = p.ballot; body = told p.body } };
 
-    ghost invariant = { λ p. IsTrue (keeps_rules (record { circuit = p.circuit; from = p.from; to = p.to; number = p.number; ballot = p.ballot; body = told p.body })) };
+    ghost invariant = { λ p. IsTrue (keeps_rules (packet_with p.circuit p.from p.to p.number p.ballot (told p.body))) };
 }
 
 /// Whether they are one member.
@@ -81,8 +81,8 @@ impl<'a> PacketRef<'a> {
         ballot: Ballot,
         body: BodyRef<'a>,
     ) -> Option<PacketRef<'a>>
-        ensures some { IsSome result ↔ IsTrue (keeps_rules (record { circuit = circuit; from = from; to = to; number = number; ballot = ballot; body = said body.entry })) }
-        ensures value { IfSome result (λ p. p ≡ record { circuit = circuit; from = from; to = to; number = number; ballot = ballot; body = said body.entry }) }
+        ensures some { IsSome result ↔ IsTrue (keeps_rules (packet_with circuit from to number ballot (said body.entry))) }
+        ensures value { IfSome result (λ p. p ≡ packet_with circuit from to number ballot (said body.entry)) }
     {
         if is_one_member(from, to) {
             return None;

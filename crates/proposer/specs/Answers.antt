@@ -1,12 +1,12 @@
 -- What the answers of a proposal's calls say of the marks, and the marks after them.
-use Rattle.std.specs.Prelude.{◌≡◌, ℕ, List, ◌∷◌, Option, Some, None, Bool, true, false}
+use Rattle.std.specs.Prelude.{◌≡◌, ℕ, List, ◌∷◌, Option, Some, None, Bool, true, false, MatchBool, if◌then◌else◌}
 use Rattle.protocol.specs.Ballots.{Ballot, IsNoneOrBelow, is_majority}
 use Rattle.protocol.specs.Entries.{Entry}
 use Rattle.protocol.specs.Rows.{Vote, Row}
-use Rattle.protocol.specs.Marks.{Mark, Began, Promised}
-use Rattle.protocol.specs.Proposals.{Opening, gathering_at, since_began, counted, is_counted, is_due}
+use Rattle.protocol.specs.Marks.{Mark, Began, Promised, Denied}
+use Rattle.protocol.specs.Proposals.{Opening, was_released, open_proposal, proposal_at, gathering_at, since_began, counted, is_counted, pick, due_moment, is_due}
 use Rattle.protocol.specs.Turn.{next_ballot}
-use Rattle.proposer.specs.InHand.{InHand}
+use Rattle.proposer.specs.InHand.{InHand, StandsFor}
 use Rattle.proposer.specs.declared.answer.Counted.{Counted}
 use Rattle.proposer.specs.declared.answer.Counted.TheVariants as kinds
 use Rattle.proposer.specs.declared.answer.DueAnswer.{DueAnswer}
@@ -72,3 +72,59 @@ abbrev pub IsOwnAndAbove : DueAnswer → ℕ → Option Ballot → Type 0
 IsOwnAndAbove answers.Wait me promised = Unit {0}
 IsOwnAndAbove answers.GaveUp me promised = Unit {0}
 IsOwnAndAbove (answers.Began b) me promised = (b.owner ≡ me) × IsNoneOrBelow promised b
+
+-- a proposal that was begun, with this own entry and this report: it stands for n where n was not released and no proposal of n is open
+abbrev pub StandsAsBegun : InHand → Option Entry → Option Vote → ℕ → Type 0
+StandsAsBegun q own report now =
+    (n : ℕ) (marks : List Mark) → was_released n marks ≡ false → open_proposal n marks ≡ None
+    → StandsFor q n (Began n q.ballot own report now ∷ marks)
+
+-- it is told whether a proposal of n gathers promises at b
+abbrev pub TellsGathering : Bool → Ballot → InHand → Type 0
+TellsGathering result b q =
+    (n : ℕ) (marks : List Mark) → StandsFor q n marks
+    → MatchBool result ((p : Opening) × (gathering_at n b marks ≡ Some p)) (gathering_at n b marks ≡ None)
+
+-- it is told whether the proposal of n is at b
+abbrev pub TellsProposal : Bool → Ballot → InHand → Type 0
+TellsProposal result b q =
+    (n : ℕ) (marks : List Mark) → StandsFor q n marks
+    → MatchBool result ((p : Opening) × (proposal_at n b marks ≡ Some p)) (proposal_at n b marks ≡ None)
+
+-- it is told what became of the promise of a member at b, with this report
+abbrev pub TellsCounting : Counted → ℕ → Ballot → Option Vote → InHand → Type 0
+TellsCounting kind from b report q =
+    (n : ℕ) (marks : List Mark) → StandsFor q n marks → IsCountedAs kind q.members q.me n b from report marks
+
+-- after a promise the proposal stands for the marks after it
+abbrev pub StandsAfterPromise : Counted → ℕ → Ballot → Option Vote → InHand → InHand → Type 0
+StandsAfterPromise kind from b report old new =
+    (n : ℕ) (marks : List Mark) → StandsFor old n marks → StandsFor new n (marks_after_promise kind n from b report marks)
+
+-- after a Nack the proposal stands for the marks with this promise, where it was denied at all
+abbrev pub StandsAfterNack : Bool → Ballot → InHand → InHand → Type 0
+StandsAfterNack result promised old new =
+    (n : ℕ) (marks : List Mark) → StandsFor old n marks → StandsFor new n (if result then Denied n promised ∷ marks else marks)
+
+-- the entry is what the open proposal of n picks
+abbrev pub IsPicked : Option Entry → InHand → Type 0
+IsPicked entry q =
+    (n : ℕ) (marks : List Mark) (p : Opening) → StandsFor q n marks → open_proposal n marks ≡ Some p
+    → entry ≡ pick p.own (counted q.me n p (since_began n marks))
+
+-- the moment is the due moment of the open proposal of n
+abbrev pub IsDueMoment : ℕ → InHand → Type 0
+IsDueMoment moment q =
+    (n : ℕ) (marks : List Mark) (p : Opening) → StandsFor q n marks → open_proposal n marks ≡ Some p
+    → moment ≡ due_moment q.me n p (since_began n marks)
+
+-- it is told what the open proposal of n does at a moment, where this is the saved promise
+abbrev pub TellsWhatIsDue : DueAnswer → Option Ballot → ℕ → InHand → Type 0
+TellsWhatIsDue answer promised now q =
+    (n : ℕ) (marks : List Mark) (p : Opening) (row : Row) → StandsFor q n marks → open_proposal n marks ≡ Some p
+    → row.promised ≡ promised → IsDueAnswer answer q.me n now p marks row
+
+-- after that moment the proposal stands for the marks after it, with this report where it began anew
+abbrev pub StandsAfterDue : DueAnswer → Option Vote → ℕ → InHand → InHand → Type 0
+StandsAfterDue answer report now old new =
+    (n : ℕ) (marks : List Mark) → StandsFor old n marks → StandsFor new n (marks_after_due answer n old.own report now marks)

@@ -1,16 +1,15 @@
 //! A proposal, with a slot for the promise of each member.
 
-ghost use Rattle.std.specs.Prelude.{◌≡◌, ◌≤◌, ◌<◌, ◌+◌, ◌*◌, ◌-◌, ◌^◌, ℕ, List, ◌∷◌, Option, Some, None, Ok, Err, IfOk, OnErr, IsOk, MatchResult, MatchBool, min, false, nat_le, option_copied, option_map, ◌&&◌, if◌then◌else◌};
+ghost use Rattle.std.specs.Prelude.{◌≡◌, ◌≤◌, ◌<◌, ◌+◌, ◌*◌, ◌-◌, ◌^◌, ℕ, List, ◌∷◌, Option, Some, None, Ok, Err, IfOk, OnErr, IsOk, MatchResult, min, nat_le, option_copied, option_map, ◌&&◌, if◌then◌else◌};
 ghost use Rattle.std.specs.Bool.{OnFalse};
 ghost use Rattle.protocol.specs.Ballots.{next, is_same};
-ghost use Rattle.protocol.specs.Rows.{Row};
-ghost use Rattle.protocol.specs.Marks.{Mark, Began, Proposed, Denied};
-ghost use Rattle.protocol.specs.Proposals.{Opening, was_released, open_proposal, open_ballot, proposal_at, gathering_at, since_began, counted, entry_or, pick, due_moment};
+ghost use Rattle.protocol.specs.Marks.{Mark, Proposed};
+ghost use Rattle.protocol.specs.Proposals.{open_ballot, entry_or};
 ghost use Rattle.protocol.specs.Turn.{greater_ballot, most_ballots};
 ghost use Rattle.protocol.specs.Limits.{most_members};
 ghost use Rattle.tape_frames.specs.Entries.{owned_entry, lent_entry};
 ghost use Rattle.proposer.specs.InHand.{StandsFor, IsOfTheSame};
-ghost use Rattle.proposer.specs.Answers.{IsNew, IsCountedAs, marks_after_promise, StaysWhereUncounted, IsDueAnswer, marks_after_due, StaysWhereNotBegun, IsOwnAndAbove};
+ghost use Rattle.proposer.specs.Answers.{IsNew, StandsAsBegun, TellsGathering, TellsCounting, StandsAfterPromise, StaysWhereUncounted, TellsProposal, StandsAfterNack, IsPicked, IsDueMoment, TellsWhatIsDue, StandsAfterDue, StaysWhereNotBegun, IsOwnAndAbove};
 
 use crate::answer::{BeginRefusal, Counted, DueAnswer};
 use crate::promises::{Slots, count_anew, count_once, counted_alone, greatest_vote, is_quorum};
@@ -48,7 +47,17 @@ impl Model for Proposal {
 
     ghost Value = { InHand };
 
-    ghost view = { λ p. record { me = p.me; members = length p.slots; ballot = p.ballot; own = option_map owned_entry p.own; reports = p.slots; gathers = p.gathers; denied = p.denied; begun = p.begun; moved = p.moved } };
+    ghost view = { λ p. record {
+      me = p.me;
+      members = length p.slots;
+      ballot = p.ballot;
+      own = option_map owned_entry p.own;
+      reports = p.slots;
+      gathers = p.gathers;
+      denied = p.denied;
+      begun = p.begun;
+      moved = p.moved;
+    } };
 
     ghost invariant = { λ p. (length p.slots ≤ most_members) × (p.me ≤ length p.slots) };
 }
@@ -101,7 +110,7 @@ impl Proposal {
         requires member { me ≤ members }
         requires few { members ≤ most_members }
         ensures ballot { MatchResult result (λ p. next seen me ≡ Some p.ballot) (λ e. (e ≡ BeginRefusal.RoundsSpent) × (next seen me ≡ None)) }
-        ensures stands { IfOk result (λ p. (n : ℕ) (marks : List Mark) → was_released n marks ≡ false → open_proposal n marks ≡ None → StandsFor p n (Began n p.ballot (option_map owned_entry own) report now ∷ marks)) }
+        ensures stands { IfOk result (λ p. StandsAsBegun p (option_map owned_entry own) report now) }
         ensures circuit { IfOk result (λ p. (p.me ≡ me) × (p.members ≡ members)) }
     {
         slots_of_members::<Option<Option<Vote>>>();
@@ -134,7 +143,7 @@ impl Proposal {
     /// Whether it gathers promises at this ballot.
     pub fn gathers_at(&self, ballot: Ballot) -> bool
         ensures value { result ≡ self.now.gathers && is_same self.now.ballot ballot }
-        ensures marks { (n : ℕ) (marks : List Mark) → StandsFor self.now n marks → MatchBool result ((p : Opening) × (gathering_at n ballot marks ≡ Some p)) (gathering_at n ballot marks ≡ None) }
+        ensures marks { TellsGathering result ballot self.now }
     {
         self.gathers && self.ballot.is_same(ballot)
     }
@@ -149,8 +158,8 @@ impl Proposal {
         report: Option<VoteRef<'_>>,
     ) -> Result<Counted, AllocError>
         requires { from ≤ self.old.members }
-        ensures kind { IfOk result (λ kind. (n : ℕ) (marks : List Mark) → StandsFor self.old n marks → IsCountedAs kind self.old.members self.old.me n ballot from report.entry marks) }
-        ensures stands { IfOk result (λ kind. (n : ℕ) (marks : List Mark) → StandsFor self.old n marks → StandsFor self.new n (marks_after_promise kind n from ballot report.entry marks)) }
+        ensures kind { IfOk result (λ kind. TellsCounting kind from ballot report.entry self.old) }
+        ensures stands { IfOk result (λ kind. StandsAfterPromise kind from ballot report.entry self.old self.new) }
         ensures circuit { IsOfTheSame self.old self.new }
         ensures stays { IfOk result (λ kind. StaysWhereUncounted kind self.old self.new) }
         ensures err { OnErr result (self.new ≡ self.old) }
@@ -176,8 +185,8 @@ impl Proposal {
     ///
     /// `false` where the ballot is another: nothing is kept then.
     pub fn nack(&mut self, ballot: Ballot, promised: Ballot) -> bool
-        ensures kept { (n : ℕ) (marks : List Mark) → StandsFor self.old n marks → MatchBool result ((p : Opening) × (proposal_at n ballot marks ≡ Some p)) (proposal_at n ballot marks ≡ None) }
-        ensures stands { (n : ℕ) (marks : List Mark) → StandsFor self.old n marks → StandsFor self.new n (if result then Denied n promised ∷ marks else marks) }
+        ensures kept { TellsProposal result ballot self.old }
+        ensures stands { StandsAfterNack result promised self.old self.new }
         ensures stays { OnFalse result (self.new ≡ self.old) }
         ensures circuit { IsOfTheSame self.old self.new }
     {
@@ -190,7 +199,7 @@ impl Proposal {
 
     /// The entry to propose: that of the greatest reported vote (of the least member where equal), else the own one, if any.
     pub fn pick(&self) -> Option<EntryRef<'_>>
-        ensures { (n : ℕ) (marks : List Mark) (p : Opening) → StandsFor self.now n marks → open_proposal n marks ≡ Some p → option_map lent_entry result ≡ pick p.own (counted self.now.me n p (since_began n marks)) }
+        ensures { IsPicked (option_map lent_entry result) self.now }
     {
         slots_of_members::<Option<Option<Vote>>>();
         entry_or(&self.own, greatest_vote(&self.slots))
@@ -209,7 +218,7 @@ impl Proposal {
     /// last began a ballot or was proposed; at most the last moment of all.
     pub fn due_moment(&self) -> u64
         ensures value { result ≡ min (self.now.moved + 250 + 40 * self.now.me) (2 ^ 64 - 1) }
-        ensures moment { (n : ℕ) (marks : List Mark) (p : Opening) → StandsFor self.now n marks → open_proposal n marks ≡ Some p → result ≡ due_moment self.now.me n p (since_began n marks) }
+        ensures moment { IsDueMoment result self.now }
     {
         let member = u64::from(self.me.get());
         self.moved.saturating_add(250 + 40 * member)
@@ -235,8 +244,8 @@ impl Proposal {
         report: Option<Vote>,
         now: u64,
     ) -> Result<DueAnswer, AllocError>
-        ensures answer { IfOk result (λ answer. (n : ℕ) (marks : List Mark) (p : Opening) (row : Row) → StandsFor self.old n marks → open_proposal n marks ≡ Some p → row.promised ≡ promised → IsDueAnswer answer self.old.me n now p marks row) }
-        ensures stands { IfOk result (λ answer. (n : ℕ) (marks : List Mark) → StandsFor self.old n marks → StandsFor self.new n (marks_after_due answer n self.old.own report now marks)) }
+        ensures answer { IfOk result (λ answer. TellsWhatIsDue answer promised now self.old) }
+        ensures stands { IfOk result (λ answer. StandsAfterDue answer report now self.old self.new) }
         ensures circuit { IsOfTheSame self.old self.new }
         ensures ballot { IfOk result (λ answer. IsOwnAndAbove answer self.old.me promised) }
         ensures stays { IfOk result (λ answer. StaysWhereNotBegun answer self.old self.new) }

@@ -41,15 +41,21 @@ HistoriesAgree D G F = (z : Circuit D G F) (w : State G F) → History z w → I
 -- a vote of this number and ballot carries t, or an Accept that was sent does, as a station of version 2 reads it
 pub data IsCarried {D G F : Type 0} {z : Circuit D G F} {w : State G F} (h : History z w) (n : ℕ) (b : Ballot) (t : Entry) : Type 0 where
   by_vote : (m : ℕ) → WasVoted h m n b t → IsCarried h n b t
-  by_accept : (d : Datagram) (p : Packet) → IsAmong w.sent d → hears z Two d.bytes ≡ Ok p → p.number ≡ n → p.ballot ≡ b → p.body ≡ Accept t → IsCarried h n b t
+  by_accept :
+      (d : Datagram) (p : Packet) → IsAmong w.sent d → hears z Two d.bytes ≡ Ok p
+      → p.number ≡ n → p.ballot ≡ b → p.body ≡ Accept t → IsCarried h n b t
 
 -- all votes and Accepts of one number and ballot carry one entry
 abbrev pub BallotsHaveOneEntry : (D G F : Type 0) → Type 0
-BallotsHaveOneEntry D G F = (z : Circuit D G F) (w : State G F) (h : History z w) (n : ℕ) (b : Ballot) (t u : Entry) → IsCarried h n b t → IsCarried h n b u → t ≡ u
+BallotsHaveOneEntry D G F =
+    (z : Circuit D G F) (w : State G F) (h : History z w) (n : ℕ) (b : Ballot) (t u : Entry)
+    → IsCarried h n b t → IsCarried h n b u → t ≡ u
 
 -- every voted entry was offered
 abbrev pub VotesAreOffered : (D G F : Type 0) → Type 0
-VotesAreOffered D G F = (z : Circuit D G F) (w : State G F) (h : History z w) (m n : ℕ) (b : Ballot) (t : Entry) → WasVoted h m n b t → WasOffered w n t
+VotesAreOffered D G F =
+    (z : Circuit D G F) (w : State G F) (h : History z w) (m n : ℕ) (b : Ballot) (t : Entry)
+    → WasVoted h m n b t → WasOffered w n t
 
 -- a Promise of m for n at b, with this report, was sent, as a station of version 2 reads it
 pub record WasPromised {D G F : Type 0} (z : Circuit D G F) (w : State G F) (m n : ℕ) (b : Ballot) (report : Option Vote) : Type 0 where
@@ -65,7 +71,8 @@ pub record WasPromised {D G F : Type 0} (z : Circuit D G F) (w : State G F) (m n
 -- no step after a Promise of m at b takes a vote of m below b
 abbrev pub PromisesBind : (D G F : Type 0) → Type 0
 PromisesBind D G F =
-    (z : Circuit D G F) (w after : State G F) (h : History z w) (s : Step) (o : Outcome D F) (st : StepsTo z w s o after) (m n : ℕ) (b : Ballot) (report : Option Vote)
+    (z : Circuit D G F) (w after : State G F) (h : History z w) (s : Step) (o : Outcome D F) (st : StepsTo z w s o after)
+    → (m n : ℕ) (b : Ballot) (report : Option Vote)
     → WasPromised z w m n b report → (a : Ballot) (t : Entry) → IsBelow a b → WasVoted (goes_on h s o st) m n a t → WasVoted h m n a t
 
 -- this is the vote of m for n of greatest ballot below b, or none where m has none there
@@ -91,12 +98,18 @@ VotesAreBacked D G F =
 
 -- each vote that was heard was taken
 abbrev pub HeardIsVoted : (D G F : Type 0) → Type 0
-HeardIsVoted D G F = (z : Circuit D G F) (w : State G F) (h : History z w) (m n k : ℕ) (b : Ballot) (t : Entry) → IsAmong (w.marks m) (Heard n k b t) → WasVoted h k n b t
+HeardIsVoted D G F =
+    (z : Circuit D G F) (w : State G F) (h : History z w) (m n k : ℕ) (b : Ballot) (t : Entry)
+    → IsAmong (w.marks m) (Heard n k b t) → WasVoted h k n b t
 
 -- what is ripe at some member is chosen
 abbrev pub RipeIsChosen : (D G F : Type 0) → Type 0
-RipeIsChosen D G F = (z : Circuit D G F) (w : State G F) (h : History z w) (m n : ℕ) (b : Ballot) (t : Entry) → Ripe z.count (w.marks m) n b t → IsChosen h n t
+RipeIsChosen D G F =
+    (z : Circuit D G F) (w : State G F) (h : History z w) (m n : ℕ) (b : Ballot) (t : Entry)
+    → Ripe z.count (w.marks m) n b t → IsChosen h n t
 
 -- two entries that are chosen for one number are equal
 abbrev pub ChosenIsOne : (D G F : Type 0) → Type 0
-ChosenIsOne D G F = (z : Circuit D G F) (w : State G F) (h : History z w) (n : ℕ) (t u : Entry) → IsChosen h n t → IsChosen h n u → t ≡ u
+ChosenIsOne D G F =
+    (z : Circuit D G F) (w : State G F) (h : History z w) (n : ℕ) (t u : Entry)
+    → IsChosen h n t → IsChosen h n u → t ≡ u

@@ -80,7 +80,16 @@ pub record IsSameState {G F : Type 0} (v w : State G F) : Type 0 where
 
 -- a circuit starts with each member at its version, no row, no mark and nothing sent
 abbrev pub fresh : {G F : Type 0} → (ℕ → Version) → State G F
-fresh version = record { version = version; rows = λ m n. blank; marks = λ m. []; is_stopped = λ m. false; armed = λ m. None; sent = []; offers = []; releases = [] }
+fresh version = record {
+  version = version;
+  rows = λ m n. blank;
+  marks = λ m. [];
+  is_stopped = λ m. false;
+  armed = λ m. None;
+  sent = [];
+  offers = [];
+  releases = [];
+}
 
 -- a step: a member is asked something, the k-th datagram ever sent (from 1) is delivered to its addressee,
 -- a member starts again, goes over to version 2, or its store is armed to refuse the next save
@@ -139,6 +148,10 @@ task_of sent (Restarts m) = None
 task_of sent (Upgrades m) = None
 task_of sent (Balks m saved) = None
 
+-- what the step asks is this call of member m
+abbrev pub IsTask : List Datagram → Step → ℕ → Call → Type 0
+IsTask sent s m call = task_of sent s ≡ Some (record { member = m; call = call })
+
 -- the offers with that of an event, if it is one
 abbrev pub offers_with : List Offer → ℕ → Event → List Offer
 offers_with offers m (Offered n entry now) = offers ++ record { member = m; number = n; entry = entry } ∷ []
@@ -162,7 +175,8 @@ MayLeave None o before after now = (o ≡ Torn_by_store) × ((now ≡ before) �
 -- what a step that is torn leaves of the row of the event's number and of the armed flag.
 -- Before any save both are as they were: where nothing refuses the call the member's own store may fail as it is read,
 -- and memory may be wanted before that, while an offered entry is set. At the save a row that it may leave, unarmed
-pub data Leaves {D G F : Type 0} (z : Circuit D G F) (w : State G F) (m : ℕ) (call : Call) (e : Event) (o : Outcome D F) (row : Row) (armed : Option Bool) : Type 0 where
+pub data Leaves {D G F : Type 0} (z : Circuit D G F) (w : State G F) (m : ℕ) (call : Call) (e : Event)
+    (o : Outcome D F) (row : Row) (armed : Option Bool) : Type 0 where
   store_before_save :
       o ≡ Torn_by_store → refusal (setup_of z (w.version m) m) (w.is_stopped m) (w.marks m) call ≡ None
       → row ≡ w.rows m (number_of e) → armed ≡ w.armed m → Leaves z w m call e o row armed
@@ -178,25 +192,25 @@ pub data Leaves {D G F : Type 0} (z : Circuit D G F) (w : State G F) (m : ℕ) (
 pub data StepsTo {D G F : Type 0} (z : Circuit D G F) (w : State G F) (s : Step) (o : Outcome D F) (after : State G F) : Type 0 where
   -- the station refuses before it asks its store
   is_refused :
-      (m : ℕ) (call : Call) (r : Refusal D F) → task_of w.sent s ≡ Some (record { member = m; call = call }) → IsMember z.count m
+      (m : ℕ) (call : Call) (r : Refusal D F) → IsTask w.sent s m call → IsMember z.count m
       → refusal (setup_of z (w.version m) m) (w.is_stopped m) (w.marks m) call ≡ Some r
       → o ≡ Refused r → IsSameState after w → StepsTo z w s o after
   -- nothing is due
   is_idle :
-      (m : ℕ) (call : Call) → task_of w.sent s ≡ Some (record { member = m; call = call }) → IsMember z.count m
+      (m : ℕ) (call : Call) → IsTask w.sent s m call → IsMember z.count m
       → refusal (setup_of z (w.version m) m) (w.is_stopped m) (w.marks m) call ≡ None
       → event_of (setup_of z (w.version m) m) (w.marks m) call ≡ None
       → o ≡ Done Note_idle → IsSameState after w → StepsTo z w s o after
   -- no ballot is left
   is_spent :
-      (m : ℕ) (call : Call) (e : Event) → task_of w.sent s ≡ Some (record { member = m; call = call }) → IsMember z.count m
+      (m : ℕ) (call : Call) (e : Event) → IsTask w.sent s m call → IsMember z.count m
       → refusal (setup_of z (w.version m) m) (w.is_stopped m) (w.marks m) call ≡ None
       → event_of (setup_of z (w.version m) m) (w.marks m) call ≡ Some e
       → turn (seat_at z m) (w.marks m) (w.rows m (number_of e)) e ≡ None
       → o ≡ Refused Rounds_spent → IsSameState after w → StepsTo z w s o after
   -- the turn is taken: the row is saved, the marks grow, and what goes out, an offer and a release are added
   is_done :
-      (m : ℕ) (call : Call) (e : Event) (t : Turn) (out : List Datagram) → task_of w.sent s ≡ Some (record { member = m; call = call }) → IsMember z.count m
+      (m : ℕ) (call : Call) (e : Event) (t : Turn) (out : List Datagram) → IsTask w.sent s m call → IsMember z.count m
       → refusal (setup_of z (w.version m) m) (w.is_stopped m) (w.marks m) call ≡ None
       → event_of (setup_of z (w.version m) m) (w.marks m) call ≡ Some e
       → turn (seat_at z m) (w.marks m) (w.rows m (number_of e)) e ≡ Some t
@@ -213,7 +227,7 @@ pub data StepsTo {D G F : Type 0} (z : Circuit D G F) (w : State G F) (s : Step)
       → StepsTo z w s o after
   -- the store or want of memory ends it: the station stops and forgets its marks, and nothing is sent or released
   is_torn :
-      (m : ℕ) (call : Call) (e : Event) (row : Row) (armed : Option Bool) → task_of w.sent s ≡ Some (record { member = m; call = call }) → IsMember z.count m
+      (m : ℕ) (call : Call) (e : Event) (row : Row) (armed : Option Bool) → IsTask w.sent s m call → IsMember z.count m
       → event_of (setup_of z (w.version m) m) (w.marks m) call ≡ Some e
       → Leaves z w m call e o row armed
       → IsSameState after (record w {
@@ -238,7 +252,12 @@ pub data StepsTo {D G F : Type 0} (z : Circuit D G F) (w : State G F) (s : Step)
   -- the station stops and forgets its marks
   upgrade_is_torn :
       (m : ℕ) (v : Version) → IsMember z.count m → s ≡ Upgrades m → MayLeave (w.armed m) o (w.version m) Two v
-      → IsSameState after (record w { version = with_at w.version m v; marks = with_at w.marks m []; is_stopped = with_at w.is_stopped m true; armed = with_at w.armed m None })
+      → IsSameState after (record w {
+        version = with_at w.version m v;
+        marks = with_at w.marks m [];
+        is_stopped = with_at w.is_stopped m true;
+        armed = with_at w.armed m None;
+      })
       → StepsTo z w s o after
   -- a member's store is armed
   is_armed :

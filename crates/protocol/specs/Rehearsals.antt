@@ -17,7 +17,9 @@ pub record PacketsAreRefused (D F : Type 0) : Type 0 where
   pub addressee : packet_refusal {D = D} {F = F} (sits 7 2 3) (packet_to (sits 7 1 3) 12 (ballot 1 1) Prepare 3) ≡ Some Not_for_me
   pub sender : packet_refusal {D = D} {F = F} (sits 7 2 3) (packet_to (sits 7 4 3) 12 (ballot 1 2) (Promise None) 2) ≡ Some Stranger
   pub owner : packet_refusal {D = D} {F = F} (sits 7 2 3) (packet_to (sits 7 1 3) 12 (ballot 1 4) (Accepted (Taped (1 ∷ []))) 2) ≡ Some Stranger
-  pub reported : packet_refusal {D = D} {F = F} (sits 7 2 3) (packet_to (sits 7 1 3) 12 (ballot 2 2) (Promise (Some (vote_for (ballot 1 4) (Taped (1 ∷ []))))) 2) ≡ Some Stranger
+  pub reported :
+      packet_refusal {D = D} {F = F} (sits 7 2 3) (packet_to (sits 7 1 3) 12 (ballot 2 2) (Promise (Some (vote_for (ballot 1 4) (Taped (1 ∷ []))))) 2)
+      ≡ Some Stranger
   pub denied : packet_refusal {D = D} {F = F} (sits 7 2 3) (packet_to (sits 7 1 3) 12 (ballot 1 2) (Nack (ballot 1 4)) 2) ≡ Some Stranger
   pub first : packet_refusal {D = D} {F = F} (sits 7 2 3) (packet_to (sits 8 4 3) 12 (ballot 1 4) Prepare 3) ≡ Some Wrong_circuit
   pub none : packet_refusal {D = D} {F = F} (sits 7 2 3) (packet_to (sits 7 3 3) 12 (ballot 1 3) Prepare 2) ≡ None
@@ -64,7 +66,8 @@ VersionIsToldFirst D G F = (d : D) (f : F) (entry : Entry) → refusal {G = G} (
 abbrev pub WithdrawalWantsVersionTwo : (D G F : Type 0) → Type 0
 WithdrawalWantsVersionTwo D G F =
     (z : Circuit D G F) (m : ℕ)
-    → (refusal (setup_of z One m) false [] (Offering 12 Void 0) ≡ Some Wire_too_old) × (early_refusal (setup_of z Two m) false [] (Offering 12 Void 0) ≡ None)
+    → (refusal (setup_of z One m) false [] (Offering 12 Void 0) ≡ Some Wire_too_old)
+    × (early_refusal (setup_of z Two m) false [] (Offering 12 Void 0) ≡ None)
 
 -- a step that was taken, and how it ended
 pub record Taken (D F : Type 0) : Type 0 where
@@ -130,13 +133,18 @@ steps_of_three entry =
     ∷ record { step = Delivers 9 0; outcome = Done (Note_heard (ballot 1 1)) }
     ∷ record { step = Delivers 7 0; outcome = Done (Note_heard (ballot 1 1)) } ∷ []
 
+-- what three release so: 2 the entry first, then 1, and 3 last
+abbrev pub releases_of_three : {D G F : Type 0} → Circuit D G F → Entry → List (Release G F)
+releases_of_three z entry = release_by z 2 entry ∷ release_by z 1 entry ∷ release_by z 3 entry ∷ []
+
 -- of three members at one version, of which the first is offered an entry, all release it, though the third never voted:
 -- 2 as it votes, 1 as it hears the vote of 2, and 3 as it has heard both
 abbrev pub ThreeMembersRelease : (D G F : Type 0) → Type 0
 ThreeMembersRelease D G F =
-    (z : Circuit D G F) (v : Version) (spell : Packet → List ℕ) (entry : Entry) (slugs : G) → z.count ≡ 3 → fits v entry ≡ true → z.sets 1 entry ≡ Ok slugs
+    (z : Circuit D G F) (v : Version) (spell : Packet → List ℕ) (entry : Entry) (slugs : G)
+    → z.count ≡ 3 → fits v entry ≡ true → z.sets 1 entry ≡ Ok slugs
     → AllZip (Carries z v) (packets_of_three z.number entry) (map (datagram_of spell) (packets_of_three z.number entry))
-    → (w : State G F) × (h : History z w) × ((m : ℕ) → started_at h m ≡ v) × (w.releases ≡ release_by z 2 entry ∷ release_by z 1 entry ∷ release_by z 3 entry ∷ [])
+    → (w : State G F) × (h : History z w) × ((m : ℕ) → started_at h m ≡ v) × (w.releases ≡ releases_of_three z entry)
     × (w.sent ≡ map (datagram_of spell) (packets_of_three z.number entry))
     × (steps_of h ≡ steps_of_three entry)
 
@@ -145,7 +153,7 @@ abbrev pub NumberIsWithdrawn : (D G F : Type 0) → Type 0
 NumberIsWithdrawn D G F =
     (z : Circuit D G F) (spell : Packet → List ℕ) (nothing : G) → z.count ≡ 3 → z.sets 1 Void ≡ Ok nothing
     → AllZip (Carries z Two) (packets_of_three z.number Void) (map (datagram_of spell) (packets_of_three z.number Void))
-    → (w : State G F) × (h : History z w) × ((m : ℕ) → started_at h m ≡ Two) × (w.releases ≡ release_by z 2 Void ∷ release_by z 1 Void ∷ release_by z 3 Void ∷ [])
+    → (w : State G F) × (h : History z w) × ((m : ℕ) → started_at h m ≡ Two) × (w.releases ≡ releases_of_three z Void)
     × (w.sent ≡ map (datagram_of spell) (packets_of_three z.number Void))
     × (steps_of h ≡ steps_of_three Void)
 
@@ -313,9 +321,11 @@ packets_denied k =
 -- 1 is not due at 289, and at 290 it begins 2.1, above the Nack. Nobody votes, so nothing is released
 abbrev pub DeniesTheLower : {D G F : Type 0} → Circuit D G F → Type 0
 DeniesTheLower {D = D} {G = G} {F = F} z =
-    (v : Version) (spell : Packet → List ℕ) (x y : Entry) (one three : G) → fits v x ≡ true → fits v y ≡ true → z.sets 3 x ≡ Ok three → z.sets 1 y ≡ Ok one
+    (v : Version) (spell : Packet → List ℕ) (x y : Entry) (one three : G)
+    → fits v x ≡ true → fits v y ≡ true → z.sets 3 x ≡ Ok three → z.sets 1 y ≡ Ok one
     → AllZip (Carries z v) (packets_denied z.number) (map (datagram_of spell) (packets_denied z.number))
-    → (w : State G F) × (h : History z w) × ((m : ℕ) → started_at h m ≡ v) × (w.releases ≡ []) × (w.sent ≡ map (datagram_of spell) (packets_denied z.number))
+    → (w : State G F) × (h : History z w) × ((m : ℕ) → started_at h m ≡ v)
+    × (w.releases ≡ []) × (w.sent ≡ map (datagram_of spell) (packets_denied z.number))
     × (steps_of h
     ≡ record { step = Offers 3 12 x 0; outcome = Done (Note_began (ballot 1 3)) }
     ∷ record { step = Delivers 2 0; outcome = Done (Note_promised (ballot 1 3)) }
@@ -338,10 +348,12 @@ packets_of_fight k entry = packets_of_three k entry ++ packets_after k entry
 -- 2 reports its vote as it promises 1.3, so 3 proposes the entry of 1 and not its own, and releases it once 2 has voted at 1.3
 abbrev pub FightsForOne : {D G F : Type 0} → Circuit D G F → Type 0
 FightsForOne {D = D} {G = G} {F = F} z =
-    (v : Version) (spell : Packet → List ℕ) (x y : Entry) (one three : G) → fits v x ≡ true → fits v y ≡ true → z.sets 1 x ≡ Ok one → z.sets 3 y ≡ Ok three
+    (v : Version) (spell : Packet → List ℕ) (x y : Entry) (one three : G)
+    → fits v x ≡ true → fits v y ≡ true → z.sets 1 x ≡ Ok one → z.sets 3 y ≡ Ok three
     → AllZip (Carries z v) (packets_of_fight z.number x) (map (datagram_of spell) (packets_of_fight z.number x))
     → (w : State G F) × (h : History z w) × ((m : ℕ) → started_at h m ≡ v)
-    × (w.releases ≡ release_by z 3 x ∷ []) × (w.offers ≡ offer_by 1 x ∷ offer_by 3 y ∷ []) × (w.sent ≡ map (datagram_of spell) (packets_of_fight z.number x))
+    × (w.releases ≡ release_by z 3 x ∷ []) × (w.offers ≡ offer_by 1 x ∷ offer_by 3 y ∷ [])
+    × (w.sent ≡ map (datagram_of spell) (packets_of_fight z.number x))
     × (steps_of h
     ≡ record { step = Offers 1 12 x 0; outcome = Done (Note_began (ballot 1 1)) }
     ∷ record { step = Delivers 1 0; outcome = Done (Note_promised (ballot 1 1)) }

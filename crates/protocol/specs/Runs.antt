@@ -16,6 +16,10 @@ pub record Shown : Type 0 where
   pub out : List Packet
   pub release : Option Entry
 
+-- what this turn shows
+abbrev pub shown_of : Turn → Shown
+shown_of t = record { note = t.note; out = t.out; release = t.release }
+
 -- where a station stands, and what it has shown so far, the first first
 pub record Run : Type 0 where
   pub marks : List Mark
@@ -25,7 +29,7 @@ pub record Run : Type 0 where
 -- the run after a turn; it stays where no ballot is left
 abbrev pub went_on : Run → Option Turn → Run
 went_on r None = r
-went_on r (Some t) = record { marks = t.marks; row = t.row; shown = r.shown ++ record { note = t.note; out = t.out; release = t.release } ∷ [] }
+went_on r (Some t) = record { marks = t.marks; row = t.row; shown = r.shown ++ shown_of t ∷ [] }
 
 -- the run after these events too, the first first
 abbrev pub ran_on : Seat → Run → List Event → Run
@@ -59,6 +63,14 @@ sends from b body to = record { circuit = 7; from = from; to = to; number = 12; 
 -- it arrives at the moment 0
 abbrev pub gets : ℕ → Ballot → Body → ℕ → Event
 gets from b body to = Arrived (sends from b body to) 0
+
+-- 3 gets a member's promise of 1.3, which reports its vote at b
+abbrev pub reports : ℕ → Ballot → Entry → Event
+reports from b entry = gets from (ballot 1 3) (Promise (Some (vote_for b entry))) 3
+
+-- 3 gets the news of a member's vote at b
+abbrev pub tells : ℕ → Ballot → Entry → Event
+tells from b entry = gets from b (Accepted entry) 3
 
 -- a turn that releases nothing
 abbrev pub shows : Note → List Packet → Shown
@@ -99,7 +111,7 @@ SecondOfTwoReleases =
 abbrev pub ThirdTakesOver : Type 0
 ThirdTakesOver =
     (own entry : Entry)
-    → (run_of (sits 7 3 3) (Offered 12 own 0 ∷ gets 2 (ballot 1 3) (Promise (Some (vote_for (ballot 1 1) entry))) 3 ∷ gets 2 (ballot 1 3) (Accepted entry) 3 ∷ [])).shown
+    → (run_of (sits 7 3 3) (Offered 12 own 0 ∷ reports 2 (ballot 1 1) entry ∷ tells 2 (ballot 1 3) entry ∷ [])).shown
     ≡ shows (Note_began (ballot 1 3)) (sends 3 (ballot 1 3) Prepare 1 ∷ sends 3 (ballot 1 3) Prepare 2 ∷ [])
     ∷ shows (Note_proposed (ballot 1 3))
     (sends 3 (ballot 1 3) (Accept entry) 1 ∷ sends 3 (ballot 1 3) (Accept entry) 2
@@ -110,21 +122,21 @@ ThirdTakesOver =
 abbrev pub GreaterReportIsTaken : Type 0
 GreaterReportIsTaken =
     (own x y : Entry)
-    → ((run_of (sits 7 3 5) (Offered 12 own 0 ∷ gets 1 (ballot 1 3) (Promise (Some (vote_for (ballot 1 1) x))) 3 ∷ gets 2 (ballot 1 3) (Promise (Some (vote_for (ballot 1 2) y))) 3 ∷ [])).row.vote
+    → ((run_of (sits 7 3 5) (Offered 12 own 0 ∷ reports 1 (ballot 1 1) x ∷ reports 2 (ballot 1 2) y ∷ [])).row.vote
     ≡ Some (vote_for (ballot 1 3) y))
-    × ((run_of (sits 7 3 5) (Offered 12 own 0 ∷ gets 2 (ballot 1 3) (Promise (Some (vote_for (ballot 1 2) y))) 3 ∷ gets 1 (ballot 1 3) (Promise (Some (vote_for (ballot 1 1) x))) 3 ∷ [])).row.vote
+    × ((run_of (sits 7 3 5) (Offered 12 own 0 ∷ reports 2 (ballot 1 2) y ∷ reports 1 (ballot 1 1) x ∷ [])).row.vote
     ≡ Some (vote_for (ballot 1 3) y))
 
 -- of reports at one ballot 3 of 5 takes that of the least member, and of votes heard at one ballot its entry
 abbrev pub LeastMemberDecides : Type 0
 LeastMemberDecides =
     (own x y : Entry)
-    → ((run_of (sits 7 3 5) (Offered 12 own 0 ∷ gets 1 (ballot 1 3) (Promise (Some (vote_for (ballot 1 1) x))) 3 ∷ gets 2 (ballot 1 3) (Promise (Some (vote_for (ballot 1 1) y))) 3 ∷ [])).row.vote
+    → ((run_of (sits 7 3 5) (Offered 12 own 0 ∷ reports 1 (ballot 1 1) x ∷ reports 2 (ballot 1 1) y ∷ [])).row.vote
     ≡ Some (vote_for (ballot 1 3) x))
-    × ((run_of (sits 7 3 5) (Offered 12 own 0 ∷ gets 2 (ballot 1 3) (Promise (Some (vote_for (ballot 1 1) y))) 3 ∷ gets 1 (ballot 1 3) (Promise (Some (vote_for (ballot 1 1) x))) 3 ∷ [])).row.vote
+    × ((run_of (sits 7 3 5) (Offered 12 own 0 ∷ reports 2 (ballot 1 1) y ∷ reports 1 (ballot 1 1) x ∷ [])).row.vote
     ≡ Some (vote_for (ballot 1 3) x))
-    × (releases_of (run_of (sits 7 3 3) (gets 2 (ballot 1 1) (Accepted y) 3 ∷ gets 1 (ballot 1 1) (Accepted x) 3 ∷ [])) ≡ None ∷ Some x ∷ [])
-    × (releases_of (run_of (sits 7 3 3) (gets 1 (ballot 1 1) (Accepted x) 3 ∷ gets 2 (ballot 1 1) (Accepted y) 3 ∷ [])) ≡ None ∷ Some x ∷ [])
+    × (releases_of (run_of (sits 7 3 3) (tells 2 (ballot 1 1) y ∷ tells 1 (ballot 1 1) x ∷ [])) ≡ None ∷ Some x ∷ [])
+    × (releases_of (run_of (sits 7 3 3) (tells 1 (ballot 1 1) x ∷ tells 2 (ballot 1 1) y ∷ [])) ≡ None ∷ Some x ∷ [])
 
 -- 2 of 3 that voted at 1.1 reports that vote as it promises 1.3
 abbrev pub VoteIsReported : Type 0
@@ -134,19 +146,25 @@ VoteIsReported =
     ≡ shows (Note_voted (ballot 1 1)) (sends 2 (ballot 1 1) (Accepted entry) 1 ∷ sends 2 (ballot 1 1) (Accepted entry) 3 ∷ [])
     ∷ shows (Note_promised (ballot 1 3)) (sends 2 (ballot 1 3) (Promise (Some (vote_for (ballot 1 1) entry))) 3 ∷ []) ∷ []
 
+-- 1 of 3, which is offered an entry, promises 1.3 to 3, and then gets the promise of 2 at 1.1
+abbrev pub passed_run : Entry → Run
+passed_run entry = run_of (sits 7 1 3) (Offered 12 entry 0 ∷ gets 3 (ballot 1 3) Prepare 1 ∷ gets 2 (ballot 1 1) (Promise None) 1 ∷ [])
+
 -- 1 of 3 that promised 1.3 while it gathered at 1.1 counts no promise at 1.1, and gathers on
 abbrev pub PassedIsOvertaken : Type 0
 PassedIsOvertaken =
     (entry : Entry)
-    → (notes_of (run_of (sits 7 1 3) (Offered 12 entry 0 ∷ gets 3 (ballot 1 3) Prepare 1 ∷ gets 2 (ballot 1 1) (Promise None) 1 ∷ []))
-    ≡ Note_began (ballot 1 1) ∷ Note_promised (ballot 1 3) ∷ Note_overtaken (ballot 1 1) ∷ [])
-    × (open_ballot 12 (run_of (sits 7 1 3) (Offered 12 entry 0 ∷ gets 3 (ballot 1 3) Prepare 1 ∷ gets 2 (ballot 1 1) (Promise None) 1 ∷ [])).marks ≡ Some (ballot 1 1))
+    → (notes_of (passed_run entry) ≡ Note_began (ballot 1 1) ∷ Note_promised (ballot 1 3) ∷ Note_overtaken (ballot 1 1) ∷ [])
+    × (open_ballot 12 (passed_run entry).marks ≡ Some (ballot 1 1))
 
 -- 2 of 3 that promised 1.3 answers a Prepare and an Accept of 1.1 with a Nack, and a Prepare of 1.3 again with nothing
 abbrev pub LowerIsNacked : Type 0
 LowerIsNacked =
     (entry : Entry)
-    → (run_of (sits 7 2 3) (gets 3 (ballot 1 3) Prepare 2 ∷ gets 1 (ballot 1 1) Prepare 2 ∷ gets 1 (ballot 1 1) (Accept entry) 2 ∷ gets 3 (ballot 1 3) Prepare 2 ∷ [])).shown
+    → (run_of (sits 7 2 3) (
+    gets 3 (ballot 1 3) Prepare 2 ∷ gets 1 (ballot 1 1) Prepare 2
+    ∷ gets 1 (ballot 1 1) (Accept entry) 2 ∷ gets 3 (ballot 1 3) Prepare 2 ∷ []
+    )).shown
     ≡ shows (Note_promised (ballot 1 3)) (sends 2 (ballot 1 3) (Promise None) 3 ∷ [])
     ∷ shows (Note_nacked (ballot 1 3)) (sends 2 (ballot 1 1) (Nack (ballot 1 3)) 1 ∷ [])
     ∷ shows (Note_nacked (ballot 1 3)) (sends 2 (ballot 1 1) (Nack (ballot 1 3)) 1 ∷ [])
@@ -174,14 +192,14 @@ LastRoundIsSpent = (entry : Entry) → turn (sits 7 1 3) [] (raised blank (ballo
 abbrev pub BallotsStandApart : Type 0
 BallotsStandApart =
     (x y : Entry)
-    → releases_of (run_of (sits 7 3 3) (gets 2 (ballot 1 1) (Accepted x) 3 ∷ gets 1 (ballot 1 2) (Accepted y) 3 ∷ gets 1 (ballot 1 1) (Accepted x) 3 ∷ gets 2 (ballot 1 2) (Accepted y) 3 ∷ []))
+    → releases_of (run_of (sits 7 3 3) (tells 2 (ballot 1 1) x ∷ tells 1 (ballot 1 2) y ∷ tells 1 (ballot 1 1) x ∷ tells 2 (ballot 1 2) y ∷ []))
     ≡ None ∷ None ∷ None ∷ Some y ∷ []
 
 -- one member's vote that comes three times counts once at 3 of 3
 abbrev pub RepeatedVoteCountsOnce : Type 0
 RepeatedVoteCountsOnce =
     (entry : Entry)
-    → (run_of (sits 7 3 3) (gets 1 (ballot 1 1) (Accepted entry) 3 ∷ gets 1 (ballot 1 1) (Accepted entry) 3 ∷ gets 1 (ballot 1 1) (Accepted entry) 3 ∷ [])).shown
+    → (run_of (sits 7 3 3) (tells 1 (ballot 1 1) entry ∷ tells 1 (ballot 1 1) entry ∷ tells 1 (ballot 1 1) entry ∷ [])).shown
     ≡ shows (Note_heard (ballot 1 1)) [] ∷ shows (Note_heard (ballot 1 1)) [] ∷ shows (Note_heard (ballot 1 1)) [] ∷ []
 
 -- of two Accepts at one ballot the first stands at 2 of 3, and is what it votes again
@@ -196,7 +214,7 @@ FirstAcceptStands =
 abbrev pub ReleasedIsSettled : Type 0
 ReleasedIsSettled =
     (entry : Entry)
-    → notes_of (run_of (sits 7 3 3) (gets 1 (ballot 1 1) (Accepted entry) 3 ∷ gets 2 (ballot 1 1) (Accepted entry) 3 ∷ gets 1 (ballot 1 1) (Accepted entry) 3 ∷ []))
+    → notes_of (run_of (sits 7 3 3) (tells 1 (ballot 1 1) entry ∷ tells 2 (ballot 1 1) entry ∷ tells 1 (ballot 1 1) entry ∷ []))
     ≡ Note_heard (ballot 1 1) ∷ Note_heard (ballot 1 1) ∷ Note_settled ∷ []
 
 -- the due moments 290, 580 and on, this many
@@ -208,13 +226,17 @@ dues (suc k) = dues k ++ Came_due 12 (290 * suc k) ∷ []
 abbrev pub begins_at : ℕ → Shown
 begins_at n = shows (Note_began (ballot n 1)) (sends 1 (ballot n 1) Prepare 2 ∷ [])
 
+-- 1 of 2, which is offered an entry, hears nothing up to the last of so many due moments
+abbrev pub unheard_run : Entry → ℕ → Run
+unheard_run entry k = run_of (sits 7 1 2) (Offered 12 entry 0 ∷ dues k)
+
 -- 1 of 2 that hears nothing begins 32 ballots, and then gives up
 abbrev pub GivesUp : Type 0
 GivesUp =
     (entry : Entry)
-    → ((run_of (sits 7 1 2) (Offered 12 entry 0 ∷ dues 32)).shown ≡ (run_of (sits 7 1 2) (Offered 12 entry 0 ∷ dues 31)).shown ++ shows (Note_gave_up (ballot 32 1)) [] ∷ [])
-    × ((run_of (sits 7 1 2) (Offered 12 entry 0 ∷ dues 31)).shown ≡ (run_of (sits 7 1 2) (Offered 12 entry 0 ∷ dues 30)).shown ++ begins_at 32 ∷ [])
-    × (open_ballot 12 (run_of (sits 7 1 2) (Offered 12 entry 0 ∷ dues 32)).marks ≡ None)
+    → ((unheard_run entry 32).shown ≡ (unheard_run entry 31).shown ++ shows (Note_gave_up (ballot 32 1)) [] ∷ [])
+    × ((unheard_run entry 31).shown ≡ (unheard_run entry 30).shown ++ begins_at 32 ∷ [])
+    × (open_ballot 12 (unheard_run entry 32).marks ≡ None)
 
 -- where a station stands with the rows of all its numbers, and what it has shown so far, the first first
 pub record Station : Type 0 where
@@ -229,7 +251,7 @@ row_at n row rows j = if j == n then row else rows j
 -- the station after a turn about n; it stays where no ballot is left
 abbrev pub took : ℕ → Station → Option Turn → Station
 took n s None = s
-took n s (Some t) = record { marks = t.marks; rows = row_at n t.row s.rows; shown = s.shown ++ record { note = t.note; out = t.out; release = t.release } ∷ [] }
+took n s (Some t) = record { marks = t.marks; rows = row_at n t.row s.rows; shown = s.shown ++ shown_of t ∷ [] }
 
 -- the station after these events too, the first first, each about a number of its own
 abbrev pub takes_on : Seat → Station → List Event → Station
@@ -245,7 +267,10 @@ notes_over seat es = map (λ (s : Shown). s.note) (takes_on seat (record { marks
 abbrev pub ClosedIsForgotten : Type 0
 ClosedIsForgotten =
     (entry : Entry)
-    → notes_of (run_of (sits 7 1 3) (Sought 12 0 ∷ gets 2 (ballot 1 1) (Nack (ballot 6 2)) 1 ∷ gets 3 (ballot 1 1) (Promise None) 1 ∷ Offered 12 entry 0 ∷ Came_due 12 290 ∷ []))
+    → notes_of (run_of (sits 7 1 3) (
+    Sought 12 0 ∷ gets 2 (ballot 1 1) (Nack (ballot 6 2)) 1 ∷ gets 3 (ballot 1 1) (Promise None) 1
+    ∷ Offered 12 entry 0 ∷ Came_due 12 290 ∷ []
+    ))
     ≡ Note_began (ballot 1 1) ∷ Note_denied (ballot 6 2) ∷ Note_nothing (ballot 1 1) ∷ Note_began (ballot 2 1) ∷ Note_began (ballot 3 1) ∷ []
 
 -- 1 of 3 seeks 13 while it offers an entry for 12. As 13 is closed, 12 stays open and denied by 6.2, so it goes on above 6.2;
@@ -268,7 +293,7 @@ abbrev pub OfferedAfterGivingUp : Type 0
 OfferedAfterGivingUp =
     (entry : Entry)
     → notes_of (run_of (sits 7 1 2) ((Offered 12 entry 0 ∷ dues 32) ++ Offered 12 entry 9280 ∷ Came_due 12 9570 ∷ []))
-    ≡ notes_of (run_of (sits 7 1 2) (Offered 12 entry 0 ∷ dues 32)) ++ Note_began (ballot 33 1) ∷ Note_began (ballot 34 1) ∷ []
+    ≡ notes_of (unheard_run entry 32) ++ Note_began (ballot 33 1) ∷ Note_began (ballot 34 1) ∷ []
 
 -- 1 of 3 that promised the last round but one begins the last, gives up as that falls due, and has no turn for an offer then;
 -- one that is denied by the last round gives up at once

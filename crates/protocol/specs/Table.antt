@@ -10,7 +10,7 @@ use Rattle.protocol.specs.Acceptor.{Request, Prepares, Accepts, Reply, Promises,
 use Rattle.protocol.specs.Marks.{Mark, Began, Promised, Proposed, Denied, Heard, Closed, Released}
 use Rattle.protocol.specs.Proposals.{begun}
 use Rattle.protocol.specs.Readings.{IsReleased, IsOpen, Gathers, IsCounted, Picks, Ripe, GreatestDenied, IsDue}
-use Rattle.protocol.specs.Turn.{Event, Offered, Sought, Came_due, Arrived, number_of, Note, Note_began, Note_proposed, Note_nothing, Note_gave_up, Note_promised, Note_voted_again, Note_voted, Note_counted, Note_heard, Note_denied, Note_nacked, Note_overtaken, Note_idle, Note_silent, Note_stale, Note_repeated, Note_settled, Turn, stays, packet_to, to_others, packet_turn, turn}
+use Rattle.protocol.specs.Turn.{Event, Offered, Sought, Came_due, Arrived, number_of, Note, Note_began, Note_proposed, Note_nothing, Note_gave_up, Note_promised, Note_voted_again, Note_voted, Note_counted, Note_heard, Note_denied, Note_nacked, Note_overtaken, Note_idle, Note_silent, Note_stale, Note_repeated, Note_settled, Turn, stays, packet_to, to_others, proposal_to_others, answer, packet_turn, turn}
 
 -- the vote of a member for n is heard
 pub data Hears (c n j : ℕ) (b : Ballot) (t : Entry) (marks : List Mark) (release : Option Entry) (after : List Mark) : Type 0 where
@@ -23,7 +23,8 @@ pub data Hears (c n j : ℕ) (b : Ballot) (t : Entry) (marks : List Mark) (relea
       → release ≡ Some u → after ≡ Released n u ∷ Heard n j b t ∷ marks → Hears c n j b t marks release after
 
 -- the station proposes at b, with what its proposal has: its own entry, its own report and what came since it began
-pub data Proposes (s : Seat) (n : ℕ) (b : Ballot) (now : ℕ) (own : Option Entry) (report : Option Vote) (since : List Mark) (row : Row) (marks : List Mark) (t : Turn) : Type 0 where
+pub data Proposes (s : Seat) (n : ℕ) (b : Ballot) (now : ℕ) (own : Option Entry) (report : Option Vote)
+    (since : List Mark) (row : Row) (marks : List Mark) (t : Turn) : Type 0 where
   nothing :
       Picks s.me n b own report since None
       → t ≡ stays row (Closed n ∷ marks) (Note_nothing b) → Proposes s n b now own report since row marks t
@@ -31,7 +32,7 @@ pub data Proposes (s : Seat) (n : ℕ) (b : Ballot) (now : ℕ) (own : Option En
       (entry : Entry) (release : Option Entry) (after : List Mark)
       → Picks s.me n b own report since (Some entry)
       → Hears s.members n s.me b entry (Proposed n b now ∷ marks) release after
-      → t ≡ record { row = voted b entry; marks = after; out = to_others s n b (Accept entry) ++ to_others s n b (Accepted entry); release = release; note = Note_proposed b }
+      → t ≡ record { row = voted b entry; marks = after; out = proposal_to_others s n b entry; release = release; note = Note_proposed b }
       → Proposes s n b now own report since row marks t
 
 -- the station begins ballot b
@@ -73,12 +74,12 @@ pub data DueTurn (s : Seat) (n now : ℕ) (marks : List Mark) (row : Row) (t : T
 pub data PrepareTurn (s : Seat) (marks : List Mark) (row : Row) (p : Packet) (t : Turn) : Type 0 where
   promises :
       IsNoneOrBelow row.promised p.ballot
-      → t ≡ record { row = raised row p.ballot; marks = marks; out = packet_to s p.number p.ballot (Promise row.vote) p.from ∷ []; release = None; note = Note_promised p.ballot }
+      → t ≡ answer s marks (raised row p.ballot) p (Promise row.vote) (Note_promised p.ballot)
       → PrepareTurn s marks row p t
   is_silent : row.promised ≡ Some p.ballot → t ≡ stays row marks Note_silent → PrepareTurn s marks row p t
   nacks :
       (a : Ballot) → row.promised ≡ Some a → IsBelow p.ballot a
-      → t ≡ record { row = row; marks = marks; out = packet_to s p.number p.ballot (Nack a) p.from ∷ []; release = None; note = Note_nacked a }
+      → t ≡ answer s marks row p (Nack a) (Note_nacked a)
       → PrepareTurn s marks row p t
 
 -- the row has a vote for the entry at b
@@ -89,19 +90,31 @@ VotedAt row b entry = row.vote ≡ Some (vote_for b entry)
 pub data AcceptTurn (s : Seat) (marks : List Mark) (row : Row) (p : Packet) (entry : Entry) (t : Turn) : Type 0 where
   nacks :
       (a : Ballot) → row.promised ≡ Some a → IsBelow p.ballot a
-      → t ≡ record { row = row; marks = marks; out = packet_to s p.number p.ballot (Nack a) p.from ∷ []; release = None; note = Note_nacked a }
+      → t ≡ answer s marks row p (Nack a) (Note_nacked a)
       → AcceptTurn s marks row p entry t
   votes_again :
       (own : Entry) (release : Option Entry) (after : List Mark)
       → IsNoneOrAtMost row.promised p.ballot → VotedAt row p.ballot own
       → Hears s.members p.number s.me p.ballot own marks release after
-      → t ≡ record { row = row; marks = after; out = to_others s p.number p.ballot (Accepted own); release = release; note = Note_voted_again p.ballot }
+      → t ≡ record {
+        row = row;
+        marks = after;
+        out = to_others s p.number p.ballot (Accepted own);
+        release = release;
+        note = Note_voted_again p.ballot;
+      }
       → AcceptTurn s marks row p entry t
   votes :
       (release : Option Entry) (after : List Mark)
       → IsNoneOrAtMost row.promised p.ballot → ((own : Entry) → ¬ VotedAt row p.ballot own)
       → Hears s.members p.number s.me p.ballot entry marks release after
-      → t ≡ record { row = voted p.ballot entry; marks = after; out = to_others s p.number p.ballot (Accepted entry); release = release; note = Note_voted p.ballot }
+      → t ≡ record {
+        row = voted p.ballot entry;
+        marks = after;
+        out = to_others s p.number p.ballot (Accepted entry);
+        release = release;
+        note = Note_voted p.ballot;
+      }
       → AcceptTurn s marks row p entry t
 
 -- a Promise
@@ -126,7 +139,8 @@ pub data PromiseTurn (s : Seat) (now : ℕ) (marks : List Mark) (row : Row) (p :
       (own : Option Entry) (report : Option Vote) (since : List Mark) → Gathers marks p.number p.ballot own report since
       → row.promised ≡ Some p.ballot → ((v : Option Vote) → ¬ IsCounted s.me p.number p.ballot report since p.from v)
       → Majority s.members (λ j. (v : Option Vote) × IsCounted s.me p.number p.ballot report (Promised p.number p.from p.ballot r ∷ since) j v)
-      → Proposes s p.number p.ballot now own report (Promised p.number p.from p.ballot r ∷ since) row (Promised p.number p.from p.ballot r ∷ marks) t → PromiseTurn s now marks row p r t
+      → Proposes s p.number p.ballot now own report (Promised p.number p.from p.ballot r ∷ since) row (Promised p.number p.from p.ballot r ∷ marks) t
+      → PromiseTurn s now marks row p r t
 
 -- a Nack
 pub data NackTurn (marks : List Mark) (row : Row) (p : Packet) (a : Ballot) (t : Turn) : Type 0 where
@@ -217,4 +231,5 @@ pub record ReleasesOnce (marks : List Mark) (n : ℕ) (t : Turn) : Type 0 where
 -- where a number was released since the start, no turn releases it again
 abbrev pub NumbersAreReleasedOnce : Type 0
 NumbersAreReleasedOnce =
-    (s : Seat) (marks : List Mark) (row : Row) (e : Event) (t : Turn) → IsMember s.members s.me → turn s marks row e ≡ Some t → ReleasesOnce marks (number_of e) t
+    (s : Seat) (marks : List Mark) (row : Row) (e : Event) (t : Turn)
+    → IsMember s.members s.me → turn s marks row e ≡ Some t → ReleasesOnce marks (number_of e) t

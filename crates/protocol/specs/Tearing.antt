@@ -2,7 +2,7 @@
 use Rattle.std.specs.Prelude.{◌≡◌, ℕ, Some, None, Bool, true, false, if◌then◌else◌}
 use Rattle.protocol.specs.Turn.{Event, number_of, Turn, turn}
 use Rattle.protocol.specs.Refusals.{Call, refusal, event_of}
-use Rattle.protocol.specs.Circuit.{Circuit, State, Step, Outcome, Done, Refused, Torn_by_store, Torn_as_armed, Torn_by_memory, Restarted, Upgraded, Armed, Task, task_of, seat_at, setup_of, StepsTo}
+use Rattle.protocol.specs.Circuit.{Circuit, State, Step, Outcome, Done, Refused, Torn_by_store, Torn_as_armed, Torn_by_memory, Restarted, Upgraded, Armed, Task, IsTask, seat_at, setup_of, StepsTo}
 
 -- the step ended so by the member's store, of its own accord or as it was armed
 abbrev pub by_store : {D F : Type 0} → Outcome D F → Bool
@@ -20,7 +20,7 @@ by_store (Armed saved) = false
 abbrev pub StoreTearsTheUnrefused : (D G F : Type 0) → Type 0
 StoreTearsTheUnrefused D G F =
     (z : Circuit D G F) (w after : State G F) (s : Step) (o : Outcome D F) (m : ℕ) (call : Call)
-    → StepsTo z w s o after → by_store o ≡ true → task_of w.sent s ≡ Some (record { member = m; call = call })
+    → StepsTo z w s o after → by_store o ≡ true → IsTask w.sent s m call
     → refusal (setup_of z (w.version m) m) (w.is_stopped m) (w.marks m) call ≡ None
 
 -- a step that was torn as armed came to a save of an armed store, which is not armed any more:
@@ -37,6 +37,6 @@ pub record WasArmed {D G F : Type 0} (z : Circuit D G F) (w after : State G F) (
 abbrev pub TornAsItWasArmed : (D G F : Type 0) → Type 0
 TornAsItWasArmed D G F =
     (z : Circuit D G F) (w after : State G F) (s : Step) (m : ℕ) (call : Call) (e : Event)
-    → StepsTo z w s Torn_as_armed after → task_of w.sent s ≡ Some (record { member = m; call = call })
+    → StepsTo z w s Torn_as_armed after → IsTask w.sent s m call
     → event_of (setup_of z (w.version m) m) (w.marks m) call ≡ Some e
     → WasArmed z w after e (record { member = m; call = call })

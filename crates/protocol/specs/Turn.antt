@@ -28,7 +28,8 @@ number_of (Arrived p now) = p.number
 
 -- what a turn did, in a word
 pub data Note : Type 0 where
-  Note_began Note_nothing Note_proposed Note_gave_up Note_promised Note_voted_again Note_voted Note_overtaken Note_counted Note_heard : (ballot : Ballot) → Note
+  Note_began Note_nothing Note_proposed Note_gave_up Note_promised : (ballot : Ballot) → Note
+  Note_voted_again Note_voted Note_overtaken Note_counted Note_heard : (ballot : Ballot) → Note
   Note_nacked Note_denied : (promised : Ballot) → Note
   Note_idle Note_silent Note_stale Note_repeated Note_settled : Note
 
@@ -56,6 +57,10 @@ packet_to s n b body to = record { circuit = s.circuit; from = s.me; to = to; nu
 abbrev pub to_others : Seat → ℕ → Ballot → Body → List Packet
 to_others s n b body = map (packet_to s n b body) (others s)
 
+-- what goes out as an entry is proposed: to each of the others an Accept, and then the news of the station's own vote
+abbrev pub proposal_to_others : Seat → ℕ → Ballot → Entry → List Packet
+proposal_to_others s n b entry = to_others s n b (Accept entry) ++ to_others s n b (Accepted entry)
+
 -- the marks after a vote was heard, and what is released
 pub record Hearing : Type 0 where
   pub marks : List Mark
@@ -80,7 +85,8 @@ after_hearing row out note h = record { row = row; marks = h.marks; out = out; r
 abbrev pub propose : Seat → ℕ → Ballot → ℕ → List Mark → Row → Option Entry → Turn
 propose s n b now marks row None = stays row (Closed n ∷ marks) (Note_nothing b)
 propose s n b now marks row (Some entry) =
-    after_hearing (voted b entry) (to_others s n b (Accept entry) ++ to_others s n b (Accepted entry)) (Note_proposed b) (hear s.members n s.me b entry (Proposed n b now ∷ marks))
+    after_hearing (voted b entry) (proposal_to_others s n b entry) (Note_proposed b)
+    (hear s.members n s.me b entry (Proposed n b now ∷ marks))
 
 -- Lamport, phase 1 (a): the row is promised to b, and the others are asked; a member of one proposes at once
 abbrev pub begin : Seat → ℕ → Ballot → Option Entry → ℕ → List Mark → Row → Turn

@@ -2,7 +2,7 @@
 use Rattle.std.specs.Prelude.{◌≡◌, ◌≤◌, ◌<◌, ◌+◌, ◌++◌, ℕ, List, [], Option, Some, None, Bool, true, false, Result, Ok, Err, length, nat_le, nat_lt, if◌then◌else◌}
 use Rattle.std.specs.declared.vec.Vec.{Vec}
 use Rattle.std.specs.Global.{Global}
-use Rattle.tape_frames.specs.Frames.{most_frames}
+use Rattle.tape_frames.specs.Frames.{most_frames, IsTape}
 use Rattle.code_table.specs.Tables.{Places, mean}
 use Rattle.widths.specs.Widths.{WidthFile}
 use Rattle.slug_reader.specs.declared.line.Line.{Line}
@@ -72,7 +72,8 @@ abbrev pub TookPiece : InHand → List ℕ → ℕ → ℕ → List Line → Opt
 TookPiece old tape i j lines None new = StandsAt new tape j × AreLinesBetween old tape i j lines
 TookPiece old tape i j lines (Some f) new = (is_memory f ≡ false) × (1 ≤ length lines) × MetFault old tape i j lines f
 
--- what a call answered that was given the frames from i to j of the tape: the lines that they cut; or the fault that they have, before which they cut no line, or want of memory
+-- what a call answered that was given the frames from i to j of the tape: the lines that they cut;
+-- or the fault that they have, before which they cut no line, or want of memory
 abbrev pub Pushed : InHand → List ℕ → ℕ → ℕ → Result (Vec Line Global) ReadFault → InHand → Type 0
 Pushed old tape i j (Ok lines) new = TookPiece old tape i j lines.items new.fault new
 Pushed old tape i j (Err f) new = (new.fault ≡ Some f) × (is_memory f ≡ false → MetFault old tape i j [] f)
@@ -82,12 +83,17 @@ abbrev pub Finished : InHand → List ℕ → ℕ → Result (Unit {0}) ReadFaul
 Finished old tape i (Ok u) new = (end_fault (mean old.table) old.widths tape i ≡ None) × (new ≡ old)
 Finished old tape i (Err f) new = (end_fault (mean old.table) old.widths tape i ≡ Some f) × (new.fault ≡ Some f)
 
+-- to the lines before the frame at i those are added that it cuts
+abbrev pub AddsLines : InHand → List ℕ → ℕ → List Line → List Line → Type 0
+AddsLines r tape i before after =
+    (start : List Line) → lines_before (mean r.table) r.widths tape i ≡ start ++ before
+    → lines_before (mean r.table) r.widths tape (i + 1) ≡ start ++ after
+
 -- one frame more
 abbrev pub Steps : InHand → List ℕ → ℕ → ℕ → List Line → Result (Unit {0}) ReadFault → List Line → InHand → Type 0
 Steps old tape i frame before (Ok u) after new =
     frame_at tape i ≡ frame
-    → ((start : List Line) → lines_before (mean old.table) old.widths tape i ≡ start ++ before → lines_before (mean old.table) old.widths tape (i + 1) ≡ start ++ after)
-    × StandsAt new tape (i + 1)
+    → AddsLines old tape i before after × StandsAt new tape (i + 1)
 Steps old tape i frame before (Err faults.OutOfMemory) after new = Unit {0}
 Steps old tape i frame before (Err f) after new =
     frame_at tape i ≡ frame → (fault_at (mean old.table) old.widths tape i ≡ Some f) × (after ≡ before)
@@ -106,3 +112,19 @@ ReadTo r tape i lines (Some fault) = first_fault (mean r.table) r.widths tape �
 abbrev pub ReadOn : InHand → List ℕ → ℕ → List Line → Result (Unit {0}) ReadFault → Type 0
 ReadOn r tape i lines (Ok u) = ReadTo r tape i lines r.fault
 ReadOn r tape i lines (Err fault) = is_memory fault ≡ false → first_fault (mean r.table) r.widths tape ≡ Some fault
+
+-- a frame is taken in where the reader stands, and to these lines the one that it cuts is added
+abbrev pub TakesFrame : ℕ → Result (Unit {0}) ReadFault → List Line → List Line → InHand → InHand → Type 0
+TakesFrame frame result before after old new =
+    (tape : List ℕ) (i : ℕ) → StandsAt old tape i → Steps old tape i frame before result after new
+
+-- a piece is taken in where the reader stands
+abbrev pub TakesPiece : List ℕ → Result (Vec Line Global) ReadFault → InHand → InHand → Type 0
+TakesPiece piece result old new =
+    (tape : List ℕ) (i : ℕ) → StandsAt old tape i → IsPiece tape i piece → Pushed old tape i (i + length piece) result new
+
+-- a tape that was read as far as a piece is read on over that piece
+abbrev pub ReadsPiece : List ℕ → Result (Unit {0}) ReadFault → List Line → List Line → InHand → InHand → Type 0
+ReadsPiece piece result before after old new =
+    (tape : List ℕ) (i : ℕ) → IsTape tape → IsPiece tape i piece → ReadTo old tape i before old.fault
+    → ReadOn new tape (i + length piece) after result

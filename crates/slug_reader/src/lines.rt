@@ -1,10 +1,9 @@
 //! Tapes read as lines.
 
-ghost use Rattle.std.specs.Prelude.{◌≡◌, ◌+◌, ℕ, List, length};
-ghost use Rattle.tape_frames.specs.Frames.{IsTape};
+ghost use Rattle.std.specs.Prelude.{◌≡◌};
 ghost use Rattle.code_table.specs.Tables.{mean};
 ghost use Rattle.slug_reader.specs.Faults.{lines_of};
-ghost use Rattle.slug_reader.specs.Pieces.{IsPiece, ReadTo, ReadOn};
+ghost use Rattle.slug_reader.specs.Pieces.{ReadsPiece};
 ghost use Rattle.slug_reader.specs.Answers.{Reads};
 
 use crate::fault::ReadFault;
@@ -21,7 +20,7 @@ pub const PIECE_FRAMES: usize = 256;
 /// Adds the lines that one piece more of a tape cuts.
 fn read_piece(reader: &mut Reader<'_>, piece: &[u8], lines: &mut Vec<Line>) -> Result<(), ReadFault>
     ensures by { (reader.new.table ≡ reader.old.table) × (reader.new.widths ≡ reader.old.widths) }
-    ensures read { (tape : List ℕ) (i : ℕ) → IsTape tape → IsPiece tape i piece.now → ReadTo reader.old tape i lines.old.items reader.old.fault → ReadOn reader.new tape (i + length piece.now) lines.new.items result }
+    ensures read { ReadsPiece piece.now result lines.old.items lines.new.items reader.old reader.new }
 {
     let mut more = reader.push(piece)?;
     match lines.append(&mut more) {

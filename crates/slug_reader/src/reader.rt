@@ -1,8 +1,8 @@
 //! Tapes that come in pieces.
 
-ghost use Rattle.std.specs.Prelude.{◌≡◌, ◌+◌, ◌++◌, ℕ, List, length, Some, Err, OnOk, IfErr, option_to_list, nat_le};
+ghost use Rattle.std.specs.Prelude.{◌≡◌, ◌++◌, ℕ, List, Some, Err, OnOk, IfErr, option_to_list, nat_le};
 ghost use Rattle.tape_frames.specs.Frames.{most_frames};
-ghost use Rattle.slug_reader.specs.Pieces.{StandsAt, IsPiece, Steps, Pushed, Finished, IsStopped};
+ghost use Rattle.slug_reader.specs.Pieces.{StandsAt, TakesFrame, TakesPiece, Finished, IsStopped};
 ghost use Rattle.slug_reader.specs.declared.fault.ReadFault.{ReadFault};
 
 use crate::assembler::{Assembler, Taken};
@@ -90,7 +90,7 @@ impl<'a> Reader<'a> {
     fn take(&mut self, frame: u8, lines: &mut Vec<Line>) -> Result<(), ReadFault>
         ensures by { (self.new.table ≡ self.old.table) × (self.new.widths ≡ self.old.widths) }
         ensures fault { self.new.fault ≡ self.old.fault }
-        ensures step { (tape : List ℕ) (i : ℕ) → StandsAt self.old tape i → Steps self.old tape i frame lines.old.items result lines.new.items self.new }
+        ensures step { TakesFrame frame result lines.old.items lines.new.items self.old self.new }
     {
         let at = self.taken;
         if self.is_full() {
@@ -120,7 +120,7 @@ impl<'a> Reader<'a> {
     pub fn push(&mut self, piece: &[u8]) -> Result<Vec<Line>, ReadFault>
         ensures by { (self.new.table ≡ self.old.table) × (self.new.widths ≡ self.old.widths) }
         ensures failed { (fault : ReadFault) → self.old.fault ≡ Some fault → (result ≡ Err fault) × (self.new ≡ self.old) }
-        ensures pushed { (tape : List ℕ) (i : ℕ) → StandsAt self.old tape i → IsPiece tape i piece.now → Pushed self.old tape i (i + length piece.now) result self.new }
+        ensures pushed { TakesPiece piece.now result self.old self.new }
     {
         if let Some(fault) = self.fault {
             return Err(fault);

@@ -65,7 +65,9 @@ OnePacking = (frames bytes other : List ℕ) → AreBytes bytes → AreBytes oth
 
 -- bytes are the packing of one list of frames of a length
 abbrev pub OneUnpacking : Type 0
-OneUnpacking = (frames other bytes : List ℕ) → AreFrames frames → AreFrames other → length frames ≡ length other → Packs frames bytes → Packs other bytes → frames ≡ other
+OneUnpacking =
+    (frames other bytes : List ℕ) → AreFrames frames → AreFrames other → length frames ≡ length other
+    → Packs frames bytes → Packs other bytes → frames ≡ other
 
 -- so many frames take so many bytes
 abbrev pub PackedLength : Type 0
