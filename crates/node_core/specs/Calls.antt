@@ -34,6 +34,10 @@ pub record IsFree (n : ℕ) (marks : List Mark) : Type 0 where
   pub unreleased : was_released n marks ≡ false
   pub closed : open_proposal n marks ≡ None
 
+-- n was not released, and a proposal of it is open
+abbrev pub IsOpen : ℕ → List Mark → Type 0
+IsOpen n marks = (was_released n marks ≡ false) × (is_some (open_proposal n marks) ≡ true)
+
 -- an offer or a search of a free number begins its next ballot, by a turn of which P holds
 pub record StartIs (s : Seat) (n : ℕ) (own : Option Entry) (now : ℕ) (marks : List Mark) (row : Row) (P : said.Turn → Type 0) : Type 0 where
   pub free : IsFree n marks
@@ -45,7 +49,7 @@ pub record StartIs (s : Seat) (n : ℕ) (own : Option Entry) (now : ℕ) (marks 
 abbrev pub RefusesToStart : CoreRefusal → Type 0 → (List Mark → Type 0) → ℕ → ℕ → Row → Type 0
 RefusesToStart refusals.Failed same stands m n row = ⊥
 RefusesToStart refusals.AlreadyReleased same stands m n row = same × ((marks : List Mark) → stands marks → was_released n marks ≡ true)
-RefusesToStart refusals.AlreadyOpen same stands m n row = same × ((marks : List Mark) → stands marks → (was_released n marks ≡ false) × (is_some (open_proposal n marks) ≡ true))
+RefusesToStart refusals.AlreadyOpen same stands m n row = same × ((marks : List Mark) → stands marks → IsOpen n marks)
 RefusesToStart refusals.RoundsSpent same stands m n row = same × ((marks : List Mark) → stands marks → IsFree n marks) × (next row.promised m ≡ None)
 RefusesToStart refusals.OutOfMemory same stands m n row = Unit {0}
 
@@ -92,3 +96,7 @@ Refuses refusals.OutOfMemory event old row new = new.failed ≡ true
 -- the event is not refused for another cause, and its turn is not quiet
 abbrev pub MayTakeMemory : Core → Event → List Mark → Row → Type 0
 MayTakeMemory old event marks row = TurnIs (seat_of old) event marks row Stirs
+
+-- where the core refused the event for want of memory, its turn may take memory
+abbrev pub MayWantMemory : CoreRefusal → Core → Event → Row → Type 0
+MayWantMemory e old event row = e ≡ refusals.OutOfMemory → (marks : List Mark) → StandsFor old marks → MayTakeMemory old event marks row

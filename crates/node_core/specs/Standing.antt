@@ -41,6 +41,10 @@ pub record InstanceStands (d : Instance) (marks : List Mark) : Type 0 where
 abbrev pub fresh : ℕ → ℕ → Instance
 fresh c n = record { number = n; proposal = None; heard = latest_votes c n [] }
 
+-- nothing is in hand of the instance's number
+abbrev pub IsFresh : Instance → Type 0
+IsFresh d = d ≡ fresh d.heard.members d.number
+
 -- what is in hand of n among these, if anything is
 abbrev pub instance_in : List (ℕ × Instance) → ℕ → Option Instance
 instance_in instances n = lookup (is_at (nat_cmp n)) instances
@@ -125,7 +129,7 @@ pub record Kept (before : Core) (d : Instance) (after : Core) : Type 0 where
   pub failed : after.failed ≡ before.failed
   pub members : after.members ≡ before.members
   pub released : after.released ≡ before.released
-  pub here : (instance_at after d.number ≡ Some d) ⊎ ((instance_at after d.number ≡ None) × (d ≡ fresh d.heard.members d.number))
+  pub here : (instance_at after d.number ≡ Some d) ⊎ ((instance_at after d.number ≡ None) × IsFresh d)
   pub others : (k : ℕ) → (k ≡ d.number → ⊥) → instance_at after k ≡ instance_at before k
 
 -- the core after is the one before, but that it has d in hand of n, and has noted n as released where is_released says so
@@ -151,7 +155,11 @@ pub record Settles (n : ℕ) (row : Row) (t : said.Turn) (x : Turn) (v : Core) :
 abbrev pub AllStand : List (ℕ × Instance) → List Mark → Type 0
 AllStand instances marks = (n : ℕ) (d : Instance) → instance_in instances n ≡ Some d → (d.number ≡ n) × InstanceStands d marks
 
+-- no number in hand that passes is below n
+abbrev pub NonePassesBelow : (ℕ → Bool) → List (ℕ × Instance) → ℕ → Type 0
+NonePassesBelow passes instances n = (k : ℕ) (d : Instance) → instance_in instances k ≡ Some d → passes k ≡ true → n ≤ k
+
 -- the number passes, and no number in hand that passes is less; with no number, none passes
 abbrev pub IsLeastPassing : (ℕ → Bool) → List (ℕ × Instance) → Option ℕ → Type 0
 IsLeastPassing passes instances None = (k : ℕ) (d : Instance) → instance_in instances k ≡ Some d → passes k ≡ false
-IsLeastPassing passes instances (Some n) = (passes n ≡ true) × ((k : ℕ) (d : Instance) → instance_in instances k ≡ Some d → passes k ≡ true → n ≤ k)
+IsLeastPassing passes instances (Some n) = (passes n ≡ true) × NonePassesBelow passes instances n

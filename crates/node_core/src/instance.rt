@@ -1,20 +1,17 @@
 //! What is in hand of one number: its proposal, if one is open, and the votes that were heard.
 
-ghost use Rattle.std.specs.Prelude.{◌≡◌, ◌≤◌, ℕ, List, ◌∷◌, Option, Some, None, IfOk, IfErr, IsTrue, IsSome, MatchBool, false, option_map};
+ghost use Rattle.std.specs.Prelude.{◌≡◌, ◌≤◌, List, ◌∷◌, Option, Some, None, IfOk, IfErr, IsTrue, IsSome, MatchBool, false, option_map};
 ghost use Rattle.protocol.specs.Ballots.{next};
 ghost use Rattle.protocol.specs.Packets.{Accept as AcceptBody};
 ghost use Rattle.packets.specs.Rules.{keeps_rules};
-ghost use Rattle.protocol.specs.Entries.{Entry as EntryValue};
-ghost use Rattle.protocol.specs.Rows.{Row as RowValue, raised};
+ghost use Rattle.protocol.specs.Rows.{Row as RowValue};
 ghost use Rattle.tape_frames.specs.Entries.{owned_entry, lent_entry};
-ghost use Rattle.protocol.specs.Marks.{Mark, Began, Proposed, Closed};
-ghost use Rattle.protocol.specs.Acceptor.{is_above};
-ghost use Rattle.protocol.specs.Proposals.{Opening, open_proposal, open_ballot, proposal_at, gathering_at, since_began, counted, pick, is_due_number};
-ghost use Rattle.protocol.specs.Turn.{number_of, hear, propose, begin, due_turn, promise_turn, nack_turn, accept_turn, accepted_turn, packet_turn};
-ghost use Rattle.proposer.specs.InHand.{StandsFor as ProposalStandsFor};
-ghost use Rattle.node_core.specs.Standing.{InstanceStands, fresh, IsInstanceOf, IsLeft, Answers};
-ghost use Rattle.node_core.specs.Calls.{IsForMember, MayCome, StartIs, RefusesToStart, IsRefused};
-ghost use Rattle.node_core.specs.Handling.{Handles, Starts, Takes};
+ghost use Rattle.protocol.specs.Marks.{Mark, Closed};
+ghost use Rattle.protocol.specs.Proposals.{open_ballot};
+ghost use Rattle.protocol.specs.Turn.{number_of, accept_turn, accepted_turn, packet_turn};
+ghost use Rattle.node_core.specs.Standing.{InstanceStands, IsFresh, fresh, IsInstanceOf};
+ghost use Rattle.node_core.specs.Calls.{IsForMember, MayCome, RefusesToStart, IsRefused};
+ghost use Rattle.node_core.specs.Handling.{Handles, HandlesPromise, HandlesDue, AnswersNack, IsPicked, TellsDue, ReleasesHeard, LeavesHeard, VotesFor, Proposes, Begins, BeginsFirst, Starts, Takes};
 ghost use Rattle.protocol.specs.Seats.{Seat as SeatValue};
 ghost use Rattle.node_core.specs.Turns.{event_value, note_value, is_quiet, HasPromise, IsOrderly};
 
@@ -40,7 +37,7 @@ pub(crate) struct Instance {
 
 /// The entry that the proposal picks, with frames of its own, if there is one.
 fn picked(alloc: Global, proposal: &Proposal) -> Result<Option<Entry>, AllocError>
-    ensures { IfOk result (λ entry. (n : ℕ) (marks : List Mark) (o : Opening) → ProposalStandsFor proposal.now n marks → open_proposal n marks ≡ Some o → option_map owned_entry entry ≡ pick o.own (counted proposal.now.me n o (since_began n marks))) }
+    ensures { IfOk result (λ entry. IsPicked proposal.now entry) }
 {
     match proposal.pick() {
         None => Ok(None),
@@ -63,7 +60,7 @@ impl Instance {
 
     /// Whether nothing is in hand.
     pub fn is_empty(&self) -> bool
-        ensures { MatchBool result (self.now ≡ fresh self.now.heard.members self.now.number) (self.now ≡ fresh self.now.heard.members self.now.number → ⊥) }
+        ensures { MatchBool result (IsFresh self.now) (IsFresh self.now → ⊥) }
     {
         self.proposal.is_none() && self.heard.is_empty()
     }
@@ -80,7 +77,7 @@ impl Instance {
 
     /// Whether the open proposal is due at this moment.
     pub fn is_due(&self, now: u64) -> bool
-        ensures { (s : SeatValue) (marks : List Mark) → IsInstanceOf s self.now → InstanceStands self.now marks → result ≡ is_due_number s.me now marks self.now.number }
+        ensures { TellsDue self.now now result }
     {
         match &self.proposal {
             None => false,
@@ -97,8 +94,8 @@ impl Instance {
         entry: EntryRef<'_>,
     ) -> Result<Option<Entry>, AllocError>
         requires { member ≤ self.old.heard.members }
-        ensures release { IfOk result (λ release. (marks : List Mark) → InstanceStands self.old marks → option_map owned_entry release ≡ (hear self.old.heard.members self.old.number member ballot (lent_entry entry.entry) marks).release) }
-        ensures left { IfOk result (λ release. (marks : List Mark) → InstanceStands self.old marks → IsLeft self.new release (hear self.old.heard.members self.old.number member ballot (lent_entry entry.entry) marks).marks) }
+        ensures release { IfOk result (λ release. ReleasesHeard self.old member ballot (lent_entry entry.entry) release) }
+        ensures left { IfOk result (λ release. LeavesHeard self.old member ballot (lent_entry entry.entry) release self.new) }
         ensures of { (s : SeatValue) → IsInstanceOf s self.old → IsInstanceOf s self.new }
         ensures number { self.new.number ≡ self.old.number }
     {
@@ -120,7 +117,7 @@ impl Instance {
     ) -> Result<Turn, AllocError>
         requires of { IsInstanceOf seat self.old }
         requires owner { ballot.owner ≡ seat.me }
-        ensures turn { IfOk result (λ x. (now : ℕ) (marks : List Mark) (before : RowValue) → InstanceStands self.old (Proposed self.old.number ballot now ∷ marks) → Answers row.now (propose seat self.old.number ballot now marks before (Some (owned_entry entry))) x self.new) }
+        ensures turn { IfOk result (λ x. VotesFor seat ballot (owned_entry entry) row.now x self.old self.new) }
         ensures orderly { IfOk result (λ x. IsOrderly x) }
         ensures of { IsInstanceOf seat self.new }
         ensures number { self.new.number ≡ self.old.number }
@@ -146,7 +143,7 @@ impl Instance {
         requires of { IsInstanceOf seat self.old }
         requires open { IsSome self.old.proposal }
         requires owner { ballot.owner ≡ seat.me }
-        ensures turn { IfOk result (λ x. (marks : List Mark) (o : Opening) → is_above row.now.promised ballot ≡ false → InstanceStands self.old marks → open_proposal self.old.number marks ≡ Some o → o.ballot ≡ ballot → Answers row.now (propose seat self.old.number ballot now marks (raised row.now ballot) (pick o.own (counted seat.me self.old.number o (since_began self.old.number marks)))) x self.new) }
+        ensures turn { IfOk result (λ x. Proposes seat ballot now row.now x self.old self.new) }
         ensures orderly { IfOk result (λ x. IsOrderly x) }
         ensures of { IsInstanceOf seat self.new }
         ensures number { self.new.number ≡ self.old.number }
@@ -202,7 +199,7 @@ impl Instance {
         requires of { IsInstanceOf seat self.old }
         requires open { IsSome self.old.proposal }
         requires owner { ballot.owner ≡ seat.me }
-        ensures turn { IfOk result (λ x. (marks : List Mark) (own : Option EntryValue) → is_above row.now.promised ballot ≡ false → InstanceStands self.old (Began self.old.number ballot own row.now.vote now ∷ marks) → Answers row.now (begin seat self.old.number ballot own now marks row.now) x self.new) }
+        ensures turn { IfOk result (λ x. Begins seat ballot now row.now x self.old self.new) }
         ensures orderly { IfOk result (λ x. IsOrderly x) }
         ensures of { IsInstanceOf seat self.new }
         ensures number { self.new.number ≡ self.old.number }
@@ -232,7 +229,7 @@ impl Instance {
         requires number { packet.now.number ≡ self.old.number }
         requires from { packet.now.from ≤ seat.members }
         requires owner { packet.now.ballot.owner ≡ seat.me }
-        ensures turn { Handles row.now (λ marks. promise_turn seat now marks row.now packet.now report.entry (gathering_at packet.now.number packet.now.ballot marks)) result self.old self.new }
+        ensures turn { HandlesPromise seat packet.now report.entry now row.now result self.old self.new }
         ensures orderly { IfOk result (λ x. IsOrderly x) }
         ensures of { IsInstanceOf seat self.new }
         ensures number { self.new.number ≡ self.old.number }
@@ -261,7 +258,7 @@ impl Instance {
     /// Takes a Nack.
     fn nack(&mut self, packet: &PacketRef<'_>, promised: Ballot) -> Turn
         requires { packet.now.number ≡ self.old.number }
-        ensures turn { (row : RowValue) (marks : List Mark) → InstanceStands self.old marks → Answers row (nack_turn marks row packet.now promised (proposal_at packet.now.number packet.now.ballot marks)) result self.new }
+        ensures turn { AnswersNack packet.now promised result self.old self.new }
         ensures orderly { IsOrderly result }
         ensures of { (s : SeatValue) → IsInstanceOf s self.old → IsInstanceOf s self.new }
         ensures number { self.new.number ≡ self.old.number }
@@ -282,7 +279,7 @@ impl Instance {
     /// Sees to the proposal where its due moment has come: it begins anew, or gives up.
     fn due(&mut self, alloc: Global, seat: Seat, now: u64, row: &Row) -> Result<Turn, AllocError>
         requires { IsInstanceOf seat self.old }
-        ensures turn { Handles row.now (λ marks. due_turn seat self.old.number now marks row.now (open_proposal self.old.number marks)) result self.old self.new }
+        ensures turn { HandlesDue seat now row.now result self.old self.new }
         ensures orderly { IfOk result (λ x. IsOrderly x) }
         ensures of { IsInstanceOf seat self.new }
         ensures number { self.new.number ≡ self.old.number }
@@ -317,7 +314,7 @@ impl Instance {
     ) -> Result<Turn, AllocError>
         requires of { IsInstanceOf seat self.old }
         requires next { IsSome (next row.now.promised seat.me) }
-        ensures turn { IfOk result (λ x. (marks : List Mark) → InstanceStands self.old marks → open_proposal self.old.number marks ≡ None → StartIs seat self.old.number (option_map owned_entry own) now marks row.now (λ t. Answers row.now t x self.new)) }
+        ensures turn { IfOk result (λ x. BeginsFirst seat (option_map owned_entry own) now row.now x self.old self.new) }
         ensures orderly { IfOk result (λ x. IsOrderly x) }
         ensures of { IsInstanceOf seat self.new }
         ensures number { self.new.number ≡ self.old.number }

@@ -1,13 +1,10 @@
 //! What is in hand, by number, and the numbers that were released.
 
-ghost use Rattle.std.specs.Prelude.{◌≡◌, ℕ, List, Some, None, true, OnOk, OnErr};
+ghost use Rattle.std.specs.Prelude.{◌≡◌, ℕ, Some, None, true, OnOk, OnErr};
 ghost use Rattle.std.specs.Ordering.{nat_cmp};
 ghost use Rattle.std.specs.BTreeMap.{get, Updates};
 ghost use Rattle.std.specs.BTreeSet as sorted;
-ghost use Rattle.protocol.specs.Marks.{Mark};
-ghost use Rattle.protocol.specs.Proposals.{is_due_number};
-ghost use Rattle.node_core.specs.Standing.{AllStand, IsLeastPassing, AreInstancesOf};
-ghost use Rattle.protocol.specs.Seats.{Seat as SeatValue};
+ghost use Rattle.node_core.specs.Handling.{TellsLeastDue};
 
 use crate::instance::Instance;
 use ballots::Number;
@@ -67,7 +64,7 @@ pub(crate) fn note(released: &mut BTreeSet<u32>, number: Number) -> Result<(), A
 
 /// The least number of an instance whose proposal is due at this moment.
 pub(crate) fn least_due(instances: &BTreeMap<u32, InstanceBox>, now: u64) -> Option<Number>
-    ensures { (s : SeatValue) (marks : List Mark) → AreInstancesOf s instances.now.entries → AllStand instances.now.entries marks → IsLeastPassing (is_due_number s.me now marks) instances.now.entries result }
+    ensures { TellsLeastDue instances.now.entries now result }
 {
     for (_, boxed) in instances {
         let instance = boxed.instance.as_ref();

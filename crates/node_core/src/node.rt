@@ -5,9 +5,9 @@ ghost use Rattle.protocol.specs.Marks.{Mark};
 ghost use Rattle.protocol.specs.Proposals.{was_released, open_ballot, next_due};
 ghost use Rattle.protocol.specs.Turn.{number_of};
 ghost use Rattle.protocol.specs.Limits.{most_members, most_sent};
-ghost use Rattle.node_core.specs.Calls.{MayCome, TookTurn, RefusesEvent, Refuses, MayTakeMemory};
+ghost use Rattle.node_core.specs.Calls.{MayCome, TookTurn, RefusesEvent, Refuses, MayWantMemory};
 ghost use Rattle.node_core.specs.Handling.{Acts};
-ghost use Rattle.node_core.specs.Standing.{StandsFor, Kept, Moves, IsInstanceOf, IsSameSeat, seat_of, instance_at, fresh};
+ghost use Rattle.node_core.specs.Standing.{StandsFor, Kept, Moves, IsInstanceOf, IsSameSeat, IsFresh, seat_of, instance_at};
 ghost use Rattle.node_core.specs.Turns.{event_value, note_value, is_quiet, HandsNothing, IsOrderly, sent};
 
 use crate::event::Event;
@@ -38,7 +38,14 @@ impl Model for NodeCore {
 
     ghost Value = { Core };
 
-    ghost view = { λ c. record { circuit = c.seat.circuit; me = c.seat.me; members = c.seat.members; failed = c.failed; instances = c.instances.entries; released = c.released.keys } };
+    ghost view = { λ c. record {
+      circuit = c.seat.circuit;
+      me = c.seat.me;
+      members = c.seat.members;
+      failed = c.failed;
+      instances = c.instances.entries;
+      released = c.released.keys;
+    } };
 
     ghost invariant = { λ c. AreInstancesOf c.seat c.instances.entries };
 }
@@ -154,7 +161,7 @@ impl NodeCore {
         requires new { instance_at self.old instance.number ≡ None }
         requires of { IsInstanceOf (seat_of self.old) instance }
         ensures kept { OnOk result (Kept self.old instance self.new) }
-        ensures memory { OnErr result (instance ≡ fresh instance.heard.members instance.number → ⊥) }
+        ensures memory { OnErr result (IsFresh instance → ⊥) }
         ensures seat { IsSameSeat self.old self.new }
     {
         if instance.is_empty() {
@@ -211,7 +218,7 @@ impl NodeCore {
         requires arrived { MayCome self.old.me self.old.members event }
         ensures ok { IfOk result (λ x. (marks : List Mark) → StandsFor self.old marks → TookTurn self.old event.entry marks row.now x self.new) }
         ensures orderly { IfOk result (λ x. IsOrderly x) }
-        ensures memory { IfErr result (λ e. e ≡ CoreRefusal.OutOfMemory → (marks : List Mark) → StandsFor self.old marks → MayTakeMemory self.old event.entry marks row.now) }
+        ensures memory { IfErr result (λ e. MayWantMemory e self.old event.entry row.now) }
         ensures refused { IfErr result (λ e. RefusesEvent event.entry e self.old row.now self.new) }
         ensures seat { IsSameSeat self.old self.new }
     {
@@ -245,7 +252,7 @@ impl NodeCore {
         ensures few { IfOk result (λ x. length (sent row.now x) ≤ most_sent) }
         ensures quiet { IfOk result (λ x. is_quiet (note_value x.note) ≡ true → HandsNothing x) }
         ensures refused { IfErr result (λ e. Refuses e event.entry self.old row.now self.new) }
-        ensures memory { IfErr result (λ e. e ≡ CoreRefusal.OutOfMemory → (marks : List Mark) → StandsFor self.old marks → MayTakeMemory self.old event.entry marks row.now) }
+        ensures memory { IfErr result (λ e. MayWantMemory e self.old event.entry row.now) }
         ensures failed { self.old.failed ≡ true → result ≡ Err CoreRefusal.Failed }
         ensures seat { IsSameSeat self.old self.new }
     {

@@ -1,12 +1,10 @@
 //! The turns of a number that was released since the start: it still answers as an acceptor, and takes nothing in.
 
-ghost use Rattle.std.specs.Prelude.{◌≡◌, ℕ, List, IfOk, IfErr, true};
+ghost use Rattle.std.specs.Prelude.{List, IfOk, IfErr};
 ghost use Rattle.protocol.specs.Marks.{Mark};
-ghost use Rattle.protocol.specs.Proposals.{was_released};
-ghost use Rattle.protocol.specs.Turn.{number_of, packet_turn};
 ghost use Rattle.node_core.specs.Calls.{IsForMember, MayCome, IsRefused};
-ghost use Rattle.node_core.specs.Handling.{Answered, TakesNothing};
-ghost use Rattle.node_core.specs.Turns.{event_value, IsOrderly};
+ghost use Rattle.node_core.specs.Handling.{AnsweredReleased, IsReleased, TakesNothing};
+ghost use Rattle.node_core.specs.Turns.{IsOrderly};
 
 use crate::event::Event;
 use crate::turn::{CoreRefusal, Note, Turn};
@@ -19,7 +17,7 @@ use std::alloc::{AllocError, Global};
 /// Answers a packet.
 fn receive(alloc: Global, seat: Seat, packet: &PacketRef<'_>, row: &Row) -> Result<Turn, AllocError>
     requires { IsForMember seat.me seat.members packet.now }
-    ensures turn { (now : ℕ) (marks : List Mark) → was_released packet.now.number marks ≡ true → Answered row.now marks (packet_turn seat now marks row.now packet.now packet.now.body) result }
+    ensures turn { AnsweredReleased seat packet.now row.now result }
     ensures orderly { IfOk result (λ x. IsOrderly x) }
 {
     match packet.body().lend() {
@@ -42,9 +40,9 @@ pub(crate) fn take(
     row: &Row,
 ) -> Result<Turn, CoreRefusal>
     requires { MayCome seat.me seat.members event.now }
-    ensures turn { (marks : List Mark) → was_released (number_of (event_value event.now)) marks ≡ true → TakesNothing seat event.now row.now marks result }
+    ensures turn { (marks : List Mark) → IsReleased event.now marks → TakesNothing seat event.now row.now marks result }
     ensures orderly { IfOk result (λ x. IsOrderly x) }
-    ensures refused { IfErr result (λ e. IsRefused event.now e (Unit {0}) (λ marks. was_released (number_of (event_value event.now)) marks ≡ true) seat.me row.now) }
+    ensures refused { IfErr result (λ e. IsRefused event.now e (Unit {0}) (λ marks. IsReleased event.now marks) seat.me row.now) }
 {
     match event {
         Event::Offer { .. } => Err(CoreRefusal::AlreadyReleased),

@@ -26,10 +26,14 @@ abbrev pub galley_text : Result (List Slug) SetFault → List ℕ
 galley_text (Ok slugs) = galley_of slugs
 galley_text (Err fault) = codes "fault: " ++ (cause_text fault ++ codes "\n")
 
--- of a withdrawal an empty file; of a tape its frames, and its galley
+-- the files of a tape: its frames, and its galley
+abbrev pub tape_files : ℕ → List ℕ → Result (List Slug) SetFault → List File
+tape_files n tape set = file n (codes ".tape") tape ∷ file n (codes ".galley") (galley_text set) ∷ []
+
+-- of a withdrawal an empty file; of a tape its files
 abbrev pub entry_files : ℕ → Entry → Result (List Slug) SetFault → List File
 entry_files n Void set = file n (codes ".void") [] ∷ []
-entry_files n (Taped tape) set = file n (codes ".tape") tape ∷ file n (codes ".galley") (galley_text set) ∷ []
+entry_files n (Taped tape) set = tape_files n tape set
 
 -- the files of a release
 abbrev pub release_files : Release → List File

@@ -1,9 +1,8 @@
 //! A look at the folders: what lies among the offers, what is taken up, and what the station is asked.
 
 ghost use Rattle.std.specs.Prelude.{◌≡◌, []};
-ghost use Rattle.serve_command.specs.Serving.{ended};
 ghost use Rattle.run_command.specs.Keeping.{Keeps};
-ghost use Rattle.run_command.specs.Running.{known, plant, Runs};
+ghost use Rattle.run_command.specs.Running.{RunsUpTo};
 
 use crate::departures::refuse;
 use crate::messages::{Reason, tell_folder};
@@ -209,7 +208,7 @@ fn ask_all<R: Rows, N: Wire, F: Folders, E: Write>(
     err: &mut E,
 ) -> Result<(), Fault<'static>>
     ensures was_kept { R.kept station.new.rows → R.kept station.old.rows }
-    ensures runs { Runs (known R.Rows N.passed F.written) (plant station.old wire.old folders.old waits.old.items) (plant station.new wire.new folders.new waits.new.items) (ended result) }
+    ensures runs { RunsUpTo result R.Rows N.passed F.written station.old station.new wire.old wire.new folders.old folders.new waits.old.items waits.new.items }
 {
     for place in 0..book.asked.len() {
         ask_at(station, wire, folders, waits, book, place, now, err)?;
@@ -242,7 +241,7 @@ pub(crate) fn look<R: Rows, N: Wire, F: Folders, E: Write>(
     err: &mut E,
 ) -> Result<bool, Fault<'static>>
     ensures was_kept { R.kept station.new.rows → R.kept station.old.rows }
-    ensures runs { Runs (known R.Rows N.passed F.written) (plant station.old wire.old folders.old waits.old.items) (plant station.new wire.new folders.new waits.new.items) (ended result) }
+    ensures runs { RunsUpTo result R.Rows N.passed F.written station.old station.new wire.old wire.new folders.old folders.new waits.old.items waits.new.items }
 {
     let is_over = write_and_look(folders, waits, book, now, err);
     ask_all(station, wire, folders, waits, book, now, err)?;

@@ -4,7 +4,7 @@ ghost use Rattle.std.specs.Prelude.{◌≡◌, ◌++◌, ◌∷◌, [], OnOk, If
 ghost use Rattle.line_check.specs.Galley.{galley_of};
 ghost use Rattle.command_ends.specs.ReleaseText.{cause_text};
 ghost use Rattle.station.specs.Readiness.{slugs_of};
-ghost use Rattle.run_command.specs.Filing.{file, galley_text, release_files, files_of};
+ghost use Rattle.run_command.specs.Filing.{file, galley_text, tape_files, release_files, files_of};
 
 use command_ends::CauseText;
 use folders::NamedFile;
@@ -95,7 +95,7 @@ fn keep_tape(
     set: &Result<Vec<Slug>, SetFault>,
     waits: &mut Vec<NamedFile>,
 ) -> Result<(), AllocError>
-    ensures { OnOk result (waits.new.items ≡ waits.old.items ++ (file number (codes ".tape") tape.now ∷ file number (codes ".galley") (galley_text (slugs_of set.now)) ∷ [])) }
+    ensures { OnOk result (waits.new.items ≡ waits.old.items ++ tape_files number tape.now (slugs_of set.now)) }
 {
     let frames = tape_file(alloc, number, tape)?;
     let text = galley_file(alloc, number, set)?;

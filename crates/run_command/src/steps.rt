@@ -3,11 +3,11 @@
 ghost use Rattle.std.specs.Prelude.{◌≡◌, ◌↔◌, IsTrue, OnOk, OnErr, IfErr};
 ghost use Rattle.command_ends.specs.declared.fault.Fault.TheVariants.{OutOfMemory};
 ghost use Rattle.wire.specs.Passing.{Passes};
-ghost use Rattle.serve_command.specs.Serving.{sending, ended};
+ghost use Rattle.serve_command.specs.Serving.{sending};
 ghost use Rattle.run_command.specs.Asking.{IsOfOffer};
 ghost use Rattle.run_command.specs.Filing.{files_of};
 ghost use Rattle.run_command.specs.Keeping.{Keeps};
-ghost use Rattle.run_command.specs.Running.{known, plant, Runs};
+ghost use Rattle.run_command.specs.Running.{RunsUpTo};
 
 use crate::messages::Reason;
 use crate::offer_book::OfferBook;
@@ -58,7 +58,7 @@ fn take_in<R: Rows, N: Wire, F: Folders, E: Write>(
     err: &mut E,
 ) -> Result<(), Fault<'static>>
     ensures was_kept { R.kept station.new.rows → R.kept station.old.rows }
-    ensures runs { Runs (known R.Rows N.passed F.written) (plant station.old wire.old folders.old waits.old.items) (plant station.new wire.new folders.new waits.new.items) (ended result) }
+    ensures runs { RunsUpTo result R.Rows N.passed F.written station.old station.new wire.old wire.new folders.old folders.new waits.old.items waits.new.items }
 {
     match take_datagram(station, wire, now, buffer) {
         Outcome::Nothing => Ok(()),
@@ -82,7 +82,7 @@ fn see_to_due<R: Rows, N: Wire, F: Folders, E: Write>(
     err: &mut E,
 ) -> Result<(), Fault<'static>>
     ensures was_kept { R.kept station.new.rows → R.kept station.old.rows }
-    ensures runs { Runs (known R.Rows N.passed F.written) (plant station.old wire.old folders.old waits.old.items) (plant station.new wire.new folders.new waits.new.items) (ended result) }
+    ensures runs { RunsUpTo result R.Rows N.passed F.written station.old station.new wire.old wire.new folders.old folders.new waits.old.items waits.new.items }
 {
     match station.due(now) {
         Ok(answer) => hand_on(station, &answer, wire, folders, waits, book, now, err),
@@ -102,7 +102,7 @@ pub(crate) fn turn<R: Rows, N: Wire, F: Folders, E: Write>(
     err: &mut E,
 ) -> Result<(), Fault<'static>>
     ensures was_kept { R.kept station.new.rows → R.kept station.old.rows }
-    ensures runs { Runs (known R.Rows N.passed F.written) (plant station.old wire.old folders.old waits.old.items) (plant station.new wire.new folders.new waits.new.items) (ended result) }
+    ensures runs { RunsUpTo result R.Rows N.passed F.written station.old station.new wire.old wire.new folders.old folders.new waits.old.items waits.new.items }
 {
     take_in(station, wire, folders, waits, book, now, buffer, err)?;
     tell_strangers(wire, now, err);
@@ -155,7 +155,7 @@ pub(crate) fn ask_at<R: Rows, N: Wire, F: Folders, E: Write>(
     err: &mut E,
 ) -> Result<(), Fault<'static>>
     ensures was_kept { R.kept station.new.rows → R.kept station.old.rows }
-    ensures runs { Runs (known R.Rows N.passed F.written) (plant station.old wire.old folders.old waits.old.items) (plant station.new wire.new folders.new waits.new.items) (ended result) }
+    ensures runs { RunsUpTo result R.Rows N.passed F.written station.old station.new wire.old wire.new folders.old folders.new waits.old.items waits.new.items }
 {
     let Some(asked) = book.due_at(place, now) else {
         return Ok(());

@@ -1,10 +1,8 @@
 //! The command `run`: the turns of a station that stays up, until a file says that it ends.
 
-ghost use Rattle.std.specs.Prelude.{◌≡◌, [], List, false};
+ghost use Rattle.std.specs.Prelude.{◌≡◌, false};
 ghost use Rattle.command_ends.specs.declared.end.End.TheVariants.{Done};
-ghost use Rattle.folders.specs.Written.{File};
-ghost use Rattle.serve_command.specs.Serving.{ended};
-ghost use Rattle.run_command.specs.Running.{known, plant, Runs};
+ghost use Rattle.run_command.specs.Running.{RunsUpTo, RunsAfresh};
 
 use crate::look::look;
 use crate::names::STOP;
@@ -31,7 +29,7 @@ fn turn_and_look<R: Rows, N: Wire, F: Folders, E: Write>(
     err: &mut E,
 ) -> Result<bool, Fault<'static>>
     ensures was_kept { R.kept station.new.rows → R.kept station.old.rows }
-    ensures runs { Runs (known R.Rows N.passed F.written) (plant station.old wire.old folders.old waits.old.items) (plant station.new wire.new folders.new waits.new.items) (ended result) }
+    ensures runs { RunsUpTo result R.Rows N.passed F.written station.old station.new wire.old wire.new folders.old folders.new waits.old.items waits.new.items }
 {
     turn(station, wire, folders, waits, book, now, buffer, err)?;
     if book.looks(now) {
@@ -52,7 +50,7 @@ fn timed_turn<R: Rows, N: Wire, F: Folders, E: Write>(
     err: &mut E,
 ) -> Result<bool, Fault<'static>>
     ensures was_kept { R.kept station.new.rows → R.kept station.old.rows }
-    ensures runs { Runs (known R.Rows N.passed F.written) (plant station.old wire.old folders.old waits.old.items) (plant station.new wire.new folders.new waits.new.items) (ended result) }
+    ensures runs { RunsUpTo result R.Rows N.passed F.written station.old station.new wire.old wire.new folders.old folders.new waits.old.items waits.new.items }
 {
     let now = wire.now();
     turn_and_look(station, wire, folders, waits, book, now, buffer, err)
@@ -69,7 +67,7 @@ fn take_turns<R: Rows, N: Wire, F: Folders, E: Write>(
     err: &mut E,
 ) -> Result<bool, Fault<'static>>
     ensures was_kept { R.kept station.new.rows → R.kept station.old.rows }
-    ensures runs { Runs (known R.Rows N.passed F.written) (plant station.old wire.old folders.old waits.old.items) (plant station.new wire.new folders.new waits.new.items) (ended result) }
+    ensures runs { RunsUpTo result R.Rows N.passed F.written station.old station.new wire.old wire.new folders.old folders.new waits.old.items waits.new.items }
 {
     for _ in 0..u64::MAX {
         if timed_turn(station, wire, folders, waits, book, buffer, err)? {
@@ -91,7 +89,7 @@ fn start<R: Rows, N: Wire, F: Folders, E: Write>(
     err: &mut E,
 ) -> Result<bool, Fault<'static>>
     ensures was_kept { R.kept station.new.rows → R.kept station.old.rows }
-    ensures runs { Runs (known R.Rows N.passed F.written) (plant station.old wire.old folders.old waits.old.items) (plant station.new wire.new folders.new waits.new.items) (ended result) }
+    ensures runs { RunsUpTo result R.Rows N.passed F.written station.old station.new wire.old wire.new folders.old folders.new waits.old.items waits.new.items }
 {
     let _ = folders.remove(alloc, STOP);
     let mut book = OfferBook::new(alloc, quiet);
@@ -114,7 +112,7 @@ pub fn run_station<R: Rows, N: Wire, F: Folders, E: Write>(
     err: &mut E,
 ) -> End
     ensures was_kept { R.kept station.new.rows → R.kept station.old.rows }
-    ensures runs { (waits : List File) × Runs (known R.Rows N.passed F.written) (plant station.old wire.old folders.old []) (plant station.new wire.new folders.new waits) result }
+    ensures runs { RunsAfresh result R.Rows N.passed F.written station.old station.new wire.old wire.new folders.old folders.new }
     ensures goes_on { result ≡ Done → station.new.stopped ≡ false }
 {
     if station.stopped() {

@@ -1,3 +1,4 @@
 pub mod Saved
 pub mod Memory
+pub mod Blaming
 pub mod Identity

@@ -3,6 +3,7 @@
 ghost use Rattle.std.specs.Prelude.{◌≡◌, ◌≤◌, ◌⊎◌, ◌+◌, None, Some, true, false, IsSome, IfErr, Err, OnOk, OnErr};
 ghost use Rattle.protocol.specs.Versions.{Two};
 ghost use Rattle.saved_rows.specs.Saved.{SameRows, WithRow, IsEither, HasPromise, RowFits, Rises};
+ghost use Rattle.saved_rows.specs.Blaming.{BlamesArming};
 
 use crate::fault::RowsFault;
 use crate::rows::Rows;
@@ -146,7 +147,8 @@ impl<R: Rows> Rows for Balky<R> {
         ensures open { R.kept self.new.rows → OnOk result (R.is_open self.new.rows) }
         ensures version { R.version self.new.rows ≡ R.version self.old.rows }
         ensures passes { OnOk result ((self.old.armed ≡ None) × (self.new.armed ≡ None) × R.passes self.old.rows self.new.rows) }
-        ensures either { R.kept self.new.rows → OnErr result ((¬ R.is_open self.new.rows) ⊎ IsEither (R.saved self.old.rows) number row.now (R.saved self.new.rows)) }
+        ensures either { R.kept self.new.rows → OnErr result ((¬ R.is_open self.new.rows)
+            ⊎ IsEither (R.saved self.old.rows) number row.now (R.saved self.new.rows)) }
         ensures tells { OnErr result ((self.new.armed ≡ None)
             × (self.old.armed ≡ Some false → self.new.rows ≡ self.old.rows)
             × (self.old.armed ≡ None → R.tells self.old.rows self.new.rows number row.now)
@@ -155,9 +157,7 @@ impl<R: Rows> Rows for Balky<R> {
             ⊎ (Rises (R.refusals self.old.rows) (R.refusals self.new.rows) × R.tells self.old.rows self.new.rows number row.now))) }
         ensures cause { OnErr result (Rises (R.refusals self.old.rows + self.old.refusals) (R.refusals self.new.rows + self.new.refusals)) }
         ensures counts { R.refusals self.old.rows + self.old.refusals ≤ R.refusals self.new.rows + self.new.refusals }
-        ensures blames { IfErr result (λ fault. (R.refusals self.old.rows ≤ R.refusals self.new.rows)
-            × ((IsSome self.old.armed × (self.new.armed ≡ None) × (fault ≡ RowsFault.Store))
-            ⊎ ((self.new.armed ≡ self.old.armed) × Rises (R.refusals self.old.rows) (R.refusals self.new.rows) × R.blames self.old.rows self.new.rows fault))) }
+        ensures blames { IfErr result (λ fault. BlamesArming R.Rows self.old self.new fault) }
         ensures made { R.made self.old.rows → R.made self.new.rows }
         ensures was_kept { R.kept self.new.rows → R.kept self.old.rows }
         ensures was_open { R.kept self.new.rows → R.is_open self.new.rows → R.is_open self.old.rows }
@@ -189,9 +189,7 @@ impl<R: Rows> Rows for Balky<R> {
             ⊎ (Rises (R.refusals self.old.rows) (R.refusals self.new.rows) × R.balks self.old.rows self.new.rows))) }
         ensures cause { OnErr result (Rises (R.refusals self.old.rows + self.old.refusals) (R.refusals self.new.rows + self.new.refusals)) }
         ensures counts { R.refusals self.old.rows + self.old.refusals ≤ R.refusals self.new.rows + self.new.refusals }
-        ensures blames { IfErr result (λ fault. (R.refusals self.old.rows ≤ R.refusals self.new.rows)
-            × ((IsSome self.old.armed × (self.new.armed ≡ None) × (fault ≡ RowsFault.Store))
-            ⊎ ((self.new.armed ≡ self.old.armed) × Rises (R.refusals self.old.rows) (R.refusals self.new.rows) × R.blames self.old.rows self.new.rows fault))) }
+        ensures blames { IfErr result (λ fault. BlamesArming R.Rows self.old self.new fault) }
         ensures made { R.made self.old.rows → R.made self.new.rows }
         ensures was_kept { R.kept self.new.rows → R.kept self.old.rows }
         ensures was_open { R.kept self.new.rows → R.is_open self.new.rows → R.is_open self.old.rows }

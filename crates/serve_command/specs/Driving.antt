@@ -12,7 +12,8 @@ use Rattle.serve_command.specs.declared.station_steps.Outcome.{Outcome}
 use Rattle.serve_command.specs.declared.station_steps.Outcome.TheVariants.{Nothing, Failed, Done, Refused}
 
 -- the station took the step of this call with this answer, and what passed over the wire is what came for it
-pub record Drives {R N : Type 0} (g : Ghosts R) (passed : N → Option (List Passed)) (call : Call) (old new : Station R) (was is : N) (answer : Result Answer StepRefusal) : Type 0 where
+pub record Drives {R N : Type 0} (g : Ghosts R) (passed : N → Option (List Passed)) (call : Call) (old new : Station R) (was is : N)
+    (answer : Result Answer StepRefusal) : Type 0 where
   pub step : g.kept new.rows → IsStep g call old new answer
   pub passes : Passes (passed was) (passed is) (coming call)
   pub stops : new.stopped ≡ stopped_after old.stopped answer

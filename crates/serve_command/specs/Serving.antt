@@ -132,8 +132,9 @@ abbrev pub ended : {A : Type 0} → Result A Fault → End
 ended (Ok done) = ends.Done
 ended (Err fault) = end_of fault
 
--- what `serve` did up to this end, by a list of events: the station took these steps and no others; what passed over the wire is what came for them and what they handed out;
--- of their releases' text a front was written, and where it ended well all of it, and the events are of this form
+-- what `serve` did up to this end, by a list of events: the station took these steps and no others; what passed over the wire is what
+-- came for them and what they handed out; of their releases' text a front was written, and where it ended well all of it, and the
+-- events are of this form
 pub record Serves {R N W : Type 0} (k : Known R N W) (old new : Post R N W) (end : End) (Form : List Event → Type 0) : Type 0 where
   pub log : List Event
   pub steps : k.rows.kept new.station.rows → Takes k.rows old.station new.station log
@@ -142,6 +143,20 @@ pub record Serves {R N W : Type 0} (k : Known R N W) (old new : Post R N W) (end
   pub whole : end ≡ ends.Done → Appends (k.contents old.out) (k.contents new.out) (flat_map writing log)
   pub form : end ≡ ends.Done → Form log
   pub cause : HasCause log old.station.stopped new.station.stopped end
+
+-- what `serve` did up to this end by events of this form, on a station, its wire and its output as they were and as they are
+abbrev pub ServesBy :
+    {R N W : Type 0} → (List Event → Type 0) → End → Ghosts R → (N → Option (List Passed)) → (W → Option (List ℕ))
+    → Station R → Station R → N → N → W → W → Type 0
+ServesBy Form end rows passed contents old new was is before after =
+    Serves (known rows passed contents) (post old was before) (post new is after) end Form
+
+-- the same up to this result
+abbrev pub ServesUpTo :
+    {R N W A : Type 0} → (List Event → Type 0) → Result A Fault → Ghosts R → (N → Option (List Passed)) → (W → Option (List ℕ))
+    → Station R → Station R → N → N → W → W → Type 0
+ServesUpTo Form result rows passed contents old new was is before after =
+    ServesBy Form (ended result) rows passed contents old new was is before after
 
 -- one datagram at most was taken in
 abbrev pub IsTakingIn : ℕ → List Event → Type 0
@@ -193,11 +208,17 @@ IsTurn now log = Then (IsTakingIn now) (IsSeeingToDue now) log
 -- so many turns, each at the moment of the clock
 pub data AreTurns : ℕ → List Event → Type 0 where
   none : AreTurns 0 []
-  one_more : (n m : ℕ) (before last log : List Event) → m ≡ n + 1 → AreTurns n before → AtClock IsTurn last → log ≡ before ++ last → AreTurns m log
+  one_more :
+      (n m : ℕ) (before last log : List Event) → m ≡ n + 1 → AreTurns n before → AtClock IsTurn last
+      → log ≡ before ++ last → AreTurns m log
+
+-- what is asked after the offer: the withdrawal, then the search
+abbrev pub IsLaterAsking : Option ℕ → Option ℕ → List Event → Type 0
+IsLaterAsking withdraw seek log = Then (IsWithdrawal withdraw) (IsSearch seek) log
 
 -- the offer, then the withdrawal, then the search
 abbrev pub IsAsking : Option (ℕ × Tape) → Option ℕ → Option ℕ → List Event → Type 0
-IsAsking offer withdraw seek log = Then (IsOffer offer) (Then (IsWithdrawal withdraw) (IsSearch seek)) log
+IsAsking offer withdraw seek log = Then (IsOffer offer) (IsLaterAsking withdraw seek) log
 
 -- what is asked first, and then so many turns
 abbrev pub IsRun : Option (ℕ × Tape) → Option ℕ → Option ℕ → ℕ → List Event → Type 0

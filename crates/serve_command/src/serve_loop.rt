@@ -1,7 +1,7 @@
 //! The command `serve`: what a station takes in from the wire, and what it hands out.
 
 ghost use Rattle.std.specs.Prelude.{◌≡◌, false, OnOk};
-ghost use Rattle.serve_command.specs.Serving.{Serves, known, post, ended, IsTakingIn, IsSeeingToDue, IsTurn, IsOffer, IsWithdrawal, IsSearch, IsAsking, AtClock, Then, AreTurns, IsRun};
+ghost use Rattle.serve_command.specs.Serving.{ServesBy, ServesUpTo, IsTakingIn, IsSeeingToDue, IsTurn, IsOffer, IsWithdrawal, IsSearch, IsLaterAsking, IsAsking, AtClock, AreTurns, IsRun};
 ghost use Rattle.command_ends.specs.declared.end.End.TheVariants.{Done};
 
 use crate::handing_on::hand_on;
@@ -26,7 +26,7 @@ fn take_in<R: Rows, N: Wire, W: Write, E: Write>(
     err: &mut E,
 ) -> Result<(), Fault<'static>>
     ensures was_kept { R.kept station.new.rows → R.kept station.old.rows }
-    ensures serves { Serves (known R.Rows N.passed W.contents) (post station.old wire.old out.old) (post station.new wire.new out.new) (ended result) (IsTakingIn now) }
+    ensures serves { ServesUpTo (IsTakingIn now) result R.Rows N.passed W.contents station.old station.new wire.old wire.new out.old out.new }
 {
     match take_datagram(station, wire, now, buffer) {
         Outcome::Nothing => Ok(()),
@@ -46,7 +46,7 @@ fn see_to_due<R: Rows, N: Wire, W: Write, E: Write>(
     err: &mut E,
 ) -> Result<(), Fault<'static>>
     ensures was_kept { R.kept station.new.rows → R.kept station.old.rows }
-    ensures serves { Serves (known R.Rows N.passed W.contents) (post station.old wire.old out.old) (post station.new wire.new out.new) (ended result) (IsSeeingToDue now) }
+    ensures serves { ServesUpTo (IsSeeingToDue now) result R.Rows N.passed W.contents station.old station.new wire.old wire.new out.old out.new }
     ensures goes_on { OnOk result (station.new.stopped ≡ false) }
 {
     match station.due(now) {
@@ -66,7 +66,7 @@ fn turn<R: Rows, N: Wire, W: Write, E: Write>(
     err: &mut E,
 ) -> Result<(), Fault<'static>>
     ensures was_kept { R.kept station.new.rows → R.kept station.old.rows }
-    ensures serves { Serves (known R.Rows N.passed W.contents) (post station.old wire.old out.old) (post station.new wire.new out.new) (ended result) (IsTurn now) }
+    ensures serves { ServesUpTo (IsTurn now) result R.Rows N.passed W.contents station.old station.new wire.old wire.new out.old out.new }
     ensures goes_on { OnOk result (station.new.stopped ≡ false) }
 {
     take_in(alloc, station, wire, now, buffer, out, err)?;
@@ -76,9 +76,9 @@ fn turn<R: Rows, N: Wire, W: Write, E: Write>(
 
 /// One turn of a station at a moment in milliseconds: it takes in one datagram at most, and then sees to what is due.
 ///
-/// What the station hands out is sent, and a release is written. A datagram that it refuses is passed over, a
-/// datagram that can't be sent is lost and told, and so are, once a second at most, those of strangers. The turn ends otherwise than by `Done` where the wire fails to
-/// receive, the station stops, or the output can't be written; `err` has the fault.
+/// What the station hands out is sent, and a release is written. A datagram that it refuses is passed over, a datagram that can't be
+/// sent is lost and told, and so are, once a second at most, those of strangers. The turn ends otherwise than by `Done` where the wire
+/// fails to receive, the station stops, or the output can't be written; `err` has the fault.
 pub fn serve_turn<R: Rows, N: Wire, W: Write, E: Write>(
     alloc: Global,
     station: &mut Station<R>,
@@ -89,7 +89,7 @@ pub fn serve_turn<R: Rows, N: Wire, W: Write, E: Write>(
     err: &mut E,
 ) -> End
     ensures was_kept { R.kept station.new.rows → R.kept station.old.rows }
-    ensures serves { Serves (known R.Rows N.passed W.contents) (post station.old wire.old out.old) (post station.new wire.new out.new) result (IsTurn now) }
+    ensures serves { ServesBy (IsTurn now) result R.Rows N.passed W.contents station.old station.new wire.old wire.new out.old out.new }
     ensures goes_on { result ≡ Done → station.new.stopped ≡ false }
 {
     match turn(alloc, station, wire, now, buffer, out, err) {
@@ -108,7 +108,7 @@ fn timed_turn<R: Rows, N: Wire, W: Write, E: Write>(
     err: &mut E,
 ) -> End
     ensures was_kept { R.kept station.new.rows → R.kept station.old.rows }
-    ensures serves { Serves (known R.Rows N.passed W.contents) (post station.old wire.old out.old) (post station.new wire.new out.new) result (AtClock IsTurn) }
+    ensures serves { ServesBy (AtClock IsTurn) result R.Rows N.passed W.contents station.old station.new wire.old wire.new out.old out.new }
 {
     let now = wire.now();
     serve_turn(alloc, station, wire, now, buffer, out, err)
@@ -124,7 +124,7 @@ fn make_offer<R: Rows, N: Wire, W: Write, E: Write>(
     err: &mut E,
 ) -> Result<(), Fault<'static>>
     ensures was_kept { R.kept station.new.rows → R.kept station.old.rows }
-    ensures serves { Serves (known R.Rows N.passed W.contents) (post station.old wire.old out.old) (post station.new wire.new out.new) (ended result) (IsOffer offer) }
+    ensures serves { ServesUpTo (IsOffer offer) result R.Rows N.passed W.contents station.old station.new wire.old wire.new out.old out.new }
 {
     let Some((number, tape)) = offer else {
         return Ok(());
@@ -146,7 +146,7 @@ fn make_withdrawal<R: Rows, N: Wire, W: Write, E: Write>(
     err: &mut E,
 ) -> Result<(), Fault<'static>>
     ensures was_kept { R.kept station.new.rows → R.kept station.old.rows }
-    ensures serves { Serves (known R.Rows N.passed W.contents) (post station.old wire.old out.old) (post station.new wire.new out.new) (ended result) (IsWithdrawal withdraw) }
+    ensures serves { ServesUpTo (IsWithdrawal withdraw) result R.Rows N.passed W.contents station.old station.new wire.old wire.new out.old out.new }
 {
     let Some(number) = withdraw else {
         return Ok(());
@@ -168,7 +168,7 @@ fn make_search<R: Rows, N: Wire, W: Write, E: Write>(
     err: &mut E,
 ) -> Result<(), Fault<'static>>
     ensures was_kept { R.kept station.new.rows → R.kept station.old.rows }
-    ensures serves { Serves (known R.Rows N.passed W.contents) (post station.old wire.old out.old) (post station.new wire.new out.new) (ended result) (IsSearch seek) }
+    ensures serves { ServesUpTo (IsSearch seek) result R.Rows N.passed W.contents station.old station.new wire.old wire.new out.old out.new }
 {
     let Some(number) = seek else {
         return Ok(());
@@ -191,7 +191,7 @@ fn withdraw_and_seek<R: Rows, N: Wire, W: Write, E: Write>(
     err: &mut E,
 ) -> Result<(), Fault<'static>>
     ensures was_kept { R.kept station.new.rows → R.kept station.old.rows }
-    ensures serves { Serves (known R.Rows N.passed W.contents) (post station.old wire.old out.old) (post station.new wire.new out.new) (ended result) (Then (IsWithdrawal withdraw) (IsSearch seek)) }
+    ensures serves { ServesUpTo (IsLaterAsking withdraw seek) result R.Rows N.passed W.contents station.old station.new wire.old wire.new out.old out.new }
 {
     make_withdrawal(alloc, station, wire, withdraw, out, err)?;
     make_search(alloc, station, wire, seek, out, err)
@@ -209,7 +209,7 @@ fn ask<R: Rows, N: Wire, W: Write, E: Write>(
     err: &mut E,
 ) -> Result<(), Fault<'static>>
     ensures was_kept { R.kept station.new.rows → R.kept station.old.rows }
-    ensures serves { Serves (known R.Rows N.passed W.contents) (post station.old wire.old out.old) (post station.new wire.new out.new) (ended result) (IsAsking offer withdraw seek) }
+    ensures serves { ServesUpTo (IsAsking offer withdraw seek) result R.Rows N.passed W.contents station.old station.new wire.old wire.new out.old out.new }
 {
     make_offer(alloc, station, wire, offer, out, err)?;
     withdraw_and_seek(alloc, station, wire, withdraw, seek, out, err)
@@ -226,7 +226,7 @@ fn take_turns<R: Rows, N: Wire, W: Write, E: Write>(
     err: &mut E,
 ) -> End
     ensures was_kept { R.kept station.new.rows → R.kept station.old.rows }
-    ensures serves { Serves (known R.Rows N.passed W.contents) (post station.old wire.old out.old) (post station.new wire.new out.new) result (AreTurns turns) }
+    ensures serves { ServesBy (AreTurns turns) result R.Rows N.passed W.contents station.old station.new wire.old wire.new out.old out.new }
 {
     for _ in 0..turns {
         let end = timed_turn(alloc, station, wire, buffer, out, err);
@@ -254,7 +254,7 @@ pub fn serve_run<R: Rows, N: Wire, W: Write, E: Write>(
     err: &mut E,
 ) -> End
     ensures was_kept { R.kept station.new.rows → R.kept station.old.rows }
-    ensures serves { Serves (known R.Rows N.passed W.contents) (post station.old wire.old out.old) (post station.new wire.new out.new) result (IsRun offer withdraw seek turns) }
+    ensures serves { ServesBy (IsRun offer withdraw seek turns) result R.Rows N.passed W.contents station.old station.new wire.old wire.new out.old out.new }
     ensures goes_on { result ≡ Done → station.new.stopped ≡ false }
 {
     if station.stopped() {

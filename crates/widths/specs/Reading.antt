@@ -2,7 +2,7 @@
 use Rattle.std.specs.Prelude.{ℕ, suc, List, [], ◌∷◌, ◌++◌, length, Option, Some, None, Result, Ok, Err, nat_le, if◌then◌else◌}
 use Rattle.toml.specs.Data.{Data, Members, no_members, member, is_before}
 use Rattle.code_table.specs.Names.{is_name}
-use Rattle.widths.specs.Widths.{WidthFile}
+use Rattle.widths.specs.Widths.{WidthFile, width_file}
 use Rattle.widths.specs.Numbers.{◌>>=◌, holds, number_of, measures_in, matrix_in}
 use Rattle.widths.specs.declared.entry.MatrixWidth.{MatrixWidth}
 use Rattle.widths.specs.declared.fault.WidthKey.TheVariants.{Entry}
@@ -47,7 +47,7 @@ read_file file = do
   table ← matrix_in file
   bands ← holds BandsCrossed (nat_le measures.band_min measures.band_max)
   matrix ← read_matrix table
-  Ok (record { measure = measures.measure; band_min = measures.band_min; band_max = measures.band_max; thin = measures.thin; en = measures.en; em = measures.em; matrix = matrix })
+  Ok (width_file measures.measure measures.band_min measures.band_max measures.thin measures.en measures.em matrix)
 
 -- the measures and widths of a document that was read; where none was read, it is not TOML
 unfoldable pub read_widths : Option Members → Result WidthFile WidthFault

@@ -16,6 +16,11 @@ pub record WidthFile : Type 0 where
   pub em : ℕ
   pub matrix : List MatrixWidth
 
+-- these measures, and these matrices
+abbrev pub width_file : ℕ → ℕ → ℕ → ℕ → ℕ → ℕ → List MatrixWidth → WidthFile
+width_file measure band_min band_max thin en em matrix =
+    record { measure = measure; band_min = band_min; band_max = band_max; thin = thin; en = en; em = em; matrix = matrix }
+
 -- the two names have the same bytes
 abbrev pub is_same : List ℕ → List ℕ → Bool
 is_same a b = is_eq (slice_cmp nat_cmp a b)

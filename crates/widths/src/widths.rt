@@ -30,13 +30,13 @@ pub struct Widths {
 }
 
 impl Model for Widths {
-    ghost use Rattle.widths.specs.Widths.{WidthFile, IsWidthFile};
+    ghost use Rattle.widths.specs.Widths.{WidthFile, width_file, IsWidthFile};
 
     ghost Value = { WidthFile };
 
-    ghost view = { λ w. record { measure = w.measure; band_min = w.band_min; band_max = w.band_max; thin = w.thin; en = w.en; em = w.em; matrix = w.matrix.items } };
+    ghost view = { λ w. width_file w.measure w.band_min w.band_max w.thin w.en w.em w.matrix.items };
 
-    ghost invariant = { λ w. IsWidthFile (record { measure = w.measure; band_min = w.band_min; band_max = w.band_max; thin = w.thin; en = w.en; em = w.em; matrix = w.matrix.items }) };
+    ghost invariant = { λ w. IsWidthFile (width_file w.measure w.band_min w.band_max w.thin w.en w.em w.matrix.items) };
 }
 
 /// The document of a text.

@@ -49,7 +49,8 @@ pub record IsNew {R : Type 0} (version : R → Version) (seat : Seat) (part : Pa
 -- the stations are those of the parts, numbered from 1 in order
 abbrev pub AreNew : {R : Type 0} → (R → Version) → ℕ → ℕ → List (Part R) → List (Station (Balky R)) → Type 0
 AreNew {R = R} version k c parts stations =
-    (i : ℕ) (s : Station (Balky R)) → slice_get stations i ≡ Some s → (part : Part R) × (slice_get parts i ≡ Some part) × IsNew version (sits k (suc i) c) part s
+    (i : ℕ) (s : Station (Balky R)) → slice_get stations i ≡ Some s
+    → (part : Part R) × (slice_get parts i ≡ Some part) × IsNew version (sits k (suc i) c) part s
 
 -- all members of circuit k, and nothing went between them
 pub record IsFounded {R : Type 0} (version : R → Version) (k : ℕ) (parts : List (Part R)) (v : World R) : Type 0 where
@@ -71,7 +72,8 @@ Founds version k parts (Err fault) = IsUnfounded parts fault
 
 -- no row is saved
 abbrev pub AreBlank : {R : Type 0} → (R → Type 0) → (R → Saved) → List (Part R) → Type 0
-AreBlank {R = R} is_open saved parts = (i : ℕ) (part : Part R) → slice_get parts i ≡ Some part → is_open part.2 → (n : ℕ) → saved part.2 n ≡ blank
+AreBlank {R = R} is_open saved parts =
+    (i : ℕ) (part : Part R) → slice_get parts i ≡ Some part → is_open part.2 → (n : ℕ) → saved part.2 n ≡ blank
 
 -- each member's rows are at its version
 abbrev pub AreAt : {R : Type 0} → (R → Version) → (ℕ → Version) → List (Part R) → Type 0

@@ -58,4 +58,6 @@ CircuitsExist =
 
 -- the headline: in every history of a circuit of stations what is released is agreed
 abbrev pub StationsAgree : Type 0
-StationsAgree = (tables : ℕ → Places) (files : ℕ → WidthFile) (z : StationCircuit) → IsSetUp tables files z → (w : State (List Slug) SetFault) → History z w → AreAgreed tables files w
+StationsAgree =
+    (tables : ℕ → Places) (files : ℕ → WidthFile) (z : StationCircuit) → IsSetUp tables files z
+    → (w : State (List Slug) SetFault) → History z w → AreAgreed tables files w

@@ -20,7 +20,8 @@ Plays g k members at steps v run = (z : StationCircuit) → IsCircuitOf k member
 -- where no row of the parts is saved, and each member's rows are kept: the same of their circuit, each member at the version of its rows
 abbrev pub PlaysParts : {R A : Type 0} → Ghosts R → ℕ → List (Part R) → List Step → World R → Result A RunStop → Type 0
 PlaysParts g k parts steps v run =
-    AreBlank g.is_open g.saved parts → AllKept g.kept v → (at : ℕ → Version) → AreAt g.version at parts → Plays g k (map given_of parts) at steps v run
+    AreBlank g.is_open g.saved parts → AllKept g.kept v → (at : ℕ → Version) → AreAt g.version at parts
+    → Plays g k (map given_of parts) at steps v run
 
 -- it is not played since no circuit has so many members; or one has, and memory was refused
 abbrev pub IsUnplayed : ℕ → PlayFault → Type 0

@@ -42,7 +42,8 @@ pub record IsAt {R : Type 0} (version : R → Version) (v : Version) (s : Statio
   pub rows : version s.rows.rows ≡ v
 
 -- a station is what the state has of member m, with its table and its width file
-pub record Shows {R : Type 0} (is_open : R → Type 0) (saved : R → Saved) (version : R → Version) (tables : ℕ → Places) (files : ℕ → WidthFile) (z : StationCircuit) (w : StationState) (m : ℕ) (s : Station (Balky R)) : Type 0 where
+pub record Shows {R : Type 0} (is_open : R → Type 0) (saved : R → Saved) (version : R → Version)
+    (tables : ℕ → Places) (files : ℕ → WidthFile) (z : StationCircuit) (w : StationState) (m : ℕ) (s : Station (Balky R)) : Type 0 where
   pub circuit : s.speaker.core.circuit ≡ z.number
   pub members : s.speaker.core.members ≡ z.count
   pub me : s.speaker.core.me ≡ m
@@ -55,7 +56,8 @@ pub record Shows {R : Type 0} (is_open : R → Type 0) (saved : R → Saved) (ve
   pub armed : s.rows.armed ≡ w.armed m
 
 -- the world stands for this state of this circuit: each station is what the state has of its member, and the logs are the state's
-pub record StandsFor {R : Type 0} (is_open : R → Type 0) (saved : R → Saved) (version : R → Version) (z : StationCircuit) (v : World R) (w : StationState) : Type 0 where
+pub record StandsFor {R : Type 0} (is_open : R → Type 0) (saved : R → Saved) (version : R → Version)
+    (z : StationCircuit) (v : World R) (w : StationState) : Type 0 where
   pub tables : ℕ → Places
   pub files : ℕ → WidthFile
   pub set_up : IsSetUp tables files z
@@ -66,7 +68,9 @@ pub record StandsFor {R : Type 0} (is_open : R → Type 0) (saved : R → Saved)
   pub releases : w.releases ≡ v.releases.items
 
 -- the state goes on by this step, which ends as what was seen of it; where the step was refused the state stays
-abbrev pub Moves : {R : Type 0} → (R → Type 0) → (R → Saved) → (R → Version) → (R → ℕ) → StationCircuit → StationState → Step → World R → World R → Result Seen WorldRefusal → Type 0
+abbrev pub Moves :
+    {R : Type 0} → (R → Type 0) → (R → Saved) → (R → Version) → (R → ℕ) → StationCircuit → StationState → Step
+    → World R → World R → Result Seen WorldRefusal → Type 0
 Moves is_open saved version count z w step old new (Ok seen) =
     (after : StationState) × StandsFor is_open saved version z new after
     × (o : Outcome PacketFault SetFault) × EndsAs seen.outcome (RowsRefused count old new seen.member) o × StepsTo z w (step_value step) o after
@@ -84,10 +88,17 @@ Leads z w [] after = after ≡ w
 Leads z w (step ∷ steps) after =
     (o : Outcome PacketFault SetFault) × (mid : StationState) × StepsTo z w (step_value step) o mid × Leads z mid steps after
 
--- the steps, or those before the one that was refused, lead to a state that the world stands for
-abbrev pub Runs : {R A : Type 0} → (R → Type 0) → (R → Saved) → (R → Version) → StationCircuit → StationState → List Step → World R → Result A RunStop → Type 0
-Runs is_open saved version z w steps new (Ok x) = (after : StationState) × StandsFor is_open saved version z new after × Leads z w steps after
-Runs is_open saved version z w steps new (Err stop) = (after : StationState) × StandsFor is_open saved version z new after × Leads z w (take stop.at steps) after
+-- the steps lead to a state that the world stands for
+abbrev pub LeadsTo :
+    {R : Type 0} → (R → Type 0) → (R → Saved) → (R → Version) → StationCircuit → StationState → List Step → World R → Type 0
+LeadsTo is_open saved version z w steps new = (after : StationState) × StandsFor is_open saved version z new after × Leads z w steps after
+
+-- the steps do, or those before the one that was refused
+abbrev pub Runs :
+    {R A : Type 0} → (R → Type 0) → (R → Saved) → (R → Version) → StationCircuit → StationState → List Step
+    → World R → Result A RunStop → Type 0
+Runs is_open saved version z w steps new (Ok x) = LeadsTo is_open saved version z w steps new
+Runs is_open saved version z w steps new (Err stop) = LeadsTo is_open saved version z w (take stop.at steps) new
 
 -- the same of a list of steps
 abbrev pub FollowsSteps : {R A : Type 0} → Ghosts R → List Step → World R → World R → Result A RunStop → Type 0
@@ -113,9 +124,13 @@ IsOffered v n entry = (k : ℕ) × IsAmong v.offers.items (record { member = k; 
 abbrev pub SetsAs : {R : Type 0} → Station (Balky R) → Entry → Result (List Slug) SetFault → Type 0
 SetsAs s entry set = SetsEntry (mean s.table) s.widths entry set
 
+-- a member released it, and its station sets the entry so
+abbrev pub IsSetByMember : {R : Type 0} → World R → Release (List Slug) SetFault → Type 0
+IsSetByMember {R = R} v x = (s : Station (Balky R)) × (station_at v x.member ≡ Some s) × SetsAs s x.entry x.set
+
 -- the headline, of a world's own logs: any two releases of one number have equal entries; each released entry was offered for its
 -- number; and each was released by a member, whose station's table and widths give it these slugs, or this fault
 pub record Agreed {R : Type 0} (v : World R) : Type 0 where
   pub one : (x y : Release (List Slug) SetFault) → IsAmong v.releases.items x → IsAmong v.releases.items y → x.number ≡ y.number → x.entry ≡ y.entry
   pub offered : (x : Release (List Slug) SetFault) → IsAmong v.releases.items x → IsOffered v x.number x.entry
-  pub set : (x : Release (List Slug) SetFault) → IsAmong v.releases.items x → (s : Station (Balky R)) × (station_at v x.member ≡ Some s) × SetsAs s x.entry x.set
+  pub set : (x : Release (List Slug) SetFault) → IsAmong v.releases.items x → IsSetByMember v x

@@ -71,12 +71,19 @@ pub record RowsRefused {R : Type 0} (count : R → ℕ) (old new : World R) (m :
   pub at_new : station_at new m ≡ Some after
   pub rises : Rises (count before.rows.rows) (count after.rows.rows)
 
--- why the store tore a step of this station with this fault: it was armed to refuse a save or an upgrade, tells that as a fault of the store, and is armed no more;
--- or it is armed as it was, and the member's own rows refused, and blame this fault
+-- the station was armed to refuse a save or an upgrade, tells that as a fault of the store, and is armed no more
+abbrev pub IsAsArmed : {R : Type 0} → Station (Balky R) → Station (Balky R) → RowsFault → Type 0
+IsAsArmed old new fault = IsSome old.rows.armed × (new.rows.armed ≡ None) × (fault ≡ row_faults.Store)
+
+-- it is armed as it was, and the member's own rows refused, and blame this fault
+abbrev pub IsByOwnRows : {R : Type 0} → Ghosts R → Station (Balky R) → Station (Balky R) → RowsFault → Type 0
+IsByOwnRows g old new fault =
+    (new.rows.armed ≡ old.rows.armed) × Rises (g.refusals old.rows.rows) (g.refusals new.rows.rows)
+    × IsBlamed (sight g) old.rows.rows new.rows.rows fault
+
+-- why the store tore a step of this station with this fault: as it was armed, or by the member's own rows
 abbrev pub IsCause : {R : Type 0} → Ghosts R → Station (Balky R) → Station (Balky R) → RowsFault → Type 0
-IsCause g old new fault =
-    (IsSome old.rows.armed × (new.rows.armed ≡ None) × (fault ≡ row_faults.Store))
-    ⊎ ((new.rows.armed ≡ old.rows.armed) × Rises (g.refusals old.rows.rows) (g.refusals new.rows.rows) × IsBlamed (sight g) old.rows.rows new.rows.rows fault)
+IsCause g old new fault = IsAsArmed old new fault ⊎ IsByOwnRows g old new fault
 
 -- a step of this member was torn by its store with this fault, and this is why
 pub record WasTorn {R : Type 0} (g : Ghosts R) (old new : World R) (m : ℕ) (fault : RowsFault) : Type 0 where
@@ -192,7 +199,8 @@ TearsForMemory {R = R} g =
 -- these steps were taken, one after the other: of each it is told what it added, and where the store tore it, why
 abbrev pub Takes : {R : Type 0} → Ghosts R → World R → List Step → World R → Type 0
 Takes g old [] new = new ≡ old
-Takes {R = R} g old (step ∷ steps) new = (mid : World R) × (seen : Seen) × Tells step old mid (Ok seen) × TellsWhy g old mid (Ok seen) × Takes g mid steps new
+Takes {R = R} g old (step ∷ steps) new =
+    (mid : World R) × (seen : Seen) × Tells step old mid (Ok seen) × TellsWhy g old mid (Ok seen) × Takes g mid steps new
 
 -- all steps were taken, or those before the one that was refused, which changed nothing
 abbrev pub TakesFront : {R A : Type 0} → Ghosts R → World R → List Step → World R → Result A RunStop → Type 0
