@@ -10,7 +10,7 @@ use Rattle.row_table.specs.Tables.{Layout, Origin, layout_schema, layout_tree}
 use Rattle.row_table.specs.Tables.Layout.{First, Second}
 use Rattle.row_table.specs.Rows.{AreRows, IsListing, Serves, WasKept, WasSaved, SavesIn, columns_of, columns_at}
 use Rattle.row_table.specs.Entries.{columns_of_entry}
-use Rattle.row_table.specs.declared.entries.EntryColumns.{EntryColumns}
+use Rattle.row_table.specs.declared.entry_table.EntryColumns.{EntryColumns}
 
 -- of a connection that serves, an Ok leaves it open
 abbrev pub StaysOpen : {A E : Type 0} → Layout → Result A E → State → State → Type 0

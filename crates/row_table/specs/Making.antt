@@ -9,7 +9,7 @@ use Rattle.row_table.specs.Tables.Origin.{Upgraded}
 use Rattle.row_table.specs.Rows.{Serves}
 use Rattle.row_table.specs.Station.{HoldsNone, HasTables, HasAll, WasMade}
 use Rattle.row_table.specs.Entries.{HasEntries, HasLayoutOne, HasUpgraded, IsUpgraded, WasUpgraded, entry_row, with_entries}
-use Rattle.row_table.specs.declared.entries.EntryColumns.{EntryColumns}
+use Rattle.row_table.specs.declared.entry_table.EntryColumns.{EntryColumns}
 
 -- ---- in a transaction
 

@@ -11,7 +11,7 @@ ghost use Rattle.row_table.specs.Cursor.{TakesFirstListed, TakesListing};
 ghost use Rattle.row_table.specs.Keeping.{BeginsToServe, ChangesNothing, CrashesAsBefore, CrashesAsEntryPut, FindsRow, KeptWhereRefused, LeavesAsBefore, ListsRows, PutsEntry, ShowsTables, StaysAtRest, StaysKept, StaysOpen};
 
 use crate::cursor::{Taker, each_row};
-use crate::entries::EntryColumns;
+use crate::entry_table::EntryColumns;
 use sqlite::{Alter, Connection, Error, Row, params};
 
 /// The statement that lists all entries.

@@ -9,7 +9,7 @@ ghost use Rattle.row_table.specs.Tables.Origin.{Created};
 ghost use Rattle.row_table.specs.Keeping.{CommitsNothing, RolledBackWhereRefused, StaysInside, WasOpenWhereRefused};
 ghost use Rattle.row_table.specs.Making.{AddsStation, CommitsLayout, CrashesAsMade, LastsOnceMade, MakesLayout, MakesRowTable, MakesStationTable, ServesOnceMade, StationStartsEmpty};
 
-use crate::entries::make_entry_table;
+use crate::entry_table::make_entry_table;
 use sqlite::{Alter, Connection, Error, Transaction, params};
 
 /// Makes the table of the station, in a transaction in an empty database.

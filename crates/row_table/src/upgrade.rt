@@ -7,7 +7,7 @@ ghost use Rattle.sqlite.specs.Held.{state};
 ghost use Rattle.row_table.specs.Keeping.{CommitsNothing, RolledBackWhereRefused, StaysInside, WasOpenWhereRefused};
 ghost use Rattle.row_table.specs.Making.{CommitsUpgrade, CrashesAsUpgraded, MovesToEntries, SetsLayout};
 
-use crate::entries::{EntryColumns, add_entries, make_entry_table};
+use crate::entry_table::{EntryColumns, add_entries, make_entry_table};
 use sqlite::{Alter, Connection, Error, Transaction};
 
 /// Says in the row of the station that the database is in layout 2, in a transaction.

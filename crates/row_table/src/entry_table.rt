@@ -1,4 +1,4 @@
-//! The statements on the table of entries, in a transaction.
+//! The statements that make the table of entries and fill it, in a transaction.
 
 ghost use Rattle.std.specs.Prelude.{◌≡◌};
 ghost use Rattle.sqlite.specs.State.{Survives};
