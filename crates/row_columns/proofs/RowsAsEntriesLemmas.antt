@@ -14,7 +14,7 @@ use Rattle.row_table.specs.Tables.{Layout}
 use Rattle.row_table.specs.Tables.Layout.{Second}
 use Rattle.row_table.specs.Rows.{whole, stored, found_at, shown_of, AreKeyed, AreRows, Saves}
 use Rattle.row_table.specs.Entries.{entry_row, with_entries}
-use Rattle.row_table.specs.declared.entries.EntryColumns.{EntryColumns}
+use Rattle.row_table.specs.declared.entry_table.EntryColumns.{EntryColumns}
 use Rattle.row_table.proofs.KeyLemmas.{find_new, find_other, once_put}
 use Rattle.protocol.specs.Rows.{Row, blank}
 use Rattle.saved_rows.specs.Saved.{HasPromise, saved_by, RiseFrom}

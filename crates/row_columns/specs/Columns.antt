@@ -38,11 +38,15 @@ whole_in (Real x) = None
 whole_in (Text t) = None
 whole_in (Blob b) = None
 
+-- a ballot may have this round and this owner
+abbrev pub is_ballot : ℕ → ℕ → Bool
+is_ballot round owner = nat_le 1 round && (nat_le 1 owner && nat_le owner most_members)
+
 -- the ballot of a round and an owner, if they are in range
 abbrev pub ballot_from : Option ℕ → Option ℕ → Option Ballot
 ballot_from None owner = None
 ballot_from (Some round) None = None
-ballot_from (Some round) (Some owner) = if nat_le 1 round && (nat_le 1 owner && nat_le owner most_members) then Some (record { round = round; owner = owner }) else None
+ballot_from (Some round) (Some owner) = if is_ballot round owner then Some (record { round = round; owner = owner }) else None
 
 -- this value, unless there is a fault
 abbrev pub unless : {A B : Type 0} → Option A → B → Option B

@@ -6,7 +6,7 @@ use Rattle.row_table.specs.Tables.Origin.{Upgraded}
 use Rattle.row_table.specs.Tables.Layout.{Second}
 use Rattle.row_table.specs.Rows.{stored, AreRows}
 use Rattle.row_table.specs.Entries.{entry_row, with_entries}
-use Rattle.row_table.specs.declared.entries.EntryColumns.{EntryColumns}
+use Rattle.row_table.specs.declared.entry_table.EntryColumns.{EntryColumns}
 use Rattle.protocol.specs.Rows.{Row}
 use Rattle.protocol.specs.Limits.{last_number}
 use Rattle.saved_rows.specs.Saved.{Saved, SameRows, IsListOf}

@@ -1,5 +1,5 @@
 -- The station in its table: whose rows a database holds, and in which layout.
-use Rattle.std.specs.Prelude.{◌≡◌, ◌≢◌, ◌==◌, ℕ, nat_le, ◌&&◌, if◌then◌else◌, map, List, [], ◌∷◌, Option, Some, None, IfSome}
+use Rattle.std.specs.Prelude.{◌≡◌, ◌≢◌, ◌==◌, ℕ, Bool, nat_le, ◌&&◌, if◌then◌else◌, map, List, [], ◌∷◌, Option, Some, None, IfSome}
 use Rattle.protocol.specs.Limits.{most_members}
 use Rattle.sqlite_value.specs.Order.{Row as Columns, column}
 use Rattle.sqlite_trees.specs.Tree.{Trees}
@@ -10,7 +10,16 @@ use Rattle.saved_rows.specs.declared.fault.RowsFault.{RowsFault}
 use Rattle.saved_rows.specs.declared.fault.RowsFault.TheVariants.{Store, WrongStation, WrongSchema, Damaged, OutOfMemory}
 use Rattle.row_columns.specs.Columns.{whole_in}
 
--- what the columns say, the layout's number and the station: the key is 1, the layout is 1 or 2, and the numbers are in range
+-- there may be this member among so many
+abbrev pub is_member_of : ℕ → ℕ → Bool
+is_member_of member members = nat_le 1 member && (nat_le member members && nat_le members most_members)
+
+-- the key is 1, the layout is 1 or 2, and the numbers are in range
+abbrev pub is_station : ℕ → ℕ → ℕ → ℕ → ℕ → Bool
+is_station key layout circuit member members =
+    key == 1 && ((nat_le 1 layout && nat_le layout 2) && (nat_le circuit 65535 && is_member_of member members))
+
+-- what the columns say, if they are those of a station: the layout's number and the station
 abbrev pub station_from : Option ℕ → Option ℕ → Option ℕ → Option ℕ → Option ℕ → Option (ℕ × Identity)
 station_from None layout circuit member members = None
 station_from (Some key) None circuit member members = None
@@ -18,9 +27,7 @@ station_from (Some key) (Some layout) None member members = None
 station_from (Some key) (Some layout) (Some circuit) None members = None
 station_from (Some key) (Some layout) (Some circuit) (Some member) None = None
 station_from (Some key) (Some layout) (Some circuit) (Some member) (Some members) =
-    if key == 1 && ((nat_le 1 layout && nat_le layout 2) && (nat_le circuit 65535 && (nat_le 1 member && (nat_le member members && nat_le members most_members))))
-    then Some (layout, record { circuit = circuit; member = member; members = members })
-    else None
+    if is_station key layout circuit member members then Some (layout, record { circuit = circuit; member = member; members = members }) else None
 
 -- the layout's number and the station that five columns are
 abbrev pub station_of : Columns → Option (ℕ × Identity)

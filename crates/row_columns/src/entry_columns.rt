@@ -7,7 +7,7 @@ ghost use Rattle.tape_frames.specs.Entries.{lent_entry, entry_frames};
 ghost use Rattle.tape_frames.specs.Packing.{packing_of};
 ghost use Rattle.row_table.specs.Tables.{Origin};
 ghost use Rattle.row_table.specs.Tables.Layout.{Second};
-ghost use Rattle.row_table.specs.Entries.{entry_columns};
+ghost use Rattle.row_table.specs.Entries.{columns_of_entry};
 ghost use Rattle.saved_rows.specs.Saved.{HasPromise};
 ghost use Rattle.row_columns.specs.Columns.{packed_entry, entry_in, columns_for, ComesBack, EntriesComeBack};
 
@@ -71,7 +71,7 @@ pub fn entry_columns_for(
     ensures low { 1 ≤ number }
     ensures high { number ≤ last_number }
     ensures number { IfOk result (λ c. c.number ≡ number) }
-    ensures columns { (origin : Origin) → IfOk result (λ c. entry_columns c.promised_round c.promised_owner c.vote_round c.vote_owner c.length (option_map (λ v. v.items) c.packed) ≡ columns_for (Second origin) row.now) }
+    ensures columns { (origin : Origin) → IfOk result (λ c. columns_of_entry c ≡ columns_for (Second origin) row.now) }
     ensures back { (origin : Origin) → OnOk result (ComesBack (Second origin) row.now) }
 {
     let number = number.get();

@@ -7,7 +7,7 @@ use Rattle.sqlite.proofs.StateLemmas.{survives_then}
 use Rattle.sqlite.specs.State.{State, HasCleanDisk, KeepsCommit, Survives}
 use Rattle.row_table.specs.Entries.{HasEntries, entry_row, with_entries}
 use Rattle.row_table.specs.Tables.{Origin}
-use Rattle.row_table.specs.declared.entries.EntryColumns.{EntryColumns}
+use Rattle.row_table.specs.declared.entry_table.EntryColumns.{EntryColumns}
 
 -- what survives each of two statements survives both
 pub survives_both : (a b c : State) → Survives a b (λ _. ⊥) → Survives b c (λ _. ⊥) → Survives a c (λ _. ⊥)

@@ -12,12 +12,13 @@ use Rattle.row_table.specs.Tables.Origin.{Upgraded}
 use Rattle.row_table.specs.Tables.Layout.{First, Second}
 use Rattle.row_table.specs.Rows.{whole, stored}
 use Rattle.row_table.specs.Station.{station_row, station_columns}
-use Rattle.row_table.specs.declared.entries.EntryColumns.{EntryColumns}
+use Rattle.row_table.specs.declared.entry_table.EntryColumns.{EntryColumns}
 
 -- the columns beside the number: the promise, and the vote with the length of its entry and its packed frames
 abbrev pub entry_columns : ℕ → ℕ → Option ℕ → Option ℕ → Option ℕ → Option (List ℕ) → Row
 entry_columns promised_round promised_owner vote_round vote_owner frames packed =
-    whole promised_round ∷ whole promised_owner ∷ or_null whole vote_round ∷ or_null whole vote_owner ∷ or_null whole frames ∷ or_null Blob packed ∷ []
+    whole promised_round ∷ whole promised_owner ∷ or_null whole vote_round ∷ or_null whole vote_owner
+    ∷ or_null whole frames ∷ or_null Blob packed ∷ []
 
 -- the columns of an entry
 abbrev pub columns_of_entry : EntryColumns → Row

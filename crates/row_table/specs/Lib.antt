@@ -5,3 +5,4 @@ pub mod Station
 pub mod Entries
 pub mod Cursor
 pub mod Keeping
+pub mod Making

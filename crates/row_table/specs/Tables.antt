@@ -31,7 +31,8 @@ abbrev pub station : Table
 station = record {
   name = codes "station";
   tree = station_tree;
-  columns = optional_column (codes "one") ∷ number_column (codes "layout") ∷ number_column (codes "circuit") ∷ number_column (codes "member") ∷ number_column (codes "members") ∷ [];
+  columns = optional_column (codes "one") ∷ number_column (codes "layout") ∷ number_column (codes "circuit")
+      ∷ number_column (codes "member") ∷ number_column (codes "members") ∷ [];
   key = Some 0;
   primary = 0 ∷ [];
   uniques = [];

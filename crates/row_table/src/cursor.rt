@@ -1,10 +1,10 @@
 //! Rows that are taken one by one as a query reads them, so that no list of them is kept.
 
-ghost use Rattle.std.specs.Prelude.{◌≡◌, ◌⊎◌, ◌++◌, ◌∷◌, [], false, List, IsTrue, IfOk, OnOk, OnErr};
+ghost use Rattle.std.specs.Prelude.{◌≡◌, ◌++◌, ◌∷◌, [], false, List, IfOk};
 ghost use Rattle.sqlite_value.specs.Order.{Row as RowValue};
-ghost use Rattle.sqlite.specs.State.{HasCleanDisk, IsUnchanged, Survives, Shown, CommitsShowing};
+ghost use Rattle.sqlite.specs.State.{Survives, CommitsShowing};
 ghost use Rattle.sqlite.specs.Held.{state};
-ghost use Rattle.row_table.specs.Cursor.{OnlyReads, WritesNothing, HasGivenFirst};
+ghost use Rattle.row_table.specs.Cursor.{ReadsWithoutChange, TakesAllShown, TakesFirstGiven, WritesNothingWhereRefused};
 
 use sqlite::{Alter, Connection, Error, ErrorCode, Row};
 
@@ -34,18 +34,16 @@ pub(crate) fn each_row<S: Alter, T: Taker>(
     sql: &str,
     taker: &mut T,
 ) -> Result<bool, Error>
-    ensures all { HasCleanDisk (state S.Store conn.new) → OnlyReads (state S.Store conn.old) sql.now
-        → IfOk result (λ all. IsTrue all → (rows : List RowValue) × Shown sql.now [] (state S.Store conn.old) (state S.Store conn.new) rows × T.took taker.old taker.new rows) }
+    ensures all { TakesAllShown T.took taker.old taker.new sql.now result (state S.Store conn.old) (state S.Store conn.new) }
     ensures enough { IfOk result (λ all. all ≡ false → T.has_enough taker.new) }
 
     // However it ends, the taker has had the first of them, or is as it was.
-    ensures front { HasCleanDisk (state S.Store conn.new) → OnlyReads (state S.Store conn.old) sql.now
-        → (taker.new ≡ taker.old) ⊎ ((rows : List RowValue) × HasGivenFirst sql.now (state S.Store conn.old) rows × T.took taker.old taker.new rows) }
+    ensures front { TakesFirstGiven T.took taker.old taker.new sql.now (state S.Store conn.old) (state S.Store conn.new) }
 
     // It has had some rows, and nothing else.
     ensures only { (rows : List RowValue) × T.took taker.old taker.new rows }
-    ensures same { HasCleanDisk (state S.Store conn.new) → OnlyReads (state S.Store conn.old) sql.now → OnOk result (IsUnchanged (state S.Store conn.old) (state S.Store conn.new)) }
-    ensures err { HasCleanDisk (state S.Store conn.new) → OnlyReads (state S.Store conn.old) sql.now → OnErr result (WritesNothing (state S.Store conn.old) (state S.Store conn.new)) }
+    ensures same { ReadsWithoutChange sql.now result (state S.Store conn.old) (state S.Store conn.new) }
+    ensures err { WritesNothingWhereRefused sql.now result (state S.Store conn.old) (state S.Store conn.new) }
     ensures mode { conn.old.in_transaction ≡ false → conn.new.in_transaction ≡ false }
     ensures survives { Survives (state S.Store conn.old) (state S.Store conn.new) (CommitsShowing sql.now [] (state S.Store conn.old)) }
 {

@@ -1,19 +1,17 @@
 //! The statements on the table of entries, outside a transaction.
 
-ghost use Rattle.std.specs.Prelude.{[], List, ◌≡◌, ◌⊎◌, ◌≤◌, false, IfOk, IsTrue, option_to_list};
+ghost use Rattle.std.specs.Prelude.{List, ◌≡◌, ◌≤◌, false, IfOk};
 ghost use Rattle.sqlite_value.specs.Order.{Row as RowValue};
 ghost use Rattle.sqlite_trees.specs.View.{doubt};
-ghost use Rattle.sqlite.specs.State.{HasCleanDisk};
 ghost use Rattle.sqlite.specs.Held.{state};
-ghost use Rattle.row_table.specs.Tables.{Origin, entries_tree, layout_schema};
+ghost use Rattle.row_table.specs.Tables.{Origin};
 ghost use Rattle.row_table.specs.Tables.Layout.{Second};
-ghost use Rattle.row_table.specs.Rows.{Serves, columns_at, IsListing};
-ghost use Rattle.row_table.specs.Cursor.{ListsFirst};
-ghost use Rattle.row_table.specs.Entries.{columns_of_entry};
-ghost use Rattle.row_table.specs.Keeping.{BeginsToServe, ChangesNothing, CrashesAsBefore, CrashesAsSaved, KeptWhereRefused, LeavesAsBefore, SavesRow, ShowsTables, StaysAtRest, StaysKept, StaysOpen};
+ghost use Rattle.row_table.specs.Rows.{Serves};
+ghost use Rattle.row_table.specs.Cursor.{TakesFirstListed, TakesListing};
+ghost use Rattle.row_table.specs.Keeping.{BeginsToServe, ChangesNothing, CrashesAsBefore, CrashesAsEntryPut, FindsRow, KeptWhereRefused, LeavesAsBefore, ListsRows, PutsEntry, ShowsTables, StaysAtRest, StaysKept, StaysOpen};
 
 use crate::cursor::{Taker, each_row};
-use crate::entries::EntryColumns;
+use crate::entry_table::EntryColumns;
 use sqlite::{Alter, Connection, Error, Row, params};
 
 /// The statement that lists all entries.
@@ -23,9 +21,9 @@ const ALL_ENTRIES: &str =
 /// Puts one entry in place of the one under its number. It gives how many rows the statement changed.
 fn replace_entry<S: Alter>(conn: &mut Connection<S>, entry: &EntryColumns) -> Result<usize, Error>
     ensures serves { (origin : Origin) → Serves (Second origin) (state S.Store conn.old) → Serves (Second origin) (state S.Store conn.new) }
-    ensures saved { (origin : Origin) → SavesRow (Second origin) entry.now.number (columns_of_entry entry.now) result (state S.Store conn.old) (state S.Store conn.new) }
+    ensures saved { PutsEntry entry.now result (state S.Store conn.old) (state S.Store conn.new) }
     ensures err { (origin : Origin) → KeptWhereRefused (Second origin) result (state S.Store conn.old) (state S.Store conn.new) }
-    ensures crash { (origin : Origin) → CrashesAsSaved (Second origin) entry.now.number (columns_of_entry entry.now) (state S.Store conn.old) (state S.Store conn.new) }
+    ensures crash { CrashesAsEntryPut entry.now (state S.Store conn.old) (state S.Store conn.new) }
     ensures clean { doubt (state S.Store conn.old).is_clean ≤ doubt (state S.Store conn.new).is_clean }
 {
     conn.execute(
@@ -48,9 +46,9 @@ fn replace_entry<S: Alter>(conn: &mut Connection<S>, entry: &EntryColumns) -> Re
 /// Nothing is then changed. A crash leaves the table as it was, or with this entry saved.
 pub fn put_entry<S: Alter>(conn: &mut Connection<S>, entry: &EntryColumns) -> Result<(), Error>
     ensures serves { (origin : Origin) → Serves (Second origin) (state S.Store conn.old) → Serves (Second origin) (state S.Store conn.new) }
-    ensures saved { (origin : Origin) → SavesRow (Second origin) entry.now.number (columns_of_entry entry.now) result (state S.Store conn.old) (state S.Store conn.new) }
+    ensures saved { PutsEntry entry.now result (state S.Store conn.old) (state S.Store conn.new) }
     ensures err { (origin : Origin) → KeptWhereRefused (Second origin) result (state S.Store conn.old) (state S.Store conn.new) }
-    ensures crash { (origin : Origin) → CrashesAsSaved (Second origin) entry.now.number (columns_of_entry entry.now) (state S.Store conn.old) (state S.Store conn.new) }
+    ensures crash { CrashesAsEntryPut entry.now (state S.Store conn.old) (state S.Store conn.new) }
     ensures clean { doubt (state S.Store conn.old).is_clean ≤ doubt (state S.Store conn.new).is_clean }
 {
     match replace_entry(conn, entry) {
@@ -64,7 +62,7 @@ pub fn put_entry<S: Alter>(conn: &mut Connection<S>, entry: &EntryColumns) -> Re
 /// An error comes where the database refuses the statement: where the table is missing, or the disk fails, or memory is refused. Nothing is then changed.
 pub fn get_entry<S: Alter>(conn: &mut Connection<S>, number: u32) -> Result<Vec<Row>, Error>
     ensures serves { (origin : Origin) → Serves (Second origin) (state S.Store conn.old) → Serves (Second origin) (state S.Store conn.new) }
-    ensures found { (origin : Origin) → Serves (Second origin) (state S.Store conn.old) → HasCleanDisk (state S.Store conn.new) → IfOk result (λ rows. rows.items ≡ option_to_list (columns_at (Second origin) ((state S.Store conn.old).now.trees (entries_tree origin)) number)) }
+    ensures found { (origin : Origin) → FindsRow (Second origin) number result (state S.Store conn.old) (state S.Store conn.new) }
     ensures open { (origin : Origin) → StaysOpen (Second origin) result (state S.Store conn.old) (state S.Store conn.new) }
     ensures same { (origin : Origin) → StaysKept (Second origin) (state S.Store conn.old) (state S.Store conn.new) }
     ensures crash { (origin : Origin) → CrashesAsBefore (Second origin) (state S.Store conn.old) (state S.Store conn.new) }
@@ -81,7 +79,7 @@ pub fn get_entry<S: Alter>(conn: &mut Connection<S>, number: u32) -> Result<Vec<
 /// An error comes where the database refuses the statement, as in `get_entry`.
 pub fn all_entries<S: Alter>(conn: &mut Connection<S>) -> Result<Vec<Row>, Error>
     ensures unchanged { (origin : Origin) → ChangesNothing (Second origin) result (state S.Store conn.old) (state S.Store conn.new) }
-    ensures listed { (origin : Origin) → HasCleanDisk (state S.Store conn.new) → (state S.Store conn.old).now.schema ≡ layout_schema (Second origin) → IfOk result (λ rows. IsListing (Second origin) ((state S.Store conn.old).now.trees (entries_tree origin)) rows.items) }
+    ensures listed { (origin : Origin) → ListsRows (Second origin) result (state S.Store conn.old) (state S.Store conn.new) }
     ensures serves { (origin : Origin) → Serves (Second origin) (state S.Store conn.old) → Serves (Second origin) (state S.Store conn.new) }
     ensures open { (origin : Origin) → StaysOpen (Second origin) result (state S.Store conn.old) (state S.Store conn.new) }
     ensures at_rest { (origin : Origin) → ShowsTables (Second origin) result (state S.Store conn.old) (state S.Store conn.new) }
@@ -102,19 +100,18 @@ pub fn all_entries<S: Alter>(conn: &mut Connection<S>) -> Result<Vec<Row>, Error
 
 /// Hands all entries to a taker, one by one, each with its number first, by their numbers, and answers whether these were all of them.
 ///
-/// They are not all where the taker wanted no more. An error comes where the database refuses the statement, as in `get_entry`; the taker may have had entries by then.
+/// They are not all where the taker wanted no more. An error comes where the database refuses the statement, as in `get_entry`;
+/// the taker may have had entries by then.
 pub fn visit_entries<S: Alter, T: Taker>(
     conn: &mut Connection<S>,
     taker: &mut T,
 ) -> Result<bool, Error>
     ensures unchanged { (origin : Origin) → ChangesNothing (Second origin) result (state S.Store conn.old) (state S.Store conn.new) }
-    ensures listed { (origin : Origin) → HasCleanDisk (state S.Store conn.new) → (state S.Store conn.old).now.schema ≡ layout_schema (Second origin)
-        → IfOk result (λ all. IsTrue all → (rows : List RowValue) × IsListing (Second origin) ((state S.Store conn.old).now.trees (entries_tree origin)) rows × T.took taker.old taker.new rows) }
+    ensures listed { (origin : Origin) → TakesListing (Second origin) T.took taker.old taker.new result (state S.Store conn.old) (state S.Store conn.new) }
     ensures enough { IfOk result (λ all. all ≡ false → T.has_enough taker.new) }
 
     // However it ends, the taker has had the first of them, or is as it was.
-    ensures front { (origin : Origin) → HasCleanDisk (state S.Store conn.new) → (IsTrue (state S.Store conn.old).is_open → (state S.Store conn.old).now.schema ≡ layout_schema (Second origin))
-        → (taker.new ≡ taker.old) ⊎ ((rows : List RowValue) × ListsFirst (Second origin) (state S.Store conn.old) rows × T.took taker.old taker.new rows) }
+    ensures front { (origin : Origin) → TakesFirstListed (Second origin) T.took taker.old taker.new (state S.Store conn.old) (state S.Store conn.new) }
 
     // It has had some rows, and nothing else.
     ensures only { (rows : List RowValue) × T.took taker.old taker.new rows }

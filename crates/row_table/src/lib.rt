@@ -2,8 +2,8 @@
 #![tactic(auto)]
 
 mod cursor;
-mod entries;
 mod entry_rows;
+mod entry_table;
 mod rising;
 mod rows;
 mod station;
@@ -11,8 +11,8 @@ mod tables;
 mod upgrade;
 
 pub use cursor::Taker;
-pub use entries::{EntryColumns, add_entries, add_entry, make_entry_table};
 pub use entry_rows::{all_entries, get_entry, put_entry, visit_entries};
+pub use entry_table::{EntryColumns, add_entries, add_entry, make_entry_table};
 pub use rising::{are_rising, number_above, rising_is_listed, rows_rise};
 pub use rows::{all_rows, get_row, put_row, visit_rows};
 pub use station::get_station;

@@ -1,15 +1,13 @@
 //! The statements on the table of rows.
 
-ghost use Rattle.std.specs.Prelude.{[], List, ◌≡◌, ◌⊎◌, ◌≤◌, IfOk, option_to_list, IsTrue, option_map, false};
+ghost use Rattle.std.specs.Prelude.{List, ◌≡◌, ◌≤◌, IfOk, false};
 ghost use Rattle.sqlite_value.specs.Order.{Row as RowValue};
 ghost use Rattle.sqlite_trees.specs.View.{doubt};
-ghost use Rattle.sqlite.specs.State.{HasCleanDisk};
 ghost use Rattle.sqlite.specs.Held.{state};
-ghost use Rattle.row_table.specs.Tables.{rows_tree, layout_schema};
 ghost use Rattle.row_table.specs.Tables.Layout.{First};
-ghost use Rattle.row_table.specs.Rows.{columns_of, columns_at, Serves, IsListing};
-ghost use Rattle.row_table.specs.Cursor.{ListsFirst};
-ghost use Rattle.row_table.specs.Keeping.{BeginsToServe, ChangesNothing, CrashesAsBefore, CrashesAsSaved, KeptWhereRefused, LeavesAsBefore, SavesRow, ShowsTables, StaysAtRest, StaysKept, StaysOpen};
+ghost use Rattle.row_table.specs.Rows.{Serves};
+ghost use Rattle.row_table.specs.Cursor.{TakesFirstListed, TakesListing};
+ghost use Rattle.row_table.specs.Keeping.{BeginsToServe, ChangesNothing, CrashesAsBefore, CrashesAsRowPut, FindsRow, KeptWhereRefused, LeavesAsBefore, ListsRows, PutsRow, ShowsTables, StaysAtRest, StaysKept, StaysOpen};
 
 use crate::cursor::{Taker, each_row};
 use sqlite::{Alter, Connection, Error, Row, params};
@@ -29,9 +27,9 @@ fn replace_row<S: Alter>(
     tape: Option<&[u8]>,
 ) -> Result<usize, Error>
     ensures serves { Serves First (state S.Store conn.old) → Serves First (state S.Store conn.new) }
-    ensures saved { SavesRow First number (columns_of promised_round promised_owner vote_round vote_owner (option_map (λ b. b.now) tape.entry)) result (state S.Store conn.old) (state S.Store conn.new) }
+    ensures saved { PutsRow number promised_round promised_owner vote_round vote_owner tape.entry result (state S.Store conn.old) (state S.Store conn.new) }
     ensures err { KeptWhereRefused First result (state S.Store conn.old) (state S.Store conn.new) }
-    ensures crash { CrashesAsSaved First number (columns_of promised_round promised_owner vote_round vote_owner (option_map (λ b. b.now) tape.entry)) (state S.Store conn.old) (state S.Store conn.new) }
+    ensures crash { CrashesAsRowPut number promised_round promised_owner vote_round vote_owner tape.entry (state S.Store conn.old) (state S.Store conn.new) }
     ensures clean { doubt (state S.Store conn.old).is_clean ≤ doubt (state S.Store conn.new).is_clean }
 {
     conn.execute(
@@ -58,9 +56,9 @@ pub fn put_row<S: Alter>(
     tape: Option<&[u8]>,
 ) -> Result<(), Error>
     ensures serves { Serves First (state S.Store conn.old) → Serves First (state S.Store conn.new) }
-    ensures saved { SavesRow First number (columns_of promised_round promised_owner vote_round vote_owner (option_map (λ b. b.now) tape.entry)) result (state S.Store conn.old) (state S.Store conn.new) }
+    ensures saved { PutsRow number promised_round promised_owner vote_round vote_owner tape.entry result (state S.Store conn.old) (state S.Store conn.new) }
     ensures err { KeptWhereRefused First result (state S.Store conn.old) (state S.Store conn.new) }
-    ensures crash { CrashesAsSaved First number (columns_of promised_round promised_owner vote_round vote_owner (option_map (λ b. b.now) tape.entry)) (state S.Store conn.old) (state S.Store conn.new) }
+    ensures crash { CrashesAsRowPut number promised_round promised_owner vote_round vote_owner tape.entry (state S.Store conn.old) (state S.Store conn.new) }
     ensures clean { doubt (state S.Store conn.old).is_clean ≤ doubt (state S.Store conn.new).is_clean }
 {
     let replaced = replace_row(
@@ -81,7 +79,7 @@ pub fn put_row<S: Alter>(
 /// The columns that are saved under a number: at most one row.
 pub fn get_row<S: Alter>(conn: &mut Connection<S>, number: u32) -> Result<Vec<Row>, Error>
     ensures serves { Serves First (state S.Store conn.old) → Serves First (state S.Store conn.new) }
-    ensures found { Serves First (state S.Store conn.old) → HasCleanDisk (state S.Store conn.new) → IfOk result (λ rows. rows.items ≡ option_to_list (columns_at First ((state S.Store conn.old).now.trees rows_tree) number)) }
+    ensures found { FindsRow First number result (state S.Store conn.old) (state S.Store conn.new) }
     ensures open { StaysOpen First result (state S.Store conn.old) (state S.Store conn.new) }
     ensures same { StaysKept First (state S.Store conn.old) (state S.Store conn.new) }
     ensures crash { CrashesAsBefore First (state S.Store conn.old) (state S.Store conn.new) }
@@ -96,7 +94,7 @@ pub fn get_row<S: Alter>(conn: &mut Connection<S>, number: u32) -> Result<Vec<Ro
 /// All rows, by their numbers.
 pub fn all_rows<S: Alter>(conn: &mut Connection<S>) -> Result<Vec<Row>, Error>
     ensures unchanged { ChangesNothing First result (state S.Store conn.old) (state S.Store conn.new) }
-    ensures listed { HasCleanDisk (state S.Store conn.new) → (state S.Store conn.old).now.schema ≡ layout_schema First → IfOk result (λ rows. IsListing First ((state S.Store conn.old).now.trees rows_tree) rows.items) }
+    ensures listed { ListsRows First result (state S.Store conn.old) (state S.Store conn.new) }
     ensures serves { Serves First (state S.Store conn.old) → Serves First (state S.Store conn.new) }
     ensures open { StaysOpen First result (state S.Store conn.old) (state S.Store conn.new) }
     ensures at_rest { ShowsTables First result (state S.Store conn.old) (state S.Store conn.new) }
@@ -117,19 +115,18 @@ pub fn all_rows<S: Alter>(conn: &mut Connection<S>) -> Result<Vec<Row>, Error>
 
 /// Hands all rows to a taker, one by one and by their numbers, and answers whether these were all of them.
 ///
-/// They are not all where the taker wanted no more. An error comes where the database refuses the statement, as in `all_rows`; the taker may have had rows by then.
+/// They are not all where the taker wanted no more. An error comes where the database refuses the statement, as in `all_rows`;
+/// the taker may have had rows by then.
 pub fn visit_rows<S: Alter, T: Taker>(
     conn: &mut Connection<S>,
     taker: &mut T,
 ) -> Result<bool, Error>
     ensures unchanged { ChangesNothing First result (state S.Store conn.old) (state S.Store conn.new) }
-    ensures listed { HasCleanDisk (state S.Store conn.new) → (state S.Store conn.old).now.schema ≡ layout_schema First
-        → IfOk result (λ all. IsTrue all → (rows : List RowValue) × IsListing First ((state S.Store conn.old).now.trees rows_tree) rows × T.took taker.old taker.new rows) }
+    ensures listed { TakesListing First T.took taker.old taker.new result (state S.Store conn.old) (state S.Store conn.new) }
     ensures enough { IfOk result (λ all. all ≡ false → T.has_enough taker.new) }
 
     // However it ends, the taker has had the first of them, or is as it was.
-    ensures front { HasCleanDisk (state S.Store conn.new) → (IsTrue (state S.Store conn.old).is_open → (state S.Store conn.old).now.schema ≡ layout_schema First)
-        → (taker.new ≡ taker.old) ⊎ ((rows : List RowValue) × ListsFirst First (state S.Store conn.old) rows × T.took taker.old taker.new rows) }
+    ensures front { TakesFirstListed First T.took taker.old taker.new (state S.Store conn.old) (state S.Store conn.new) }
 
     // It has had some rows, and nothing else.
     ensures only { (rows : List RowValue) × T.took taker.old taker.new rows }

@@ -1,26 +1,22 @@
 //! The statements that make the tables, in one transaction.
 
-ghost use Rattle.std.specs.Prelude.{◌≡◌, ◌⊎◌, ◌≤◌, false, [], OnOk, IsTrue};
+ghost use Rattle.std.specs.Prelude.{◌≡◌, ◌≤◌, false};
 ghost use Rattle.sqlite_trees.specs.View.{doubt};
-ghost use Rattle.sqlite.specs.State.{HasCleanDisk, Survives};
+ghost use Rattle.sqlite.specs.State.{Survives};
 ghost use Rattle.sqlite.specs.Held.{state};
-ghost use Rattle.row_table.specs.Tables.{Layout, no_schema, station_schema, station_tree, layout_number};
 ghost use Rattle.row_table.specs.Tables.Layout.{First, Second};
 ghost use Rattle.row_table.specs.Tables.Origin.{Created};
-ghost use Rattle.row_table.specs.Rows.{Serves};
-ghost use Rattle.row_table.specs.Station.{HoldsNone, HasTables, HasAll, WasMade};
 ghost use Rattle.row_table.specs.Keeping.{CommitsNothing, RolledBackWhereRefused, StaysInside, WasOpenWhereRefused};
+ghost use Rattle.row_table.specs.Making.{AddsStation, CommitsLayout, CrashesAsMade, LastsOnceMade, MakesLayout, MakesRowTable, MakesStationTable, ServesOnceMade, StationStartsEmpty};
 
-use crate::entries::make_entry_table;
+use crate::entry_table::make_entry_table;
 use sqlite::{Alter, Connection, Error, Transaction, params};
 
 /// Makes the table of the station, in a transaction in an empty database.
 fn make_station_table<S: Alter>(tx: &mut Transaction<'_, S>) -> Result<(), Error>
     ensures same_reference { tx.new.conn.ghost_name ≡ tx.old.conn.ghost_name }
-    ensures schema { HasCleanDisk (state S.Store tx.new.conn.now) → IsTrue (state S.Store tx.old.conn.now).in_transaction → (state S.Store tx.old.conn.now).now.schema ≡ no_schema
-        → OnOk result ((state S.Store tx.new.conn.now).now.schema ≡ station_schema) }
-    ensures empty { HasCleanDisk (state S.Store tx.new.conn.now) → IsTrue (state S.Store tx.old.conn.now).in_transaction → (state S.Store tx.old.conn.now).now.schema ≡ no_schema
-        → OnOk result ((state S.Store tx.new.conn.now).now.trees station_tree ≡ []) }
+    ensures schema { MakesStationTable result (state S.Store tx.old.conn.now) (state S.Store tx.new.conn.now) }
+    ensures empty { StationStartsEmpty result (state S.Store tx.old.conn.now) (state S.Store tx.new.conn.now) }
     ensures inside { StaysInside result (state S.Store tx.old.conn.now) (state S.Store tx.new.conn.now) }
     ensures kept { CommitsNothing (state S.Store tx.old.conn.now) (state S.Store tx.new.conn.now) }
     ensures survives { Survives (state S.Store tx.old.conn.now) (state S.Store tx.new.conn.now) (λ _. ⊥) }
@@ -35,9 +31,7 @@ fn make_station_table<S: Alter>(tx: &mut Transaction<'_, S>) -> Result<(), Error
 /// Makes the table of rows beside that of the station, in a transaction.
 fn make_row_table<S: Alter>(tx: &mut Transaction<'_, S>) -> Result<(), Error>
     ensures same_reference { tx.new.conn.ghost_name ≡ tx.old.conn.ghost_name }
-    ensures made { HasCleanDisk (state S.Store tx.new.conn.now) → IsTrue (state S.Store tx.old.conn.now).in_transaction
-        → (state S.Store tx.old.conn.now).now.schema ≡ station_schema → (state S.Store tx.old.conn.now).now.trees station_tree ≡ []
-        → OnOk result (HasTables First (state S.Store tx.new.conn.now)) }
+    ensures made { MakesRowTable result (state S.Store tx.old.conn.now) (state S.Store tx.new.conn.now) }
     ensures inside { StaysInside result (state S.Store tx.old.conn.now) (state S.Store tx.new.conn.now) }
     ensures kept { CommitsNothing (state S.Store tx.old.conn.now) (state S.Store tx.new.conn.now) }
     ensures survives { Survives (state S.Store tx.old.conn.now) (state S.Store tx.new.conn.now) (λ _. ⊥) }
@@ -58,8 +52,7 @@ fn add_station<S: Alter>(
     members: u32,
 ) -> Result<(), Error>
     ensures same_reference { tx.new.conn.ghost_name ≡ tx.old.conn.ghost_name }
-    ensures added { HasCleanDisk (state S.Store tx.new.conn.now) → (declared : Layout) → layout ≡ layout_number declared → HasTables declared (state S.Store tx.old.conn.now)
-        → OnOk result (HasAll declared circuit member members (state S.Store tx.new.conn.now)) }
+    ensures added { AddsStation layout circuit member members result (state S.Store tx.old.conn.now) (state S.Store tx.new.conn.now) }
     ensures inside { StaysInside result (state S.Store tx.old.conn.now) (state S.Store tx.new.conn.now) }
     ensures kept { CommitsNothing (state S.Store tx.old.conn.now) (state S.Store tx.new.conn.now) }
     ensures survives { Survives (state S.Store tx.old.conn.now) (state S.Store tx.new.conn.now) (λ _. ⊥) }
@@ -79,8 +72,7 @@ fn make_layout_1<S: Alter>(
     members: u32,
 ) -> Result<(), Error>
     ensures same_reference { tx.new.conn.ghost_name ≡ tx.old.conn.ghost_name }
-    ensures made { HasCleanDisk (state S.Store tx.new.conn.now) → IsTrue (state S.Store tx.old.conn.now).in_transaction → (state S.Store tx.old.conn.now).now.schema ≡ no_schema
-        → OnOk result (HasAll First circuit member members (state S.Store tx.new.conn.now)) }
+    ensures made { MakesLayout First circuit member members result (state S.Store tx.old.conn.now) (state S.Store tx.new.conn.now) }
     ensures inside { StaysInside result (state S.Store tx.old.conn.now) (state S.Store tx.new.conn.now) }
     ensures kept { CommitsNothing (state S.Store tx.old.conn.now) (state S.Store tx.new.conn.now) }
     ensures survives { Survives (state S.Store tx.old.conn.now) (state S.Store tx.new.conn.now) (λ _. ⊥) }
@@ -99,8 +91,7 @@ fn make_layout_2<S: Alter>(
     members: u32,
 ) -> Result<(), Error>
     ensures same_reference { tx.new.conn.ghost_name ≡ tx.old.conn.ghost_name }
-    ensures made { HasCleanDisk (state S.Store tx.new.conn.now) → IsTrue (state S.Store tx.old.conn.now).in_transaction → (state S.Store tx.old.conn.now).now.schema ≡ no_schema
-        → OnOk result (HasAll (Second Created) circuit member members (state S.Store tx.new.conn.now)) }
+    ensures made { MakesLayout (Second Created) circuit member members result (state S.Store tx.old.conn.now) (state S.Store tx.new.conn.now) }
     ensures inside { StaysInside result (state S.Store tx.old.conn.now) (state S.Store tx.new.conn.now) }
     ensures kept { CommitsNothing (state S.Store tx.old.conn.now) (state S.Store tx.new.conn.now) }
     ensures survives { Survives (state S.Store tx.old.conn.now) (state S.Store tx.new.conn.now) (λ _. ⊥) }
@@ -121,14 +112,12 @@ pub fn create_tables<S: Alter>(
     members: u32,
 ) -> Result<(), Error>
     requires { conn.old.in_transaction ≡ false }
-    ensures made { HasCleanDisk (state S.Store conn.new) → (state S.Store conn.old).now.schema ≡ no_schema → OnOk result (WasMade First circuit member members (state S.Store conn.new)) }
-    ensures serves { (state S.Store conn.old).now.schema ≡ no_schema → HasCleanDisk (state S.Store conn.new) → OnOk result (Serves First (state S.Store conn.new)) }
-    ensures lasting { HasCleanDisk (state S.Store conn.new) → (state S.Store conn.old).now.schema ≡ no_schema
-        → OnOk result ((db : _) → (state S.Store conn.new).may_leave db → HoldsNone First circuit member members db) }
+    ensures made { CommitsLayout First circuit member members result (state S.Store conn.old) (state S.Store conn.new) }
+    ensures serves { ServesOnceMade First result (state S.Store conn.old) (state S.Store conn.new) }
+    ensures lasting { LastsOnceMade First circuit member members result (state S.Store conn.old) (state S.Store conn.new) }
     ensures was_open { WasOpenWhereRefused result (state S.Store conn.old) (state S.Store conn.new) }
     ensures neither { RolledBackWhereRefused result (state S.Store conn.old) (state S.Store conn.new) }
-    ensures crash { HasCleanDisk (state S.Store conn.new) → (state S.Store conn.old).now.schema ≡ no_schema
-        → (db : _) → (state S.Store conn.new).may_leave db → (state S.Store conn.old).may_leave db ⊎ HoldsNone First circuit member members db }
+    ensures crash { CrashesAsMade First circuit member members (state S.Store conn.old) (state S.Store conn.new) }
     ensures clean { doubt (state S.Store conn.old).is_clean ≤ doubt (state S.Store conn.new).is_clean }
 {
     let mut tx = conn.transaction();
@@ -147,14 +136,12 @@ pub fn create_entry_tables<S: Alter>(
     members: u32,
 ) -> Result<(), Error>
     requires { conn.old.in_transaction ≡ false }
-    ensures made { HasCleanDisk (state S.Store conn.new) → (state S.Store conn.old).now.schema ≡ no_schema → OnOk result (WasMade (Second Created) circuit member members (state S.Store conn.new)) }
-    ensures serves { (state S.Store conn.old).now.schema ≡ no_schema → HasCleanDisk (state S.Store conn.new) → OnOk result (Serves (Second Created) (state S.Store conn.new)) }
-    ensures lasting { HasCleanDisk (state S.Store conn.new) → (state S.Store conn.old).now.schema ≡ no_schema
-        → OnOk result ((db : _) → (state S.Store conn.new).may_leave db → HoldsNone (Second Created) circuit member members db) }
+    ensures made { CommitsLayout (Second Created) circuit member members result (state S.Store conn.old) (state S.Store conn.new) }
+    ensures serves { ServesOnceMade (Second Created) result (state S.Store conn.old) (state S.Store conn.new) }
+    ensures lasting { LastsOnceMade (Second Created) circuit member members result (state S.Store conn.old) (state S.Store conn.new) }
     ensures was_open { WasOpenWhereRefused result (state S.Store conn.old) (state S.Store conn.new) }
     ensures neither { RolledBackWhereRefused result (state S.Store conn.old) (state S.Store conn.new) }
-    ensures crash { HasCleanDisk (state S.Store conn.new) → (state S.Store conn.old).now.schema ≡ no_schema
-        → (db : _) → (state S.Store conn.new).may_leave db → (state S.Store conn.old).may_leave db ⊎ HoldsNone (Second Created) circuit member members db }
+    ensures crash { CrashesAsMade (Second Created) circuit member members (state S.Store conn.old) (state S.Store conn.new) }
     ensures clean { doubt (state S.Store conn.old).is_clean ≤ doubt (state S.Store conn.new).is_clean }
 {
     let mut tx = conn.transaction();

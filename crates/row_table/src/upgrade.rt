@@ -1,23 +1,19 @@
 //! The upgrade from the table of rows to the table of entries, in one transaction.
 
-ghost use Rattle.std.specs.Prelude.{◌≡◌, ◌⊎◌, ◌≤◌, false, [], List, OnOk, IsTrue};
-ghost use Rattle.sqlite_value.specs.Order.{Row};
+ghost use Rattle.std.specs.Prelude.{◌≡◌, ◌≤◌, false};
 ghost use Rattle.sqlite_trees.specs.View.{doubt};
-ghost use Rattle.sqlite.specs.State.{HasCleanDisk, Survives};
+ghost use Rattle.sqlite.specs.State.{Survives};
 ghost use Rattle.sqlite.specs.Held.{state};
-ghost use Rattle.row_table.specs.Tables.{row_schema};
-ghost use Rattle.row_table.specs.Tables.Origin.{Upgraded};
-ghost use Rattle.row_table.specs.Entries.{HasEntries, HasLayoutOne, HasUpgraded, IsUpgraded, WasUpgraded, with_entries};
 ghost use Rattle.row_table.specs.Keeping.{CommitsNothing, RolledBackWhereRefused, StaysInside, WasOpenWhereRefused};
+ghost use Rattle.row_table.specs.Making.{CommitsUpgrade, CrashesAsUpgraded, MovesToEntries, SetsLayout};
 
-use crate::entries::{EntryColumns, add_entries, make_entry_table};
+use crate::entry_table::{EntryColumns, add_entries, make_entry_table};
 use sqlite::{Alter, Connection, Error, Transaction};
 
 /// Says in the row of the station that the database is in layout 2, in a transaction.
 fn set_layout<S: Alter>(tx: &mut Transaction<'_, S>) -> Result<(), Error>
     ensures same_reference { tx.new.conn.ghost_name ≡ tx.old.conn.ghost_name }
-    ensures laid { HasCleanDisk (state S.Store tx.new.conn.now) → (before : _) (rows : List Row) → HasEntries Upgraded before rows (state S.Store tx.old.conn.now) → HasLayoutOne before
-        → OnOk result (HasUpgraded before rows (state S.Store tx.new.conn.now)) }
+    ensures laid { SetsLayout result (state S.Store tx.old.conn.now) (state S.Store tx.new.conn.now) }
     ensures inside { StaysInside result (state S.Store tx.old.conn.now) (state S.Store tx.new.conn.now) }
     ensures kept { CommitsNothing (state S.Store tx.old.conn.now) (state S.Store tx.new.conn.now) }
     ensures survives { Survives (state S.Store tx.old.conn.now) (state S.Store tx.new.conn.now) (λ _. ⊥) }
@@ -32,9 +28,7 @@ fn move_to_entries<S: Alter>(
     entries: &[EntryColumns],
 ) -> Result<(), Error>
     ensures same_reference { tx.new.conn.ghost_name ≡ tx.old.conn.ghost_name }
-    ensures moved { HasCleanDisk (state S.Store tx.new.conn.now) → IsTrue (state S.Store tx.old.conn.now).in_transaction
-        → (state S.Store tx.old.conn.now).now.schema ≡ row_schema → HasLayoutOne (state S.Store tx.old.conn.now).now.trees
-        → OnOk result (HasUpgraded (state S.Store tx.old.conn.now).now.trees (with_entries entries.now []) (state S.Store tx.new.conn.now)) }
+    ensures moved { MovesToEntries entries.now result (state S.Store tx.old.conn.now) (state S.Store tx.new.conn.now) }
     ensures inside { StaysInside result (state S.Store tx.old.conn.now) (state S.Store tx.new.conn.now) }
     ensures kept { CommitsNothing (state S.Store tx.old.conn.now) (state S.Store tx.new.conn.now) }
     ensures survives { Survives (state S.Store tx.old.conn.now) (state S.Store tx.new.conn.now) (λ _. ⊥) }
@@ -47,19 +41,18 @@ fn move_to_entries<S: Alter>(
 
 /// Upgrades a database of layout 1 to layout 2, with these entries in its table of entries, in one transaction.
 ///
-/// The table of rows stays as it was. An error comes where the database refuses a statement or the commit: where a table of entries is there, or two
-/// entries have one number, or the disk fails or is full, or memory is refused. Nothing is then changed. A crash leaves the database as it was, or with all of this.
+/// The table of rows stays as it was. An error comes where the database refuses a statement or the commit: where a table of entries is there,
+/// or two entries have one number, or the disk fails or is full, or memory is refused. Nothing is then changed. A crash leaves the database
+/// as it was, or with all of this.
 pub fn upgrade_tables<S: Alter>(
     conn: &mut Connection<S>,
     entries: &[EntryColumns],
 ) -> Result<(), Error>
     requires { conn.old.in_transaction ≡ false }
-    ensures upgraded { HasCleanDisk (state S.Store conn.new) → (state S.Store conn.old).now.schema ≡ row_schema → HasLayoutOne (state S.Store conn.old).now.trees
-        → OnOk result (WasUpgraded (state S.Store conn.old).now.trees (with_entries entries.now []) (state S.Store conn.new)) }
+    ensures upgraded { CommitsUpgrade entries.now result (state S.Store conn.old) (state S.Store conn.new) }
     ensures was_open { WasOpenWhereRefused result (state S.Store conn.old) (state S.Store conn.new) }
     ensures neither { RolledBackWhereRefused result (state S.Store conn.old) (state S.Store conn.new) }
-    ensures crash { HasCleanDisk (state S.Store conn.new) → (state S.Store conn.old).now.schema ≡ row_schema → HasLayoutOne (state S.Store conn.old).now.trees
-        → (db : _) → (state S.Store conn.new).may_leave db → (state S.Store conn.old).may_leave db ⊎ IsUpgraded (state S.Store conn.old).now.trees (with_entries entries.now []) db }
+    ensures crash { CrashesAsUpgraded entries.now (state S.Store conn.old) (state S.Store conn.new) }
     ensures clean { doubt (state S.Store conn.old).is_clean ≤ doubt (state S.Store conn.new).is_clean }
 {
     let mut tx = conn.transaction();

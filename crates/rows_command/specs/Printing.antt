@@ -1,12 +1,12 @@
 -- What is written of rows as they come.
-use Rattle.std.specs.Prelude.{◌≡◌, ℕ, List, [], Bool, true, false, Option, Some, None, refl}
-use Rattle.std.proofs.Common.{sym, subst}
+use Rattle.std.specs.Prelude.{◌≡◌, ℕ, List, [], Bool, true, false, Option, Some, None, Result, OnOk}
 use Rattle.std.specs.Io.KnownBytes.{Appends}
 use Rattle.protocol.specs.Rows.{Row}
 use Rattle.streams.specs.Fronts.{AppendsFront}
 use Rattle.saved_rows.specs.Saved.{Saved, IsListOf}
 use Rattle.saved_rows.specs.declared.identity.Identity.{Identity}
 use Rattle.rows_command.specs.declared.printing.LineFault.{LineFault}
+use Rattle.rows_command.specs.declared.printing.Printer.{Printer}
 use Rattle.rows_command.specs.RowsText.{station_line, rows_text}
 
 -- the line of the station, unless it stands there
@@ -20,11 +20,20 @@ Prints i old new begun (Some fault) rows = AppendsFront old new (rows_text i row
 Prints i old new true None rows = Appends old new (rows_text i rows)
 Prints i old new false None rows = (new ≡ old) × (rows ≡ [])
 
+-- no row came, and nothing was written
+abbrev pub PrintsNone : Identity → Option (List ℕ) → Bool → Option LineFault → Type 0
+PrintsNone i contents begun fault = Prints i contents contents begun fault []
+
+-- the printer writes where it wrote, of the same station, and where none had come before, these rows came
+abbrev pub PrintsOn : {W : Type 0} → (W → Option (List ℕ)) → Printer W → Printer W → List (ℕ × Row) → Type 0
+PrintsOn contents old new rows =
+    (old.out.ghost_name ≡ new.out.ghost_name) × (new.station ≡ old.station)
+    × ((old.begun ≡ false) × (old.fault ≡ None) → Prints old.station (contents old.out.now) (contents new.out.now) new.begun new.fault rows)
+
 -- the rows that came are all of the map
 abbrev pub PrintsAll : Saved → Identity → Option (List ℕ) → Option (List ℕ) → Bool → Type 0
 PrintsAll saved i old new begun = (rows : List (ℕ × Row)) × IsListOf saved rows × Prints i old new begun None rows
 
--- before the first row nothing is written
-pub prints_none : (i : Identity) (contents : Option (List ℕ)) (begun : Bool) (fault : Option LineFault) → (begun ≡ false) × (fault ≡ None) → Prints i contents contents begun fault []
-prints_none i contents begun fault h =
-    subst (λ (b : Bool). Prints i contents contents b fault []) (sym h.0) (subst (λ (f : Option LineFault). Prints i contents contents false f []) (sym h.1) (refl, refl))
+-- so they are where the reading came to its end
+abbrev pub PrintsAllWhereOk : {A E : Type 0} → Bool × Result A E → Saved → Identity → Option (List ℕ) → Option (List ℕ) → Type 0
+PrintsAllWhereOk result saved i old new = OnOk result.1 (PrintsAll saved i old new result.0)

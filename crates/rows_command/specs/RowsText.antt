@@ -1,12 +1,15 @@
 -- What `rows` writes: whose rows they are, and a line for each. And what `upgrade` writes.
-use Rattle.std.specs.Prelude.{ℕ, List, ◌++◌, Option, Some, None, codes, decimal, flat_map}
+use Rattle.std.specs.Prelude.{◌≡◌, ◌⊎◌, ℕ, List, ◌++◌, Option, Some, None, codes, decimal, flat_map}
 use Rattle.std.specs.Io.KnownBytes.{Appends}
 use Rattle.protocol.specs.Ballots.{Ballot}
 use Rattle.protocol.specs.Rows.{Vote, Row}
+use Rattle.protocol.specs.Versions.{Version, Two}
 use Rattle.streams.specs.Fronts.{AppendsFront}
 use Rattle.saved_rows.specs.Saved.{Saved, IsListOf}
 use Rattle.saved_rows.specs.declared.identity.Identity.{Identity}
 use Rattle.command_ends.specs.EntryText.{entry_text}
+use Rattle.command_ends.specs.declared.end.End.{End}
+use Rattle.command_ends.specs.declared.end.End.TheVariants.{Done}
 
 -- a ballot is its round, a dot and its owner
 abbrev pub ballot_text : Ballot → List ℕ
@@ -49,3 +52,15 @@ pub record IsFrontPrinted (saved : Saved) (station : Identity) (old new : Option
   pub rows : List (ℕ × Row)
   pub are_all : IsListOf saved rows
   pub wrote : AppendsFront old new (rows_text station rows)
+
+-- where it ends well, all of that was written
+abbrev pub PrintsWhereDone : End → Saved → Identity → Option (List ℕ) → Option (List ℕ) → Type 0
+PrintsWhereDone result saved station old new = result ≡ Done → IsPrinted saved station old new
+
+-- nothing was written, or a front of that
+abbrev pub PrintsNoneOrFront : Saved → Identity → Option (List ℕ) → Option (List ℕ) → Type 0
+PrintsNoneOrFront saved station old new = (new ≡ old) ⊎ IsFrontPrinted saved station old new
+
+-- nothing was written, or a front of the line, of rows that went over
+abbrev pub TellsNoneOrFront : Version → Option (List ℕ) → Option (List ℕ) → Type 0
+TellsNoneOrFront version old new = (new ≡ old) ⊎ ((version ≡ Two) × AppendsFront old new layout_text)

@@ -1,14 +1,13 @@
 //! The command `rows`: what a database of saved rows holds.
 
-ghost use Rattle.std.specs.Prelude.{◌≡◌, ◌⊎◌, None, IsTrue, IsOk, IsErr, IfErr, OnOk, OnErr};
+ghost use Rattle.std.specs.Prelude.{◌≡◌, None, IsTrue, IsOk, IsErr, IfErr, OnOk, OnErr};
 ghost use Rattle.std.specs.Io.KnownBytes.{Appends};
 ghost use Rattle.streams.specs.Fronts.{AppendsFront};
 ghost use Rattle.saved_rows.specs.Saved.{SameRows};
 ghost use Rattle.acceptor_store.specs.Sqlite.{IsKept, IsOpen, saved_of, MayLeave};
-ghost use Rattle.rows_command.specs.RowsText.{IsPrinted, IsFrontPrinted};
-ghost use Rattle.rows_command.specs.Printing.{head_text, PrintsAll};
+ghost use Rattle.rows_command.specs.RowsText.{PrintsWhereDone, PrintsNoneOrFront};
+ghost use Rattle.rows_command.specs.Printing.{head_text, PrintsAllWhereOk};
 ghost use Rattle.command_ends.specs.Ends.{end_of, IsOfWriting, IsOfRows};
-ghost use Rattle.command_ends.specs.declared.end.End.TheVariants.{Done};
 
 use crate::printing::{LineFault, Printer, put_head};
 use acceptor_store::SqliteRows;
@@ -48,8 +47,8 @@ fn print_seen<S: Alter + Drop, W: Write>(
     rows: &mut SqliteRows<S>,
     out: &mut W,
 ) -> (bool, Result<(), Fault<'static>>)
-    ensures all { IsKept S.Store rows.new → OnOk result.1 (PrintsAll (saved_of S.Store rows.old) rows.old.identity (W.contents out.old) (W.contents out.new) result.0) }
-    ensures front { IsKept S.Store rows.new → (W.contents out.new ≡ W.contents out.old) ⊎ IsFrontPrinted (saved_of S.Store rows.old) rows.old.identity (W.contents out.old) (W.contents out.new) }
+    ensures all { IsKept S.Store rows.new → PrintsAllWhereOk result (saved_of S.Store rows.old) rows.old.identity (W.contents out.old) (W.contents out.new) }
+    ensures front { IsKept S.Store rows.new → PrintsNoneOrFront (saved_of S.Store rows.old) rows.old.identity (W.contents out.old) (W.contents out.new) }
     ensures ends { IfErr result.1 (λ fault. IsOfRows (end_of fault)) }
     ensures same { IsKept S.Store rows.new → IsOpen S.Store rows.new → SameRows (saved_of S.Store rows.old) (saved_of S.Store rows.new) }
     ensures crash { IsKept S.Store rows.new → IsOpen S.Store rows.old → (left : _) → MayLeave S.Store rows.new left → MayLeave S.Store rows.old left }
@@ -102,8 +101,8 @@ pub fn print_rows<S: Alter + Drop, W: Write, E: Write>(
     out: &mut W,
     err: &mut E,
 ) -> End
-    ensures done { IsKept S.Store rows.new → result ≡ Done → IsPrinted (saved_of S.Store rows.old) rows.old.identity (W.contents out.old) (W.contents out.new) }
-    ensures front { IsKept S.Store rows.new → (W.contents out.new ≡ W.contents out.old) ⊎ IsFrontPrinted (saved_of S.Store rows.old) rows.old.identity (W.contents out.old) (W.contents out.new) }
+    ensures done { IsKept S.Store rows.new → PrintsWhereDone result (saved_of S.Store rows.old) rows.old.identity (W.contents out.old) (W.contents out.new) }
+    ensures front { IsKept S.Store rows.new → PrintsNoneOrFront (saved_of S.Store rows.old) rows.old.identity (W.contents out.old) (W.contents out.new) }
 
     // A fault of the rows, the output or memory ends it, and nothing else.
     ensures ends { IsOfRows result }

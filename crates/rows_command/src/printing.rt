@@ -1,10 +1,11 @@
 //! Rows that are written as they come.
 
-ghost use Rattle.std.specs.Prelude.{◌≡◌, ◌++◌, false, None, IsSome, OnOk, OnErr, refl};
+ghost use Rattle.std.specs.Prelude.{◌++◌, IsSome, OnOk, OnErr, refl};
+ghost use Rattle.std.proofs.Common.{sym, subst₂};
 ghost use Rattle.std.specs.Io.KnownBytes.{Appends};
 ghost use Rattle.streams.specs.Fronts.{AppendsFront};
 ghost use Rattle.rows_command.specs.RowsText.{row_line};
-ghost use Rattle.rows_command.specs.Printing.{head_text, Prints, prints_none};
+ghost use Rattle.rows_command.specs.Printing.{head_text, PrintsNone, PrintsOn};
 
 use crate::texts::{row_line, station_line};
 use acceptor_store::RowVisitor;
@@ -91,8 +92,7 @@ pub(crate) struct Printer<'a, W: Write> {
 }
 
 impl<W: Write> RowVisitor for Printer<'_, W> {
-    ghost saw = { λ old new rows. (old.out.ghost_name ≡ new.out.ghost_name) × (new.station ≡ old.station)
-        × ((old.begun ≡ false) × (old.fault ≡ None) → Prints old.station (W.contents old.out.now) (W.contents new.out.now) new.begun new.fault rows) };
+    ghost saw = { λ old new rows. PrintsOn W.contents old new rows };
 
     ghost has_enough = { λ it. IsSome it.fault };
 
@@ -111,5 +111,5 @@ impl<W: Write> RowVisitor for Printer<'_, W> {
         }
     }
 
-    ghost saw_none = { λ it. (refl, refl, λ fresh. prints_none it.station (W.contents it.out.now) it.begun it.fault fresh) };
+    ghost saw_none = { λ it. (refl, refl, λ fresh. subst₂ (PrintsNone it.station (W.contents it.out.now)) (sym fresh.0) (sym fresh.1) (refl, refl)) };
 }

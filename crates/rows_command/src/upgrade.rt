@@ -6,7 +6,7 @@ ghost use Rattle.streams.specs.Fronts.{AppendsFront};
 ghost use Rattle.protocol.specs.Versions.{Two};
 ghost use Rattle.saved_rows.specs.Saved.{SameRows};
 ghost use Rattle.acceptor_store.specs.Sqlite.{IsKept, IsOpen, LeavesAll, rows_version, saved_of};
-ghost use Rattle.rows_command.specs.RowsText.{layout_text};
+ghost use Rattle.rows_command.specs.RowsText.{TellsNoneOrFront, layout_text};
 ghost use Rattle.command_ends.specs.Ends.{IsOfRows};
 ghost use Rattle.command_ends.specs.declared.end.End.TheVariants.{Done, Store, Memory};
 ghost use Rattle.command_ends.specs.declared.fault.Fault.TheVariants.{CannotWrite};
@@ -58,7 +58,7 @@ pub fn upgrade_rows<S: Alter + Drop, W: Write, E: Write>(
     ensures open { IsKept S.Store rows.new → result ≡ Done → IsOpen S.Store rows.new }
 
     // Else nothing is written, or a front of it, of rows that went over.
-    ensures front { (W.contents out.new ≡ W.contents out.old) ⊎ ((rows_version rows.new ≡ Two) × AppendsFront (W.contents out.old) (W.contents out.new) layout_text) }
+    ensures front { TellsNoneOrFront (rows_version rows.new) (W.contents out.old) (W.contents out.new) }
     ensures refused { (result ≡ Store) ⊎ (result ≡ Memory) → W.contents out.new ≡ W.contents out.old }
 
     // A fault of the rows, the output or memory ends it, and nothing else.

@@ -3,7 +3,7 @@ use Rattle.std.specs.List.{AllByRecursion}
 use Rattle.std.proofs.lemmas.List.{drop_all}
 use Rattle.row_table.specs.Tables.Origin.{Upgraded}
 use Rattle.row_table.specs.Rows.{stored}
-use Rattle.row_table.specs.declared.entries.EntryColumns.{EntryColumns}
+use Rattle.row_table.specs.declared.entry_table.EntryColumns.{EntryColumns}
 use Rattle.protocol.specs.Rows.{Row}
 use Rattle.saved_rows.specs.Saved.{HasPromise}
 use Rattle.row_columns.specs.RowsAsEntries.{IsEntryOf, AreEntriesOf}

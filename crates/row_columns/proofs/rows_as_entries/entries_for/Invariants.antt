@@ -1,6 +1,6 @@
 use Rattle.std.proofs.Common.{◌++◌, List, drop}
 use Rattle.std.specs.List.{AllByRecursion}
-use Rattle.row_table.specs.declared.entries.EntryColumns.{EntryColumns}
+use Rattle.row_table.specs.declared.entry_table.EntryColumns.{EntryColumns}
 use Rattle.saved_rows.specs.Saved.{HasPromise}
 use Rattle.row_columns.specs.RowsAsEntries.{AreEntriesOf}
 use Rattle.row_columns.proofs.rows_as_entries.entries_for.Given as goal

@@ -1,6 +1,6 @@
 use Rattle.sqlite.specs.Held.{state}
 use Rattle.row_table.proofs.EntryLemmas.{makes_entries}
-use Rattle.row_table.proofs.entries.make_entry_table.Goals as goal
+use Rattle.row_table.proofs.entry_table.make_entry_table.Goals as goal
 
 pub returns-clause-made : goal.returns-clause-made
 returns-clause-made g c clean begun origin has =

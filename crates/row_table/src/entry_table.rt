@@ -1,13 +1,10 @@
-//! The statements on the table of entries, in a transaction.
+//! The statements that make the table of entries and fill it, in a transaction.
 
-ghost use Rattle.std.specs.Prelude.{◌≡◌, [], List, OnOk, IsTrue};
-ghost use Rattle.sqlite_value.specs.Order.{Row};
-ghost use Rattle.sqlite_trees.specs.Tree.{put_row};
-ghost use Rattle.sqlite.specs.State.{HasCleanDisk, Survives};
+ghost use Rattle.std.specs.Prelude.{◌≡◌};
+ghost use Rattle.sqlite.specs.State.{Survives};
 ghost use Rattle.sqlite.specs.Held.{state};
-ghost use Rattle.row_table.specs.Tables.{Origin, schema_before};
-ghost use Rattle.row_table.specs.Entries.{HasEntries, entry_row, with_entries};
 ghost use Rattle.row_table.specs.Keeping.{CommitsNothing, StaysInside};
+ghost use Rattle.row_table.specs.Making.{AddsEntries, AddsEntry, MakesEntryTable};
 
 use sqlite::{Alter, Error, Transaction, params};
 
@@ -37,9 +34,7 @@ pub struct EntryColumns {
 /// An error comes where the database refuses the statement: where it has such a table, or its disk fails or is full, or memory is refused.
 pub fn make_entry_table<S: Alter>(tx: &mut Transaction<'_, S>) -> Result<(), Error>
     ensures same_reference { tx.new.conn.ghost_name ≡ tx.old.conn.ghost_name }
-    ensures made { HasCleanDisk (state S.Store tx.new.conn.now) → IsTrue (state S.Store tx.old.conn.now).in_transaction
-        → (origin : Origin) → (state S.Store tx.old.conn.now).now.schema ≡ schema_before origin
-        → OnOk result (HasEntries origin (state S.Store tx.old.conn.now).now.trees [] (state S.Store tx.new.conn.now)) }
+    ensures made { MakesEntryTable result (state S.Store tx.old.conn.now) (state S.Store tx.new.conn.now) }
     ensures inside { StaysInside result (state S.Store tx.old.conn.now) (state S.Store tx.new.conn.now) }
     ensures kept { CommitsNothing (state S.Store tx.old.conn.now) (state S.Store tx.new.conn.now) }
     ensures survives { Survives (state S.Store tx.old.conn.now) (state S.Store tx.new.conn.now) (λ _. ⊥) }
@@ -56,8 +51,7 @@ pub fn make_entry_table<S: Alter>(tx: &mut Transaction<'_, S>) -> Result<(), Err
 /// An error comes where the database refuses the statement: where the table is missing or has the number, or the disk fails or is full, or memory is refused.
 pub fn add_entry<S: Alter>(tx: &mut Transaction<'_, S>, entry: &EntryColumns) -> Result<(), Error>
     ensures same_reference { tx.new.conn.ghost_name ≡ tx.old.conn.ghost_name }
-    ensures added { HasCleanDisk (state S.Store tx.new.conn.now) → (origin : Origin) (before : _) (rows : List Row) → HasEntries origin before rows (state S.Store tx.old.conn.now)
-        → OnOk result (HasEntries origin before (put_row (entry_row entry.now) rows) (state S.Store tx.new.conn.now)) }
+    ensures added { AddsEntry entry.now result (state S.Store tx.old.conn.now) (state S.Store tx.new.conn.now) }
     ensures inside { StaysInside result (state S.Store tx.old.conn.now) (state S.Store tx.new.conn.now) }
     ensures kept { CommitsNothing (state S.Store tx.old.conn.now) (state S.Store tx.new.conn.now) }
     ensures survives { Survives (state S.Store tx.old.conn.now) (state S.Store tx.new.conn.now) (λ _. ⊥) }
@@ -85,8 +79,7 @@ pub fn add_entries<S: Alter>(
     entries: &[EntryColumns],
 ) -> Result<(), Error>
     ensures same_reference { tx.new.conn.ghost_name ≡ tx.old.conn.ghost_name }
-    ensures added { HasCleanDisk (state S.Store tx.new.conn.now) → (origin : Origin) (before : _) (rows : List Row) → HasEntries origin before rows (state S.Store tx.old.conn.now)
-        → OnOk result (HasEntries origin before (with_entries entries.now rows) (state S.Store tx.new.conn.now)) }
+    ensures added { AddsEntries entries.now result (state S.Store tx.old.conn.now) (state S.Store tx.new.conn.now) }
     ensures inside { StaysInside result (state S.Store tx.old.conn.now) (state S.Store tx.new.conn.now) }
     ensures kept { CommitsNothing (state S.Store tx.old.conn.now) (state S.Store tx.new.conn.now) }
     ensures survives { Survives (state S.Store tx.old.conn.now) (state S.Store tx.new.conn.now) (λ _. ⊥) }

@@ -3,7 +3,7 @@ use Rattle.std.proofs.lemmas.Option.{slice_get-get_or}
 use Rattle.sqlite.specs.State.{HasCleanDisk}
 use Rattle.sqlite.specs.Held.{state}
 use Rattle.row_table.proofs.AddingLemmas.{none_added, one_added, all_added, survives_both, kept_then}
-use Rattle.row_table.proofs.entries.add_entries.Goals as goal
+use Rattle.row_table.proofs.entry_table.add_entries.Goals as goal
 
 pub loop-entry-init : goal.loop-entry-init
 loop-entry-init g c = (refl, none_added c.args.entries.now (state g.S.Store c.args.tx.now.conn.now))

@@ -8,7 +8,7 @@ use Rattle.row_table.specs.Entries.{entry_columns}
 use Rattle.row_table.proofs.ParamLemmas.{optional, bound_number, bound_packed}
 use Rattle.row_table.proofs.PutLemmas.{cast_int}
 use Rattle.row_table.proofs.EntryLemmas.{AreTaken, insert_text, adds_entry}
-use Rattle.row_table.proofs.entries.add_entry.Goals as goal
+use Rattle.row_table.proofs.entry_table.add_entry.Goals as goal
 
 pub returns-clause-added : goal.returns-clause-added
 returns-clause-added g c clean origin before rows had =
