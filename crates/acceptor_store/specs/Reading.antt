@@ -1,6 +1,5 @@
 -- Saved rows that are seen one by one, as they are read.
-use Rattle.std.specs.Prelude.{◌≡◌, ◌⊎◌, ◌++◌, ℕ, Bool, List, [], Option, None, Result, IfOk, IfErr, IfSome, IsSome, IsTrue, refl}
-use Rattle.std.proofs.Common.{sym, subst}
+use Rattle.std.specs.Prelude.{◌≡◌, ◌⊎◌, ◌++◌, ℕ, Bool, List, [], Option, None, Result, IfOk, IfErr, IfSome, IsSome, IsTrue}
 use Rattle.std.specs.List.{filter_map}
 use Rattle.sqlite_value.specs.Order.{Row as Columns}
 use Rattle.protocol.specs.Rows.{Row}
@@ -56,9 +55,3 @@ pub record HasSeen {V : Type 0} (saw : V → V → List (ℕ × Row) → Type 0)
   pub all : fault ≡ None → unseen ≡ []
   pub saw_them : saw was now (filter_map (item_in layout) seen)
   pub cause : IfSome fault (λ f. IsRefusal f ⊎ IsSome (damage_in layout rows))
-
--- before the first row
-pub seen_none : {V : Type 0} (saw : V → V → List (ℕ × Row) → Type 0) (layout : Layout) (fault : Option RowsFault) (it : V)
-    → saw it it [] → fault ≡ None → HasSeen saw layout fault it it []
-seen_none saw layout fault it none is =
-    subst (λ f. HasSeen saw layout f it it []) (sym is) (record { seen = []; unseen = []; are = refl; all = λ _. refl; saw_them = none; cause = tt })

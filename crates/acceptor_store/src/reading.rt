@@ -10,7 +10,7 @@ ghost use Rattle.row_table.specs.Keeping.{CrashesAsBefore, StaysKept, StaysOpen}
 ghost use Rattle.row_columns.specs.Layouts.{layout_of};
 ghost use Rattle.row_columns.specs.Columns.{row_in, damage_of, item_in};
 ghost use Rattle.acceptor_store.specs.Sqlite.{IsRefusal};
-ghost use Rattle.acceptor_store.specs.Reading.{BlamesNoRow, HasSeen, ShowsAll, ShowsFront, seen_none};
+ghost use Rattle.acceptor_store.specs.Reading.{BlamesNoRow, HasSeen, ShowsAll, ShowsFront};
 
 use crate::queries::visit_all;
 use crate::statements::fault_of;
@@ -95,7 +95,18 @@ impl<V: RowVisitor> Taker for Reader<'_, V> {
         }
     }
 
-    ghost took_none = { λ it. (refl, refl, λ none. seen_none V.saw (layout_of it.layout) it.fault it.visitor.now (V.saw_none it.visitor.now) none) };
+    ghost took_none = { λ it. (
+      refl,
+      refl,
+      λ none. record {
+        seen = [];
+        unseen = [];
+        are = refl;
+        all = λ _. refl;
+        saw_them = V.saw_none it.visitor.now;
+        cause = Prim.rw none tt;
+      },
+    ) };
 }
 
 /// What came of showing rows, all of them or not, with the fault of one of them, if any has one.
