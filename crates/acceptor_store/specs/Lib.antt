@@ -2,6 +2,9 @@ pub use Rattle.saved_rows.specs.Saved
 pub use Rattle.saved_rows.specs.Memory
 pub use Rattle.saved_rows.specs.Identity
 pub mod Sqlite
+pub mod Opening
+pub mod Statements
+pub mod Upgrading
 pub mod Faults
 pub mod Files
 pub mod Restarts

@@ -1,14 +1,14 @@
 -- Saved rows that are seen one by one, as they are read.
-use Rattle.std.specs.Prelude.{◌≡◌, ◌⊎◌, ◌++◌, ℕ, List, [], Option, None, IfSome, IsSome, IsTrue, refl}
-use Rattle.std.proofs.Common.{sym, subst}
+use Rattle.std.specs.Prelude.{◌≡◌, ◌⊎◌, ◌++◌, ℕ, Bool, List, [], Option, None, Result, IfOk, IfErr, IfSome, IsSome, IsTrue}
 use Rattle.std.specs.List.{filter_map}
 use Rattle.sqlite_value.specs.Order.{Row as Columns}
 use Rattle.protocol.specs.Rows.{Row}
-use Rattle.sqlite.specs.State.{State}
+use Rattle.sqlite.specs.State.{State, HasCleanDisk}
 use Rattle.row_table.specs.Tables.{Layout, layout_tree}
+use Rattle.row_table.specs.Rows.{Serves}
 use Rattle.saved_rows.specs.Saved.{Saved, IsListOf}
 use Rattle.saved_rows.specs.declared.fault.RowsFault.{RowsFault}
-use Rattle.row_columns.specs.Columns.{item_in, damage_in, AreSound}
+use Rattle.row_columns.specs.Columns.{item_in, damage_in, saved_in, AreSound}
 use Rattle.acceptor_store.specs.Sqlite.{IsRefusal}
 
 -- where the connection is open, each row of its table is sound
@@ -27,15 +27,31 @@ SeesFront saw was now saved = (now ≡ was) ⊎ ((items : List (ℕ × Row)) × 
 abbrev pub SeesAll : {V : Type 0} → (V → V → List (ℕ × Row) → Type 0) → V → V → Saved → Type 0
 SeesAll saw was now saved = (items : List (ℕ × Row)) × IsListOf saved items × saw was now items
 
+-- ---- of a connection that serves and holds sound rows, where the disk returned what was written: its state is `old` before the call, `new` after it
+
+-- where an Ok says that these were all rows, the visitor has seen all that are saved
+abbrev pub ShowsAll : {V E : Type 0} → Layout → (V → V → List (ℕ × Row) → Type 0) → V → V → Result Bool E → State → State → Type 0
+ShowsAll layout saw before after result old new =
+    Serves layout old → HasCleanDisk new → HoldsSound layout old
+    → IfOk result (λ all. IsTrue all → SeesAll saw before after (saved_in layout old.now.trees))
+
+-- however it ends, the visitor is as it was, or it has seen the first of them
+abbrev pub ShowsFront : {V : Type 0} → Layout → (V → V → List (ℕ × Row) → Type 0) → V → V → State → State → Type 0
+ShowsFront layout saw before after old new =
+    Serves layout old → HasCleanDisk new → HoldsSound layout old → SeesFront saw before after (saved_in layout old.now.trees)
+
+-- a refusal speaks of no row
+abbrev pub BlamesNoRow : {A : Type 0} → Layout → Result A RowsFault → State → State → Type 0
+BlamesNoRow layout result old new = Serves layout old → HasCleanDisk new → HoldsSound layout old → IfErr result IsRefusal
+
+-- ---- of the rows of a listing
+
 -- of these rows of a listing the visitor has seen the first: all of them where there is no fault, and a fault that speaks of a row is a damage among them
-pub record HasSeen {V : Type 0} (saw : V → V → List (ℕ × Row) → Type 0) (layout : Layout) (fault : Option RowsFault) (was now : V) (rows : List Columns) : Type 0 where
+pub record HasSeen {V : Type 0} (saw : V → V → List (ℕ × Row) → Type 0)
+    (layout : Layout) (fault : Option RowsFault) (was now : V) (rows : List Columns) : Type 0 where
   pub seen : List Columns
   pub unseen : List Columns
   pub are : rows ≡ seen ++ unseen
   pub all : fault ≡ None → unseen ≡ []
   pub saw_them : saw was now (filter_map (item_in layout) seen)
   pub cause : IfSome fault (λ f. IsRefusal f ⊎ IsSome (damage_in layout rows))
-
--- before the first row
-pub seen_none : {V : Type 0} (saw : V → V → List (ℕ × Row) → Type 0) (layout : Layout) (fault : Option RowsFault) (it : V) → saw it it [] → fault ≡ None → HasSeen saw layout fault it it []
-seen_none saw layout fault it none is = subst (λ f. HasSeen saw layout f it it []) (sym is) (record { seen = []; unseen = []; are = refl; all = λ _. refl; saw_them = none; cause = tt })

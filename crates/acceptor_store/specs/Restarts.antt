@@ -26,7 +26,8 @@ use Rattle.acceptor_store.specs.Files.{TakesItsOwn, IsTakenUp}
 -- whatever a crash leaves of them holds a database that a crash could leave of the connection
 abbrev pub GivesUp : {D : Type 0} (g : Ghosts D) → Held (FileStore D g) → Files D → Type 0
 GivesUp g conn files =
-    AreClean g files.log files.db → (left : Image) → outcomes g files.log files.db left → ∥ ((db : Trees) × (file_state conn).may_leave db × HoldsDatabase left db) ∥₁
+    AreClean g files.log files.db → (left : Image) → outcomes g files.log files.db left
+    → ∥ ((db : Trees) × (file_state conn).may_leave db × HoldsDatabase left db) ∥₁
 
 -- rows that `open_from` took up from files which held this, on a disk that has returned what was written
 pub record AreOpenedFrom {D : Type 0} {g : Ghosts D} (left : Image) (s : SqliteOf (FileStore D g)) : Type 0 where
@@ -39,8 +40,10 @@ pub record AreOpenedFrom {D : Type 0} {g : Ghosts D} (left : Image) (s : SqliteO
 abbrev pub OpensWhatIsLeft : (D : Type 0) (g : Ghosts D) (E : Type 0) (h : Ghosts E) → Type 0
 OpensWhatIsLeft D g E h =
     (s : SqliteOf (FileStore D g)) (i : Identity) (files : Files D) (left : Image) (again : SqliteOf (FileStore E h))
-    → LeavesStation over_files s i → GivesUp g s.conn files → AreClean g files.log files.db → outcomes g files.log files.db left → AreOpenedFrom left again
-    → IsOurs again.alone again.was again.found × (rows_layout again ≡ rows_layout s) × (again.identity ≡ i) × ∥ MayLeave over_files s (saved_of over_files again) ∥₁
+    → LeavesStation over_files s i → GivesUp g s.conn files
+    → AreClean g files.log files.db → outcomes g files.log files.db left → AreOpenedFrom left again
+    → IsOurs again.alone again.was again.found × (rows_layout again ≡ rows_layout s)
+    × (again.identity ≡ i) × ∥ MayLeave over_files s (saved_of over_files again) ∥₁
 
 -- the rows of a station after a step that its own store tore as it saved this row: under the number a row that such a step
 -- may leave, and no other changed
@@ -55,7 +58,8 @@ PutOutlivesCrash D g E h =
     (old new : SqliteOf (FileStore D g)) (number : ℕ) (row : Row) (files : Files D) (left : Image) (again : SqliteOf (FileStore E h))
     → LeavesStation over_files new old.identity → ((rows : Saved) → MayLeave over_files new rows → IsEither (saved_of over_files old) number row rows)
     → GivesUp g new.conn files → AreClean g files.log files.db → outcomes g files.log files.db left → AreOpenedFrom left again
-    → IsOurs again.alone again.was again.found × (rows_layout again ≡ rows_layout new) × (again.identity ≡ old.identity) × ∥ AreTorn (saved_of over_files old) number row (saved_of over_files again) ∥₁
+    → IsOurs again.alone again.was again.found × (rows_layout again ≡ rows_layout new) × (again.identity ≡ old.identity)
+    × ∥ AreTorn (saved_of over_files old) number row (saved_of over_files again) ∥₁
 
 -- the version of a station after an upgrade that its own store tore, and its rows: the version is the one before or version 2, and no row is changed
 pub record AreUpgradeTorn (was : Version) (before : Saved) (now : Version) (after : Saved) : Type 0 where
@@ -67,7 +71,8 @@ pub record AreUpgradeTorn (was : Version) (before : Saved) (now : Version) (afte
 abbrev pub UpgradeOutlivesCrash : (D : Type 0) (g : Ghosts D) (E : Type 0) (h : Ghosts E) → Type 0
 UpgradeOutlivesCrash D g E h =
     (old new : SqliteOf (FileStore D g)) (files : Files D) (left : Image) (again : SqliteOf (FileStore E h))
-    → LeavesAll over_files old new → GivesUp g new.conn files → AreClean g files.log files.db → outcomes g files.log files.db left → AreOpenedFrom left again
+    → LeavesAll over_files old new → GivesUp g new.conn files
+    → AreClean g files.log files.db → outcomes g files.log files.db left → AreOpenedFrom left again
     → IsOurs again.alone again.was again.found × (again.identity ≡ old.identity)
     × AreUpgradeTorn (rows_version old) (saved_of over_files old) (rows_version again) (saved_of over_files again)
 

@@ -1,5 +1,5 @@
 -- Saved rows in a database.
-use Rattle.std.specs.Prelude.{◌≡◌, ◌≢◌, ◌⊎◌, ℕ, Bool, true, false, IsTrue, List, Option, Some, None, IfSome, refl}
+use Rattle.std.specs.Prelude.{◌≡◌, ◌≢◌, ◌⊎◌, ℕ, ℤ, Bool, true, false, IsTrue, List, Option, Some, None, IfSome, refl}
 use Rattle.std.specs.Coded.{Coded, code_by, coded×, coded_ℕ, coded_bool, coded_option}
 use Rattle.sqlite_schema.specs.declared.schema.Schema.{Schema}
 use Rattle.sqlite_schema.specs.contracts.schema.Schema as schema
@@ -8,13 +8,15 @@ use Rattle.sqlite_trees.specs.declared.store.Store.{Ghosts}
 use Rattle.sqlite_trees.specs.Objects.{catalog_tree}
 use Rattle.sqlite_trees.specs.Tree.{Trees}
 use Rattle.sqlite_catalog.specs.Listing.{Lists as ListsTables}
-use Rattle.sqlite.specs.State.{HasCleanDisk}
+use Rattle.sqlite.specs.State.{State, HasCleanDisk}
 use Rattle.sqlite.specs.Held.{Held, held_code, state}
 use Rattle.row_table.specs.Tables.{Layout, layout_tree, layout_schema}
 use Rattle.row_table.specs.Tables.Layout.{First, Second}
 use Rattle.row_table.specs.Tables.Origin.{Created, Upgraded}
 use Rattle.row_table.specs.Rows.{Serves, IsListing}
 use Rattle.row_table.specs.Rising.{rise_from}
+use Rattle.row_table.specs.Station.{HoldsNone}
+use Rattle.protocol.specs.Rows.{Row, blank}
 use Rattle.protocol.specs.Versions.{Version}
 use Rattle.saved_rows.specs.contracts.identity.Identity as identity
 use Rattle.saved_rows.specs.declared.identity.Identity.{Identity}
@@ -22,7 +24,7 @@ use Rattle.saved_rows.specs.declared.fault.RowsFault.{RowsFault}
 use Rattle.saved_rows.specs.declared.fault.RowsFault.TheVariants.{Store, WrongStation, WrongSchema, Damaged, OutOfMemory}
 use Rattle.row_columns.specs.StationRow.{IsStationOf}
 pub use Rattle.row_columns.specs.StationRow.{Agrees}
-use Rattle.saved_rows.specs.Saved.{Saved, SameRows}
+use Rattle.saved_rows.specs.Saved.{Saved, SameRows, WithRow, IsEither}
 use Rattle.row_columns.specs.Layouts.{layout_now}
 use Rattle.row_columns.specs.Columns.{version_in, saved_in, AreSound, damage_in}
 
@@ -69,7 +71,8 @@ layout_code = code_by (Option Bool) (coded_option coded_bool) told_by told_as as
 abbrev pub sqlite_code : {S : Type 0} → Coded S → Coded (SqliteOf S)
 sqlite_code {S} store =
     code_by (Held S × (Identity × (Bool × (Option Schema × (Layout × (Bool × (Bool × ℕ)))))))
-    (coded× (held_code store) (coded× identity.the_row.coded (coded× coded_bool (coded× (coded_option schema.the_row.coded) (coded× layout_code (coded× coded_bool (coded× coded_bool coded_ℕ)))))))
+    (coded× (held_code store) (coded× identity.the_row.coded (coded× coded_bool
+    (coded× (coded_option schema.the_row.coded) (coded× layout_code (coded× coded_bool (coded× coded_bool coded_ℕ)))))))
     (λ s. (s.conn, (s.identity, (s.alone, (s.found, (s.was, (s.upgraded, (s.stopped, s.refusals))))))))
     (λ p. record {
       conn = p.0;
@@ -120,21 +123,33 @@ IsRefusal fault = (fault ≡ Store) ⊎ (fault ≡ OutOfMemory)
 abbrev pub Lists : Layout → Trees → (List Columns → Type 0) → Type 0
 Lists layout trees P = (rows : List Columns) × IsListing layout (trees (layout_tree layout)) rows × P rows
 
+-- its numbers do not rise from row to row
+abbrev pub ListsOutOfOrder : Layout → Trees → Type 0
+ListsOutOfOrder layout trees = Lists layout trees (λ rows. rise_from None rows ≡ false)
+
+-- the first of its rows that is damaged has this key
+abbrev pub ListsDamage : Layout → Trees → ℤ → Type 0
+ListsDamage layout trees number = Lists layout trees (λ rows. damage_in layout rows ≡ Some number)
+
 -- why its rows are not taken up
 abbrev pub RefusesRows : Layout → Trees → RowsFault → Type 0
 RefusesRows layout trees Store = Unit {0}
 RefusesRows layout trees OutOfMemory = Unit {0}
-RefusesRows layout trees WrongSchema = Lists layout trees (λ rows. rise_from None rows ≡ false)
+RefusesRows layout trees WrongSchema = ListsOutOfOrder layout trees
 RefusesRows layout trees WrongStation = ⊥
-RefusesRows layout trees (Damaged number) = Lists layout trees (λ rows. damage_in layout rows ≡ Some number)
+RefusesRows layout trees (Damaged number) = ListsDamage layout trees number
 
 -- why a database of this layout is not taken up
 abbrev pub RefusesToOpen : Layout → Option Identity → Trees → RowsFault → Type 0
 RefusesToOpen layout given trees Store = Unit {0}
 RefusesToOpen layout given trees OutOfMemory = Unit {0}
-RefusesToOpen layout given trees WrongSchema = ((i : Identity) → ¬ IsStationOf layout i trees) ⊎ Lists layout trees (λ rows. rise_from None rows ≡ false)
+RefusesToOpen layout given trees WrongSchema = ((i : Identity) → ¬ IsStationOf layout i trees) ⊎ ListsOutOfOrder layout trees
 RefusesToOpen layout given trees WrongStation = (i : Identity) × (wanted : Identity) × IsStationOf layout i trees × (given ≡ Some wanted) × (wanted ≢ i)
-RefusesToOpen layout given trees (Damaged number) = (i : Identity) × IsStationOf layout i trees × Agrees given i × Lists layout trees (λ rows. damage_in layout rows ≡ Some number)
+RefusesToOpen layout given trees (Damaged number) = (i : Identity) × IsStationOf layout i trees × Agrees given i × ListsDamage layout trees number
+
+-- where the tables were those of a layout, and no others, they are the store's own, in that layout
+abbrev pub IsOursAsFound : {S : Type 0} → State → SqliteOf S → Type 0
+IsOursAsFound was s = (layout : Layout) → was.now.schema ≡ layout_schema layout → (s.was ≡ layout) × IsOurs s.alone s.was s.found
 
 module _ {S : Type 0} (g : Ghosts S) where
   -- what the host owes: so far the disk has returned what was written, so nobody else wrote there
@@ -168,6 +183,43 @@ module _ {S : Type 0} (g : Ghosts S) where
   -- whatever a crash in an upgrade leaves is a database of this station with this map, in the layout of the rows or upgraded from it
   abbrev pub LeavesAll : SqliteOf S → SqliteOf S → Type 0
   LeavesAll old new = (db : Trees) → (state g new.conn).may_leave db → HoldsAll (rows_layout old) old.identity (saved_of old) db
+
+  -- each row is blank
+  abbrev pub HoldsNoRow : SqliteOf S → Type 0
+  HoldsNoRow s = (n : ℕ) → saved_of s n ≡ blank
+
+  -- whatever a crash at this moment leaves has the tables of this layout, with this station and no row
+  abbrev pub LeavesNoRow : Layout → Identity → SqliteOf S → Type 0
+  LeavesNoRow layout i s = (db : Trees) → (state g s.conn).may_leave db → HoldsNone layout i.circuit i.member i.members db
+
+  -- where the tables were those of a layout, and no others, and the disk has returned what was written, the rows are kept
+  abbrev pub IsKeptAsFound : State → SqliteOf S → Type 0
+  IsKeptAsFound was s = HasCleanDisk (state g s.conn) → (layout : Layout) → was.now.schema ≡ layout_schema layout → IsKept s
+
+  -- of rows that were open, a crash leaves nothing that it could not have left before
+  abbrev pub LeavesNoOther : SqliteOf S → SqliteOf S → Type 0
+  LeavesNoOther old new = IsOpen old → (left : Saved) → MayLeave new left → MayLeave old left
+
+  -- a crash leaves the rows as they were
+  abbrev pub LeavesSameRows : SqliteOf S → SqliteOf S → Type 0
+  LeavesSameRows old new = (left : Saved) → MayLeave new left → SameRows (saved_of old) left
+
+  -- a crash leaves the rows with this one
+  abbrev pub LeavesWithRow : ℕ → Row → SqliteOf S → SqliteOf S → Type 0
+  LeavesWithRow number row old new = (left : Saved) → MayLeave new left → WithRow (saved_of old) number row left
+
+  -- of open rows that were not stopped, a crash leaves the rows as they were, or with this one
+  abbrev pub LeavesEither : ℕ → Row → SqliteOf S → SqliteOf S → Type 0
+  LeavesEither number row old new =
+      IsOpen old → old.stopped ≡ false → (left : Saved) → MayLeave new left → IsEither (saved_of old) number row left
+
+  -- and a database of their station
+  abbrev pub LeavesItsStation : SqliteOf S → SqliteOf S → Type 0
+  LeavesItsStation old new = IsOpen old → old.stopped ≡ false → LeavesStation new old.identity
+
+  -- a failure has shut the connection, or the rows are as they were, or with this one
+  abbrev pub HoldsEither : ℕ → Row → SqliteOf S → SqliteOf S → Type 0
+  HoldsEither number row old new = (¬ IsOpen new) ⊎ IsEither (saved_of old) number row (saved_of new)
 
   -- a connection that is at rest on the tables of this station
   pub record Stands (layout : Layout) (conn : Held S) (i : Identity) : Type 0 where

@@ -1,12 +1,12 @@
 //! Rows whose file is closed.
 
-ghost use Rattle.std.specs.Prelude.{◌≡◌, false, IfOk, IfErr};
+ghost use Rattle.std.specs.Prelude.{IfOk, IfErr};
 ghost use Rattle.sqlite.specs.Closing.{IsCopied};
 ghost use Rattle.sqlite.specs.Files.{IsClosed};
 ghost use Rattle.sqlite.specs.WalReads.{AreClean};
 ghost use Rattle.acceptor_store.specs.Faults.{rows_fault};
-ghost use Rattle.acceptor_store.specs.Files.{HoldsRowsAlone};
-ghost use Rattle.acceptor_store.specs.Sqlite.{IsOurs, IsRefusal};
+ghost use Rattle.acceptor_store.specs.Files.{KeepsRowsAlone};
+ghost use Rattle.acceptor_store.specs.Sqlite.{IsRefusal};
 
 use crate::faults::{FileFault, file_fault_of};
 use crate::sqlite_rows::SqliteRows;
@@ -20,7 +20,7 @@ impl<D: Disk + Drop> SqliteRows<FileStore<D>> {
     /// Where the disk or memory refuses, the files hold together what they held; the database comes back with the fault.
     pub fn close(self) -> Result<Files<D>, (FileFault, FileStore<D>)>
         ensures copied { IfOk result (λ files. AreClean D.Disk files.log files.db → IsCopied self.conn files) }
-        ensures rows { IfOk result (λ files. self.stopped ≡ false → IsOurs self.alone self.was self.found → AreClean D.Disk files.log files.db → HoldsRowsAlone self files) }
+        ensures rows { IfOk result (KeepsRowsAlone self) }
         ensures refusal { IfErr result (λ e. IsRefusal (rows_fault e.0)) }
         ensures left { IfErr result (λ e. IsClosed self.conn e.1) }
     {

@@ -1,9 +1,9 @@
 //! Rows in a host's file.
 
-ghost use Rattle.std.specs.Prelude.{◌≡◌, true, false, None, IsTrue, IfOk, IfErr, IfSome};
+ghost use Rattle.std.specs.Prelude.{◌≡◌, false, None, IsTrue, IfOk, IfErr, IfSome};
 ghost use Rattle.sqlite_std_file.specs.File.{IsFresh};
 ghost use Rattle.sqlite.specs.State.{HasCleanDisk};
-ghost use Rattle.sqlite.specs.Files.{file_state, IsCleanLeft, LeavesFiles};
+ghost use Rattle.sqlite.specs.Files.{file_state};
 ghost use Rattle.sqlite.specs.WalFiles.{image_at};
 ghost use Rattle.acceptor_store.specs.Sqlite.{IsOurs, IsRefusal, Agrees};
 
@@ -13,7 +13,7 @@ use saved_rows::{Identity, RowsFault};
 use sqlite::{Connection, FileFrom, FileStore, Leftover, Start};
 
 impl<T: Start> SqliteRows<FileStore<FileFrom<T>>> {
-    ghost use Rattle.acceptor_store.specs.Files.{IsTakenUp, TakesItsOwn, RefusesFiles};
+    ghost use Rattle.acceptor_store.specs.Files.{IsTakenUp, TakesItsOwn, RefusesFiles, LeavesUnharmed};
 
     /// Opens a file and takes up the rows that it holds, as [`SqliteRows::open`] does. `path`, `new_has_sums`
     /// and `start` are as for `Connection::open_from`.
@@ -46,7 +46,7 @@ impl<T: Start> SqliteRows<FileStore<FileFrom<T>>> {
         // unharmed, though an empty log may stay beside it.
         ensures refuses { IfErr result (λ e. IfSome e.1 (RefusesFiles (image_at T.Start) given e.0)) }
         ensures refusal { IfErr result (λ e. e.1 ≡ None → IsRefusal e.0) }
-        ensures left { IfErr result (λ e. IfSome e.2 (λ left. (files : _) × IsFresh true files.log × IsFresh false files.db × (IsCleanLeft left → LeavesFiles files left))) }
+        ensures left { IfErr result (λ e. IfSome e.2 (LeavesUnharmed IsFresh)) }
     {
         let conn = match Connection::open_from(rt, path, new_has_sums, start) {
             Ok(conn) => conn,

@@ -1,15 +1,12 @@
 //! The tables of a station that starts.
 
-ghost use Rattle.std.specs.Prelude.{◌≡◌, ◌⊎◌, ◌≤◌, false, OnOk};
+ghost use Rattle.std.specs.Prelude.{◌≡◌, ◌≤◌, false};
 ghost use Rattle.sqlite_trees.specs.View.{doubt};
-ghost use Rattle.sqlite.specs.State.{HasCleanDisk};
 ghost use Rattle.sqlite.specs.Held.{state};
 ghost use Rattle.tape_frames.specs.Entries.{version_of};
-ghost use Rattle.row_table.specs.Tables.{no_schema};
-ghost use Rattle.row_table.specs.Rows.{Serves};
-ghost use Rattle.row_table.specs.Station.{HoldsNone, WasMade};
 ghost use Rattle.row_table.specs.Keeping.{RolledBackWhereRefused, WasOpenWhereRefused};
 ghost use Rattle.row_columns.specs.Layouts.{made_in};
+ghost use Rattle.acceptor_store.specs.Opening.{LastsOnceMade, MakesAllOrNothing, MakesTables, ServesOnceMade};
 
 use row_table::{create_entry_tables, create_tables};
 use saved_rows::Identity;
@@ -23,15 +20,12 @@ pub(crate) fn make_tables<S: Alter>(
     version: Version,
 ) -> Result<(), Error>
     requires { conn.old.in_transaction ≡ false }
-    ensures made { HasCleanDisk (state S.Store conn.new) → (state S.Store conn.old).now.schema ≡ no_schema
-        → OnOk result (WasMade (made_in (version_of version)) identity.circuit identity.member identity.members (state S.Store conn.new)) }
-    ensures serves { (state S.Store conn.old).now.schema ≡ no_schema → HasCleanDisk (state S.Store conn.new) → OnOk result (Serves (made_in (version_of version)) (state S.Store conn.new)) }
-    ensures lasting { HasCleanDisk (state S.Store conn.new) → (state S.Store conn.old).now.schema ≡ no_schema
-        → OnOk result ((db : _) → (state S.Store conn.new).may_leave db → HoldsNone (made_in (version_of version)) identity.circuit identity.member identity.members db) }
+    ensures made { MakesTables (made_in (version_of version)) identity result (state S.Store conn.old) (state S.Store conn.new) }
+    ensures serves { ServesOnceMade (made_in (version_of version)) result (state S.Store conn.old) (state S.Store conn.new) }
+    ensures lasting { LastsOnceMade (made_in (version_of version)) identity result (state S.Store conn.old) (state S.Store conn.new) }
     ensures was_open { WasOpenWhereRefused result (state S.Store conn.old) (state S.Store conn.new) }
     ensures neither { RolledBackWhereRefused result (state S.Store conn.old) (state S.Store conn.new) }
-    ensures crash { HasCleanDisk (state S.Store conn.new) → (state S.Store conn.old).now.schema ≡ no_schema
-        → (db : _) → (state S.Store conn.new).may_leave db → (state S.Store conn.old).may_leave db ⊎ HoldsNone (made_in (version_of version)) identity.circuit identity.member identity.members db }
+    ensures crash { MakesAllOrNothing (made_in (version_of version)) identity (state S.Store conn.old) (state S.Store conn.new) }
     ensures clean { doubt (state S.Store conn.old).is_clean ≤ doubt (state S.Store conn.new).is_clean }
 {
     let circuit = u32::from(identity.circuit);

@@ -1,17 +1,15 @@
 //! What a database is tested for before its rows are taken up.
 
-ghost use Rattle.std.specs.Prelude.{◌≡◌, ◌⊎◌, ◌≤◌, false, Some, None, IsTrue, IfSome, IfOk, IfErr, OnOk};
+ghost use Rattle.std.specs.Prelude.{◌≡◌, ◌≤◌, false, None, IfSome, IfOk};
 ghost use Rattle.sqlite_trees.specs.View.{doubt};
-ghost use Rattle.sqlite.specs.State.{HasCleanDisk, IsUnchanged};
 ghost use Rattle.sqlite.specs.Held.{state};
-ghost use Rattle.row_table.specs.Tables.{Layout as Tables, layout_schema, layout_tree};
-ghost use Rattle.row_table.specs.Rows.{Serves, WasKept};
+ghost use Rattle.row_table.specs.Tables.{Layout as Tables, layout_schema};
 ghost use Rattle.row_table.specs.Keeping.{ChangesNothing, LeavesAsBefore, StaysAtRest};
 ghost use Rattle.row_columns.specs.Layouts.{layout_of};
-ghost use Rattle.saved_rows.specs.declared.fault.RowsFault.TheVariants.{WrongSchema};
-ghost use Rattle.row_columns.specs.StationRow.{stored_station, IsStationOf};
-ghost use Rattle.row_columns.specs.Columns.{AreSound};
-ghost use Rattle.acceptor_store.specs.Sqlite.{Agrees, HoldsRows, IsRefusal, RefusesRows, RefusesToOpen};
+ghost use Rattle.acceptor_store.specs.Sqlite.{Agrees};
+ghost use Rattle.acceptor_store.specs.Opening.{FindsItsRows, FindsRowsSound, KeepsAtRest, KeepsCommitted, LeavesNothingNew, LeavesUnchanged};
+ghost use Rattle.acceptor_store.specs.Opening.{RefusesForReason, RefusesRowsForReason, RefusesStationForReason, ServesOnceOpened, ServesOnceTested};
+ghost use Rattle.acceptor_store.specs.Opening.{TakesStoredStation, TellsNoStation, TellsStation};
 
 use crate::queries::visit_all;
 use crate::row_test::RowTest;
@@ -24,14 +22,12 @@ use sqlite_schema::schema::Schema;
 
 /// The layout's number and the identity that the database holds.
 fn read_station<S: Alter>(conn: &mut Connection<S>) -> Result<(u32, Identity), RowsFault>
-    ensures stored { HasCleanDisk (state S.Store conn.new) → (layout : Tables) → (state S.Store conn.old).now.schema ≡ layout_schema layout → IfOk result (λ s. stored_station (state S.Store conn.old).now.trees ≡ Some s) }
-    ensures refuses { HasCleanDisk (state S.Store conn.new) → (layout : Tables) → (state S.Store conn.old).now.schema ≡ layout_schema layout → IfErr result (λ fault. IsRefusal fault ⊎ ((fault ≡ WrongSchema) × (stored_station (state S.Store conn.old).now.trees ≡ None))) }
-    ensures unchanged { HasCleanDisk (state S.Store conn.new) → (layout : Tables) → (state S.Store conn.old).now.schema ≡ layout_schema layout → OnOk result (IsUnchanged (state S.Store conn.old) (state S.Store conn.new)) }
-    ensures rests { HasCleanDisk (state S.Store conn.new) → (layout : Tables) → (state S.Store conn.old).now.schema ≡ layout_schema layout
-        → (IsTrue (state S.Store conn.old).is_open → (state S.Store conn.old).now ≡ (state S.Store conn.old).committed) → IsTrue (state S.Store conn.new).is_open
-        → WasKept (state S.Store conn.old) (state S.Store conn.new) × ((state S.Store conn.new).now ≡ (state S.Store conn.new).committed) }
+    ensures stored { TellsStation result (state S.Store conn.old) (state S.Store conn.new) }
+    ensures refuses { TellsNoStation result (state S.Store conn.old) (state S.Store conn.new) }
+    ensures unchanged { LeavesUnchanged result (state S.Store conn.old) (state S.Store conn.new) }
+    ensures rests { KeepsAtRest (state S.Store conn.old) (state S.Store conn.new) }
     ensures alone { (state S.Store conn.old).in_transaction ≡ false → (state S.Store conn.new).in_transaction ≡ false }
-    ensures leaves { HasCleanDisk (state S.Store conn.new) → (layout : Tables) → (state S.Store conn.old).now.schema ≡ layout_schema layout → (db : _) → (state S.Store conn.new).may_leave db → (state S.Store conn.old).may_leave db }
+    ensures leaves { LeavesNothingNew (state S.Store conn.old) (state S.Store conn.new) }
     ensures clean { doubt (state S.Store conn.old).is_clean ≤ doubt (state S.Store conn.new).is_clean }
 {
     let stations = match get_station(conn) {
@@ -50,9 +46,9 @@ fn take_station<S: Alter>(
     layout: Layout,
     given: Option<Identity>,
 ) -> Result<Identity, RowsFault>
-    ensures stored { HasCleanDisk (state S.Store conn.new) → (state S.Store conn.old).now.schema ≡ layout_schema (layout_of layout) → IfOk result (λ i. IsStationOf (layout_of layout) i (state S.Store conn.old).now.trees) }
+    ensures stored { TakesStoredStation (layout_of layout) result (state S.Store conn.old) (state S.Store conn.new) }
     ensures given { IfOk result (Agrees given) }
-    ensures refuses { HasCleanDisk (state S.Store conn.new) → (state S.Store conn.old).now.schema ≡ layout_schema (layout_of layout) → IfErr result (RefusesToOpen (layout_of layout) given (state S.Store conn.old).now.trees) }
+    ensures refuses { RefusesStationForReason (layout_of layout) given result (state S.Store conn.old) (state S.Store conn.new) }
     ensures unchanged { ChangesNothing (layout_of layout) result (state S.Store conn.old) (state S.Store conn.new) }
     ensures rests { StaysAtRest (layout_of layout) (state S.Store conn.old) (state S.Store conn.new) }
     ensures alone { (state S.Store conn.old).in_transaction ≡ false → (state S.Store conn.new).in_transaction ≡ false }
@@ -81,11 +77,9 @@ fn refuse_without_rows<S: Alter>(conn: &mut Connection<S>, given: Option<Identit
 
 /// Tests that every key is a circuit number and its columns are a row of the layout.
 fn test_rows<S: Alter>(conn: &mut Connection<S>, layout: Layout) -> Result<(), RowsFault>
-    ensures sound { HasCleanDisk (state S.Store conn.new) → (state S.Store conn.old).now.schema ≡ layout_schema (layout_of layout)
-        → OnOk result (AreSound (layout_of layout) ((state S.Store conn.old).now.trees (layout_tree (layout_of layout)))) }
-    ensures serves { HasCleanDisk (state S.Store conn.new) → (state S.Store conn.old).now.schema ≡ layout_schema (layout_of layout) → (state S.Store conn.old).in_transaction ≡ false
-        → (IsTrue (state S.Store conn.old).is_open → (state S.Store conn.old).now ≡ (state S.Store conn.old).committed) → OnOk result (Serves (layout_of layout) (state S.Store conn.new)) }
-    ensures refuses { HasCleanDisk (state S.Store conn.new) → (state S.Store conn.old).now.schema ≡ layout_schema (layout_of layout) → IfErr result (RefusesRows (layout_of layout) (state S.Store conn.old).now.trees) }
+    ensures sound { FindsRowsSound (layout_of layout) result (state S.Store conn.old) (state S.Store conn.new) }
+    ensures serves { ServesOnceTested (layout_of layout) result (state S.Store conn.old) (state S.Store conn.new) }
+    ensures refuses { RefusesRowsForReason (layout_of layout) result (state S.Store conn.old) (state S.Store conn.new) }
     ensures unchanged { ChangesNothing (layout_of layout) result (state S.Store conn.old) (state S.Store conn.new) }
     ensures rests { StaysAtRest (layout_of layout) (state S.Store conn.old) (state S.Store conn.new) }
     ensures leaves { LeavesAsBefore (layout_of layout) (state S.Store conn.old) (state S.Store conn.new) }
@@ -115,17 +109,13 @@ pub(crate) fn take_up<S: Alter>(
     given: Option<Identity>,
 ) -> Result<(Layout, Identity), RowsFault>
     ensures laid { (layout : Tables) → (state S.Store conn.old).now.schema ≡ layout_schema layout → IfOk result (λ s. layout_of s.0 ≡ layout) }
-    ensures holds { HasCleanDisk (state S.Store conn.new) → (layout : Tables) → (state S.Store conn.old).now.schema ≡ layout_schema layout
-        → IfOk result (λ s. HoldsRows layout s.1 (state S.Store conn.old).now.trees) }
-    ensures serves { HasCleanDisk (state S.Store conn.new) → (layout : Tables) → (state S.Store conn.old).now.schema ≡ layout_schema layout → (state S.Store conn.old).in_transaction ≡ false
-        → (IsTrue (state S.Store conn.old).is_open → (state S.Store conn.old).now ≡ (state S.Store conn.old).committed) → OnOk result (Serves layout (state S.Store conn.new)) }
+    ensures holds { FindsItsRows result (state S.Store conn.old) (state S.Store conn.new) }
+    ensures serves { ServesOnceOpened result (state S.Store conn.old) (state S.Store conn.new) }
     ensures given { IfOk result (λ s. Agrees given s.1) }
-    ensures refuses { HasCleanDisk (state S.Store conn.new) → (layout : Tables) → (state S.Store conn.old).now.schema ≡ layout_schema layout → IfErr result (RefusesToOpen layout given (state S.Store conn.old).now.trees) }
-    ensures unchanged { HasCleanDisk (state S.Store conn.new) → (layout : Tables) → (state S.Store conn.old).now.schema ≡ layout_schema layout → OnOk result (IsUnchanged (state S.Store conn.old) (state S.Store conn.new)) }
-    ensures kept { HasCleanDisk (state S.Store conn.new) → (layout : Tables) → (state S.Store conn.old).now.schema ≡ layout_schema layout
-        → (IsTrue (state S.Store conn.old).is_open → (state S.Store conn.old).now ≡ (state S.Store conn.old).committed) → IsTrue (state S.Store conn.new).is_open
-        → WasKept (state S.Store conn.old) (state S.Store conn.new) }
-    ensures leaves { HasCleanDisk (state S.Store conn.new) → (layout : Tables) → (state S.Store conn.old).now.schema ≡ layout_schema layout → (db : _) → (state S.Store conn.new).may_leave db → (state S.Store conn.old).may_leave db }
+    ensures refuses { RefusesForReason given result (state S.Store conn.old) (state S.Store conn.new) }
+    ensures unchanged { LeavesUnchanged result (state S.Store conn.old) (state S.Store conn.new) }
+    ensures kept { KeepsCommitted (state S.Store conn.old) (state S.Store conn.new) }
+    ensures leaves { LeavesNothingNew (state S.Store conn.old) (state S.Store conn.new) }
     ensures clean { doubt (state S.Store conn.old).is_clean ≤ doubt (state S.Store conn.new).is_clean }
 {
     let Some(layout) = told_layout(conn.schema()) else {

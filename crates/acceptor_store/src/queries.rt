@@ -1,16 +1,13 @@
 //! The queries on the table that a layout keeps its rows in.
 
-ghost use Rattle.std.specs.Prelude.{◌≡◌, ◌⊎◌, ◌≤◌, false, List, option_to_list, IsTrue, IfOk};
+ghost use Rattle.std.specs.Prelude.{◌≡◌, ◌≤◌, false, List, IfOk};
 ghost use Rattle.sqlite_value.specs.Order.{Row as RowValue};
 ghost use Rattle.sqlite_trees.specs.View.{doubt};
-ghost use Rattle.sqlite.specs.State.{HasCleanDisk};
 ghost use Rattle.sqlite.specs.Held.{state};
-ghost use Rattle.row_table.specs.Tables.{layout_tree, layout_schema};
-ghost use Rattle.row_table.specs.Rows.{columns_at, Serves, IsListing};
-ghost use Rattle.row_table.specs.Cursor.{ListsFirst};
+ghost use Rattle.row_table.specs.Rows.{Serves};
 ghost use Rattle.row_table.specs.Keeping.{BeginsToServe, ChangesNothing, CrashesAsBefore, LeavesAsBefore, ShowsTables, StaysAtRest, StaysKept, StaysOpen};
 ghost use Rattle.row_columns.specs.Layouts.{layout_of};
-ghost use Rattle.acceptor_store.specs.Sqlite.{Lists};
+ghost use Rattle.acceptor_store.specs.Statements.{FindsColumns, GivesListing, HandsFront, HandsListing};
 
 use row_columns::Layout;
 use row_table::{Taker, all_entries, all_rows, get_entry, get_row, visit_entries, visit_rows};
@@ -23,8 +20,7 @@ pub(crate) fn find<S: Alter>(
     number: u32,
 ) -> Result<Vec<Row>, Error>
     ensures serves { Serves (layout_of layout) (state S.Store conn.old) → Serves (layout_of layout) (state S.Store conn.new) }
-    ensures found { Serves (layout_of layout) (state S.Store conn.old) → HasCleanDisk (state S.Store conn.new)
-        → IfOk result (λ rows. rows.items ≡ option_to_list (columns_at (layout_of layout) ((state S.Store conn.old).now.trees (layout_tree (layout_of layout))) number)) }
+    ensures found { FindsColumns (layout_of layout) number result (state S.Store conn.old) (state S.Store conn.new) }
     ensures open { StaysOpen (layout_of layout) result (state S.Store conn.old) (state S.Store conn.new) }
     ensures same { StaysKept (layout_of layout) (state S.Store conn.old) (state S.Store conn.new) }
     ensures crash { CrashesAsBefore (layout_of layout) (state S.Store conn.old) (state S.Store conn.new) }
@@ -43,8 +39,7 @@ pub(crate) fn find_all<S: Alter>(
     layout: Layout,
 ) -> Result<Vec<Row>, Error>
     ensures unchanged { ChangesNothing (layout_of layout) result (state S.Store conn.old) (state S.Store conn.new) }
-    ensures listed { HasCleanDisk (state S.Store conn.new) → (state S.Store conn.old).now.schema ≡ layout_schema (layout_of layout)
-        → IfOk result (λ rows. IsListing (layout_of layout) ((state S.Store conn.old).now.trees (layout_tree (layout_of layout))) rows.items) }
+    ensures listed { GivesListing (layout_of layout) result (state S.Store conn.old) (state S.Store conn.new) }
     ensures serves { Serves (layout_of layout) (state S.Store conn.old) → Serves (layout_of layout) (state S.Store conn.new) }
     ensures open { StaysOpen (layout_of layout) result (state S.Store conn.old) (state S.Store conn.new) }
     ensures at_rest { ShowsTables (layout_of layout) result (state S.Store conn.old) (state S.Store conn.new) }
@@ -74,13 +69,11 @@ pub(crate) fn visit_all<S: Alter, T: Taker>(
     taker: &mut T,
 ) -> Result<bool, Error>
     ensures unchanged { ChangesNothing (layout_of layout) result (state S.Store conn.old) (state S.Store conn.new) }
-    ensures listed { HasCleanDisk (state S.Store conn.new) → (state S.Store conn.old).now.schema ≡ layout_schema (layout_of layout)
-        → IfOk result (λ all. IsTrue all → Lists (layout_of layout) (state S.Store conn.old).now.trees (T.took taker.old taker.new)) }
+    ensures listed { HandsListing (layout_of layout) (T.took taker.old taker.new) result (state S.Store conn.old) (state S.Store conn.new) }
     ensures enough { IfOk result (λ all. all ≡ false → T.has_enough taker.new) }
 
     // However it ends, the taker has had the first of them, or is as it was.
-    ensures front { HasCleanDisk (state S.Store conn.new) → (IsTrue (state S.Store conn.old).is_open → (state S.Store conn.old).now.schema ≡ layout_schema (layout_of layout))
-        → (taker.new ≡ taker.old) ⊎ ((rows : List RowValue) × ListsFirst (layout_of layout) (state S.Store conn.old) rows × T.took taker.old taker.new rows) }
+    ensures front { HandsFront (layout_of layout) T.took taker.old taker.new (state S.Store conn.old) (state S.Store conn.new) }
 
     // It has had some rows, and nothing else.
     ensures only { (rows : List RowValue) × T.took taker.old taker.new rows }

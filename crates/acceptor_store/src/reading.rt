@@ -1,17 +1,16 @@
 //! Saved rows that are shown one by one, as they are read.
 
-ghost use Rattle.std.specs.Prelude.{◌≡◌, ◌⊎◌, ◌≤◌, ◌++◌, ◌∷◌, [], ℕ, false, None, Some, List, IsTrue, IsSome, IfOk, IfErr, refl};
+ghost use Rattle.std.specs.Prelude.{◌≡◌, ◌⊎◌, ◌≤◌, ◌++◌, ◌∷◌, [], ℕ, false, None, Some, List, IsSome, IfOk, IfErr, refl};
 ghost use Rattle.sqlite_value.specs.Order.{column};
 ghost use Rattle.sqlite_trees.specs.View.{doubt};
-ghost use Rattle.sqlite.specs.State.{HasCleanDisk};
 ghost use Rattle.sqlite.specs.Held.{state};
 ghost use Rattle.protocol.specs.Rows.{Row as RowValue};
 ghost use Rattle.row_table.specs.Rows.{Serves};
 ghost use Rattle.row_table.specs.Keeping.{CrashesAsBefore, StaysKept, StaysOpen};
 ghost use Rattle.row_columns.specs.Layouts.{layout_of};
-ghost use Rattle.row_columns.specs.Columns.{row_in, damage_of, item_in, saved_in};
+ghost use Rattle.row_columns.specs.Columns.{row_in, damage_of, item_in};
 ghost use Rattle.acceptor_store.specs.Sqlite.{IsRefusal};
-ghost use Rattle.acceptor_store.specs.Reading.{HoldsSound, HasSeen, SeesAll, SeesFront, seen_none};
+ghost use Rattle.acceptor_store.specs.Reading.{BlamesNoRow, HasSeen, ShowsAll, ShowsFront};
 
 use crate::queries::visit_all;
 use crate::statements::fault_of;
@@ -75,7 +74,8 @@ struct Reader<'a, V: RowVisitor> {
 }
 
 impl<V: RowVisitor> Taker for Reader<'_, V> {
-    ghost took = { λ old new rows. (old.visitor.ghost_name ≡ new.visitor.ghost_name) × (new.layout ≡ old.layout) × (old.fault ≡ None → HasSeen V.saw (layout_of old.layout) new.fault old.visitor.now new.visitor.now rows) };
+    ghost took = { λ old new rows. (old.visitor.ghost_name ≡ new.visitor.ghost_name) × (new.layout ≡ old.layout)
+        × (old.fault ≡ None → HasSeen V.saw (layout_of old.layout) new.fault old.visitor.now new.visitor.now rows) };
 
     ghost has_enough = { λ it. IsSome it.fault ⊎ V.has_enough it.visitor.now };
 
@@ -95,7 +95,18 @@ impl<V: RowVisitor> Taker for Reader<'_, V> {
         }
     }
 
-    ghost took_none = { λ it. (refl, refl, λ none. seen_none V.saw (layout_of it.layout) it.fault it.visitor.now (V.saw_none it.visitor.now) none) };
+    ghost took_none = { λ it. (
+      refl,
+      refl,
+      λ none. record {
+        seen = [];
+        unseen = [];
+        are = refl;
+        all = λ _. refl;
+        saw_them = V.saw_none it.visitor.now;
+        cause = Prim.rw none tt;
+      },
+    ) };
 }
 
 /// What came of showing rows, all of them or not, with the fault of one of them, if any has one.
@@ -119,13 +130,11 @@ pub(crate) fn show_all<S: Alter, V: RowVisitor>(
     visitor: &mut V,
 ) -> Result<bool, RowsFault>
     ensures serves { Serves (layout_of layout) (state S.Store conn.old) → Serves (layout_of layout) (state S.Store conn.new) }
-    ensures seen { Serves (layout_of layout) (state S.Store conn.old) → HasCleanDisk (state S.Store conn.new) → HoldsSound (layout_of layout) (state S.Store conn.old)
-        → IfOk result (λ all. IsTrue all → SeesAll V.saw visitor.old visitor.new (saved_in (layout_of layout) (state S.Store conn.old).now.trees)) }
+    ensures seen { ShowsAll (layout_of layout) V.saw visitor.old visitor.new result (state S.Store conn.old) (state S.Store conn.new) }
     ensures enough { IfOk result (λ all. all ≡ false → V.has_enough visitor.new) }
 
     // However it ends, the first rows were seen, or none.
-    ensures front { Serves (layout_of layout) (state S.Store conn.old) → HasCleanDisk (state S.Store conn.new) → HoldsSound (layout_of layout) (state S.Store conn.old)
-        → SeesFront V.saw visitor.old visitor.new (saved_in (layout_of layout) (state S.Store conn.old).now.trees) }
+    ensures front { ShowsFront (layout_of layout) V.saw visitor.old visitor.new (state S.Store conn.old) (state S.Store conn.new) }
 
     // It has seen some rows, and nothing else.
     ensures only { (items : List (ℕ × RowValue)) × V.saw visitor.old visitor.new items }
@@ -135,7 +144,7 @@ pub(crate) fn show_all<S: Alter, V: RowVisitor>(
     ensures clean { doubt (state S.Store conn.old).is_clean ≤ doubt (state S.Store conn.new).is_clean }
 
     // Sound rows are not damaged.
-    ensures refusal { Serves (layout_of layout) (state S.Store conn.old) → HasCleanDisk (state S.Store conn.new) → HoldsSound (layout_of layout) (state S.Store conn.old) → IfErr result IsRefusal }
+    ensures refusal { BlamesNoRow (layout_of layout) result (state S.Store conn.old) (state S.Store conn.new) }
 {
     rising_is_listed();
     rows_rise();

@@ -1,15 +1,10 @@
 //! A test of rows that has them one by one, as they are read.
 
-ghost use Rattle.std.specs.Prelude.{◌≡◌, ◌∷◌, ◌&&◌, List, IfErr, OnOk, refl};
-ghost use Rattle.sqlite_value.specs.Order.{Row as RowValue, column};
-ghost use Rattle.sqlite_trees.specs.Tree.{Trees};
-ghost use Rattle.row_table.specs.Tables.{layout_tree};
-ghost use Rattle.row_table.specs.Rows.{AreRows};
-ghost use Rattle.row_table.specs.Rising.{rise_from};
+ghost use Rattle.std.specs.Prelude.{◌≡◌, refl};
+ghost use Rattle.sqlite_value.specs.Order.{column};
 ghost use Rattle.row_columns.specs.Layouts.{layout_of};
-ghost use Rattle.row_columns.specs.Columns.{row_in, damage_of, first_of, AreSound};
-ghost use Rattle.acceptor_store.specs.Sqlite.{Lists, RefusesRows};
-ghost use Rattle.acceptor_store.specs.Testing.{begun, LeadsTo};
+ghost use Rattle.row_columns.specs.Columns.{row_in, damage_of, first_of};
+ghost use Rattle.acceptor_store.specs.Testing.{begun, LeadsTo, PassesSoundRows, RefusesUnsoundRows, RisesWith};
 
 use row_columns::{Layout, damage_of};
 use row_table::{Taker, number_above, rising_is_listed};
@@ -53,7 +48,7 @@ impl RowTest {
 
     /// Keeps the number of a row, or that it is not above the last.
     fn see_number(&mut self, row: &Row)
-        ensures rises { (rows : List RowValue) → (self.old.rising && rise_from self.old.last (row.now ∷ rows)) ≡ (self.new.rising && rise_from self.new.last rows) }
+        ensures rises { RisesWith row.now self.old self.new }
         ensures same { self.new ≡ record self.old { last = self.new.last; rising = self.new.rising } }
     {
         match number_above(self.last, row) {
@@ -64,9 +59,8 @@ impl RowTest {
 
     /// What is wrong with the rows of a listing that it has had to the end: a row that is damaged, or else numbers that do not rise.
     pub(crate) fn verdict(&self) -> Result<(), RowsFault>
-        ensures sound { (layout : _) (trees : Trees) → Lists (layout_of layout) trees (LeadsTo (begun layout) self.now)
-            → OnOk result (AreRows (trees (layout_tree (layout_of layout))) × AreSound (layout_of layout) (trees (layout_tree (layout_of layout)))) }
-        ensures refuses { (layout : _) (trees : Trees) → Lists (layout_of layout) trees (LeadsTo (begun layout) self.now) → IfErr result (RefusesRows (layout_of layout) trees) }
+        ensures sound { PassesSoundRows self.now result }
+        ensures refuses { RefusesUnsoundRows self.now result }
     {
         rising_is_listed();
         if let Some(number) = self.damage {

@@ -1,13 +1,12 @@
 //! Rows in the file at a path, and what is the matter where there are none.
 
-ghost use Rattle.std.specs.Prelude.{◌≡◌, ℕ, false, IsTrue, IfOk};
-ghost use Rattle.protocol.specs.Rows.{blank};
+ghost use Rattle.std.specs.Prelude.{◌≡◌, false, IsTrue, IfOk};
 ghost use Rattle.sqlite.specs.State.{HasCleanDisk};
 ghost use Rattle.sqlite.specs.Files.{file_state, over_files};
 ghost use Rattle.sqlite.specs.WalFiles.{image_at};
 ghost use Rattle.tape_frames.specs.Entries.{version_of};
 ghost use Rattle.saved_rows.specs.Identity.{IsIdentity};
-ghost use Rattle.acceptor_store.specs.Sqlite.{IsOurs, Agrees, rows_version, saved_of};
+ghost use Rattle.acceptor_store.specs.Sqlite.{IsOurs, Agrees, HoldsNoRow, rows_version};
 
 use crate::faults::{FileFault, file_fault_of, test_unmade};
 use crate::sqlite_rows::SqliteRows;
@@ -65,7 +64,7 @@ impl<T: Start> SqliteRows<FileStore<FileFrom<T>>> {
         requires { IsIdentity identity }
         ensures open { IfOk result (λ s. HasCleanDisk (file_state s.conn) → IsOurs s.alone s.was s.found → IsTrue (file_state s.conn).is_open) }
         ensures made { IfOk result (MakesItsOwn (image_at T.Start)) }
-        ensures blank { IfOk result (λ s. HasCleanDisk (file_state s.conn) → IsOurs s.alone s.was s.found → (n : ℕ) → saved_of over_files s n ≡ blank) }
+        ensures blank { IfOk result (λ s. HasCleanDisk (file_state s.conn) → IsOurs s.alone s.was s.found → HoldsNoRow over_files s) }
         ensures identity { IfOk result (λ s. s.identity ≡ identity) }
         ensures version { IfOk result (λ s. rows_version s ≡ version_of version) }
         ensures unstopped { IfOk result (λ s. s.stopped ≡ false) }

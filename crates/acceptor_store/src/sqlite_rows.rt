@@ -1,19 +1,18 @@
 //! Rows in a database.
 
 ghost use Rattle.std.specs.Prelude.{◌≡◌, ◌≤◌, ◌⊎◌, ℕ, true, false, List, None, Err, IsTrue, IfOk, IfErr, OnOk, OnErr};
-ghost use Rattle.protocol.specs.Rows.{Row as RowValue, blank};
+ghost use Rattle.protocol.specs.Rows.{Row as RowValue};
 ghost use Rattle.sqlite_trees.specs.View.{doubt};
 ghost use Rattle.sqlite.specs.State.{HasCleanDisk};
 ghost use Rattle.tape_frames.specs.Entries.{version_of};
-ghost use Rattle.row_table.specs.Tables.{Layout as Tables, no_schema, layout_schema};
-ghost use Rattle.row_table.specs.Station.{HoldsNone};
+ghost use Rattle.row_table.specs.Tables.{no_schema, layout_schema};
 ghost use Rattle.saved_rows.specs.Identity.{IsIdentity};
 ghost use Rattle.protocol.specs.Versions.{Two};
 ghost use Rattle.row_columns.specs.StationRow.{IsStationOf};
 ghost use Rattle.row_columns.specs.Layouts.{layout_now, made_in};
 ghost use Rattle.acceptor_store.specs.Sqlite.{rows_layout, rows_version};
 ghost use Rattle.acceptor_store.specs.Reading.{SeesAll, SeesFront};
-ghost use Rattle.saved_rows.specs.Saved.{SameRows, WithRow, IsEither, IsListOf, HasPromise, RowFits, AreFitting, Rises};
+ghost use Rattle.saved_rows.specs.Saved.{SameRows, WithRow, IsListOf, HasPromise, RowFits, AreFitting, Rises};
 
 use crate::make_tables::make_tables;
 use crate::opening::take_up;
@@ -73,7 +72,16 @@ impl<S: Alter + Drop> Model for SqliteRows<S> {
 
     ghost coded = { sqlite_code S.code };
 
-    ghost view = { λ s. record { conn = s.conn; identity = s.identity; alone = s.alone; found = s.found; was = layout_of s.was; upgraded = s.upgraded; stopped = s.stopped; refusals = s.refusals } };
+    ghost view = { λ s. record {
+      conn = s.conn;
+      identity = s.identity;
+      alone = s.alone;
+      found = s.found;
+      was = layout_of s.was;
+      upgraded = s.upgraded;
+      stopped = s.stopped;
+      refusals = s.refusals;
+    } };
 
     ghost invariant = { λ s. IsServing S.Store s.conn s.identity s.alone (layout_of s.was) s.found s.upgraded s.stopped };
 }
@@ -87,7 +95,9 @@ fn is_empty(schema: &Schema) -> bool
 }
 
 impl<S: Alter + Drop> SqliteRows<S> {
-    ghost use Rattle.acceptor_store.specs.Sqlite.{IsKept, IsOpen, IsOurs, Stands, saved_of, MayLeave, IsRefusal, RefusesToOpen, Agrees};
+    ghost use Rattle.acceptor_store.specs.Sqlite.{IsKept, IsOpen, IsOurs, Stands, saved_of, IsRefusal, Agrees};
+    ghost use Rattle.acceptor_store.specs.Sqlite.{HoldsNoRow, IsKeptAsFound, IsOursAsFound, LeavesNoOther, LeavesNoRow};
+    ghost use Rattle.acceptor_store.specs.Opening.{HasWhatItHad, IsReasonToRefuse, LeavesNothingNew, MakesAllOrNothing, StaysUnwritten};
     ghost use Rattle.row_columns.specs.Columns.{saved_in};
     ghost use Rattle.sqlite.specs.Held.{state};
 
@@ -104,7 +114,7 @@ impl<S: Alter + Drop> SqliteRows<S> {
     ) -> Result<SqliteRows<S>, (RowsFault, Connection<S>)>
         requires { IsIdentity identity }
         ensures open { IfOk result (λ s. IsKept S.Store s → IsOpen S.Store s) }
-        ensures blank { IfOk result (λ s. IsKept S.Store s → (n : ℕ) → saved_of S.Store s n ≡ blank) }
+        ensures blank { IfOk result (λ s. IsKept S.Store s → HoldsNoRow S.Store s) }
         ensures identity { IfOk result (λ s. s.identity ≡ identity) }
         ensures layout { IfOk result (λ s. (s.was ≡ made_in (version_of version)) × (s.upgraded ≡ false)) }
         ensures version { IfOk result (λ s. rows_version s ≡ version_of version) }
@@ -113,13 +123,12 @@ impl<S: Alter + Drop> SqliteRows<S> {
         // What the store owes: in an empty database the tables are its own. With what the host owes they are kept.
         ensures made { IfOk result (λ s. (state S.Store conn).now.schema ≡ no_schema → IsOurs s.alone s.was s.found) }
         ensures kept { IfOk result (λ s. HasCleanDisk (state S.Store s.conn) → (state S.Store conn).now.schema ≡ no_schema → IsKept S.Store s) }
-        ensures crash { IfOk result (λ s. IsKept S.Store s → (db : _) → (state S.Store s.conn).may_leave db → HoldsNone (made_in (version_of version)) identity.circuit identity.member identity.members db) }
+        ensures crash { IfOk result (λ s. IsKept S.Store s → LeavesNoRow S.Store (made_in (version_of version)) identity s) }
 
         // A refusal changes nothing.
         ensures refusal { IfErr result (λ e. IsRefusal e.0) }
-        ensures unchanged { IfErr result (λ e. HasCleanDisk (state S.Store e.1) → IsTrue (state S.Store e.1).is_open → (state S.Store e.1).now ≡ (state S.Store conn).now) }
-        ensures crash_err { IfErr result (λ e. HasCleanDisk (state S.Store e.1) → (state S.Store conn).now.schema ≡ no_schema → (db : _) → (state S.Store e.1).may_leave db
-            → (state S.Store conn).may_leave db ⊎ HoldsNone (made_in (version_of version)) identity.circuit identity.member identity.members db) }
+        ensures unchanged { IfErr result (λ e. HasWhatItHad (state S.Store conn) (state S.Store e.1)) }
+        ensures crash_err { IfErr result (λ e. MakesAllOrNothing (made_in (version_of version)) identity (state S.Store conn) (state S.Store e.1)) }
     {
         if !conn.is_autocommit() {
             return Err((RowsFault::Store, conn));
@@ -167,13 +176,13 @@ impl<S: Alter + Drop> SqliteRows<S> {
         ensures crash { IfOk result (λ s. IsKept S.Store s → (left : _) → (state S.Store s.conn).may_leave left → (state S.Store conn).may_leave left) }
 
         // What the store owes: tables as `create` makes them, or an upgrade leaves, are its own. With what the host owes they are kept.
-        ensures made { IfOk result (λ s. (layout : Tables) → (state S.Store conn).now.schema ≡ layout_schema layout → (s.was ≡ layout) × IsOurs s.alone s.was s.found) }
-        ensures kept { IfOk result (λ s. HasCleanDisk (state S.Store s.conn) → (layout : Tables) → (state S.Store conn).now.schema ≡ layout_schema layout → IsKept S.Store s) }
+        ensures made { IfOk result (IsOursAsFound (state S.Store conn)) }
+        ensures kept { IfOk result (IsKeptAsFound S.Store (state S.Store conn)) }
 
         // Why it is refused; nothing is changed then either.
-        ensures refuses { IfErr result (λ e. HasCleanDisk (state S.Store e.1) → (layout : Tables) → (state S.Store conn).now.schema ≡ layout_schema layout → RefusesToOpen layout given (state S.Store conn).now.trees e.0) }
-        ensures unchanged { IfErr result (λ e. HasCleanDisk (state S.Store e.1) → (layout : Tables) → (state S.Store conn).now.schema ≡ layout_schema layout → IsTrue (state S.Store e.1).is_open → (state S.Store e.1).now ≡ (state S.Store conn).now) }
-        ensures crash_err { IfErr result (λ e. HasCleanDisk (state S.Store e.1) → (layout : Tables) → (state S.Store conn).now.schema ≡ layout_schema layout → (left : _) → (state S.Store e.1).may_leave left → (state S.Store conn).may_leave left) }
+        ensures refuses { IfErr result (λ e. IsReasonToRefuse given e.0 (state S.Store conn) (state S.Store e.1)) }
+        ensures unchanged { IfErr result (λ e. StaysUnwritten (state S.Store conn) (state S.Store e.1)) }
+        ensures crash_err { IfErr result (λ e. LeavesNothingNew (state S.Store conn) (state S.Store e.1)) }
         ensures clean_err { IfErr result (λ e. doubt (state S.Store conn).is_clean ≤ doubt (state S.Store e.1).is_clean) }
     {
         if !conn.is_autocommit() {
@@ -218,7 +227,7 @@ impl<S: Alter + Drop> SqliteRows<S> {
 
         // What the store owes stays as it was.
         ensures ours { (self.new.alone ≡ self.old.alone) × (self.new.was ≡ self.old.was) × (self.new.found ≡ self.old.found) }
-        ensures crash { IsKept S.Store self.new → IsOpen S.Store self.old → (left : _) → MayLeave S.Store self.new left → MayLeave S.Store self.old left }
+        ensures crash { IsKept S.Store self.new → LeavesNoOther S.Store self.old self.new }
     {
         if self.stopped {
             self.refusals = self.refusals.saturating_add(1);
@@ -236,8 +245,8 @@ impl<S: Alter + Drop> SqliteRows<S> {
 
     /// Shows all rows that are saved to a visitor, one by one and in order of their numbers, and answers whether it has seen all of them. No row is changed.
     ///
-    /// It has not where it wanted no more. A refusal is counted, as one of [`SqliteRows::all`] is, and may come after some rows: the visitor has then seen those
-    /// before the first that is damaged or could not be read. No list of the rows is kept.
+    /// It has not where it wanted no more. A refusal is counted, as one of [`SqliteRows::all`] is, and may come after some
+    /// rows: the visitor has then seen those before the first that is damaged or could not be read. No list of the rows is kept.
     pub fn visit<V: RowVisitor>(&mut self, visitor: &mut V) -> Result<bool, RowsFault>
         ensures rows { IsKept S.Store self.new → IfOk result (λ all. IsTrue all → SeesAll V.saw visitor.old visitor.new (saved_of S.Store self.old)) }
         ensures enough { IfOk result (λ all. all ≡ false → V.has_enough visitor.new) }
@@ -259,7 +268,7 @@ impl<S: Alter + Drop> SqliteRows<S> {
 
         // What the store owes stays as it was.
         ensures ours { (self.new.alone ≡ self.old.alone) × (self.new.was ≡ self.old.was) × (self.new.found ≡ self.old.found) }
-        ensures crash { IsKept S.Store self.new → IsOpen S.Store self.old → (left : _) → MayLeave S.Store self.new left → MayLeave S.Store self.old left }
+        ensures crash { IsKept S.Store self.new → LeavesNoOther S.Store self.old self.new }
     {
         if self.stopped {
             self.refusals = self.refusals.saturating_add(1);
@@ -303,7 +312,8 @@ impl<S: Alter + Drop> SqliteRows<S> {
 }
 
 impl<S: Alter + Drop> Rows for SqliteRows<S> {
-    ghost use Rattle.acceptor_store.specs.Sqlite.{IsKept, IsOpen, IsHonest, IsOurs, saved_of, MayLeave, LeavesStation, LeavesAll, IsRefusal, Blames};
+    ghost use Rattle.acceptor_store.specs.Sqlite.{IsKept, IsOpen, IsHonest, IsOurs, saved_of, LeavesStation, LeavesAll, IsRefusal, Blames};
+    ghost use Rattle.acceptor_store.specs.Sqlite.{HoldsEither, LeavesEither, LeavesItsStation, LeavesNoOther, LeavesSameRows, LeavesWithRow};
 
     ghost made = { λ s. IsOurs s.alone s.was s.found };
 
@@ -343,7 +353,7 @@ impl<S: Alter + Drop> Rows for SqliteRows<S> {
 
         // What the store owes stays as it was.
         ensures ours { (self.new.alone ≡ self.old.alone) × (self.new.was ≡ self.old.was) × (self.new.found ≡ self.old.found) }
-        ensures crash { IsKept S.Store self.new → IsOpen S.Store self.old → (left : _) → MayLeave S.Store self.new left → MayLeave S.Store self.old left }
+        ensures crash { IsKept S.Store self.new → LeavesNoOther S.Store self.old self.new }
     {
         if self.stopped {
             self.refusals = self.refusals.saturating_add(1);
@@ -364,7 +374,7 @@ impl<S: Alter + Drop> Rows for SqliteRows<S> {
         requires fits { RowFits (rows_version self.old) row.now }
         ensures row { IsKept S.Store self.new → OnOk result (WithRow (saved_of S.Store self.old) number row.now (saved_of S.Store self.new)) }
         ensures open { IsKept S.Store self.new → OnOk result (IsOpen S.Store self.new) }
-        ensures either { IsKept S.Store self.new → OnErr result ((¬ IsOpen S.Store self.new) ⊎ IsEither (saved_of S.Store self.old) number row.now (saved_of S.Store self.new)) }
+        ensures either { IsKept S.Store self.new → OnErr result (HoldsEither S.Store number row.now self.old self.new) }
         ensures cause { OnErr result (Rises self.old.refusals self.new.refusals) }
         ensures counts { self.old.refusals ≤ self.new.refusals }
         ensures was_kept { IsKept S.Store self.new → IsKept S.Store self.old }
@@ -383,11 +393,11 @@ impl<S: Alter + Drop> Rows for SqliteRows<S> {
         ensures ours { (self.new.alone ≡ self.old.alone) × (self.new.was ≡ self.old.was) × (self.new.found ≡ self.old.found) }
 
         // After the Ok a crash leaves this row too; after an Err the rows as they were, or with this one.
-        ensures crash_ok { IsKept S.Store self.new → OnOk result ((left : _) → MayLeave S.Store self.new left → WithRow (saved_of S.Store self.old) number row.now left) }
-        ensures crash_err { IsKept S.Store self.new → IsOpen S.Store self.old → self.old.stopped ≡ false → (left : _) → MayLeave S.Store self.new left → IsEither (saved_of S.Store self.old) number row.now left }
+        ensures crash_ok { IsKept S.Store self.new → OnOk result (LeavesWithRow S.Store number row.now self.old self.new) }
+        ensures crash_err { IsKept S.Store self.new → LeavesEither S.Store number row.now self.old self.new }
 
         // And the station as it was.
-        ensures crash_station { IsKept S.Store self.new → IsOpen S.Store self.old → self.old.stopped ≡ false → LeavesStation S.Store self.new self.old.identity }
+        ensures crash_station { IsKept S.Store self.new → LeavesItsStation S.Store self.old self.new }
     {
         if self.stopped {
             self.refusals = self.refusals.saturating_add(1);
@@ -428,7 +438,7 @@ impl<S: Alter + Drop> Rows for SqliteRows<S> {
 
         // Whatever comes of it, a crash leaves the station and its map, all in the one layout or all in the other; after the Ok in layout 2.
         ensures crash { IsKept S.Store self.new → IsOpen S.Store self.old → self.old.stopped ≡ false → LeavesAll S.Store self.old self.new }
-        ensures crash_ok { IsKept S.Store self.new → OnOk result ((left : _) → MayLeave S.Store self.new left → SameRows (saved_of S.Store self.old) left) }
+        ensures crash_ok { IsKept S.Store self.new → OnOk result (LeavesSameRows S.Store self.old self.new) }
         ensures crash_station { IsKept S.Store self.new → OnOk result (LeavesStation S.Store self.new self.old.identity) }
     {
         if self.stopped {

@@ -1,21 +1,21 @@
 //! Rows read and saved by the statements of the tables.
 
-ghost use Rattle.std.specs.Prelude.{◌≡◌, ◌⊎◌, ◌≤◌, IsTrue, IfOk, IfErr, OnOk};
+ghost use Rattle.std.specs.Prelude.{◌≤◌, IfOk, IfErr, OnOk};
 ghost use Rattle.std.specs.List.{AllByRecursion};
 ghost use Rattle.sqlite_trees.specs.View.{doubt};
-ghost use Rattle.sqlite.specs.State.{HasCleanDisk};
 ghost use Rattle.sqlite.specs.Held.{state};
 ghost use Rattle.row_table.specs.Tables.{Origin};
 ghost use Rattle.row_table.specs.Tables.Layout.{First, Second};
-ghost use Rattle.row_table.specs.Rows.{Serves, SavesIn};
-ghost use Rattle.row_table.specs.Keeping.{CrashesAsBefore, KeptWhereRefused, SavesRow, StaysKept, StaysOpen};
+ghost use Rattle.row_table.specs.Rows.{Serves};
+ghost use Rattle.row_table.specs.Keeping.{CrashesAsBefore, KeptWhereRefused, StaysKept, StaysOpen};
 ghost use Rattle.protocol.specs.Versions.{One};
 ghost use Rattle.protocol.specs.Limits.{last_number};
-ghost use Rattle.saved_rows.specs.Saved.{HasPromise, RowFits, AreFitting, IsListOf};
-ghost use Rattle.row_columns.specs.Columns.{version_in, columns_for, saved_in, ComesBack};
+ghost use Rattle.saved_rows.specs.Saved.{HasPromise, RowFits, AreFitting};
+ghost use Rattle.row_columns.specs.Columns.{version_in, ComesBack};
 ghost use Rattle.row_columns.specs.Layouts.{layout_of};
 ghost use Rattle.acceptor_store.specs.Sqlite.{IsRefusal};
-ghost use Rattle.acceptor_store.specs.Reading.{HoldsSound};
+ghost use Rattle.acceptor_store.specs.Reading.{BlamesNoRow};
+ghost use Rattle.acceptor_store.specs.Statements.{CrashesWithRow, ListsRows, ReadsRow, SavesColumnsOf};
 
 use crate::queries::{find, find_all};
 use ballots::{Number, Row};
@@ -45,10 +45,9 @@ fn save_row<S: Alter>(
     requires promise { HasPromise row.now }
     requires fits { RowFits One row.now }
     ensures serves { Serves First (state S.Store conn.old) → Serves First (state S.Store conn.new) }
-    ensures saved { SavesRow First number (columns_for First row.now) result (state S.Store conn.old) (state S.Store conn.new) }
+    ensures saved { SavesColumnsOf First number row.now result (state S.Store conn.old) (state S.Store conn.new) }
     ensures err { KeptWhereRefused First result (state S.Store conn.old) (state S.Store conn.new) }
-    ensures crash { Serves First (state S.Store conn.old) → HasCleanDisk (state S.Store conn.new) → IsTrue (state S.Store conn.old).is_open
-        → (db : _) → (state S.Store conn.new).may_leave db → (db ≡ (state S.Store conn.old).now.trees) ⊎ (ComesBack First row.now × SavesIn First number (columns_for First row.now) (state S.Store conn.old).now.trees db) }
+    ensures crash { CrashesWithRow First number row.now (state S.Store conn.old) (state S.Store conn.new) }
     ensures clean { doubt (state S.Store conn.old).is_clean ≤ doubt (state S.Store conn.new).is_clean }
     ensures refusal { IfErr result IsRefusal }
 
@@ -82,10 +81,9 @@ fn save_entry<S: Alter>(
 ) -> Result<(), RowsFault>
     requires promise { HasPromise row.now }
     ensures serves { (origin : Origin) → Serves (Second origin) (state S.Store conn.old) → Serves (Second origin) (state S.Store conn.new) }
-    ensures saved { (origin : Origin) → SavesRow (Second origin) number (columns_for (Second origin) row.now) result (state S.Store conn.old) (state S.Store conn.new) }
+    ensures saved { (origin : Origin) → SavesColumnsOf (Second origin) number row.now result (state S.Store conn.old) (state S.Store conn.new) }
     ensures err { (origin : Origin) → KeptWhereRefused (Second origin) result (state S.Store conn.old) (state S.Store conn.new) }
-    ensures crash { (origin : Origin) → Serves (Second origin) (state S.Store conn.old) → HasCleanDisk (state S.Store conn.new) → IsTrue (state S.Store conn.old).is_open
-        → (db : _) → (state S.Store conn.new).may_leave db → (db ≡ (state S.Store conn.old).now.trees) ⊎ (ComesBack (Second origin) row.now × SavesIn (Second origin) number (columns_for (Second origin) row.now) (state S.Store conn.old).now.trees db) }
+    ensures crash { (origin : Origin) → CrashesWithRow (Second origin) number row.now (state S.Store conn.old) (state S.Store conn.new) }
     ensures clean { doubt (state S.Store conn.old).is_clean ≤ doubt (state S.Store conn.new).is_clean }
     ensures refusal { IfErr result IsRefusal }
 
@@ -112,10 +110,9 @@ pub(crate) fn save<S: Alter>(
     requires promise { HasPromise row.now }
     requires fits { RowFits (version_in (layout_of layout)) row.now }
     ensures serves { Serves (layout_of layout) (state S.Store conn.old) → Serves (layout_of layout) (state S.Store conn.new) }
-    ensures saved { SavesRow (layout_of layout) number (columns_for (layout_of layout) row.now) result (state S.Store conn.old) (state S.Store conn.new) }
+    ensures saved { SavesColumnsOf (layout_of layout) number row.now result (state S.Store conn.old) (state S.Store conn.new) }
     ensures err { KeptWhereRefused (layout_of layout) result (state S.Store conn.old) (state S.Store conn.new) }
-    ensures crash { Serves (layout_of layout) (state S.Store conn.old) → HasCleanDisk (state S.Store conn.new) → IsTrue (state S.Store conn.old).is_open
-        → (db : _) → (state S.Store conn.new).may_leave db → (db ≡ (state S.Store conn.old).now.trees) ⊎ (ComesBack (layout_of layout) row.now × SavesIn (layout_of layout) number (columns_for (layout_of layout) row.now) (state S.Store conn.old).now.trees db) }
+    ensures crash { CrashesWithRow (layout_of layout) number row.now (state S.Store conn.old) (state S.Store conn.new) }
     ensures clean { doubt (state S.Store conn.old).is_clean ≤ doubt (state S.Store conn.new).is_clean }
     ensures refusal { IfErr result IsRefusal }
 
@@ -141,7 +138,7 @@ pub(crate) fn read<S: Alter>(
     number: Number,
 ) -> Result<Row, RowsFault>
     ensures serves { Serves (layout_of layout) (state S.Store conn.old) → Serves (layout_of layout) (state S.Store conn.new) }
-    ensures row { Serves (layout_of layout) (state S.Store conn.old) → HasCleanDisk (state S.Store conn.new) → IfOk result (λ row. row ≡ saved_in (layout_of layout) (state S.Store conn.old).now.trees number) }
+    ensures row { ReadsRow (layout_of layout) number result (state S.Store conn.old) (state S.Store conn.new) }
     ensures fits { IfOk result (RowFits (version_in (layout_of layout))) }
     ensures open { StaysOpen (layout_of layout) result (state S.Store conn.old) (state S.Store conn.new) }
     ensures same { StaysKept (layout_of layout) (state S.Store conn.old) (state S.Store conn.new) }
@@ -149,7 +146,7 @@ pub(crate) fn read<S: Alter>(
     ensures clean { doubt (state S.Store conn.old).is_clean ≤ doubt (state S.Store conn.new).is_clean }
 
     // Sound rows are not damaged.
-    ensures refusal { Serves (layout_of layout) (state S.Store conn.old) → HasCleanDisk (state S.Store conn.new) → HoldsSound (layout_of layout) (state S.Store conn.old) → IfErr result IsRefusal }
+    ensures refusal { BlamesNoRow (layout_of layout) result (state S.Store conn.old) (state S.Store conn.new) }
 {
     let mut rows = match find(conn, layout, number.get()) {
         Ok(rows) => rows,
@@ -174,7 +171,7 @@ pub(crate) fn list<S: Alter>(
     layout: Layout,
 ) -> Result<Vec<(Number, Row)>, RowsFault>
     ensures serves { Serves (layout_of layout) (state S.Store conn.old) → Serves (layout_of layout) (state S.Store conn.new) }
-    ensures listed { Serves (layout_of layout) (state S.Store conn.old) → HasCleanDisk (state S.Store conn.new) → IfOk result (λ items. IsListOf (saved_in (layout_of layout) (state S.Store conn.old).now.trees) items.items) }
+    ensures listed { ListsRows (layout_of layout) result (state S.Store conn.old) (state S.Store conn.new) }
     ensures promised { IfOk result (λ items. AllByRecursion (λ p. HasPromise p.1) items.items) }
     ensures fits { IfOk result (λ items. AreFitting (version_in (layout_of layout)) items.items) }
     ensures open { StaysOpen (layout_of layout) result (state S.Store conn.old) (state S.Store conn.new) }
@@ -183,7 +180,7 @@ pub(crate) fn list<S: Alter>(
     ensures clean { doubt (state S.Store conn.old).is_clean ≤ doubt (state S.Store conn.new).is_clean }
 
     // Sound rows are not damaged.
-    ensures refusal { Serves (layout_of layout) (state S.Store conn.old) → HasCleanDisk (state S.Store conn.new) → HoldsSound (layout_of layout) (state S.Store conn.old) → IfErr result IsRefusal }
+    ensures refusal { BlamesNoRow (layout_of layout) result (state S.Store conn.old) (state S.Store conn.new) }
 {
     let rows = match find_all(conn, layout) {
         Ok(rows) => rows,

@@ -1,18 +1,15 @@
 //! The upgrade of the rows of layout 1 to layout 2.
 
-ghost use Rattle.std.specs.Prelude.{◌≡◌, ◌≤◌, [], IsTrue, IfErr, OnOk, OnErr};
+ghost use Rattle.std.specs.Prelude.{◌≤◌, [], IfErr};
 ghost use Rattle.sqlite_trees.specs.View.{doubt};
 ghost use Rattle.sqlite.specs.State.{HasCleanDisk};
 ghost use Rattle.sqlite.specs.Held.{state};
-ghost use Rattle.row_table.specs.Tables.{Origin};
-ghost use Rattle.row_table.specs.Tables.Layout.{First, Second};
-ghost use Rattle.row_table.specs.Rows.{WasKept};
+ghost use Rattle.row_table.specs.Tables.Layout.{First};
 ghost use Rattle.row_table.specs.Entries.{with_entries};
 ghost use Rattle.saved_rows.specs.declared.identity.Identity.{Identity};
 ghost use Rattle.row_columns.specs.Layouts.{layout_of};
-ghost use Rattle.row_columns.specs.Columns.{saved_in};
-ghost use Rattle.row_columns.specs.RowsAsEntries.{HoldsMap};
-ghost use Rattle.acceptor_store.specs.Sqlite.{HoldsAll, Stands, WentOver, IsRefusal};
+ghost use Rattle.acceptor_store.specs.Sqlite.{Stands, IsRefusal};
+ghost use Rattle.acceptor_store.specs.Upgrading.{CrashesWithMapOf, CrashesWithSameMap, GoesOver, GoesOverWith, KeepsAllWhereRefused, StaysOver};
 
 use crate::queries::find;
 use crate::statements::{fault_of, list};
@@ -27,12 +24,9 @@ fn move_entries<S: Alter>(
     conn: &mut Connection<S>,
     entries: &[EntryColumns],
 ) -> Result<(), RowsFault>
-    ensures over { (i : Identity) → Stands S.Store First conn.old i → HoldsMap (saved_in First (state S.Store conn.old).now.trees) (with_entries entries.now [])
-        → IsTrue (state S.Store conn.old).is_open → HasCleanDisk (state S.Store conn.new) → OnOk result (WentOver S.Store First i conn.old conn.new) }
-    ensures kept { (i : Identity) → Stands S.Store First conn.old i → HasCleanDisk (state S.Store conn.new) → IsTrue (state S.Store conn.new).is_open → OnErr result (WasKept (state S.Store conn.old) (state S.Store conn.new)) }
-    ensures crash { (i : Identity) → Stands S.Store First conn.old i → HoldsMap (saved_in First (state S.Store conn.old).now.trees) (with_entries entries.now [])
-        → IsTrue (state S.Store conn.old).is_open → HasCleanDisk (state S.Store conn.new)
-        → (db : _) → (state S.Store conn.new).may_leave db → HoldsAll First i (saved_in First (state S.Store conn.old).now.trees) db }
+    ensures over { GoesOverWith S.Store (with_entries entries.now []) result conn.old conn.new }
+    ensures kept { KeepsAllWhereRefused S.Store First result conn.old conn.new }
+    ensures crash { CrashesWithMapOf S.Store (with_entries entries.now []) conn.old conn.new }
     ensures clean { doubt (state S.Store conn.old).is_clean ≤ doubt (state S.Store conn.new).is_clean }
     ensures refusal { IfErr result IsRefusal }
 {
@@ -47,10 +41,9 @@ fn move_entries<S: Alter>(
 
 /// Reads and packs all rows of layout 1, and moves them to layout 2.
 fn move_rows<S: Alter>(alloc: Global, conn: &mut Connection<S>) -> Result<(), RowsFault>
-    ensures over { (i : Identity) → Stands S.Store First conn.old i → HasCleanDisk (state S.Store conn.new) → OnOk result (WentOver S.Store First i conn.old conn.new) }
-    ensures kept { (i : Identity) → Stands S.Store First conn.old i → HasCleanDisk (state S.Store conn.new) → IsTrue (state S.Store conn.new).is_open → OnErr result (WasKept (state S.Store conn.old) (state S.Store conn.new)) }
-    ensures crash { (i : Identity) → Stands S.Store First conn.old i → IsTrue (state S.Store conn.old).is_open → HasCleanDisk (state S.Store conn.new)
-        → (db : _) → (state S.Store conn.new).may_leave db → HoldsAll First i (saved_in First (state S.Store conn.old).now.trees) db }
+    ensures over { GoesOver S.Store First result conn.old conn.new }
+    ensures kept { KeepsAllWhereRefused S.Store First result conn.old conn.new }
+    ensures crash { CrashesWithSameMap S.Store First conn.old conn.new }
     ensures clean { doubt (state S.Store conn.old).is_clean ≤ doubt (state S.Store conn.new).is_clean }
     ensures refusal { (i : Identity) → Stands S.Store First conn.old i → HasCleanDisk (state S.Store conn.new) → IfErr result IsRefusal }
 {
@@ -63,11 +56,9 @@ fn move_rows<S: Alter>(alloc: Global, conn: &mut Connection<S>) -> Result<(), Ro
 
 /// Tests that a connection still answers what is saved in layout 2. Nothing is written.
 fn test_open<S: Alter>(conn: &mut Connection<S>, layout: Layout) -> Result<(), RowsFault>
-    ensures over { (origin : Origin) (i : Identity) → layout_of layout ≡ Second origin → Stands S.Store (Second origin) conn.old i → HasCleanDisk (state S.Store conn.new)
-        → OnOk result (WentOver S.Store (Second origin) i conn.old conn.new) }
-    ensures kept { (i : Identity) → Stands S.Store (layout_of layout) conn.old i → HasCleanDisk (state S.Store conn.new) → IsTrue (state S.Store conn.new).is_open → OnErr result (WasKept (state S.Store conn.old) (state S.Store conn.new)) }
-    ensures crash { (i : Identity) → Stands S.Store (layout_of layout) conn.old i → IsTrue (state S.Store conn.old).is_open → HasCleanDisk (state S.Store conn.new)
-        → (db : _) → (state S.Store conn.new).may_leave db → HoldsAll (layout_of layout) i (saved_in (layout_of layout) (state S.Store conn.old).now.trees) db }
+    ensures over { StaysOver S.Store (layout_of layout) result conn.old conn.new }
+    ensures kept { KeepsAllWhereRefused S.Store (layout_of layout) result conn.old conn.new }
+    ensures crash { CrashesWithSameMap S.Store (layout_of layout) conn.old conn.new }
     ensures clean { doubt (state S.Store conn.old).is_clean ≤ doubt (state S.Store conn.new).is_clean }
     ensures refusal { IfErr result IsRefusal }
 {
@@ -83,10 +74,9 @@ pub(crate) fn go_over<S: Alter>(
     conn: &mut Connection<S>,
     layout: Layout,
 ) -> Result<(), RowsFault>
-    ensures over { (i : Identity) → Stands S.Store (layout_of layout) conn.old i → HasCleanDisk (state S.Store conn.new) → OnOk result (WentOver S.Store (layout_of layout) i conn.old conn.new) }
-    ensures kept { (i : Identity) → Stands S.Store (layout_of layout) conn.old i → HasCleanDisk (state S.Store conn.new) → IsTrue (state S.Store conn.new).is_open → OnErr result (WasKept (state S.Store conn.old) (state S.Store conn.new)) }
-    ensures crash { (i : Identity) → Stands S.Store (layout_of layout) conn.old i → IsTrue (state S.Store conn.old).is_open → HasCleanDisk (state S.Store conn.new)
-        → (db : _) → (state S.Store conn.new).may_leave db → HoldsAll (layout_of layout) i (saved_in (layout_of layout) (state S.Store conn.old).now.trees) db }
+    ensures over { GoesOver S.Store (layout_of layout) result conn.old conn.new }
+    ensures kept { KeepsAllWhereRefused S.Store (layout_of layout) result conn.old conn.new }
+    ensures crash { CrashesWithSameMap S.Store (layout_of layout) conn.old conn.new }
     ensures clean { doubt (state S.Store conn.old).is_clean ≤ doubt (state S.Store conn.new).is_clean }
     ensures refusal { (i : Identity) → Stands S.Store (layout_of layout) conn.old i → HasCleanDisk (state S.Store conn.new) → IfErr result IsRefusal }
 {

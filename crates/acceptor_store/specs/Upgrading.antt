@@ -1,0 +1,52 @@
+-- What an upgrade leaves of a connection that is at rest on the tables of a station: `old` before the call, `new` after it.
+-- All of it is said where the disk returned what was written.
+use Rattle.std.specs.Prelude.{◌≡◌, List, Result, OnOk, OnErr, IsTrue}
+use Rattle.sqlite_value.specs.Order.{Row as Columns}
+use Rattle.sqlite_trees.specs.declared.store.Store.{Ghosts}
+use Rattle.sqlite_trees.specs.Tree.{Trees}
+use Rattle.sqlite.specs.State.{HasCleanDisk}
+use Rattle.sqlite.specs.Held.{Held, state}
+use Rattle.row_table.specs.Tables.{Layout, Origin}
+use Rattle.row_table.specs.Tables.Layout.{First, Second}
+use Rattle.row_table.specs.Rows.{WasKept}
+use Rattle.saved_rows.specs.declared.identity.Identity.{Identity}
+use Rattle.row_columns.specs.Columns.{saved_in}
+use Rattle.row_columns.specs.RowsAsEntries.{HoldsMap}
+use Rattle.acceptor_store.specs.Sqlite.{HoldsAll, Stands, WentOver}
+
+module _ {S : Type 0} (g : Ghosts S) where
+  -- an Ok has gone over from this layout to the tables that an upgrade leaves, or found them
+  abbrev pub GoesOver : {A E : Type 0} → Layout → Result A E → Held S → Held S → Type 0
+  GoesOver layout result old new =
+      (i : Identity) → Stands g layout old i → HasCleanDisk (state g new) → OnOk result (WentOver g layout i old new)
+
+  -- of a layout that is over already, an Ok has left it so
+  abbrev pub StaysOver : {A E : Type 0} → Layout → Result A E → Held S → Held S → Type 0
+  StaysOver layout result old new =
+      (origin : Origin) (i : Identity) → layout ≡ Second origin → Stands g (Second origin) old i → HasCleanDisk (state g new)
+      → OnOk result (WentOver g (Second origin) i old new)
+
+  -- a refusal keeps all while the connection is open
+  abbrev pub KeepsAllWhereRefused : {A E : Type 0} → Layout → Result A E → Held S → Held S → Type 0
+  KeepsAllWhereRefused layout result old new =
+      (i : Identity) → Stands g layout old i → HasCleanDisk (state g new) → IsTrue (state g new).is_open
+      → OnErr result (WasKept (state g old) (state g new))
+
+  -- a crash leaves a database of the station with the same map, in this layout or upgraded from it
+  abbrev pub CrashesWithSameMap : Layout → Held S → Held S → Type 0
+  CrashesWithSameMap layout old new =
+      (i : Identity) → Stands g layout old i → IsTrue (state g old).is_open → HasCleanDisk (state g new)
+      → (db : Trees) → (state g new).may_leave db → HoldsAll layout i (saved_in layout (state g old).now.trees) db
+
+  -- where a table of entries holds the map of layout 1, an Ok has gone over
+  abbrev pub GoesOverWith : {A E : Type 0} → List Columns → Result A E → Held S → Held S → Type 0
+  GoesOverWith entries result old new =
+      (i : Identity) → Stands g First old i → HoldsMap (saved_in First (state g old).now.trees) entries
+      → IsTrue (state g old).is_open → HasCleanDisk (state g new) → OnOk result (WentOver g First i old new)
+
+  -- and a crash leaves a database of the station with the same map, in layout 1 or upgraded from it
+  abbrev pub CrashesWithMapOf : List Columns → Held S → Held S → Type 0
+  CrashesWithMapOf entries old new =
+      (i : Identity) → Stands g First old i → HoldsMap (saved_in First (state g old).now.trees) entries
+      → IsTrue (state g old).is_open → HasCleanDisk (state g new)
+      → (db : Trees) → (state g new).may_leave db → HoldsAll First i (saved_in First (state g old).now.trees) db
