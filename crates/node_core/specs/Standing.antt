@@ -69,6 +69,10 @@ pub record StandsFor (v : Core) (marks : List Mark) : Type 0 where
   pub released : (n : ℕ) → is_noted v n ≡ was_released n marks
   pub in_hand : (n : ℕ) → InHandStands v.members n (instance_at v n) marks
 
+-- it is so of whatever marks the core stands for
+abbrev pub OfItsMarks : Core → (List Mark → Type 0) → Type 0
+OfItsMarks v is = (marks : List Mark) → StandsFor v marks → is marks
+
 -- where the core sits
 abbrev pub seat_of : Core → Seat
 seat_of v = record { circuit = v.circuit; me = v.me; members = v.members }

@@ -30,7 +30,8 @@ route_text from to = decimal from ++ (codes ">" ++ decimal to)
 -- the k-th packet ever sent: its kind, its way, its number and its ballot
 abbrev pub packet_line : ℕ → Packet → List ℕ
 packet_line k p =
-    codes " #" ++ (decimal k ++ (codes " " ++ (kind_word p.body ++ (codes " " ++ (route_text p.from p.to ++ (codes " " ++ (decimal p.number ++ (codes " " ++ (ballot_text p.ballot ++ codes "\n")))))))))
+    codes " #" ++ (decimal k ++ (codes " " ++ (kind_word p.body ++ (codes " " ++ (route_text p.from p.to
+    ++ (codes " " ++ (decimal p.number ++ (codes " " ++ (ballot_text p.ballot ++ codes "\n")))))))))
 
 -- the line of what bytes spell; those that spell no packet have none
 abbrev pub spelled_line : ℕ → Result Packet PacketFault → List ℕ

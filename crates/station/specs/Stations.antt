@@ -34,7 +34,18 @@ pub record Sight (R : Type 0) : Type 1 where
 -- of the words of rows those that a step or an upgrade speaks of
 abbrev pub sight : {R : Type 0} → Ghosts R → Sight R
 sight g =
-    record { kept = g.kept; is_open = g.is_open; saved = g.saved; version = g.version; alike = g.alike; passes = g.passes; tells = g.tells; upgrades = g.upgrades; balks = g.balks; blames = g.blames }
+    record {
+      kept = g.kept;
+      is_open = g.is_open;
+      saved = g.saved;
+      version = g.version;
+      alike = g.alike;
+      passes = g.passes;
+      tells = g.tells;
+      upgrades = g.upgrades;
+      balks = g.balks;
+      blames = g.blames;
+    }
 
 -- a tape sets where it has no first fault
 abbrev pub unless_faulty : Option SetFault → Result (Unit {0}) SetFault

@@ -1,15 +1,14 @@
 //! What a station remembers, in the version in which it speaks.
 
-ghost use Rattle.std.specs.Prelude.{◌≡◌, ◌≤◌, List, [], IfOk, IfErr, IsSome, IfSome, true, false, length};
-ghost use Rattle.protocol.specs.Marks.{Mark};
+ghost use Rattle.std.specs.Prelude.{◌≡◌, ◌≤◌, [], IfOk, IfErr, IsSome, IfSome, true, false, length};
 ghost use Rattle.protocol.specs.Versions.{fits};
 ghost use Rattle.protocol.specs.Fitting.{BodyFits, EventFits};
 ghost use Rattle.protocol.specs.Limits.{most_members, most_sent};
 ghost use Rattle.saved_rows.specs.Saved.{RowFits};
 ghost use Rattle.tape_frames.specs.Entries.{version_of, lent_entry};
 ghost use Rattle.packets.specs.Reading.{packet_at};
-ghost use Rattle.node_core.specs.Calls.{MayCome, TookTurn, RefusesEvent, MayTakeMemory};
-ghost use Rattle.node_core.specs.Standing.{StandsFor, IsSameSeat};
+ghost use Rattle.node_core.specs.Calls.{MayCome, TookTurn, RefusesEvent, MayWantMemory};
+ghost use Rattle.node_core.specs.Standing.{StandsFor, OfItsMarks, IsSameSeat};
 ghost use Rattle.node_core.specs.Turns.{event_value, note_value, is_quiet, HandsNothing, sent};
 ghost use Rattle.station.specs.Speaking.{is_lower, TurnSpeaks};
 
@@ -122,13 +121,13 @@ impl Speaker {
         requires arrived { MayCome self.old.core.me self.old.core.members event }
         requires event { EventFits self.old.wire (event_value event) }
         requires row { RowFits self.old.wire row.now }
-        ensures ok { IfOk result (λ x. (marks : List Mark) → StandsFor self.old.core marks → TookTurn self.old.core event.entry marks row.now x self.new.core) }
+        ensures ok { IfOk result (λ x. OfItsMarks self.old.core (λ marks. TookTurn self.old.core event.entry marks row.now x self.new.core)) }
         ensures fits { IfOk result (λ x. TurnSpeaks self.old.wire row.now x) }
         ensures promised { IfOk result (λ x. IfSome x.row (λ r. IsSome r.promised)) }
         ensures few { IfOk result (λ x. length (sent row.now x) ≤ most_sent) }
         ensures quiet { IfOk result (λ x. is_quiet (note_value x.note) ≡ true → HandsNothing x) }
         ensures refused { IfErr result (λ e. RefusesEvent event.entry e self.old.core row.now self.new.core) }
-        ensures memory { IfErr result (λ e. e ≡ CoreRefusal.OutOfMemory → (marks : List Mark) → StandsFor self.old.core marks → MayTakeMemory self.old.core event.entry marks row.now) }
+        ensures memory { IfErr result (λ e. MayWantMemory e self.old.core event.entry row.now) }
         ensures seat { IsSameSeat self.old.core self.new.core }
         ensures wire { self.new.wire ≡ self.old.wire }
     {

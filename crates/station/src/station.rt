@@ -5,7 +5,7 @@ ghost use Rattle.std.specs.Borrow.{Lends, sem};
 ghost use Rattle.protocol.specs.Marks.{Mark};
 ghost use Rattle.protocol.specs.Proposals.{was_released, open_ballot};
 ghost use Rattle.protocol.specs.Limits.{most_members};
-ghost use Rattle.node_core.specs.Standing.{StandsFor, IsSameSeat};
+ghost use Rattle.node_core.specs.Standing.{StandsFor, OfItsMarks, IsSameSeat};
 ghost use Rattle.station.specs.Stations.{sight, IsFixed, Follows, with_rows};
 ghost use Rattle.station.specs.contracts.station.Station.{the_row};
 
@@ -112,7 +112,7 @@ impl<R: Rows> Station<R> {
     /// Whether the number's entry was released since the station started; false while it is stopped.
     pub fn released(&self, number: Number) -> bool
         ensures stopped { self.now.stopped ≡ true → result ≡ false }
-        ensures released { self.now.stopped ≡ false → (marks : List Mark) → StandsFor self.now.speaker.core marks → result ≡ was_released number marks }
+        ensures released { self.now.stopped ≡ false → OfItsMarks self.now.speaker.core (λ marks. result ≡ was_released number marks) }
     {
         !self.stopped && self.speaker.core().released(number)
     }

@@ -10,7 +10,7 @@ ghost use Rattle.protocol.specs.Fitting.{EventFits};
 ghost use Rattle.protocol.specs.Limits.{most_sent};
 ghost use Rattle.tape_frames.specs.Entries.{lent_entry};
 ghost use Rattle.saved_rows.specs.Saved.{Rises};
-ghost use Rattle.node_core.specs.Standing.{StandsFor};
+ghost use Rattle.node_core.specs.Standing.{StandsFor, OfItsMarks};
 ghost use Rattle.node_core.specs.Calls.{MayCome};
 ghost use Rattle.node_core.specs.Turns.{event_value};
 ghost use Rattle.station.specs.Readiness.{WasChecked};
@@ -198,7 +198,7 @@ impl<R: Rows> Station<R> {
     fn check_offer(&self, number: u32, entry: EntryRef<'_>) -> Result<Number, StepRefusal>
         ensures value { IfOk result (λ n. n ≡ number) }
         ensures fits { OnOk result (fits self.now.speaker.wire (lent_entry entry.entry) ≡ true) }
-        ensures checks { (marks : List Mark) → StandsFor self.now.speaker.core marks → ChecksOffer self.now.speaker.wire number (lent_entry entry.entry) marks result }
+        ensures checks { OfItsMarks self.now.speaker.core (λ marks. ChecksOffer self.now.speaker.wire number (lent_entry entry.entry) marks result) }
         ensures cause { OnStore result ⊥ }
         ensures blames { IfStore result (λ fault. ⊥) }
         ensures goes_on { IfErr result (λ r. tears r ≡ false) }
