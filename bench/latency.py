@@ -5,7 +5,7 @@
 
 Three plants `run` on 127.0.0.1 with no network between them but the machine's. 200 stories where no other count is given are laid into the first plant's
 folder, one after another, each once the one before it stands in all three folders `releases`. Told are the least and the median time from the line that
-says that the offer was taken up (`N began B`) to the last of the three files `N.galley`; and how long the offer waited for the folder to be looked at. Beside them the
+says that the offer was taken up (`N began B`) to the last of the three files `N.tape`, and to the last of the three files `N.galley`; and how long the offer waited for the folder to be looked at. Beside them the
 saves on that path: promise and vote at the offering station, promise and vote at one other, timed alone, by the stock SQLite library with the same
 durability (journal in a log, each commit synced), on the same disk; and, where PUTS is the program that `bench/puts.py FOLDER` has built
 (`FOLDER/puts/crates/puts/out/puts`), by the rows of the stations themselves, which suppose nothing of a torn write and sync each commit twice.
@@ -61,23 +61,26 @@ def lines_of(process):
 
 
 def story(plants, number):
-    """Lays a story down, and gives the moments: laid, taken up, released everywhere."""
+    """Lays a story down, and gives the moments: laid, taken up, the last of its tapes and the last of its galleys released."""
     home, process = plants[0]
     part, whole = (os.path.join(home, 'offers', name) for name in (f'.{number}.tape', f'{number}.tape'))
     with open(part, 'wb') as file:
         file.write(TAPE)
     laid = time.monotonic()
     os.rename(part, whole)
-    wanted = [os.path.join(plant, 'releases', f'{number}.galley') for plant, _ in plants]
-    began = None
+    tapes, galleys = ([os.path.join(plant, 'releases', f'{number}.{kind}') for plant, _ in plants] for kind in ('tape', 'galley'))
+    began = told = None
     while time.monotonic() < laid + 30:
         now = time.monotonic()
         if began is None:
             if any(line.startswith(f'{number} began ') for line in lines_of(process)):
                 began = now
-        elif all(map(os.path.exists, wanted)):
-            return laid, began, now
-        time.sleep(0.0002)
+        elif told is None:
+            if all(map(os.path.exists, tapes)):
+                told = now
+        elif all(map(os.path.exists, galleys)):
+            return laid, began, told, now
+        time.sleep(0.00005)
     sys.exit(f'number {number} was not released within 30 s')
 
 
@@ -132,13 +135,18 @@ def main():
             process.kill()
             process.wait()
         shutil.rmtree(folder)
-    waits, paths = [began - laid for laid, began, _ in moments], [ended - began for _, began, ended in moments]
-    for what, took in (('taken up after', waits), ('from there to the last galley', paths), ('the saves alone', saves)):
-        print(f'{what:32} least {1000 * min(took):7.1f} ms, median {1000 * statistics.median(took):7.1f} ms')
-    print(f'median of the path over median of its saves: {statistics.median(paths) / statistics.median(saves):.2f}')
+    waits = [began - laid for laid, began, _, _ in moments]
+    tapes = [told - began for _, began, told, _ in moments]
+    galleys = [ended - began for _, began, _, ended in moments]
+    told = [('taken up after', waits), ('from there to the last tape', tapes), ('to the last galley', galleys), ('the saves alone', saves)]
     if own:
-        print(f'{"the saves alone, own rows":32} least {1000 * min(own):7.1f} ms, median {1000 * statistics.median(own):7.1f} ms')
-        print(f'median of the path over median of its own saves: {statistics.median(paths) / statistics.median(own):.2f}')
+        told.append(('the saves alone, own rows', own))
+    for what, took in told:
+        print(f'{what:32} least {1000 * min(took):7.2f} ms, median {1000 * statistics.median(took):7.2f} ms')
+    for what, alone in (('its saves', saves), ('its own saves', own or [])):
+        for end, took in (('tape', tapes), ('galley', galleys)):
+            if alone:
+                print(f'median to the last {end} over median of {what}: {statistics.median(took) / statistics.median(alone):.2f}')
 
 
 main()
