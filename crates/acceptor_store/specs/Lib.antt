@@ -11,3 +11,4 @@ pub mod Restarts
 pub mod Steps
 pub mod Testing
 pub mod Reading
+pub mod Taking

@@ -2,19 +2,56 @@
 
 ghost use Rattle.std.specs.Prelude.{◌≡◌, false, IsTrue, IfOk};
 ghost use Rattle.sqlite.specs.State.{HasCleanDisk};
+ghost use Rattle.sqlite.specs.Held.{state};
 ghost use Rattle.sqlite.specs.Files.{file_state, over_files};
 ghost use Rattle.sqlite.specs.WalFiles.{image_at};
 ghost use Rattle.tape_frames.specs.Entries.{version_of};
 ghost use Rattle.saved_rows.specs.Identity.{IsIdentity};
 ghost use Rattle.acceptor_store.specs.Sqlite.{IsOurs, Agrees, HoldsNoRow, rows_version};
+ghost use Rattle.acceptor_store.specs.Taking.{IsMadeFor, OpensAsStored};
 
 use crate::faults::{FileFault, file_fault_of, test_unmade};
 use crate::sqlite_rows::SqliteRows;
 use row_columns::has_none;
 use saved_rows::Identity;
-use sqlite::{Connection, FileFrom, FileStore, Start};
+use sqlite::{Alter, Connection, FileFrom, FileStore, Start};
+use std::alloc::Global;
 use std::fs;
 use tape_frames::Version;
+
+/// Takes up the rows of a database, as [`SqliteRows::open`] does, and tells what is the matter where there are none.
+fn take_rows<S: Alter + Drop>(
+    alloc: Global,
+    conn: Connection<S>,
+    given: Option<Identity>,
+) -> Result<SqliteRows<S>, FileFault>
+    ensures { IfOk result (OpensAsStored S.Store given (state S.Store conn)) }
+{
+    if has_none(conn.schema()) {
+        return Err(FileFault::Unmade);
+    }
+    match SqliteRows::open(alloc, conn, given) {
+        Ok(rows) => Ok(rows),
+        Err((fault, _)) => Err(FileFault::Rows(fault)),
+    }
+}
+
+/// Makes the tables of a station in a database, as [`SqliteRows::create`] does, and tells what is the matter where they are not made.
+fn make_rows<S: Alter + Drop>(
+    alloc: Global,
+    conn: Connection<S>,
+    identity: Identity,
+    version: Version,
+) -> Result<SqliteRows<S>, FileFault>
+    requires { IsIdentity identity }
+    ensures { IfOk result (IsMadeFor S.Store identity (version_of version) (state S.Store conn)) }
+{
+    test_unmade(conn.schema())?;
+    match SqliteRows::create(alloc, conn, identity, version) {
+        Ok(rows) => Ok(rows),
+        Err((fault, _)) => Err(FileFault::Rows(fault)),
+    }
+}
 
 impl<T: Start> SqliteRows<FileStore<FileFrom<T>>> {
     ghost use Rattle.acceptor_store.specs.Files.{IsTakenUp, TakesItsOwn, MakesItsOwn};
@@ -39,16 +76,9 @@ impl<T: Start> SqliteRows<FileStore<FileFrom<T>>> {
             Ok(false) => return Err(FileFault::Missing),
             Err(_) => return Err(FileFault::Unopened),
         }
-        let conn = match Connection::open_from(rt, path, false, start) {
-            Ok(conn) => conn,
-            Err((error, _)) => return Err(file_fault_of(&error)),
-        };
-        if has_none(conn.schema()) {
-            return Err(FileFault::Unmade);
-        }
-        match SqliteRows::open(rt.alloc(), conn, given) {
-            Ok(rows) => Ok(rows),
-            Err((fault, _)) => Err(FileFault::Rows(fault)),
+        match Connection::open_from(rt, path, false, start) {
+            Ok(conn) => take_rows(rt.alloc(), conn, given),
+            Err((error, _)) => Err(file_fault_of(&error)),
         }
     }
 
@@ -69,14 +99,9 @@ impl<T: Start> SqliteRows<FileStore<FileFrom<T>>> {
         ensures version { IfOk result (λ s. rows_version s ≡ version_of version) }
         ensures unstopped { IfOk result (λ s. s.stopped ≡ false) }
     {
-        let conn = match Connection::open_from(rt, path, false, start) {
-            Ok(conn) => conn,
-            Err((error, _)) => return Err(file_fault_of(&error)),
-        };
-        test_unmade(conn.schema())?;
-        match SqliteRows::create(rt.alloc(), conn, identity, version) {
-            Ok(rows) => Ok(rows),
-            Err((fault, _)) => Err(FileFault::Rows(fault)),
+        match Connection::open_from(rt, path, false, start) {
+            Ok(conn) => make_rows(rt.alloc(), conn, identity, version),
+            Err((error, _)) => Err(file_fault_of(&error)),
         }
     }
 }

@@ -1,21 +1,29 @@
-use Rattle.std.proofs.Common.{rules, ◌≡◌, false}
-use Rattle.sqlite.specs.Files.{file_state}
-use Rattle.row_columns.specs.FoundTables.{has_tables}
+use Rattle.std.proofs.lemmas.Result.{IfOk-weaker}
 use Rattle.acceptor_store.proofs.rows_at_path.SqliteRows+FileStore+FileFrom+T.create_at.Goals as goal
 
-pub returns-in-Ok-create-clause-open : goal.returns-in-Ok-create-clause-open
-returns-in-Ok-create-clause-open g c clean ours = c.in-Ok-create.ensures.«open» (clean, ours)
+pub returns-in-Ok-clause-open : goal.returns-in-Ok-clause-open
+returns-in-Ok-clause-open g c = IfOk-weaker c.make_rows.result _ _ (λ s is clean ours. is.is_open (clean, ours)) c.make_rows.ensures
 
-pub returns-in-Ok-create-clause-blank : goal.returns-in-Ok-create-clause-blank
-returns-in-Ok-create-clause-blank g c clean ours = c.in-Ok-create.ensures.blank (clean, ours)
-
-pub returns-in-Ok-create-clause-made : goal.returns-in-Ok-create-clause-made
-returns-in-Ok-create-clause-made g c =
-    let unmade : has_tables (file_state c.in-Ok.conn).now.schema ≡ false = search rules in
-    record {
+pub returns-in-Ok-clause-made : goal.returns-in-Ok-clause-made
+returns-in-Ok-clause-made g c =
+    IfOk-weaker c.make_rows.result _ _
+    (λ s is. record {
       was = c.in-Ok.conn;
       opened = c.in-Ok.ensures.opened;
       found = c.in-Ok.ensures.found;
-      unmade = unmade;
-      ours = c.in-Ok-create.ensures.made;
-    }
+      unmade = is.unmade;
+      ours = is.ours;
+    })
+    c.make_rows.ensures
+
+pub returns-in-Ok-clause-blank : goal.returns-in-Ok-clause-blank
+returns-in-Ok-clause-blank g c = IfOk-weaker c.make_rows.result _ _ (λ s is clean ours. is.blank (clean, ours)) c.make_rows.ensures
+
+pub returns-in-Ok-clause-identity : goal.returns-in-Ok-clause-identity
+returns-in-Ok-clause-identity g c = IfOk-weaker c.make_rows.result _ _ (λ s is. is.identity) c.make_rows.ensures
+
+pub returns-in-Ok-clause-version : goal.returns-in-Ok-clause-version
+returns-in-Ok-clause-version g c = IfOk-weaker c.make_rows.result _ _ (λ s is. is.version) c.make_rows.ensures
+
+pub returns-in-Ok-clause-unstopped : goal.returns-in-Ok-clause-unstopped
+returns-in-Ok-clause-unstopped g c = IfOk-weaker c.make_rows.result _ _ (λ s is. is.unstopped) c.make_rows.ensures

@@ -1,31 +1,45 @@
 use Rattle.std.proofs.Common.{arith}
+use Rattle.std.proofs.lemmas.Result.{IfOk-weaker}
 use Rattle.sqlite.specs.State.{HasCleanDisk}
 use Rattle.sqlite.specs.Files.{file_state}
 use Rattle.acceptor_store.proofs.rows_at_path.SqliteRows+FileStore+FileFrom+T.open_at.Goals as goal
 
-pub returns-in-Ok-open-clause-open : goal.returns-in-Ok-open-clause-open
-returns-in-Ok-open-clause-open g c clean ours = c.in-Ok-open.ensures.«open» (clean, ours)
+pub returns-in-Ok-clause-open : goal.returns-in-Ok-clause-open
+returns-in-Ok-clause-open g c =
+    IfOk-weaker c.take_rows.result _ _ (λ s is clean ours. is.is_open (clean, ours)) c.take_rows.ensures
 
-pub returns-in-Ok-open-clause-made : goal.returns-in-Ok-open-clause-made
-returns-in-Ok-open-clause-made g c = record {
-  was = c.in-Ok.conn;
-  opened = λ clean. c.in-Ok.ensures.opened (omega (arith, clean, c.in-Ok-open.ensures.clean));
-  found = λ clean. c.in-Ok.ensures.found (omega (arith, clean, c.in-Ok-open.ensures.clean));
-  ours = c.in-Ok-open.ensures.made;
-}
+pub returns-in-Ok-clause-given : goal.returns-in-Ok-clause-given
+returns-in-Ok-clause-given g c = IfOk-weaker c.take_rows.result _ _ (λ s is. is.agrees) c.take_rows.ensures
 
-pub returns-in-Ok-open-clause-rows : goal.returns-in-Ok-open-clause-rows
-returns-in-Ok-open-clause-rows g c clean ours =
+pub returns-in-Ok-clause-unstopped : goal.returns-in-Ok-clause-unstopped
+returns-in-Ok-clause-unstopped g c = IfOk-weaker c.take_rows.result _ _ (λ s is. is.unstopped) c.take_rows.ensures
+
+pub returns-in-Ok-clause-made : goal.returns-in-Ok-clause-made
+returns-in-Ok-clause-made g c =
+    IfOk-weaker c.take_rows.result _ _
+    (λ s is. record {
+      was = c.in-Ok.conn;
+      opened = λ clean. c.in-Ok.ensures.opened (omega (arith, clean, is.clean));
+      found = λ clean. c.in-Ok.ensures.found (omega (arith, clean, is.clean));
+      ours = is.ours;
+    })
+    c.take_rows.ensures
+
+pub returns-in-Ok-clause-rows : goal.returns-in-Ok-clause-rows
+returns-in-Ok-clause-rows g c =
+    IfOk-weaker c.take_rows.result _ _
+    (λ s is clean ours.
     let was = c.in-Ok.conn in
-    let early : HasCleanDisk (file_state was) = omega (arith, clean, c.in-Ok-open.ensures.clean) in
+    let early : HasCleanDisk (file_state was) = omega (arith, clean, is.clean) in
     record {
       was = was;
       opened = c.in-Ok.ensures.opened early;
       found = c.in-Ok.ensures.found early;
-      tables = c.in-Ok-open.ensures.tables (clean, ours);
-      unwritten = c.in-Ok-open.ensures.unwritten (clean, ours);
-      crash = c.in-Ok-open.ensures.crash (clean, ours);
-      same = c.in-Ok-open.ensures.same (clean, ours);
-      station = c.in-Ok-open.ensures.stored (clean, ours);
-      fresh = c.in-Ok-open.ensures.fresh;
-    }
+      tables = is.tables (clean, ours);
+      unwritten = is.unwritten (clean, ours);
+      crash = is.crash (clean, ours);
+      same = is.same (clean, ours);
+      station = is.stored (clean, ours);
+      fresh = is.fresh;
+    })
+    c.take_rows.ensures
