@@ -1,5 +1,5 @@
 -- What is asked and answered at a seat: by the acceptor of its circuit and member, in its version.
-use Rattle.std.specs.Prelude.{ℕ, List, [], Result}
+use Rattle.std.specs.Prelude.{ℕ, List, [], Result, Ok}
 use Rattle.hex.specs.Hex.{encode_lower}
 use Rattle.protocol.specs.Acceptor.{Request, next_row}
 use Rattle.protocol.specs.Packets.{Packet, Body}
@@ -7,7 +7,7 @@ use Rattle.protocol.specs.Rows.{Row}
 use Rattle.packets.specs.Spelling.{spelling}
 use Rattle.saved_rows.specs.Saved.{WithRow}
 use Rattle.tape_frames.specs.Entries.{version_of}
-use Rattle.answer_command.specs.Asked.{Asked, asked_of}
+use Rattle.answer_command.specs.Asked.{Asked, asked_in, asked_of}
 use Rattle.answer_command.specs.Replies.{answered, back}
 use Rattle.answer_command.specs.AnswerText.{lines_text, answer_text}
 use Rattle.answer_command.specs.declared.line.Seat.{Seat}
@@ -21,7 +21,11 @@ asked_at s line = asked_of s.circuit s.me (version_of s.wire) line
 abbrev pub answered_at : Seat → (ℕ → Row) → Result Asked Refusal → List ℕ
 answered_at s rows asked = answered s.circuit s.me (version_of s.wire) rows asked
 
--- the same of what the line asks for
+-- the text that answers a packet's request
+abbrev pub reply_at : Seat → (ℕ → Row) → Packet → Request → List ℕ
+reply_at s rows p request = answered_at s rows (Ok (asked_in p request))
+
+-- the text of what the line asks for
 abbrev pub line_at : Seat → (ℕ → Row) → List ℕ → List ℕ
 line_at s rows line = answered_at s rows (asked_at s line)
 

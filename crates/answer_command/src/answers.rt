@@ -1,13 +1,13 @@
 //! The command `answer`: a line out for each line in.
 
-ghost use Rattle.std.specs.Prelude.{◌≡◌, ◌==◌, List, ℕ, [], ◌∷◌, ◌++◌, map, IfOk, IfSome, OnOk, OnErr};
+ghost use Rattle.std.specs.Prelude.{◌≡◌, ◌==◌, List, ℕ, [], ◌∷◌, ◌++◌, map, IfOk, OnOk, OnErr};
 ghost use Rattle.std.specs.List.{list_all, slice_split};
 ghost use Rattle.std.specs.Io.KnownBytes.{Appends};
 ghost use Rattle.streams.specs.Fronts.{AppendsFront};
 ghost use Rattle.tape_frames.specs.Entries.{version_of};
 ghost use Rattle.saved_rows.specs.Memory.{saved};
 ghost use Rattle.answer_command.specs.Replies.{rows_after};
-ghost use Rattle.answer_command.specs.AnswerText.{is_blank, lines_of, answer_text};
+ghost use Rattle.answer_command.specs.AnswerText.{is_blank, lines_of, WritesAnswer, WritesAnswerFront};
 ghost use Rattle.answer_command.specs.Seats.{asked_at, line_at, lines_at, answer_at};
 ghost use Rattle.command_ends.specs.Ends.{IsOfInput};
 ghost use Rattle.command_ends.specs.declared.end.End.TheVariants.{Done};
@@ -123,9 +123,8 @@ pub fn answer<R: Read, W: Write, E: Write>(
     out: &mut W,
     err: &mut E,
 ) -> End
-    ensures done { result ≡ Done
-        → IfSome (R.remaining input.old) (λ xs. Appends (W.contents out.old) (W.contents out.new) (answer_text circuit me (version_of wire) xs)) }
-    ensures front { IfSome (R.remaining input.old) (λ xs. AppendsFront (W.contents out.old) (W.contents out.new) (answer_text circuit me (version_of wire) xs)) }
+    ensures done { result ≡ Done → WritesAnswer circuit me (version_of wire) (R.remaining input.old) (W.contents out.old) (W.contents out.new) }
+    ensures front { WritesAnswerFront circuit me (version_of wire) (R.remaining input.old) (W.contents out.old) (W.contents out.new) }
     ensures ends { IsOfInput result }
 {
     let seat = Seat { circuit, me, wire };

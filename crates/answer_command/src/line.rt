@@ -12,9 +12,9 @@ ghost use Rattle.packets.specs.Rules.{keeps_rules};
 ghost use Rattle.packets.specs.Spelling.{spelling};
 ghost use Rattle.saved_rows.specs.Saved.{WithRow, RowFits};
 ghost use Rattle.saved_rows.specs.Memory.{saved};
-ghost use Rattle.answer_command.specs.Asked.{asked_of_packet, asked_in};
+ghost use Rattle.answer_command.specs.Asked.{asked_of_packet};
 ghost use Rattle.answer_command.specs.Replies.{refused_text, rows_after, back, voted_entry};
-ghost use Rattle.answer_command.specs.Seats.{asked_at, answered_at, line_at, back_at, TakesRequest};
+ghost use Rattle.answer_command.specs.Seats.{asked_at, answered_at, reply_at, line_at, back_at, TakesRequest};
 
 use acceptor::{AcceptAnswer, PrepareAnswer, accept, prepare};
 use ballots::{Ballot, Member, Number, Row};
@@ -101,7 +101,7 @@ fn answer_prepare(
     requires kind { packet.now.body ≡ Prepare }
     requires to { packet.now.to ≡ seat.me }
     requires version { rows.old.version ≡ version_of seat.wire }
-    ensures text { IfOk result (λ t. t.items ≡ answered_at seat (saved rows.old) (Ok (asked_in packet.now (Prepares packet.now.ballot)))) }
+    ensures text { IfOk result (λ t. t.items ≡ reply_at seat (saved rows.old) packet.now (Prepares packet.now.ballot)) }
     ensures rows { OnOk result (TakesRequest (saved rows.old) packet.now.number (Prepares packet.now.ballot) (saved rows.new)) }
     ensures version { rows.new.version ≡ rows.old.version }
 {
@@ -141,7 +141,7 @@ fn answer_accept(
     requires to { packet.now.to ≡ seat.me }
     requires fits { Fits (version_of seat.wire) (lent_entry entry.now) }
     requires version { rows.old.version ≡ version_of seat.wire }
-    ensures text { IfOk result (λ t. t.items ≡ answered_at seat (saved rows.old) (Ok (asked_in packet.now (Accepts packet.now.ballot (lent_entry entry.now))))) }
+    ensures text { IfOk result (λ t. t.items ≡ reply_at seat (saved rows.old) packet.now (Accepts packet.now.ballot (lent_entry entry.now))) }
     ensures rows { OnOk result (TakesRequest (saved rows.old) packet.now.number (Accepts packet.now.ballot (lent_entry entry.now)) (saved rows.new)) }
     ensures version { rows.new.version ≡ rows.old.version }
 {

@@ -1,5 +1,5 @@
 -- What `check` writes: the galley of its three inputs.
-use Rattle.std.specs.Prelude.{◌≡◌, ℕ, List, Option, Ok}
+use Rattle.std.specs.Prelude.{◌≡◌, ℕ, List, Option, Ok, IfSome}
 use Rattle.std.specs.Io.KnownBytes.{Appends}
 use Rattle.toml.specs.Parse.{parse_document}
 use Rattle.code_table.specs.Tables.{Places, mean}
@@ -24,3 +24,7 @@ pub record IsGalleyOf (table widths tape : List ℕ) (old new : Option (List ℕ
   pub is_table : read_table (parse_document table) ≡ Ok places
   pub is_widths : read_widths (parse_document widths) ≡ Ok file
   pub is_set : IsSetAs (mean places) file tape old new
+
+-- the galley of the three texts was written, where these are known
+abbrev pub WritesGalley : Option (List ℕ) → Option (List ℕ) → Option (List ℕ) → Option (List ℕ) → Option (List ℕ) → Type 0
+WritesGalley table widths tape old new = IfSome table (λ ts. IfSome widths (λ ws. IfSome tape (λ xs. IsGalleyOf ts ws xs old new)))

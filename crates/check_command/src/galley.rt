@@ -5,7 +5,7 @@ ghost use Rattle.toml.specs.Parse.{parse_document};
 ghost use Rattle.code_table.specs.Reading.{read_table};
 ghost use Rattle.code_table.specs.Tables.{mean};
 ghost use Rattle.widths.specs.Reading.{read_widths};
-ghost use Rattle.check_command.specs.Galley.{IsSetAs, IsGalleyOf};
+ghost use Rattle.check_command.specs.Galley.{IsSetAs, WritesGalley};
 ghost use Rattle.command_ends.specs.declared.end.End.TheVariants.{Done};
 
 use code_table::CodeTable;
@@ -98,7 +98,8 @@ fn checked<'a, R: Read, S: Read, T: Read, W: Write>(
     listing: bool,
     out: &mut W,
 ) -> Result<(), Fault<'a>>
-    ensures { OnOk result (listing ≡ false → IfSome (R.remaining table.old) (λ ts. IfSome (S.remaining widths.old) (λ ws. IfSome (T.remaining tape.old) (λ xs. IsGalleyOf ts ws xs (W.contents out.old) (W.contents out.new))))) }
+    ensures { OnOk result (listing ≡ false → WritesGalley (R.remaining table.old) (S.remaining widths.old) (T.remaining tape.old)
+        (W.contents out.old) (W.contents out.new)) }
 {
     let setting = read_setting(alloc, paths, table, widths)?;
     let tape = read_tape(alloc, tape, paths.tape)?;
@@ -119,7 +120,8 @@ pub fn check<R: Read, S: Read, T: Read, W: Write, E: Write>(
     out: &mut W,
     err: &mut E,
 ) -> End
-    ensures { result ≡ Done → listing ≡ false → IfSome (R.remaining table.old) (λ ts. IfSome (S.remaining widths.old) (λ ws. IfSome (T.remaining tape.old) (λ xs. IsGalleyOf ts ws xs (W.contents out.old) (W.contents out.new)))) }
+    ensures { result ≡ Done → listing ≡ false → WritesGalley (R.remaining table.old) (S.remaining widths.old) (T.remaining tape.old)
+        (W.contents out.old) (W.contents out.new) }
 {
     match checked(alloc, paths, table, widths, tape, listing, out) {
         Ok(()) => End::Done,

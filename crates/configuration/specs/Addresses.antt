@@ -1,5 +1,5 @@
 -- The address of a station, as an entry of a TOML document has it.
-use Rattle.std.specs.Prelude.{ℕ, List, [], ◌∷◌, map, length, Bool, codes, Option, Some, None, nat_le, ◌==◌, ◌&&◌, if◌then◌else◌}
+use Rattle.std.specs.Prelude.{◌≡◌, ◌<◌, ℕ, List, [], ◌∷◌, map, length, Bool, codes, Option, Some, None, nat_le, ◌==◌, ◌&&◌, if◌then◌else◌}
 use Rattle.std.specs.Char.{is_ascii_digit}
 use Rattle.std.specs.List.{list_all, slice_split}
 use Rattle.std.specs.Str.Parse.{digits_value}
@@ -33,6 +33,22 @@ four _ = None
 -- the byte `.`
 abbrev pub is_dot : ℕ → Bool
 is_dot byte = byte == 46
+
+-- there is no dot in the text
+abbrev pub HasNoDot : List ℕ → Type 0
+HasNoDot text = slice_split is_dot text ≡ text ∷ []
+
+-- the text is these two, with its first dot between
+abbrev pub SplitsAtDot : List ℕ → List ℕ → List ℕ → Type 0
+SplitsAtDot text first rest = slice_split is_dot text ≡ first ∷ slice_split is_dot rest
+
+-- the dots of the text part fewer than four
+abbrev pub HasFewParts : List ℕ → Type 0
+HasFewParts text = length (slice_split is_dot text) < 4
+
+-- the text is these four, with its first three dots between
+abbrev pub SplitsAtDots : List ℕ → List ℕ → List ℕ → List ℕ → List ℕ → Type 0
+SplitsAtDots text first second third rest = slice_split is_dot text ≡ first ∷ second ∷ third ∷ slice_split is_dot rest
 
 -- the numbers of an IP address: four, with dots between
 unfoldable pub ip_of : List ℕ → Option (List ℕ)

@@ -1,6 +1,10 @@
 -- The keys of a configuration, as a TOML document has them.
+<<<<<<< HEAD
 use Rattle.std.specs.Prelude.{ℕ, zero, suc, ℤ, pos, negsuc, List, Bool, codes, Option, Some, None, Result, Ok, Err, nat_le, ◌&&◌, if◌then◌else◌}
 use Rattle.protocol.specs.Limits.{most_members}
+=======
+use Rattle.std.specs.Prelude.{◌≡◌, ℕ, zero, suc, ℤ, pos, negsuc, List, Bool, codes, Option, Some, None, Result, Ok, Err, MatchResult, nat_le, ◌&&◌, if◌then◌else◌}
+>>>>>>> 635a89a54756f889a484806cabb6bdc2c4c0bb64
 use Rattle.toml.specs.Data.{Data, Items, no_items, item, Members, get_member, as_integer, as_str, as_array, as_table}
 use Rattle.configuration.specs.declared.fault.ConfigKey.{ConfigKey}
 use Rattle.configuration.specs.declared.fault.ConfigKey.TheVariants.{Circuit, Member, Table, Widths, Rows, Folders, Offers, Releases, Station}
@@ -12,6 +16,10 @@ infixl 10 ◌>>=◌
 abbrev pub ◌>>=◌ : {A B : Type 0} → Result A ConfigFault → (A → Result B ConfigFault) → Result B ConfigFault
 (Ok x) >>= f = f x
 (Err e) >>= f = Err e
+
+-- a call gives what is read: this of what it found, or the same fault
+abbrev pub Gives : {X A : Type 0} → Result X ConfigFault → (X → A) → Result A ConfigFault → Type 0
+Gives result view read = MatchResult result (λ x. read ≡ Ok (view x)) (λ e. read ≡ Err e)
 
 -- a value, or this fault where there is none
 abbrev pub wanted : {A : Type 0} → ConfigFault → Option A → Result A ConfigFault
@@ -62,25 +70,33 @@ pub record Paths : Type 0 where
   pub widths : List ℕ
   pub rows : List ℕ
 
--- the three paths
+-- these three
+abbrev pub three_paths : List ℕ → List ℕ → List ℕ → Paths
+three_paths table widths rows = record { table = table; widths = widths; rows = rows }
+
+-- the three paths in a document
 unfoldable pub paths_in : Members → Result Paths ConfigFault
 paths_in file = do
   table ← text_at Table file
   widths ← text_at Widths file
   rows ← text_at Rows file
-  Ok (record { table = table; widths = widths; rows = rows })
+  Ok (three_paths table widths rows)
 
 -- the paths of two folders
 pub record FolderPaths : Type 0 where
   pub offers : List ℕ
   pub releases : List ℕ
 
+-- these two
+abbrev pub two_paths : List ℕ → List ℕ → FolderPaths
+two_paths offers releases = record { offers = offers; releases = releases }
+
 -- the two paths in a table
 unfoldable pub folder_paths_in : Members → Result FolderPaths ConfigFault
 folder_paths_in keys = do
   offers ← text_at Offers keys
   releases ← text_at Releases keys
-  Ok (record { offers = offers; releases = releases })
+  Ok (two_paths offers releases)
 
 -- the folders of the value at their key, where there is one: a table
 abbrev pub folders_of : Option Data → Result (Option FolderPaths) ConfigFault

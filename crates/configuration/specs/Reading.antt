@@ -3,7 +3,7 @@ use Rattle.std.specs.Prelude.{ℕ, List, length, string_bytes, Option, Some, Non
 use Rattle.protocol.specs.Limits.{most_members}
 use Rattle.toml.specs.Data.{Members}
 use Rattle.wire.specs.declared.address.Address.{Address}
-use Rattle.configuration.specs.Keys.{◌>>=◌, holds, number_at, FolderPaths, paths_in, folders_in, entries_at}
+use Rattle.configuration.specs.Keys.{◌>>=◌, holds, number_at, Paths, FolderPaths, paths_in, folders_in, entries_at}
 use Rattle.configuration.specs.Stations.{read_stations}
 use Rattle.configuration.specs.declared.config.Config.{Config}
 use Rattle.configuration.specs.declared.config.Folders.{Folders}
@@ -11,7 +11,8 @@ use Rattle.configuration.specs.declared.fault.ConfigKey.TheVariants.{Circuit, Me
 use Rattle.configuration.specs.declared.fault.ConfigFault.{ConfigFault}
 use Rattle.configuration.specs.declared.fault.ConfigFault.TheVariants.{NotToml, OutOfRange}
 
--- what a configuration says: the circuit, the own member, the paths of three files and, where it names them, of two folders, and the stations in order of their members
+-- what a configuration says: the circuit, the own member, the paths of three files and, where it names them, of two folders, and the
+-- stations in order of their members
 pub record ConfigFile : Type 0 where
   pub circuit : ℕ
   pub member : ℕ
@@ -20,6 +21,18 @@ pub record ConfigFile : Type 0 where
   pub rows : List ℕ
   pub folders : Option FolderPaths
   pub stations : List Address
+
+-- it says this, with these paths of files
+abbrev pub file_with : ℕ → ℕ → Paths → Option FolderPaths → List Address → ConfigFile
+file_with circuit member paths folders stations = record {
+  circuit = circuit;
+  member = member;
+  table = paths.table;
+  widths = paths.widths;
+  rows = paths.rows;
+  folders = folders;
+  stations = stations;
+}
 
 -- the paths of these folders
 abbrev pub paths_of : Folders → FolderPaths
@@ -47,7 +60,7 @@ read_file file = do
   entries ← entries_at file
   stations ← read_stations entries
   own ← holds (OutOfRange Member) (nat_le member (length stations))
-  Ok (record { circuit = circuit; member = member; table = paths.table; widths = paths.widths; rows = paths.rows; folders = folders; stations = stations })
+  Ok (file_with circuit member paths folders stations)
 
 -- the configuration of a document that was read; where none was read, it is not TOML
 unfoldable pub read_config : Option Members → Result ConfigFile ConfigFault

@@ -1,9 +1,9 @@
 //! IP addresses as they are written.
 
-ghost use Rattle.std.specs.Prelude.{◌≡◌, ◌∷◌, ◌<◌, [], length, nat_le, MatchOption};
+ghost use Rattle.std.specs.Prelude.{◌≡◌, ◌∷◌, [], length, nat_le, MatchOption};
 ghost use Rattle.std.specs.Char.{is_ascii_digit};
-ghost use Rattle.std.specs.List.{list_all, slice_split};
-ghost use Rattle.configuration.specs.Addresses.{octet_of, four, is_dot, ip_of};
+ghost use Rattle.std.specs.List.{list_all};
+ghost use Rattle.configuration.specs.Addresses.{octet_of, four, HasNoDot, SplitsAtDot, HasFewParts, SplitsAtDots, ip_of};
 
 /// The most digits of a number of an address.
 const MOST_DIGITS: usize = 3;
@@ -37,14 +37,14 @@ fn octet_of(word: &str) -> Option<u8>
 
 /// The text before the first dot, and the text behind it.
 fn split_dot(text: &str) -> Option<(&str, &str)>
-    ensures { MatchOption result (slice_split is_dot text.now ≡ text.now ∷ []) (λ parts. slice_split is_dot text.now ≡ parts.0.now ∷ slice_split is_dot parts.1.now) }
+    ensures { MatchOption result (HasNoDot text.now) (λ parts. SplitsAtDot text.now parts.0.now parts.1.now) }
 {
     text.split_once('.')
 }
 
 /// The text before the first dot, that before the second, that before the third, and all behind it.
 fn parts_of(text: &str) -> Option<(&str, &str, &str, &str)>
-    ensures { MatchOption result (length (slice_split is_dot text.now) < 4) (λ parts. slice_split is_dot text.now ≡ parts.0.now ∷ parts.1.now ∷ parts.2.now ∷ slice_split is_dot parts.3.now) }
+    ensures { MatchOption result (HasFewParts text.now) (λ parts. SplitsAtDots text.now parts.0.now parts.1.now parts.2.now parts.3.now) }
 {
     let (first, rest) = split_dot(text)?;
     let (second, rest) = split_dot(rest)?;

@@ -3,7 +3,8 @@
 ghost use Rattle.std.specs.Prelude.{◌≡◌, ◌⊎◌, Some, None, Ok, Err, IfOk, IfErr, option_map, nat_le, string_bytes};
 ghost use Rattle.toml.specs.Parse.{parse_document};
 ghost use Rattle.toml.specs.View.{table_view};
-ghost use Rattle.configuration.specs.Reading.{file_of, paths_of, read_file, read_config};
+ghost use Rattle.configuration.specs.Keys.{three_paths, two_paths};
+ghost use Rattle.configuration.specs.Reading.{file_with, file_of, paths_of, read_file, read_config};
 ghost use Rattle.configuration.specs.Stations.{IsCircuit};
 ghost use Rattle.configuration.specs.declared.fault.ConfigFault.TheVariants.{NotToml, OutOfMemory};
 
@@ -57,7 +58,7 @@ fn document_of(alloc: Global, text: &str) -> Result<Table, ConfigFault>
 
 /// The folders at these paths.
 fn folders_of(alloc: Global, paths: &FolderPaths<'_>) -> Result<Folders, AllocError>
-    ensures { IfOk result (λ f. paths_of f ≡ record { offers = paths.now.offers.now; releases = paths.now.releases.now }) }
+    ensures { IfOk result (λ f. paths_of f ≡ two_paths paths.now.offers.now paths.now.releases.now) }
 {
     let offers = paths.offers.to_string(alloc)?;
     let releases = paths.releases.to_string(alloc)?;
@@ -66,7 +67,7 @@ fn folders_of(alloc: Global, paths: &FolderPaths<'_>) -> Result<Folders, AllocEr
 
 /// The folders at these paths, where there are such.
 fn folders_at(alloc: Global, paths: &Option<FolderPaths<'_>>) -> Result<Option<Folders>, AllocError>
-    ensures { IfOk result (λ f. option_map paths_of f ≡ option_map (λ p. record { offers = p.offers.now; releases = p.releases.now }) paths.now) }
+    ensures { IfOk result (λ f. option_map paths_of f ≡ option_map (λ p. two_paths p.offers.now p.releases.now) paths.now) }
 {
     match paths {
         Some(paths) => Ok(Some(folders_of(alloc, paths)?)),
@@ -106,7 +107,8 @@ fn config_of(
     folders: Option<Folders>,
     stations: Vec<Address>,
 ) -> Config
-    ensures value { file_of result ≡ record { circuit = circuit; member = member; table = string_bytes files.table; widths = string_bytes files.widths; rows = string_bytes files.rows; folders = option_map paths_of folders; stations = stations.items } }
+    ensures value { file_of result ≡ file_with circuit member
+        (three_paths (string_bytes files.table) (string_bytes files.widths) (string_bytes files.rows)) (option_map paths_of folders) stations.items }
     ensures member { result.member ≡ member }
     ensures stations { result.stations ≡ stations }
 {

@@ -1,10 +1,14 @@
 //! The keys of a configuration in a TOML document.
 
+<<<<<<< HEAD
 ghost use Rattle.std.specs.Prelude.{◌≡◌, ◌≤◌, IfSome, IfOk, MatchResult, Ok, Err, option_map, vec_len};
 ghost use Rattle.protocol.specs.Limits.{most_members};
+=======
+ghost use Rattle.std.specs.Prelude.{◌≡◌, ◌≤◌, IfSome, IfOk, option_map, vec_len};
+>>>>>>> 635a89a54756f889a484806cabb6bdc2c4c0bb64
 ghost use Rattle.toml.specs.Data.{get_member};
 ghost use Rattle.toml.specs.View.{view, table_view, array_view};
-ghost use Rattle.configuration.specs.Keys.{in_range, value_at, number_at, text_at, paths_in, folder_paths_in, folders_in, entries_at};
+ghost use Rattle.configuration.specs.Keys.{Gives, in_range, value_at, number_at, text_at, three_paths, paths_in, two_paths, folder_paths_in, folders_in, entries_at};
 ghost use Rattle.configuration.specs.declared.fault.ConfigKey.TheVariants.{Circuit, Member as MemberKey};
 
 use crate::fault::{ConfigFault, ConfigKey};
@@ -58,7 +62,7 @@ pub(crate) fn in_range(least: u16, most: u16, number: i64) -> Option<u16>
 /// The value at the key.
 #[tactic(auto, unfolding(crate::specs::Keys::value_at))]
 fn value_at(file: &Table, key: ConfigKey) -> Result<&Value, ConfigFault>
-    ensures { MatchResult result (λ v. value_at key (table_view file.now) ≡ Ok (view v.now)) (λ e. value_at key (table_view file.now) ≡ Err e) }
+    ensures { Gives result (λ v. view v.now) (value_at key (table_view file.now)) }
 {
     match value_of(file, key.name()) {
         Some(value) => Ok(value),
@@ -96,7 +100,7 @@ pub(crate) fn member_at(file: &Table) -> Result<Member, ConfigFault>
 /// The text at the key.
 #[tactic(auto, unfolding(crate::specs::Keys::text_at))]
 fn text_at(file: &Table, key: ConfigKey) -> Result<&str, ConfigFault>
-    ensures { MatchResult result (λ t. text_at key (table_view file.now) ≡ Ok t.now) (λ e. text_at key (table_view file.now) ≡ Err e) }
+    ensures { Gives result (λ t. t.now) (text_at key (table_view file.now)) }
 {
     let value = value_at(file, key)?;
     match value.as_str() {
@@ -108,8 +112,13 @@ fn text_at(file: &Table, key: ConfigKey) -> Result<&str, ConfigFault>
 /// The entries of the stations, as many as a circuit has members at most.
 #[tactic(auto, using(crate::proofs::Entries::counted), unfolding(crate::specs::Keys::entries_at))]
 pub(crate) fn entries_at(file: &Table) -> Result<&Array, ConfigFault>
+<<<<<<< HEAD
     ensures value { MatchResult result (λ a. entries_at (table_view file.now) ≡ Ok (array_view a.now)) (λ e. entries_at (table_view file.now) ≡ Err e) }
     ensures few { IfOk result (λ a. vec_len a.now ≤ most_members) }
+=======
+    ensures value { Gives result (λ a. array_view a.now) (entries_at (table_view file.now)) }
+    ensures few { IfOk result (λ a. vec_len a.now ≤ 15) }
+>>>>>>> 635a89a54756f889a484806cabb6bdc2c4c0bb64
 {
     let value = value_at(file, ConfigKey::Station)?;
     match value.as_array() {
@@ -122,7 +131,7 @@ pub(crate) fn entries_at(file: &Table) -> Result<&Array, ConfigFault>
 /// The three paths.
 #[tactic(auto, unfolding(crate::specs::Keys::paths_in))]
 pub(crate) fn paths_in(file: &Table) -> Result<Paths<'_>, ConfigFault>
-    ensures { MatchResult result (λ p. paths_in (table_view file.now) ≡ Ok (record { table = p.table.now; widths = p.widths.now; rows = p.rows.now })) (λ e. paths_in (table_view file.now) ≡ Err e) }
+    ensures { Gives result (λ p. three_paths p.table.now p.widths.now p.rows.now) (paths_in (table_view file.now)) }
 {
     Ok(Paths {
         table: text_at(file, ConfigKey::Table)?,
@@ -134,7 +143,7 @@ pub(crate) fn paths_in(file: &Table) -> Result<Paths<'_>, ConfigFault>
 /// The paths in the table of the folders.
 #[tactic(auto, unfolding(crate::specs::Keys::folder_paths_in))]
 fn folder_paths_in(keys: &Table) -> Result<FolderPaths<'_>, ConfigFault>
-    ensures { MatchResult result (λ p. folder_paths_in (table_view keys.now) ≡ Ok (record { offers = p.offers.now; releases = p.releases.now })) (λ e. folder_paths_in (table_view keys.now) ≡ Err e) }
+    ensures { Gives result (λ p. two_paths p.offers.now p.releases.now) (folder_paths_in (table_view keys.now)) }
 {
     Ok(FolderPaths {
         offers: text_at(keys, ConfigKey::Offers)?,
@@ -145,7 +154,7 @@ fn folder_paths_in(keys: &Table) -> Result<FolderPaths<'_>, ConfigFault>
 /// The folders, where there is a table of them.
 #[tactic(auto, unfolding(crate::specs::Keys::folders_in))]
 pub(crate) fn folders_in(file: &Table) -> Result<Option<FolderPaths<'_>>, ConfigFault>
-    ensures { MatchResult result (λ f. folders_in (table_view file.now) ≡ Ok (option_map (λ p. record { offers = p.offers.now; releases = p.releases.now }) f)) (λ e. folders_in (table_view file.now) ≡ Err e) }
+    ensures { Gives result (λ f. option_map (λ p. two_paths p.offers.now p.releases.now) f) (folders_in (table_view file.now)) }
 {
     let Some(value) = value_of(file, ConfigKey::Folders.name()) else {
         return Ok(None);

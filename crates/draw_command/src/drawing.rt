@@ -1,15 +1,13 @@
 //! The command `draw`: the drawing of a tape.
 
-ghost use Rattle.std.specs.Prelude.{◌≡◌, Ok, None, Option, OnOk, IfOk, IfErr, IfSome, string_bytes};
+ghost use Rattle.std.specs.Prelude.{◌≡◌, Ok, None, OnOk, IfOk, IfErr, IfSome, string_bytes};
 ghost use Rattle.std.specs.Io.KnownBytes.{Appends};
 ghost use Rattle.toml.specs.Parse.{parse_document};
 ghost use Rattle.code_table.specs.Reading.{read_table};
 ghost use Rattle.code_table.specs.Tables.{mean};
 ghost use Rattle.widths.specs.Reading.{read_widths};
-ghost use Rattle.line_check.specs.declared.fault.SetFault.{SetFault};
-ghost use Rattle.streams.specs.Fronts.{AppendsFront};
 ghost use Rattle.tape_drawing.specs.Document.{document_text};
-ghost use Rattle.draw_command.specs.Drawing.{fault_words, IsDrawnAs, IsDrawingOf, BreaksOff, end_by, Draws, IfKnown};
+ghost use Rattle.draw_command.specs.Drawing.{fault_words, WasDrawnAs, WasDrawn, BreaksOffText, BreaksOffTape, BreaksOffDrawing, end_by, Draws, IfKnown};
 ghost use Rattle.command_ends.specs.Ends.{end_of, IsOfInput};
 ghost use Rattle.command_ends.specs.declared.end.End.TheVariants.{Done};
 
@@ -69,7 +67,8 @@ fn put_casting<'a, W: Write>(
     out: &mut W,
 ) -> Result<(), Fault<'a>>
     ensures ok { OnOk result (Appends (W.contents out.old) (W.contents out.new) (document_text page (mean table.now) tape.now casting.now words.now)) }
-    ensures err { IfErr result (λ e. BreaksOff (AppendsFront (W.contents out.old) (W.contents out.new) (document_text page (mean table.now) tape.now casting.now words.now)) (end_of e) (W.contents out.old) (W.contents out.new)) }
+    ensures err { IfErr result (λ e. BreaksOffText (document_text page (mean table.now) tape.now casting.now words.now)
+        (end_of e) (W.contents out.old) (W.contents out.new)) }
 {
     match put_drawing(alloc, table, tape, casting, words, page, out) {
         Ok(()) => {}
@@ -90,8 +89,9 @@ fn put_tape<'a, W: Write>(
     page: Page,
     out: &mut W,
 ) -> Result<Option<SetFault>, Fault<'a>>
-    ensures ok { IfOk result (λ fault. IsDrawnAs (mean setting.now.table) setting.now.widths tape.now page fault (Appends (W.contents out.old) (W.contents out.new))) }
-    ensures err { IfErr result (λ e. BreaksOff ((fault : Option SetFault) × IsDrawnAs (mean setting.now.table) setting.now.widths tape.now page fault (AppendsFront (W.contents out.old) (W.contents out.new))) (end_of e) (W.contents out.old) (W.contents out.new)) }
+    ensures ok { IfOk result (λ fault. WasDrawnAs (mean setting.now.table) setting.now.widths tape.now page fault (W.contents out.old) (W.contents out.new)) }
+    ensures err { IfErr result (λ e. BreaksOffTape (mean setting.now.table) setting.now.widths tape.now page
+        (end_of e) (W.contents out.old) (W.contents out.new)) }
 {
     let Ok(casting) = cast(alloc, &setting.table, &setting.widths, tape) else {
         return Err(Fault::OutOfMemory);
@@ -114,8 +114,10 @@ fn drawn<'a, R: Read, S: Read, T: Read, W: Write>(
     page: Page,
     out: &mut W,
 ) -> Result<Option<SetFault>, Fault<'a>>
-    ensures ok { IfOk result (λ fault. IfKnown (R.remaining table.old) (S.remaining widths.old) (T.remaining tape.old) (λ ts ws xs. IsDrawingOf ts ws xs page fault (Appends (W.contents out.old) (W.contents out.new)))) }
-    ensures err { IfErr result (λ e. IfKnown (R.remaining table.old) (S.remaining widths.old) (T.remaining tape.old) (λ ts ws xs. BreaksOff ((fault : Option SetFault) × IsDrawingOf ts ws xs page fault (AppendsFront (W.contents out.old) (W.contents out.new))) (end_of e) (W.contents out.old) (W.contents out.new))) }
+    ensures ok { IfOk result (λ fault. IfKnown (R.remaining table.old) (S.remaining widths.old) (T.remaining tape.old)
+        (λ ts ws xs. WasDrawn ts ws xs page fault (W.contents out.old) (W.contents out.new))) }
+    ensures err { IfErr result (λ e. IfKnown (R.remaining table.old) (S.remaining widths.old) (T.remaining tape.old)
+        (λ ts ws xs. BreaksOffDrawing ts ws xs page (end_of e) (W.contents out.old) (W.contents out.new))) }
     ensures ends { IfErr result (λ e. IsOfInput (end_of e)) }
 {
     let setting = read_setting(alloc, paths, table, widths)?;
@@ -149,8 +151,10 @@ pub fn draw<R: Read, S: Read, T: Read, W: Write, E: Write>(
     out: &mut W,
     err: &mut E,
 ) -> End
-    ensures done { result ≡ Done → IfKnown (R.remaining table.old) (S.remaining widths.old) (T.remaining tape.old) (λ ts ws xs. IsDrawingOf ts ws xs page None (Appends (W.contents out.old) (W.contents out.new))) }
-    ensures cause { IfKnown (R.remaining table.old) (S.remaining widths.old) (T.remaining tape.old) (λ ts ws xs. Draws ts ws xs page result (W.contents out.old) (W.contents out.new)) }
+    ensures done { result ≡ Done → IfKnown (R.remaining table.old) (S.remaining widths.old) (T.remaining tape.old)
+        (λ ts ws xs. WasDrawn ts ws xs page None (W.contents out.old) (W.contents out.new)) }
+    ensures cause { IfKnown (R.remaining table.old) (S.remaining widths.old) (T.remaining tape.old)
+        (λ ts ws xs. Draws ts ws xs page result (W.contents out.old) (W.contents out.new)) }
     ensures ends { IsOfInput result }
 {
     match drawn(alloc, paths, table, widths, tape, page, out) {

@@ -46,19 +46,27 @@ room_below at = record { x = at.x; width = 20; foot = at.y + 180; top = at.y + 1
 abbrev pub column_shapes : ℕ → List ℕ → Place → List Shape
 column_shapes frame word at = hole_shapes frame at ++ name_shapes (room_below at) word
 
--- the frame at a position: the paper where it begins a row, its number where it is a tenth, and its column
+-- a frame of a tape of so many, with a word below it: the paper where it begins a row, its number where it is a tenth, and its column
+abbrev pub cell_shapes : ℕ → ℕ → ℕ → List ℕ → List Shape
+cell_shapes i frames frame word =
+    (paper_shapes i frames (corner_of i) ++ number_shapes i (corner_of i)) ++ column_shapes frame word (corner_of i)
+
+-- the frame at a position, with what it means below it
 abbrev pub frame_shapes : Meanings → List ℕ → ℕ → List Shape
-frame_shapes means tape i =
-    (paper_shapes i (length tape) (corner_of i) ++ number_shapes i (corner_of i)) ++ column_shapes (frame_at tape i) (meaning_word (meaning_at means tape i)) (corner_of i)
+frame_shapes means tape i = cell_shapes i (length tape) (frame_at tape i) (meaning_word (meaning_at means tape i))
 
 -- all frames of a tape, in order
 abbrev pub tape_shapes : Meanings → List ℕ → List Shape
 tape_shapes means tape = flat_map (frame_shapes means tape) (before (length tape))
 
+-- the words of a fault below the frame at its position: they begin there, and in the right half of the row they end there
+abbrev pub fault_remark : ℕ → List ℕ → Shape
+fault_remark i words =
+    if nat_le 20 (i % 40)
+    then Remark true ((corner_of i).x + 20) ((corner_of i).y + 264) words
+    else Remark false (corner_of i).x ((corner_of i).y + 264) words
+
 -- the mark of a fault: an outline of the frame at its position, or of the place of one after the last, and the words of
--- the fault below it, which end there in the right half of the row
+-- the fault below it
 abbrev pub fault_shapes : ℕ → List ℕ → List Shape
-fault_shapes i words =
-    Mark (corner_of i).x ((corner_of i).y + 16)
-    ∷ (if nat_le 20 (i % 40) then Remark true ((corner_of i).x + 20) ((corner_of i).y + 264) words else Remark false (corner_of i).x ((corner_of i).y + 264) words)
-    ∷ []
+fault_shapes i words = Mark (corner_of i).x ((corner_of i).y + 16) ∷ fault_remark i words ∷ []

@@ -36,7 +36,8 @@ punched (place ∷ places) (level ∷ levels) = if level == 111 then place ∷ p
 -- the drawing of a tape has a hole exactly where a level of a frame is punched
 abbrev pub HolesArePunched : Type 0
 HolesArePunched =
-    (means : Meanings) (tape : List ℕ) → filter_map hole_place (tape_shapes means tape) ≡ flat_map (λ i. punched (level_places i) (holes_of (frame_at tape i))) (before (length tape))
+    (means : Meanings) (tape : List ℕ)
+    → filter_map hole_place (tape_shapes means tape) ≡ flat_map (λ i. punched (level_places i) (holes_of (frame_at tape i))) (before (length tape))
 
 -- the left edge and the width of a box; the other elements are none
 abbrev pub box_span : Shape → Option (ℕ × ℕ)
@@ -57,4 +58,5 @@ Tiles from to (span ∷ spans) = (span.0 ≡ from) × Tiles (from + span.1) to s
 
 -- the boxes of a slug add up to the measure: they lie side by side, from its left edge as far as the 800 units of the measure
 abbrev pub BoxesAddUp : Type 0
-BoxesAddUp = (measure : ℕ) (top : ℕ) (slug : Slug) → 1 ≤ measure → IsFull measure slug → Tiles 20 820 (filter_map box_span (pieces_shapes measure top slug))
+BoxesAddUp =
+    (measure : ℕ) (top : ℕ) (slug : Slug) → 1 ≤ measure → IsFull measure slug → Tiles 20 820 (filter_map box_span (pieces_shapes measure top slug))

@@ -60,7 +60,8 @@ shape_text (Hole x y) = pair_text (codes "<circle class='hole' cx='") x (codes "
 shape_text (Feed x y) = pair_text (codes "<circle class='feed' cx='") x (codes "' cy='") y ++ codes "' r='3'/>\n"
 shape_text (Paper x y width) =
     pair_text (codes "<rect class='paper' x='") x (codes "' y='") y ++ (pair_text (codes "' width='") width (codes "' height='") 140 ++ codes "'/>\n")
-shape_text (Box look x y width) = pair_text (box_lead look) x (codes "' y='") y ++ (pair_text (codes "' width='") width (codes "' height='") 100 ++ codes "'/>\n")
+shape_text (Box look x y width) =
+    pair_text (box_lead look) x (codes "' y='") y ++ (pair_text (codes "' width='") width (codes "' height='") 100 ++ codes "'/>\n")
 shape_text (Mark x y) = pair_text (codes "<rect class='mark' x='") x (codes "' y='") y ++ codes "' width='20' height='148'/>\n"
 shape_text (Upright x y words) = pair_text (codes "<text class='middle' x='") x (codes "' y='") y ++ words_text words
 shape_text (Turned x y words) = turn_text x y ++ words_text words

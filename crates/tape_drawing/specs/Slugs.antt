@@ -1,5 +1,5 @@
 -- The slugs: where each piece is drawn, and how wide. The measure of each is 800 units wide.
-use Rattle.std.specs.Prelude.{ℕ, ◌+◌, ◌*◌, ◌-◌, ◌/◌, List, [], ◌∷◌, ◌++◌, decimal, sum_by, ◌==◌, if◌then◌else◌}
+use Rattle.std.specs.Prelude.{◌≡◌, ℕ, ◌+◌, ◌*◌, ◌-◌, ◌/◌, List, [], ◌∷◌, ◌++◌, decimal, sum_by, ◌==◌, if◌then◌else◌}
 use Rattle.slug_reader.specs.declared.item.Rail.{Rail}
 use Rattle.slug_reader.specs.declared.item.Rail.TheVariants as rails
 use Rattle.line_check.specs.declared.sort.Sort.{Sort}
@@ -11,7 +11,7 @@ use Rattle.tape_drawing.specs.declared.elements.Look.{Look}
 use Rattle.tape_drawing.specs.declared.elements.Look.TheVariants as looks
 use Rattle.tape_drawing.specs.declared.labels.Room.{Room}
 use Rattle.tape_drawing.specs.declared.slugs.Stretch.{Stretch}
-use Rattle.tape_drawing.specs.Shapes.{Shape, Box, Caption}
+use Rattle.tape_drawing.specs.Shapes.{Shape, Box, Caption, text_of}
 use Rattle.tape_drawing.specs.Labels.{name_shapes}
 
 -- the edge that lies so many units of the measure from the left of a slug, rounded down to a whole user unit
@@ -52,7 +52,13 @@ stretch measure top from width = record { measure = measure; top = top; from = f
 -- the pieces of a slug, each from where the last ends
 abbrev pub sorts_shapes : ℕ → ℕ → ℕ → List Sort → List Shape
 sorts_shapes measure top from [] = []
-sorts_shapes measure top from (sort ∷ rest) = sort_shapes sort (stretch measure top from (sort_width sort)) ++ sorts_shapes measure top (from + sort_width sort) rest
+sorts_shapes measure top from (sort ∷ rest) =
+    sort_shapes sort (stretch measure top from (sort_width sort)) ++ sorts_shapes measure top (from + sort_width sort) rest
+
+-- these pieces were added behind a text, each from where the last ends, and the last ends so many units on
+abbrev pub AddsSorts : ℕ → ℕ → ℕ → List Sort → List ℕ → List ℕ → ℕ → Type 0
+AddsSorts measure top from sorts old new to =
+    (to ≡ from + sum_by sort_width sorts) × (new ≡ old ++ text_of (sorts_shapes measure top from sorts))
 
 -- the blank on the left of a slug, its pieces, and the blank on its right
 abbrev pub pieces_shapes : ℕ → ℕ → Slug → List Shape

@@ -5,7 +5,7 @@ ghost use Rattle.tape_frames.specs.Frames.{most_frames, AreFrames};
 ghost use Rattle.code_table.specs.Tables.{mean};
 ghost use Rattle.slug_reader.specs.Meanings.{case_at};
 ghost use Rattle.tape_drawing.specs.Shapes.{text_of};
-ghost use Rattle.tape_drawing.specs.Frames.{corner_of, level_shapes, three_shapes, lower_shapes, hole_shapes, column_shapes, paper_shapes, number_shapes, room_below, frame_shapes, tape_shapes, fault_shapes};
+ghost use Rattle.tape_drawing.specs.Frames.{corner_of, level_shapes, three_shapes, lower_shapes, hole_shapes, column_shapes, paper_shapes, number_shapes, room_below, cell_shapes, frame_shapes, tape_shapes, fault_shapes};
 
 use crate::elements::{Place, add_feed, add_hole, add_mark, add_paper, add_remark, add_upright};
 use crate::labels::{Room, add_name};
@@ -172,7 +172,7 @@ fn add_frame(
     word: &[u8],
 ) -> Result<(), AllocError>
     requires { (at < frames) × (frames ≤ most_frames) × (frame < 64) }
-    ensures { OnOk result (text.new.items ≡ text.old.items ++ text_of ((paper_shapes at frames (corner_of at) ++ number_shapes at (corner_of at)) ++ column_shapes frame word.now (corner_of at))) }
+    ensures { OnOk result (text.new.items ≡ text.old.items ++ text_of (cell_shapes at frames frame word.now)) }
 {
     let corner = corner_of(at as u32);
     add_top(text, at, frames, corner)?;

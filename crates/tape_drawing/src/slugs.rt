@@ -5,7 +5,7 @@ ghost use Rattle.std.specs.List.{AllByRecursion};
 ghost use Rattle.line_check.specs.Slugs.{sort_width};
 ghost use Rattle.line_check.specs.Galley.{kind_text};
 ghost use Rattle.tape_drawing.specs.Shapes.{text_of};
-ghost use Rattle.tape_drawing.specs.Slugs.{edge, across, box_shapes, blank_shapes, room_in, sort_shapes, sorts_shapes, pieces_shapes, head_shapes, slug_shapes, slugs_from};
+ghost use Rattle.tape_drawing.specs.Slugs.{edge, across, box_shapes, blank_shapes, room_in, sort_shapes, AddsSorts, pieces_shapes, head_shapes, slug_shapes, slugs_from};
 ghost use Rattle.tape_drawing.specs.Castings.{IsFull};
 
 use crate::elements::{Look, Place, add_box, add_caption};
@@ -131,7 +131,7 @@ fn add_sorts(
     sorts: &[Sort],
 ) -> Result<u64, AllocError>
     requires { (1 ≤ measure) × (left + sum_by sort_width sorts.now ≤ measure) × (top ≤ 2 ^ 59) }
-    ensures { IfOk result (λ to. (to ≡ left + sum_by sort_width sorts.now) × (text.new.items ≡ text.old.items ++ text_of (sorts_shapes measure top left sorts.now))) }
+    ensures { IfOk result (λ to. AddsSorts measure top left sorts.now text.old.items text.new.items to) }
 {
     let mut from = left;
     for sort in sorts {
