@@ -1,10 +1,6 @@
 -- The keys of a configuration, as a TOML document has them.
-<<<<<<< HEAD
-use Rattle.std.specs.Prelude.{ℕ, zero, suc, ℤ, pos, negsuc, List, Bool, codes, Option, Some, None, Result, Ok, Err, nat_le, ◌&&◌, if◌then◌else◌}
-use Rattle.protocol.specs.Limits.{most_members}
-=======
 use Rattle.std.specs.Prelude.{◌≡◌, ℕ, zero, suc, ℤ, pos, negsuc, List, Bool, codes, Option, Some, None, Result, Ok, Err, MatchResult, nat_le, ◌&&◌, if◌then◌else◌}
->>>>>>> 635a89a54756f889a484806cabb6bdc2c4c0bb64
+use Rattle.protocol.specs.Limits.{most_members}
 use Rattle.toml.specs.Data.{Data, Items, no_items, item, Members, get_member, as_integer, as_str, as_array, as_table}
 use Rattle.configuration.specs.declared.fault.ConfigKey.{ConfigKey}
 use Rattle.configuration.specs.declared.fault.ConfigKey.TheVariants.{Circuit, Member, Table, Widths, Rows, Folders, Offers, Releases, Station}

@@ -1,11 +1,7 @@
 //! The keys of a configuration in a TOML document.
 
-<<<<<<< HEAD
-ghost use Rattle.std.specs.Prelude.{◌≡◌, ◌≤◌, IfSome, IfOk, MatchResult, Ok, Err, option_map, vec_len};
-ghost use Rattle.protocol.specs.Limits.{most_members};
-=======
 ghost use Rattle.std.specs.Prelude.{◌≡◌, ◌≤◌, IfSome, IfOk, option_map, vec_len};
->>>>>>> 635a89a54756f889a484806cabb6bdc2c4c0bb64
+ghost use Rattle.protocol.specs.Limits.{most_members};
 ghost use Rattle.toml.specs.Data.{get_member};
 ghost use Rattle.toml.specs.View.{view, table_view, array_view};
 ghost use Rattle.configuration.specs.Keys.{Gives, in_range, value_at, number_at, text_at, three_paths, paths_in, two_paths, folder_paths_in, folders_in, entries_at};
@@ -112,13 +108,8 @@ fn text_at(file: &Table, key: ConfigKey) -> Result<&str, ConfigFault>
 /// The entries of the stations, as many as a circuit has members at most.
 #[tactic(auto, using(crate::proofs::Entries::counted), unfolding(crate::specs::Keys::entries_at))]
 pub(crate) fn entries_at(file: &Table) -> Result<&Array, ConfigFault>
-<<<<<<< HEAD
-    ensures value { MatchResult result (λ a. entries_at (table_view file.now) ≡ Ok (array_view a.now)) (λ e. entries_at (table_view file.now) ≡ Err e) }
-    ensures few { IfOk result (λ a. vec_len a.now ≤ most_members) }
-=======
     ensures value { Gives result (λ a. array_view a.now) (entries_at (table_view file.now)) }
-    ensures few { IfOk result (λ a. vec_len a.now ≤ 15) }
->>>>>>> 635a89a54756f889a484806cabb6bdc2c4c0bb64
+    ensures few { IfOk result (λ a. vec_len a.now ≤ most_members) }
 {
     let value = value_at(file, ConfigKey::Station)?;
     match value.as_array() {
