@@ -1,11 +1,10 @@
 //! Each command, run over the files that its words name.
 
-ghost use Rattle.std.specs.Prelude.{◌≡◌, ℕ, IfSome, codes};
+ghost use Rattle.std.specs.Prelude.{◌≡◌, ℕ, codes};
 ghost use Rattle.std.specs.Io.KnownBytes.{Appends};
-ghost use Rattle.streams.specs.Fronts.{AppendsFront};
 ghost use Rattle.tape_frames.specs.Entries.{version_of};
 ghost use Rattle.tape_frames.specs.declared.version.Version.{Version as VersionValue};
-ghost use Rattle.answer_command.specs.AnswerText.{answer_text};
+ghost use Rattle.answer_command.specs.AnswerText.{WritesAnswer, WritesAnswerFront};
 ghost use Rattle.command_ends.specs.declared.end.End.TheVariants.{Done};
 ghost use Rattle.arguments.specs.declared.asked.Asked.TheVariants.{Answer, Upgrade};
 
@@ -98,8 +97,10 @@ pub fn carry_out<F: RowFiles, R: Read, W: Write, E: Write>(
     out: &mut W,
     err: &mut E,
 ) -> End
-    ensures answered { (circuit : ℕ) → (me : ℕ) → (wire : VersionValue) → asked.now ≡ Answer circuit me wire → result ≡ Done → IfSome (R.remaining input.old) (λ xs. Appends (W.contents out.old) (W.contents out.new) (answer_text circuit me (version_of wire) xs)) }
-    ensures front { (circuit : ℕ) → (me : ℕ) → (wire : VersionValue) → asked.now ≡ Answer circuit me wire → IfSome (R.remaining input.old) (λ xs. AppendsFront (W.contents out.old) (W.contents out.new) (answer_text circuit me (version_of wire) xs)) }
+    ensures answered { (circuit : ℕ) → (me : ℕ) → (wire : VersionValue) → asked.now ≡ Answer circuit me wire → result ≡ Done
+        → WritesAnswer circuit me (version_of wire) (R.remaining input.old) (W.contents out.old) (W.contents out.new) }
+    ensures front { (circuit : ℕ) → (me : ℕ) → (wire : VersionValue) → asked.now ≡ Answer circuit me wire
+        → WritesAnswerFront circuit me (version_of wire) (R.remaining input.old) (W.contents out.old) (W.contents out.new) }
     ensures over { (path : _) → asked.now ≡ Upgrade path → result ≡ Done → Appends (W.contents out.old) (W.contents out.new) (codes "layout 2\n") }
 {
     match asked {

@@ -34,9 +34,13 @@ IsTableAt texts path table = IfSome (texts path) (λ text. read_table (parse_doc
 abbrev pub AreWidthsAt : (List ℕ → Option (List ℕ)) → List ℕ → WidthFile → Type 0
 AreWidthsAt texts path widths = IfSome (texts path) (λ text. read_widths (parse_document text) ≡ Ok widths)
 
+-- it is offered for the number that is asked for, and is the file at its path, where that is known
+abbrev pub IsOfferAt : (List ℕ → Option (List ℕ)) → (ℕ × List ℕ) → (ℕ × List ℕ) → Type 0
+IsOfferAt texts asked offer = (offer.0 ≡ asked.0) × IfSome (texts asked.1) (λ frames. offer.1 ≡ frames)
+
 -- the tape that is offered for a number is the file at a path, where both are asked for
 abbrev pub IsOffer : (List ℕ → Option (List ℕ)) → Option (ℕ × List ℕ) → Option (ℕ × List ℕ) → Type 0
-IsOffer texts asked offer = MatchOption asked (MatchOption offer (Unit {0}) (λ _. ⊥)) (λ a. MatchOption offer ⊥ (λ o. (o.0 ≡ a.0) × IfSome (texts a.1) (λ frames. o.1 ≡ frames)))
+IsOffer texts asked offer = MatchOption asked (MatchOption offer (Unit {0}) (λ _. ⊥)) (λ a. MatchOption offer ⊥ (λ o. IsOfferAt texts a o))
 
 -- a layout is named of rows that are not to be made
 abbrev pub IsLayoutAlone : Bool → Option Version → Type 0
@@ -49,8 +53,15 @@ made_in true None = Some One
 made_in true (Some version) = Some version
 
 -- the rows were made for the station in this version, or taken up as the station's where none are to be made
-abbrev pub AreRowsOf : {R : Type 0} → Option Version → (Identity → Version → R → Type 0) → (Option Identity → R → Type 0) → Identity → R → Type 0
+abbrev pub AreRowsOf :
+    {R : Type 0} → Option Version → (Identity → Version → R → Type 0) → (Option Identity → R → Type 0) → Identity → R → Type 0
 AreRowsOf making makes takes_up i rows = MatchOption making (takes_up (Some i) rows) (λ version. makes i version rows)
+
+-- so were the rows at this path, in these files of rows
+abbrev pub AreRowsAt :
+    {F R : Type 0} → (F → List ℕ → Identity → Version → R → Type 0) → (F → List ℕ → Option Identity → R → Type 0)
+    → F → List ℕ → Option Version → Identity → R → Type 0
+AreRowsAt makes takes_up files path making i rows = AreRowsOf making (makes files path) (takes_up files path) i rows
 
 -- the wire was opened at the member's own address among those of all stations, and sends to these
 abbrev pub IsWireOf : {N : Type 0} → (N → Address → List Address → Type 0) → ConfigFile → N → Type 0

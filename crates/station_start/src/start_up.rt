@@ -4,7 +4,7 @@ ghost use Rattle.std.specs.Prelude.{◌≡◌, IfOk, option_map, string_bytes};
 ghost use Rattle.configuration.specs.Reading.{file_of};
 ghost use Rattle.configuration.specs.Stations.{IsCircuit};
 ghost use Rattle.saved_rows.specs.Identity.{IsIdentity};
-ghost use Rattle.station_start.specs.Starts.{identity_of, IsStationOf, IsTableAt, AreWidthsAt, IsOffer, AreRowsOf, IsWireOf};
+ghost use Rattle.station_start.specs.Starts.{identity_of, IsStationOf, IsTableAt, AreWidthsAt, IsOffer, AreRowsOf, AreRowsAt, IsWireOf};
 
 use crate::files::{Files, read_files};
 use crate::host::Host;
@@ -148,7 +148,8 @@ pub fn start<H: Host, F: RowFiles, E: Write>(
     ensures table { IfOk result (λ s. IsTableAt (H.text host.now) (string_bytes config.table) s.station.table) }
     ensures widths { IfOk result (λ s. AreWidthsAt (H.text host.now) (string_bytes config.widths) s.station.widths) }
     ensures offer { IfOk result (λ s. IsOffer (H.text host.now) (option_map (λ o. (o.0, o.1.now)) offer.entry) s.offer) }
-    ensures rows { IfOk result (λ s. AreRowsOf making (F.makes row_files.now (string_bytes config.rows)) (F.takes_up row_files.now (string_bytes config.rows)) (identity_of (file_of config)) s.station.rows) }
+    ensures rows { IfOk result (λ s. AreRowsAt F.makes F.takes_up row_files.now (string_bytes config.rows) making
+        (identity_of (file_of config)) s.station.rows) }
     ensures version { IfOk result (λ s. s.station.speaker.wire ≡ F.Rows.version s.station.rows) }
     ensures wire { IfOk result (λ s. IsWireOf H.is_bound (file_of config) s.wire) }
 {
