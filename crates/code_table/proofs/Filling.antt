@@ -1,13 +1,12 @@
 -- The places of the entries that were read, and one entry more.
-use Rattle.std.proofs.Common.{◌≡◌, ℕ, zero, suc, ℤ, pos, negsuc, nat_le, ◌+◌, ◌<◌, ◌≤◌, ◌==◌, ◌≢◌, Bool, true, false, not, cond, List, [], ◌∷◌, ◌++◌, length, get_or, drop, replicate, slice_get, slice_set, Option, Some, None, is_some, Result, Ok, Err, refl, sym, ap, ◌∙◌, arith, inl, inr, add-zero, zero-add, add-one, drop-cons, length-append}
+use Rattle.std.proofs.Common.{◌≡◌, ℕ, zero, suc, ℤ, pos, negsuc, nat_le, ◌+◌, ◌-◌, ◌<◌, ◌≤◌, ◌==◌, ◌≢◌, Bool, true, false, not, cond, List, [], ◌∷◌, ◌++◌, length, get_or, replicate, slice_get, slice_set, Option, Some, None, is_some, Result, Ok, Err, refl, sym, ap, ◌∙◌, arith, inl, inr, add-zero, zero-add, add-one}
 use Rattle.std.specs.Option.{option_flatten}
 use Rattle.std.specs.Prelude.{option_map}
 use Rattle.std.specs.List.{AllByRecursion}
 use Rattle.std.proofs.lemmas.Bool.{cases_lt}
-use Rattle.std.proofs.lemmas.List.{drop_all}
 use Rattle.std.proofs.lemmas.Option.{cond_some}
 use Rattle.std.proofs.lemmas.Bool.Decides.{nat_tests}
-use Rattle.toml.specs.Data.{Data}
+use Rattle.toml.specs.Data.{Data, Items}
 use Rattle.toml.specs.View.{view, items_view}
 use Rattle.toml.specs.declared.value.Value.{Value}
 use Rattle.code_table.specs.Tables.{Places, is_placed, in_column, mean, case_of, AreAlike}
@@ -15,7 +14,7 @@ use Rattle.code_table.specs.Texts.{is_same_case, may_stand}
 use Rattle.code_table.specs.declared.case.Case.{Case}
 use Rattle.code_table.specs.declared.case.Case.TheVariants as cases
 use Rattle.code_table.specs.Entries.{Keys, ◌>>=◌, wanted, holds, frame_of, keys_of, free_frame, columns_of, read_entry}
-use Rattle.code_table.specs.Reading.{entry_among, is_taken, places_from, places_of, read_entries, read_places}
+use Rattle.code_table.specs.Reading.{entry_among, is_taken, places_from, places_of, count, item_at, first_entries, read_places}
 use Rattle.code_table.specs.declared.entry.Entry.{Entry}
 use Rattle.code_table.specs.declared.fault.TableFault.{TableFault}
 use Rattle.code_table.specs.declared.fault.TableFault.TheVariants.{WrongType, BadFrame, DuplicateFrame}
@@ -164,29 +163,48 @@ places_alike entries fit c frame =
       | inr more ↦ rw (none_past entries 0 64 frame more) refl
     ]
 
--- how far the entries were read: those that are done, and what reading on from them gives
+counted : (codes : List Value) → count (items_view codes) ≡ length codes
+counted [] = refl
+counted (code ∷ rest) = ap suc (counted rest)
+
+-- the item at a place is the value there
+item_is : (codes : List Value) (place : ℕ) (d : Value) → place < length codes → item_at (items_view codes) place ≡ view (get_or codes place d)
+item_is [] place d within = absurd (omega arith)
+item_is (code ∷ rest) zero d within = refl
+item_is (code ∷ rest) (suc place) d within = item_is rest place d (omega arith)
+
+-- a fault of the first items is the fault of more
+fault_stays : (codes : Items) (more n : ℕ) (e : TableFault) → first_entries codes n ≡ Err e → first_entries codes (more + n) ≡ Err e
+fault_stays codes zero n e h = rw zero-add h
+fault_stays codes (suc more) n e h =
+    let next : suc more + n ≡ suc (more + n) = omega arith in
+    rw (next, fault_stays codes more n e h) refl
+
+fault_of_all : (codes : Items) (n : ℕ) (e : TableFault) → n ≤ count codes → first_entries codes n ≡ Err e → read_places codes ≡ Err e
+unfolding read_places
+fault_of_all codes n e le h =
+    let all : (count codes - n) + n ≡ count codes = omega arith in
+    rw (rw all at (fault_stays codes (count codes - n) n e h)) refl
+
+-- how far the entries were read: those of the first items, which are placed
 pub record ReadSoFar (codes : List Value) (places : Places) (index : ℕ) : Type 0 where
   pub done : Entries
+  pub read : first_entries (items_view codes) index ≡ Ok done
+  pub bound : index ≤ length codes
   pub filled : places ≡ places_of done
-  pub count : length done ≡ index
   pub fit : AllFit done
-  pub on : read_entries done (items_view (drop index codes)) ≡ read_entries [] (items_view codes)
 
 pub starts : (codes : List Value) → ReadSoFar codes (replicate 64 None) 0
 unfolding places_of
-starts codes = record { done = []; filled = refl; count = refl; fit = tt; on = refl }
+starts codes = record { done = []; read = refl; bound = omega arith; filled = refl; fit = tt }
 
 -- what is read next
 module _ (codes : List Value) (places : Places) (index : ℕ) (so_far : ReadSoFar codes places index) (d : Value) (within : index < length codes) where
-  reads : read_entry (is_taken so_far.done) (suc (length so_far.done)) (view (get_or codes index d)) ≡ read_entry (is_placed places) (index + 1) (view (get_or codes index d))
-  reads = rw (so_far.count, so_far.filled, add-one) (read_entry-same (is_taken so_far.done) (is_placed (places_of so_far.done)) (λ frame le. sym (placed_taken so_far.done frame le)) (suc index) (view (get_or codes index d)))
-
-  next : (read_entry (is_placed places) (index + 1) (view (get_or codes index d)) >>= (λ entry. read_entries (so_far.done ++ entry ∷ []) (items_view (drop (index + 1) codes)))) ≡ read_entries [] (items_view codes)
-  next = rw (← reads, add-one) (rw (drop-cons codes index d) at so_far.on)
+  next : first_entries (items_view codes) (index + 1) ≡ (read_entry (is_placed places) (index + 1) (view (get_or codes index d)) >>= (λ entry. Ok (so_far.done ++ entry ∷ [])))
+  next = rw (add-one, so_far.read, item_is codes index d within, so_far.filled, read_entry-same (is_taken so_far.done) (is_placed (places_of so_far.done)) (λ frame le. sym (placed_taken so_far.done frame le)) (suc index) (view (get_or codes index d))) refl
 
   pub stops : (e : TableFault) → read_entry (is_placed places) (index + 1) (view (get_or codes index d)) ≡ Err e → read_places (items_view codes) ≡ Err e
-  unfolding read_places
-  stops e h = rw (← next, h) refl
+  stops e h = fault_of_all (items_view codes) (index + 1) e (omega (arith, counted codes)) (rw h at next)
 
   pub goes_on : (frame : ℕ) (entry : Entry) → read_entry (is_placed places) (index + 1) (view (get_or codes index d)) ≡ Ok (frame, entry) → frame ≤ 63 → is_placed places frame ≡ false → may_stand entry.unshift entry.shift ≡ true → ReadSoFar codes (slice_set places frame (Some entry)) (index + 1)
   unfolding places_of
@@ -194,18 +212,17 @@ module _ (codes : List Value) (places : Places) (index : ℕ) (so_far : ReadSoFa
       let untaken : is_taken so_far.done frame ≡ false = sym (placed_taken so_far.done frame small) ∙ rw so_far.filled at free in
       record {
         done = so_far.done ++ (frame, entry) ∷ [];
+        read = rw h at next;
+        bound = omega arith;
         filled = rw so_far.filled (sym (places_more so_far.done frame entry 0 64 frame (untaken_none so_far.done frame untaken) (omega arith) (omega arith)));
-        count = rw length-append (omega (arith, so_far.count));
         fit = all_fit_more so_far.done frame entry so_far.fit fit;
-        on = rw h at next;
       }
 
 pub ends : (codes : List Value) (places : Places) (index : ℕ) → ReadSoFar codes places index → length codes ≤ index → read_places (items_view codes) ≡ Ok places
 unfolding read_places
 ends codes places index so_far past =
-    let none : drop index codes ≡ [] = drop_all index codes past in
-    let all = rw none at so_far.on in
-    rw (← all, so_far.filled) refl
+    let all : count (items_view codes) ≡ index = omega (arith, counted codes, so_far.bound) in
+    rw (all, so_far.read, so_far.filled) refl
 
 length_places : (entries : Entries) (start many : ℕ) → length (places_from start many entries) ≡ many
 length_places entries start zero = refl

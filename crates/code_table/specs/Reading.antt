@@ -1,7 +1,7 @@
 -- A code table as a TOML document gives it: the table, or its first fault.
-use Rattle.std.specs.Prelude.{ℕ, zero, suc, List, [], ◌∷◌, ◌++◌, length, Bool, codes, Option, Some, None, is_some, Result, Ok, Err, ◌==◌, if◌then◌else◌}
+use Rattle.std.specs.Prelude.{ℕ, zero, suc, List, [], ◌∷◌, ◌++◌, Bool, codes, Option, Some, None, is_some, unwrap_or, Result, Ok, Err, ◌==◌, if◌then◌else◌}
 use Rattle.std.specs.Option.{option_and_then}
-use Rattle.toml.specs.Data.{Items, no_items, item, Members}
+use Rattle.toml.specs.Data.{Data, Items, no_items, item, Members, no_members, get_item, table}
 use Rattle.code_table.specs.Tables.{Places}
 use Rattle.code_table.specs.Entries.{◌>>=◌, wanted, array_at, read_entry}
 use Rattle.code_table.specs.declared.entry.Entry.{Entry}
@@ -17,12 +17,22 @@ entry_among (entry ∷ rest) frame = if entry.0 == frame then Some entry.1 else 
 abbrev pub is_taken : List (ℕ × Entry) → ℕ → Bool
 is_taken earlier frame = is_some (entry_among earlier frame)
 
--- the entries of an array after the earlier ones, up to the first fault
-abbrev pub read_entries : List (ℕ × Entry) → Items → Result (List (ℕ × Entry)) TableFault
-read_entries earlier no_items = Ok earlier
-read_entries earlier (item code rest) = do
-  entry ← read_entry (is_taken earlier) (suc (length earlier)) code
-  read_entries (earlier ++ entry ∷ []) rest
+-- how many items there are
+abbrev pub count : Items → ℕ
+count no_items = zero
+count (item code rest) = suc (count rest)
+
+-- the item at a place, counted from 0; past the last there is an empty table
+abbrev pub item_at : Items → ℕ → Data
+item_at items place = unwrap_or (get_item place items) (table no_members)
+
+-- the entries of the first so many items, each read beside those before it; or their first fault
+abbrev pub first_entries : Items → ℕ → Result (List (ℕ × Entry)) TableFault
+first_entries codes zero = Ok []
+first_entries codes (suc n) = do
+  earlier ← first_entries codes n
+  entry ← read_entry (is_taken earlier) (suc n) (item_at codes n)
+  Ok (earlier ++ entry ∷ [])
 
 -- the places of so many frames from this one on, each with its entry among these
 abbrev pub places_from : ℕ → ℕ → List (ℕ × Entry) → Places
@@ -36,7 +46,7 @@ places_of entries = places_from 0 64 entries
 -- the places of an array's entries, or their first fault
 unfoldable pub read_places : Items → Result Places TableFault
 read_places codes = do
-  entries ← read_entries [] codes
+  entries ← first_entries codes (count codes)
   Ok (places_of entries)
 
 -- an array that is not empty
