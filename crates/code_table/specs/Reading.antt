@@ -1,7 +1,7 @@
 -- A code table as a TOML document gives it: the table, or its first fault.
 use Rattle.std.specs.Prelude.{ℕ, zero, suc, List, [], ◌∷◌, ◌++◌, Bool, codes, Option, Some, None, is_some, unwrap_or, Result, Ok, Err, ◌==◌, if◌then◌else◌}
 use Rattle.std.specs.Option.{option_and_then}
-use Rattle.toml.specs.Data.{Data, Items, no_items, item, Members, no_members, get_item, table}
+use Rattle.toml.specs.Data.{Data, string, Items, no_items, item, Members, get_item}
 use Rattle.code_table.specs.Tables.{Places}
 use Rattle.code_table.specs.Entries.{◌>>=◌, wanted, array_at, read_entry}
 use Rattle.code_table.specs.declared.entry.Entry.{Entry}
@@ -22,9 +22,9 @@ abbrev pub count : Items → ℕ
 count no_items = zero
 count (item code rest) = suc (count rest)
 
--- the item at a place, counted from 0; past the last there is an empty table
+-- the item at a place, counted from 0; past the last there is an empty text
 abbrev pub item_at : Items → ℕ → Data
-item_at items place = unwrap_or (get_item place items) (table no_members)
+item_at items place = unwrap_or (get_item place items) (string [])
 
 -- the entries of the first so many items, each read beside those before it; or their first fault
 abbrev pub first_entries : Items → ℕ → Result (List (ℕ × Entry)) TableFault

@@ -7,12 +7,12 @@ use Rattle.std.proofs.lemmas.List.Folds.{find-append}
 use Rattle.std.proofs.lemmas.Bool.{and_parts}
 use Rattle.std.proofs.lemmas.Bool.Decides.{nat_tests}
 use Rattle.std.proofs.lemmas.Option.{cond_some}
-use Rattle.toml.specs.Data.{Data, Items, no_items, item, Members, get_member, as_integer, as_table}
+use Rattle.toml.specs.Data.{Data, Items, Members, get_member, as_integer, as_table}
 use Rattle.wire.specs.declared.address.Address.{Address}
 use Rattle.configuration.specs.Keys.{in_range, count, wanted, holds}
 use Rattle.configuration.specs.Keys as keys
 use Rattle.configuration.specs.Addresses.{◌>>=◌, number_in, ip_in, address_of}
-use Rattle.configuration.specs.Stations.{AreInOrder, are_at_odds, is_taken, read_entry, read_entries, address_among, of_members, in_order, read_stations}
+use Rattle.configuration.specs.Stations.{AreInOrder, are_at_odds, is_taken, read_entry, item_at, first_addresses, addresses_of, address_among, of_members, in_order, read_stations}
 use Rattle.configuration.specs.declared.fault.ConfigFault.{ConfigFault}
 use Rattle.configuration.specs.declared.fault.ConfigFault.TheVariants.{BadStation}
 
@@ -161,29 +161,36 @@ entry_is members earlier place entry address h = go (address_of members entry) (
             let same : a ≡ address = cc in
             subst (λ (x : Address). IsOfMembers members x × (is_taken earlier x ≡ false)) same (of a refl, t)
 
+none_there : (member more : ℕ) → there member more [] ≡ 0
+none_there member zero = refl
+none_there member (suc more) = omega (arith, none_there (suc member) more)
+
 -- all entries
 pub record AreRead (members many : ℕ) (addresses : List Address) : Type 0 where
   pub apart : AreApart members addresses
   pub number : length addresses ≡ many
 
-entries_are : (members : ℕ) (earlier : List Address) (entries : Items) (all : List Address) → AreApart members earlier → read_entries members earlier entries ≡ Ok all → AreRead members (length earlier + count entries) all
-entries_are members earlier no_items all apart h =
-    let same : earlier ≡ all = cc in
-    subst (λ (l : List Address). AreRead members (length earlier + 0) l) same (record { apart = apart; number = omega arith })
-entries_are members earlier (item entry rest) all apart h = go (read_entry members earlier (suc (length earlier)) entry) refl (λ address more e. entries_are members (earlier ++ address ∷ []) rest all more e) h
+entries_are : (members : ℕ) (entries : Items) (n : ℕ) (all : List Address) → first_addresses members entries n ≡ Ok all → AreRead members n all
+entries_are members entries zero all h =
+    let same : [] ≡ all = cc in
+    subst (λ (l : List Address). AreRead members 0 l) same (record { apart = record { each = tt; others = none_there 1 members }; number = refl })
+entries_are members entries (suc n) all h = go (first_addresses members entries n) (entries_are members entries n) h
   where
-    go : (r : Result Address ConfigFault) → read_entry members earlier (suc (length earlier)) entry ≡ r → ((address : Address) → AreApart members (earlier ++ address ∷ []) → read_entries members (earlier ++ address ∷ []) rest ≡ Ok all → AreRead members (length (earlier ++ address ∷ []) + count rest) all) → keys.◌>>=◌ r (λ address. read_entries members (earlier ++ address ∷ []) rest) ≡ Ok all → AreRead members (length earlier + suc (count rest)) all
-    go (Err fault) is others e = absurd cc
-    go (Ok address) is others e =
-        let facts = entry_is members earlier (suc (length earlier)) entry address is in
-        let more = others address (apart_more members earlier address apart facts.0 facts.1) e in
-        let long : length (earlier ++ address ∷ []) ≡ length earlier + 1 = rw length-append refl in
-        let number = more.number in
-        record { apart = more.apart; number = omega arith }
-
-none_there : (member more : ℕ) → there member more [] ≡ 0
-none_there member zero = refl
-none_there member (suc more) = omega (arith, none_there (suc member) more)
+    go : (r : Result (List Address) ConfigFault) → ((earlier : List Address) → r ≡ Ok earlier → AreRead members n earlier) → keys.◌>>=◌ r (λ earlier. keys.◌>>=◌ (read_entry members earlier (suc n) (item_at entries n)) (λ address. Ok (earlier ++ address ∷ []))) ≡ Ok all → AreRead members (suc n) all
+    go (Err fault) before e = absurd cc
+    go (Ok earlier) before e = one (read_entry members earlier (suc n) (item_at entries n)) refl e
+      where
+        one : (r : Result Address ConfigFault) → read_entry members earlier (suc n) (item_at entries n) ≡ r → keys.◌>>=◌ r (λ address. Ok (earlier ++ address ∷ [])) ≡ Ok all → AreRead members (suc n) all
+        one (Err fault) is f = absurd cc
+        one (Ok address) is f =
+            let same : earlier ++ address ∷ [] ≡ all = cc in
+            let facts = entry_is members earlier (suc n) (item_at entries n) address is in
+            let so_far = before earlier refl in
+            let long : length (earlier ++ address ∷ []) ≡ length earlier + 1 = rw length-append refl in
+            subst (λ (l : List Address). AreRead members (suc n) l) same (record {
+              apart = apart_more members earlier address so_far.apart facts.0 facts.1;
+              number = omega (arith, so_far.number);
+            })
 
 among_is : (members : ℕ) (addresses : List Address) (member : ℕ) (a : Address) → AllByRecursion (IsOfMembers members) addresses → address_among addresses member ≡ Some a → (a.member ≡ member) × (0 < a.port)
 among_is members [] member a each h = absurd cc
@@ -228,14 +235,13 @@ pub record AreStations (entries : Items) (stations : List Address) : Type 0 wher
 
 pub stations_are : (entries : Items) (stations : List Address) → read_stations entries ≡ Ok stations → AreStations entries stations
 unfolding read_stations in_order
-stations_are entries stations h = go (read_entries (count entries) [] entries) refl h
+stations_are entries stations h = go (addresses_of entries) refl h
   where
-    go : (r : Result (List Address) ConfigFault) → read_entries (count entries) [] entries ≡ r → keys.◌>>=◌ r (λ addresses. Ok (of_members 1 (length addresses) addresses)) ≡ Ok stations → AreStations entries stations
+    go : (r : Result (List Address) ConfigFault) → addresses_of entries ≡ r → keys.◌>>=◌ r (λ addresses. Ok (of_members 1 (length addresses) addresses)) ≡ Ok stations → AreStations entries stations
     go (Err fault) is e = absurd cc
     go (Ok addresses) is e =
-        let none : AreApart (count entries) [] = record { each = tt; others = none_there 1 (count entries) } in
-        let read = entries_are (count entries) [] entries addresses none is in
-        let number : length addresses ≡ count entries = omega (arith, read.number) in
+        let read = entries_are (count entries) entries (count entries) addresses is in
+        let number = read.number in
         let full : there 1 (length addresses) addresses ≡ length addresses = subst (λ (n : ℕ). there 1 n addresses ≡ length addresses) (sym number) read.apart.others in
         let same : of_members 1 (length addresses) addresses ≡ stations = cc in
         let short = of_members-le addresses 1 (length addresses) in
@@ -262,10 +268,10 @@ at_start addresses done h =
     rw (h, all) refl
 
 -- the stations are the addresses in order
-pub stations_from : (entries : Items) (addresses : List Address) → read_entries (count entries) [] entries ≡ Ok addresses → read_stations entries ≡ Ok (in_order addresses)
+pub stations_from : (entries : Items) (addresses : List Address) → addresses_of entries ≡ Ok addresses → read_stations entries ≡ Ok (in_order addresses)
 unfolding read_stations
 stations_from entries addresses h = rw h refl
 
-pub stations_stop : (entries : Items) (fault : ConfigFault) → read_entries (count entries) [] entries ≡ Err fault → read_stations entries ≡ Err fault
+pub stations_stop : (entries : Items) (fault : ConfigFault) → addresses_of entries ≡ Err fault → read_stations entries ≡ Err fault
 unfolding read_stations
 stations_stop entries fault h = rw h refl

@@ -1,9 +1,9 @@
 -- The stations of a circuit.
-use Rattle.std.specs.Prelude.{◌≡◌, ◌≤◌, ◌<◌, ◌+◌, ℕ, zero, suc, List, [], ◌∷◌, ◌++◌, length, Bool, Option, Some, slice_get, Result, Ok, ◌==◌, ◌&&◌, ◌||◌, not}
+use Rattle.std.specs.Prelude.{◌≡◌, ◌≤◌, ◌<◌, ◌+◌, ℕ, zero, suc, List, [], ◌∷◌, ◌++◌, length, Bool, Option, Some, unwrap_or, slice_get, Result, Ok, ◌==◌, ◌&&◌, ◌||◌, not}
 use Rattle.std.specs.List.{find, list_any, cons_option}
 use Rattle.std.specs.Str.{bytes_eq}
 use Rattle.protocol.specs.Limits.{most_members}
-use Rattle.toml.specs.Data.{Data, Items, no_items, item}
+use Rattle.toml.specs.Data.{Data, string, Items, get_item}
 use Rattle.wire.specs.declared.address.Address.{Address}
 use Rattle.configuration.specs.Keys.{◌>>=◌, wanted, holds, count}
 use Rattle.configuration.specs.Addresses.{address_of}
@@ -36,12 +36,21 @@ read_entry members earlier place entry = do
   free ← holds (BadStation place) (not (is_taken earlier address))
   Ok address
 
--- the addresses of entries after the earlier ones, up to the first fault
-abbrev pub read_entries : ℕ → List Address → Items → Result (List Address) ConfigFault
-read_entries members earlier no_items = Ok earlier
-read_entries members earlier (item entry rest) = do
-  address ← read_entry members earlier (suc (length earlier)) entry
-  read_entries members (earlier ++ address ∷ []) rest
+-- the item at a place, counted from 0; past the last there is an empty text
+abbrev pub item_at : Items → ℕ → Data
+item_at items place = unwrap_or (get_item place items) (string [])
+
+-- the addresses of the first so many entries, each read beside those before it; or their first fault
+abbrev pub first_addresses : ℕ → Items → ℕ → Result (List Address) ConfigFault
+first_addresses members entries zero = Ok []
+first_addresses members entries (suc n) = do
+  earlier ← first_addresses members entries n
+  address ← read_entry members earlier (suc n) (item_at entries n)
+  Ok (earlier ++ address ∷ [])
+
+-- the addresses of all entries, of as many members; or their first fault
+abbrev pub addresses_of : Items → Result (List Address) ConfigFault
+addresses_of entries = first_addresses (count entries) entries (count entries)
 
 -- the address of a member among some
 abbrev pub address_among : List Address → ℕ → Option Address
@@ -59,5 +68,5 @@ in_order addresses = of_members 1 (length addresses) addresses
 -- the stations of an array's entries in order of their members, as many members as entries, or the first fault
 unfoldable pub read_stations : Items → Result (List Address) ConfigFault
 read_stations entries = do
-  addresses ← read_entries (count entries) [] entries
+  addresses ← addresses_of entries
   Ok (in_order addresses)

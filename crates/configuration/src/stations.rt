@@ -1,10 +1,9 @@
 //! The stations of a configuration, entry by entry.
 
-ghost use Rattle.std.specs.Prelude.{◌≡◌, ◌≤◌, ◌⊎◌, [], length, IfOk, IfErr, Ok, Err, vec_len};
+ghost use Rattle.std.specs.Prelude.{◌≡◌, ◌≤◌, ◌⊎◌, length, IfOk, IfErr, Ok, Err, vec_len};
 ghost use Rattle.protocol.specs.Limits.{most_members};
 ghost use Rattle.toml.specs.View.{view, array_view};
-ghost use Rattle.configuration.specs.Keys.{count};
-ghost use Rattle.configuration.specs.Stations.{AreInOrder, are_at_odds, is_taken, read_entry, read_entries, address_among, in_order, read_stations};
+ghost use Rattle.configuration.specs.Stations.{AreInOrder, are_at_odds, is_taken, read_entry, addresses_of, address_among, in_order, read_stations};
 ghost use Rattle.configuration.specs.declared.fault.ConfigFault.TheVariants.{OutOfMemory};
 
 use crate::entry::address_of;
@@ -49,8 +48,8 @@ fn read_entry(
 /// The addresses of all entries, in their order.
 fn read_entries(alloc: Global, entries: &Array) -> Result<Vec<Address>, ConfigFault>
     requires { vec_len entries.now ≤ most_members }
-    ensures ok { IfOk result (λ addresses. read_entries (count (array_view entries.now)) [] (array_view entries.now) ≡ Ok addresses.items) }
-    ensures err { IfErr result (λ e. (e ≡ OutOfMemory) ⊎ (read_entries (count (array_view entries.now)) [] (array_view entries.now) ≡ Err e)) }
+    ensures ok { IfOk result (λ addresses. addresses_of (array_view entries.now) ≡ Ok addresses.items) }
+    ensures err { IfErr result (λ e. (e ≡ OutOfMemory) ⊎ (addresses_of (array_view entries.now) ≡ Err e)) }
 {
     let members = entries.len() as u16;
     let mut addresses = Vec::with_capacity(alloc, entries.len())?;

@@ -1,3 +1,4 @@
+pub mod Laws
 pub mod Numbers
 pub mod Reading
 pub mod Widths

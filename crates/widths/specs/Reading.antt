@@ -1,6 +1,6 @@
 -- A width file as a TOML document gives it: its measures and widths, or its first fault.
-use Rattle.std.specs.Prelude.{ℕ, suc, List, [], ◌∷◌, ◌++◌, length, Option, Some, None, Result, Ok, Err, nat_le, if◌then◌else◌}
-use Rattle.toml.specs.Data.{Data, Members, no_members, member, is_before}
+use Rattle.std.specs.Prelude.{ℕ, zero, suc, List, [], ◌∷◌, ◌++◌, Option, Some, None, Result, Ok, Err, nat_le, if◌then◌else◌}
+use Rattle.toml.specs.Data.{Data, string, Members, no_members, member, is_before}
 use Rattle.code_table.specs.Names.{is_name}
 use Rattle.widths.specs.Widths.{WidthFile, width_file}
 use Rattle.widths.specs.Numbers.{◌>>=◌, holds, number_of, measures_in, matrix_in}
@@ -16,12 +16,28 @@ read_entry place name value = do
   width ← number_of (Entry place) 999 value
   Ok (record { name = name; width = width })
 
--- the matrices of a table after the earlier ones, up to the first fault
-abbrev pub read_entries : List MatrixWidth → Members → Result (List MatrixWidth) WidthFault
-read_entries earlier no_members = Ok earlier
-read_entries earlier (member name value rest) = do
-  entry ← read_entry (suc (length earlier)) name value
-  read_entries (earlier ++ entry ∷ []) rest
+-- how many members there are
+abbrev pub count : Members → ℕ
+count no_members = zero
+count (member name value rest) = suc (count rest)
+
+-- the name and the value of the member at a place, counted from 0; past the last an empty name and an empty text
+abbrev pub member_at : Members → ℕ → List ℕ × Data
+member_at no_members place = ([], string [])
+member_at (member name value rest) zero = (name, value)
+member_at (member name value rest) (suc place) = member_at rest place
+
+-- the matrices of the first so many members; or their first fault
+abbrev pub first_entries : Members → ℕ → Result (List MatrixWidth) WidthFault
+first_entries table zero = Ok []
+first_entries table (suc n) = do
+  earlier ← first_entries table n
+  entry ← read_entry (suc n) (member_at table n).0 (member_at table n).1
+  Ok (earlier ++ entry ∷ [])
+
+-- the matrices of all members; or their first fault
+abbrev pub all_entries : Members → Result (List MatrixWidth) WidthFault
+all_entries table = first_entries table (count table)
 
 -- a member more, before the first that has a greater name
 abbrev pub put_in_order : List ℕ → Data → Members → Members
@@ -38,7 +54,7 @@ in_name_order (member name value rest) = put_in_order name value (in_name_order 
 
 -- the matrices of a table in byte order of their names, or their first fault
 unfoldable pub read_matrix : Members → Result (List MatrixWidth) WidthFault
-read_matrix table = read_entries [] (in_name_order table)
+read_matrix table = all_entries (in_name_order table)
 
 -- the measures and widths of a document, or its first fault
 unfoldable pub read_file : Members → Result WidthFile WidthFault

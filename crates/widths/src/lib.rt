@@ -3,6 +3,7 @@
 
 mod entry;
 mod fault;
+pub mod laws;
 mod matrix;
 mod measures;
 mod widths;
