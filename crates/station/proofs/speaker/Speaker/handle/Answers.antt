@@ -5,9 +5,9 @@ use Rattle.protocol.specs.Versions.{Version}
 use Rattle.protocol.specs.Fitting.{EventFits}
 use Rattle.saved_rows.specs.Saved.{RowFits}
 use Rattle.tape_frames.specs.Entries.{version_of}
-use Rattle.node_core.specs.Standing.{StandsFor, seat_of}
-use Rattle.node_core.specs.Turns.{event_value, Stirs}
-use Rattle.node_core.specs.Calls.{TookTurn, TurnIs, MayTakeMemory}
+use Rattle.node_core.specs.Standing.{StandsFor}
+use Rattle.node_core.specs.Turns.{event_value}
+use Rattle.node_core.specs.Calls.{TookTurn, MayTakeMemory}
 use Rattle.node_core.specs.declared.turn.CoreRefusal.TheVariants.{OutOfMemory}
 use Rattle.station.specs.Speaking.{Speaking, TurnSpeaks}
 use Rattle.station.proofs.Remembering.{answered_speaks, answered_fits}
