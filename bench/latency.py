@@ -3,12 +3,15 @@
 
     bench/latency.py PROGRAM [STORIES [PUTS]]
 
-Three plants `run` on 127.0.0.1 with no network between them but the machine's. 200 stories where no other count is given are laid into the first plant's
-folder, one after another, each once the one before it stands in all three folders `releases`. Told are the least and the median time from the line that
-says that the offer was taken up (`N began B`) to the last of the three files `N.tape`, and to the last of the three files `N.galley`; and how long the offer waited for the folder to be looked at. Beside them the
-saves on that path: promise and vote at the offering station, promise and vote at one other, timed alone, by the stock SQLite library with the same
-durability (journal in a log, each commit synced), on the same disk; and, where PUTS is the program that `bench/puts.py FOLDER` has built
-(`FOLDER/puts/crates/puts/out/puts`), by the rows of the stations themselves, which suppose nothing of a torn write and sync each commit twice.
+Three plants `run` on 127.0.0.1 with no network between them but the machine's. 200 stories where no other count is given are
+laid into the first plant's folder, one after another, each once the one before it stands in all three folders `releases`; each
+takes more than a second, since a file is taken up after two looks. Told are the least and the median time from the line that
+says that the offer was taken up (`N began B`) to the last of the three files `N.tape`, and to the last of the three files
+`N.galley`; and how long the offer waited for the folder to be looked at. Beside them the saves on that path: promise and vote at
+the offering station, promise and vote at one other, timed alone, by the stock SQLite library with the same durability (journal
+in a log, each commit synced), on the same disk; and, where PUTS is the program that `bench/puts.py FOLDER` has built
+(`FOLDER/puts/crates/puts/out/puts`), by the rows of the stations themselves, which suppose nothing of a torn write and sync each
+commit twice.
 """
 import os
 import shutil
@@ -52,12 +55,13 @@ def start(program, folder, member, ports):
     return home, process
 
 
-def lines_of(process):
-    """What a plant has told since it was last asked."""
+def has_told(process, lead, told):
+    """Whether a plant has told a line that begins so since it was last asked of another; what it has told of it stands in `told`."""
     try:
-        return (process.stderr.read() or '').splitlines()
+        told.append(process.stderr.read() or '')
     except (BlockingIOError, TypeError):
-        return []
+        return False
+    return any(line.startswith(lead) for line in ''.join(told).splitlines())
 
 
 def story(plants, number):
@@ -70,10 +74,11 @@ def story(plants, number):
     os.rename(part, whole)
     tapes, galleys = ([os.path.join(plant, 'releases', f'{number}.{kind}') for plant, _ in plants] for kind in ('tape', 'galley'))
     began = told = None
+    lines = []
     while time.monotonic() < laid + 30:
         now = time.monotonic()
         if began is None:
-            if any(line.startswith(f'{number} began ') for line in lines_of(process)):
+            if has_told(process, f'{number} began ', lines):
                 began = now
         elif told is None:
             if all(map(os.path.exists, tapes)):

@@ -1,7 +1,9 @@
-//! The tests over files of the host: rows in a file, what `serve` starts from, and a station that starts again.
+//! The tests over files of the host: rows in a file, the folders of a plant, what `serve` starts from, and a station that starts again.
 #![tactic(auto)]
 
 #[cfg(test)]
 mod files;
+#[cfg(test)]
+mod folders;
 #[cfg(test)]
 mod starting;

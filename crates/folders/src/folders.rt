@@ -54,6 +54,12 @@ pub trait Folders {
         ensures most { IfOk result (λ v. length v.items ≤ most) }
         ensures same { written self.new ≡ written self.old };
 
+    /// Tells that a file of this name is to be written among the releases next, after those that were told of before: what of it
+    /// waits for no disk may be done now, under another name.
+    fn prepare(&mut self, _alloc: Global, _name: &str, _bytes: &[u8])
+        ensures { written self.new ≡ written self.old }
+    {}
+
     /// Writes a file of this name among the releases: whole, in place of one that is there, or not at all.
     fn put(&mut self, alloc: Global, name: &str, bytes: &[u8]) -> Result<(), FolderFault>
         ensures ok { OnOk result (Writes (written self.old) (written self.new) (record { name = name.now; bytes = bytes.now } ∷ [])) }

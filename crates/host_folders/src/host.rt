@@ -1,6 +1,6 @@
 //! What a station asks of two folders of the host, call by call.
 
-use folders::{FolderFault, Folders, Listing, Place, Stamp};
+use folders::{FolderFault, Folders, Listing, NamedFile, Place, Stamp};
 use std::alloc::{AllocError, Global};
 use std::fs::{File, OpenFile};
 use std::io::{ErrorKind, Read, Write};
@@ -10,6 +10,16 @@ use std::{fs, io};
 
 /// One more than the files of one name that are set aside in one place.
 const MOST_COPIES: u32 = 1000;
+
+/// How many files are written under other names before the disk has the first: those of one release.
+const MOST_BEGUN: usize = 2;
+
+/// A file that is written under another name, and that the disk is not known to have.
+#[derive(Drop)]
+struct Begun<R: Files> {
+    named: NamedFile,
+    file: R::File,
+}
 
 /// Two folders of the host. What is set aside lies in folders within the first.
 ///
@@ -22,6 +32,9 @@ pub struct HostFolders<'a, R: Files> {
     releases: String,
     /// Whether a file was written among the releases whose name the disk is not known to have.
     has_new_names: bool,
+    /// The files that are to be written next, in their order. To write all of them before the first wait for the disk takes
+    /// less than to write one after the other: the disk then has them together.
+    begun: Vec<Begun<R>>,
 }
 
 /// What an error of the host means, where it is neither that there is no such file nor want of memory.
@@ -43,11 +56,11 @@ fn part_of(alloc: Global, folder: &str, name: &str) -> Result<String, AllocError
     format!(in alloc; "{folder}/.{name}.part")
 }
 
-/// Writes a file, and waits until the disk has what it holds.
-fn write_and_sync<R: Files>(files: &R, path: &str, bytes: &[u8]) -> io::Result<()> {
+/// Writes a file, and does not wait for the disk.
+fn write_part<R: Files>(files: &R, path: &str, bytes: &[u8]) -> io::Result<R::File> {
     let mut file = File::create(files, path)?;
     file.write_all(bytes)?;
-    file.sync_all()
+    Ok(file)
 }
 
 fn open_and_sync<R: Files>(files: &R, folder: &str) -> io::Result<()> {
@@ -62,10 +75,16 @@ fn sync_names<R: Files>(files: &R, folder: &str) -> Result<(), FolderFault> {
     }
 }
 
+/// Waits until the disk has what a file holds that was written under another name, and gives it its own.
+fn finish<R: Files>(files: &R, file: &R::File, part: &str, path: &str) -> io::Result<()> {
+    file.sync_all()?;
+    fs::rename(files, part, path)
+}
+
 /// Writes a file under another name, waits until the disk has it, and gives it its own.
 fn write_whole<R: Files>(files: &R, part: &str, path: &str, bytes: &[u8]) -> io::Result<()> {
-    write_and_sync(files, part, bytes)?;
-    fs::rename(files, part, path)
+    let file = write_part(files, part, bytes)?;
+    finish(files, &file, part, path)
 }
 
 /// The same within a folder, under a name.
@@ -80,6 +99,38 @@ fn put_within<R: Files>(
     let part = part_of(alloc, folder, name)?;
     match write_whole(files, &part, &path, bytes) {
         Ok(()) => Ok(()),
+        Err(error) => Err(fault_of(&error, FolderFault::CannotWrite)),
+    }
+}
+
+/// Gives a file that was begun its name within a folder, once the disk has it.
+fn finish_within<R: Files>(
+    alloc: Global,
+    files: &R,
+    folder: &str,
+    begun: &Begun<R>,
+) -> Result<(), FolderFault> {
+    let name = begun.named.name();
+    let path = within(alloc, folder, name)?;
+    let part = part_of(alloc, folder, name)?;
+    match finish(files, &begun.file, &part, &path) {
+        Ok(()) => Ok(()),
+        Err(error) => Err(fault_of(&error, FolderFault::CannotWrite)),
+    }
+}
+
+/// Begins a file within a folder.
+fn begin_within<R: Files>(
+    alloc: Global,
+    files: &R,
+    folder: &str,
+    name: &str,
+    bytes: &[u8],
+) -> Result<Begun<R>, FolderFault> {
+    let named = NamedFile::of(alloc, name, bytes)?;
+    let part = part_of(alloc, folder, name)?;
+    match write_part(files, &part, bytes) {
+        Ok(file) => Ok(Begun { named, file }),
         Err(error) => Err(fault_of(&error, FolderFault::CannotWrite)),
     }
 }
@@ -101,7 +152,22 @@ impl<'a, R: Files + AllocGlobal + Clone + Drop> HostFolders<'a, R> {
             offers,
             releases,
             has_new_names: false,
+            begun: Vec::new(files.alloc()),
         }
+    }
+
+    /// The file that was begun next, where it has this name and holds these bytes; else all that was begun is given up, and is
+    /// written over where its turn comes.
+    fn take_begun(&mut self, name: &str, bytes: &[u8]) -> Option<Begun<R>> {
+        if self.begun.is_empty() {
+            return None;
+        }
+        let begun = self.begun.remove(0);
+        if begun.named.name() == name && begun.named.bytes() == bytes {
+            return Some(begun);
+        }
+        self.begun.clear();
+        None
     }
 
     /// Waits until the disk has the names of all files that were written among the releases.
@@ -228,9 +294,21 @@ impl<'a, R: Files + AllocGlobal + Clone + Drop> Folders for HostFolders<'a, R> {
         }
     }
 
+    fn prepare(&mut self, alloc: Global, name: &str, bytes: &[u8]) {
+        if self.begun.len() < MOST_BEGUN {
+            // One that can't be begun is written whole in its turn, or refused then.
+            if let Ok(begun) = begin_within(alloc, self.files, &self.releases, name, bytes) {
+                let _ = self.begun.push(begun);
+            }
+        }
+    }
+
     fn put(&mut self, alloc: Global, name: &str, bytes: &[u8]) -> Result<(), FolderFault> {
         self.has_new_names = true;
-        put_within(alloc, self.files, &self.releases, name, bytes)
+        match self.take_begun(name, bytes) {
+            Some(begun) => finish_within(alloc, self.files, &self.releases, &begun),
+            None => put_within(alloc, self.files, &self.releases, name, bytes),
+        }
     }
 
     fn note(

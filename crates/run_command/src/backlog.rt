@@ -22,6 +22,15 @@ fn write_first<F: Folders>(
     Ok(())
 }
 
+/// Tells the folder which files are to be written.
+fn prepare_all<F: Folders>(alloc: Global, folders: &mut F, waits: &[NamedFile])
+    ensures { F.written folders.new ≡ F.written folders.old }
+{
+    for named in waits {
+        folders.prepare(alloc, named.name(), named.bytes());
+    }
+}
+
 /// Writes the files that wait, in order, up to the first that the folder refuses.
 pub(crate) fn write_waiting<F: Folders>(
     alloc: Global,
@@ -30,6 +39,7 @@ pub(crate) fn write_waiting<F: Folders>(
 ) -> Result<(), FolderFault>
     ensures { Keeps (F.written folders.old) (F.written folders.new) waits.old.items waits.new.items [] }
 {
+    prepare_all(alloc, folders, waits);
     for _ in 0..waits.len() {
         write_first(alloc, folders, waits)?;
     }
