@@ -2,5 +2,5 @@
 use Rattle.std.proofs.Common.{◌≡◌}
 use Rattle.run_command.proofs.backlog.prepare_all.Given as goal
 
-abbrev pub invariant-loop : goal.invariant-loop
-invariant-loop g l = g.F.Folders.written l.folders ≡ g.F.Folders.written l.initial.folders
+abbrev pub invariant-loop-named : goal.invariant-loop-named
+invariant-loop-named g l = g.F.Folders.written l.folders ≡ g.F.Folders.written l.initial.folders
