@@ -4,6 +4,6 @@
 #[cfg(test)]
 mod files;
 #[cfg(test)]
-mod folders;
+mod plant_folders;
 #[cfg(test)]
 mod starting;
