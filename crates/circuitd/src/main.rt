@@ -6,7 +6,7 @@ use command_line::parse;
 use commands::carry_out;
 use host_row_files::HostFiles;
 use std::env;
-use std::io::{BufWriter, ErrorKind, LineWriter};
+use std::io::{BufWriter, ErrorKind};
 use std::process::ExitCode;
 
 fn command_words(rt: &HostRuntime) -> Result<Vec<String>, End> {
@@ -25,19 +25,14 @@ fn command_words(rt: &HostRuntime) -> Result<Vec<String>, End> {
 
 /// Runs the command of these words over the standard streams and the files of the host.
 fn run_words(rt: &HostRuntime, words: &[String]) -> End {
-    let asked = match parse(rt.alloc(), words, &mut rt.stdout(), &mut rt.stderr()) {
+    let (mut input, mut err) = (rt.stdin(), rt.stderr());
+    let asked = match parse(rt.alloc(), words, &mut rt.stdout(), &mut err) {
         Ok(asked) => asked,
         Err(end) => return end,
     };
-    let out = BufWriter::new(rt.alloc(), rt.stdout());
-    // Each line that is told is written at once, so that those of several stations on one terminal or log stay whole.
-    let err = LineWriter::new(rt.alloc(), rt.stderr());
-    match (out, err) {
-        (Ok(mut out), Ok(mut err)) => {
-            let mut input = rt.stdin();
-            carry_out(rt, &asked, &HostFiles, &mut input, &mut out, &mut err)
-        }
-        _ => Fault::OutOfMemory.tell(&mut rt.stderr()),
+    match BufWriter::new(rt.alloc(), rt.stdout()) {
+        Ok(mut out) => carry_out(rt, &asked, &HostFiles, &mut input, &mut out, &mut err),
+        Err(_) => Fault::OutOfMemory.tell(&mut err),
     }
 }
 
