@@ -7,17 +7,21 @@ Three plants `run` on 127.0.0.1 with no network between them but the machine's. 
 laid into the first plant's folder, one after another, each once the one before it stands in all three folders `releases`; each
 takes more than a second, since a file is taken up after two looks. Told are the least and the median time from the line that
 says that the offer was taken up (`N began B`) to the last of the three files `N.tape`, and to the last of the three files
-`N.galley`; and how long the offer waited for the folder to be looked at. Beside them the saves on that path: promise and vote at
+`N.galley`; and how long the offer waited for the folder to be looked at. The bench sleeps until the system tells it of a line or
+of a name in a folder, so that it takes no processor from the stations. Beside them the saves on that path: promise and vote at
 the offering station, promise and vote at one other, timed alone, by the stock SQLite library with the same durability (journal
 in a log, each commit synced), on the same disk; and, where PUTS is the program that `bench/puts.py FOLDER` has built
 (`FOLDER/puts/crates/puts/out/puts`), by the rows of the stations themselves, which suppose nothing of a torn write and sync each
 commit twice.
 """
+import ctypes
 import os
+import select
 import shutil
 import socket
 import sqlite3
 import statistics
+import struct
 import subprocess
 import sys
 import tempfile
@@ -27,6 +31,7 @@ HERE = os.path.dirname(os.path.abspath(__file__))
 EXAMPLES = os.path.join(HERE, '..', 'examples')
 MEMBERS = (1, 2, 3)
 TAPE = bytes.fromhex('01020301030204')
+MOVED_TO = 0x80
 
 
 def free_ports():
@@ -50,21 +55,36 @@ def start(program, folder, member, ports):
     with open(os.path.join(home, 'station.toml'), 'w') as config:
         config.write(f'circuit = 7\nmember = {member}\ntable = "codes.toml"\nwidths = "widths.toml"\nrows = "station.db"\n'
                      f'[folders]\noffers = "offers"\nreleases = "releases"\n{stations}')
-    process = subprocess.Popen([program, 'run', 'station.toml', '--create', '--layout', '2'], cwd=home, stdout=subprocess.DEVNULL, stderr=subprocess.PIPE, text=True)
+    process = subprocess.Popen([program, 'run', 'station.toml', '--create', '--layout', '2'], cwd=home, stdout=subprocess.DEVNULL, stderr=subprocess.PIPE)
     os.set_blocking(process.stderr.fileno(), False)
     return home, process
 
 
-def has_told(process, lead, told):
-    """Whether a plant has told a line that begins so since it was last asked of another; what it has told of it stands in `told`."""
-    try:
-        told.append(process.stderr.read() or '')
-    except (BlockingIOError, TypeError):
-        return False
-    return any(line.startswith(lead) for line in ''.join(told).splitlines())
+class Names:
+    """The names that files are given in folders, as the system tells them (inotify)."""
+
+    def __init__(self, folders):
+        libc = ctypes.CDLL(None, use_errno=True)
+        self.file = libc.inotify_init1(os.O_NONBLOCK | os.O_CLOEXEC)
+        for folder in folders:
+            if self.file < 0 or libc.inotify_add_watch(self.file, os.fsencode(folder), MOVED_TO) < 0:
+                raise OSError(ctypes.get_errno(), os.strerror(ctypes.get_errno()), folder)
+
+    def taken(self):
+        """The names that were given since it was asked last."""
+        try:
+            told = os.read(self.file, 65536)
+        except BlockingIOError:
+            return []
+        names, at = [], 0
+        while at < len(told):
+            size, = struct.unpack_from('I', told, at + 12)
+            names.append(os.fsdecode(told[at + 16:at + 16 + size].rstrip(b'\0')))
+            at += 16 + size
+        return names
 
 
-def story(plants, number):
+def story(plants, names, number):
     """Lays a story down, and gives the moments: laid, taken up, the last of its tapes and the last of its galleys released."""
     home, process = plants[0]
     part, whole = (os.path.join(home, 'offers', name) for name in (f'.{number}.tape', f'{number}.tape'))
@@ -72,20 +92,20 @@ def story(plants, number):
         file.write(TAPE)
     laid = time.monotonic()
     os.rename(part, whole)
-    tapes, galleys = ([os.path.join(plant, 'releases', f'{number}.{kind}') for plant, _ in plants] for kind in ('tape', 'galley'))
-    began = told = None
-    lines = []
+    left = {f'{number}.tape': len(plants), f'{number}.galley': len(plants)}
+    moments, line = {}, b''
     while time.monotonic() < laid + 30:
+        select.select([process.stderr, names.file], [], [], 1)
         now = time.monotonic()
-        if began is None:
-            if has_told(process, f'{number} began ', lines):
-                began = now
-        elif told is None:
-            if all(map(os.path.exists, tapes)):
-                told = now
-        elif all(map(os.path.exists, galleys)):
-            return laid, began, told, now
-        time.sleep(0.00005)
+        line += process.stderr.read() or b''
+        if f'{number} began '.encode() in line:
+            moments.setdefault('began', now)
+        for name in names.taken():
+            if name in left:
+                left[name] -= 1
+                moments[name] = now
+        if not any(left.values()):
+            return laid, moments['began'], moments[f'{number}.tape'], moments[f'{number}.galley']
     sys.exit(f'number {number} was not released within 30 s')
 
 
@@ -132,7 +152,8 @@ def main():
     try:
         plants = [start(program, folder, member, ports) for member in MEMBERS]
         time.sleep(1)
-        moments = [story(plants, number) for number in range(1, count + 1)]
+        names = Names([os.path.join(home, 'releases') for home, _ in plants])
+        moments = [story(plants, names, number) for number in range(1, count + 1)]
         saves = time_of_saves(folder, count)
         own = time_of_own_saves(os.path.abspath(sys.argv[3]), folder) if len(sys.argv) > 3 else None
     finally:
