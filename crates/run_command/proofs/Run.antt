@@ -1,7 +1,6 @@
 -- Stretches of a run, one after the other.
-use Rattle.std.proofs.Common.{◌≡◌, ℕ, List, [], ◌∷◌, ◌++◌, Bool, false, ◌||◌, Option, Some, None, Result, Ok, Err, OnOk, inl, refl, sym, ap, ◌∙◌, subst, append_assoc, append-nil}
-use Rattle.std.specs.Prelude.{flat_map, OnErr, IfErr, slice_get}
-use Rattle.std.specs.List.{remove}
+use Rattle.std.proofs.Common.{◌≡◌, ℕ, List, [], ◌∷◌, ◌++◌, Bool, false, ◌||◌, Option, Some, None, Result, Ok, Err, OnOk, inl, refl, sym, ap, ◌∙◌, subst, append-nil}
+use Rattle.std.specs.Prelude.{flat_map, OnErr, IfErr}
 use Rattle.std.proofs.lemmas.Grind.{flat_map-append}
 use Rattle.protocol.specs.Refusals.{Call}
 use Rattle.station.specs.declared.answer.Answer.{Answer}
@@ -14,57 +13,22 @@ use Rattle.command_ends.specs.declared.end.End.{End}
 use Rattle.command_ends.specs.declared.end.End.TheVariants as ends
 use Rattle.command_ends.specs.declared.fault.Fault.{Fault}
 use Rattle.command_ends.specs.declared.fault.Fault.TheVariants as faults
-use Rattle.folders.specs.Written.{File, Writes}
+use Rattle.folders.specs.Written.{File}
 use Rattle.serve_command.specs.Serving.{asked, took, coming, sending, going, passing, IsStep, HasCause, ended}
 use Rattle.serve_command.specs.Driving.{Rests}
 use Rattle.serve_command.proofs.Served.{ends_badly, Passes-nil, Passes-then, takes_then, cause_then, refused_cause}
-use Rattle.run_command.specs.Asking.{call_of}
-use Rattle.run_command.specs.declared.wishes.Wish.{Wish}
-use Rattle.run_command.specs.declared.wishes.Wish.TheVariants.{Offered, Sought}
-use Rattle.run_command.specs.Filing.{files_of, answer_files, filing}
-use Rattle.run_command.specs.Keeping.{Keeps, KeepsFront}
+use Rattle.plant_files.specs.Asking.{call_of}
+use Rattle.plant_files.specs.declared.wishes.Wish.{Wish}
+use Rattle.plant_files.specs.declared.wishes.Wish.TheVariants.{Offered, Sought}
+use Rattle.plant_files.specs.Filing.{files_of, answer_files, filing}
+use Rattle.plant_files.specs.Keeping.{Keeps, KeepsFront}
+use Rattle.plant_files.proofs.Keeping.{keeps_same, keeps_then}
 use Rattle.run_command.specs.Running.{Plant, plant, Known, Runs}
-
--- nothing was written, and nothing more waits
-pub keeps_same : (a : Option (List File)) (q : List File) → Keeps a a q q []
-keeps_same None q = tt
-keeps_same (Some x) q = ap (λ (l : List File). x ++ l) (sym (append-nil q))
-
--- these files were written or wait, and then those
-pub keeps_then : (a b c : Option (List File)) (q r s fs gs : List File) → Keeps a b q r fs → Keeps b c r s gs → Keeps a c q s (fs ++ gs)
-keeps_then None b c q r s fs gs p p' = tt
-keeps_then (Some x) None c q r s fs gs p p' = absurd p
-keeps_then (Some x) (Some y) None q r s fs gs p p' = absurd p'
-keeps_then (Some x) (Some y) (Some z) q r s fs gs p p' =
-    p' ∙ sym (append_assoc y r gs) ∙ ap (λ (l : List File). l ++ gs) p ∙ append_assoc x (q ++ fs) gs ∙ ap (λ (l : List File). x ++ l) (append_assoc q fs gs)
 
 -- more wait
 pub keeps_more : (a : Option (List File)) (q fs : List File) → Keeps a a q (q ++ fs) fs
 keeps_more None q fs = tt
 keeps_more (Some x) q fs = refl
-
--- the first of what waits was written
-pub keeps_written : (a b : Option (List File)) (f : File) (q : List File) → Writes a b (f ∷ []) → Keeps a b (f ∷ q) q []
-keeps_written None b f q w = tt
-keeps_written (Some x) None f q w = absurd w
-keeps_written (Some x) (Some y) f q w =
-    ap (λ (l : List File). l ++ q) w ∙ append_assoc x (f ∷ []) q ∙ ap (λ (l : List File). x ++ (f ∷ l)) (sym (append-nil q))
-
-no_first : (f : File) → slice_get [] 0 ≡ Some f → ⊥
-no_first f e = cc
-
-abbrev get : File → Option File → File
-get d None = d
-get d (Some f) = f
-
--- the first of what waits was written, and waits no more
-pub keeps_removed : (a b : Option (List File)) (q : List File) (f : File) → slice_get q 0 ≡ Some f → Writes a b (f ∷ []) → Keeps a b q (remove q 0) []
-keeps_removed a b [] f e w = absurd (no_first f e)
-keeps_removed a b (x ∷ q) f e w = keeps_written a b x q (subst (λ (y : File). Writes a b (y ∷ [])) (sym (ap (get x) e)) w)
-
--- nothing was written, and all wait as before
-pub keeps_all : (a b : Option (List File)) (q : List File) → b ≡ a → Keeps a b q q []
-keeps_all a b q same = subst (λ (x : Option (List File)). Keeps a x q q []) (sym same) (keeps_same a q)
 
 -- these wait behind the others, and then some of all were written
 pub keeps_waited : (a b : Option (List File)) (q r fs : List File) → Keeps a b (q ++ fs) r [] → Keeps a b q r fs

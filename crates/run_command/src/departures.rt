@@ -7,9 +7,9 @@ ghost use Rattle.command_ends.specs.EntryText.{entry_text};
 ghost use Rattle.command_ends.specs.ReleaseText.{plain_line};
 
 use crate::messages::{Event, Reason, tell, tell_folder, tell_refused};
-use crate::wishes::{Asked, place_of};
 use command_ends::entry_text;
 use folders::{FolderFault, Folders, Place};
+use plant_files::{Asked, place_of};
 use std::alloc::{AllocError, Global};
 use std::io::Write;
 use tape_frames::EntryRef;

@@ -1,19 +1,17 @@
 //! A look at the folders: what lies among the offers, what is taken up, and what the station is asked.
 
 ghost use Rattle.std.specs.Prelude.{◌≡◌, []};
-ghost use Rattle.run_command.specs.Keeping.{Keeps};
+ghost use Rattle.plant_files.specs.Keeping.{Keeps};
 ghost use Rattle.run_command.specs.Running.{RunsUpTo};
 
 use crate::departures::refuse;
 use crate::messages::{Reason, tell_folder};
-use crate::names::{Kind, Request, has_stop, is_left, named};
 use crate::offer_book::OfferBook;
 use crate::steps::ask_at;
-use crate::watch::Watched;
-use crate::wishes::{Asked, Wish};
 use ballots::Number;
 use command_ends::Fault;
 use folders::{FolderFault, Folders, NamedFile, Stamp};
+use plant_files::{Asked, Kind, Request, Watched, Wish, has_stop, is_left, named};
 use saved_rows::Rows;
 use station::Station;
 use std::alloc::Global;

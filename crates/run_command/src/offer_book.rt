@@ -1,17 +1,16 @@
 //! What a run keeps in mind beside its station: the files among the offers, and what was told.
 
 ghost use Rattle.std.specs.Prelude.{◌≡◌, []};
-ghost use Rattle.run_command.specs.Keeping.{Keeps};
+ghost use Rattle.plant_files.specs.Keeping.{Keeps};
 
-use crate::backlog::write_waiting;
 use crate::departures::{refuse, settle};
 use crate::messages::{Event, Reason, tell, tell_folder, tell_wrong_circuit};
-use crate::pauses::{LAST_PAUSE, LOOK, TELL, has_passed};
-use crate::watch::{Watched, index_of, is_whole};
-use crate::wishes::Asked;
 use ballots::Number;
 use folders::{Folders, NamedFile, Stamp};
 use node_core::Note;
+use plant_files::{
+    Asked, LAST_PAUSE, LOOK, TELL, Watched, has_passed, index_of, is_whole, write_waiting,
+};
 use saved_rows::Rows;
 use station::{Answer, Release, Station, StepRefusal};
 use std::alloc::{AllocError, Global};

@@ -1,20 +1,18 @@
 //! The steps of a run: what its station takes in, sees to and is asked, and what comes of each.
 
-ghost use Rattle.std.specs.Prelude.{◌≡◌, ◌↔◌, IsTrue, OnOk, OnErr, IfErr};
+ghost use Rattle.std.specs.Prelude.{◌≡◌, OnOk, OnErr, IfErr};
 ghost use Rattle.command_ends.specs.declared.fault.Fault.TheVariants.{OutOfMemory};
 ghost use Rattle.wire.specs.Passing.{Passes};
 ghost use Rattle.serve_command.specs.Serving.{sending};
-ghost use Rattle.run_command.specs.Asking.{IsOfOffer};
-ghost use Rattle.run_command.specs.Filing.{files_of};
-ghost use Rattle.run_command.specs.Keeping.{Keeps};
+ghost use Rattle.plant_files.specs.Filing.{files_of};
+ghost use Rattle.plant_files.specs.Keeping.{Keeps};
 ghost use Rattle.run_command.specs.Running.{RunsUpTo};
 
 use crate::messages::Reason;
 use crate::offer_book::OfferBook;
-use crate::release_files::keep_any;
-use crate::wishes::ask;
 use command_ends::Fault;
 use folders::{Folders, NamedFile};
+use plant_files::{ask, is_of_offer, keep_any};
 use saved_rows::Rows;
 use serve_command::{Outcome, pass_over, send_answer, take_datagram, tell_strangers};
 use station::{Answer, Station, StepRefusal};
@@ -107,19 +105,6 @@ pub(crate) fn turn<R: Rows, N: Wire, F: Folders, E: Write>(
     take_in(station, wire, folders, waits, book, now, buffer, err)?;
     tell_strangers(wire, now, err);
     see_to_due(station, wire, folders, waits, book, now, err)
-}
-
-/// Whether a refusal is of what is offered, so that it would be refused ever again.
-fn is_of_offer(refusal: StepRefusal) -> bool
-    ensures { IsTrue result ↔ IsOfOffer refusal }
-{
-    matches!(
-        refusal,
-        StepRefusal::BadNumber
-            | StepRefusal::WireTooOld
-            | StepRefusal::TapeFaulty(_)
-            | StepRefusal::RoundsSpent
-    )
 }
 
 /// What becomes of a file for which the station did not take the step: its number is settled already, or it waits, or it is no

@@ -5,11 +5,11 @@ ghost use Rattle.command_ends.specs.declared.end.End.TheVariants.{Done};
 ghost use Rattle.run_command.specs.Running.{RunsUpTo, RunsAfresh};
 
 use crate::look::look;
-use crate::names::STOP;
 use crate::offer_book::OfferBook;
 use crate::steps::turn;
 use command_ends::{End, Fault};
 use folders::{Folders, NamedFile};
+use plant_files::STOP;
 use saved_rows::Rows;
 use serve_command::BUFFER;
 use station::{Station, StepRefusal};

@@ -1,6 +1,6 @@
 -- The files of the release wait behind the others, and then some of all are written.
 use Rattle.std.proofs.Common.{rules, ◌≡◌, ◌++◌}
-use Rattle.run_command.specs.Filing.{files_of}
+use Rattle.plant_files.specs.Filing.{files_of}
 use Rattle.run_command.proofs.Run.{kept_and_written}
 use Rattle.run_command.proofs.steps.hand_on.Goals as goal
 

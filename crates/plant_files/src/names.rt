@@ -1,18 +1,18 @@
 //! What the names of the files among the offers ask for.
 
 ghost use Rattle.std.specs.Prelude.{◌≡◌, ◌++◌, ◌↔◌, IfOk, IfSome, IsTrue, codes, decimal, string_bytes};
-ghost use Rattle.run_command.specs.Asking.{kind_word};
+ghost use Rattle.plant_files.specs.Asking.{kind_word};
 
 use crate::release_files::file_name;
 use ballots::Number;
 use std::alloc::{AllocError, Global};
 
-/// The file that ends a run.
-pub(crate) const STOP: &str = "stop";
+/// The name of the file among the offers that ends a run.
+pub const STOP: &str = "stop";
 
 /// What a file asks for, by the end of its name.
 #[derive(Clone, Copy, PartialEq, Eq)]
-pub(crate) enum Kind {
+pub enum Kind {
     /// Its frames are offered.
     Tape,
     /// The number's withdrawal is offered.
@@ -23,13 +23,15 @@ pub(crate) enum Kind {
 
 /// A number and what is asked for it.
 #[derive(Clone, Copy)]
-pub(crate) struct Request {
-    pub(crate) number: Number,
-    pub(crate) kind: Kind,
+pub struct Request {
+    /// The number that the name begins with.
+    pub number: Number,
+    /// What the end of the name asks for it.
+    pub kind: Kind,
 }
 
 /// The end of the names of this kind.
-pub(crate) fn kind_word(kind: Kind) -> &'static str
+fn kind_word(kind: Kind) -> &'static str
     ensures { result.now ≡ kind_word kind }
 {
     match kind {
@@ -46,13 +48,14 @@ fn is_stop(name: &str) -> bool
     name == STOP
 }
 
-/// Whether the file that ends a run is among these.
-pub(crate) fn has_stop(names: &[String]) -> bool {
+/// Whether the file that ends a run is among those of these names.
+pub fn has_stop(names: &[String]) -> bool {
     names.iter().any(|name| is_stop(name.as_str()))
 }
 
-/// Whether a file is left alone: one that is being handed over, or the one that ends a run.
-pub(crate) fn is_left(name: &str) -> bool {
+/// Whether a file of this name is left alone: one that is being handed over, whose name begins with a dot or ends with `.part`, or
+/// the one that ends a run.
+pub fn is_left(name: &str) -> bool {
     name.starts_with('.') || name.ends_with(".part") || is_stop(name)
 }
 
@@ -77,8 +80,9 @@ fn named_as(alloc: Global, name: &str, kind: Kind) -> Result<Option<Request>, Al
     }
 }
 
-/// What a name asks for; `None` where it asks for nothing that there is.
-pub(crate) fn named(alloc: Global, name: &str) -> Result<Option<Request>, AllocError>
+/// What the name of a file among the offers asks for; `None` where it asks for nothing that there is. It has to be the very name of the
+/// number's file, `12.tape` and not `012.tape`; where there is no memory to make that one, `AllocError`.
+pub fn named(alloc: Global, name: &str) -> Result<Option<Request>, AllocError>
     ensures { IfOk result (λ named. IfSome named (λ n. name.now ≡ decimal n.number ++ kind_word n.kind)) }
 {
     for kind in [Kind::Tape, Kind::Withdraw, Kind::Seek] {

@@ -4,7 +4,7 @@ ghost use Rattle.std.specs.Prelude.{◌≡◌, ◌↔◌, IsTrue};
 ghost use Rattle.tape_frames.specs.Entries.{lent_entry};
 ghost use Rattle.station.specs.Steps.{stopped_after};
 ghost use Rattle.serve_command.specs.Serving.{IsStep};
-ghost use Rattle.run_command.specs.Asking.{call_of, IsMet, IsPlaceOf};
+ghost use Rattle.plant_files.specs.Asking.{call_of, IsMet, IsPlaceOf};
 
 use crate::pauses::{FIRST_PAUSE, has_passed, next_pause};
 use ballots::{Ballot, Number};
@@ -15,7 +15,7 @@ use tape_frames::{Entry, EntryRef};
 
 /// What a file asks for its number.
 #[derive(Drop)]
-pub(crate) enum Wish {
+pub enum Wish {
     /// That this entry is agreed on.
     Offered(Entry),
     /// What stands there.
@@ -24,19 +24,23 @@ pub(crate) enum Wish {
 
 /// A file among the offers that was taken up.
 #[derive(Drop)]
-pub(crate) struct Asked {
-    pub(crate) name: String,
-    pub(crate) number: Number,
-    pub(crate) wish: Wish,
+pub struct Asked {
+    /// Its name.
+    pub name: String,
+    /// The number that it is about.
+    pub number: Number,
+    /// What it asks for the number.
+    pub wish: Wish,
     /// As it was read.
-    pub(crate) stamp: Stamp,
+    pub stamp: Stamp,
     /// The ballot of the number's open proposal, as it was told last.
-    pub(crate) ballot: Option<Ballot>,
-    /// When the station is asked, and how long it is waited then; `None` while a ballot is under way.
-    pub(crate) due: Option<u64>,
-    pub(crate) pause: u64,
+    pub ballot: Option<Ballot>,
+    /// When the station is asked, in milliseconds; `None` while a ballot is under way.
+    pub due: Option<u64>,
+    /// How long it is waited where it is put off, in milliseconds.
+    pause: u64,
     /// Whether the file has left the offers.
-    pub(crate) is_settled: bool,
+    pub is_settled: bool,
 }
 
 /// Whether the entry that stands under a number is the one that was asked for.
@@ -50,7 +54,7 @@ fn is_met(wish: &Wish, entry: &EntryRef<'_>) -> bool
 }
 
 /// Where a file is put once this entry stands under its number.
-pub(crate) fn place_of(wish: &Wish, entry: &EntryRef<'_>) -> Place
+pub fn place_of(wish: &Wish, entry: &EntryRef<'_>) -> Place
     ensures { IsPlaceOf wish.now (lent_entry entry.now) result }
 {
     if is_met(wish, entry) {
@@ -60,8 +64,9 @@ pub(crate) fn place_of(wish: &Wish, entry: &EntryRef<'_>) -> Place
     }
 }
 
-/// Asks the station what a file asks for its number, at a moment in milliseconds.
-pub(crate) fn ask<R: Rows>(
+/// Asks the station what a file asks for its number, at a moment in milliseconds: it is offered, withdrawn or sought. What the station
+/// hands out is not sent yet; its refusal is that of the step.
+pub fn ask<R: Rows>(
     station: &mut Station<R>,
     wish: &Wish,
     number: u32,
@@ -79,8 +84,8 @@ pub(crate) fn ask<R: Rows>(
 }
 
 impl Asked {
-    /// A file that was read: the station is to be asked at once.
-    pub(crate) fn new(name: String, number: Number, wish: Wish, stamp: Stamp, now: u64) -> Asked {
+    /// A file that was read, with this stamp, at a moment in milliseconds: the station is to be asked at once.
+    pub fn new(name: String, number: Number, wish: Wish, stamp: Stamp, now: u64) -> Asked {
         Asked {
             name,
             number,
@@ -93,8 +98,8 @@ impl Asked {
         }
     }
 
-    /// Whether the station is to be asked now.
-    pub(crate) fn is_due(&self, now: u64) -> bool {
+    /// Whether the station is to be asked at this moment, in milliseconds.
+    pub fn is_due(&self, now: u64) -> bool {
         match self.due {
             Some(due) => !self.is_settled && has_passed(due, 0, now),
             None => false,
@@ -102,12 +107,12 @@ impl Asked {
     }
 
     /// The station took it up: a ballot is under way.
-    pub(crate) fn set_out(&mut self) {
+    pub fn set_out(&mut self) {
         self.due = None;
     }
 
-    /// Asks again after a pause, which grows.
-    pub(crate) fn put_off(&mut self, now: u64) {
+    /// Asks again after a pause from this moment on, in milliseconds: a second at first, and twice as long each time, a minute at most.
+    pub fn put_off(&mut self, now: u64) {
         self.due = Some(now.saturating_add(self.pause));
         self.pause = next_pause(self.pause);
         self.ballot = None;

@@ -7,10 +7,10 @@ use Rattle.refusals.specs.declared.refusal.StepRefusal.{StepRefusal}
 use Rattle.refusals.specs.declared.refusal.StepRefusal.TheVariants as steps
 use Rattle.folders.specs.declared.folders.Place.{Place}
 use Rattle.folders.specs.declared.folders.Place.TheVariants.{Sent, Lost, Refused}
-use Rattle.run_command.specs.declared.names.Kind.{Kind}
-use Rattle.run_command.specs.declared.names.Kind.TheVariants as kinds
-use Rattle.run_command.specs.declared.wishes.Wish.{Wish}
-use Rattle.run_command.specs.declared.wishes.Wish.TheVariants.{Offered, Sought}
+use Rattle.plant_files.specs.declared.names.Kind.{Kind}
+use Rattle.plant_files.specs.declared.names.Kind.TheVariants as kinds
+use Rattle.plant_files.specs.declared.wishes.Wish.{Wish}
+use Rattle.plant_files.specs.declared.wishes.Wish.TheVariants.{Offered, Sought}
 
 -- how the names of this kind end
 abbrev pub kind_word : Kind → List ℕ

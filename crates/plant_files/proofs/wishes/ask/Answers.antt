@@ -2,10 +2,10 @@
 use Rattle.std.proofs.Common.{rules, ◌≡◌, sym, subst}
 use Rattle.tape_frames.specs.declared.entry.Entry.TheVariants as entries
 use Rattle.serve_command.specs.Serving.{IsStep}
-use Rattle.run_command.specs.Asking.{call_of}
-use Rattle.run_command.specs.declared.wishes.Wish.{Wish}
-use Rattle.run_command.specs.declared.wishes.Wish.TheVariants.{Offered}
-use Rattle.run_command.proofs.wishes.ask.Goals as goal
+use Rattle.plant_files.specs.Asking.{call_of}
+use Rattle.plant_files.specs.declared.wishes.Wish.{Wish}
+use Rattle.plant_files.specs.declared.wishes.Wish.TheVariants.{Offered}
+use Rattle.plant_files.proofs.wishes.ask.Goals as goal
 
 pub returns-in-Offered-Tape-clause-step : goal.returns-in-Offered-Tape-clause-step
 returns-in-Offered-Tape-clause-step g c = λ kept.

@@ -4,7 +4,7 @@ ghost use Rattle.std.specs.Prelude.{◌≡◌, ◌++◌, ◌∷◌, [], OnOk, If
 ghost use Rattle.line_check.specs.Galley.{galley_of};
 ghost use Rattle.command_ends.specs.ReleaseText.{cause_text};
 ghost use Rattle.station.specs.Readiness.{slugs_of};
-ghost use Rattle.run_command.specs.Filing.{file, galley_text, tape_files, release_files, files_of};
+ghost use Rattle.plant_files.specs.Filing.{file, galley_text, tape_files, release_files, files_of};
 
 use command_ends::CauseText;
 use folders::NamedFile;
@@ -122,8 +122,9 @@ fn keep(alloc: Global, release: &Release, waits: &mut Vec<NamedFile>) -> Result<
     }
 }
 
-/// The same, if there is one.
-pub(crate) fn keep_any(
+/// Lets the files of a release, if there is one, wait behind the others: of a tape `12.tape` with its frames and `12.galley` with its
+/// slugs, or with why it does not set; of a withdrawal `12.void`, which is empty. Where there is no memory for them, `AllocError`.
+pub fn keep_any(
     alloc: Global,
     release: &Option<Release>,
     waits: &mut Vec<NamedFile>,

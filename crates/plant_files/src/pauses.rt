@@ -2,22 +2,23 @@
 
 ghost use Rattle.std.specs.Prelude.{◌≡◌, ◌≤◌, ◌+◌, ◌*◌, ◌↔◌, IsTrue, min};
 
-/// The least pause between two looks at the folders.
-pub(crate) const LOOK: u64 = 250;
+/// The least pause between two looks at the folders, in milliseconds.
+pub const LOOK: u64 = 250;
 
 /// How long a file has to stay as it is before it is taken up.
 pub(crate) const STILL: u64 = 1000;
 
-/// The least pause between two messages that a station speaks for another circuit.
-pub(crate) const TELL: u64 = 1000;
+/// The least pause between two messages that a station speaks for another circuit, in milliseconds.
+pub const TELL: u64 = 1000;
 
-/// The pause after a ballot that was given up, or found nothing, the first time, and the longest.
+/// The pause after a ballot that was given up, or found nothing, the first time.
 pub(crate) const FIRST_PAUSE: u64 = 1000;
 
-pub(crate) const LAST_PAUSE: u64 = 60_000;
+/// The longest such pause, in milliseconds.
+pub const LAST_PAUSE: u64 = 60_000;
 
-/// Whether so much time has gone by since a moment.
-pub(crate) fn has_passed(since: u64, pause: u64, now: u64) -> bool
+/// Whether so much time has gone by since a moment, all in milliseconds.
+pub fn has_passed(since: u64, pause: u64, now: u64) -> bool
     ensures { IsTrue result ↔ (since + pause ≤ now) }
 {
     match since.checked_add(pause) {

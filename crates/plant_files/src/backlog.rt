@@ -1,7 +1,7 @@
 //! Files that wait to be written among the releases.
 
 ghost use Rattle.std.specs.Prelude.{◌≡◌, [], OnOk, OnErr};
-ghost use Rattle.run_command.specs.Keeping.{Keeps};
+ghost use Rattle.plant_files.specs.Keeping.{Keeps};
 
 use folders::{FolderFault, Folders, NamedFile};
 use std::alloc::Global;
@@ -31,8 +31,9 @@ fn prepare_all<F: Folders>(alloc: Global, folders: &mut F, waits: &[NamedFile])
     }
 }
 
-/// Writes the files that wait, in order, up to the first that the folder refuses.
-pub(crate) fn write_waiting<F: Folders>(
+/// Writes the files that wait among the releases, in order, up to the first that the folder refuses: with its fault, that one and those
+/// behind it go on waiting.
+pub fn write_waiting<F: Folders>(
     alloc: Global,
     folders: &mut F,
     waits: &mut Vec<NamedFile>,

@@ -1,0 +1,4 @@
+pub mod Asking
+pub mod Filing
+pub mod Keeping
+pub mod Watching
