@@ -6,12 +6,9 @@ use Rattle.line_check.specs.Galley.{galley_of}
 use Rattle.line_check.specs.declared.fault.SetFault.{SetFault}
 use Rattle.line_check.specs.declared.slug.Slug.{Slug}
 use Rattle.station.specs.Readiness.{slugs_of}
-use Rattle.station.specs.declared.answer.Answer.{Answer}
 use Rattle.station.specs.declared.answer.Release.{Release}
-use Rattle.refusals.specs.declared.refusal.StepRefusal.{StepRefusal}
 use Rattle.command_ends.specs.ReleaseText.{cause_text}
 use Rattle.folders.specs.Written.{File}
-use Rattle.serve_command.specs.Serving.{Event, asked, took}
 
 -- the name of a number's file of a kind
 abbrev pub name_of : ℕ → List ℕ → List ℕ
@@ -43,13 +40,3 @@ release_files r = entry_files r.number (owned_entry r.entry) (slugs_of r.set)
 abbrev pub files_of : Option Release → List File
 files_of None = []
 files_of (Some r) = release_files r
-
--- the files of what a step answered; of a refusal there are none
-abbrev pub answer_files : Result Answer StepRefusal → List File
-answer_files (Ok answer) = files_of answer.release
-answer_files (Err refusal) = []
-
--- the files of an event
-abbrev pub filing : Event → List File
-filing (asked moment) = []
-filing (took call answer) = answer_files answer

@@ -2,8 +2,8 @@
 
 ghost use Rattle.std.specs.Prelude.{◌≡◌, ◌↔◌, IsTrue};
 ghost use Rattle.tape_frames.specs.Entries.{lent_entry};
-ghost use Rattle.station.specs.Steps.{stopped_after};
-ghost use Rattle.serve_command.specs.Serving.{IsStep};
+ghost use Rattle.station.specs.Stations.{sight};
+ghost use Rattle.station.specs.Steps.{TakesStep, stopped_after};
 ghost use Rattle.plant_files.specs.Asking.{call_of, IsMet, IsPlaceOf};
 
 use crate::pauses::{FIRST_PAUSE, has_passed, next_pause};
@@ -73,7 +73,7 @@ pub fn ask<R: Rows>(
     now: u64,
 ) -> Result<Answer, StepRefusal>
     ensures was_kept { R.kept station.new.rows → R.kept station.old.rows }
-    ensures step { R.kept station.new.rows → IsStep R.Rows (call_of wish.now number now) station.old station.new result }
+    ensures step { R.kept station.new.rows → TakesStep (sight R.Rows) (call_of wish.now number now) station.old station.new result }
     ensures stops { station.new.stopped ≡ stopped_after station.old.stopped result }
 {
     match wish {

@@ -20,9 +20,10 @@ use Rattle.serve_command.proofs.Served.{ends_badly, Passes-nil, Passes-then, tak
 use Rattle.plant_files.specs.Asking.{call_of}
 use Rattle.plant_files.specs.declared.wishes.Wish.{Wish}
 use Rattle.plant_files.specs.declared.wishes.Wish.TheVariants.{Offered, Sought}
-use Rattle.plant_files.specs.Filing.{files_of, answer_files, filing}
+use Rattle.plant_files.specs.Filing.{files_of}
 use Rattle.plant_files.specs.Keeping.{Keeps, KeepsFront}
 use Rattle.plant_files.proofs.Keeping.{keeps_same, keeps_then}
+use Rattle.run_command.specs.Filing.{answer_files, filing}
 use Rattle.run_command.specs.Running.{Plant, plant, Known, Runs}
 
 -- more wait

@@ -8,8 +8,8 @@ use Rattle.command_ends.specs.declared.end.End.TheVariants as ends
 use Rattle.command_ends.specs.declared.fault.Fault.{Fault}
 use Rattle.folders.specs.Written.{File}
 use Rattle.serve_command.specs.Serving.{Event, Takes, passing, HasCause, ended}
-use Rattle.plant_files.specs.Filing.{filing}
 use Rattle.plant_files.specs.Keeping.{Keeps, KeepsFront}
+use Rattle.run_command.specs.Filing.{filing}
 
 -- a station, its wire, its folders, and the files that wait to be written among the releases
 pub record Plant (R N F : Type 0) : Type 0 where

@@ -1,7 +1,8 @@
 -- What is asked is one step.
 use Rattle.std.proofs.Common.{rules, ◌≡◌, sym, subst}
 use Rattle.tape_frames.specs.declared.entry.Entry.TheVariants as entries
-use Rattle.serve_command.specs.Serving.{IsStep}
+use Rattle.station.specs.Stations.{sight}
+use Rattle.station.specs.Steps.{TakesStep}
 use Rattle.plant_files.specs.Asking.{call_of}
 use Rattle.plant_files.specs.declared.wishes.Wish.{Wish}
 use Rattle.plant_files.specs.declared.wishes.Wish.TheVariants.{Offered}
@@ -10,13 +11,13 @@ use Rattle.plant_files.proofs.wishes.ask.Goals as goal
 pub returns-in-Offered-Tape-clause-step : goal.returns-in-Offered-Tape-clause-step
 returns-in-Offered-Tape-clause-step g c = λ kept.
     let is : c.args.wish.now ≡ Offered (entries.Tape c.in-Offered-Tape.tape) = search rules in
-    subst (λ (w : Wish). IsStep g.R.Rows (call_of w c.args.number c.args.now) c.args.station.now c.offer.new.self c.offer.result) (sym is) (c.offer.ensures.steps kept)
+    subst (λ (w : Wish). TakesStep (sight g.R.Rows) (call_of w c.args.number c.args.now) c.args.station.now c.offer.new.self c.offer.result) (sym is) (c.offer.ensures.steps kept)
 
 pub returns-in-Offered-Void-clause-step : goal.returns-in-Offered-Void-clause-step
 returns-in-Offered-Void-clause-step g c = λ kept.
     let is : c.args.wish.now ≡ Offered entries.Void = search rules in
-    subst (λ (w : Wish). IsStep g.R.Rows (call_of w c.args.number c.args.now) c.args.station.now c.withdraw.new.self c.withdraw.result) (sym is) (c.withdraw.ensures.steps kept)
+    subst (λ (w : Wish). TakesStep (sight g.R.Rows) (call_of w c.args.number c.args.now) c.args.station.now c.withdraw.new.self c.withdraw.result) (sym is) (c.withdraw.ensures.steps kept)
 
 pub returns-in-Sought-clause-step : goal.returns-in-Sought-clause-step
 returns-in-Sought-clause-step g c = λ kept.
-    subst (λ (w : Wish). IsStep g.R.Rows (call_of w c.args.number c.args.now) c.args.station.now c.seek.new.self c.seek.result) (sym c.in-Sought.is) (c.seek.ensures.steps kept)
+    subst (λ (w : Wish). TakesStep (sight g.R.Rows) (call_of w c.args.number c.args.now) c.args.station.now c.seek.new.self c.seek.result) (sym c.in-Sought.is) (c.seek.ensures.steps kept)
