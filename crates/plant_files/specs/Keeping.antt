@@ -2,8 +2,8 @@
 use Rattle.std.specs.Prelude.{◌≡◌, ◌++◌, List, Option, None, Some}
 use Rattle.folders.specs.Written.{File}
 
--- what was written before and what waited, and then these files: a front of them is written now, and the rest waits, in this order;
--- of folders that don't tell, nothing is said
+-- what is written now and what waits now are together what was written before, what waited, and these files, in this order; of folders
+-- that don't tell, nothing is said
 abbrev pub Keeps : Option (List File) → Option (List File) → List File → List File → List File → Type 0
 Keeps None new had waits files = Unit {0}
 Keeps (Some old) None had waits files = ⊥
