@@ -189,24 +189,22 @@ fn text(word: &[u8]) -> Result<&str, LineFault> {
 /// What a line that is not ignored asks for. Its words stand between spaces.
 pub fn order_of(alloc: Global, line: &[u8]) -> Result<Order, LineFault> {
     let mut words = line.split(|b| *b == b' ').filter(|w| !w.is_empty());
-    match (
-        words.next(),
-        words.next(),
-        words.next(),
-        words.next(),
-        words.next(),
-    ) {
-        (Some(name), Some(who), Some(what), Some(frames), None) => order_of_three(
+    let (Some(name), Some(first)) = (words.next(), words.next()) else {
+        return Err(LineFault::BadLine);
+    };
+    // Most lines end here, so that nothing more is looked for in them.
+    let Some(second) = words.next() else {
+        return order_of_one(name, text(first)?);
+    };
+    match (words.next(), words.next()) {
+        (None, _) => order_of_two(text(name)?, text(first)?, text(second)?),
+        (Some(frames), None) => order_of_three(
             alloc,
             text(name)?,
-            text(who)?,
-            text(what)?,
+            text(first)?,
+            text(second)?,
             text(frames)?,
         ),
-        (Some(name), Some(who), Some(word), None, _) => {
-            order_of_two(text(name)?, text(who)?, text(word)?)
-        }
-        (Some(name), Some(word), None, _, _) => order_of_one(name, text(word)?),
-        _ => Err(LineFault::BadLine),
+        (Some(_), Some(_)) => Err(LineFault::BadLine),
     }
 }
