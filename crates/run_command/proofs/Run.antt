@@ -1,5 +1,5 @@
 -- Stretches of a run, one after the other.
-use Rattle.std.proofs.Common.{◌≡◌, ℕ, List, [], ◌∷◌, ◌++◌, Bool, false, ◌||◌, Option, Some, None, Result, Ok, Err, OnOk, inl, refl, sym, ap, ◌∙◌, subst, append-nil}
+use Rattle.std.proofs.Common.{◌≡◌, ℕ, List, [], ◌∷◌, ◌++◌, Bool, false, ◌||◌, Option, Some, None, Result, Ok, Err, OnOk, inl, refl, sym, ap, ◌∙◌, subst, append_assoc, append-nil}
 use Rattle.std.specs.Prelude.{flat_map, OnErr, IfErr}
 use Rattle.std.proofs.lemmas.Grind.{flat_map-append}
 use Rattle.protocol.specs.Refusals.{Call}
@@ -22,9 +22,21 @@ use Rattle.plant_files.specs.declared.wishes.Wish.{Wish}
 use Rattle.plant_files.specs.declared.wishes.Wish.TheVariants.{Offered, Sought}
 use Rattle.plant_files.specs.Filing.{files_of}
 use Rattle.plant_files.specs.Keeping.{Keeps, KeepsFront}
-use Rattle.plant_files.proofs.Keeping.{keeps_same, keeps_then}
 use Rattle.run_command.specs.Filing.{answer_files, filing}
 use Rattle.run_command.specs.Running.{Plant, plant, Known, Runs}
+
+-- nothing was written, and nothing more waits
+pub keeps_same : (a : Option (List File)) (q : List File) → Keeps a a q q []
+keeps_same None q = tt
+keeps_same (Some x) q = ap (λ (l : List File). x ++ l) (sym (append-nil q))
+
+-- these files were written or wait, and then those
+pub keeps_then : (a b c : Option (List File)) (q r s fs gs : List File) → Keeps a b q r fs → Keeps b c r s gs → Keeps a c q s (fs ++ gs)
+keeps_then None b c q r s fs gs p p' = tt
+keeps_then (Some x) None c q r s fs gs p p' = absurd p
+keeps_then (Some x) (Some y) None q r s fs gs p p' = absurd p'
+keeps_then (Some x) (Some y) (Some z) q r s fs gs p p' =
+    p' ∙ sym (append_assoc y r gs) ∙ ap (λ (l : List File). l ++ gs) p ∙ append_assoc x (q ++ fs) gs ∙ ap (λ (l : List File). x ++ l) (append_assoc q fs gs)
 
 -- more wait
 pub keeps_more : (a : Option (List File)) (q fs : List File) → Keeps a a q (q ++ fs) fs
