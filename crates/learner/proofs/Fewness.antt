@@ -1,13 +1,12 @@
 -- Where so few slots have a vote that all of them are no majority, none is ripe.
-use Rattle.std.proofs.Common.{◌≡◌, ◌≤◌, ◌<◌, ◌+◌, ◌*◌, ℕ, refl, sym, ap, ◌∙◌, List, [], ◌∷◌, Option, Some, None, Bool, true, false, length, cond, arith}
+use Rattle.std.proofs.Common.{◌≡◌, ◌≤◌, ◌<◌, ◌+◌, ◌*◌, ℕ, refl, sym, ◌∙◌, List, [], ◌∷◌, Option, Some, None, Bool, true, false, length, cond, arith}
 use Rattle.std.proofs.lemmas.Bool.Decides.{nat_tests}
 use Rattle.std.proofs.lemmas.List.Sums.{sum_by-cons}
-use Rattle.std.specs.Prelude.{find, count_by, nat_lt, is_some, IsTrue, ◌↔◌}
+use Rattle.std.specs.Prelude.{find, count_by, is_some, IsTrue, ◌↔◌}
 use Rattle.protocol.specs.Ballots.{Ballot}
 use Rattle.protocol.specs.Rows.{Vote}
 use Rattle.protocol.specs.Learner.{votes_at}
 use Rattle.learner.specs.Slots.{votes_in, is_ripe_in, ripe_in}
-use Rattle.learner.proofs.Looking.{tested}
 
 -- a slot with a vote at a ballot has a vote
 at_most_one : (b : Ballot) (o : Option Vote) → cond (votes_at b o) 1 0 ≤ cond (is_some o) 1 0

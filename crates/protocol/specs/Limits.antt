@@ -1,5 +1,5 @@
 -- The limits of a circuit.
-use Rattle.std.specs.Prelude.{ℕ, ◌≤◌, Bool, nat_le, ◌&&◌}
+use Rattle.std.specs.Prelude.{ℕ, Bool, nat_le, ◌&&◌}
 
 -- the most members of a circuit
 abbrev pub most_members : ℕ

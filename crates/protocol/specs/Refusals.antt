@@ -1,5 +1,5 @@
 -- What a station is asked, and when it refuses: the first refusal that holds, in the order of the checks.
-use Rattle.std.specs.Prelude.{ℕ, List, Option, Some, None, Result, Ok, Err, Bool, false, ◌==◌, ◌&&◌, ◌||◌, not, nat_lt, nat_le, is_some, if◌then◌else◌}
+use Rattle.std.specs.Prelude.{ℕ, List, Option, Some, None, Result, Ok, Err, Bool, false, ◌==◌, ◌||◌, not, nat_lt, is_some, if◌then◌else◌}
 use Rattle.protocol.specs.Lists.{or_else}
 use Rattle.protocol.specs.Seats.{Seat}
 use Rattle.protocol.specs.Entries.{Entry}
