@@ -2,11 +2,11 @@
 #![tactic(auto)]
 
 use command_ends::{End, Fault};
-use command_line::parse;
+use command_line::{Asked, parse};
 use commands::carry_out;
 use host_row_files::HostFiles;
 use std::env;
-use std::io::{BufWriter, ErrorKind};
+use std::io::{BufWriter, ErrorKind, LineWriter};
 use std::process::ExitCode;
 
 fn command_words(rt: &HostRuntime) -> Result<Vec<String>, End> {
@@ -23,16 +23,23 @@ fn command_words(rt: &HostRuntime) -> Result<Vec<String>, End> {
     }
 }
 
-/// Runs the command of these words over the standard streams and the files of the host.
-fn run_words(rt: &HostRuntime, words: &[String]) -> End {
-    let (mut input, mut err) = (rt.stdin(), rt.stderr());
-    let asked = match parse(rt.alloc(), words, &mut rt.stdout(), &mut err) {
-        Ok(asked) => asked,
-        Err(end) => return end,
+/// Carries out what is asked over the standard streams and the files of the host. What is told on standard error is written a line
+/// at a time.
+fn carry_out_here(rt: &HostRuntime, asked: &Asked<'_>) -> End {
+    let Ok(mut err) = LineWriter::new(rt.alloc(), rt.stderr()) else {
+        return Fault::OutOfMemory.tell(&mut rt.stderr());
     };
     match BufWriter::new(rt.alloc(), rt.stdout()) {
-        Ok(mut out) => carry_out(rt, &asked, &HostFiles, &mut input, &mut out, &mut err),
+        Ok(mut out) => carry_out(rt, asked, &HostFiles, &mut rt.stdin(), &mut out, &mut err),
         Err(_) => Fault::OutOfMemory.tell(&mut err),
+    }
+}
+
+/// Runs the command of these words.
+fn run_words(rt: &HostRuntime, words: &[String]) -> End {
+    match parse(rt.alloc(), words, &mut rt.stdout(), &mut rt.stderr()) {
+        Ok(asked) => carry_out_here(rt, &asked),
+        Err(end) => end,
     }
 }
 
