@@ -37,8 +37,8 @@ impl fmt::Display for OutcomeText {
 
     fn fmt<W: fmt::Write>(&self, f: &mut fmt::Formatter<W>) -> fmt::Result {
         match self.0 {
-            Outcome::Done(note) => write!(f, "{}", NoteText(note)),
-            Outcome::Refused(refusal) => write!(f, "{}", RefusedText(refusal)),
+            Outcome::Done(note) => fmt::Display::fmt(&NoteText(note), f),
+            Outcome::Refused(refusal) => fmt::Display::fmt(&RefusedText(refusal), f),
             Outcome::Restarted => f.write_str("restarted"),
             Outcome::Upgraded => f.write_str("upgraded"),
             Outcome::Armed { saved: true } => f.write_str("armed saved"),
