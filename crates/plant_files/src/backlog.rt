@@ -1,6 +1,6 @@
 //! Files that wait to be written among the releases.
 
-ghost use Rattle.std.specs.Prelude.{◌≡◌, [], OnOk, OnErr};
+ghost use Rattle.std.specs.Prelude.{◌≡◌, ◌-◌, [], length, OnOk};
 ghost use Rattle.plant_files.specs.Keeping.{Keeps};
 
 use folders::{FolderFault, Folders, NamedFile};
@@ -12,7 +12,8 @@ fn write_first<F: Folders>(
     folders: &mut F,
     waits: &mut Vec<NamedFile>,
 ) -> Result<(), FolderFault>
-    ensures { Keeps (F.written folders.old) (F.written folders.new) waits.old.items waits.new.items [] }
+    ensures keeps { Keeps (F.written folders.old) (F.written folders.new) waits.old.items waits.new.items [] }
+    ensures shorter { OnOk result (length waits.new.items ≡ length waits.old.items - 1) }
 {
     match waits.first() {
         Some(named) => folders.put(alloc, named.name(), named.bytes())?,
@@ -38,10 +39,11 @@ pub fn write_waiting<F: Folders>(
     folders: &mut F,
     waits: &mut Vec<NamedFile>,
 ) -> Result<(), FolderFault>
-    ensures { Keeps (F.written folders.old) (F.written folders.new) waits.old.items waits.new.items [] }
+    ensures keeps { Keeps (F.written folders.old) (F.written folders.new) waits.old.items waits.new.items [] }
+    ensures all { OnOk result (waits.new.items ≡ []) }
 {
     prepare_all(alloc, folders, waits);
-    for _ in 0..waits.len() {
+    for place in 0..waits.len() {
         write_first(alloc, folders, waits)?;
     }
     Ok(())

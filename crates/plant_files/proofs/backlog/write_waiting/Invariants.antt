@@ -1,7 +1,10 @@
--- What was written so far.
-use Rattle.std.proofs.Common.{[]}
+-- What was written so far, and how many wait.
+use Rattle.std.proofs.Common.{◌≡◌, ◌-◌, [], length}
 use Rattle.plant_files.specs.Keeping.{Keeps}
 use Rattle.plant_files.proofs.backlog.write_waiting.Given as goal
 
-abbrev pub invariant-loop : goal.invariant-loop
-invariant-loop g l = Keeps (g.F.Folders.written l.initial.folders) (g.F.Folders.written l.folders) l.initial.waits.items l.waits.items []
+abbrev pub invariant-loop-place : goal.invariant-loop-place
+invariant-loop-place g l = record {
+  keeps : Keeps (g.F.Folders.written l.initial.folders) (g.F.Folders.written l.folders) l.initial.waits.items l.waits.items [];
+  left : length l.waits.items ≡ length l.initial.waits.items - l.place;
+}
