@@ -11,7 +11,7 @@ use crate::steps::ask_at;
 use ballots::Number;
 use command_ends::Fault;
 use folders::{FolderFault, Folders, NamedFile, Stamp};
-use plant_files::{Asked, Kind, Request, Watched, Wish, has_stop, is_left, named};
+use plant_files::{Asked, Kind, Request, STOP, Watched, Wish, has_stop, is_left, named};
 use saved_rows::Rows;
 use station::Station;
 use std::alloc::Global;
@@ -186,7 +186,8 @@ fn see_offers<F: Folders, E: Write>(
             book.note_reading(true, listing.skipped, err);
             book.forget(listing.names.as_slice());
             watch_all(folders, book, listing.names.as_slice(), now, err);
-            has_stop(listing.names.as_slice())
+            // A folder of that name is left alone, as other folders are.
+            has_stop(listing.names.as_slice()) && folders.stamp(book.alloc, STOP).is_ok()
         }
         Err(_) => {
             book.note_reading(false, 0, err);
