@@ -71,6 +71,9 @@ hand_over 1 "$examples/flood.tape" 11.tape
 hand_over 3 empty 12.withdraw
 for member in 1 3; do await "plant$member/releases/11.galley"; await "plant$member/releases/12.void"; done
 
+# a folder of the name stop is left alone, as other folders are
+mkdir plant1/offers/stop
+
 echo "Plant 2 starts again over its saved rows. It missed number 11, so it is told to seek it; and it offers another story under number 2."
 start 2
 hand_over 2 empty 11.seek
@@ -94,6 +97,8 @@ grep -q "no number" plant2/offers/refused/note.txt.2
 echo "Number 2 still means the flood story, at all three. What plant 2 told since:"
 sed 's/^/    /' plant2/told | tail -n 12
 
+kill -0 "${pids[1]}"
+rmdir plant1/offers/stop
 echo "A file stop ends each plant."
 for member in 1 2 3; do
     hand_over "$member" empty stop
