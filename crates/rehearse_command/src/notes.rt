@@ -79,6 +79,7 @@ impl fmt::Display for NoteText {
     fn fmt<W: fmt::Write>(&self, f: &mut fmt::Formatter<W>) -> fmt::Result {
         let word = word_of(self.0);
         match ballot_of(self.0) {
+            // The ballot as `BallotText` has it, in one piece: of a rehearsal this is the line that is written most.
             Some(ballot) => write!(f, "{word} {}.{}", ballot.round(), ballot.owner().get()),
             None => f.write_str(word),
         }
