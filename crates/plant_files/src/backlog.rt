@@ -1,6 +1,6 @@
 //! Files that wait to be written among the releases.
 
-ghost use Rattle.std.specs.Prelude.{◌≡◌, ◌-◌, [], length, OnOk};
+ghost use Rattle.std.specs.Prelude.{◌≡◌, ◌-◌, [], length, OnOk, OnErr};
 ghost use Rattle.plant_files.specs.Keeping.{Keeps};
 
 use folders::{FolderFault, Folders, NamedFile};
@@ -14,6 +14,7 @@ fn write_first<F: Folders>(
 ) -> Result<(), FolderFault>
     ensures keeps { Keeps (F.written folders.old) (F.written folders.new) waits.old.items waits.new.items [] }
     ensures shorter { OnOk result (length waits.new.items ≡ length waits.old.items - 1) }
+    ensures left { OnErr result (¬ (waits.new.items ≡ [])) }
 {
     match waits.first() {
         Some(named) => folders.put(alloc, named.name(), named.bytes())?,
@@ -41,6 +42,7 @@ pub fn write_waiting<F: Folders>(
 ) -> Result<(), FolderFault>
     ensures keeps { Keeps (F.written folders.old) (F.written folders.new) waits.old.items waits.new.items [] }
     ensures all { OnOk result (waits.new.items ≡ []) }
+    ensures left { OnErr result (¬ (waits.new.items ≡ [])) }
 {
     prepare_all(alloc, folders, waits);
     for place in 0..waits.len() {

@@ -55,7 +55,9 @@ pub fn has_stop(names: &[String]) -> bool {
 
 /// Whether a file of this name is left alone: one that is being handed over, whose name begins with a dot or ends with `.part`, or
 /// the one that ends a run.
-pub fn is_left(name: &str) -> bool {
+pub fn is_left(name: &str) -> bool
+    ensures { name.now ≡ codes "stop" → IsTrue result }
+{
     name.starts_with('.') || name.ends_with(".part") || is_stop(name)
 }
 

@@ -1,6 +1,6 @@
 //! Files that are watched until they stay as they are.
 
-ghost use Rattle.std.specs.Prelude.{◌≤◌, ◌+◌, ◌↔◌, IsTrue};
+ghost use Rattle.std.specs.Prelude.{◌≤◌, ◌<◌, ◌+◌, ◌↔◌, IsTrue, IfSome, length};
 ghost use Rattle.plant_files.specs.Watching.{IsUnchanged};
 
 use crate::pauses::{STILL, has_passed};
@@ -39,6 +39,8 @@ pub fn is_whole(before: Stamp, since: u64, stamp: Stamp, now: u64) -> bool
 }
 
 /// The place of the first file of this name among those that are watched; `None` where there is none.
-pub fn index_of(watched: &[Watched], name: &str) -> Option<usize> {
+pub fn index_of(watched: &[Watched], name: &str) -> Option<usize>
+    ensures { IfSome result (λ place. place < length watched.now) }
+{
     watched.iter().position(|each| each.name.as_str() == name)
 }

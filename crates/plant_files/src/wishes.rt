@@ -1,6 +1,6 @@
 //! What is asked of the station by files among the offers.
 
-ghost use Rattle.std.specs.Prelude.{◌≡◌, ◌↔◌, IsTrue};
+ghost use Rattle.std.specs.Prelude.{◌≡◌, ◌≤◌, ◌↔◌, false, IsTrue, IsSome, IfSome, Some, None};
 ghost use Rattle.tape_frames.specs.Entries.{lent_entry};
 ghost use Rattle.station.specs.Stations.{sight};
 ghost use Rattle.station.specs.Steps.{TakesStep, stopped_after};
@@ -85,7 +85,12 @@ pub fn ask<R: Rows>(
 
 impl Asked {
     /// A file that was read, with this stamp, at a moment in milliseconds: the station is to be asked at once.
-    pub fn new(name: String, number: Number, wish: Wish, stamp: Stamp, now: u64) -> Asked {
+    pub fn new(name: String, number: Number, wish: Wish, stamp: Stamp, now: u64) -> Asked
+        ensures due { result.due ≡ Some now }
+        ensures settled { result.is_settled ≡ false }
+        ensures ballot { result.ballot ≡ None }
+        ensures file { (result.name ≡ name) × (result.number ≡ number) × (result.wish ≡ wish) × (result.stamp ≡ stamp) }
+    {
         Asked {
             name,
             number,
@@ -99,7 +104,9 @@ impl Asked {
     }
 
     /// Whether the station is to be asked at this moment, in milliseconds.
-    pub fn is_due(&self, now: u64) -> bool {
+    pub fn is_due(&self, now: u64) -> bool
+        ensures { IsTrue result ↔ ((self.now.is_settled ≡ false) × IsSome self.now.due × IfSome self.now.due (λ due. due ≤ now)) }
+    {
         match self.due {
             Some(due) => !self.is_settled && has_passed(due, 0, now),
             None => false,
@@ -107,12 +114,18 @@ impl Asked {
     }
 
     /// The station took it up: a ballot is under way.
-    pub fn set_out(&mut self) {
+    pub fn set_out(&mut self)
+        ensures { self.new ≡ record self.old { due = None } }
+    {
         self.due = None;
     }
 
     /// Asks again after a pause from this moment on, in milliseconds: a second at first, and twice as long each time, a minute at most.
-    pub fn put_off(&mut self, now: u64) {
+    pub fn put_off(&mut self, now: u64)
+        ensures due { (IsSome self.new.due) × IfSome self.new.due (λ due. now ≤ due) }
+        ensures ballot { self.new.ballot ≡ None }
+        ensures settled { self.new.is_settled ≡ self.old.is_settled }
+    {
         self.due = Some(now.saturating_add(self.pause));
         self.pause = next_pause(self.pause);
         self.ballot = None;
