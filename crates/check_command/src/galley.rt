@@ -1,11 +1,12 @@
 //! The command `check`: the galley of a tape.
 
-ghost use Rattle.std.specs.Prelude.{◌≡◌, Ok, IfOk, IfSome, OnOk, false};
+ghost use Rattle.std.specs.Prelude.{◌≡◌, Ok, IfOk, IfErr, IfSome, OnOk, false};
 ghost use Rattle.toml.specs.Parse.{parse_document};
 ghost use Rattle.code_table.specs.Reading.{read_table};
 ghost use Rattle.code_table.specs.Tables.{mean};
 ghost use Rattle.widths.specs.Reading.{read_widths};
 ghost use Rattle.check_command.specs.Galley.{IsSetAs, WritesGalley};
+ghost use Rattle.command_ends.specs.Ends.{IsOfInput, end_of};
 ghost use Rattle.command_ends.specs.declared.end.End.TheVariants.{Done};
 
 use code_table::CodeTable;
@@ -18,7 +19,9 @@ use tape_frames::{Tape, holes};
 use widths::Widths;
 
 /// Writes one line per frame: its holes, and the frame in decimal.
-fn put_holes<'a, W: Write>(tape: &Tape, out: &mut W) -> Result<(), Fault<'a>> {
+fn put_holes<'a, W: Write>(tape: &Tape, out: &mut W) -> Result<(), Fault<'a>>
+    ensures { IfErr result (λ fault. IsOfInput (end_of fault)) }
+{
     for frame in tape.frames() {
         let row = holes(*frame).unwrap_or(*b"......");
         let row = str::from_utf8(&row).unwrap_or("......");
@@ -37,7 +40,8 @@ fn put_galley<'a, W: Write>(
     tape: &Tape,
     out: &mut W,
 ) -> Result<(), Fault<'a>>
-    ensures { OnOk result (IsSetAs (mean table.now) widths.now tape.now (W.contents out.old) (W.contents out.new)) }
+    ensures ok { OnOk result (IsSetAs (mean table.now) widths.now tape.now (W.contents out.old) (W.contents out.new)) }
+    ensures err { IfErr result (λ fault. IsOfInput (end_of fault)) }
 {
     let slugs = match set(alloc, table, widths, tape) {
         Ok(slugs) => slugs,
@@ -66,6 +70,7 @@ fn read_setting<'a, R: Read, S: Read>(
 ) -> Result<Setting, Fault<'a>>
     ensures table { IfOk result (λ s. IfSome (R.remaining table.old) (λ ts. read_table (parse_document ts) ≡ Ok s.table)) }
     ensures widths { IfOk result (λ s. IfSome (S.remaining widths.old) (λ ws. read_widths (parse_document ws) ≡ Ok s.widths)) }
+    ensures err { IfErr result (λ fault. IsOfInput (end_of fault)) }
 {
     let table = read_table(alloc, table, paths.table)?;
     let widths = read_widths(alloc, widths, paths.widths)?;
@@ -80,7 +85,8 @@ fn put_tape<'a, W: Write>(
     listing: bool,
     out: &mut W,
 ) -> Result<(), Fault<'a>>
-    ensures { OnOk result (listing ≡ false → IsSetAs (mean setting.now.table) setting.now.widths tape.now (W.contents out.old) (W.contents out.new)) }
+    ensures ok { OnOk result (listing ≡ false → IsSetAs (mean setting.now.table) setting.now.widths tape.now (W.contents out.old) (W.contents out.new)) }
+    ensures err { IfErr result (λ fault. IsOfInput (end_of fault)) }
 {
     if listing {
         put_holes(tape, out)?;
@@ -98,8 +104,9 @@ fn checked<'a, R: Read, S: Read, T: Read, W: Write>(
     listing: bool,
     out: &mut W,
 ) -> Result<(), Fault<'a>>
-    ensures { OnOk result (listing ≡ false → WritesGalley (R.remaining table.old) (S.remaining widths.old) (T.remaining tape.old)
+    ensures ok { OnOk result (listing ≡ false → WritesGalley (R.remaining table.old) (S.remaining widths.old) (T.remaining tape.old)
         (W.contents out.old) (W.contents out.new)) }
+    ensures err { IfErr result (λ fault. IsOfInput (end_of fault)) }
 {
     let setting = read_setting(alloc, paths, table, widths)?;
     let tape = read_tape(alloc, tape, paths.tape)?;
@@ -120,8 +127,9 @@ pub fn check<R: Read, S: Read, T: Read, W: Write, E: Write>(
     out: &mut W,
     err: &mut E,
 ) -> End
-    ensures { result ≡ Done → listing ≡ false → WritesGalley (R.remaining table.old) (S.remaining widths.old) (T.remaining tape.old)
+    ensures done { result ≡ Done → listing ≡ false → WritesGalley (R.remaining table.old) (S.remaining widths.old) (T.remaining tape.old)
         (W.contents out.old) (W.contents out.new) }
+    ensures ends { IsOfInput result }
 {
     match checked(alloc, paths, table, widths, tape, listing, out) {
         Ok(()) => End::Done,

@@ -2,7 +2,7 @@
 
 ghost use Rattle.std.specs.Prelude.{◌≡◌};
 ghost use Rattle.command_ends.specs.Ends.{end_of, end_of_rows, end_of_step, IsOfInput, IsOfRows};
-ghost use Rattle.command_ends.specs.declared.end.End.TheVariants.{Done};
+ghost use Rattle.command_ends.specs.declared.end.End.TheVariants.{Done, Input};
 
 use crate::cause_words::{CauseText, RefusalText};
 use crate::end::End;
@@ -155,7 +155,9 @@ impl<'a> Fault<'a> {
     }
 
     /// Why a line of a script, counted from 1, is not played.
-    pub fn script(line: usize, what: &'static str) -> Fault<'a> {
+    pub fn script(line: usize, what: &'static str) -> Fault<'a>
+        ensures end { end_of result ≡ Input }
+    {
         Fault::Script { line, what }
     }
 

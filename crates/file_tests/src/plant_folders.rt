@@ -23,11 +23,14 @@ const OTHER: Named = ("12.tape", b"\x02\x01\x03");
 
 const NEXT: Named = ("13.void", b"");
 
-/// What is prepared, what is then put, in order, and what stands among the releases in the end.
+/// What is prepared, what is then put, in order, what stands among the releases in the end, and how many files stand there besides,
+/// under other names: where no look came before, and where one did, at which two files are made ahead.
 struct Release<'a> {
     prepared: &'a [Named<'a>],
     put: &'a [Named<'a>],
     stands: &'a [Named<'a>],
+    left: usize,
+    left_after_look: usize,
 }
 
 const RELEASES_IN_TURN: &[Release] = &[
@@ -36,41 +39,55 @@ const RELEASES_IN_TURN: &[Release] = &[
         prepared: &[],
         put: &[TAPE, GALLEY],
         stands: &[TAPE, GALLEY],
+        left: 0,
+        left_after_look: 2,
     },
     // What is put was prepared, in this order.
     Release {
         prepared: &[TAPE, GALLEY],
         put: &[TAPE, GALLEY],
         stands: &[TAPE, GALLEY],
+        left: 0,
+        left_after_look: 0,
     },
     // In another order.
     Release {
         prepared: &[GALLEY, TAPE],
         put: &[TAPE, GALLEY],
         stands: &[TAPE, GALLEY],
+        left: 0,
+        left_after_look: 2,
     },
     // Other bytes were prepared under the name.
     Release {
         prepared: &[OTHER, GALLEY],
         put: &[TAPE, GALLEY],
         stands: &[TAPE, GALLEY],
+        left: 0,
+        left_after_look: 2,
     },
     // More is prepared than is begun, and more than is put.
     Release {
         prepared: &[TAPE, GALLEY, NEXT],
         put: &[TAPE, GALLEY, NEXT],
         stands: &[TAPE, GALLEY, NEXT],
+        left: 0,
+        left_after_look: 0,
     },
     Release {
         prepared: &[TAPE, GALLEY],
         put: &[TAPE],
         stands: &[TAPE],
+        left: 1,
+        left_after_look: 1,
     },
     // A file stands in place of the one before it.
     Release {
         prepared: &[TAPE],
         put: &[TAPE, OTHER],
         stands: &[OTHER],
+        left: 0,
+        left_after_look: 1,
     },
 ];
 
@@ -123,23 +140,37 @@ fn is_taken<F: Folders>(rt: &HostRuntime, folders: &mut F, release: &Release<'_>
     true
 }
 
-/// The same of new folders of the host, whether what has to stands there in the end, and whether a file is there besides only
-/// where one was begun that was not put.
-fn is_released(rt: &HostRuntime, release: &Release<'_>) -> bool {
+/// The same of new folders of the host, with a look before it or without, and whether what has to stands there in the end.
+fn is_released(rt: &HostRuntime, release: &Release<'_>, with_look: bool) -> bool {
     let Some(mut folders) = folders_of(rt) else {
         return false;
     };
-    let left = release.prepared.len().saturating_sub(release.put.len());
-    is_taken(rt, &mut folders, release)
+    let left = if with_look {
+        release.left_after_look
+    } else {
+        release.left
+    };
+    (!with_look || folders.names(rt.alloc()).is_ok())
+        && is_taken(rt, &mut folders, release)
         && release.stands.iter().all(|named| stands(rt, named))
         && count(rt, RELEASES) == release.stands.len() + left
 }
 
+/// Whether a look of new folders of the host finds nothing in the files that are made ahead, whatever a killed plant left there.
+fn makes_empty_files(rt: &HostRuntime) -> bool {
+    let Some(mut folders) = folders_of(rt) else {
+        return false;
+    };
+    folders.names(rt.alloc()).is_ok()
+        && holds(rt, "circuitd_folders/releases/.1.part", b"")
+        && holds(rt, "circuitd_folders/releases/.2.part", b"")
+}
+
 /// The first of the releases that is not as it has to be; their count where there is none.
-fn first_amiss(rt: &HostRuntime) -> usize {
+fn first_amiss(rt: &HostRuntime, with_look: bool) -> usize {
     let mut place: usize = 0;
     for release in RELEASES_IN_TURN {
-        if !lay_out(rt) || !is_released(rt, release) {
+        if !lay_out(rt) || !is_released(rt, release, with_look) || !makes_empty_files(rt) {
             return place;
         }
         place = place.saturating_add(1);
@@ -215,7 +246,8 @@ fn is_worked_with(rt: &HostRuntime) -> bool {
 
 #[test]
 fn releases_of_the_host(rt: HostRuntime) {
-    assert!(rt; first_amiss(&rt) == RELEASES_IN_TURN.len());
+    assert!(rt; first_amiss(&rt, false) == RELEASES_IN_TURN.len());
+    assert!(rt; first_amiss(&rt, true) == RELEASES_IN_TURN.len());
     assert!(rt; is_worked_with(&rt));
     assert!(rt; fs::remove_dir_all(&rt, FOLDER).is_ok());
 }

@@ -1,9 +1,10 @@
 //! What a station asks of two folders of the host, call by call.
 
+use crate::part::{Part, write_whole};
 use folders::{FolderFault, Folders, Listing, NamedFile, Place, Stamp};
 use std::alloc::{AllocError, Global};
 use std::fs::{File, OpenFile};
-use std::io::{ErrorKind, Read, Write};
+use std::io::{ErrorKind, Read};
 use std::os::unix::fs::MetadataExt;
 use std::rt::Files;
 use std::{fs, io};
@@ -11,14 +12,14 @@ use std::{fs, io};
 /// One more than the files of one name that are set aside in one place.
 const MOST_COPIES: u32 = 1000;
 
-/// How many files are written under other names before the disk has the first: those of one release.
+/// How many files are made ahead, and how many are written before the disk has the first: those of one release.
 const MOST_BEGUN: usize = 2;
 
 /// A file that is written under another name, and that the disk is not known to have.
 #[derive(Drop)]
 struct Begun<R: Files> {
     named: NamedFile,
-    file: R::File,
+    part: Part<R>,
 }
 
 /// Two folders of the host. What is set aside lies in folders within the first.
@@ -32,6 +33,9 @@ pub struct HostFolders<'a, R: Files> {
     releases: String,
     /// Whether a file was written among the releases whose name the disk is not known to have.
     has_new_names: bool,
+    /// Empty files that were made ahead, at a look: to make one takes as long as a wait for a fast disk. The first is `.1.part`,
+    /// the second `.2.part`; the last is taken first.
+    spares: Vec<Part<R>>,
     /// The files that are to be written next, in their order. To write all of them before the first wait for the disk takes
     /// less than to write one after the other: the disk then has them together.
     begun: Vec<Begun<R>>,
@@ -56,13 +60,6 @@ fn part_of(alloc: Global, folder: &str, name: &str) -> Result<String, AllocError
     format!(in alloc; "{folder}/.{name}.part")
 }
 
-/// Writes a file, and does not wait for the disk.
-fn write_part<R: Files>(files: &R, path: &str, bytes: &[u8]) -> io::Result<R::File> {
-    let mut file = File::create(files, path)?;
-    file.write_all(bytes)?;
-    Ok(file)
-}
-
 fn open_and_sync<R: Files>(files: &R, folder: &str) -> io::Result<()> {
     File::open(files, folder)?.sync_all()
 }
@@ -75,19 +72,7 @@ fn sync_names<R: Files>(files: &R, folder: &str) -> Result<(), FolderFault> {
     }
 }
 
-/// Waits until the disk has what a file holds that was written under another name, and gives it its own.
-fn finish<R: Files>(files: &R, file: &R::File, part: &str, path: &str) -> io::Result<()> {
-    file.sync_all()?;
-    fs::rename(files, part, path)
-}
-
-/// Writes a file under another name, waits until the disk has it, and gives it its own.
-fn write_whole<R: Files>(files: &R, part: &str, path: &str, bytes: &[u8]) -> io::Result<()> {
-    let file = write_part(files, part, bytes)?;
-    finish(files, &file, part, path)
-}
-
-/// The same within a folder, under a name.
+/// Writes a file within a folder, under a name: whole, or not at all.
 fn put_within<R: Files>(
     alloc: Global,
     files: &R,
@@ -97,7 +82,7 @@ fn put_within<R: Files>(
 ) -> Result<(), FolderFault> {
     let path = within(alloc, folder, name)?;
     let part = part_of(alloc, folder, name)?;
-    match write_whole(files, &part, &path, bytes) {
+    match write_whole(files, part, &path, bytes) {
         Ok(()) => Ok(()),
         Err(error) => Err(fault_of(&error, FolderFault::CannotWrite)),
     }
@@ -110,27 +95,23 @@ fn finish_within<R: Files>(
     folder: &str,
     begun: &Begun<R>,
 ) -> Result<(), FolderFault> {
-    let name = begun.named.name();
-    let path = within(alloc, folder, name)?;
-    let part = part_of(alloc, folder, name)?;
-    match finish(files, &begun.file, &part, &path) {
+    let path = within(alloc, folder, begun.named.name())?;
+    match begun.part.finish(files, &path) {
         Ok(()) => Ok(()),
         Err(error) => Err(fault_of(&error, FolderFault::CannotWrite)),
     }
 }
 
-/// Begins a file within a folder.
-fn begin_within<R: Files>(
+/// Makes an empty file within a folder, under another name than this one.
+fn make_within<R: Files>(
     alloc: Global,
     files: &R,
     folder: &str,
     name: &str,
-    bytes: &[u8],
-) -> Result<Begun<R>, FolderFault> {
-    let named = NamedFile::of(alloc, name, bytes)?;
-    let part = part_of(alloc, folder, name)?;
-    match write_part(files, &part, bytes) {
-        Ok(file) => Ok(Begun { named, file }),
+) -> Result<Part<R>, FolderFault> {
+    let path = part_of(alloc, folder, name)?;
+    match Part::make(files, path) {
+        Ok(part) => Ok(part),
         Err(error) => Err(fault_of(&error, FolderFault::CannotWrite)),
     }
 }
@@ -152,7 +133,48 @@ impl<'a, R: Files + AllocGlobal + Clone + Drop> HostFolders<'a, R> {
             offers,
             releases,
             has_new_names: false,
+            spares: Vec::new(files.alloc()),
             begun: Vec::new(files.alloc()),
+        }
+    }
+
+    /// Makes a file ahead, the one of this number.
+    fn make_spare(&mut self, alloc: Global, number: usize) -> Result<(), FolderFault> {
+        let name = format!(in alloc; "{number}")?;
+        let spare = make_within(alloc, self.files, &self.releases, &name)?;
+        match self.spares.push(spare) {
+            Ok(()) => Ok(()),
+            Err(_) => Err(FolderFault::OutOfMemory),
+        }
+    }
+
+    /// Makes the files ahead that are not there: none while one that was made ahead may still have its other name.
+    fn make_spares(&mut self, alloc: Global) {
+        if self.begun.is_empty() {
+            for number in self.spares.len()..MOST_BEGUN {
+                // Where one can't be made, it is tried again at the next look, or made in its turn.
+                if self.make_spare(alloc, number.saturating_add(1)).is_err() {
+                    return;
+                }
+            }
+        }
+    }
+
+    /// An empty file for one of this name that is to be written among the releases.
+    fn take_part(&mut self, alloc: Global, name: &str) -> Result<Part<R>, FolderFault> {
+        match self.spares.pop() {
+            Some(spare) => Ok(spare),
+            None => make_within(alloc, self.files, &self.releases, name),
+        }
+    }
+
+    /// Begins a file among the releases.
+    fn begin(&mut self, alloc: Global, name: &str, bytes: &[u8]) -> Result<Begun<R>, FolderFault> {
+        let named = NamedFile::of(alloc, name, bytes)?;
+        let mut part = self.take_part(alloc, name)?;
+        match part.fill(bytes) {
+            Ok(()) => Ok(Begun { named, part }),
+            Err(error) => Err(fault_of(&error, FolderFault::CannotWrite)),
         }
     }
 
@@ -266,6 +288,7 @@ impl<'a, R: Files + AllocGlobal + Clone + Drop> Folders for HostFolders<'a, R> {
     fn names(&mut self, alloc: Global) -> Result<Listing, FolderFault> {
         // Where the disk refuses the names, no file leaves the offers.
         let _ = self.settle_names();
+        self.make_spares(alloc);
         match self.list(alloc) {
             Ok(listing) => Ok(listing),
             Err(error) => Err(fault_of(&error, FolderFault::CannotRead)),
@@ -297,7 +320,7 @@ impl<'a, R: Files + AllocGlobal + Clone + Drop> Folders for HostFolders<'a, R> {
     fn prepare(&mut self, alloc: Global, name: &str, bytes: &[u8]) {
         if self.begun.len() < MOST_BEGUN {
             // One that can't be begun is written whole in its turn, or refused then.
-            if let Ok(begun) = begin_within(alloc, self.files, &self.releases, name, bytes) {
+            if let Ok(begun) = self.begin(alloc, name, bytes) {
                 let _ = self.begun.push(begun);
             }
         }

@@ -2,5 +2,6 @@
 #![tactic(auto)]
 
 mod host;
+mod part;
 
 pub use host::HostFolders;

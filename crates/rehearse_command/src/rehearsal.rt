@@ -1,9 +1,10 @@
 //! The command `rehearse`: a whole circuit in one process, driven by a script.
 
-ghost use Rattle.std.specs.Prelude.{◌≡◌, ℕ, List, [], Option, OnOk, OnErr, IfOk, true, false};
+ghost use Rattle.std.specs.Prelude.{◌≡◌, ℕ, List, [], Option, OnOk, OnErr, IfOk, IfErr, true, false};
 ghost use Rattle.std.specs.List.{All};
 ghost use Rattle.std.specs.Io.KnownBytes.{Appends};
 ghost use Rattle.streams.specs.Fronts.{AppendsFront};
+ghost use Rattle.command_ends.specs.Ends.{IsOfInput, end_of};
 ghost use Rattle.command_ends.specs.declared.end.End.TheVariants.{Done};
 ghost use Rattle.protocol.specs.Versions.{One};
 ghost use Rattle.tape_frames.specs.Entries.{version_of};
@@ -71,6 +72,7 @@ fn stage_of<'a>(
     ensures begins { IfOk result (λ stage. BeginsIn (version_of version) stage.world) }
     ensures stands { IfOk result (λ stage. (by : Inputs) (start now : Option (List ℕ)) → IsSetUpBy by (setting.entry.table.now, setting.entry.widths.now)
         → Appends start now [] → Stands by start now stage.world) }
+    ensures ends { IfErr result (λ fault. IsOfInput (end_of fault)) }
 {
     let Ok(members) = members_of(alloc, setting, count) else {
         return Err(Fault::OutOfMemory);
@@ -125,7 +127,9 @@ fn step_of(order: Order, now: u64) -> Option<Step>
 }
 
 /// Why a line is not played whose step a world refuses.
-fn fault_of<'a>(refusal: WorldRefusal, line: usize) -> Fault<'a> {
+fn fault_of<'a>(refusal: WorldRefusal, line: usize) -> Fault<'a>
+    ensures { IsOfInput (end_of result) }
+{
     match refusal {
         WorldRefusal::NoSuchMember => Fault::script(line, "no such member"),
         WorldRefusal::NoSuchDatagram => Fault::script(line, "no such datagram"),
@@ -144,6 +148,7 @@ fn show_step<'a, W: Write>(
 ) -> Result<(), Fault<'a>>
     ensures goes_on { GoesOn result (W.contents out.old) world.old (W.contents out.new) world.new }
     ensures stops { Stops result (W.contents out.old) world.old (W.contents out.new) world.new }
+    ensures ends { IfErr result (λ fault. IsOfInput (end_of fault)) }
 {
     let (sent, released) = (world.sent().len(), world.releases().len());
     match world.step(step) {
@@ -171,6 +176,7 @@ impl Stage {
             → IsOn by start now self.old → OnOk result (IsOn by start now self.new) }
         ensures stops { OnErr result (self.new.world ≡ self.old.world) }
         ensures no_more { OnOk result (self.new.is_new ≡ false) }
+        ensures ends { IfErr result (λ fault. IsOfInput (end_of fault)) }
     {
         if !self.is_new {
             return Err(Fault::script(line, "bad line"));
@@ -192,6 +198,7 @@ impl Stage {
         ensures goes_on { GoesOn result (W.contents out.old) self.old.world (W.contents out.new) self.new.world }
         ensures stops { Stops result (W.contents out.old) self.old.world (W.contents out.new) self.new.world }
         ensures no_more { self.new.is_new ≡ false }
+        ensures ends { IfErr result (λ fault. IsOfInput (end_of fault)) }
     {
         self.is_new = false;
         if let Order::At(moment) = order {
@@ -215,6 +222,7 @@ fn set_stage<'a>(
     ensures begins { IfOk result (λ stage. BeginsIn One stage.world) }
     ensures stands { IfOk result (λ stage. (by : Inputs) (start now : Option (List ℕ)) → IsSetUpBy by (setting.entry.table.now, setting.entry.widths.now)
         → Appends start now [] → IsOn by start now stage) }
+    ensures ends { IfErr result (λ fault. IsOfInput (end_of fault)) }
 {
     match order {
         Ok(Order::Members(count)) => stage_of(alloc, setting, line, count, Version::One),
@@ -236,6 +244,7 @@ fn play_order<'a, W: Write>(
         → IsOn by start (W.contents out.old) stage.old → OnOk result (IsOn by start (W.contents out.new) stage.new) }
     ensures stops { (by : Inputs) (start : Option (List ℕ))
         → IsOn by start (W.contents out.old) stage.old → OnErr result (StandsFront by start (W.contents out.new) stage.new.world) }
+    ensures ends { IfErr result (λ fault. IsOfInput (end_of fault)) }
 {
     match order {
         Ok(Order::Wire(version)) => stage.turn_to(alloc, setting, line, version),
@@ -259,6 +268,7 @@ fn play_line<'a, W: Write>(
         → IsStaged by start (W.contents out.old) stage.old → OnOk result (IsStaged by start (W.contents out.new) stage.new) }
     ensures stops { (by : Inputs) (start : Option (List ℕ)) → IsSetUpBy by (setting.entry.table.now, setting.entry.widths.now)
         → IsStaged by start (W.contents out.old) stage.old → OnErr result (Rehearses by (AppendsFront start (W.contents out.new))) }
+    ensures ends { IfErr result (λ fault. IsOfInput (end_of fault)) }
 {
     let order = order_of(alloc, words);
     match stage {
@@ -286,6 +296,7 @@ fn play_lines<'a, W: Write>(
         → OnOk result (Rehearses by (Appends (W.contents out.old) (W.contents out.new))) }
     ensures err { (by : Inputs) → IsSetUpBy by (setting.entry.table.now, setting.entry.widths.now)
         → OnErr result (Rehearses by (AppendsFront (W.contents out.old) (W.contents out.new))) }
+    ensures ends { IfErr result (λ fault. IsOfInput (end_of fault)) }
 {
     let mut stage = None;
     for (index, words) in lines.iter().enumerate() {
@@ -310,6 +321,7 @@ fn play_all<'a, W: Write>(
         → OnOk result (Rehearses by (Appends (W.contents out.old) (W.contents out.new))) }
     ensures err { (by : Inputs) → IsSetUpBy by (setting.entry.table.now, setting.entry.widths.now)
         → OnErr result (Rehearses by (AppendsFront (W.contents out.old) (W.contents out.new))) }
+    ensures ends { IfErr result (λ fault. IsOfInput (end_of fault)) }
 {
     let Ok(lines) = lines_of(alloc, script) else {
         return Err(Fault::OutOfMemory);
@@ -332,6 +344,7 @@ fn rehearsed<'a, R: Read, S: Read, T: Read, W: Write>(
 ) -> Result<(), Fault<'a>>
     ensures ok { OnOk result (Rehearses (inputs (R.remaining table.old) (S.remaining widths.old)) (Appends (W.contents out.old) (W.contents out.new))) }
     ensures err { OnErr result (Rehearses (inputs (R.remaining table.old) (S.remaining widths.old)) (AppendsFront (W.contents out.old) (W.contents out.new))) }
+    ensures ends { IfErr result (λ fault. IsOfInput (end_of fault)) }
 {
     let table = read_table(alloc, table, paths.table)?;
     let widths = read_widths(alloc, widths, paths.widths)?;
@@ -365,6 +378,7 @@ pub fn rehearse<R: Read, S: Read, T: Read, W: Write, E: Write>(
     // Where it ends well, all is written that is shown of such a circuit; otherwise a front of that.
     ensures done { result ≡ Done → Rehearses (inputs (R.remaining table.old) (S.remaining widths.old)) (Appends (W.contents out.old) (W.contents out.new)) }
     ensures front { Rehearses (inputs (R.remaining table.old) (S.remaining widths.old)) (AppendsFront (W.contents out.old) (W.contents out.new)) }
+    ensures ends { IsOfInput result }
 {
     match rehearsed(alloc, paths, table, widths, script, out) {
         Ok(()) => End::Done,

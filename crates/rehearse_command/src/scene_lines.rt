@@ -1,7 +1,8 @@
 //! What a rehearsal shows of a step: a line for what it did, one for each datagram, and the release.
 
-ghost use Rattle.std.specs.Prelude.{◌≡◌, ◌+◌, ◌++◌, ◌≤◌, Some, IfOk, OnOk, OnErr, codes, flat_map, length, string_bytes};
+ghost use Rattle.std.specs.Prelude.{◌≡◌, ◌+◌, ◌++◌, ◌≤◌, Some, IfOk, IfErr, OnOk, OnErr, codes, flat_map, length, string_bytes};
 ghost use Rattle.std.specs.Io.KnownBytes.{Appends};
+ghost use Rattle.command_ends.specs.Ends.{IsOfInput, end_of};
 ghost use Rattle.command_ends.specs.ReleaseText.{plain_line};
 ghost use Rattle.line_check.specs.Galley.{galley_of};
 ghost use Rattle.streams.specs.Fronts.{AppendsFront};
@@ -77,6 +78,7 @@ fn packet_line(line: &mut String, k: usize, packet: &PacketRef<'_>) -> Result<()
 fn put_line<'a, W: Write>(line: &str, out: &mut W) -> Result<(), Fault<'a>>
     ensures ok { OnOk result (Appends (W.contents out.old) (W.contents out.new) line.now) }
     ensures err { OnErr result (AppendsFront (W.contents out.old) (W.contents out.new) line.now) }
+    ensures ends { IfErr result (λ fault. IsOfInput (end_of fault)) }
 {
     match put_all(out, line.as_bytes()) {
         Ok(()) => Ok(()),
@@ -93,6 +95,7 @@ fn put_outcome<'a, W: Write>(
 ) -> Result<(), Fault<'a>>
     ensures ok { OnOk result (Appends (W.contents out.old) (W.contents out.new) (outcome_line member outcome)) }
     ensures err { OnErr result (AppendsFront (W.contents out.old) (W.contents out.new) (outcome_line member outcome)) }
+    ensures ends { IfErr result (λ fault. IsOfInput (end_of fault)) }
 {
     match outcome_line(line, member, outcome) {
         Ok(()) => put_line(line, out),
@@ -109,6 +112,7 @@ fn put_datagram<'a, W: Write>(
 ) -> Result<(), Fault<'a>>
     ensures ok { OnOk result (Appends (W.contents out.old) (W.contents out.new) (datagram_line k datagram.now)) }
     ensures err { OnErr result (AppendsFront (W.contents out.old) (W.contents out.new) (datagram_line k datagram.now)) }
+    ensures ends { IfErr result (λ fault. IsOfInput (end_of fault)) }
 {
     let Ok(packet) = decode(datagram.bytes(), Version::Two) else {
         return Ok(());
@@ -129,6 +133,7 @@ fn put_datagrams<'a, W: Write>(
     requires { before + length sent.now ≤ usize.MAX }
     ensures ok { OnOk result (Appends (W.contents out.old) (W.contents out.new) (datagrams_text before sent.now)) }
     ensures err { OnErr result (AppendsFront (W.contents out.old) (W.contents out.new) (datagrams_text before sent.now)) }
+    ensures ends { IfErr result (λ fault. IsOfInput (end_of fault)) }
 {
     for (index, datagram) in sent.iter().enumerate() {
         put_datagram(line, before + index + 1, datagram, out)?;
@@ -154,6 +159,7 @@ fn put_release_line<'a, W: Write>(
 ) -> Result<(), Fault<'a>>
     ensures ok { OnOk result (Appends (W.contents out.old) (W.contents out.new) (plain_line (codes " ") number text.now)) }
     ensures err { OnErr result (AppendsFront (W.contents out.old) (W.contents out.new) (plain_line (codes " ") number text.now)) }
+    ensures ends { IfErr result (λ fault. IsOfInput (end_of fault)) }
 {
     match release_line(line, number, text) {
         Ok(()) => put_line(line, out),
@@ -165,6 +171,7 @@ fn put_release_line<'a, W: Write>(
 fn put_galley<'a, W: Write>(slugs: &[Slug], out: &mut W) -> Result<(), Fault<'a>>
     ensures ok { OnOk result (Appends (W.contents out.old) (W.contents out.new) (galley_of slugs.now)) }
     ensures err { OnErr result (AppendsFront (W.contents out.old) (W.contents out.new) (galley_of slugs.now)) }
+    ensures ends { IfErr result (λ fault. IsOfInput (end_of fault)) }
 {
     match galley(slugs, out) {
         Ok(()) => Ok(()),
@@ -182,6 +189,7 @@ fn put_set<'a, W: Write>(
 ) -> Result<(), Fault<'a>>
     ensures ok { OnOk result (Appends (W.contents out.old) (W.contents out.new) (plain_line (codes " ") number text.now ++ galley_of slugs.now)) }
     ensures err { OnErr result (AppendsFront (W.contents out.old) (W.contents out.new) (plain_line (codes " ") number text.now ++ galley_of slugs.now)) }
+    ensures ends { IfErr result (λ fault. IsOfInput (end_of fault)) }
 {
     put_release_line(line, number, text, out)?;
     put_galley(slugs, out)
@@ -196,6 +204,7 @@ fn put_released<'a, W: Write>(
 ) -> Result<(), Fault<'a>>
     ensures ok { OnOk result (Appends (W.contents out.old) (W.contents out.new) (released_text release.now)) }
     ensures err { OnErr result (AppendsFront (W.contents out.old) (W.contents out.new) (released_text release.now)) }
+    ensures ends { IfErr result (λ fault. IsOfInput (end_of fault)) }
 {
     let number = release.number();
     let entry = release.entry();
@@ -217,6 +226,7 @@ fn put_releases<'a, W: Write>(
 ) -> Result<(), Fault<'a>>
     ensures ok { OnOk result (Appends (W.contents out.old) (W.contents out.new) (flat_map released_text releases.now)) }
     ensures err { OnErr result (AppendsFront (W.contents out.old) (W.contents out.new) (flat_map released_text releases.now)) }
+    ensures ends { IfErr result (λ fault. IsOfInput (end_of fault)) }
 {
     for release in releases {
         put_released(alloc, line, release, out)?;
@@ -240,6 +250,7 @@ pub fn put_scene<'a, W: Write>(
     requires { before + length sent.now ≤ usize.MAX }
     ensures ok { OnOk result (Appends (W.contents out.old) (W.contents out.new) (scene_text before (scene_of seen.now sent.now releases.now))) }
     ensures err { OnErr result (AppendsFront (W.contents out.old) (W.contents out.new) (scene_text before (scene_of seen.now sent.now releases.now))) }
+    ensures ends { IfErr result (λ fault. IsOfInput (end_of fault)) }
 {
     put_outcome(line, seen.member, seen.outcome, out)?;
     put_datagrams(line, before, sent, out)?;
