@@ -10,13 +10,13 @@ use Rattle.protocol.specs.Lists.{IsAmong}
 use Rattle.protocol.specs.Readings.{Latest}
 use Rattle.protocol.specs.Versions.{Two}
 use Rattle.protocol.specs.Circuit.{State, Circuit, hears, Datagram, Release, Step, Outcome, StepsTo, is_refused, is_idle, is_spent, is_done, is_torn, restarts, upgrades, upgrade_is_torn, is_armed, History, goes_on}
-use Rattle.protocol.specs.Agreement.{WasVoted, IsChosen, IsCarried, by_vote, by_accept, BallotsHaveOneEntry, VotesAreOffered, WasPromised, PromisesBind, ReportsAreGreatest, IsBoundAbove, VotesAreBacked, HeardIsVoted, RipeIsChosen, ChosenIsOne, HistoriesAgree}
+use Rattle.protocol.specs.Agreement.{WasVoted, IsChosen, IsCarried, by_vote, by_accept, BallotsHaveOneEntry, VotesAreOffered, WasPromised, PromisesBind, ReportsAreGreatest, IsBoundAbove, VotesAreBacked, HeardIsVoted, RipeIsChosen, ChosenIsOne, ReleasesAreChosen, HistoriesAgree}
 use Rattle.protocol.proofs.Below.{compare_ballots, both_at_most}
 use Rattle.protocol.proofs.Majorities.{weaker, shared, some_member}
 use Rattle.protocol.proofs.Sound.{PromiseHolds, PacketHolds, BodyHolds, Backs}
 use Rattle.protocol.proofs.Moves.{some_inj}
 use Rattle.protocol.proofs.Places.{among_split, among_left}
-use Rattle.protocol.proofs.Steps.{SoundState, history_sound, same_state, read_among}
+use Rattle.protocol.proofs.Steps.{history_sound, same_state, read_among}
 
 -- what was sent of a packet holds
 packet_held : {D G F : Type 0} {z : Circuit D G F} {w : State G F} (h : History z w) (d : Datagram) (p : Packet) → IsAmong w.sent d → hears z Two d.bytes ≡ Ok p → PacketHolds (WasVoted h) w.rows p
@@ -84,18 +84,18 @@ chosen_is_one z w h n t u x y = elim (compare_ballots x.0 y.0) [
   ]
 ]
 
+pub releases_are_chosen : {D G F : Type 0} → ReleasesAreChosen D G F
+releases_are_chosen z w h x i = (history_sound h).sound.chosen x.number x.entry (x, i, refl, refl)
+
 pub histories_agree : {D G F : Type 0} → HistoriesAgree D G F
-histories_agree {D = D} {G = G} {F = F} z w h = record {
+histories_agree {G = G} {F = F} z w h = record {
   one = λ x y i j e. chosen_is_one z w h y.number x.entry y.entry (subst (λ (n : ℕ). IsChosen h n x.entry) e (chosen x i)) (chosen y j);
   offered = λ x i. let k = chosen x i in let m = some_member k.1 in votes_are_offered z w h m.0 x.number k.0 x.entry m.2;
-  set = s.set;
+  set = (history_sound h).set;
 }
   where
-    s : SoundState z (WasVoted h) w
-    s = history_sound h
-
     chosen : (x : Release G F) → IsAmong w.releases x → IsChosen h x.number x.entry
-    chosen x i = s.sound.chosen x.number x.entry (x, i, refl, refl)
+    chosen = releases_are_chosen z w h
 
 -- a datagram that was sent stays sent
 sent_stays : {D G F : Type 0} {z : Circuit D G F} (w : State G F) (s : Step) (o : Outcome D F) (after : State G F) → StepsTo z w s o after → (d : Datagram) → IsAmong w.sent d → IsAmong after.sent d

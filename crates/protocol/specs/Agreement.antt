@@ -113,3 +113,9 @@ abbrev pub ChosenIsOne : (D G F : Type 0) → Type 0
 ChosenIsOne D G F =
     (z : Circuit D G F) (w : State G F) (h : History z w) (n : ℕ) (t u : Entry)
     → IsChosen h n t → IsChosen h n u → t ≡ u
+
+-- every released entry is chosen for its number (Lamport: a process never learns that a value has been chosen unless it has been)
+abbrev pub ReleasesAreChosen : (D G F : Type 0) → Type 0
+ReleasesAreChosen D G F =
+    (z : Circuit D G F) (w : State G F) (h : History z w) (x : Release G F)
+    → IsAmong w.releases x → IsChosen h x.number x.entry

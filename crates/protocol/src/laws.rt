@@ -2,7 +2,7 @@
 //! Those over histories are for any circuit: `D` is what a datagram's fault is, `G` what setting an entry gives, `F` its fault.
 
 ghost use Rattle.protocol.specs.Acceptor.{StepsAreOfTheWhole};
-ghost use Rattle.protocol.specs.Agreement.{BallotsHaveOneEntry, ChosenIsOne, HeardIsVoted, HistoriesAgree, PromisesBind, ReportsAreGreatest, RipeIsChosen, VotesAreBacked, VotesAreOffered};
+ghost use Rattle.protocol.specs.Agreement.{BallotsHaveOneEntry, ChosenIsOne, HeardIsVoted, HistoriesAgree, PromisesBind, ReleasesAreChosen, ReportsAreGreatest, RipeIsChosen, VotesAreBacked, VotesAreOffered};
 ghost use Rattle.protocol.specs.Fitting.{HistoriesFit, TurnsFit, VersionTwoReadsBoth};
 ghost use Rattle.protocol.specs.NextDue.{NextDueIsLeastNumber};
 ghost use Rattle.protocol.specs.Readings.{NextDueIsLeast};
@@ -90,6 +90,12 @@ pub fn heard_is_voted<D, G, F>()
 pub fn chosen_is_one<D, G, F>()
     ensures ripe { RipeIsChosen D G F }
     ensures one { ChosenIsOne D G F }
+{}
+
+/// Each entry that a station released is chosen for its number: at one ballot a majority voted for it.
+/// Since this holds of every history, it is so from the step that releases the entry.
+pub fn releases_are_chosen<D, G, F>()
+    ensures { ReleasesAreChosen D G F }
 {}
 
 /// Over every history no two releases of one number differ, each released entry was offered for its number,
