@@ -2,7 +2,7 @@
 use Rattle.std.specs.Prelude.{◌≡◌, ℕ, List}
 use Rattle.protocol.specs.Lists.{IsAmong}
 use Rattle.protocol.specs.Circuit.{Release, State, History}
-use Rattle.protocol.specs.Agreement.{BallotsHaveOneEntry, ChosenIsOne, HeardIsVoted, PromisesBind, ReportsAreGreatest, RipeIsChosen, VotesAreBacked, VotesAreOffered, WasOffered}
+use Rattle.protocol.specs.Agreement.{BallotsHaveOneEntry, ChosenIsOne, HeardIsVoted, PromisesBind, ReleasesAreChosen, ReportsAreGreatest, RipeIsChosen, VotesAreBacked, VotesAreOffered, WasOffered}
 use Rattle.packets.specs.declared.fault.PacketFault.{PacketFault}
 use Rattle.code_table.specs.Tables.{Places, mean}
 use Rattle.widths.specs.Widths.{WidthFile}
@@ -42,6 +42,10 @@ RipeChosen = RipeIsChosen PacketFault (List Slug) SetFault
 -- two entries that are chosen for one number are equal
 abbrev pub OneChosen : Type 0
 OneChosen = ChosenIsOne PacketFault (List Slug) SetFault
+
+-- every released entry is chosen for its number
+abbrev pub ReleasesChosen : Type 0
+ReleasesChosen = ReleasesAreChosen PacketFault (List Slug) SetFault
 
 -- any two releases of one number have equal entries; each released entry was offered for its number,
 -- and what was made of it is what its member's table and widths make of it: a tape's slugs, or its fault

@@ -2,7 +2,7 @@
 //! The functions do nothing but cite the laws that they rest on.
 
 ghost use Rattle.world.specs.Taking.{TearsForMemory};
-ghost use Rattle.world.specs.Laws.{OneEntry, VotesOffered, PromisesKept, ReportsGreatest, VotesBacked, HeardVoted, RipeChosen, OneChosen, CircuitsExist, StationsAgree};
+ghost use Rattle.world.specs.Laws.{OneEntry, VotesOffered, PromisesKept, ReportsGreatest, VotesBacked, HeardVoted, RipeChosen, OneChosen, ReleasesChosen, CircuitsExist, StationsAgree};
 
 use crate::slugs::Slugs;
 use line_check::SetFault;
@@ -52,6 +52,13 @@ pub fn chosen_is_one()
     ensures one { OneChosen }
 {
     laws::chosen_is_one::<PacketFault, Slugs, SetFault>();
+}
+
+/// Each entry that a station released is chosen for its number: at one ballot a majority voted for it.
+pub fn releases_are_chosen()
+    ensures { ReleasesChosen }
+{
+    laws::releases_are_chosen::<PacketFault, Slugs, SetFault>();
 }
 
 /// In a world over rows in memory, what is told of a step that the store tore is want of memory, or that its member's store was armed to
