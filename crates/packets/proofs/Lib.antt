@@ -6,3 +6,4 @@ pub mod Again
 pub mod Taken
 pub mod Saying
 pub mod Unique
+pub mod Lengths

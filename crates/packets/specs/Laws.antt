@@ -1,8 +1,8 @@
 -- The laws of the grammar and of reading.
-use Rattle.std.specs.Prelude.{◌≡◌, ℕ, List, [], ◌∷◌, ◌++◌, Ok}
+use Rattle.std.specs.Prelude.{◌≡◌, ℕ, ◌≤◌, List, [], ◌∷◌, ◌++◌, length, Ok}
 use Rattle.tape_frames.specs.Packing.{OnePacking, PackingIsGiven, UnpackingUndoes, TapesArePacked, PackedAreTapes}
 use Rattle.protocol.specs.Entries.{Tape, Entry}
-use Rattle.protocol.specs.Versions.{Version, Two}
+use Rattle.protocol.specs.Versions.{Version, One, Two}
 use Rattle.protocol.specs.Packets.{Packet, Accepted}
 use Rattle.protocol.specs.Fitting.{BodyFits}
 use Rattle.packets.specs.Grammar.{IsBytes, Spells, IsPacket, said_version}
@@ -29,6 +29,21 @@ OnePacket = (v w : Version) (bytes : List ℕ) (p q : Packet) → Spells v bytes
 -- no spelling of either version is the front of another's: two of which one begins with the other are equal
 abbrev pub NoFront : Type 0
 NoFront = (v w : Version) (short long rest : List ℕ) (p q : Packet) → Spells v short p → Spells w long q → long ≡ short ++ rest → short ≡ long
+
+-- the fewest bytes of a packet: a Prepare is its header alone, the ballot in it
+abbrev pub shortest : ℕ
+shortest = 17
+
+-- the most bytes of a packet in a version: a Promise that reports a vote for the longest tape of the version. Behind the 17 bytes
+-- of the header stand a flag, the reported ballot in 5 bytes, a length in 2 and the frames: 4,096 of them in version 1, one a byte,
+-- and in version 2 16,384, packed in 12,288 bytes
+abbrev pub longest : Version → ℕ
+longest One = 4121
+longest Two = 12313
+
+-- what spells a packet in a version has no fewer bytes than the shortest, and no more than the longest of the version
+abbrev pub LengthsAreBounded : Type 0
+LengthsAreBounded = (v : Version) (bytes : List ℕ) (p : Packet) → Spells v bytes p → (shortest ≤ length bytes) × (length bytes ≤ longest v)
 
 -- what spells a packet in a version is read as it in that version
 abbrev pub ReadsItAgain : Type 0

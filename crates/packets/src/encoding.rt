@@ -9,6 +9,7 @@ ghost use Rattle.protocol.specs.Packets.{Promise};
 ghost use Rattle.protocol.specs.Versions.{Two};
 ghost use Rattle.packets.specs.Bodies.{said};
 ghost use Rattle.packets.specs.Grammar.{Spells, IsBody, IsPacket};
+ghost use Rattle.packets.specs.Laws.{shortest, longest};
 ghost use Rattle.packets.specs.Reading.{packet_in, packet_at};
 ghost use Rattle.packets.specs.Spelling.{kind_byte, ballot_bytes, header_bytes, entry_bytes, report_bytes, body_bytes, spelling};
 
@@ -169,6 +170,9 @@ pub fn encode(
     ensures own { IfOk result (λ v. packet_at (version_of version) v.items ≡ Ok packet.now) }
     ensures two { IfOk result (λ v. packet_at Two v.items ≡ Ok packet.now) }
     ensures exact { IfOk result (λ v. v.items ≡ spelling (version_of version) packet.now) }
+    ensures at_least { IfOk result (λ v. shortest ≤ length v.items) }
+    // A receiver's buffer of one byte more takes it whole, and a datagram that fills the buffer is no packet.
+    ensures at_most { IfOk result (λ v. length v.items ≤ longest (version_of version)) }
 {
     packings();
     written(alloc, packet, version)

@@ -4,7 +4,7 @@ ghost use Rattle.std.specs.Prelude.{[], ◌∷◌, ◌++◌};
 ghost use Rattle.protocol.specs.Entries.{Void, Taped};
 ghost use Rattle.protocol.specs.Versions.{Two};
 ghost use Rattle.packets.specs.Grammar.{Spells};
-ghost use Rattle.packets.specs.Laws.{HasOneSpelling, OnlyWhatFits, SaysItsVersion, OnePacket, NoFront, ReadsItAgain, FindsWhatIsSpelled, ReadAsSaid, ReadWhatFits, TwoReadsBoth, Packings, worked_packet, worked_front, worked_tape, worked_packing};
+ghost use Rattle.packets.specs.Laws.{HasOneSpelling, OnlyWhatFits, SaysItsVersion, OnePacket, NoFront, LengthsAreBounded, ReadsItAgain, FindsWhatIsSpelled, ReadAsSaid, ReadWhatFits, TwoReadsBoth, Packings, worked_packet, worked_front, worked_tape, worked_packing};
 
 use tape_frames::laws::{packed, packing, unpacking};
 
@@ -40,6 +40,13 @@ pub fn one_packet()
 /// No spelling of either version is the front of another's.
 pub fn no_front()
     ensures { NoFront }
+{
+    packings();
+}
+
+/// A packet's spelling has 17 bytes or more, at most 4,121 in version 1, and 12,313 in version 2.
+pub fn lengths()
+    ensures { LengthsAreBounded }
 {
     packings();
 }
