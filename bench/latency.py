@@ -10,9 +10,10 @@ says that the offer was taken up (`N began B`) to the last of the three files `N
 `N.galley`; and how long the offer waited for the folder to be looked at. The bench sleeps until the system tells it of a line or
 of a name in a folder, so that it takes no processor from the stations. Beside them the saves on that path: promise and vote at
 the offering station, promise and vote at one other, timed alone, by the stock SQLite library with the same durability (journal
-in a log, each commit synced), on the same disk; and, where PUTS is the program that `bench/puts.py FOLDER` has built
-(`FOLDER/puts/crates/puts/out/puts`), by the rows of the stations themselves, which suppose nothing of a torn write and sync each
-commit twice.
+in a log, each commit synced), on the same disk: once after each story, as the stations save, after a second in which nothing was
+to be done and in whatever phase the disk is then; and 200 times in a row. Where PUTS is the program that `bench/puts.py FOLDER`
+has built (`FOLDER/puts/crates/puts/out/puts`), also in a row by the rows of the stations themselves, which suppose nothing of a
+torn write and sync each commit twice.
 """
 import ctypes
 import os
@@ -109,24 +110,27 @@ def story(plants, names, number):
     sys.exit(f'number {number} was not released within 30 s')
 
 
-def time_of_saves(folder, count):
-    """The time of two saves of a row at two stations, one after the other, by the stock library."""
-    stores = []
-    for name in ('one.db', 'other.db'):
-        store = sqlite3.connect(os.path.join(folder, name), isolation_level=None)
-        store.execute('PRAGMA journal_mode = WAL')
-        store.execute('PRAGMA synchronous = FULL')
-        store.execute('CREATE TABLE acceptor_entry (number INTEGER PRIMARY KEY, promised_round INTEGER NOT NULL, promised_owner INTEGER NOT NULL,'
-                      ' vote_round INTEGER, vote_owner INTEGER, length INTEGER, packed BLOB) STRICT')
-        stores.append(store)
-    took = []
-    for number in range(1, count + 1):
+class Saves:
+    """The saves of a story at two stations, one after the other, by the stock library."""
+
+    def __init__(self, folder):
+        self.stores, self.number = [], 0
+        for name in ('one.db', 'other.db'):
+            store = sqlite3.connect(os.path.join(folder, name), isolation_level=None)
+            store.execute('PRAGMA journal_mode = WAL')
+            store.execute('PRAGMA synchronous = FULL')
+            store.execute('CREATE TABLE acceptor_entry (number INTEGER PRIMARY KEY, promised_round INTEGER NOT NULL, promised_owner INTEGER NOT NULL,'
+                          ' vote_round INTEGER, vote_owner INTEGER, length INTEGER, packed BLOB) STRICT')
+            self.stores.append(store)
+
+    def time(self):
+        """How long those of one more number take."""
+        self.number += 1
         begun = time.monotonic()
         for vote in ((None, None, None, None), (1, 1, 7, TAPE)):
-            for store in stores:
-                store.execute('INSERT OR REPLACE INTO acceptor_entry VALUES (?, 1, 1, ?, ?, ?, ?)', (number, *vote))
-        took.append(time.monotonic() - begun)
-    return took
+            for store in self.stores:
+                store.execute('INSERT OR REPLACE INTO acceptor_entry VALUES (?, 1, 1, ?, ?, ?, ?)', (self.number, *vote))
+        return time.monotonic() - begun
 
 
 def time_of_own_saves(puts, folder):
@@ -153,8 +157,12 @@ def main():
         plants = [start(program, folder, member, ports) for member in MEMBERS]
         time.sleep(1)
         names = Names([os.path.join(home, 'releases') for home, _ in plants])
-        moments = [story(plants, names, number) for number in range(1, count + 1)]
-        saves = time_of_saves(folder, count)
+        saves, moments, alone = Saves(folder), [], []
+        for number in range(1, count + 1):
+            moments.append(story(plants, names, number))
+            time.sleep(1)
+            alone.append(saves.time())
+        row = [saves.time() for _ in range(200)]
         own = time_of_own_saves(os.path.abspath(sys.argv[3]), folder) if len(sys.argv) > 3 else None
     finally:
         for _, process in plants:
@@ -164,15 +172,15 @@ def main():
     waits = [began - laid for laid, began, _, _ in moments]
     tapes = [told - began for _, began, told, _ in moments]
     galleys = [ended - began for _, began, _, ended in moments]
-    told = [('taken up after', waits), ('from there to the last tape', tapes), ('to the last galley', galleys), ('the saves alone', saves)]
+    told = [('taken up after', waits), ('from there to the last tape', tapes), ('to the last galley', galleys), ('the saves alone', alone), ('200 times in a row', row)]
     if own:
-        told.append(('the saves alone, own rows', own))
+        told.append(('in a row, by own rows', own))
     for what, took in told:
         print(f'{what:32} least {1000 * min(took):7.2f} ms, median {1000 * statistics.median(took):7.2f} ms')
-    for what, alone in (('its saves', saves), ('its own saves', own or [])):
-        for end, took in (('tape', tapes), ('galley', galleys)):
-            if alone:
-                print(f'median to the last {end} over median of {what}: {statistics.median(took) / statistics.median(alone):.2f}')
+    for what, took in (('the saves alone', alone), ('those in a row', row), ('those by own rows', own or [])):
+        for end, path in (('tape', tapes), ('galley', galleys)):
+            if took:
+                print(f'median to the last {end} over median of {what}: {statistics.median(path) / statistics.median(took):.2f}')
 
 
 main()

@@ -8,45 +8,10 @@ top=$PWD/..
 circuitd=$top/crates/circuitd/out/circuitd
 
 work=$(mktemp -d)
-told=$work/prover
 trap 'kill $(jobs -p) 2> /dev/null || true; rm -rf "$work"' EXIT
 
-# One line, written over and over where a person looks on.
-show() {
-    [ ! -t 2 ] || printf '\r\033[K%s' "$1" >&2
-}
-
-# How far the prover is in the program itself.
-progress() {
-    show "$(sed -n 's/^so far: \([0-9]* of [0-9]*\) functions.*/  the program: \1 functions, /p' "$told" | tail -n 1)$SECONDS s"
-}
-
-# Runs a command of the build; its text stays in a file, whose end is shown where it fails.
-build() {
-    "$@" >> "$told" 2>&1 &
-    local run=$!
-    while kill -0 "$run" 2> /dev/null; do
-        progress
-        sleep 1
-    done
-    show ""
-    if ! wait "$run"; then
-        tail -n 30 "$told" >&2
-        exit 1
-    fi
-}
-
-# The libraries side by side, then the program over them. Where all stand from the last time, this only looks that nothing
-# has changed.
-prove_and_build() {
-    "$examples/libraries.py" circuitd
-    cd "$top/crates/circuitd"
-    build rt run -- check "$examples/codes.toml" "$examples/widths.toml" "$examples/flood.tape"
-    cd "$examples"
-}
-
 echo "Proving and building the program: about half an hour on four cores, seconds after that."
-prove_and_build
+"$examples/build.py" circuitd
 
 cp station?.toml codes.toml widths.toml ./*.tape "$work"
 cd "$work"
@@ -82,8 +47,11 @@ for member in 1 2 3; do
 done
 
 echo "Station 2 is killed. What it saved:"
+disown "$second"
 kill -9 "$second"
-wait "$second" 2> /dev/null || true
+while kill -0 "$second" 2> /dev/null; do
+    sleep 0.1
+done
 "$circuitd" rows station2.db | indented
 
 echo "All start again over their saved rows. Station 2 now offers the harvest story, under the same number 12."
