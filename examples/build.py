@@ -61,26 +61,26 @@ def show(text):
         print(f'\r\033[K{text}', end='', file=sys.stderr, flush=True)
 
 
-def prove(home, count):
+def prove(home, log, count):
     """Whether the gate passes there; where it does not, the end of what it says is told."""
-    with tempfile.TemporaryFile('w+', errors='replace') as told:
-        began = time.time()
+    began = time.time()
+    with open(log, 'w') as told:
         run = subprocess.Popen(['rt', 'ci'], cwd=home, stdin=subprocess.DEVNULL, stdout=told, stderr=subprocess.STDOUT)
-        try:
-            while run.poll() is None:
-                time.sleep(1)
-                told.seek(0)
+    try:
+        while run.poll() is None:
+            time.sleep(1)
+            with open(log, errors='replace') as told:
                 done = len(re.findall(r'^rt: \w+ (?:proved|is kept)', told.read(), re.M))
-                show(f'  {done} of {count} crates, {time.time() - began:.0f} s')
-        finally:
-            # Whoever gives up does not leave it at work.
-            run.terminate()
-            run.wait()
-        show('')
-        if run.returncode:
-            told.seek(0)
+            show(f'  {done} of {count} crates, {time.time() - began:.0f} s')
+    finally:
+        # Whoever gives up does not leave it at work.
+        run.terminate()
+        run.wait()
+    show('')
+    if run.returncode:
+        with open(log, errors='replace') as told:
             print(''.join(told.readlines()[-30:]), end='', file=sys.stderr)
-        return run.returncode == 0
+    return run.returncode == 0
 
 
 def main():
@@ -91,11 +91,13 @@ def main():
     crates = below(lines, program, [])
     out = os.path.join(TOP, 'crates', program, 'out')
     built, noted = os.path.join(out, program), os.path.join(out, f'{program}.sources')
-    with tempfile.TemporaryDirectory() as home:
+    with tempfile.TemporaryDirectory() as work:
+        home = os.path.join(work, 'repository')
+        os.mkdir(home)
         sources = lay_out(lines, crates, home)
         if os.path.isfile(built) and os.path.isfile(noted) and open(noted).read() == sources:
             return
-        if not prove(home, len(crates)):
+        if not prove(home, os.path.join(work, 'told'), len(crates)):
             sys.exit(f'{program} is not built')
         os.makedirs(out, exist_ok=True)
         shutil.copy(os.path.join(home, 'crates', program, 'out', program), built)
