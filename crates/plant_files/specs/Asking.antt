@@ -1,6 +1,7 @@
 -- What the files among the offers ask for.
-use Rattle.std.specs.Prelude.{◌≡◌, ℕ, List, codes}
+use Rattle.std.specs.Prelude.{◌≡◌, ◌≤◌, ◌++◌, ℕ, List, codes, decimal}
 use Rattle.protocol.specs.Entries.{Entry}
+use Rattle.protocol.specs.Limits.{last_number}
 use Rattle.protocol.specs.Refusals.{Call, Offering, Seeking}
 use Rattle.tape_frames.specs.Entries.{owned_entry}
 use Rattle.refusals.specs.declared.refusal.StepRefusal.{StepRefusal}
@@ -17,6 +18,18 @@ abbrev pub kind_word : Kind → List ℕ
 kind_word kinds.Tape = codes ".tape"
 kind_word kinds.Withdraw = codes ".withdraw"
 kind_word kinds.Seek = codes ".seek"
+
+-- the name is the very name of this number's file of this kind
+abbrev pub IsNameOf : List ℕ → ℕ → Kind → Type 0
+IsNameOf name n kind = name ≡ decimal n ++ kind_word kind
+
+-- no number, from 1 to 999,999, has a file of this kind with this name
+abbrev pub NamesNoneOf : Kind → List ℕ → Type 0
+NamesNoneOf kind name = (n : ℕ) → 1 ≤ n → n ≤ last_number → ¬ IsNameOf name n kind
+
+-- no number has a file of any kind with this name
+abbrev pub NamesNone : List ℕ → Type 0
+NamesNone name = (kind : Kind) → NamesNoneOf kind name
 
 -- how the station is called for what is asked of a number at a moment
 abbrev pub call_of : Wish → ℕ → ℕ → Call
