@@ -31,6 +31,10 @@ NamesNoneOf kind name = (n : ℕ) → 1 ≤ n → n ≤ last_number → ¬ IsNam
 abbrev pub NamesNone : List ℕ → Type 0
 NamesNone name = (kind : Kind) → NamesNoneOf kind name
 
+-- the name is that of the file that ends a run
+abbrev pub IsStop : List ℕ → Type 0
+IsStop name = name ≡ codes "stop"
+
 -- how the station is called for what is asked of a number at a moment
 abbrev pub call_of : Wish → ℕ → ℕ → Call
 call_of (Offered entry) n now = Offering n (owned_entry entry) now

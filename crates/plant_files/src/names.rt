@@ -1,8 +1,9 @@
 //! What the names of the files among the offers ask for.
 
-ghost use Rattle.std.specs.Prelude.{◌≡◌, ◌≤◌, ◌++◌, ◌↔◌, ℕ, IfOk, IfSome, IfNone, MatchOption, IsTrue, Some, codes, decimal, string_bytes};
+ghost use Rattle.std.specs.Prelude.{◌≡◌, ◌≤◌, ◌++◌, ◌↔◌, ℕ, IfOk, IfSome, IfNone, MatchOption, IsTrue, Some, false, codes, decimal, string_bytes};
+ghost use Rattle.std.specs.List.{All, Any};
 ghost use Rattle.protocol.specs.Limits.{last_number};
-ghost use Rattle.plant_files.specs.Asking.{kind_word, IsNameOf, NamesNoneOf, NamesNone};
+ghost use Rattle.plant_files.specs.Asking.{kind_word, IsNameOf, NamesNoneOf, NamesNone, IsStop};
 
 use crate::release_files::file_name;
 use ballots::Number;
@@ -44,14 +45,22 @@ fn kind_word(kind: Kind) -> &'static str
 
 /// Whether this is the file that ends a run.
 fn is_stop(name: &str) -> bool
-    ensures { IsTrue result ↔ (name.now ≡ codes "stop") }
+    ensures { IsTrue result ↔ IsStop name.now }
 {
     name == STOP
 }
 
 /// Whether the file that ends a run is among those of these names.
-pub fn has_stop(names: &[String]) -> bool {
-    names.iter().any(|name| is_stop(name.as_str()))
+pub fn has_stop(names: &[String]) -> bool
+    ensures one { IsTrue result → Any (λ name. IsStop (string_bytes name)) names.now }
+    ensures else_none { result ≡ false → All (λ name. ¬ IsStop (string_bytes name)) names.now }
+{
+    for name in names {
+        if is_stop(name.as_str()) {
+            return true;
+        }
+    }
+    false
 }
 
 /// Whether a file of this name is left alone: one that is being handed over, whose name begins with a dot or ends with `.part`, or
