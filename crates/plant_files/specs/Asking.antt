@@ -1,5 +1,5 @@
 -- What the files among the offers ask for.
-use Rattle.std.specs.Prelude.{◌≡◌, ◌≤◌, ◌++◌, ℕ, List, codes, decimal}
+use Rattle.std.specs.Prelude.{◌≡◌, ◌≤◌, ◌++◌, ◌⊎◌, ℕ, List, codes, decimal}
 use Rattle.protocol.specs.Entries.{Entry}
 use Rattle.protocol.specs.Limits.{last_number}
 use Rattle.protocol.specs.Refusals.{Call, Offering, Seeking}
@@ -34,6 +34,18 @@ NamesNone name = (kind : Kind) → NamesNoneOf kind name
 -- the name is that of the file that ends a run
 abbrev pub IsStop : List ℕ → Type 0
 IsStop name = name ≡ codes "stop"
+
+-- the name begins with a dot
+abbrev pub BeginsWithDot : List ℕ → Type 0
+BeginsWithDot name = (rest : List ℕ) × (name ≡ codes "." ++ rest)
+
+-- the name ends with `.part`
+abbrev pub EndsWithPart : List ℕ → Type 0
+EndsWithPart name = (front : List ℕ) × (name ≡ front ++ codes ".part")
+
+-- a file of this name is left alone: it is being handed over, or it is the one that ends a run
+abbrev pub IsLeft : List ℕ → Type 0
+IsLeft name = BeginsWithDot name ⊎ (EndsWithPart name ⊎ IsStop name)
 
 -- how the station is called for what is asked of a number at a moment
 abbrev pub call_of : Wish → ℕ → ℕ → Call

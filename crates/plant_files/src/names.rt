@@ -3,7 +3,7 @@
 ghost use Rattle.std.specs.Prelude.{◌≡◌, ◌≤◌, ◌++◌, ◌↔◌, ℕ, IfOk, IfSome, IfNone, MatchOption, IsTrue, Some, false, codes, decimal, string_bytes};
 ghost use Rattle.std.specs.List.{All, Any};
 ghost use Rattle.protocol.specs.Limits.{last_number};
-ghost use Rattle.plant_files.specs.Asking.{kind_word, IsNameOf, NamesNoneOf, NamesNone, IsStop};
+ghost use Rattle.plant_files.specs.Asking.{kind_word, IsNameOf, NamesNoneOf, NamesNone, IsStop, BeginsWithDot, EndsWithPart, IsLeft};
 
 use crate::release_files::file_name;
 use ballots::Number;
@@ -63,12 +63,26 @@ pub fn has_stop(names: &[String]) -> bool
     false
 }
 
+/// Whether it begins with a dot.
+fn begins_with_dot(name: &str) -> bool
+    ensures { IsTrue result ↔ BeginsWithDot name.now }
+{
+    name.starts_with('.')
+}
+
+/// Whether it ends with `.part`.
+fn ends_with_part(name: &str) -> bool
+    ensures { IsTrue result ↔ EndsWithPart name.now }
+{
+    name.ends_with(".part")
+}
+
 /// Whether a file of this name is left alone: one that is being handed over, whose name begins with a dot or ends with `.part`, or
 /// the one that ends a run.
 pub fn is_left(name: &str) -> bool
-    ensures { name.now ≡ codes "stop" → IsTrue result }
+    ensures { IsTrue result ↔ IsLeft name.now }
 {
-    name.starts_with('.') || name.ends_with(".part") || is_stop(name)
+    begins_with_dot(name) || ends_with_part(name) || is_stop(name)
 }
 
 /// The number that a name begins with, where the rest is the end of this kind.
