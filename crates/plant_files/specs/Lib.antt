@@ -1,4 +1,5 @@
 pub mod Asking
 pub mod Filing
 pub mod Keeping
+pub mod Pausing
 pub mod Watching

@@ -1,7 +1,7 @@
 //! Files that are watched until they stay as they are.
 
-ghost use Rattle.std.specs.Prelude.{◌≤◌, ◌<◌, ◌+◌, ◌↔◌, IsTrue, IfSome, length};
-ghost use Rattle.plant_files.specs.Watching.{IsUnchanged};
+ghost use Rattle.std.specs.Prelude.{◌≤◌, ◌<◌, ◌+◌, ◌↔◌, IsTrue, IfSome, MatchOption, length};
+ghost use Rattle.plant_files.specs.Watching.{IsUnchanged, IsNamed, NoneIsNamed, IsFirstNamed};
 
 use crate::pauses::{STILL, has_passed};
 use folders::Stamp;
@@ -38,9 +38,22 @@ pub fn is_whole(before: Stamp, since: u64, stamp: Stamp, now: u64) -> bool
     is_unchanged(before, stamp) && has_passed(since, STILL, now)
 }
 
+/// Whether the file has this name.
+fn is_named(file: &Watched, name: &str) -> bool
+    ensures { IsTrue result ↔ IsNamed name.now file.now }
+{
+    file.name.as_str() == name
+}
+
 /// The place of the first file of this name among those that are watched; `None` where there is none.
 pub fn index_of(watched: &[Watched], name: &str) -> Option<usize>
-    ensures { IfSome result (λ place. place < length watched.now) }
+    ensures within { IfSome result (λ place. place < length watched.now) }
+    ensures first { MatchOption result (NoneIsNamed name.now watched.now) (IsFirstNamed name.now watched.now) }
 {
-    watched.iter().position(|each| each.name.as_str() == name)
+    for (place, file) in watched.iter().enumerate() {
+        if is_named(file, name) {
+            return Some(place);
+        }
+    }
+    None
 }

@@ -5,6 +5,7 @@ ghost use Rattle.tape_frames.specs.Entries.{lent_entry};
 ghost use Rattle.station.specs.Stations.{sight};
 ghost use Rattle.station.specs.Steps.{TakesStep, stopped_after};
 ghost use Rattle.plant_files.specs.Asking.{call_of, IsMet, IsPlaceOf};
+ghost use Rattle.plant_files.specs.Pausing.{put_off_at};
 
 use crate::pauses::{FIRST_PAUSE, has_passed, next_pause};
 use ballots::{Ballot, Number};
@@ -89,6 +90,7 @@ impl Asked {
         ensures due { result.due ≡ Some now }
         ensures settled { result.is_settled ≡ false }
         ensures ballot { result.ballot ≡ None }
+        ensures pause { result.pause ≡ 1000 }
         ensures file { (result.name ≡ name) × (result.number ≡ number) × (result.wish ≡ wish) × (result.stamp ≡ stamp) }
     {
         Asked {
@@ -125,6 +127,7 @@ impl Asked {
         ensures due { (IsSome self.new.due) × IfSome self.new.due (λ due. now ≤ due) }
         ensures ballot { self.new.ballot ≡ None }
         ensures settled { self.new.is_settled ≡ self.old.is_settled }
+        ensures wait { self.new ≡ put_off_at now self.old }
     {
         self.due = Some(now.saturating_add(self.pause));
         self.pause = next_pause(self.pause);
