@@ -39,7 +39,7 @@ pub struct Asked {
     /// When the station is asked, in milliseconds; `None` while a ballot is under way.
     pub due: Option<u64>,
     /// How long it is waited where it is put off, in milliseconds.
-    pause: u64,
+    pub pause: u64,
     /// Whether the file has left the offers.
     pub is_settled: bool,
 }
