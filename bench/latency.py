@@ -10,10 +10,10 @@ says that the offer was taken up (`N began B`) to the last of the three files `N
 `N.galley`; and how long the offer waited for the folder to be looked at. The bench sleeps until the system tells it of a line or
 of a name in a folder, so that it takes no processor from the stations. Beside them the saves on that path: promise and vote at
 the offering station, promise and vote at one other, timed alone, by the stock SQLite library with the same durability (journal
-in a log, each commit synced), on the same disk: once after each story, as the stations save, after a second in which nothing was
-to be done and in whatever phase the disk is then; and 200 times in a row. Where PUTS is the program that `bench/puts.py FOLDER`
-has built (`FOLDER/puts/crates/puts/out/puts`), also in a row by the rows of the stations themselves, which suppose nothing of a
-torn write and sync each commit twice.
+in a log, each commit synced), on the same disk: once for each story, while it waits to be taken up, so that they come out of a rest
+and in whatever phase the disk is in, as the stations' own do; and 200 times in a row. Where PUTS is the program that
+`bench/puts.py FOLDER` has built (`FOLDER/puts/crates/puts/out/puts`), also in a row by the rows of the stations themselves, which
+suppose nothing of a torn write and sync each commit twice.
 """
 import ctypes
 import os
@@ -85,14 +85,17 @@ class Names:
         return names
 
 
-def story(plants, names, number):
-    """Lays a story down, and gives the moments: laid, taken up, the last of its tapes and the last of its galleys released."""
+def story(plants, names, saves, number):
+    """Lays a story down, and gives the moments: laid, taken up, the last of its tapes and the last of its galleys released; and how
+    long saves as its own take alone, while it waits."""
     home, process = plants[0]
     part, whole = (os.path.join(home, 'offers', name) for name in (f'.{number}.tape', f'{number}.tape'))
     with open(part, 'wb') as file:
         file.write(TAPE)
     laid = time.monotonic()
     os.rename(part, whole)
+    time.sleep(0.6)
+    alone = saves.time()
     left = {f'{number}.tape': len(plants), f'{number}.galley': len(plants)}
     moments, line = {}, b''
     while time.monotonic() < laid + 30:
@@ -106,7 +109,7 @@ def story(plants, names, number):
                 left[name] -= 1
                 moments[name] = now
         if not any(left.values()):
-            return laid, moments['began'], moments[f'{number}.tape'], moments[f'{number}.galley']
+            return laid, moments['began'], moments[f'{number}.tape'], moments[f'{number}.galley'], alone
     sys.exit(f'number {number} was not released within 30 s')
 
 
@@ -157,11 +160,8 @@ def main():
         plants = [start(program, folder, member, ports) for member in MEMBERS]
         time.sleep(1)
         names = Names([os.path.join(home, 'releases') for home, _ in plants])
-        saves, moments, alone = Saves(folder), [], []
-        for number in range(1, count + 1):
-            moments.append(story(plants, names, number))
-            time.sleep(1)
-            alone.append(saves.time())
+        saves = Saves(folder)
+        moments = [story(plants, names, saves, number) for number in range(1, count + 1)]
         row = [saves.time() for _ in range(200)]
         own = time_of_own_saves(os.path.abspath(sys.argv[3]), folder) if len(sys.argv) > 3 else None
     finally:
@@ -169,9 +169,10 @@ def main():
             process.kill()
             process.wait()
         shutil.rmtree(folder)
-    waits = [began - laid for laid, began, _, _ in moments]
-    tapes = [told - began for _, began, told, _ in moments]
-    galleys = [ended - began for _, began, _, ended in moments]
+    waits = [began - laid for laid, began, _, _, _ in moments]
+    tapes = [told - began for _, began, told, _, _ in moments]
+    galleys = [ended - began for _, began, _, ended, _ in moments]
+    alone = [took for _, _, _, _, took in moments]
     told = [('taken up after', waits), ('from there to the last tape', tapes), ('to the last galley', galleys), ('the saves alone', alone), ('200 times in a row', row)]
     if own:
         told.append(('in a row, by own rows', own))
