@@ -153,7 +153,7 @@ fn is_released(rt: &HostRuntime, release: &Release<'_>, with_look: bool) -> bool
     (!with_look || folders.names(rt.alloc()).is_ok())
         && is_taken(rt, &mut folders, release)
         && release.stands.iter().all(|named| stands(rt, named))
-        && count(rt, RELEASES) == release.stands.len() + left
+        && count(rt, RELEASES).saturating_sub(release.stands.len()) == left
 }
 
 /// Whether a look of new folders of the host finds nothing in the files that are made ahead, whatever a killed plant left there.
