@@ -1,19 +1,20 @@
 #!/usr/bin/env python3
 """How long a story takes from its offer to the files of its release, at three plants on one machine.
 
-    bench/latency.py PROGRAM [STORIES [PUTS]]
+    bench/latency.py PROGRAM [STORIES]
 
 Three plants `run` on 127.0.0.1 with no network between them but the machine's. 200 stories where no other count is given are
 laid into the first plant's folder, one after another, each once the one before it stands in all three folders `releases`; each
 takes more than a second, since a file is taken up after two looks. Told are the least and the median time from the line that
 says that the offer was taken up (`N began B`) to the last of the three files `N.tape`, and to the last of the three files
 `N.galley`; and how long the offer waited for the folder to be looked at. The bench sleeps until the system tells it of a line or
-of a name in a folder, so that it takes no processor from the stations. Beside them the saves on that path: promise and vote at
-the offering station, promise and vote at one other, timed alone, by the stock SQLite library with the same durability (journal
-in a log, each commit synced), on the same disk: once for each story, while it waits to be taken up, so that they come out of a rest
-and in whatever phase the disk is in, as the stations' own do; and 200 times in a row. Where PUTS is the program that
-`bench/puts.py FOLDER` has built (`FOLDER/puts/crates/puts/out/puts`), also in a row by the rows of the stations themselves, which
-suppose nothing of a torn write and sync each commit twice.
+of a name in a folder, so that it takes no processor from the stations.
+
+Beside them the saves on that path: promise and vote at the offering station, promise and vote at one other, timed alone on the
+same disk. They are timed by two programs: by the stock SQLite library with the same durability (journal in a log, each commit
+synced), and by bare calls of the system, those that the stations' rows make for a save (a page with its head, a sync, a mark of
+one byte behind it, a sync), with no library in between. Both are timed once for each story, while it waits to be taken up, so that
+they come out of a rest and in whatever phase the disk is in, as the stations' own do; and 200 times in a row.
 """
 import ctypes
 import os
@@ -33,6 +34,9 @@ EXAMPLES = os.path.join(HERE, '..', 'examples')
 MEMBERS = (1, 2, 3)
 TAPE = bytes.fromhex('01020301030204')
 MOVED_TO = 0x80
+IN_A_ROW = 200
+# A page of the log of a database, with its head.
+PAGE = bytes(24 + 4096 + 8)
 
 
 def free_ports():
@@ -94,8 +98,10 @@ def story(plants, names, saves, number):
         file.write(TAPE)
     laid = time.monotonic()
     os.rename(part, whole)
-    time.sleep(0.6)
-    alone = saves.time()
+    alone = []
+    for each in saves:
+        time.sleep(0.4)
+        alone.append(each.time())
     left = {f'{number}.tape': len(plants), f'{number}.galley': len(plants)}
     moments, line = {}, b''
     while time.monotonic() < laid + 30:
@@ -113,7 +119,7 @@ def story(plants, names, saves, number):
     sys.exit(f'number {number} was not released within 30 s')
 
 
-class Saves:
+class StockSaves:
     """The saves of a story at two stations, one after the other, by the stock library."""
 
     def __init__(self, folder):
@@ -136,21 +142,33 @@ class Saves:
         return time.monotonic() - begun
 
 
-def time_of_own_saves(puts, folder):
-    """The times of four saves by the stations' own rows, in sixteen rounds, each a hundredth of what 400 saves take more than none."""
-    def seconds(count, path):
+class BareSaves:
+    """What the rows of two stations ask of the disk for the saves of a story, one after the other."""
+
+    def __init__(self, folder, count):
+        self.files, self.at = [], 0
+        for name in ('one.log', 'other.log'):
+            file = os.open(os.path.join(folder, name), os.O_CREAT | os.O_RDWR)
+            # As the log of a database, it is made longer ahead of what is written into it.
+            os.pwrite(file, bytes(2 * count * (len(PAGE) + 1)), 0)
+            os.fsync(file)
+            self.files.append(file)
+
+    def time(self):
+        """How long those of one more number take."""
         begun = time.monotonic()
-        subprocess.run([puts, path, str(count), 'wary'], check=True)
+        for _ in ('promise', 'vote'):
+            for file in self.files:
+                os.pwrite(file, PAGE, self.at)
+                os.fdatasync(file)
+                os.pwrite(file, b'\1', self.at + len(PAGE))
+                os.fdatasync(file)
+            self.at += len(PAGE) + 1
         return time.monotonic() - begun
-    took = []
-    for place in range(16):
-        none, many = (os.path.join(folder, f'{place}.{name}.db') for name in ('none', 'many'))
-        took.append((seconds(400, many) - seconds(0, none)) / 100)
-    return took
 
 
 def main():
-    if not 2 <= len(sys.argv) <= 4:
+    if not 2 <= len(sys.argv) <= 3:
         sys.exit(__doc__)
     program = os.path.abspath(sys.argv[1])
     count = int(sys.argv[2]) if len(sys.argv) > 2 else 200
@@ -160,10 +178,9 @@ def main():
         plants = [start(program, folder, member, ports) for member in MEMBERS]
         time.sleep(1)
         names = Names([os.path.join(home, 'releases') for home, _ in plants])
-        saves = Saves(folder)
+        saves = StockSaves(folder), BareSaves(folder, count + IN_A_ROW)
         moments = [story(plants, names, saves, number) for number in range(1, count + 1)]
-        row = [saves.time() for _ in range(200)]
-        own = time_of_own_saves(os.path.abspath(sys.argv[3]), folder) if len(sys.argv) > 3 else None
+        rows = [[each.time() for _ in range(IN_A_ROW)] for each in saves]
     finally:
         for _, process in plants:
             process.kill()
@@ -172,16 +189,13 @@ def main():
     waits = [began - laid for laid, began, _, _, _ in moments]
     tapes = [told - began for _, began, told, _, _ in moments]
     galleys = [ended - began for _, began, _, ended, _ in moments]
-    alone = [took for _, _, _, _, took in moments]
-    told = [('taken up after', waits), ('from there to the last tape', tapes), ('to the last galley', galleys), ('the saves alone', alone), ('200 times in a row', row)]
-    if own:
-        told.append(('in a row, by own rows', own))
-    for what, took in told:
+    alone = [list(took) for took in zip(*(took for _, _, _, _, took in moments))]
+    saved = [('the saves by the stock library', alone[0]), ('in a row', rows[0]), ('the saves by bare calls', alone[1]), ('bare, in a row', rows[1])]
+    for what, took in (('taken up after', waits), ('from there to the last tape', tapes), ('to the last galley', galleys), *saved):
         print(f'{what:32} least {1000 * min(took):7.2f} ms, median {1000 * statistics.median(took):7.2f} ms')
-    for what, took in (('the saves alone', alone), ('those in a row', row), ('those by own rows', own or [])):
-        for end, path in (('tape', tapes), ('galley', galleys)):
-            if took:
-                print(f'median to the last {end} over median of {what}: {statistics.median(path) / statistics.median(took):.2f}')
+    for what, took in saved:
+        over = [f'{statistics.median(path) / statistics.median(took):.2f} ({end})' for end, path in (('tape', tapes), ('galley', galleys))]
+        print(f'medians over {what}: {", ".join(over)}')
 
 
 main()

@@ -23,6 +23,12 @@ const OTHER: Named = ("12.tape", b"\x02\x01\x03");
 
 const NEXT: Named = ("13.void", b"");
 
+/// One that is longer than what a file that is made ahead holds.
+const LONG: Named = ("14.tape", &[1; 5000]);
+
+/// What a file that is made ahead holds.
+const PAGE: &[u8] = &[0; 4096];
+
 /// What is prepared, what is then put, in order, what stands among the releases in the end, and how many files stand there besides,
 /// under other names: where no look came before, and where one did, at which two files are made ahead.
 struct Release<'a> {
@@ -79,6 +85,14 @@ const RELEASES_IN_TURN: &[Release] = &[
         put: &[TAPE],
         stands: &[TAPE],
         left: 1,
+        left_after_look: 1,
+    },
+    // One is long.
+    Release {
+        prepared: &[LONG],
+        put: &[LONG],
+        stands: &[LONG],
+        left: 0,
         left_after_look: 1,
     },
     // A file stands in place of the one before it.
@@ -156,21 +170,21 @@ fn is_released(rt: &HostRuntime, release: &Release<'_>, with_look: bool) -> bool
         && count(rt, RELEASES).saturating_sub(release.stands.len()) == left
 }
 
-/// Whether a look of new folders of the host finds nothing in the files that are made ahead, whatever a killed plant left there.
-fn makes_empty_files(rt: &HostRuntime) -> bool {
+/// Whether a look of new folders of the host makes the files ahead, whatever a killed plant left there: a page that says nothing.
+fn makes_files_ahead(rt: &HostRuntime) -> bool {
     let Some(mut folders) = folders_of(rt) else {
         return false;
     };
     folders.names(rt.alloc()).is_ok()
-        && holds(rt, "circuitd_folders/releases/.1.part", b"")
-        && holds(rt, "circuitd_folders/releases/.2.part", b"")
+        && holds(rt, "circuitd_folders/releases/.1.part", PAGE)
+        && holds(rt, "circuitd_folders/releases/.2.part", PAGE)
 }
 
 /// The first of the releases that is not as it has to be; their count where there is none.
 fn first_amiss(rt: &HostRuntime, with_look: bool) -> usize {
     let mut place: usize = 0;
     for release in RELEASES_IN_TURN {
-        if !lay_out(rt) || !is_released(rt, release, with_look) || !makes_empty_files(rt) {
+        if !lay_out(rt) || !is_released(rt, release, with_look) || !makes_files_ahead(rt) {
             return place;
         }
         place = place.saturating_add(1);

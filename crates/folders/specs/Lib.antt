@@ -1,1 +1,5 @@
+pub mod Keeping
+pub mod Offers
+pub mod Pausing
+pub mod Watching
 pub mod Written

@@ -1,14 +1,25 @@
-//! The folders of a plant: what is handed in among the offers, and what is handed out among the releases.
+//! The folders of a plant: what is handed in among the offers, what its names ask for and when it is whole, and what is handed out
+//! among the releases.
 #![tactic(auto)]
 
+mod backlog;
 mod fault;
 mod folders;
 mod memory;
 mod named_file;
+mod names;
 mod none;
+mod pauses;
+mod watch;
+mod wishes;
 
+pub use backlog::write_waiting;
 pub use fault::FolderFault;
 pub use folders::{Folders, Listing, Place, Stamp};
 pub use memory::{MemoryFolders, Moved, Noted};
 pub use named_file::NamedFile;
+pub use names::{Kind, Request, STOP, file_name, has_stop, is_left, named};
 pub use none::NoFolders;
+pub use pauses::{LAST_PAUSE, LOOK, TELL, has_passed};
+pub use watch::{Watched, index_of, is_whole};
+pub use wishes::{Asked, Wish, place_of};

@@ -33,8 +33,8 @@ pub struct HostFolders<'a, R: Files> {
     releases: String,
     /// Whether a file was written among the releases whose name the disk is not known to have.
     has_new_names: bool,
-    /// Empty files that were made ahead, at a look: to make one takes as long as a wait for a fast disk. The first is `.1.part`,
-    /// the second `.2.part`; the last is taken first.
+    /// Files that were made ahead, at a look, and have their room on the disk: to make one and to find room for it takes as long as
+    /// a wait for a fast disk. The first is `.1.part`, the second `.2.part`; the last is taken first.
     spares: Vec<Part<R>>,
     /// The files that are to be written next, in their order. To write all of them before the first wait for the disk takes
     /// less than to write one after the other: the disk then has them together.
@@ -110,7 +110,22 @@ fn make_within<R: Files>(
     name: &str,
 ) -> Result<Part<R>, FolderFault> {
     let path = part_of(alloc, folder, name)?;
-    match Part::make(files, path) {
+    part_or_fault(Part::make(files, path))
+}
+
+/// The same ahead of what it is to hold.
+fn make_ahead_within<R: Files>(
+    alloc: Global,
+    files: &R,
+    folder: &str,
+    name: &str,
+) -> Result<Part<R>, FolderFault> {
+    let path = part_of(alloc, folder, name)?;
+    part_or_fault(Part::make_ahead(files, path))
+}
+
+fn part_or_fault<R: Files>(made: io::Result<Part<R>>) -> Result<Part<R>, FolderFault> {
+    match made {
         Ok(part) => Ok(part),
         Err(error) => Err(fault_of(&error, FolderFault::CannotWrite)),
     }
@@ -141,7 +156,7 @@ impl<'a, R: Files + AllocGlobal + Clone + Drop> HostFolders<'a, R> {
     /// Makes a file ahead, the one of this number.
     fn make_spare(&mut self, alloc: Global, number: usize) -> Result<(), FolderFault> {
         let name = format!(in alloc; "{number}")?;
-        let spare = make_within(alloc, self.files, &self.releases, &name)?;
+        let spare = make_ahead_within(alloc, self.files, &self.releases, &name)?;
         match self.spares.push(spare) {
             Ok(()) => Ok(()),
             Err(_) => Err(FolderFault::OutOfMemory),
@@ -160,7 +175,7 @@ impl<'a, R: Files + AllocGlobal + Clone + Drop> HostFolders<'a, R> {
         }
     }
 
-    /// An empty file for one of this name that is to be written among the releases.
+    /// A file to be filled for one of this name that is to be written among the releases.
     fn take_part(&mut self, alloc: Global, name: &str) -> Result<Part<R>, FolderFault> {
         match self.spares.pop() {
             Some(spare) => Ok(spare),

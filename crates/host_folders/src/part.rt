@@ -1,9 +1,12 @@
 //! Files that are written under another name until they are whole.
 
 use std::fs::{File, OpenFile};
-use std::io::Write;
+use std::io::{Seek, Write};
 use std::rt::Files;
 use std::{fs, io};
+
+/// What a file that is made ahead holds until it is filled: a page of the disk.
+const ROOM: [u8; 4096] = [0; 4096];
 
 /// A file under another name than it is to have.
 #[derive(Drop)]
@@ -19,9 +22,19 @@ impl<R: Files> Part<R> {
         Ok(Part { path, file })
     }
 
-    /// Writes bytes into it, and does not wait for the disk.
+    /// The same, ahead of what it is to hold: it has its room on the disk already, so that whoever fills it waits for less.
+    pub(crate) fn make_ahead(files: &R, path: String) -> io::Result<Part<R>> {
+        let mut part = Part::make(files, path)?;
+        part.file.write_all(&ROOM)?;
+        part.file.sync_all()?;
+        part.file.rewind()?;
+        Ok(part)
+    }
+
+    /// Writes bytes into it, all that it then holds, and does not wait for the disk.
     pub(crate) fn fill(&mut self, bytes: &[u8]) -> io::Result<()> {
-        self.file.write_all(bytes)
+        self.file.write_all(bytes)?;
+        self.file.set_len(bytes.len() as u64)
     }
 
     /// Waits until the disk has what it holds, and gives it its own name.

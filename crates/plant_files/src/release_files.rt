@@ -7,18 +7,11 @@ ghost use Rattle.station.specs.Readiness.{slugs_of};
 ghost use Rattle.plant_files.specs.Filing.{file, galley_text, tape_files, release_files, files_of};
 
 use command_ends::CauseText;
-use folders::NamedFile;
+use folders::{NamedFile, file_name};
 use line_check::{SetFault, Slug, galley};
 use station::Release;
 use std::alloc::{AllocError, Global};
 use tape_frames::{Entry, Tape};
-
-/// The name of a number's file of a kind, which begins with a dot.
-pub(crate) fn file_name(alloc: Global, number: u32, kind: &str) -> Result<String, AllocError>
-    ensures { IfOk result (λ t. string_bytes t ≡ decimal number ++ kind.now) }
-{
-    format!(in alloc; "{number}{kind}")
-}
 
 /// A file of this number and kind.
 fn file(alloc: Global, number: u32, kind: &str, bytes: Vec<u8>) -> Result<NamedFile, AllocError>

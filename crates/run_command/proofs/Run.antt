@@ -18,10 +18,10 @@ use Rattle.serve_command.specs.Serving.{asked, took, coming, sending, going, pas
 use Rattle.serve_command.specs.Driving.{Rests}
 use Rattle.serve_command.proofs.Served.{ends_badly, Passes-nil, Passes-then, takes_then, cause_then, refused_cause}
 use Rattle.plant_files.specs.Asking.{call_of}
-use Rattle.plant_files.specs.declared.wishes.Wish.{Wish}
-use Rattle.plant_files.specs.declared.wishes.Wish.TheVariants.{Offered, Sought}
+use Rattle.folders.specs.declared.wishes.Wish.{Wish}
+use Rattle.folders.specs.declared.wishes.Wish.TheVariants.{Offered, Sought}
 use Rattle.plant_files.specs.Filing.{files_of}
-use Rattle.plant_files.specs.Keeping.{Keeps, KeepsFront}
+use Rattle.folders.specs.Keeping.{Keeps, KeepsFront}
 use Rattle.run_command.specs.Filing.{answer_files, filing}
 use Rattle.run_command.specs.Running.{Plant, plant, Known, Runs}
 

@@ -8,7 +8,7 @@ use Rattle.command_ends.specs.declared.end.End.TheVariants as ends
 use Rattle.command_ends.specs.declared.fault.Fault.{Fault}
 use Rattle.folders.specs.Written.{File}
 use Rattle.serve_command.specs.Serving.{Event, Takes, passing, HasCause, ended}
-use Rattle.plant_files.specs.Keeping.{Keeps, KeepsFront}
+use Rattle.folders.specs.Keeping.{Keeps, KeepsFront}
 use Rattle.run_command.specs.Filing.{filing}
 
 -- a station, its wire, its folders, and the files that wait to be written among the releases

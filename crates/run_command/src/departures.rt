@@ -8,8 +8,7 @@ ghost use Rattle.command_ends.specs.ReleaseText.{plain_line};
 
 use crate::messages::{Event, Reason, tell, tell_folder, tell_refused};
 use command_ends::entry_text;
-use folders::{FolderFault, Folders, Place};
-use plant_files::{Asked, place_of};
+use folders::{Asked, FolderFault, Folders, Place, place_of};
 use std::alloc::{AllocError, Global};
 use std::io::Write;
 use tape_frames::EntryRef;

@@ -1,7 +1,7 @@
 //! A look at the folders: what lies among the offers, what is taken up, and what the station is asked.
 
 ghost use Rattle.std.specs.Prelude.{◌≡◌, []};
-ghost use Rattle.plant_files.specs.Keeping.{Keeps};
+ghost use Rattle.folders.specs.Keeping.{Keeps};
 ghost use Rattle.run_command.specs.Running.{RunsUpTo};
 
 use crate::departures::refuse;
@@ -10,8 +10,10 @@ use crate::offer_book::OfferBook;
 use crate::steps::ask_at;
 use ballots::Number;
 use command_ends::Fault;
-use folders::{FolderFault, Folders, NamedFile, Stamp};
-use plant_files::{Asked, Kind, Request, STOP, Watched, Wish, has_stop, is_left, named};
+use folders::{
+    Asked, FolderFault, Folders, Kind, NamedFile, Request, STOP, Stamp, Watched, Wish, has_stop,
+    is_left, named,
+};
 use saved_rows::Rows;
 use station::Station;
 use std::alloc::Global;

@@ -1,16 +1,16 @@
 //! What a run keeps in mind beside its station: the files among the offers, and what was told.
 
 ghost use Rattle.std.specs.Prelude.{◌≡◌, []};
-ghost use Rattle.plant_files.specs.Keeping.{Keeps};
+ghost use Rattle.folders.specs.Keeping.{Keeps};
 
 use crate::departures::{refuse, settle};
 use crate::messages::{Event, Reason, tell, tell_folder, tell_wrong_circuit};
 use ballots::Number;
-use folders::{Folders, NamedFile, Stamp};
-use node_core::Note;
-use plant_files::{
-    Asked, LAST_PAUSE, LOOK, TELL, Watched, has_passed, index_of, is_whole, write_waiting,
+use folders::{
+    Asked, Folders, LAST_PAUSE, LOOK, NamedFile, Stamp, TELL, Watched, has_passed, index_of,
+    is_whole, write_waiting,
 };
+use node_core::Note;
 use saved_rows::Rows;
 use station::{Answer, Release, Station, StepRefusal};
 use std::alloc::{AllocError, Global};
@@ -385,7 +385,10 @@ impl OfferBook {
 
     /// The file at a place, if the station is to be asked for it now.
     pub(crate) fn due_at(&self, place: usize, now: u64) -> Option<&Asked> {
-        self.asked.get(place).filter(|asked| asked.is_due(now))
+        match self.asked.get(place) {
+            Some(asked) if asked.is_due(now) => Some(asked),
+            _ => None,
+        }
     }
 
     /// The station took up the file at a place.

@@ -5,7 +5,7 @@ ghost use Rattle.command_ends.specs.declared.fault.Fault.TheVariants.{OutOfMemor
 ghost use Rattle.wire.specs.Passing.{Passes};
 ghost use Rattle.serve_command.specs.Serving.{sending};
 ghost use Rattle.plant_files.specs.Filing.{files_of};
-ghost use Rattle.plant_files.specs.Keeping.{Keeps};
+ghost use Rattle.folders.specs.Keeping.{Keeps};
 ghost use Rattle.run_command.specs.Running.{RunsUpTo};
 
 use crate::messages::Reason;

@@ -1,7 +1,7 @@
 -- What waited was written, and the rest is looking.
 use Rattle.std.proofs.Common.{[], subst, sym, Option, List}
 use Rattle.folders.specs.Written.{File}
-use Rattle.plant_files.specs.Keeping.{Keeps}
+use Rattle.folders.specs.Keeping.{Keeps}
 use Rattle.run_command.proofs.look.write_and_look.Goals as goal
 
 pub returns : goal.returns

@@ -1,0 +1,130 @@
+//! What the names of the files among the offers ask for.
+
+ghost use Rattle.std.specs.Prelude.{◌≡◌, ◌≤◌, ◌++◌, ◌↔◌, ℕ, IfOk, IfSome, IfNone, MatchOption, IsTrue, Some, false, codes, decimal, string_bytes};
+ghost use Rattle.std.specs.List.{All, Any};
+ghost use Rattle.protocol.specs.Limits.{last_number};
+ghost use Rattle.folders.specs.Offers.{kind_word, IsNameOf, NamesNoneOf, NamesNone, IsStop, BeginsWithDot, EndsWithPart, IsLeft};
+
+use ballots::Number;
+use std::alloc::{AllocError, Global};
+
+/// The name of the file among the offers that ends a run.
+pub const STOP: &str = "stop";
+
+/// The name of a number's file of a kind, which begins with a dot; where there is no memory for it, `AllocError`.
+pub fn file_name(alloc: Global, number: u32, kind: &str) -> Result<String, AllocError>
+    ensures { IfOk result (λ t. string_bytes t ≡ decimal number ++ kind.now) }
+{
+    format!(in alloc; "{number}{kind}")
+}
+
+/// What a file asks for, by the end of its name.
+#[derive(Clone, Copy, PartialEq, Eq)]
+pub enum Kind {
+    /// Its frames are offered.
+    Tape,
+    /// The number's withdrawal is offered.
+    Withdraw,
+    /// The number's entry is sought.
+    Seek,
+}
+
+/// A number and what is asked for it.
+#[derive(Clone, Copy)]
+pub struct Request {
+    /// The number that the name begins with.
+    pub number: Number,
+    /// What the end of the name asks for it.
+    pub kind: Kind,
+}
+
+/// The end of the names of this kind.
+fn kind_word(kind: Kind) -> &'static str
+    ensures { result.now ≡ kind_word kind }
+{
+    match kind {
+        Kind::Tape => ".tape",
+        Kind::Withdraw => ".withdraw",
+        Kind::Seek => ".seek",
+    }
+}
+
+/// Whether this is the file that ends a run.
+fn is_stop(name: &str) -> bool
+    ensures { IsTrue result ↔ IsStop name.now }
+{
+    name == STOP
+}
+
+/// Whether the file that ends a run is among those of these names.
+pub fn has_stop(names: &[String]) -> bool
+    ensures one { IsTrue result → Any (λ name. IsStop (string_bytes name)) names.now }
+    ensures else_none { result ≡ false → All (λ name. ¬ IsStop (string_bytes name)) names.now }
+{
+    for name in names {
+        if is_stop(name.as_str()) {
+            return true;
+        }
+    }
+    false
+}
+
+/// Whether it begins with a dot.
+fn begins_with_dot(name: &str) -> bool
+    ensures { IsTrue result ↔ BeginsWithDot name.now }
+{
+    name.starts_with('.')
+}
+
+/// Whether it ends with `.part`.
+fn ends_with_part(name: &str) -> bool
+    ensures { IsTrue result ↔ EndsWithPart name.now }
+{
+    name.ends_with(".part")
+}
+
+/// Whether a file of this name is left alone: one that is being handed over, whose name begins with a dot or ends with `.part`, or
+/// the one that ends a run.
+pub fn is_left(name: &str) -> bool
+    ensures { IsTrue result ↔ IsLeft name.now }
+{
+    begins_with_dot(name) || ends_with_part(name) || is_stop(name)
+}
+
+/// The number that a name begins with, where the rest is the end of this kind.
+fn number_before(name: &str, kind: Kind) -> Option<Number>
+    ensures { (n : ℕ) → 1 ≤ n → n ≤ last_number → IsNameOf name.now n kind → result ≡ Some n }
+{
+    let digits = name.strip_suffix(kind_word(kind))?;
+    Number::new(digits.parse::<u32>().ok()?)
+}
+
+/// What a name asks for, if it ends as one of this kind: it has to be the very name of the number's file.
+fn named_as(alloc: Global, name: &str, kind: Kind) -> Result<Option<Request>, AllocError>
+    ensures { IfOk result (λ named. MatchOption named (NamesNoneOf kind name.now) (λ r. IsNameOf name.now r.number r.kind)) }
+{
+    let Some(number) = number_before(name, kind) else {
+        return Ok(None);
+    };
+    let own = file_name(alloc, number.get(), kind_word(kind))?;
+    if own.as_str() == name {
+        Ok(Some(Request { number, kind }))
+    } else {
+        Ok(None)
+    }
+}
+
+/// What the name of a file among the offers asks for; `None` where it asks for nothing that there is. It has to be the very name of the
+/// number's file, `12.tape` and not `012.tape`; where there is no memory to make that one, `AllocError`.
+pub fn named(alloc: Global, name: &str) -> Result<Option<Request>, AllocError>
+    ensures sound { IfOk result (λ named. IfSome named (λ r. IsNameOf name.now r.number r.kind)) }
+    ensures else_none { IfOk result (λ named. IfNone named (NamesNone name.now)) }
+{
+    for kind in [Kind::Tape, Kind::Withdraw, Kind::Seek] {
+        let found = named_as(alloc, name, kind)?;
+        if found.is_some() {
+            return Ok(found);
+        }
+    }
+    Ok(None)
+}

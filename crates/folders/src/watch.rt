@@ -1,0 +1,59 @@
+//! Files that are watched until they stay as they are.
+
+ghost use Rattle.std.specs.Prelude.{◌≤◌, ◌<◌, ◌+◌, ◌↔◌, IsTrue, IfSome, MatchOption, length};
+ghost use Rattle.folders.specs.Watching.{IsUnchanged, IsNamed, NoneIsNamed, IsFirstNamed};
+
+use crate::folders::Stamp;
+use crate::pauses::{STILL, has_passed};
+
+/// A file among the offers that was not taken up yet.
+#[derive(Drop)]
+pub struct Watched {
+    /// Its name.
+    pub name: String,
+    /// As it was found.
+    pub stamp: Stamp,
+    /// Since when it was found so at each look, in milliseconds.
+    pub since: u64,
+}
+
+/// Whether two stamps are one.
+fn is_unchanged(before: Stamp, stamp: Stamp) -> bool
+    ensures { IsTrue result ↔ IsUnchanged before stamp }
+{
+    before.length == stamp.length
+        && before.changed.0 == stamp.changed.0
+        && before.changed.1 == stamp.changed.1
+        && before.touched.0 == stamp.touched.0
+        && before.touched.1 == stamp.touched.1
+}
+
+/// Whether a file that was found so before, since a moment in milliseconds, and is found so now, is taken for whole: it stayed as it is
+/// for a second.
+pub fn is_whole(before: Stamp, since: u64, stamp: Stamp, now: u64) -> bool
+    ensures same { IsTrue result → IsUnchanged before stamp }
+    ensures still { IsTrue result → since + 1000 ≤ now }
+    ensures else_not { IsUnchanged before stamp → since + 1000 ≤ now → IsTrue result }
+{
+    is_unchanged(before, stamp) && has_passed(since, STILL, now)
+}
+
+/// Whether the file has this name.
+fn is_named(file: &Watched, name: &str) -> bool
+    ensures { IsTrue result ↔ IsNamed name.now file.now }
+{
+    file.name.as_str() == name
+}
+
+/// The place of the first file of this name among those that are watched; `None` where there is none.
+pub fn index_of(watched: &[Watched], name: &str) -> Option<usize>
+    ensures within { IfSome result (λ place. place < length watched.now) }
+    ensures first { MatchOption result (NoneIsNamed name.now watched.now) (IsFirstNamed name.now watched.now) }
+{
+    for (place, file) in watched.iter().enumerate() {
+        if is_named(file, name) {
+            return Some(place);
+        }
+    }
+    None
+}
