@@ -2,7 +2,8 @@
 
 ghost use Rattle.std.specs.Prelude.{◌≤◌};
 
-use crate::rows::{Agreed, At, FLOOD, HARVEST, LIGATURE, VOID};
+use crate::rows::Agreed::{Flood, Harvest, Ligature, Void};
+use crate::rows::{Agreed, At};
 use fixtures::Dice;
 
 /// A ballot of one of three rounds and of one of so many members.
@@ -22,9 +23,9 @@ pub fn drawn_member(dice: &mut Dice, members: u8) -> u8
 /// One of three tapes, or a withdrawal.
 pub fn drawn_entry(dice: &mut Dice) -> Agreed {
     match dice.throw(4) {
-        0 => FLOOD,
-        1 => LIGATURE,
-        2 => HARVEST,
-        _ => VOID,
+        0 => Flood,
+        1 => Ligature,
+        2 => Harvest,
+        _ => Void,
     }
 }

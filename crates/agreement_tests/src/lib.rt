@@ -1,4 +1,4 @@
-//! The tests of ballots, of rows in memory, of an acceptor, of a learner and of a proposer: stories that are tables.
+//! The tests of ballots, of rows in memory, of an acceptor, of a learner, of a proposer and of a station's core: stories that are tables.
 #![tactic(auto)]
 
 #[cfg(test)]
@@ -6,16 +6,14 @@ mod accepting;
 #[cfg(test)]
 mod draws;
 #[cfg(test)]
+mod few;
+#[cfg(test)]
 mod hearing;
 #[cfg(test)]
 mod proposing;
 #[cfg(test)]
-mod random_promises;
-#[cfg(test)]
-mod random_requests;
-#[cfg(test)]
-mod random_votes;
-#[cfg(test)]
 mod ranges;
 #[cfg(test)]
 mod rows;
+#[cfg(test)]
+mod turning;

@@ -1,6 +1,7 @@
 //! Members, numbers, ballots, majorities and saved rows.
 
-use crate::rows::{Agreed, At, FLOOD, LONGEST, VOID, ballot, is_entry, owned, parts};
+use crate::rows::Agreed::{Flood, Longest, Void};
+use crate::rows::{Agreed, At, Voted, ballot, is_vote, owned, parts};
 use ballots::{Ballot, Member, Number, Row, Vote, majority};
 use saved_rows::{MemoryRows, Rows};
 use std::alloc::Global;
@@ -81,13 +82,10 @@ fn is_written(alloc: Global, value: At, text: &str) -> bool {
     }
 }
 
-const TEXTS: &[(At, &str)] = &[((2, 1), "2.1"), ((4_294_967_295, 15), "4294967295.15")];
-
 #[test]
 fn texts(rt: HostRuntime) {
-    for (value, text) in TEXTS {
-        assert!(rt; is_written(rt.alloc(), *value, text), "{text}");
-    }
+    assert!(rt; is_written(rt.alloc(), (2, 1), "2.1"));
+    assert!(rt; is_written(rt.alloc(), (4_294_967_295, 15), "4294967295.15"));
 }
 
 const MAJORITIES: &[(u8, u8, bool)] = &[
@@ -117,7 +115,7 @@ fn vote(alloc: Global, agreed: Agreed) -> Option<Vote> {
 
 /// Whether the vote makes no row without a promise.
 fn is_refused(alloc: Global) -> bool {
-    match vote(alloc, FLOOD) {
+    match vote(alloc, Flood) {
         None => false,
         Some(vote) => Row::new(None, Some(vote)).is_none(),
     }
@@ -129,29 +127,22 @@ fn row(alloc: Global, agreed: Agreed) -> Option<Row> {
     row.copy(alloc).ok()
 }
 
-/// Whether that row has this promise, and the vote at this ballot.
-fn holds(alloc: Global, agreed: Agreed, promised: At, voted: At) -> bool {
-    let Some(row) = row(alloc, agreed) else {
-        return false;
-    };
-    let vote_stands = match row.vote() {
+/// Whether that row has this promise and this vote.
+fn holds(alloc: Global, promised: At, voted: Voted) -> bool {
+    match row(alloc, voted.1) {
         None => false,
-        Some(vote) => parts(vote.ballot()) == voted && is_entry(&vote.entry(), agreed),
-    };
-    vote_stands && row.promised().map(parts) == Some(promised)
+        Some(row) => row.promised().map(parts) == Some(promised)
+            && is_vote(row.vote(), Some(voted)),
+    }
 }
 
-const VOTED: &[(&str, Agreed)] = &[
-    ("the flood story", FLOOD),
-    ("the longest tape", LONGEST),
-    ("a withdrawal", VOID),
-];
+const VOTED: &[Agreed] = &[Flood, Longest, Void];
 
 #[test]
 fn saved_rows(rt: HostRuntime) {
     assert!(rt; is_refused(rt.alloc()));
-    for (name, agreed) in VOTED {
-        assert!(rt; holds(rt.alloc(), *agreed, (1, 3), (1, 1)), "{name}");
+    for (place, agreed) in VOTED.iter().enumerate() {
+        assert!(rt; holds(rt.alloc(), (1, 3), ((1, 1), *agreed)), "{place}");
     }
 }
 

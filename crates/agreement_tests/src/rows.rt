@@ -1,45 +1,61 @@
 //! What stands in the rows of the tables.
 
-use ballots::{Ballot, Member};
+ghost use Rattle.std.specs.Prelude.{◌≤◌, IfSome};
+
+use ballots::{Ballot, Member, Vote, VoteRef};
 use std::alloc::Global;
 use tape_frames::{Entry, EntryRef, PackedRef, TapeRef};
 
 /// A ballot: its round and its owner.
 pub type At = (u32, u8);
 
-/// What is agreed on: the frames of a tape, so many of them packed, or that the number is withdrawn.
+/// What is agreed on: a tape, or that the number is withdrawn.
 #[derive(Clone, Copy)]
 pub enum Agreed {
-    Tape(&'static [u8]),
-    Packed(u16, &'static [u8]),
+    /// The flood story.
+    Flood,
+    /// The flood story, packed.
+    Packed,
+    /// The story with the ligature.
+    Ligature,
+    Harvest,
+    /// A tape of one frame.
+    OneFrame,
+    /// The most frames that a tape has.
+    Longest,
+    /// A withdrawal.
     Void,
 }
 
-pub const FLOOD: Agreed = Agreed::Tape(fixtures::FLOOD);
+/// A vote: its ballot and its entry.
+pub type Voted = (At, Agreed);
 
-/// The flood story, packed.
-pub const PACKED: Agreed = Agreed::Packed(7, &[0x04, 0x20, 0xc1, 0x0c, 0x21, 0x00]);
+/// The tape of these frames, lent.
+fn plain(frames: &'static [u8]) -> Option<EntryRef<'static>> {
+    match TapeRef::from_bytes(frames) {
+        Ok(tape) => Some(EntryRef::Plain(tape)),
+        Err(_) => None,
+    }
+}
 
-pub const LIGATURE: Agreed = Agreed::Tape(fixtures::LIGATURE);
-
-pub const HARVEST: Agreed = Agreed::Tape(fixtures::HARVEST);
-
-pub const LONGEST: Agreed = Agreed::Tape(fixtures::LONGEST);
-
-pub const VOID: Agreed = Agreed::Void;
+/// The tape of so many frames in these bytes, lent.
+fn packed(length: u16, bytes: &'static [u8]) -> Option<EntryRef<'static>> {
+    match PackedRef::new(length, bytes) {
+        Some(tape) => Some(EntryRef::Packed(tape)),
+        None => None,
+    }
+}
 
 /// The entry of a row, its frames lent.
 pub fn lent(agreed: Agreed) -> Option<EntryRef<'static>> {
     match agreed {
+        Agreed::Flood => plain(fixtures::FLOOD),
+        Agreed::Packed => packed(7, &[0x04, 0x20, 0xc1, 0x0c, 0x21, 0x00]),
+        Agreed::Ligature => plain(fixtures::LIGATURE),
+        Agreed::Harvest => plain(fixtures::HARVEST),
+        Agreed::OneFrame => plain(&[1]),
+        Agreed::Longest => plain(fixtures::LONGEST),
         Agreed::Void => Some(EntryRef::Void),
-        Agreed::Tape(frames) => match TapeRef::from_bytes(frames) {
-            Ok(tape) => Some(EntryRef::Plain(tape)),
-            Err(_) => None,
-        },
-        Agreed::Packed(length, bytes) => match PackedRef::new(length, bytes) {
-            Some(tape) => Some(EntryRef::Packed(tape)),
-            None => None,
-        },
     }
 }
 
@@ -59,6 +75,22 @@ pub fn is_entry(entry: &EntryRef<'_>, agreed: Agreed) -> bool {
     }
 }
 
+/// The vote of a row, its frames lent.
+pub fn lent_vote(voted: Voted) -> Option<VoteRef<'static>> {
+    Some(VoteRef::new(ballot(voted.0)?, lent(voted.1)?))
+}
+
+/// Whether the vote is that of the row, or there is none.
+pub fn is_vote(vote: Option<&Vote>, voted: Option<Voted>) -> bool {
+    match (vote, voted) {
+        (None, None) => true,
+        (Some(vote), Some((at, agreed))) => {
+            parts(vote.ballot()) == at && is_entry(&vote.entry(), agreed)
+        }
+        _ => false,
+    }
+}
+
 /// The ballot of a row.
 pub fn ballot(at: At) -> Option<Ballot> {
     Ballot::new(at.0, Member::new(at.1)?)
@@ -67,4 +99,15 @@ pub fn ballot(at: At) -> Option<Ballot> {
 /// The round and the owner of a ballot.
 pub fn parts(ballot: Ballot) -> At {
     (ballot.round(), ballot.owner().get())
+}
+
+/// The member of this number, in a circuit of so many.
+pub fn member_of(members: u8, number: u8) -> Option<Member>
+    ensures { IfSome result (λ m. m ≤ members) }
+{
+    let member = Member::new(number)?;
+    if member.get() > members {
+        return None;
+    }
+    Some(member)
 }

@@ -21,9 +21,13 @@ impl Narrow {
         }
     }
 
-    /// Whether it has taken just so many of the first bytes of the text.
-    pub fn has_front(&self, text: &[u8], many: usize) -> bool {
-        self.taken.len() == many && text.starts_with(&self.taken)
+    /// How many bytes it has taken, where these are the first of the text.
+    pub fn front_of(&self, text: &[u8]) -> Option<usize> {
+        if text.starts_with(&self.taken) {
+            Some(self.taken.len())
+        } else {
+            None
+        }
     }
 }
 

@@ -1,27 +1,17 @@
-//! The tests of typesetting: code tables, width files, lines, slugs and galleys, and readers and writers that fail.
+//! The tests of tapes and packets, of typesetting and of drawings, and of readers and writers that fail.
 #![tactic(auto)]
 
 #[cfg(test)]
-mod code_tables;
+mod datagrams;
+#[cfg(test)]
+mod drawings;
 #[cfg(test)]
 mod failing;
 #[cfg(test)]
 mod files;
 #[cfg(test)]
-mod fronts;
-#[cfg(test)]
-mod galleys;
-#[cfg(test)]
 mod inputs;
 #[cfg(test)]
 mod lines;
 #[cfg(test)]
-mod pieces;
-#[cfg(test)]
-mod random_tables;
-#[cfg(test)]
-mod random_widths;
-#[cfg(test)]
-mod slugs;
-#[cfg(test)]
-mod width_files;
+mod tapes;

@@ -1,0 +1,128 @@
+//! Random requests to a core, which keeps a saved row, beside a run of an acceptor over all of them.
+
+use crate::rows::Agreed::{Flood, Ligature, Void};
+use crate::rows::{Agreed, At, ballot, owned, parts};
+use crate::turning::kept_core::{KeptCore, kept_core_of, noted};
+use crate::turning::steps::{Coming, IDLE, NONE, Says, Step, Word};
+use acceptor::{Reply, Request, run};
+use ballots::{Row, Vote};
+use fixtures::Dice;
+use std::alloc::Global;
+
+/// A ballot, and the entry that is to be voted for, or none where a promise is asked for.
+type Asked = (At, Option<Agreed>);
+
+/// A request of member 1 or 3, at one of three rounds.
+fn drawn(dice: &mut Dice) -> Asked {
+    let owner = if dice.throw(2) == 0 { 1 } else { 3 };
+    let agreed = match dice.throw(6) {
+        0 => Some(Flood),
+        1 => Some(Ligature),
+        2 => Some(Void),
+        _ => None,
+    };
+    ((1 + dice.throw(3), owner), agreed)
+}
+
+fn request(alloc: Global, asked: Asked) -> Option<Request> {
+    let ballot = ballot(asked.0)?;
+    Some(match asked.1 {
+        None => Request::Prepare { ballot },
+        Some(agreed) => Request::Accept {
+            ballot,
+            entry: owned(alloc, agreed)?,
+        },
+    })
+}
+
+/// Up to fifteen requests, twice: as they come in packets, and as an acceptor takes them.
+fn drawn_list(alloc: Global, dice: &mut Dice) -> Option<(Vec<Asked>, Vec<Request>)> {
+    let mut list = Vec::new(alloc);
+    let mut requests = Vec::new(alloc);
+    for _ in 0..dice.throw(16) {
+        let asked = drawn(dice);
+        list.push(asked).ok()?;
+        requests.push(request(alloc, asked)?).ok()?;
+    }
+    Some((list, requests))
+}
+
+/// The step at which the request comes to member 2.
+fn step_of(asked: Asked) -> Step {
+    let mut step = IDLE;
+    let says = match asked.1 {
+        None => Says::Prepare,
+        Some(agreed) => Says::Accept(agreed),
+    };
+    step.coming = Coming::Packet(asked.0.1, asked.0, says);
+    step
+}
+
+/// The note of the reply to a request at this ballot.
+fn words_for(reply: &Reply, at: At) -> (Word, At) {
+    match reply {
+        Reply::Promise { .. } => (Word::Promised, at),
+        Reply::Silent => (Word::Silent, NONE),
+        Reply::Nack { promised } => (Word::Nacked, parts(*promised)),
+        Reply::Voted => (Word::Voted, at),
+        Reply::Again => (Word::VotedAgain, at),
+    }
+}
+
+fn are_one_vote(vote: Option<&Vote>, other: Option<&Vote>) -> bool {
+    match (vote, other) {
+        (None, None) => true,
+        (Some(vote), Some(other)) => {
+            vote.ballot() == other.ballot() && vote.entry().same(other.entry())
+        }
+        _ => false,
+    }
+}
+
+/// Whether each turn is noted as the acceptor replies, and the row that is saved at last is the acceptor's.
+fn follows(
+    alloc: Global,
+    kept: &mut KeptCore,
+    list: &[Asked],
+    row: &Row,
+    replies: &[Reply],
+) -> bool {
+    for (asked, reply) in list.iter().zip(replies) {
+        let note = noted(alloc, kept, &step_of(*asked));
+        if note != Some(words_for(reply, asked.0)) {
+            return false;
+        }
+    }
+    kept.row.promised() == row.promised() && are_one_vote(kept.row.vote(), row.vote())
+}
+
+/// Whether the core of member 2 of three does.
+fn is_acceptor(alloc: Global, list: &[Asked], requests: &[Request]) -> bool {
+    match (run(alloc, requests), kept_core_of(alloc, 2, 3)) {
+        (Ok((row, replies)), Some(mut kept)) => { follows(alloc, &mut kept, list, &row, &replies) }
+        _ => false,
+    }
+}
+
+const SEED: u64 = 1990;
+
+const CASES: u32 = 500;
+
+/// How many lists of requests are answered as they have to be, up to the first that isn't.
+fn answered(alloc: Global, dice: &mut Dice) -> u32 {
+    for case in 0..CASES {
+        let Some((list, requests)) = drawn_list(alloc, dice) else {
+            return case;
+        };
+        if !is_acceptor(alloc, &list, &requests) {
+            return case;
+        }
+    }
+    CASES
+}
+
+#[test]
+fn random_requests(rt: HostRuntime) {
+    let cases = answered(rt.alloc(), &mut Dice::new(SEED));
+    assert!(rt; cases == CASES, "seed {SEED}, case {cases}");
+}

@@ -1,0 +1,121 @@
+//! What the turns of the steps have to be.
+
+use crate::rows::{Agreed, At, Voted, is_entry, is_vote, parts};
+use crate::turning::events::packet_of;
+use crate::turning::steps::{Did, NONE, Says, Step, Word};
+use ballots::{Member, Number, Row};
+use node_core::{Note, Outgoing, Turn};
+use packets::{PacketRef, encode};
+use std::alloc::Global;
+use tape_frames::{Entry, Version};
+
+/// The note in the word of the rehearsals, and its ballot.
+pub fn words_of(note: Note) -> (Word, At) {
+    match note {
+        Note::Began { ballot } => (Word::Began, parts(ballot)),
+        Note::Nothing { ballot } => (Word::Nothing, parts(ballot)),
+        Note::Proposed { ballot } => (Word::Proposed, parts(ballot)),
+        Note::Idle => (Word::Idle, NONE),
+        Note::GaveUp { ballot } => (Word::GaveUp, parts(ballot)),
+        Note::Promised { ballot } => (Word::Promised, parts(ballot)),
+        Note::Silent => (Word::Silent, NONE),
+        Note::Nacked { promised } => (Word::Nacked, parts(promised)),
+        Note::VotedAgain { ballot } => (Word::VotedAgain, parts(ballot)),
+        Note::Voted { ballot } => (Word::Voted, parts(ballot)),
+        Note::Stale => (Word::Stale, NONE),
+        Note::Overtaken { ballot } => (Word::Overtaken, parts(ballot)),
+        Note::Repeated => (Word::Repeated, NONE),
+        Note::Counted { ballot } => (Word::Counted, parts(ballot)),
+        Note::Denied { promised } => (Word::Denied, parts(promised)),
+        Note::Settled => (Word::Settled, NONE),
+        Note::Heard { ballot } => (Word::Heard, parts(ballot)),
+    }
+}
+
+/// Whether the note is that of the step.
+fn is_noted(note: Note, did: Did) -> bool {
+    let (word, at) = words_of(note);
+    did == Did::Note(word, at)
+}
+
+/// The packet's spelling in version 2, which has one for each.
+fn spelling(alloc: Global, packet: &PacketRef<'_>) -> Option<Vec<u8>> {
+    if !packet.fits(Version::Two) {
+        return None;
+    }
+    encode(alloc, packet, Version::Two).ok()
+}
+
+/// Whether the two have one spelling, and so are one packet.
+fn are_one(alloc: Global, packet: &PacketRef<'_>, other: &PacketRef<'_>) -> bool {
+    match (spelling(alloc, packet), spelling(alloc, other)) {
+        (Some(bytes), Some(others)) => bytes.as_slice() == others.as_slice(),
+        _ => false,
+    }
+}
+
+/// The packet that has to go out of the step from this member.
+fn going(from: Member, step: &Step, to: u8, says: Says) -> Option<PacketRef<'static>> {
+    packet_of(
+        from,
+        Member::new(to)?,
+        Number::new(step.number)?,
+        step.at,
+        says,
+    )
+}
+
+/// Whether this packet is the one that has to go out.
+fn goes(
+    alloc: Global,
+    packet: Option<PacketRef<'_>>,
+    from: Member,
+    step: &Step,
+    (to, says): (u8, Says),
+) -> bool {
+    match (packet, going(from, step, to, says)) {
+        (Some(packet), Some(other)) => are_one(alloc, &packet, &other),
+        _ => false,
+    }
+}
+
+/// Whether the packets of the step go out from this member.
+fn go_out(alloc: Global, out: &Outgoing<'_>, from: Member, step: &Step) -> bool {
+    for place in 0..step.out.len() {
+        let Some(going) = step.out.get(place) else {
+            return false;
+        };
+        if !goes(alloc, out.get(place), from, step, going) {
+            return false;
+        }
+    }
+    out.len() == step.out.len() && out.get(out.len()).is_none()
+}
+
+/// Whether a row is to be saved with this promise and this vote, or none is.
+fn is_saved(row: &Option<Row>, saves: Option<(At, Option<Voted>)>) -> bool {
+    match (row, saves) {
+        (None, None) => true,
+        (Some(row), Some((promised, voted))) => {
+            row.promised().map(parts) == Some(promised) && is_vote(row.vote(), voted)
+        }
+        _ => false,
+    }
+}
+
+/// Whether this entry is released, or none.
+fn is_released(release: &Option<Entry>, releases: Option<Agreed>) -> bool {
+    match (release, releases) {
+        (None, None) => true,
+        (Some(entry), Some(agreed)) => is_entry(&entry.lend(), agreed),
+        _ => false,
+    }
+}
+
+/// Whether the turn of this member, at the row before it, is that of the step.
+pub fn is_turn_of(alloc: Global, turn: &Turn, before: &Row, me: Member, step: &Step) -> bool {
+    is_noted(turn.note, step.did)
+        && go_out(alloc, &turn.out(before), me, step)
+        && is_saved(&turn.row, step.saves)
+        && is_released(&turn.release, step.releases)
+}

@@ -1,0 +1,186 @@
+//! What `draw` writes, how it ends, and what it tells.
+
+use crate::drawings::documents::{FLOOD_SVG, NAMES_HTML, OVERSET_SVG, UNFINISHED_HTML};
+use crate::failing::Narrow;
+use command_ends::{End, TapePaths};
+use draw_command::draw;
+use fixtures::{CODES, FLOOD, LONGEST, OVERSET, WIDTHS};
+use std::alloc::Global;
+use std::io::Write;
+use tape_drawing::Page;
+
+const PATHS: TapePaths<'static> = TapePaths {
+    table: "codes.toml",
+    widths: "widths.toml",
+    tape: "story.tape",
+};
+
+/// The end of `draw` over these files, where this is what it tells.
+fn end_of<W: Write>(
+    alloc: Global,
+    files: (&str, &str),
+    mut tape: &[u8],
+    page: Page,
+    out: &mut W,
+    err: &str,
+) -> Option<End> {
+    let (mut table, mut widths) = (files.0.as_bytes(), files.1.as_bytes());
+    let mut told = Vec::new(alloc);
+    let end = draw(
+        alloc,
+        &PATHS,
+        &mut table,
+        &mut widths,
+        &mut tape,
+        page,
+        out,
+        &mut told,
+    );
+    if told.as_slice() == err.as_bytes() {
+        Some(end)
+    } else {
+        None
+    }
+}
+
+/// Whether `draw` of these files ends so, writes this document and tells this.
+fn draws(
+    alloc: Global,
+    files: (&str, &str),
+    tape: &[u8],
+    page: Page,
+    end: End,
+    document: &str,
+    err: &str,
+) -> bool {
+    let mut out = Vec::new(alloc);
+    let ended = end_of(alloc, files, tape, page, &mut out, err);
+    ended == Some(end) && out.as_slice() == document.as_bytes()
+}
+
+#[test]
+fn a_story_that_sets(rt: HostRuntime) {
+    let files = (CODES, WIDTHS);
+    assert!(rt;
+        draws(
+            rt.alloc(),
+            files,
+            FLOOD,
+            Page::Svg,
+            End::Done,
+            FLOOD_SVG,
+            ""
+        )
+    );
+}
+
+#[test]
+fn a_story_that_is_overset(rt: HostRuntime) {
+    let files = (CODES, WIDTHS);
+    let err = "fault: overset 1 at 7 line 1\n";
+    assert!(rt;
+        draws(
+            rt.alloc(),
+            files,
+            OVERSET,
+            Page::Svg,
+            End::Input,
+            OVERSET_SVG,
+            err
+        )
+    );
+}
+
+#[test]
+fn a_story_that_is_never_cut(rt: HostRuntime) {
+    let files = (CODES, WIDTHS);
+    let err = "fault: unfinished at 1 line 1\n";
+    assert!(rt;
+        draws(
+            rt.alloc(),
+            files,
+            &[1],
+            Page::Html,
+            End::Input,
+            UNFINISHED_HTML,
+            err
+        )
+    );
+}
+
+/// Whether the example's matrix `a`, under a name that is markup, is drawn as this page.
+fn names_are_escaped(alloc: Global, document: &str) -> Option<bool> {
+    let table = CODES.replace(alloc, "\"a\"", "\"<&>\\\"'\"").ok()?;
+    let widths = WIDTHS.replace(alloc, "\na = ", "\n\"<&>\\\"'\" = ").ok()?;
+    let tape = &[8, 1, 9, 10, 1, 7, 4];
+    let files = (table.as_str(), widths.as_str());
+    Some(draws(alloc, files, tape, Page::Html, End::Done, document, ""))
+}
+
+#[test]
+fn names_that_are_markup(rt: HostRuntime) {
+    assert!(rt; names_are_escaped(rt.alloc(), NAMES_HTML) == Some(true));
+}
+
+const FAULTS: &[(&str, &str, &[u8], &str)] = &[
+    ("code", "", &[], "table: not toml\n"),
+    (CODES, "measure = 0", &[], "widths: out of range measure\n"),
+    (CODES, WIDTHS, &[], "tape: empty\n"),
+    (CODES, WIDTHS, &[1, 64], "tape: bad frame at 1\n"),
+];
+
+#[test]
+fn faulty_files(rt: HostRuntime) {
+    for (table, widths, tape, err) in FAULTS {
+        assert!(rt;
+            draws(
+                rt.alloc(),
+                (table, widths),
+                tape,
+                Page::Svg,
+                End::Input,
+                "",
+                err
+            ),
+            "{err}"
+        );
+    }
+}
+
+/// The longest tape, with all its holes: how many bytes its drawing has.
+fn longest(alloc: Global) -> usize {
+    let mut out = Vec::new(alloc);
+    let end = end_of(alloc, (CODES, WIDTHS), LONGEST, Page::Svg, &mut out, "");
+    if end == Some(End::Done) { out.len() } else { 0 }
+}
+
+#[test]
+fn the_longest_tape(rt: HostRuntime) {
+    let bytes = longest(rt.alloc());
+    assert!(rt; 4_000_000 < bytes && bytes < 8_000_000, "{bytes}");
+}
+
+/// How many of the first bytes of the drawing a writer with this room has, where the command ends by that.
+fn front(alloc: Global, room: usize) -> Option<usize> {
+    let mut out = Narrow::new(alloc, usize::MAX, room);
+    let end = end_of(
+        alloc,
+        (CODES, WIDTHS),
+        FLOOD,
+        Page::Svg,
+        &mut out,
+        "cannot write\n",
+    );
+    if end == Some(End::Input) {
+        out.front_of(FLOOD_SVG.as_bytes())
+    } else {
+        None
+    }
+}
+
+#[test]
+fn a_writer_that_fails(rt: HostRuntime) {
+    for room in &[0, 1, 700, 2000] {
+        assert!(rt; front(rt.alloc(), *room) == Some(*room), "{room}");
+    }
+}
