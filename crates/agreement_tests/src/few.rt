@@ -1,7 +1,8 @@
 //! Some values of a row.
 
+use std::alloc::AllocError;
+
 /// Up to four values, in order. A slice would be a reference in its table, which costs the prover more than all that it holds.
-#[derive(Clone, Copy)]
 pub enum Few<T> {
     Nothing,
     One(T),
@@ -9,6 +10,14 @@ pub enum Few<T> {
     Three(T, T, T),
     Four(T, T, T, T),
 }
+
+impl<T: Copy> Clone for Few<T> {
+    fn clone(&self) -> Result<Few<T>, AllocError> {
+        Ok(*self)
+    }
+}
+
+impl<T: Copy> Copy for Few<T> {}
 
 impl<T: Copy> Few<T> {
     /// How many values these are.

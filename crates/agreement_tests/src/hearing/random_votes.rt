@@ -59,7 +59,35 @@ fn ripe(votes: &[Vote], members: u8) -> Option<At> {
     None
 }
 
-/// Up to thirty votes in a circuit of so many, and after each the entry that stands at its ballot and at another.
+/// A vote in a circuit of so many.
+fn drawn_vote(dice: &mut Dice, members: u8) -> Vote
+    requires { 1 ≤ members }
+{
+    let (from, voted) = (drawn_member(dice, members), drawn_at(dice, 2));
+    (from, voted, drawn_entry(dice))
+}
+
+/// One more vote in a circuit of so many, and after it the entry that stands at its ballot and at another.
+fn take_vote(
+    dice: &mut Dice,
+    members: u8,
+    votes: &mut Vec<Vote>,
+    steps: &mut Vec<Step>,
+) -> Option<()>
+    requires { 1 ≤ members }
+{
+    let (from, voted, agreed) = drawn_vote(dice, members);
+    let other = drawn_at(dice, 2);
+    votes.push((from, voted, agreed)).ok()?;
+    let chosen = ripe(votes, members);
+    steps.push(Step::Hear(from, voted, agreed, chosen)).ok()?;
+    let own = least_at(votes, members, voted);
+    steps.push(Step::Entry(voted, own)).ok()?;
+    let stands = least_at(votes, members, other);
+    steps.push(Step::Entry(other, stands)).ok()
+}
+
+/// Up to thirty of them.
 fn drawn(alloc: Global, dice: &mut Dice, members: u8) -> Option<Vec<Step>>
     requires { 1 ≤ members }
 {
@@ -67,15 +95,7 @@ fn drawn(alloc: Global, dice: &mut Dice, members: u8) -> Option<Vec<Step>>
     let mut steps = Vec::new(alloc);
     steps.push(Step::In(members)).ok()?;
     for _ in 0..dice.throw(31) {
-        let (from, voted) = (drawn_member(dice, members), drawn_at(dice, 2));
-        let (agreed, other) = (drawn_entry(dice), drawn_at(dice, 2));
-        votes.push((from, voted, agreed)).ok()?;
-        let chosen = ripe(&votes, members);
-        steps.push(Step::Hear(from, voted, agreed, chosen)).ok()?;
-        let own = least_at(&votes, members, voted);
-        steps.push(Step::Entry(voted, own)).ok()?;
-        let stands = least_at(&votes, members, other);
-        steps.push(Step::Entry(other, stands)).ok()?;
+        take_vote(dice, members, &mut votes, &mut steps)?;
     }
     Some(steps)
 }

@@ -153,16 +153,14 @@ const STEPS: &[Step] = &[
     Step::Hear(2, (2, 1), Flood, None),
     Step::Entry((1, 1), Some(Ligature)),
     Step::Entry((2, 1), Some(Flood)),
-    // the third member never votes: it hears of the two that do
-    // the first is told again and again
+    // the first is told again and again; the third never votes, and hears of the two that do
     Step::In(3),
     Step::Hear(1, (1, 1), Flood, None),
     Step::Hear(1, (1, 1), Flood, None),
     Step::Hear(1, (1, 1), Flood, None),
     Step::Hear(2, (1, 1), Flood, Some((1, 1))),
     Step::Entry((1, 1), Some(Flood)),
-    // the second voted for the flood story at 1.1, and again at the third member's ballot
-    // what was voted for is proposed again
+    // what was voted for is proposed again: the second voted for the flood story at 1.1, and again at the third's ballot
     Step::In(3),
     Step::Hear(2, (1, 1), Flood, None),
     Step::Hear(3, (1, 3), Flood, None),
@@ -190,8 +188,7 @@ const STEPS: &[Step] = &[
     Step::Entry((1, 3), Some(Flood)),
     Step::Hear(3, (1, 3), Flood, Some((1, 3))),
     Step::Entry((1, 1), Some(Void)),
-    // what is given up is the least member's, and a number is heard of anew after it
-    // what is given up is forgotten
+    // what is given up is forgotten: it is the least member's, and a number is heard of anew after it
     Step::In(3),
     Step::Release((1, 1), None),
     Step::Hear(3, (1, 1), Ligature, None),

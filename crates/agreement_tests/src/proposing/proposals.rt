@@ -1,5 +1,6 @@
 //! Proposals, from their first ballot on.
 
+ghost use Rattle.std.specs.Bool.{OnTrue};
 ghost use Rattle.std.specs.Prelude.{◌≡◌, ◌≤◌, IfSome};
 
 use crate::rows::Agreed::{Flood, Ligature, Longest, OneFrame, Packed, Void};
@@ -205,24 +206,44 @@ fn begun(alloc: Global, start: Start) -> Option<Proposal>
     Proposal::begin(alloc, seen, me, members, own, None, start.begun_at).ok()
 }
 
-/// How many steps come to what they have to, up to the first that doesn't.
-pub fn taken(alloc: Global, steps: &[Step]) -> usize {
-    let mut members = FIRST.members;
-    let Some(mut proposal) = begun(alloc, FIRST) else {
-        return 0;
-    };
+/// Whether a proposal is begun so, in place of the one before.
+fn starts(alloc: Global, proposal: &mut Proposal, start: Start) -> bool
+    ensures { OnTrue result (proposal.new.members ≡ start.members) }
+{
+    match begun(alloc, start) {
+        Some(other) => {
+            *proposal = other;
+            true
+        }
+        None => false,
+    }
+}
+
+/// How many steps come to what they have to, up to the first that doesn't, where so many members are in the circuit of
+/// the proposal that stands before them.
+fn taken_by(alloc: Global, proposal: &mut Proposal, first: u8, steps: &[Step]) -> usize
+    requires { proposal.old.members ≡ first }
+{
+    let mut members = first;
     for (place, step) in steps.iter().enumerate() {
         if let Step::Start(start) = *step {
-            let Some(other) = begun(alloc, start) else {
+            if !starts(alloc, proposal, start) {
                 return place;
-            };
-            proposal = other;
+            }
             members = start.members;
-        } else if !takes(&mut proposal, members, *step) {
+        } else if !takes(proposal, members, *step) {
             return place;
         }
     }
     steps.len()
+}
+
+/// The same of steps that begin with a start.
+pub fn taken(alloc: Global, steps: &[Step]) -> usize {
+    match begun(alloc, FIRST) {
+        Some(mut proposal) => taken_by(alloc, &mut proposal, FIRST.members, steps),
+        None => 0,
+    }
 }
 
 /// Stories of proposals, one behind another.

@@ -97,10 +97,18 @@ fn follows(
 }
 
 /// Whether the core of member 2 of three does.
+fn core_follows(alloc: Global, list: &[Asked], row: &Row, replies: &[Reply]) -> bool {
+    match kept_core_of(alloc, 2, 3) {
+        Some(mut kept) => follows(alloc, &mut kept, list, row, replies),
+        None => false,
+    }
+}
+
+/// Whether it does where an acceptor replies to the requests.
 fn is_acceptor(alloc: Global, list: &[Asked], requests: &[Request]) -> bool {
-    match (run(alloc, requests), kept_core_of(alloc, 2, 3)) {
-        (Ok((row, replies)), Some(mut kept)) => { follows(alloc, &mut kept, list, &row, &replies) }
-        _ => false,
+    match run(alloc, requests) {
+        Ok((row, replies)) => core_follows(alloc, list, &row, &replies),
+        Err(_) => false,
     }
 }
 

@@ -1,6 +1,6 @@
 //! Datagrams that were changed on their way. What a plain reading of the fields, one after another, says of each.
 
-use crate::datagrams::samples::{ALL, ALL_TWO, changed, fault_of};
+use crate::datagrams::samples::{ALL, ALL_TWO, bytes_of, changed, fault_of};
 use crate::datagrams::spellings::is_one;
 use fixtures::Dice;
 use packets::PacketFault;
@@ -228,11 +228,11 @@ fn change(dice: &mut Dice, len: usize) -> (usize, u8) {
 
 /// One of the packets of either version.
 fn packet(dice: &mut Dice) -> Option<&'static [u8]> {
-    let packet = match dice.throw(2) {
+    let sample = match dice.throw(2) {
         0 => ALL.get(dice.throw(7) as usize)?,
         _ => ALL_TWO.get(dice.throw(9) as usize)?,
     };
-    Some(*packet)
+    Some(bytes_of(*sample))
 }
 
 /// One of the packets with up to three bytes changed, and now and then with one more behind it or with a few left out.

@@ -7,31 +7,31 @@ use std::alloc::Global;
 use tape_frames::{EntryRef, Version};
 
 /// 1 asks 2 for a promise at 1.1.
-pub const PREPARE: &[u8] = &[0x54, 0x4e, 1, 1, 0, 7, 1, 2, 0, 0, 0, 12, 0, 0, 0, 1, 1];
+const PREPARE: &[u8] = &[0x54, 0x4e, 1, 1, 0, 7, 1, 2, 0, 0, 0, 12, 0, 0, 0, 1, 1];
 
 /// 2 promises it, and has no vote to report.
-pub const PROMISE: &[u8] = &[0x54, 0x4e, 1, 2, 0, 7, 2, 1, 0, 0, 0, 12, 0, 0, 0, 1, 1, 0];
+const PROMISE: &[u8] = &[0x54, 0x4e, 1, 2, 0, 7, 2, 1, 0, 0, 0, 12, 0, 0, 0, 1, 1, 0];
 
 /// 1 asks 2 to vote for the tape 1 2 4 at 1.1.
-pub const ACCEPT: &[u8] = &[
+const ACCEPT: &[u8] = &[
     0x54, 0x4e, 1, 3, 0, 7, 1, 2, 0, 0, 0, 12, 0, 0, 0, 1, 1, 0, 3, 1, 2, 4,
 ];
 
 /// 2 tells 1 of that vote.
-pub const ACCEPTED: &[u8] = &[
+const ACCEPTED: &[u8] = &[
     0x54, 0x4e, 1, 4, 0, 7, 2, 1, 0, 0, 0, 12, 0, 0, 0, 1, 1, 0, 3, 1, 2, 4,
 ];
 
 /// 3 asks 2 for a promise at 1.3.
-pub const PREPARE_OF_3: &[u8] = &[0x54, 0x4e, 1, 1, 0, 7, 3, 2, 0, 0, 0, 12, 0, 0, 0, 1, 3];
+const PREPARE_OF_3: &[u8] = &[0x54, 0x4e, 1, 1, 0, 7, 3, 2, 0, 0, 0, 12, 0, 0, 0, 1, 3];
 
 /// 2 promises it, and reports the vote at 1.1.
-pub const REPORT: &[u8] = &[
+const REPORT: &[u8] = &[
     0x54, 0x4e, 1, 2, 0, 7, 2, 3, 0, 0, 0, 12, 0, 0, 0, 1, 3, 1, 0, 0, 0, 1, 1, 0, 3, 1, 2, 4,
 ];
 
 /// The front of it as far as its tape, and the first byte of the length.
-pub const SHORT_REPORT: &[u8] = &[
+const SHORT_REPORT: &[u8] = &[
     0x54, 0x4e, 1, 2, 0, 7, 2, 3, 0, 0, 0, 12, 0, 0, 0, 1, 3, 1, 0, 0, 0, 1, 1, 0,
 ];
 
@@ -50,67 +50,128 @@ pub const LONG_ACCEPTED: &[u8] = &[
 ];
 
 /// 2 tells 1 that it has promised 1.3.
-pub const NACK: &[u8] = &[
+const NACK: &[u8] = &[
     0x54, 0x4e, 1, 5, 0, 7, 2, 1, 0, 0, 0, 12, 0, 0, 0, 1, 1, 0, 0, 0, 1, 3,
 ];
 
-/// All of version 1.
-pub const ALL: &[&[u8]] = &[
-    PREPARE,
-    PROMISE,
-    ACCEPT,
-    ACCEPTED,
-    PREPARE_OF_3,
-    REPORT,
-    NACK,
-];
-
 /// The same in version 2. The frames 1 2 4 are packed to 04 21 00, six bits each and six zero bits behind them.
-pub const PREPARE_TWO: &[u8] = &[0x54, 0x4e, 2, 1, 0, 7, 1, 2, 0, 0, 0, 12, 0, 0, 0, 1, 1];
+const PREPARE_TWO: &[u8] = &[0x54, 0x4e, 2, 1, 0, 7, 1, 2, 0, 0, 0, 12, 0, 0, 0, 1, 1];
 
-pub const PROMISE_TWO: &[u8] = &[0x54, 0x4e, 2, 2, 0, 7, 2, 1, 0, 0, 0, 12, 0, 0, 0, 1, 1, 0];
+const PROMISE_TWO: &[u8] = &[0x54, 0x4e, 2, 2, 0, 7, 2, 1, 0, 0, 0, 12, 0, 0, 0, 1, 1, 0];
 
-pub const ACCEPT_TWO: &[u8] = &[
+const ACCEPT_TWO: &[u8] = &[
     0x54, 0x4e, 2, 3, 0, 7, 1, 2, 0, 0, 0, 12, 0, 0, 0, 1, 1, 0, 3, 0x04, 0x21, 0x00,
 ];
 
-pub const ACCEPTED_TWO: &[u8] = &[
+const ACCEPTED_TWO: &[u8] = &[
     0x54, 0x4e, 2, 4, 0, 7, 2, 1, 0, 0, 0, 12, 0, 0, 0, 1, 1, 0, 3, 0x04, 0x21, 0x00,
 ];
 
-pub const REPORT_TWO: &[u8] = &[
+const REPORT_TWO: &[u8] = &[
     0x54, 0x4e, 2, 2, 0, 7, 2, 3, 0, 0, 0, 12, 0, 0, 0, 1, 3, 1, 0, 0, 0, 1, 1, 0, 3, 0x04, 0x21,
     0x00,
 ];
 
-pub const NACK_TWO: &[u8] = &[
+const NACK_TWO: &[u8] = &[
     0x54, 0x4e, 2, 5, 0, 7, 2, 1, 0, 0, 0, 12, 0, 0, 0, 1, 1, 0, 0, 0, 1, 3,
 ];
 
 /// 1 asks 2 to vote for a withdrawal at 1.1, 2 tells 1 of that vote, and reports it to 3 at 1.3.
-pub const ACCEPT_VOID: &[u8] = &[
+const ACCEPT_VOID: &[u8] = &[
     0x54, 0x4e, 2, 3, 0, 7, 1, 2, 0, 0, 0, 12, 0, 0, 0, 1, 1, 0, 0,
 ];
 
-pub const ACCEPTED_VOID: &[u8] = &[
+const ACCEPTED_VOID: &[u8] = &[
     0x54, 0x4e, 2, 4, 0, 7, 2, 1, 0, 0, 0, 12, 0, 0, 0, 1, 1, 0, 0,
 ];
 
-pub const REPORT_VOID: &[u8] = &[
+const REPORT_VOID: &[u8] = &[
     0x54, 0x4e, 2, 2, 0, 7, 2, 3, 0, 0, 0, 12, 0, 0, 0, 1, 3, 1, 0, 0, 0, 1, 1, 0, 0,
 ];
 
+/// 1 asks 2 to vote for the flood story at 1.1: its seven frames take six bytes.
+const FLOOD_ASKED: &[u8] = &[
+    0x54, 0x4e, 2, 3, 0, 7, 1, 2, 0, 0, 0, 12, 0, 0, 0, 1, 1, 0, 7, 0x04, 0x20, 0xc1, 0x0c, 0x21,
+    0x00,
+];
+
+/// 2 tells 1 of that vote.
+const FLOOD_TOLD: &[u8] = &[
+    0x54, 0x4e, 2, 4, 0, 7, 2, 1, 0, 0, 0, 12, 0, 0, 0, 1, 1, 0, 7, 0x04, 0x20, 0xc1, 0x0c, 0x21,
+    0x00,
+];
+
+/// The packets above, by their names.
+#[derive(Clone, Copy)]
+pub enum Sample {
+    Prepare,
+    Promise,
+    Accept,
+    Accepted,
+    PrepareOf3,
+    Report,
+    ShortReport,
+    Nack,
+    PrepareTwo,
+    PromiseTwo,
+    AcceptTwo,
+    AcceptedTwo,
+    ReportTwo,
+    NackTwo,
+    AcceptVoid,
+    AcceptedVoid,
+    ReportVoid,
+    FloodAsked,
+    FloodTold,
+}
+
+/// Its bytes.
+pub fn bytes_of(sample: Sample) -> &'static [u8] {
+    match sample {
+        Sample::Prepare => PREPARE,
+        Sample::Promise => PROMISE,
+        Sample::Accept => ACCEPT,
+        Sample::Accepted => ACCEPTED,
+        Sample::PrepareOf3 => PREPARE_OF_3,
+        Sample::Report => REPORT,
+        Sample::ShortReport => SHORT_REPORT,
+        Sample::Nack => NACK,
+        Sample::PrepareTwo => PREPARE_TWO,
+        Sample::PromiseTwo => PROMISE_TWO,
+        Sample::AcceptTwo => ACCEPT_TWO,
+        Sample::AcceptedTwo => ACCEPTED_TWO,
+        Sample::ReportTwo => REPORT_TWO,
+        Sample::NackTwo => NACK_TWO,
+        Sample::AcceptVoid => ACCEPT_VOID,
+        Sample::AcceptedVoid => ACCEPTED_VOID,
+        Sample::ReportVoid => REPORT_VOID,
+        Sample::FloodAsked => FLOOD_ASKED,
+        Sample::FloodTold => FLOOD_TOLD,
+    }
+}
+
+/// All of version 1.
+pub const ALL: &[Sample] = &[
+    Sample::Prepare,
+    Sample::Promise,
+    Sample::Accept,
+    Sample::Accepted,
+    Sample::PrepareOf3,
+    Sample::Report,
+    Sample::Nack,
+];
+
 /// All of version 2.
-pub const ALL_TWO: &[&[u8]] = &[
-    PREPARE_TWO,
-    PROMISE_TWO,
-    ACCEPT_TWO,
-    ACCEPTED_TWO,
-    REPORT_TWO,
-    NACK_TWO,
-    ACCEPT_VOID,
-    ACCEPTED_VOID,
-    REPORT_VOID,
+pub const ALL_TWO: &[Sample] = &[
+    Sample::PrepareTwo,
+    Sample::PromiseTwo,
+    Sample::AcceptTwo,
+    Sample::AcceptedTwo,
+    Sample::ReportTwo,
+    Sample::NackTwo,
+    Sample::AcceptVoid,
+    Sample::AcceptedVoid,
+    Sample::ReportVoid,
 ];
 
 /// The frames of a tape; `None` where the number is withdrawn.
@@ -160,11 +221,15 @@ pub fn fault_of(version: Version, bytes: &[u8]) -> Option<PacketFault> {
     decode(bytes, version).err()
 }
 
+fn set(bytes: &mut Vec<u8>, (at, value): (usize, u8)) {
+    if let Some(byte) = bytes.get_mut(at) {
+        *byte = value;
+    }
+}
+
 fn change(bytes: &mut Vec<u8>, changes: &[(usize, u8)]) {
-    for (at, value) in changes {
-        if let Some(byte) = bytes.get_mut(*at) {
-            *byte = *value;
-        }
+    for place in changes {
+        set(bytes, *place);
     }
 }
 
@@ -183,16 +248,51 @@ pub fn changed(
     }
 }
 
-/// Whether the bytes, changed so and with these behind them, have this fault first.
+/// What is changed of a packet: places, and what stands there instead.
+#[derive(Clone, Copy)]
+pub enum Changes {
+    Nothing,
+    One(usize, u8),
+    Two((usize, u8), (usize, u8)),
+    Three((usize, u8), (usize, u8), (usize, u8)),
+}
+
+fn apply(bytes: &mut Vec<u8>, changes: Changes) {
+    match changes {
+        Changes::Nothing => {}
+        Changes::One(at, value) => set(bytes, (at, value)),
+        Changes::Two(first, second) => {
+            set(bytes, first);
+            set(bytes, second);
+        }
+        Changes::Three(first, second, third) => {
+            set(bytes, first);
+            set(bytes, second);
+            set(bytes, third);
+        }
+    }
+}
+
+/// The bytes, changed so, and with a 0 behind them if they are to be longer.
+fn garbled(alloc: Global, bytes: &[u8], changes: Changes, longer: bool) -> Option<Vec<u8>> {
+    let mut copy = Vec::from_slice(alloc, bytes).ok()?;
+    apply(&mut copy, changes);
+    if longer {
+        copy.push(0).ok()?;
+    }
+    Some(copy)
+}
+
+/// Whether the bytes, changed so, and with a 0 behind them if they are to be longer, have this fault first.
 pub fn fails(
     alloc: Global,
     version: Version,
     bytes: &[u8],
-    changes: &[(usize, u8)],
-    more: &[u8],
+    changes: Changes,
+    longer: bool,
     fault: Option<PacketFault>,
 ) -> bool {
-    match changed(alloc, bytes, changes, more) {
+    match garbled(alloc, bytes, changes, longer) {
         Some(other) => fault_of(version, &other) == fault,
         None => false,
     }

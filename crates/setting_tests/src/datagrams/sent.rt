@@ -2,6 +2,7 @@
 
 use crate::datagrams::samples::changed;
 use crate::datagrams::spellings::wrong;
+use Said::{Asks, NoReport, Report, Story};
 use std::alloc::Global;
 use tape_frames::Version;
 
@@ -10,49 +11,67 @@ use tape_frames::Version;
 #[derive(Clone, Copy)]
 struct Sent(u8, u8, u8, u8, Said);
 
-/// What it says: in version 1, in version 2, and in version 2 where a withdrawal is agreed on in place of the flood story.
+/// What it says: a Prepare nothing, a Promise that there is no vote to report, or the vote for the flood story at 1.1, an
+/// Accept and an Accepted the flood story.
 #[derive(Clone, Copy)]
-struct Said(&'static [u8], &'static [u8], &'static [u8]);
+enum Said {
+    Asks,
+    NoReport,
+    Report,
+    Story,
+}
 
-/// A Prepare says nothing; a Promise that there is no vote to report, or the vote for the flood story at 1.1.
-const ASKS: Said = Said(&[], &[], &[]);
+/// How version 1 spells it.
+fn in_one(said: Said) -> &'static [u8] {
+    match said {
+        Asks => &[],
+        NoReport => &[0],
+        Report => &[1, 0, 0, 0, 1, 1, 0, 7, 1, 2, 3, 1, 3, 2, 4],
+        Story => &[0, 7, 1, 2, 3, 1, 3, 2, 4],
+    }
+}
 
-const NO_REPORT: Said = Said(&[0], &[0], &[0]);
+/// How version 2 does.
+fn in_two(said: Said) -> &'static [u8] {
+    match said {
+        Asks => &[],
+        NoReport => &[0],
+        Report => &[1, 0, 0, 0, 1, 1, 0, 7, 0x04, 0x20, 0xc1, 0x0c, 0x21, 0x00],
+        Story => &[0, 7, 0x04, 0x20, 0xc1, 0x0c, 0x21, 0x00],
+    }
+}
 
-const REPORT: Said = Said(
-    &[1, 0, 0, 0, 1, 1, 0, 7, 1, 2, 3, 1, 3, 2, 4],
-    &[1, 0, 0, 0, 1, 1, 0, 7, 0x04, 0x20, 0xc1, 0x0c, 0x21, 0x00],
-    &[1, 0, 0, 0, 1, 1, 0, 0],
-);
-
-/// An Accept and an Accepted say the flood story.
-const STORY: Said = Said(
-    &[0, 7, 1, 2, 3, 1, 3, 2, 4],
-    &[0, 7, 0x04, 0x20, 0xc1, 0x0c, 0x21, 0x00],
-    &[0, 0],
-);
+/// How version 2 does where a withdrawal is agreed on in place of the flood story.
+fn in_two_of_void(said: Said) -> &'static [u8] {
+    match said {
+        Asks => &[],
+        NoReport => &[0],
+        Report => &[1, 0, 0, 0, 1, 1, 0, 0],
+        Story => &[0, 0],
+    }
+}
 
 /// Member 1 asks for promises at 1.1, and proposes when 2 has promised; 1 and 2 tell of their votes. Member 3 asks for
 /// promises at 1.3, and proposes when 2 has reported its vote; 3 and 2 tell of theirs.
 const ALL_SENT: &[Sent] = &[
-    Sent(1, 1, 2, 1, ASKS),
-    Sent(1, 1, 3, 1, ASKS),
-    Sent(2, 2, 1, 1, NO_REPORT),
-    Sent(3, 1, 2, 1, STORY),
-    Sent(3, 1, 3, 1, STORY),
-    Sent(4, 1, 2, 1, STORY),
-    Sent(4, 1, 3, 1, STORY),
-    Sent(4, 2, 1, 1, STORY),
-    Sent(4, 2, 3, 1, STORY),
-    Sent(1, 3, 1, 3, ASKS),
-    Sent(1, 3, 2, 3, ASKS),
-    Sent(2, 2, 3, 3, REPORT),
-    Sent(3, 3, 1, 3, STORY),
-    Sent(3, 3, 2, 3, STORY),
-    Sent(4, 3, 1, 3, STORY),
-    Sent(4, 3, 2, 3, STORY),
-    Sent(4, 2, 1, 3, STORY),
-    Sent(4, 2, 3, 3, STORY),
+    Sent(1, 1, 2, 1, Asks),
+    Sent(1, 1, 3, 1, Asks),
+    Sent(2, 2, 1, 1, NoReport),
+    Sent(3, 1, 2, 1, Story),
+    Sent(3, 1, 3, 1, Story),
+    Sent(4, 1, 2, 1, Story),
+    Sent(4, 1, 3, 1, Story),
+    Sent(4, 2, 1, 1, Story),
+    Sent(4, 2, 3, 1, Story),
+    Sent(1, 3, 1, 3, Asks),
+    Sent(1, 3, 2, 3, Asks),
+    Sent(2, 2, 3, 3, Report),
+    Sent(3, 3, 1, 3, Story),
+    Sent(3, 3, 2, 3, Story),
+    Sent(4, 3, 1, 3, Story),
+    Sent(4, 3, 2, 3, Story),
+    Sent(4, 2, 1, 3, Story),
+    Sent(4, 2, 3, 3, Story),
 ];
 
 /// The bytes of a datagram that says so in this version.
@@ -66,7 +85,7 @@ fn bytes_of(alloc: Global, sent: Sent, version: u8, said: &[u8]) -> Option<Vec<u
 
 /// Which of what has to hold of the datagram of version 1 at a station of this version does not; 0 where all does.
 fn wrong_of_one(alloc: Global, station: Version, sent: Sent) -> Option<u32> {
-    match bytes_of(alloc, sent, 1, sent.4.0) {
+    match bytes_of(alloc, sent, 1, in_one(sent.4)) {
         Some(bytes) => Some(wrong(alloc, station, &bytes)),
         None => None,
     }
@@ -93,9 +112,9 @@ fn each_datagram_that_is_sent(rt: HostRuntime) {
 #[test]
 fn each_datagram_of_version_two(rt: HostRuntime) {
     for (place, sent) in ALL_SENT.iter().enumerate() {
-        let story = wrong_of_two(rt.alloc(), *sent, sent.4.1);
+        let story = wrong_of_two(rt.alloc(), *sent, in_two(sent.4));
         assert!(rt; story == Some(0), "{place}");
-        let withdrawal = wrong_of_two(rt.alloc(), *sent, sent.4.2);
+        let withdrawal = wrong_of_two(rt.alloc(), *sent, in_two_of_void(sent.4));
         assert!(rt; withdrawal == Some(0), "{place}");
     }
 }

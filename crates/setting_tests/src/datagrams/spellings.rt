@@ -1,10 +1,12 @@
 //! What packets say, and that each has one spelling in a version.
 
 use crate::datagrams::garbled::is_read;
+use crate::datagrams::samples::Sample::{
+    Accept, Accepted, Nack, Prepare, PrepareOf3, Promise, Report, ReportTwo, ReportVoid,
+};
 use crate::datagrams::samples::{
-    ACCEPT, ACCEPTED, ALL, ALL_TWO, Agreed, LONG_ACCEPT, LONG_ACCEPTED, LONG_REPORT, NACK, PREPARE,
-    PREPARE_OF_3, PROMISE, REPORT, REPORT_TWO, REPORT_VOID, changed, fault_of, is_entry,
-    long_packet,
+    ALL, ALL_TWO, Agreed, LONG_ACCEPT, LONG_ACCEPTED, LONG_REPORT, Sample, bytes_of, changed,
+    fault_of, is_entry, long_packet,
 };
 use packets::{BodyRef, PacketFault, PacketRef, decode, encode};
 use std::alloc::Global;
@@ -23,18 +25,28 @@ fn header_of(packet: &PacketRef<'_>) -> [u32; 6] {
     ]
 }
 
-fn kind_of(body: &BodyRef<'_>) -> &'static str {
+#[derive(Clone, Copy, PartialEq, Eq)]
+enum Kind {
+    Prepare,
+    Promise,
+    Report,
+    Accept,
+    Accepted,
+    Nack,
+}
+
+fn kind_of(body: &BodyRef<'_>) -> Kind {
     match body {
-        BodyRef::Prepare => "prepare",
-        BodyRef::Promise { report: None } => "promise",
-        BodyRef::Promise { report: Some(_) } => "report",
-        BodyRef::Accept { .. } => "accept",
-        BodyRef::Accepted { .. } => "accepted",
-        BodyRef::Nack { .. } => "nack",
+        BodyRef::Prepare => Kind::Prepare,
+        BodyRef::Promise { report: None } => Kind::Promise,
+        BodyRef::Promise { report: Some(_) } => Kind::Report,
+        BodyRef::Accept { .. } => Kind::Accept,
+        BodyRef::Accepted { .. } => Kind::Accepted,
+        BodyRef::Nack { .. } => Kind::Nack,
     }
 }
 
-fn says(version: Version, bytes: &[u8], header: &[u32; 6], kind: &str) -> bool {
+fn says(version: Version, bytes: &[u8], header: &[u32; 6], kind: Kind) -> bool {
     match decode(bytes, version) {
         Ok(packet) => header_of(&packet) == *header && kind_of(packet.body()) == kind,
         Err(_) => false,
@@ -42,14 +54,14 @@ fn says(version: Version, bytes: &[u8], header: &[u32; 6], kind: &str) -> bool {
 }
 
 // What each of the packets says.
-const SAID: &[(&[u8], [u32; 6], &str)] = &[
-    (PREPARE, [7, 1, 2, 12, 1, 1], "prepare"),
-    (PROMISE, [7, 2, 1, 12, 1, 1], "promise"),
-    (ACCEPT, [7, 1, 2, 12, 1, 1], "accept"),
-    (ACCEPTED, [7, 2, 1, 12, 1, 1], "accepted"),
-    (PREPARE_OF_3, [7, 3, 2, 12, 1, 3], "prepare"),
-    (REPORT, [7, 2, 3, 12, 1, 3], "report"),
-    (NACK, [7, 2, 1, 12, 1, 1], "nack"),
+const SAID: &[(Sample, [u32; 6], Kind)] = &[
+    (Prepare, [7, 1, 2, 12, 1, 1], Kind::Prepare),
+    (Promise, [7, 2, 1, 12, 1, 1], Kind::Promise),
+    (Accept, [7, 1, 2, 12, 1, 1], Kind::Accept),
+    (Accepted, [7, 2, 1, 12, 1, 1], Kind::Accepted),
+    (PrepareOf3, [7, 3, 2, 12, 1, 3], Kind::Prepare),
+    (Report, [7, 2, 3, 12, 1, 3], Kind::Report),
+    (Nack, [7, 2, 1, 12, 1, 1], Kind::Nack),
 ];
 
 // Whether a vote at this ballot for this entry is reported.
@@ -184,38 +196,38 @@ pub fn wrong(alloc: Global, version: Version, bytes: &[u8]) -> u32 {
 
 #[test]
 fn fields(rt: HostRuntime) {
-    for (bytes, header, kind) in SAID {
-        assert!(rt; says(Version::One, bytes, header, kind));
-        assert!(rt; says(Version::Two, bytes, header, kind));
+    for (sample, header, kind) in SAID {
+        assert!(rt; says(Version::One, bytes_of(*sample), header, *kind));
+        assert!(rt; says(Version::Two, bytes_of(*sample), header, *kind));
     }
 }
 
 // What is reported of a vote at 1.1.
-const REPORTED: &[(&[u8], Agreed<'static>)] = &[
-    (REPORT, Some(&[1, 2, 4])),
-    (REPORT_TWO, Some(&[1, 2, 4])),
-    (REPORT_VOID, None),
+const REPORTED: &[(Sample, Agreed<'static>)] = &[
+    (Report, Some(&[1, 2, 4])),
+    (ReportTwo, Some(&[1, 2, 4])),
+    (ReportVoid, None),
 ];
 
 #[test]
 fn reported(rt: HostRuntime) {
-    for (bytes, agreed) in REPORTED {
-        assert!(rt; reports(bytes, 1, 1, *agreed));
+    for (sample, agreed) in REPORTED {
+        assert!(rt; reports(bytes_of(*sample), 1, 1, *agreed));
     }
 }
 
 #[test]
 fn one_spelling(rt: HostRuntime) {
-    for bytes in ALL {
-        assert!(rt; wrong(rt.alloc(), Version::One, bytes) == 0);
-        assert!(rt; wrong(rt.alloc(), Version::Two, bytes) == 0);
+    for sample in ALL {
+        assert!(rt; wrong(rt.alloc(), Version::One, bytes_of(*sample)) == 0);
+        assert!(rt; wrong(rt.alloc(), Version::Two, bytes_of(*sample)) == 0);
     }
 }
 
 #[test]
 fn one_spelling_of_version_two(rt: HostRuntime) {
-    for bytes in ALL_TWO {
-        assert!(rt; wrong(rt.alloc(), Version::Two, bytes) == 0);
+    for sample in ALL_TWO {
+        assert!(rt; wrong(rt.alloc(), Version::Two, bytes_of(*sample)) == 0);
     }
 }
 

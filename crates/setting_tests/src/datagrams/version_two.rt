@@ -1,9 +1,11 @@
 //! Version 2: worked spellings, packets in both versions, and the longest.
 
+use crate::datagrams::samples::Sample::{
+    Accept, AcceptTwo, AcceptVoid, Accepted, AcceptedTwo, AcceptedVoid, FloodAsked, FloodTold,
+    Nack, NackTwo, Prepare, PrepareTwo, Promise, PromiseTwo, Report, ReportTwo, ReportVoid,
+};
 use crate::datagrams::samples::{
-    ACCEPT, ACCEPT_TWO, ACCEPT_VOID, ACCEPTED, ACCEPTED_TWO, ACCEPTED_VOID, ALL_TWO, Agreed, NACK,
-    NACK_TWO, PREPARE, PREPARE_TWO, PROMISE, PROMISE_TWO, REPORT, REPORT_TWO, REPORT_VOID, changed,
-    fails, fault_of, lent, packet_of,
+    ALL_TWO, Agreed, Changes, Sample, bytes_of, changed, fails, fault_of, lent, packet_of,
 };
 use crate::datagrams::spellings::{is_spelled_in, len_again};
 use fixtures::FLOOD;
@@ -11,23 +13,11 @@ use packets::{BodyRef, PacketFault, PacketRef, decode};
 use std::alloc::Global;
 use tape_frames::Version;
 
-/// 1 asks 2 to vote for the flood story at 1.1: its seven frames take six bytes.
-const FLOOD_ASKED: &[u8] = &[
-    0x54, 0x4e, 2, 3, 0, 7, 1, 2, 0, 0, 0, 12, 0, 0, 0, 1, 1, 0, 7, 0x04, 0x20, 0xc1, 0x0c, 0x21,
-    0x00,
-];
-
-/// 2 tells 1 of that vote.
-const FLOOD_TOLD: &[u8] = &[
-    0x54, 0x4e, 2, 4, 0, 7, 2, 1, 0, 0, 0, 12, 0, 0, 0, 1, 1, 0, 7, 0x04, 0x20, 0xc1, 0x0c, 0x21,
-    0x00,
-];
-
 // An entry, how 1 asks 2 to vote for it, and how 2 tells of its vote.
-const WORKED: &[(Agreed<'static>, &[u8], &[u8])] = &[
-    (Some(FLOOD), FLOOD_ASKED, FLOOD_TOLD),
-    (Some(&[1, 2, 4]), ACCEPT_TWO, ACCEPTED_TWO),
-    (None, ACCEPT_VOID, ACCEPTED_VOID),
+const WORKED: &[(Agreed<'static>, Sample, Sample)] = &[
+    (Some(FLOOD), FloodAsked, FloodTold),
+    (Some(&[1, 2, 4]), AcceptTwo, AcceptedTwo),
+    (None, AcceptVoid, AcceptedVoid),
 ];
 
 fn asked(agreed: Agreed<'_>) -> Option<PacketRef<'_>> {
@@ -55,8 +45,8 @@ fn is_two(alloc: Global, packet: Option<PacketRef<'_>>, bytes: &[u8]) -> bool {
 #[test]
 fn worked(rt: HostRuntime) {
     for (agreed, asks, tells) in WORKED {
-        assert!(rt; is_two(rt.alloc(), asked(*agreed), asks));
-        assert!(rt; is_two(rt.alloc(), told(*agreed), tells));
+        assert!(rt; is_two(rt.alloc(), asked(*agreed), bytes_of(*asks)));
+        assert!(rt; is_two(rt.alloc(), told(*agreed), bytes_of(*tells)));
     }
 }
 
@@ -69,10 +59,10 @@ fn is_of_two(bytes: &[u8]) -> bool {
 #[test]
 fn of_another_version(rt: HostRuntime) {
     for (_, asks, tells) in WORKED {
-        assert!(rt; is_of_two(asks) && is_of_two(tells));
+        assert!(rt; is_of_two(bytes_of(*asks)) && is_of_two(bytes_of(*tells)));
     }
-    for bytes in ALL_TWO {
-        assert!(rt; is_of_two(bytes));
+    for sample in ALL_TWO {
+        assert!(rt; is_of_two(bytes_of(*sample)));
     }
 }
 
@@ -85,18 +75,19 @@ fn is_also(alloc: Global, bytes: &[u8], version: Version, other: &[u8]) -> bool 
 }
 
 // Packets in both versions.
-const BOTH: &[(&[u8], &[u8])] = &[
-    (PREPARE, PREPARE_TWO),
-    (PROMISE, PROMISE_TWO),
-    (ACCEPT, ACCEPT_TWO),
-    (ACCEPTED, ACCEPTED_TWO),
-    (REPORT, REPORT_TWO),
-    (NACK, NACK_TWO),
+const BOTH: &[(Sample, Sample)] = &[
+    (Prepare, PrepareTwo),
+    (Promise, PromiseTwo),
+    (Accept, AcceptTwo),
+    (Accepted, AcceptedTwo),
+    (Report, ReportTwo),
+    (Nack, NackTwo),
 ];
 
 #[test]
 fn in_both_versions(rt: HostRuntime) {
     for (one, two) in BOTH {
+        let (one, two) = (bytes_of(*one), bytes_of(*two));
         assert!(rt; is_also(rt.alloc(), one, Version::Two, two));
         assert!(rt; is_also(rt.alloc(), two, Version::One, one));
     }
@@ -115,21 +106,21 @@ fn fits_one(bytes: &[u8]) -> Option<bool> {
 }
 
 // Packets, and whether version 1 has a spelling for each.
-const FITS: &[(&[u8], bool)] = &[
-    (PREPARE_TWO, true),
-    (PROMISE_TWO, true),
-    (NACK_TWO, true),
-    (ACCEPT_TWO, true),
-    (REPORT_TWO, true),
-    (ACCEPT_VOID, false),
-    (ACCEPTED_VOID, false),
-    (REPORT_VOID, false),
+const FITS: &[(Sample, bool)] = &[
+    (PrepareTwo, true),
+    (PromiseTwo, true),
+    (NackTwo, true),
+    (AcceptTwo, true),
+    (ReportTwo, true),
+    (AcceptVoid, false),
+    (AcceptedVoid, false),
+    (ReportVoid, false),
 ];
 
 #[test]
 fn fitting(rt: HostRuntime) {
-    for (bytes, fits) in FITS {
-        assert!(rt; fits_one(bytes) == Some(*fits));
+    for (sample, fits) in FITS {
+        assert!(rt; fits_one(bytes_of(*sample)) == Some(*fits));
     }
 }
 
@@ -172,40 +163,60 @@ fn longest_packets(rt: HostRuntime) {
     }
 }
 
-// The changes of the longest packet of this front, the bytes behind it, and the fault.
-const LONG_FAULTS: &[(&[u8], &[(usize, u8)], &[u8], PacketFault)] = &[
+// The changes of the longest packet of this front, whether a 0 stands behind it, and the fault.
+const LONG_FAULTS: &[(&[u8], Changes, bool, PacketFault)] = &[
     // 16,385 frames, whose last is not there, or is
-    (LONG_REPORT, &[(24, 1)], &[], PacketFault::BadFrames),
-    (LONG_REPORT, &[(24, 1)], &[0], PacketFault::BadFrames),
-    (LONG_ACCEPT, &[(18, 1)], &[0], PacketFault::BadFrames),
-    (LONG_ACCEPTED, &[(18, 1)], &[0], PacketFault::BadFrames),
+    (
+        LONG_REPORT,
+        Changes::One(24, 1),
+        false,
+        PacketFault::BadFrames,
+    ),
+    (
+        LONG_REPORT,
+        Changes::One(24, 1),
+        true,
+        PacketFault::BadFrames,
+    ),
+    (
+        LONG_ACCEPT,
+        Changes::One(18, 1),
+        true,
+        PacketFault::BadFrames,
+    ),
+    (
+        LONG_ACCEPTED,
+        Changes::One(18, 1),
+        true,
+        PacketFault::BadFrames,
+    ),
     // 16,383 frames, behind which six bits are set
     (
         LONG_REPORT,
-        &[(23, 0x3f), (24, 255)],
-        &[],
+        Changes::Two((23, 0x3f), (24, 255)),
+        false,
         PacketFault::BadPad,
     ),
-    (LONG_REPORT, &[], &[0], PacketFault::Long),
+    (LONG_REPORT, Changes::Nothing, true, PacketFault::Long),
 ];
 
 // Whether the longest packet of this front, changed so, has this fault first.
 fn long_fails(
     alloc: Global,
     front: &[u8],
-    changes: &[(usize, u8)],
-    more: &[u8],
+    changes: Changes,
+    longer: bool,
     fault: PacketFault,
 ) -> bool {
     match long_packet(alloc, front) {
-        Some(bytes) => fails(alloc, Version::Two, &bytes, changes, more, Some(fault)),
+        Some(bytes) => fails(alloc, Version::Two, &bytes, changes, longer, Some(fault)),
         None => false,
     }
 }
 
 #[test]
 fn of_long_tapes(rt: HostRuntime) {
-    for (front, changes, more, fault) in LONG_FAULTS {
-        assert!(rt; long_fails(rt.alloc(), front, changes, more, *fault));
+    for (front, changes, longer, fault) in LONG_FAULTS {
+        assert!(rt; long_fails(rt.alloc(), front, *changes, *longer, *fault));
     }
 }

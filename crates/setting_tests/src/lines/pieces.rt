@@ -1,8 +1,8 @@
 //! Tapes that come in pieces.
 
-use crate::lines::galleys::{GALLEYS, is_galley};
+use crate::lines::galleys::{all_galleys, is_galley};
 use crate::lines::jobs::Job;
-use crate::lines::slugs::FAULTS;
+use crate::lines::slugs::all_faults;
 use fixtures::LONGEST;
 use line_check::{Cause, LineFault, Slug, check};
 use slug_reader::{Line, ReadFault, Reader};
@@ -185,7 +185,7 @@ fn sets_at_each_cut(alloc: Global, frames: &[u8], text: &str) -> bool {
 
 #[test]
 fn galleys_at_each_cut(rt: HostRuntime) {
-    for (frames, text) in GALLEYS {
+    for (frames, text) in all_galleys() {
         assert!(rt; sets_at_each_cut(rt.alloc(), frames, text), "{text}");
     }
 }
@@ -254,7 +254,7 @@ fn has_fault_at_each_cut(alloc: Global, ligature: bool, frames: &[u8], first: Fi
 
 #[test]
 fn faults_at_each_cut(rt: HostRuntime) {
-    for (ligature, frames, at, _, cause) in FAULTS {
+    for (ligature, frames, at, _, cause) in all_faults() {
         assert!(rt; has_fault_at_each_cut(rt.alloc(), *ligature, frames, (*at, *cause)));
     }
 }

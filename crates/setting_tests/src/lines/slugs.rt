@@ -31,7 +31,9 @@ fn has_fault(alloc: Global, ligature: bool, frames: &[u8], fault: SetFault) -> b
 }
 
 /// Whether the ligature has a width, frames, the position and the line of their fault, and what it is.
-pub const FAULTS: &[(bool, &[u8], u32, u32, Cause)] = &[
+type Faulty = (bool, &'static [u8], u32, u32, Cause);
+
+const FAULTS: &[Faulty] = &[
     (true, &[1, 2, 3, 1, 2, 4], 5, 1, Cause::Loose { under: 2 }),
     (true, &[1, 1, 1, 1, 1, 4], 5, 1, Cause::Loose { under: 5 }),
     (true, OVERSET, 7, 1, Cause::Overset { over: 1 }),
@@ -49,9 +51,14 @@ pub const FAULTS: &[(bool, &[u8], u32, u32, Cause)] = &[
     (false, LIGATURE, 5, 1, Cause::NoWidth),
 ];
 
+/// Frames and their first faults.
+pub fn all_faults() -> &'static [Faulty] {
+    FAULTS
+}
+
 #[test]
 fn first_faults(rt: HostRuntime) {
-    for (ligature, frames, at, line, cause) in FAULTS {
+    for (ligature, frames, at, line, cause) in all_faults() {
         let (at, line, cause) = (*at, *line, *cause);
         assert!(rt; has_fault(rt.alloc(), *ligature, frames, SetFault { at, line, cause }));
     }
