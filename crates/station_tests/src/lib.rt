@@ -1,37 +1,19 @@
-//! The tests of a station and of a whole circuit, over rows in memory.
+//! The tests of a station and of a whole circuit, of `serve` and of `run`, over rows and folders in memory.
 #![tactic(auto)]
 
 #[cfg(test)]
-mod agreeing;
-#[cfg(test)]
-mod agreement;
-#[cfg(test)]
 mod alone;
-#[cfg(test)]
-mod benches;
 #[cfg(test)]
 mod circuits;
 #[cfg(test)]
-mod dice;
+mod given;
 #[cfg(test)]
-mod endings;
+mod notes;
 #[cfg(test)]
-mod entries;
+mod run;
 #[cfg(test)]
-mod failing;
+mod serve;
 #[cfg(test)]
-mod going_over;
-#[cfg(test)]
-mod lengths;
-#[cfg(test)]
-mod passing;
-#[cfg(test)]
-mod refusing;
-#[cfg(test)]
-mod scripts;
+mod stations;
 #[cfg(test)]
 mod unread;
-#[cfg(test)]
-mod upgrades;
-#[cfg(test)]
-mod versions;

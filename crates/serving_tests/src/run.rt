@@ -1,8 +1,0 @@
-//! The tests of `run`: what a station that stays up does with what lies among the offers of its plant, and with what it releases.
-
-mod offering;
-mod plant;
-mod refusing;
-mod stage;
-mod waiting;
-mod wires;

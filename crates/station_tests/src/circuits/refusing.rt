@@ -1,0 +1,120 @@
+//! Circuits and steps that there are not, and offers that are refused.
+
+use crate::circuits::bodies::Body::{NoReport, Prepare};
+use crate::circuits::bodies::Sent;
+use crate::circuits::stories::Act::{Deliver, OfferFlood, Seek};
+use crate::circuits::stories::Ending::{Done, NoStep, Refused};
+use crate::circuits::stories::{CALM, Line, Offered, Story};
+use crate::circuits::telling::{Way, fails_at, is_handed_back, is_unplayed, plays};
+use crate::given::Given::Flood;
+use crate::notes::Noted::{Began, Promised, Proposed};
+use station::StepRefusal;
+use world::{RunStop, WorldRefusal};
+
+#[test]
+fn counts_that_are_refused(rt: HostRuntime) {
+    for (members, refused) in &[(0, true), (15, false), (16, true)] {
+        assert!(rt;
+            is_handed_back(rt.alloc(), *members) == Some(*refused),
+            "{members}"
+        );
+        assert!(rt;
+            is_unplayed(rt.alloc(), *members) == Some(*refused),
+            "{members}"
+        );
+    }
+}
+
+/// Datagrams that were never sent, and members that there are not.
+const STRANGE: Story = Story {
+    lines: &[
+        Line(
+            Deliver(0),
+            0,
+            0,
+            0,
+            false,
+            NoStep(WorldRefusal::NoSuchDatagram),
+        ),
+        Line(
+            Deliver(1),
+            0,
+            0,
+            0,
+            false,
+            NoStep(WorldRefusal::NoSuchDatagram),
+        ),
+        Line(Seek(0), 0, 0, 0, false, NoStep(WorldRefusal::NoSuchMember)),
+        Line(Seek(4), 0, 0, 0, false, NoStep(WorldRefusal::NoSuchMember)),
+    ],
+    ..CALM
+};
+
+/// A number is offered while a proposal of it is open.
+const OPEN: Story = Story {
+    lines: &[
+        Line(OfferFlood(1), 1, 1, 2, false, Done(Began(1, 1))),
+        Line(
+            OfferFlood(1),
+            1,
+            3,
+            0,
+            false,
+            Refused(StepRefusal::AlreadyOpen),
+        ),
+    ],
+    sent: &[
+        Sent(1, 1, 2, (1, 1), Prepare),
+        Sent(1, 1, 3, (1, 1), Prepare),
+    ],
+    offers: &[Offered(1, Flood)],
+    ..CALM
+};
+
+const STORIES: &[Story] = &[STRANGE, OPEN];
+
+/// The third step delivers what was not sent yet: a run stops before it.
+const TOO_EARLY: &[Story] = &[Story {
+    lines: &[
+        Line(OfferFlood(1), 1, 1, 2, false, Done(Began(1, 1))),
+        Line(Deliver(1), 2, 3, 1, false, Done(Promised(1, 1))),
+        Line(
+            Deliver(4),
+            0,
+            0,
+            0,
+            false,
+            NoStep(WorldRefusal::NoSuchDatagram),
+        ),
+        Line(Deliver(3), 1, 4, 4, false, Done(Proposed(1, 1))),
+    ],
+    sent: &[
+        Sent(1, 1, 2, (1, 1), Prepare),
+        Sent(1, 1, 3, (1, 1), Prepare),
+        Sent(2, 2, 1, (1, 1), NoReport),
+    ],
+    offers: &[Offered(1, Flood)],
+    stop: Some(RunStop {
+        at: 2,
+        refusal: WorldRefusal::NoSuchDatagram,
+    }),
+    ..CALM
+}];
+
+#[test]
+fn steps_that_there_are_not(rt: HostRuntime) {
+    for (place, story) in STORIES.iter().enumerate() {
+        assert!(rt;
+            fails_at(rt.alloc(), story, Way::Steps).is_none(),
+            "{place}"
+        );
+    }
+}
+
+#[test]
+fn a_run_stops_before_what_there_is_not(rt: HostRuntime) {
+    for story in TOO_EARLY {
+        assert!(rt; fails_at(rt.alloc(), story, Way::Run).is_none());
+        assert!(rt; plays(rt.alloc(), story) == Some(true));
+    }
+}

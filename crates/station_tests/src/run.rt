@@ -1,0 +1,8 @@
+//! `run`: what a station that stays up does with what lies among the offers of its plant, and with what it releases.
+
+mod offering;
+mod plant;
+mod refusing;
+mod stage;
+mod waiting;
+mod wires;

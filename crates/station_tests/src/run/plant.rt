@@ -1,0 +1,134 @@
+//! A plant over rows and folders in memory, and what has to come of a run.
+
+use crate::run::stage::{Act, Stage};
+use crate::run::wires::Ticking;
+use crate::stations::{ballot, rows_with, station_over};
+use ballots::{Number, Row, Vote};
+use command_ends::End;
+use fixtures::FLOOD;
+use folders::{MemoryFolders, Place};
+use run_command::run_station;
+use saved_rows::{MemoryRows, Rows};
+use station::Station;
+use std::alloc::Global;
+use std::io::Write;
+use tape_frames::{Entry, Tape, Version};
+
+/// What the station saved of number 12 before.
+#[derive(Clone, Copy)]
+pub enum Saved {
+    Nothing,
+    /// A vote for the flood story.
+    Vote,
+    /// A promise of a ballot above which there is none.
+    LastPromise,
+}
+
+/// A run: what the station saved before, what happens to its folders, how many turns of 250 milliseconds there are, how it
+/// has to end, what the folders have to hold, and what has to be told.
+#[derive(Clone, Copy)]
+pub struct Run<'a> {
+    pub members: u8,
+    pub version: Version,
+    pub saved: Saved,
+    pub acts: &'a [Act],
+    pub turns: u32,
+    pub quiet: bool,
+    pub end: End,
+    /// A line for each file that was written among the releases, for each that left the offers, and for each text.
+    pub folders: &'static str,
+    pub err: &'static str,
+}
+
+/// A run of one station over layout 2 to which nothing happens, and which a file ends.
+pub const RUN: Run<'static> = Run {
+    members: 1,
+    version: Version::Two,
+    saved: Saved::Nothing,
+    acts: &[],
+    turns: 60,
+    quiet: false,
+    end: End::Done,
+    folders: "",
+    err: "",
+};
+
+/// Rows in memory at this version with a vote for the flood story at the first ballot of member 1, for number 12.
+fn rows_with_vote(alloc: Global, version: Version) -> Option<MemoryRows> {
+    let mut rows = MemoryRows::at(alloc, version);
+    let first = ballot(1, 1)?;
+    let tape = Tape::from_bytes(alloc, FLOOD).ok()?;
+    let row = Row::new(Some(first), Some(Vote::new(first, Entry::Tape(tape))))?;
+    if !row.fits(version) {
+        return None;
+    }
+    rows.save(Number::new(12)?, row).ok()?;
+    Some(rows)
+}
+
+fn rows_of(alloc: Global, run: &Run<'_>) -> Option<MemoryRows> {
+    match run.saved {
+        Saved::Nothing => rows_with(alloc, run.version, None),
+        Saved::LastPromise => rows_with(alloc, run.version, Some((u32::MAX, 1))),
+        Saved::Vote => rows_with_vote(alloc, run.version),
+    }
+}
+
+fn station_of(alloc: Global, run: &Run<'_>) -> Option<Station<MemoryRows>> {
+    station_over(alloc, 1, run.members, rows_of(alloc, run)?)
+}
+
+fn place_word(to: Option<Place>) -> &'static str {
+    match to {
+        Some(Place::Sent) => "sent",
+        Some(Place::Lost) => "lost",
+        Some(Place::Refused) => "refused",
+        None => "gone",
+    }
+}
+
+/// Writes what folders hold; whether there was memory for it.
+fn write_folders(folders: &MemoryFolders, text: &mut Vec<u8>) -> bool {
+    let mut is_whole = true;
+    for named in folders.filed() {
+        let (name, count) = (named.name(), named.bytes().len());
+        is_whole &= writeln!(text, "wrote {name} {count}").is_ok();
+    }
+    for moved in folders.moved() {
+        let (place, name) = (place_word(moved.to), moved.name.as_str());
+        is_whole &= writeln!(text, "{place} {name}").is_ok();
+    }
+    for noted in folders.noted() {
+        let (place, name) = (place_word(Some(noted.to)), noted.name.as_str());
+        let line = noted.text.as_str();
+        is_whole &= write!(text, "{place} {name}: {line}").is_ok();
+    }
+    is_whole
+}
+
+/// Whether the folders hold what they have to.
+fn holds(alloc: Global, folders: &MemoryFolders, expected: &str) -> bool {
+    let mut text = Vec::new(alloc);
+    write_folders(folders, &mut text) && text.as_slice() == expected.as_bytes()
+}
+
+/// Whether a run ends and tells as it has to.
+fn ends(alloc: Global, stage: &mut Stage<'_>, run: &Run<'_>) -> bool {
+    let Some(mut station) = station_of(alloc, run) else {
+        return false;
+    };
+    let mut wire = Ticking {
+        moment: 0,
+        tick: 250,
+        left: run.turns,
+    };
+    let mut err = Vec::new(alloc);
+    let end = run_station(alloc, &mut station, &mut wire, stage, run.quiet, &mut err);
+    end == run.end && err.as_slice() == run.err.as_bytes()
+}
+
+/// Whether a run comes to what it has to.
+pub fn is_true(alloc: Global, run: &Run<'_>) -> bool {
+    let mut stage = Stage::new(alloc, run.acts);
+    ends(alloc, &mut stage, run) && holds(alloc, &stage.folders, run.folders)
+}

@@ -1,0 +1,15 @@
+//! `serve`: what a station prints and sends and how a run ends, over wires of the tests and over sockets.
+
+mod agreeing;
+mod failing;
+mod longest;
+mod plant;
+mod printing;
+mod refusing;
+mod sending;
+mod sockets;
+mod stories;
+mod strangers;
+mod wires;
+mod withdrawing;
+mod writers;
