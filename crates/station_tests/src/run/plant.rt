@@ -27,11 +27,11 @@ pub enum Saved {
 /// A run: what the station saved before, what happens to its folders, how many turns of 250 milliseconds there are, how it
 /// has to end, what the folders have to hold, and what has to be told.
 #[derive(Clone, Copy)]
-pub struct Run<'a> {
+pub struct Run {
     pub members: u8,
     pub version: Version,
     pub saved: Saved,
-    pub acts: &'a [Act],
+    pub acts: &'static [Act],
     pub turns: u32,
     pub quiet: bool,
     pub end: End,
@@ -41,7 +41,7 @@ pub struct Run<'a> {
 }
 
 /// A run of one station over layout 2 to which nothing happens, and which a file ends.
-pub const RUN: Run<'static> = Run {
+pub const RUN: Run = Run {
     members: 1,
     version: Version::Two,
     saved: Saved::Nothing,
@@ -66,7 +66,7 @@ fn rows_with_vote(alloc: Global, version: Version) -> Option<MemoryRows> {
     Some(rows)
 }
 
-fn rows_of(alloc: Global, run: &Run<'_>) -> Option<MemoryRows> {
+fn rows_of(alloc: Global, run: &Run) -> Option<MemoryRows> {
     match run.saved {
         Saved::Nothing => rows_with(alloc, run.version, None),
         Saved::LastPromise => rows_with(alloc, run.version, Some((u32::MAX, 1))),
@@ -74,7 +74,7 @@ fn rows_of(alloc: Global, run: &Run<'_>) -> Option<MemoryRows> {
     }
 }
 
-fn station_of(alloc: Global, run: &Run<'_>) -> Option<Station<MemoryRows>> {
+fn station_of(alloc: Global, run: &Run) -> Option<Station<MemoryRows>> {
     station_over(alloc, 1, run.members, rows_of(alloc, run)?)
 }
 
@@ -113,7 +113,7 @@ fn holds(alloc: Global, folders: &MemoryFolders, expected: &str) -> bool {
 }
 
 /// Whether a run ends and tells as it has to.
-fn ends(alloc: Global, stage: &mut Stage<'_>, run: &Run<'_>) -> bool {
+fn ends(alloc: Global, stage: &mut Stage, run: &Run) -> bool {
     let Some(mut station) = station_of(alloc, run) else {
         return false;
     };
@@ -128,7 +128,7 @@ fn ends(alloc: Global, stage: &mut Stage<'_>, run: &Run<'_>) -> bool {
 }
 
 /// Whether a run comes to what it has to.
-pub fn is_true(alloc: Global, run: &Run<'_>) -> bool {
+pub fn is_true(alloc: Global, run: &Run) -> bool {
     let mut stage = Stage::new(alloc, run.acts);
     ends(alloc, &mut stage, run) && holds(alloc, &stage.folders, run.folders)
 }

@@ -1,13 +1,81 @@
 //! Folders in memory in which something happens at some look.
 
+use fixtures::{FLOOD, HARVEST, LIGATURE, OVERSET};
 use folders::{FolderFault, Folders, Listing, MemoryFolders, Place, Stamp};
 use std::alloc::{AllocError, Global};
+
+/// The name of a file among the offers.
+#[derive(Clone, Copy)]
+pub enum Name {
+    Tape12,
+    Tape13,
+    Tape14,
+    Seek12,
+    Withdraw14,
+    Stop,
+    /// Names of no number: with a zero in front, with none, above the last.
+    ZeroTape,
+    StoryTape,
+    GreatSeek,
+    /// Names of what is still being handed over.
+    DottedTape,
+    PartTape,
+}
+
+fn text_of(name: Name) -> &'static str {
+    match name {
+        Name::Tape12 => "12.tape",
+        Name::Tape13 => "13.tape",
+        Name::Tape14 => "14.tape",
+        Name::Seek12 => "12.seek",
+        Name::Withdraw14 => "14.withdraw",
+        Name::Stop => "stop",
+        Name::ZeroTape => "012.tape",
+        Name::StoryTape => "story.tape",
+        Name::GreatSeek => "1000000.seek",
+        Name::DottedTape => ".13.tape",
+        Name::PartTape => "13.tape.part",
+    }
+}
+
+/// What a file among the offers holds.
+#[derive(Clone, Copy)]
+pub enum Held {
+    Nothing,
+    /// A word.
+    Why,
+    /// The tapes of the examples.
+    Flood,
+    Harvest,
+    Ligature,
+    Overset,
+    /// So many of the first three frames of the flood story.
+    Start(usize),
+    /// A frame, and one that is none.
+    BadFrame,
+    /// One frame more than a tape has at most.
+    TooLong,
+}
+
+fn bytes_of(held: Held) -> &'static [u8] {
+    match held {
+        Held::Nothing => &[],
+        Held::Why => b"why",
+        Held::Flood => FLOOD,
+        Held::Harvest => HARVEST,
+        Held::Ligature => LIGATURE,
+        Held::Overset => OVERSET,
+        Held::Start(count) => FLOOD.get(..count).unwrap_or(&[]),
+        Held::BadFrame => &[1, 64],
+        Held::TooLong => &[1; 16_385],
+    }
+}
 
 /// What happens to the folders.
 #[derive(Clone, Copy)]
 pub enum What {
-    /// A file of this name that holds these bytes is laid among the offers, or written anew.
-    Laid(&'static str, &'static [u8]),
+    /// A file is laid among the offers, or written anew.
+    Laid(Name, Held),
     /// The folder of releases is full, or no longer.
     Full(bool),
     /// Nothing can be set aside, or it can again.
@@ -16,30 +84,19 @@ pub enum What {
 
 /// What happens before a look at the folders, counted from 1.
 #[derive(Clone, Copy)]
-pub struct Act {
-    pub look: usize,
-    pub what: What,
-}
-
-/// A file that is laid among the offers before a look.
-pub fn laid(look: usize, name: &'static str, bytes: &'static [u8]) -> Act {
-    Act {
-        look,
-        what: What::Laid(name, bytes),
-    }
-}
+pub struct Act(pub usize, pub What);
 
 /// Folders in memory, and what happens to them.
 #[derive(Drop)]
-pub struct Stage<'a> {
+pub struct Stage {
     pub folders: MemoryFolders,
-    pub acts: &'a [Act],
+    pub acts: &'static [Act],
     pub looks: usize,
     pub is_stuck: bool,
 }
 
-impl<'a> Stage<'a> {
-    pub fn new(alloc: Global, acts: &'a [Act]) -> Stage<'a> {
+impl Stage {
+    pub fn new(alloc: Global, acts: &'static [Act]) -> Stage {
         Stage {
             folders: MemoryFolders::new(alloc),
             acts,
@@ -50,9 +107,10 @@ impl<'a> Stage<'a> {
 
     fn act(&mut self, alloc: Global, what: What) -> Result<(), AllocError> {
         match what {
-            What::Laid(name, bytes) => {
+            What::Laid(name, held) => {
                 let changed = i64::try_from(self.looks).unwrap_or(i64::MAX);
-                self.folders.lay(alloc, name, bytes, changed)
+                self.folders
+                    .lay(alloc, text_of(name), bytes_of(held), changed)
             }
             What::Full(is_full) => {
                 self.folders.set_full(is_full);
@@ -69,15 +127,16 @@ impl<'a> Stage<'a> {
     fn pass(&mut self, alloc: Global) -> Result<(), AllocError> {
         self.looks = self.looks.saturating_add(1);
         for act in self.acts {
-            if act.look == self.looks {
-                self.act(alloc, act.what)?;
+            let Act(look, what) = *act;
+            if look == self.looks {
+                self.act(alloc, what)?;
             }
         }
         Ok(())
     }
 }
 
-impl<'a> Folders for Stage<'a> {
+impl Folders for Stage {
     fn names(&mut self, alloc: Global) -> Result<Listing, FolderFault> {
         self.pass(alloc)?;
         self.folders.names(alloc)

@@ -1,145 +1,138 @@
 //! What waits: a file that grows, a release while the disk is full, an offer while no majority is there.
 
 use crate::run::plant::{RUN, Run, is_true};
-use crate::run::stage::{Act, What, laid};
+use crate::run::stage::Act;
+use crate::run::stage::Held::{Flood, Ligature, Nothing, Start};
+use crate::run::stage::Name::{Seek12, Stop, Tape12};
+use crate::run::stage::What::{Full, Laid, Stuck};
 use command_ends::End;
-use fixtures::{FLOOD, LIGATURE};
-use std::test::Fail;
-
-fn full(look: usize, is_full: bool) -> Act {
-    Act {
-        look,
-        what: What::Full(is_full),
-    }
-}
 
 /// A file that grows is not taken before it stood still for a second.
-#[test]
-fn growing(rt: HostRuntime) -> Result<(), Fail> {
-    let still_growing = Run {
+const GROWING: &[Run] = &[
+    Run {
         acts: &[
-            laid(1, "12.tape", &[1]),
-            laid(4, "12.tape", &[1, 2]),
-            laid(7, "12.tape", &[1, 2, 3]),
-            laid(10, "12.tape", FLOOD),
-            laid(13, "stop", &[]),
+            Act(1, Laid(Tape12, Start(1))),
+            Act(4, Laid(Tape12, Start(2))),
+            Act(7, Laid(Tape12, Start(3))),
+            Act(10, Laid(Tape12, Flood)),
+            Act(13, Laid(Stop, Nothing)),
         ],
         ..RUN
-    };
-    let grown = Run {
+    },
+    Run {
         acts: &[
-            laid(1, "12.tape", &[1]),
-            laid(4, "12.tape", &[1, 2]),
-            laid(7, "12.tape", FLOOD),
-            laid(12, "stop", &[]),
+            Act(1, Laid(Tape12, Start(1))),
+            Act(4, Laid(Tape12, Start(2))),
+            Act(7, Laid(Tape12, Flood)),
+            Act(12, Laid(Stop, Nothing)),
         ],
         folders: "wrote 12.tape 7\nwrote 12.galley 25\nsent 12.tape\n",
         err: "12 released\n12 sent\n",
         ..RUN
-    };
-    assert!(rt; is_true(rt.alloc(), &still_growing));
-    assert!(rt; is_true(rt.alloc(), &grown));
-    Ok(())
+    },
+];
+
+#[test]
+fn growing(rt: HostRuntime) {
+    for (place, run) in GROWING.iter().enumerate() {
+        assert!(rt; is_true(rt.alloc(), run), "{place}");
+    }
 }
 
 /// A release that can't be written is written later, and the file that asked for it stays until then.
-#[test]
-fn full_disk(rt: HostRuntime) -> Result<(), Fail> {
-    let kept = Run {
+const FULL_DISK: &[Run] = &[
+    Run {
         acts: &[
-            full(1, true),
-            laid(1, "12.tape", FLOOD),
-            laid(20, "stop", &[]),
+            Act(1, Full(true)),
+            Act(1, Laid(Tape12, Flood)),
+            Act(20, Laid(Stop, Nothing)),
         ],
         err: "folders: cannot write releases\n12 released\n",
         ..RUN
-    };
-    let later = Run {
+    },
+    Run {
         acts: &[
-            full(1, true),
-            laid(1, "12.tape", FLOOD),
-            full(10, false),
-            laid(20, "stop", &[]),
+            Act(1, Full(true)),
+            Act(1, Laid(Tape12, Flood)),
+            Act(10, Full(false)),
+            Act(20, Laid(Stop, Nothing)),
         ],
         folders: "wrote 12.tape 7\nwrote 12.galley 25\nsent 12.tape\n",
         err: "folders: cannot write releases\n12 released\n12 sent\n",
         ..RUN
-    };
-    assert!(rt; is_true(rt.alloc(), &kept));
-    assert!(rt; is_true(rt.alloc(), &later));
-    Ok(())
-}
+    },
+];
 
-fn stuck(look: usize, is_stuck: bool) -> Act {
-    Act {
-        look,
-        what: What::Stuck(is_stuck),
+#[test]
+fn full_disk(rt: HostRuntime) {
+    for (place, run) in FULL_DISK.iter().enumerate() {
+        assert!(rt; is_true(rt.alloc(), run), "{place}");
     }
 }
 
 /// A file that can't be moved once its number is released is moved a second later.
+const MOVED_LATER: Run = Run {
+    acts: &[
+        Act(1, Stuck(true)),
+        Act(1, Laid(Tape12, Flood)),
+        Act(8, Stuck(false)),
+        Act(20, Laid(Stop, Nothing)),
+    ],
+    folders: "wrote 12.tape 7\nwrote 12.galley 25\nsent 12.tape\n",
+    err: "12 released\nfolders: cannot move 12.tape\n12 sent\n",
+    ..RUN
+};
+
 #[test]
-fn moved_later(rt: HostRuntime) -> Result<(), Fail> {
-    let run = Run {
-        acts: &[
-            stuck(1, true),
-            laid(1, "12.tape", FLOOD),
-            stuck(8, false),
-            laid(20, "stop", &[]),
-        ],
-        folders: "wrote 12.tape 7\nwrote 12.galley 25\nsent 12.tape\n",
-        err: "12 released\nfolders: cannot move 12.tape\n12 sent\n",
-        ..RUN
-    };
-    assert!(rt; is_true(rt.alloc(), &run));
-    Ok(())
+fn moved_later(rt: HostRuntime) {
+    assert!(rt; is_true(rt.alloc(), &MOVED_LATER));
 }
 
 /// A file that was written anew once it was taken up is no longer the one that was: it is taken up again, and loses the number.
+const WRITTEN_ANEW: Run = Run {
+    acts: &[
+        Act(1, Full(true)),
+        Act(1, Laid(Tape12, Flood)),
+        Act(7, Laid(Tape12, Ligature)),
+        Act(10, Full(false)),
+        Act(40, Laid(Stop, Nothing)),
+    ],
+    folders: "wrote 12.tape 7\nwrote 12.galley 25\nlost 12.tape\nlost 12.tape.txt: release 12 01020301030204\n",
+    err: "folders: cannot write releases\n12 released\n12 lost\n",
+    ..RUN
+};
+
 #[test]
-fn written_anew(rt: HostRuntime) -> Result<(), Fail> {
-    let run = Run {
-        acts: &[
-            full(1, true),
-            laid(1, "12.tape", FLOOD),
-            laid(7, "12.tape", LIGATURE),
-            full(10, false),
-            laid(40, "stop", &[]),
-        ],
-        folders: "wrote 12.tape 7\nwrote 12.galley 25\nlost 12.tape\nlost 12.tape.txt: release 12 01020301030204\n",
-        err: "folders: cannot write releases\n12 released\n12 lost\n",
-        ..RUN
-    };
-    assert!(rt; is_true(rt.alloc(), &run));
-    Ok(())
+fn written_anew(rt: HostRuntime) {
+    assert!(rt; is_true(rt.alloc(), &WRITTEN_ANEW));
 }
 
 /// Where nobody answers one ballot follows the other; the run goes on until the network fails.
+const ALONE: Run = Run {
+    members: 3,
+    acts: &[Act(1, Laid(Seek12, Nothing))],
+    turns: 8,
+    end: End::Socket,
+    err: "12 began 1.1\n12 began 2.1\nsocket: receive failed\n",
+    ..RUN
+};
+
 #[test]
-fn alone(rt: HostRuntime) -> Result<(), Fail> {
-    let run = Run {
-        members: 3,
-        acts: &[laid(1, "12.seek", &[])],
-        turns: 8,
-        end: End::Socket,
-        err: "12 began 1.1\n12 began 2.1\nsocket: receive failed\n",
-        ..RUN
-    };
-    assert!(rt; is_true(rt.alloc(), &run));
-    Ok(())
+fn alone(rt: HostRuntime) {
+    assert!(rt; is_true(rt.alloc(), &ALONE));
 }
 
 /// After 32 ballots a file is given up, and begun again after a pause.
+const GIVEN_UP: Run = Run {
+    members: 3,
+    acts: &[Act(1, Laid(Seek12, Nothing))],
+    turns: 74,
+    end: End::Socket,
+    err: "12 began 1.1\n12 began 2.1\n12 began 3.1\n12 began 4.1\n12 began 5.1\n12 began 6.1\n12 began 7.1\n12 began 8.1\n12 began 9.1\n12 began 10.1\n12 began 11.1\n12 began 12.1\n12 began 13.1\n12 began 14.1\n12 began 15.1\n12 began 16.1\n12 began 17.1\n12 began 18.1\n12 began 19.1\n12 began 20.1\n12 began 21.1\n12 began 22.1\n12 began 23.1\n12 began 24.1\n12 began 25.1\n12 began 26.1\n12 began 27.1\n12 began 28.1\n12 began 29.1\n12 began 30.1\n12 began 31.1\n12 began 32.1\n12 gave-up 32.1\n12 began 33.1\nsocket: receive failed\n",
+    ..RUN
+};
+
 #[test]
-fn given_up(rt: HostRuntime) -> Result<(), Fail> {
-    let run = Run {
-        members: 3,
-        acts: &[laid(1, "12.seek", &[])],
-        turns: 74,
-        end: End::Socket,
-        err: "12 began 1.1\n12 began 2.1\n12 began 3.1\n12 began 4.1\n12 began 5.1\n12 began 6.1\n12 began 7.1\n12 began 8.1\n12 began 9.1\n12 began 10.1\n12 began 11.1\n12 began 12.1\n12 began 13.1\n12 began 14.1\n12 began 15.1\n12 began 16.1\n12 began 17.1\n12 began 18.1\n12 began 19.1\n12 began 20.1\n12 began 21.1\n12 began 22.1\n12 began 23.1\n12 began 24.1\n12 began 25.1\n12 began 26.1\n12 began 27.1\n12 began 28.1\n12 began 29.1\n12 began 30.1\n12 began 31.1\n12 began 32.1\n12 gave-up 32.1\n12 began 33.1\nsocket: receive failed\n",
-        ..RUN
-    };
-    assert!(rt; is_true(rt.alloc(), &run));
-    Ok(())
+fn given_up(rt: HostRuntime) {
+    assert!(rt; is_true(rt.alloc(), &GIVEN_UP));
 }

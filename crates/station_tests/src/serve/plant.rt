@@ -1,8 +1,8 @@
 //! A station at work, and the steps that it is driven by.
 
+use crate::given::{Given, frames_of};
 use crate::stations::station_over;
 use command_ends::End;
-use fixtures::FLOOD;
 use saved_rows::Rows;
 use serve_command::{serve_run, serve_turn};
 use station::Station;
@@ -13,7 +13,7 @@ use wire::Wire;
 /// The text of the release of the flood story for number 12.
 pub const RELEASE: &str = "release 12 01020301030204\n0001 J 0 0 a b _4 a _4 b\n";
 
-/// What happens to a station, then a run of it: the offer of these frames, a withdrawal, a search, and so many turns; how
+/// What happens to a station, then a run of it: the offer of this tape, a withdrawal, a search, and so many turns; how
 /// it has to end, what it has to print, and how many datagrams have then been sent.
 #[derive(Clone, Copy)]
 pub struct Run {
@@ -24,7 +24,7 @@ pub struct Run {
     pub at: u64,
     /// The datagrams that come, in hexadecimal digits.
     pub coming: &'static [&'static [u8]],
-    pub offer: Option<(u32, &'static [u8])>,
+    pub offer: Option<(u32, Given)>,
     pub withdraw: Option<u32>,
     pub seek: Option<u32>,
     pub turns: u32,
@@ -52,7 +52,7 @@ pub const TURN: Run = Run {
 
 /// The offer of the story for number 12, and a turn.
 pub const OFFER: Run = Run {
-    offer: Some((12, FLOOD)),
+    offer: Some((12, Given::Flood)),
     ..TURN
 };
 
@@ -72,7 +72,7 @@ pub const SEARCH: Run = Run {
 pub fn offer_of(alloc: Global, run: &Run) -> Result<Option<(u32, Tape)>, TapeFault> {
     match run.offer {
         None => Ok(None),
-        Some((number, frames)) => Ok(Some((number, Tape::from_bytes(alloc, frames)?))),
+        Some((number, given)) => Ok(Some((number, Tape::from_bytes(alloc, frames_of(given))?))),
     }
 }
 

@@ -1,10 +1,10 @@
 //! Offers and searches that are refused.
 
+use crate::given::Given;
 use crate::serve::plant::{OFFER, RELEASE, Run};
 use crate::serve::stories::{Story, is_true};
 use crate::serve::wires::Manner;
 use command_ends::End;
-use fixtures::FLOOD;
 use tape_frames::Version;
 
 /// The offer of the story, refused.
@@ -22,7 +22,7 @@ const OFFERS_AND_SEARCHES: Story = Story {
     manner: Manner::Whole,
     steps: &[
         Run {
-            offer: Some((0, FLOOD)),
+            offer: Some((0, Given::Flood)),
             err: "refused bad-number\n",
             ..REFUSED
         },
@@ -33,7 +33,7 @@ const OFFERS_AND_SEARCHES: Story = Story {
             ..REFUSED
         },
         Run {
-            offer: Some((12, &[1])),
+            offer: Some((12, Given::Unfinished)),
             err: "refused tape-faulty unfinished at 1 line 1\n",
             ..REFUSED
         },
