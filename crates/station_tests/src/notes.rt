@@ -4,7 +4,7 @@ use ballots::Ballot;
 use node_core::Note;
 
 /// A note, with the round and the owner of its ballot.
-#[derive(Clone, Copy)]
+#[derive(Clone, Copy, PartialEq, Eq)]
 pub enum Noted {
     Began(u32, u8),
     Nothing(u32, u8),
@@ -25,30 +25,34 @@ pub enum Noted {
     Heard(u32, u8),
 }
 
-fn is_ballot(ballot: Ballot, round: u32, owner: u8) -> bool {
-    ballot.round() == round && ballot.owner().get() == owner
+fn owner(ballot: Ballot) -> u8 {
+    ballot.owner().get()
+}
+
+/// A note as a row tells it.
+fn noted(note: Note) -> Noted {
+    match note {
+        Note::Began { ballot } => Noted::Began(ballot.round(), owner(ballot)),
+        Note::Nothing { ballot } => Noted::Nothing(ballot.round(), owner(ballot)),
+        Note::Proposed { ballot } => Noted::Proposed(ballot.round(), owner(ballot)),
+        Note::Idle => Noted::Idle,
+        Note::GaveUp { ballot } => Noted::GaveUp(ballot.round(), owner(ballot)),
+        Note::Promised { ballot } => Noted::Promised(ballot.round(), owner(ballot)),
+        Note::Silent => Noted::Silent,
+        Note::Nacked { promised } => Noted::Nacked(promised.round(), owner(promised)),
+        Note::VotedAgain { ballot } => Noted::VotedAgain(ballot.round(), owner(ballot)),
+        Note::Voted { ballot } => Noted::Voted(ballot.round(), owner(ballot)),
+        Note::Stale => Noted::Stale,
+        Note::Overtaken { ballot } => Noted::Overtaken(ballot.round(), owner(ballot)),
+        Note::Repeated => Noted::Repeated,
+        Note::Counted { ballot } => Noted::Counted(ballot.round(), owner(ballot)),
+        Note::Denied { promised } => Noted::Denied(promised.round(), owner(promised)),
+        Note::Settled => Noted::Settled,
+        Note::Heard { ballot } => Noted::Heard(ballot.round(), owner(ballot)),
+    }
 }
 
 /// Whether a note is this one.
 pub fn is_note(note: Note, told: Noted) -> bool {
-    match (note, told) {
-        (Note::Began { ballot }, Noted::Began(round, owner))
-        | (Note::Nothing { ballot }, Noted::Nothing(round, owner))
-        | (Note::Proposed { ballot }, Noted::Proposed(round, owner))
-        | (Note::GaveUp { ballot }, Noted::GaveUp(round, owner))
-        | (Note::Promised { ballot }, Noted::Promised(round, owner))
-        | (Note::Nacked { promised: ballot }, Noted::Nacked(round, owner))
-        | (Note::VotedAgain { ballot }, Noted::VotedAgain(round, owner))
-        | (Note::Voted { ballot }, Noted::Voted(round, owner))
-        | (Note::Overtaken { ballot }, Noted::Overtaken(round, owner))
-        | (Note::Counted { ballot }, Noted::Counted(round, owner))
-        | (Note::Denied { promised: ballot }, Noted::Denied(round, owner))
-        | (Note::Heard { ballot }, Noted::Heard(round, owner)) => is_ballot(ballot, round, owner),
-        (Note::Idle, Noted::Idle)
-        | (Note::Silent, Noted::Silent)
-        | (Note::Stale, Noted::Stale)
-        | (Note::Repeated, Noted::Repeated)
-        | (Note::Settled, Noted::Settled) => true,
-        _ => false,
-    }
+    noted(note) == told
 }

@@ -1,7 +1,7 @@
 //! Whatever the steps are, the releases agree.
 
 use crate::circuits::members::{MIXED, NEW, OLD};
-use crate::circuits::scripts::{IDLE, Kind, first_broken};
+use crate::circuits::scripts::{Kind, first_broken};
 
 /// How many scripts are taken of each kind of circuit.
 const SCRIPTS: usize = 200;
@@ -25,10 +25,8 @@ const KINDS: &[Kind] = &[
 #[test]
 fn members_agree(rt: HostRuntime) {
     for (place, kind) in KINDS.iter().enumerate() {
-        let mut tally = IDLE;
-        let broken = first_broken(rt.alloc(), *kind, SCRIPTS, &mut tally);
+        let broken = first_broken(rt.alloc(), *kind, SCRIPTS);
         let (seed, fault) = broken.unwrap_or((0, ""));
         assert!(rt; broken.is_none(), "circuits {place}, seed {seed}: {fault}");
-        assert!(rt; tally.is_busy(SCRIPTS, kind), "circuits {place}");
     }
 }

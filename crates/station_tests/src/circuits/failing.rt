@@ -8,7 +8,9 @@ use crate::circuits::stories::Act::{
     Balk, Deliver, OfferFlood, OfferLigature, Restart, Seek, Upgrade, Withdraw,
 };
 use crate::circuits::stories::Ending::{Armed, Done, Refused, Restarted, Upgraded};
-use crate::circuits::stories::{CALM, Line, Offered, Released, Story};
+use crate::circuits::stories::{
+    CALM, Line, MEMORY_REFUSED, Offered, Released, STORE_REFUSES, Story, TAPE_FAULTY, WIRE_TOO_OLD,
+};
 use crate::circuits::telling::{Way, fails_at, fails_unread_at};
 use crate::given::Given::{Flood, Void};
 use crate::notes::Noted::{Began, Heard, Nothing, Promised, Proposed, Voted};
@@ -20,14 +22,7 @@ const SAVED: Story = Story {
     members: 1,
     lines: &[
         Line(Balk(1, true), 1, 1, 0, false, Armed(true)),
-        Line(
-            OfferFlood(1),
-            1,
-            1,
-            0,
-            false,
-            Refused(StepRefusal::Store(RowsFault::Store)),
-        ),
+        Line(OfferFlood(1), 1, 1, 0, false, STORE_REFUSES),
         Line(Seek(1), 1, 1, 0, false, Refused(StepRefusal::Stopped)),
         Line(Restart(1), 1, 1, 0, false, Restarted),
         Line(Seek(1), 1, 1, 0, true, Done(Proposed(2, 1))),
@@ -42,14 +37,7 @@ const UNSAVED: Story = Story {
     members: 1,
     lines: &[
         Line(Balk(1, false), 1, 1, 0, false, Armed(false)),
-        Line(
-            OfferFlood(1),
-            1,
-            1,
-            0,
-            false,
-            Refused(StepRefusal::Store(RowsFault::Store)),
-        ),
+        Line(OfferFlood(1), 1, 1, 0, false, STORE_REFUSES),
         Line(Restart(1), 1, 1, 0, false, Restarted),
         Line(Seek(1), 1, 1, 0, false, Done(Nothing(1, 1))),
     ],
@@ -63,22 +51,8 @@ const REFUSED_FIRST: Story = Story {
     last: WithoutFi,
     lines: &[
         Line(Balk(1, true), 1, 1, 0, false, Armed(true)),
-        Line(
-            OfferLigature(1),
-            1,
-            1,
-            0,
-            false,
-            Refused(StepRefusal::TapeFaulty(WITHOUT_FI)),
-        ),
-        Line(
-            OfferFlood(1),
-            1,
-            1,
-            0,
-            false,
-            Refused(StepRefusal::Store(RowsFault::Store)),
-        ),
+        Line(OfferLigature(1), 1, 1, 0, false, TAPE_FAULTY),
+        Line(OfferFlood(1), 1, 1, 0, false, STORE_REFUSES),
         Line(Restart(1), 1, 1, 0, false, Restarted),
         Line(Seek(1), 1, 1, 0, true, Done(Proposed(2, 1))),
     ],
@@ -103,37 +77,16 @@ fn a_store_that_refuses(rt: HostRuntime) {
 /// again the same step goes as it does with a blank row, and the story is agreed.
 const UNREAD_ROW: Story = Story {
     lines: &[
-        Line(
-            OfferFlood(1),
-            1,
-            1,
-            0,
-            false,
-            Refused(StepRefusal::Store(RowsFault::OutOfMemory)),
-        ),
+        Line(OfferFlood(1), 1, 1, 0, false, MEMORY_REFUSED),
         Line(Seek(1), 1, 1, 0, false, Refused(StepRefusal::Stopped)),
         Line(Restart(1), 1, 1, 0, false, Restarted),
         Line(OfferFlood(1), 1, 1, 2, false, Done(Began(1, 1))),
-        Line(
-            Deliver(1),
-            2,
-            3,
-            0,
-            false,
-            Refused(StepRefusal::Store(RowsFault::OutOfMemory)),
-        ),
+        Line(Deliver(1), 2, 3, 0, false, MEMORY_REFUSED),
         Line(Deliver(1), 2, 3, 0, false, Refused(StepRefusal::Stopped)),
         Line(Restart(2), 2, 3, 0, false, Restarted),
         Line(Deliver(1), 2, 3, 1, false, Done(Promised(1, 1))),
         Line(Deliver(3), 1, 4, 4, false, Done(Proposed(1, 1))),
-        Line(
-            Deliver(5),
-            3,
-            8,
-            0,
-            false,
-            Refused(StepRefusal::Store(RowsFault::OutOfMemory)),
-        ),
+        Line(Deliver(5), 3, 8, 0, false, MEMORY_REFUSED),
         Line(Restart(3), 3, 8, 0, false, Restarted),
         Line(Deliver(5), 3, 8, 2, false, Done(Voted(1, 1))),
         Line(Deliver(8), 1, 10, 0, true, Done(Heard(1, 1))),
@@ -160,24 +113,10 @@ const UNREAD_ROW: Story = Story {
 const UNREAD_ROWS: Story = Story {
     members: 1,
     lines: &[
-        Line(
-            Upgrade(1),
-            1,
-            1,
-            0,
-            false,
-            Refused(StepRefusal::Store(RowsFault::OutOfMemory)),
-        ),
+        Line(Upgrade(1), 1, 1, 0, false, MEMORY_REFUSED),
         Line(Withdraw(1), 1, 1, 0, false, Refused(StepRefusal::Stopped)),
         Line(Restart(1), 1, 1, 0, false, Restarted),
-        Line(
-            Withdraw(1),
-            1,
-            1,
-            0,
-            false,
-            Refused(StepRefusal::WireTooOld),
-        ),
+        Line(Withdraw(1), 1, 1, 0, false, WIRE_TOO_OLD),
         Line(Upgrade(1), 1, 1, 0, false, Upgraded),
         Line(Withdraw(1), 1, 1, 0, true, Done(Proposed(1, 1))),
     ],

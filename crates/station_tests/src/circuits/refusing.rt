@@ -3,12 +3,11 @@
 use crate::circuits::bodies::Body::{NoReport, Prepare};
 use crate::circuits::bodies::Sent;
 use crate::circuits::stories::Act::{Deliver, OfferFlood, Seek};
-use crate::circuits::stories::Ending::{Done, NoStep, Refused};
-use crate::circuits::stories::{CALM, Line, Offered, Story};
+use crate::circuits::stories::Ending::Done;
+use crate::circuits::stories::{ALREADY_OPEN, CALM, Line, NO_DATAGRAM, NO_MEMBER, Offered, Story};
 use crate::circuits::telling::{Way, fails_at, is_handed_back, is_unplayed, plays};
 use crate::given::Given::Flood;
 use crate::notes::Noted::{Began, Promised, Proposed};
-use station::StepRefusal;
 use world::{RunStop, WorldRefusal};
 
 #[test]
@@ -28,24 +27,10 @@ fn counts_that_are_refused(rt: HostRuntime) {
 /// Datagrams that were never sent, and members that there are not.
 const STRANGE: Story = Story {
     lines: &[
-        Line(
-            Deliver(0),
-            0,
-            0,
-            0,
-            false,
-            NoStep(WorldRefusal::NoSuchDatagram),
-        ),
-        Line(
-            Deliver(1),
-            0,
-            0,
-            0,
-            false,
-            NoStep(WorldRefusal::NoSuchDatagram),
-        ),
-        Line(Seek(0), 0, 0, 0, false, NoStep(WorldRefusal::NoSuchMember)),
-        Line(Seek(4), 0, 0, 0, false, NoStep(WorldRefusal::NoSuchMember)),
+        Line(Deliver(0), 0, 0, 0, false, NO_DATAGRAM),
+        Line(Deliver(1), 0, 0, 0, false, NO_DATAGRAM),
+        Line(Seek(0), 0, 0, 0, false, NO_MEMBER),
+        Line(Seek(4), 0, 0, 0, false, NO_MEMBER),
     ],
     ..CALM
 };
@@ -54,14 +39,7 @@ const STRANGE: Story = Story {
 const OPEN: Story = Story {
     lines: &[
         Line(OfferFlood(1), 1, 1, 2, false, Done(Began(1, 1))),
-        Line(
-            OfferFlood(1),
-            1,
-            3,
-            0,
-            false,
-            Refused(StepRefusal::AlreadyOpen),
-        ),
+        Line(OfferFlood(1), 1, 3, 0, false, ALREADY_OPEN),
     ],
     sent: &[
         Sent(1, 1, 2, (1, 1), Prepare),
@@ -78,14 +56,7 @@ const TOO_EARLY: &[Story] = &[Story {
     lines: &[
         Line(OfferFlood(1), 1, 1, 2, false, Done(Began(1, 1))),
         Line(Deliver(1), 2, 3, 1, false, Done(Promised(1, 1))),
-        Line(
-            Deliver(4),
-            0,
-            0,
-            0,
-            false,
-            NoStep(WorldRefusal::NoSuchDatagram),
-        ),
+        Line(Deliver(4), 0, 0, 0, false, NO_DATAGRAM),
         Line(Deliver(3), 1, 4, 4, false, Done(Proposed(1, 1))),
     ],
     sent: &[

@@ -48,17 +48,17 @@ impl Kind {
 
 /// What scripts came to, to tell that they are no idle ones.
 #[derive(Clone, Copy)]
-pub struct Tally {
+struct Tally {
     /// How many releases there were among the random steps.
-    pub releases: usize,
+    releases: usize,
     /// How many numbers were released that were offered more than one entry.
-    pub rivals: usize,
+    rivals: usize,
     /// How many releases of a withdrawal there were.
-    pub withdrawals: usize,
+    withdrawals: usize,
 }
 
 /// Before any script.
-pub const IDLE: Tally = Tally {
+const IDLE: Tally = Tally {
     releases: 0,
     rivals: 0,
     withdrawals: 0,
@@ -67,7 +67,7 @@ pub const IDLE: Tally = Tally {
 impl Tally {
     /// Whether there was a release for each script, and a number with rivals for each third; and withdrawals were released
     /// where the circuits have a version that has them, and only there.
-    pub fn is_busy(&self, scripts: usize, kind: &Kind) -> bool {
+    fn is_busy(&self, scripts: usize, kind: &Kind) -> bool {
         let withdraws = kind.versions.0 == Version::Two;
         self.releases >= scripts
             && self.rivals >= scripts / 3
@@ -495,18 +495,19 @@ fn fault_of_seed(alloc: Global, kind: Kind, seed: u64, tally: &mut Tally) -> Opt
     }
 }
 
-/// The seed of the first of so many scripts of which not all holds, and what does not; nothing where all holds.
-pub fn first_broken(
-    alloc: Global,
-    kind: Kind,
-    scripts: usize,
-    tally: &mut Tally,
-) -> Option<(u64, &'static str)> {
+/// The seed of the first of so many scripts of which not all holds, and what does not; nothing where all holds, and they are no
+/// idle ones.
+pub fn first_broken(alloc: Global, kind: Kind, scripts: usize) -> Option<(u64, &'static str)> {
+    let mut tally = IDLE;
     for script in 0..scripts {
         let seed = SEED.saturating_add(script as u64);
-        if let Some(fault) = fault_of_seed(alloc, kind, seed, tally) {
+        if let Some(fault) = fault_of_seed(alloc, kind, seed, &mut tally) {
             return Some((seed, fault));
         }
     }
-    None
+    if tally.is_busy(scripts, &kind) {
+        None
+    } else {
+        Some((SEED, "from this seed on they are idle"))
+    }
 }

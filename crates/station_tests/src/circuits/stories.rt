@@ -1,10 +1,12 @@
 //! Stories of a circuit over rows in memory: the steps, what has to be seen of each, and what the logs have to say.
 
 use crate::circuits::bodies::Sent;
-use crate::circuits::members::{LastWidths, OLD, Versions};
+use crate::circuits::members::{LastWidths, OLD, Versions, WITHOUT_FI};
 use crate::given::Given;
 use crate::notes::Noted;
 use line_check::SetFault;
+use packets::PacketFault;
+use saved_rows::RowsFault;
 use station::StepRefusal;
 use world::{RunStop, WorldRefusal};
 
@@ -35,6 +37,25 @@ pub enum Ending {
     /// There is no such step. No more is seen of it.
     NoStep(WorldRefusal),
 }
+
+/// The store refuses, or memory is refused as rows are read, and the station stops.
+pub const STORE_REFUSES: Ending = Ending::Refused(StepRefusal::Store(RowsFault::Store));
+
+pub const MEMORY_REFUSED: Ending = Ending::Refused(StepRefusal::Store(RowsFault::OutOfMemory));
+
+/// Refusals of a datagram, of an offer, and of the ligature story at widths that lack `fi`.
+pub const BAD_VERSION: Ending = Ending::Refused(StepRefusal::BadDatagram(PacketFault::BadVersion));
+
+pub const ALREADY_OPEN: Ending = Ending::Refused(StepRefusal::AlreadyOpen);
+
+pub const WIRE_TOO_OLD: Ending = Ending::Refused(StepRefusal::WireTooOld);
+
+pub const TAPE_FAULTY: Ending = Ending::Refused(StepRefusal::TapeFaulty(WITHOUT_FI));
+
+/// There is no such datagram, or no such member.
+pub const NO_DATAGRAM: Ending = Ending::NoStep(WorldRefusal::NoSuchDatagram);
+
+pub const NO_MEMBER: Ending = Ending::NoStep(WorldRefusal::NoSuchMember);
 
 /// A step, and what is to be seen of it: who acted, the first datagram, how many were sent, whether an entry was released,
 /// and how it ended.

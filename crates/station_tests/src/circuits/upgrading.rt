@@ -4,15 +4,14 @@ use crate::circuits::bodies::Body::{FloodPacked, FloodReportPacked, FloodTape, N
 use crate::circuits::bodies::Sent;
 use crate::circuits::members::NEW;
 use crate::circuits::stories::Act::{Balk, Deliver, OfferFlood, Restart, Seek, Upgrade, Withdraw};
-use crate::circuits::stories::Ending::{Armed, Done, NoStep, Refused, Restarted, Upgraded};
-use crate::circuits::stories::{CALM, Line, Offered, Released, Story};
+use crate::circuits::stories::Ending::{Armed, Done, Refused, Restarted, Upgraded};
+use crate::circuits::stories::{
+    BAD_VERSION, CALM, Line, NO_MEMBER, Offered, Released, STORE_REFUSES, Story, WIRE_TOO_OLD,
+};
 use crate::circuits::telling::{Way, fails_at, plays};
 use crate::given::Given::{Flood, Void};
 use crate::notes::Noted::{Began, Heard, Promised, Proposed, Stale, Voted};
-use packets::PacketFault;
-use saved_rows::RowsFault;
 use station::StepRefusal;
-use world::WorldRefusal;
 
 /// Member 2 votes for the flood story and goes over; member 3, which goes over too, withdraws the number, and hears of the
 /// vote: it proposes the story in its ballot, and releases it. Member 1, which stays, reads nothing of that.
@@ -25,14 +24,7 @@ const OUTLIVED: Story = Story {
         Line(Upgrade(2), 2, 10, 0, false, Upgraded),
         Line(Upgrade(3), 3, 10, 0, false, Upgraded),
         Line(Withdraw(3), 3, 10, 2, false, Done(Began(1, 3))),
-        Line(
-            Deliver(10),
-            1,
-            12,
-            0,
-            false,
-            Refused(StepRefusal::BadDatagram(PacketFault::BadVersion)),
-        ),
+        Line(Deliver(10), 1, 12, 0, false, BAD_VERSION),
         Line(Deliver(11), 2, 12, 1, false, Done(Promised(1, 3))),
         Line(Deliver(12), 3, 13, 4, false, Done(Proposed(1, 3))),
         Line(Deliver(14), 2, 17, 2, false, Done(Voted(1, 3))),
@@ -71,14 +63,7 @@ const READS_BOTH: Story = Story {
         Line(OfferFlood(1), 1, 1, 2, false, Done(Began(1, 1))),
         Line(Upgrade(2), 2, 3, 0, false, Upgraded),
         Line(Deliver(1), 2, 3, 1, false, Done(Promised(1, 1))),
-        Line(
-            Deliver(3),
-            1,
-            4,
-            0,
-            false,
-            Refused(StepRefusal::BadDatagram(PacketFault::BadVersion)),
-        ),
+        Line(Deliver(3), 1, 4, 0, false, BAD_VERSION),
         Line(Upgrade(1), 1, 4, 0, false, Upgraded),
         Line(Deliver(3), 1, 4, 0, false, Done(Stale)),
     ],
@@ -97,24 +82,10 @@ const UNSAVED: Story = Story {
     members: 1,
     lines: &[
         Line(Balk(1, false), 1, 1, 0, false, Armed(false)),
-        Line(
-            Upgrade(1),
-            1,
-            1,
-            0,
-            false,
-            Refused(StepRefusal::Store(RowsFault::Store)),
-        ),
+        Line(Upgrade(1), 1, 1, 0, false, STORE_REFUSES),
         Line(Seek(1), 1, 1, 0, false, Refused(StepRefusal::Stopped)),
         Line(Restart(1), 1, 1, 0, false, Restarted),
-        Line(
-            Withdraw(1),
-            1,
-            1,
-            0,
-            false,
-            Refused(StepRefusal::WireTooOld),
-        ),
+        Line(Withdraw(1), 1, 1, 0, false, WIRE_TOO_OLD),
     ],
     ..CALM
 };
@@ -124,14 +95,7 @@ const SAVED: Story = Story {
     members: 1,
     lines: &[
         Line(Balk(1, true), 1, 1, 0, false, Armed(true)),
-        Line(
-            Upgrade(1),
-            1,
-            1,
-            0,
-            false,
-            Refused(StepRefusal::Store(RowsFault::Store)),
-        ),
+        Line(Upgrade(1), 1, 1, 0, false, STORE_REFUSES),
         Line(Withdraw(1), 1, 1, 0, false, Refused(StepRefusal::Stopped)),
         Line(Restart(1), 1, 1, 0, false, Restarted),
         Line(Withdraw(1), 1, 1, 0, true, Done(Proposed(1, 1))),
@@ -147,14 +111,7 @@ const AT_TWO: Story = Story {
     versions: NEW,
     lines: &[
         Line(Balk(1, false), 1, 1, 0, false, Armed(false)),
-        Line(
-            Upgrade(1),
-            1,
-            1,
-            0,
-            false,
-            Refused(StepRefusal::Store(RowsFault::Store)),
-        ),
+        Line(Upgrade(1), 1, 1, 0, false, STORE_REFUSES),
         Line(Upgrade(1), 1, 1, 0, false, Upgraded),
         Line(Withdraw(1), 1, 1, 0, true, Done(Proposed(1, 1))),
     ],
@@ -168,14 +125,7 @@ const STOPPED: Story = Story {
     members: 1,
     lines: &[
         Line(Balk(1, true), 1, 1, 0, false, Armed(true)),
-        Line(
-            OfferFlood(1),
-            1,
-            1,
-            0,
-            false,
-            Refused(StepRefusal::Store(RowsFault::Store)),
-        ),
+        Line(OfferFlood(1), 1, 1, 0, false, STORE_REFUSES),
         Line(Upgrade(1), 1, 1, 0, false, Upgraded),
         Line(Withdraw(1), 1, 1, 0, true, Done(Proposed(2, 1))),
         Line(Upgrade(1), 1, 1, 0, false, Upgraded),
@@ -190,22 +140,8 @@ const STOPPED: Story = Story {
 /// There is no such member.
 const STRANGE: Story = Story {
     lines: &[
-        Line(
-            Upgrade(0),
-            0,
-            0,
-            0,
-            false,
-            NoStep(WorldRefusal::NoSuchMember),
-        ),
-        Line(
-            Upgrade(4),
-            0,
-            0,
-            0,
-            false,
-            NoStep(WorldRefusal::NoSuchMember),
-        ),
+        Line(Upgrade(0), 0, 0, 0, false, NO_MEMBER),
+        Line(Upgrade(4), 0, 0, 0, false, NO_MEMBER),
     ],
     ..CALM
 };

@@ -4,13 +4,11 @@ use crate::circuits::bodies::Body::{FloodPacked, NoReport, Prepare, Withdrawal, 
 use crate::circuits::bodies::Sent;
 use crate::circuits::members::{MIXED, NEW};
 use crate::circuits::stories::Act::{Deliver, OfferFlood, OfferLigature, OfferLongest, Withdraw};
-use crate::circuits::stories::Ending::{Done, Refused};
-use crate::circuits::stories::{CALM, Line, Offered, Released, Story};
+use crate::circuits::stories::Ending::Done;
+use crate::circuits::stories::{BAD_VERSION, CALM, Line, Offered, Released, Story, WIRE_TOO_OLD};
 use crate::circuits::telling::{Way, fails_at, plays};
 use crate::given::Given::{Flood, Ligature, Void};
 use crate::notes::Noted::{Began, Heard, Promised, Proposed, Voted};
-use packets::PacketFault;
-use station::StepRefusal;
 
 /// Member 1 of three withdraws a number, and all three release that, which sets as nothing.
 const WITHDRAWN: Story = Story {
@@ -88,22 +86,8 @@ const REPORTED: Story = Story {
 /// In version 1 there is no withdrawal and no longer tape; nothing is offered then.
 const TOO_OLD: Story = Story {
     lines: &[
-        Line(
-            Withdraw(1),
-            1,
-            1,
-            0,
-            false,
-            Refused(StepRefusal::WireTooOld),
-        ),
-        Line(
-            OfferLongest(2),
-            2,
-            1,
-            0,
-            false,
-            Refused(StepRefusal::WireTooOld),
-        ),
+        Line(Withdraw(1), 1, 1, 0, false, WIRE_TOO_OLD),
+        Line(OfferLongest(2), 2, 1, 0, false, WIRE_TOO_OLD),
     ],
     ..CALM
 };
@@ -113,26 +97,12 @@ const APART: Story = Story {
     versions: MIXED,
     lines: &[
         Line(OfferFlood(1), 1, 1, 2, false, Done(Began(1, 1))),
-        Line(
-            Deliver(2),
-            3,
-            3,
-            0,
-            false,
-            Refused(StepRefusal::BadDatagram(PacketFault::BadVersion)),
-        ),
+        Line(Deliver(2), 3, 3, 0, false, BAD_VERSION),
         Line(Deliver(1), 2, 3, 1, false, Done(Promised(1, 1))),
         Line(Deliver(3), 1, 4, 4, false, Done(Proposed(1, 1))),
         Line(Deliver(6), 2, 8, 0, false, Done(Heard(1, 1))),
         Line(Deliver(4), 2, 8, 2, true, Done(Voted(1, 1))),
-        Line(
-            Deliver(7),
-            3,
-            10,
-            0,
-            false,
-            Refused(StepRefusal::BadDatagram(PacketFault::BadVersion)),
-        ),
+        Line(Deliver(7), 3, 10, 0, false, BAD_VERSION),
     ],
     sent: &[
         Sent(1, 1, 2, (1, 1), Prepare),
@@ -154,24 +124,10 @@ const APART: Story = Story {
 const ASKED: Story = Story {
     versions: MIXED,
     lines: &[
-        Line(
-            Withdraw(3),
-            3,
-            1,
-            0,
-            false,
-            Refused(StepRefusal::WireTooOld),
-        ),
+        Line(Withdraw(3), 3, 1, 0, false, WIRE_TOO_OLD),
         Line(OfferFlood(3), 3, 1, 2, false, Done(Began(1, 3))),
         Line(Deliver(1), 1, 3, 1, false, Done(Promised(1, 3))),
-        Line(
-            Deliver(3),
-            3,
-            4,
-            0,
-            false,
-            Refused(StepRefusal::BadDatagram(PacketFault::BadVersion)),
-        ),
+        Line(Deliver(3), 3, 4, 0, false, BAD_VERSION),
     ],
     sent: &[
         Sent(1, 3, 1, (1, 3), Prepare),

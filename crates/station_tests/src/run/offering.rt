@@ -7,19 +7,19 @@ use crate::run::stage::Name::{Seek12, Stop, Tape12, Withdraw14};
 use crate::run::stage::What::Laid;
 
 /// An offer is released and sent; quietly, too.
+const LOUD: Run = Run {
+    acts: &[Act(1, Laid(Tape12, Flood)), Act(20, Laid(Stop, Nothing))],
+    folders: "wrote 12.tape 7\nwrote 12.galley 25\nsent 12.tape\n",
+    err: "12 released\n12 sent\n",
+    ..RUN
+};
+
 const SENT: &[Run] = &[
-    Run {
-        acts: &[Act(1, Laid(Tape12, Flood)), Act(20, Laid(Stop, Nothing))],
-        folders: "wrote 12.tape 7\nwrote 12.galley 25\nsent 12.tape\n",
-        err: "12 released\n12 sent\n",
-        ..RUN
-    },
+    LOUD,
     Run {
         quiet: true,
-        acts: &[Act(1, Laid(Tape12, Flood)), Act(20, Laid(Stop, Nothing))],
-        folders: "wrote 12.tape 7\nwrote 12.galley 25\nsent 12.tape\n",
         err: "",
-        ..RUN
+        ..LOUD
     },
 ];
 
@@ -35,7 +35,8 @@ const LOST: &[Run] = &[
     Run {
         saved: Saved::Vote,
         acts: &[Act(1, Laid(Tape12, Harvest)), Act(20, Laid(Stop, Nothing))],
-        folders: "wrote 12.tape 7\nwrote 12.galley 25\nlost 12.tape\nlost 12.tape.txt: release 12 01020301030204\n",
+        folders: "\
+wrote 12.tape 7\nwrote 12.galley 25\nlost 12.tape\nlost 12.tape.txt: release 12 01020301030204\n",
         err: "12 released\n12 lost\n",
         ..RUN
     },
@@ -45,7 +46,9 @@ const LOST: &[Run] = &[
             Act(10, Laid(Tape12, Harvest)),
             Act(20, Laid(Stop, Nothing)),
         ],
-        folders: "wrote 12.tape 7\nwrote 12.galley 25\nsent 12.tape\nlost 12.tape\nlost 12.tape.txt: release 12 01020301030204\n",
+        folders: "\
+wrote 12.tape 7\nwrote 12.galley 25\nsent 12.tape\nlost 12.tape\n\
+lost 12.tape.txt: release 12 01020301030204\n",
         err: "12 released\n12 sent\n12 lost\n",
         ..RUN
     },

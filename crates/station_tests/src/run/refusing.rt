@@ -20,7 +20,9 @@ const REFUSED: &[Run] = &[
             Act(1, Laid(PartTape, Flood)),
             Act(9, Laid(Stop, Nothing)),
         ],
-        folders: "refused 012.tape\nrefused story.tape\nrefused 1000000.seek\nrefused 012.tape.txt: no number\nrefused story.tape.txt: no number\nrefused 1000000.seek.txt: no number\n",
+        folders: "\
+refused 012.tape\nrefused story.tape\nrefused 1000000.seek\nrefused 012.tape.txt: no number\n\
+refused story.tape.txt: no number\nrefused 1000000.seek.txt: no number\n",
         err: "refused 012.tape: no number\nrefused story.tape: no number\nrefused 1000000.seek: no number\n",
         ..RUN
     },
@@ -31,8 +33,12 @@ const REFUSED: &[Run] = &[
             Act(1, Laid(Tape14, TooLong)),
             Act(9, Laid(Stop, Nothing)),
         ],
-        folders: "refused 12.tape\nrefused 13.tape\nrefused 14.tape\nrefused 12.tape.txt: tape: bad frame at 1\nrefused 13.tape.txt: tape: empty\nrefused 14.tape.txt: tape: too long 16385\n",
-        err: "refused 12.tape: tape: bad frame at 1\nrefused 13.tape: tape: empty\nrefused 14.tape: tape: too long 16385\n",
+        folders: "\
+refused 12.tape\nrefused 13.tape\nrefused 14.tape\nrefused 12.tape.txt: tape: bad frame at 1\n\
+refused 13.tape.txt: tape: empty\nrefused 14.tape.txt: tape: too long 16385\n",
+        err: "\
+refused 12.tape: tape: bad frame at 1\nrefused 13.tape: tape: empty\n\
+refused 14.tape: tape: too long 16385\n",
         ..RUN
     },
 ];

@@ -128,7 +128,13 @@ const GIVEN_UP: Run = Run {
     acts: &[Act(1, Laid(Seek12, Nothing))],
     turns: 74,
     end: End::Socket,
-    err: "12 began 1.1\n12 began 2.1\n12 began 3.1\n12 began 4.1\n12 began 5.1\n12 began 6.1\n12 began 7.1\n12 began 8.1\n12 began 9.1\n12 began 10.1\n12 began 11.1\n12 began 12.1\n12 began 13.1\n12 began 14.1\n12 began 15.1\n12 began 16.1\n12 began 17.1\n12 began 18.1\n12 began 19.1\n12 began 20.1\n12 began 21.1\n12 began 22.1\n12 began 23.1\n12 began 24.1\n12 began 25.1\n12 began 26.1\n12 began 27.1\n12 began 28.1\n12 began 29.1\n12 began 30.1\n12 began 31.1\n12 began 32.1\n12 gave-up 32.1\n12 began 33.1\nsocket: receive failed\n",
+    err: "\
+12 began 1.1\n12 began 2.1\n12 began 3.1\n12 began 4.1\n12 began 5.1\n12 began 6.1\n\
+12 began 7.1\n12 began 8.1\n12 began 9.1\n12 began 10.1\n12 began 11.1\n12 began 12.1\n\
+12 began 13.1\n12 began 14.1\n12 began 15.1\n12 began 16.1\n12 began 17.1\n12 began 18.1\n\
+12 began 19.1\n12 began 20.1\n12 began 21.1\n12 began 22.1\n12 began 23.1\n12 began 24.1\n\
+12 began 25.1\n12 began 26.1\n12 began 27.1\n12 began 28.1\n12 began 29.1\n12 began 30.1\n\
+12 began 31.1\n12 began 32.1\n12 gave-up 32.1\n12 began 33.1\nsocket: receive failed\n",
     ..RUN
 };
 
