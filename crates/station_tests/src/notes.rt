@@ -30,7 +30,7 @@ fn owner(ballot: Ballot) -> u8 {
 }
 
 /// A note as a row tells it.
-fn noted(note: Note) -> Noted {
+fn as_told(note: Note) -> Noted {
     match note {
         Note::Began { ballot } => Noted::Began(ballot.round(), owner(ballot)),
         Note::Nothing { ballot } => Noted::Nothing(ballot.round(), owner(ballot)),
@@ -54,5 +54,5 @@ fn noted(note: Note) -> Noted {
 
 /// Whether a note is this one.
 pub fn is_note(note: Note, told: Noted) -> bool {
-    noted(note) == told
+    as_told(note) == told
 }
