@@ -1,7 +1,12 @@
-//! The tests of `answer`, `check`, `rehearse`, of configurations and of faults: whole printed texts.
+//! The tests of `answer`, `check` and `rehearse`, of configurations, of the texts of faults, and of the command line: whole printed
+//! texts.
 #![tactic(auto)]
 
 #[cfg(test)]
-mod failing;
+mod configured;
 #[cfg(test)]
-mod tests;
+mod lines;
+#[cfg(test)]
+mod printed;
+#[cfg(test)]
+mod told;

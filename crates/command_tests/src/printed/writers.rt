@@ -1,10 +1,10 @@
 //! Writers that stop, are interrupted or hand nothing on: the command ends by that, with a front written.
 
-use crate::failing::Slow;
-use answer_command::answer;
-use ballots::Member;
+use super::answering::ended_of_two;
+use super::failing::Slow;
+use super::paths;
 use check_command::check;
-use command_ends::{End, ScriptPaths, TapePaths};
+use command_ends::End;
 use fixtures::{CODES, HARVEST, WIDTHS};
 use rehearse_command::rehearse;
 use std::alloc::Global;
@@ -59,15 +59,10 @@ enum Command {
 }
 
 fn run_check(alloc: Global, listing: bool, out: &mut Slow, err: &mut Vec<u8>) -> End {
-    let paths = TapePaths {
-        table: "codes.toml",
-        widths: "widths.toml",
-        tape: "story.tape",
-    };
     let (mut table, mut widths, mut tape) = (CODES.as_bytes(), WIDTHS.as_bytes(), HARVEST);
     check(
         alloc,
-        &paths,
+        &paths::OF_TAPE,
         &mut table,
         &mut widths,
         &mut tape,
@@ -78,11 +73,6 @@ fn run_check(alloc: Global, listing: bool, out: &mut Slow, err: &mut Vec<u8>) ->
 }
 
 fn run_rehearse(alloc: Global, script: &str, out: &mut Slow, err: &mut Vec<u8>) -> End {
-    let paths = ScriptPaths {
-        table: "codes.toml",
-        widths: "widths.toml",
-        script: "story.script",
-    };
     let (mut table, mut widths, mut script) = (
         CODES.as_bytes(),
         WIDTHS.as_bytes(),
@@ -90,7 +80,7 @@ fn run_rehearse(alloc: Global, script: &str, out: &mut Slow, err: &mut Vec<u8>) 
     );
     rehearse(
         alloc,
-        &paths,
+        &paths::OF_SCRIPT,
         &mut table,
         &mut widths,
         &mut script,
@@ -99,17 +89,12 @@ fn run_rehearse(alloc: Global, script: &str, out: &mut Slow, err: &mut Vec<u8>) 
     )
 }
 
-fn run_answer(alloc: Global, out: &mut Slow, err: &mut Vec<u8>) -> Option<End> {
-    let me = Member::new(2)?;
-    Some(answer(alloc, 7, me, Version::One, &mut ASKED.as_bytes(), out, err))
-}
-
 /// How a command over this writer ends.
 fn run(alloc: Global, command: Command, out: &mut Slow, err: &mut Vec<u8>) -> Option<End> {
     match command {
         Command::Check(listing) => Some(run_check(alloc, listing, out, err)),
         Command::Rehearse(script) => Some(run_rehearse(alloc, script, out, err)),
-        Command::Answer => run_answer(alloc, out, err),
+        Command::Answer => ended_of_two(alloc, Version::One, &mut ASKED.as_bytes(), out, err),
     }
 }
 

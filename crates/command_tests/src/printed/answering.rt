@@ -1,12 +1,12 @@
 //! What `answer` tells to whole inputs, and readers and writers that fail.
 
-use crate::failing::{Broken, Slow};
+use super::failing::{Broken, Slow};
 use answer_command::answer;
 use ballots::Member;
 use command_ends::End;
 use std::alloc::Global;
 use std::io;
-use std::io::Read;
+use std::io::{Read, Write};
 use tape_frames::Version;
 
 /// A Prepare of 1.1 for number 12, and the Promise that reports no vote.
@@ -58,6 +58,18 @@ refused wrong-circuit\n\
 refused not-for-me\n\
 refused not-a-request\n";
 
+/// How member 2 of circuit 7, in this version, ends over what this reads.
+pub fn ended_of_two<R: Read, W: Write>(
+    alloc: Global,
+    wire: Version,
+    input: &mut R,
+    out: &mut W,
+    err: &mut Vec<u8>,
+) -> Option<End> {
+    let me = Member::new(2)?;
+    Some(answer(alloc, 7, me, wire, input, out, err))
+}
+
 /// Whether member 2 of circuit 7, in this version, ends so over what this reads, and tells this text and this fault.
 fn ends_in<R: Read>(
     alloc: Global,
@@ -67,13 +79,10 @@ fn ends_in<R: Read>(
     out: &str,
     err: &str,
 ) -> bool {
-    let Some(me) = Member::new(2) else {
-        return false;
-    };
     let mut told = Vec::new(alloc);
     let mut faults = Vec::new(alloc);
-    let ended = answer(alloc, 7, me, wire, input, &mut told, &mut faults);
-    ended == end && told.as_slice() == out.as_bytes() && faults.as_slice() == err.as_bytes()
+    let ended = ended_of_two(alloc, wire, input, &mut told, &mut faults);
+    ended == Some(end) && told.as_slice() == out.as_bytes() && faults.as_slice() == err.as_bytes()
 }
 
 /// Whether it ends so in version 1.
@@ -221,21 +230,11 @@ fn each_front_of_a_line(rt: HostRuntime) {
 /// Whether a writer with room for so many bytes gets that front of the text, and the command ends by this with this
 /// fault.
 fn is_front(alloc: Global, room: usize, end: End, err: &str) -> bool {
-    let Some(me) = Member::new(2) else {
-        return false;
-    };
     let mut out = Slow::new(alloc, room);
     let mut faults = Vec::new(alloc);
-    let ended = answer(
-        alloc,
-        7,
-        me,
-        Version::One,
-        &mut FIVE.as_bytes(),
-        &mut out,
-        &mut faults,
-    );
-    ended == end
+    let input = &mut FIVE.as_bytes();
+    let ended = ended_of_two(alloc, Version::One, input, &mut out, &mut faults);
+    ended == Some(end)
         && faults.as_slice() == err.as_bytes()
         && TOLD.as_bytes().starts_with(&out.taken)
         && out.taken.len() == room.min(TOLD.len())

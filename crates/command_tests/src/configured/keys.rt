@@ -1,36 +1,12 @@
-//! What a configuration gives, and the text of each fault.
+//! What the keys of a configuration give, and the text of each fault.
 
+use super::example::{CONFIG, fault_of, has_fault_with};
 use command_ends::End;
 use configuration::{Config, ConfigFault, ConfigKey, read_config};
 use std::alloc::Global;
 
-/// The keys before the stations.
-pub const HEAD: &str =
-    "circuit = 7\nmember = 1\ntable = \"codes.toml\"\nwidths = \"widths.toml\"\nrows = \"station1.db\"\n";
-
-/// Member 1 alone of circuit 7.
-pub const CONFIG: &str =
-    "circuit = 7\nmember = 1\ntable = \"codes.toml\"\nwidths = \"widths.toml\"\nrows = \"station1.db\"\n\
-[[station]]\nmember = 1\nip = \"127.0.0.1\"\nport = 7001\n";
-
-/// The same with folders, and with a key beside theirs, which says nothing.
-const WITH_FOLDERS: &str =
-    "circuit = 7\nmember = 1\ntable = \"codes.toml\"\nwidths = \"widths.toml\"\nrows = \"station1.db\"\n\
-[[station]]\nmember = 1\nip = \"127.0.0.1\"\nport = 7001\n\
-[folders]\noffers = \"in\"\nreleases = \"out\"\nsent = 1\n";
-
-/// The fault of a text.
-pub fn fault_of(alloc: Global, text: &str) -> Option<ConfigFault> {
-    Config::read(alloc, text).err()
-}
-
-/// Whether the example with this in place of that has this fault.
-pub fn has_fault_with(alloc: Global, old: &str, new: &str, fault: ConfigFault) -> bool {
-    match CONFIG.replace(alloc, old, new) {
-        Ok(text) => fault_of(alloc, &text) == Some(fault),
-        Err(_) => false,
-    }
-}
+/// Folders, and a key beside theirs, which says nothing.
+const FOLDERS: &str = "[folders]\noffers = \"in\"\nreleases = \"out\"\nsent = 1\n";
 
 /// Whether it is what the text says, of member 1 alone.
 fn is_the_example(config: &Config) -> bool {
@@ -47,9 +23,15 @@ fn is_the_example(config: &Config) -> bool {
     config.circuit == 7 && config.member.get() == 1 && named && alone
 }
 
-/// Whether a text is the example with these folders, or with none.
-fn has_folders(alloc: Global, text: &str, wanted: Option<(&str, &str)>) -> bool {
-    let Ok(config) = Config::read(alloc, text) else {
+/// The configuration of the example with this behind it.
+fn example_with(alloc: Global, more: &str) -> Option<Config> {
+    let text = format!(in alloc; "{CONFIG}{more}").ok()?;
+    Config::read(alloc, &text).ok()
+}
+
+/// Whether the example with this behind it has these folders, or none.
+fn has_folders(alloc: Global, more: &str, wanted: Option<(&str, &str)>) -> bool {
+    let Some(config) = example_with(alloc, more) else {
         return false;
     };
     let same = match (&config.folders, wanted) {
@@ -74,125 +56,142 @@ fn is_read(alloc: Global) -> bool {
 #[test]
 fn the_example(rt: HostRuntime) {
     assert!(rt; is_read(rt.alloc()));
-    assert!(rt; has_folders(rt.alloc(), CONFIG, None));
-    assert!(rt; has_folders(rt.alloc(), WITH_FOLDERS, Some(("in", "out"))));
+    assert!(rt; has_folders(rt.alloc(), "", None));
+    assert!(rt; has_folders(rt.alloc(), FOLDERS, Some(("in", "out"))));
 }
 
-/// What stands in the text, what stands there instead, and the fault.
-const FAULTS: &[(&str, &str, ConfigFault)] = &[
-    (CONFIG, "circuit = [", ConfigFault::NotToml),
+/// A part of the example in whose place something else stands.
+#[derive(Clone, Copy)]
+enum Part {
+    /// The whole text.
+    Whole,
+    /// The line of a key, with its end.
+    Circuit,
+    /// The line of the member, with the word behind it: a station has such a line too.
+    Member,
+    Table,
+    Widths,
+    Rows,
+    /// The head of the station.
+    Stations,
+    /// The station, with its head.
+    Station,
+    /// The port of the station, without the end of its line.
+    Port,
+}
+
+impl Part {
+    /// The part as it stands in the example.
+    fn text(self) -> &'static str {
+        match self {
+            Part::Whole => CONFIG,
+            Part::Circuit => "circuit = 7\n",
+            Part::Member => "member = 1\ntable",
+            Part::Table => "table = \"codes.toml\"\n",
+            Part::Widths => "widths = \"widths.toml\"\n",
+            Part::Rows => "rows = \"station1.db\"\n",
+            Part::Stations => "[[station]]",
+            Part::Station => "[[station]]\nmember = 1\nip = \"127.0.0.1\"\nport = 7001\n",
+            Part::Port => "port = 7001",
+        }
+    }
+}
+
+/// A part of the example, what stands there instead, and the fault.
+const FAULTS: &[(Part, &str, ConfigFault)] = &[
+    (Part::Whole, "circuit = [", ConfigFault::NotToml),
+    (Part::Circuit, "", ConfigFault::Missing(ConfigKey::Circuit)),
     (
-        "circuit = 7\n",
-        "",
-        ConfigFault::Missing(ConfigKey::Circuit),
-    ),
-    (
-        "member = 1\ntable",
+        Part::Member,
         "table",
         ConfigFault::Missing(ConfigKey::Member),
     ),
+    (Part::Table, "", ConfigFault::Missing(ConfigKey::Table)),
+    (Part::Widths, "", ConfigFault::Missing(ConfigKey::Widths)),
+    (Part::Rows, "", ConfigFault::Missing(ConfigKey::Rows)),
+    (Part::Station, "", ConfigFault::Missing(ConfigKey::Station)),
     (
-        "table = \"codes.toml\"\n",
-        "",
-        ConfigFault::Missing(ConfigKey::Table),
-    ),
-    (
-        "widths = \"widths.toml\"\n",
-        "",
-        ConfigFault::Missing(ConfigKey::Widths),
-    ),
-    (
-        "rows = \"station1.db\"\n",
-        "",
-        ConfigFault::Missing(ConfigKey::Rows),
-    ),
-    (
-        "[[station]]\nmember = 1\nip = \"127.0.0.1\"\nport = 7001\n",
-        "",
-        ConfigFault::Missing(ConfigKey::Station),
-    ),
-    (
-        "circuit = 7",
-        "circuit = \"7\"",
+        Part::Circuit,
+        "circuit = \"7\"\n",
         ConfigFault::WrongType(ConfigKey::Circuit),
     ),
     (
-        "member = 1\ntable",
+        Part::Member,
         "member = 1.0\ntable",
         ConfigFault::WrongType(ConfigKey::Member),
     ),
     (
-        "table = \"codes.toml\"",
-        "table = 1",
+        Part::Table,
+        "table = 1\n",
         ConfigFault::WrongType(ConfigKey::Table),
     ),
     (
-        "widths = \"widths.toml\"",
-        "widths = 1",
+        Part::Widths,
+        "widths = 1\n",
         ConfigFault::WrongType(ConfigKey::Widths),
     ),
     (
-        "rows = \"station1.db\"",
-        "rows = 1",
+        Part::Rows,
+        "rows = 1\n",
         ConfigFault::WrongType(ConfigKey::Rows),
     ),
     (
-        "[[station]]",
+        Part::Stations,
         "[station]",
         ConfigFault::WrongType(ConfigKey::Station),
     ),
     (
-        "circuit = 7",
-        "folders = \"in\"\ncircuit = 7",
+        Part::Circuit,
+        "folders = \"in\"\ncircuit = 7\n",
         ConfigFault::WrongType(ConfigKey::Folders),
     ),
     (
-        "[[station]]",
+        Part::Stations,
         "[[folders]]\noffers = \"in\"\nreleases = \"out\"\n[[station]]",
         ConfigFault::WrongType(ConfigKey::Folders),
     ),
     (
-        "[[station]]",
+        Part::Stations,
         "[folders]\nreleases = \"out\"\n[[station]]",
         ConfigFault::Missing(ConfigKey::Offers),
     ),
     (
-        "[[station]]",
+        Part::Stations,
         "[folders]\noffers = \"in\"\n[[station]]",
         ConfigFault::Missing(ConfigKey::Releases),
     ),
     (
-        "[[station]]",
+        Part::Stations,
         "[folders]\noffers = 1\n[[station]]",
         ConfigFault::WrongType(ConfigKey::Offers),
     ),
     (
-        "[[station]]",
+        Part::Stations,
         "[folders]\noffers = \"in\"\nreleases = [\"out\"]\n[[station]]",
         ConfigFault::WrongType(ConfigKey::Releases),
     ),
     (
-        "circuit = 7",
-        "circuit = 65536",
+        Part::Circuit,
+        "circuit = 65536\n",
         ConfigFault::OutOfRange(ConfigKey::Circuit),
     ),
     (
-        "circuit = 7",
-        "circuit = -1",
+        Part::Circuit,
+        "circuit = -1\n",
         ConfigFault::OutOfRange(ConfigKey::Circuit),
     ),
     (
-        "member = 1\ntable",
+        Part::Member,
         "member = 0\ntable",
         ConfigFault::OutOfRange(ConfigKey::Member),
     ),
     (
-        "member = 1\ntable",
+        Part::Member,
         "member = 16\ntable",
         ConfigFault::OutOfRange(ConfigKey::Member),
     ),
     (
-        "member = 1\ntable",
+        Part::Member,
         "member = 2\ntable",
         ConfigFault::OutOfRange(ConfigKey::Member),
     ),
@@ -200,8 +199,11 @@ const FAULTS: &[(&str, &str, ConfigFault)] = &[
 
 #[test]
 fn faults_of_keys(rt: HostRuntime) {
-    for (old, new, fault) in FAULTS {
-        assert!(rt; has_fault_with(rt.alloc(), old, new, *fault), "{old} {new}");
+    for (part, new, fault) in FAULTS {
+        assert!(rt;
+            has_fault_with(rt.alloc(), part.text(), new, *fault),
+            "{new}"
+        );
     }
 }
 
@@ -269,59 +271,55 @@ fn is_none_with(alloc: Global, old: &str, new: &str, fault: &str) -> bool {
     }
 }
 
-/// What stands in the text, what stands there instead, and what is told.
-const TEXTS: &[(&str, &str, &str)] = &[
-    ("circuit = 7", "circuit", "config: not toml\n"),
-    ("circuit = 7\n", "", "config: missing circuit\n"),
-    ("member = 1\ntable", "table", "config: missing member\n"),
+/// A part of the example, what stands there instead, and what is told.
+const TEXTS: &[(Part, &str, &str)] = &[
+    (Part::Circuit, "circuit\n", "config: not toml\n"),
+    (Part::Circuit, "", "config: missing circuit\n"),
+    (Part::Member, "table", "config: missing member\n"),
     (
-        "member = 1\ntable",
+        Part::Member,
         "member = \"1\"\ntable",
         "config: wrong type member\n",
     ),
-    ("table = \"codes.toml\"\n", "", "config: missing table\n"),
-    ("widths = \"widths.toml\"\n", "", "config: missing widths\n"),
+    (Part::Table, "", "config: missing table\n"),
+    (Part::Widths, "", "config: missing widths\n"),
+    (Part::Widths, "widths = 3\n", "config: wrong type widths\n"),
+    (Part::Rows, "", "config: missing rows\n"),
     (
-        "widths = \"widths.toml\"",
-        "widths = 3",
-        "config: wrong type widths\n",
-    ),
-    ("rows = \"station1.db\"\n", "", "config: missing rows\n"),
-    (
-        "circuit = 7",
-        "circuit = 65536",
+        Part::Circuit,
+        "circuit = 65536\n",
         "config: out of range circuit\n",
     ),
     (
-        "circuit = 7",
-        "circuit = 7\nfolders = 1",
+        Part::Circuit,
+        "circuit = 7\nfolders = 1\n",
         "config: wrong type folders\n",
     ),
     (
-        "[[station]]",
+        Part::Stations,
         "[folders]\n[[station]]",
         "config: missing offers\n",
     ),
     (
-        "[[station]]",
+        Part::Stations,
         "[folders]\noffers = \"in\"\nreleases = 1\n[[station]]",
         "config: wrong type releases\n",
     ),
-    ("[[station]]", "[station]", "config: wrong type station\n"),
-    ("[[station]]", "[[stations]]", "config: missing station\n"),
+    (Part::Stations, "[station]", "config: wrong type station\n"),
+    (Part::Stations, "[[stations]]", "config: missing station\n"),
     (
-        "[[station]]\nmember = 1\nip = \"127.0.0.1\"\nport = 7001\n",
+        Part::Station,
         "station = [0, 0, 0, 0, 0, 0, 0, 0, 0, 0, 0, 0, 0, 0, 0, 0]\n",
         "config: out of range station\n",
     ),
-    ("port = 7001", "port = 0", "config: bad station 1\n"),
+    (Part::Port, "port = 0", "config: bad station 1\n"),
     (
-        "port = 7001\n",
-        "port = 7001\n[[station]]\nmember = 2\nip = \"127.0.0.1\"\nport = 7001\n",
+        Part::Port,
+        "port = 7001\n[[station]]\nmember = 2\nip = \"127.0.0.1\"\nport = 7001",
         "config: bad station 2\n",
     ),
     (
-        "member = 1\ntable",
+        Part::Member,
         "member = 2\ntable",
         "config: out of range member\n",
     ),
@@ -329,8 +327,11 @@ const TEXTS: &[(&str, &str, &str)] = &[
 
 #[test]
 fn texts_of_faults(rt: HostRuntime) {
-    for (old, new, fault) in TEXTS {
-        assert!(rt; is_none_with(rt.alloc(), old, new, fault), "{fault}");
+    for (part, new, fault) in TEXTS {
+        assert!(rt;
+            is_none_with(rt.alloc(), part.text(), new, fault),
+            "{fault}"
+        );
     }
     assert!(rt; is_none(rt.alloc(), &[b'#', 0xff], "config: not toml\n"));
 }

@@ -1,10 +1,12 @@
 //! The help of the program and of each command.
 
-use crate::words::words_of;
+use super::splitting::words_of;
 use command_ends::End;
 use command_line::parse;
 
-const PROGRAM: &str = "\
+/// The lines that ask for a help, and the help.
+const HELPS: &str = "\
+% circuitd --help, circuitd help
 A wire circuit whose numbers never mean two stories
 
 Usage: circuitd <COMMAND>
@@ -23,9 +25,7 @@ Commands:
 Options:
   -h, --help     Print help
   -V, --version  Print version
-";
-
-const ANSWER: &str = "\
+% circuitd answer -h
 Answers requests as one acceptor: a datagram in hex per line in, its reply per line out
 
 Usage: circuitd answer [OPTIONS] <CIRCUIT> <MEMBER>
@@ -42,9 +42,7 @@ Example: member 1 asks member 2 of circuit 7 to promise ballot 1.1 for number 12
 
   $ echo 544e0101000701020000000c0000000101 | circuitd answer 7 2
   544e0102000702010000000c000000010100
-";
-
-const CHECK: &str = "\
+% circuitd check --help
 Sets a tape by a code table and a width file, and writes its galley: one line per slug
 
 Usage: circuitd check [OPTIONS] <TABLE> <WIDTHS> <TAPE>
@@ -68,9 +66,7 @@ A tape that does not set is told with its place, counted in frames from 0:
 
   $ circuitd check codes.toml widths.toml overset.tape
   fault: overset 1 at 7 line 1
-";
-
-const DRAW: &str = "\
+% circuitd draw --help
 Draws a tape as an SVG document: its holes, what each frame means, and its slugs to scale
 
 Usage: circuitd draw [OPTIONS] <TABLE> <WIDTHS> <TAPE>
@@ -92,9 +88,7 @@ A tape that does not set is drawn as far as it sets, with a mark at its fault, w
 
   $ circuitd draw codes.toml widths.toml overset.tape > overset.svg
   fault: overset 1 at 7 line 1
-";
-
-const ROWS: &str = "\
+% circuitd help rows, circuitd rows --help
 Lists what a station saved: per number its promise, its vote and the frames of that, in hex
 
 Usage: circuitd rows <DB>
@@ -110,9 +104,7 @@ Example:
   station 2 of 3 circuit 7
   3 1.1 - -
   12 1.3 1.1 010204
-";
-
-const UPGRADE: &str = "\
+% circuitd upgrade --help
 Takes what a station saved over to layout 2: it speaks version 2 then, and a number may be withdrawn
 
 Usage: circuitd upgrade <DB>
@@ -127,9 +119,7 @@ Example: a station goes over between two runs, and all that it saved stays:
 
   $ circuitd upgrade station2.db
   layout 2
-";
-
-const SERVE: &str = "\
+% circuitd serve --help
 Runs this plant's station on the wire, and prints each story that the circuit has agreed on
 
 Usage: circuitd serve [OPTIONS] --turns <T> <CONFIG>
@@ -158,9 +148,7 @@ Every other plant of the circuit runs `circuitd serve` with its own configuratio
 Later a plant that missed the story asks the others for it:
 
   $ circuitd serve station3.toml --turns 1200 --seek 12
-";
-
-const RUN: &str = "\
+% circuitd run --help
 Runs this plant's station until it is stopped: stories are offered and released as files
 
 Usage: circuitd run [OPTIONS] <CONFIG>
@@ -183,9 +171,7 @@ Where the configuration names folders, the file `12.tape` among the offers is of
 `14.withdraw` withdraws number 14, and `13.seek` asks for number 13. What the circuit has agreed on is put
 among the releases: `12.tape` and `12.galley`, or `14.void`. The file `stop` among the offers ends the
 station, and is taken away at its next start.
-";
-
-const REHEARSE: &str = "\
+% circuitd rehearse --help
 Rehearses a whole circuit by a script: who offers, what is delivered when, who starts again
 
 Usage: circuitd rehearse <TABLE> <WIDTHS> <SCRIPT>
@@ -214,21 +200,6 @@ The lines of this script print what each member did and what it sent:
    #3 promise 2>1 12 1.1
 ";
 
-/// What asks for help, and the help.
-const HELPS: &[(&str, &str)] = &[
-    ("circuitd --help", PROGRAM),
-    ("circuitd help", PROGRAM),
-    ("circuitd answer -h", ANSWER),
-    ("circuitd check --help", CHECK),
-    ("circuitd draw --help", DRAW),
-    ("circuitd help rows", ROWS),
-    ("circuitd rows --help", ROWS),
-    ("circuitd upgrade --help", UPGRADE),
-    ("circuitd serve --help", SERVE),
-    ("circuitd run --help", RUN),
-    ("circuitd rehearse --help", REHEARSE),
-];
-
 /// Whether a line ends as usage, with this help on the output.
 fn is_help(rt: &HostRuntime, line: &str, help: &str) -> Option<bool> {
     let alloc = rt.alloc();
@@ -239,9 +210,21 @@ fn is_help(rt: &HostRuntime, line: &str, help: &str) -> Option<bool> {
     Some(ended && err.is_empty() && out.as_slice() == help.as_bytes())
 }
 
+/// Whether a row, of lines and the help that each of them asks for, is right.
+fn is_row(rt: &HostRuntime, row: &str) -> Option<bool> {
+    let (lines, help) = row.split_once('\n')?;
+    Some(
+        lines
+            .split(", ")
+            .all(|line| is_help(rt, line, help) == Some(true)),
+    )
+}
+
 #[test]
 fn lines_that_ask_for_help(rt: HostRuntime) {
-    for (line, help) in HELPS {
-        assert!(rt; is_help(&rt, *line, *help) == Some(true), "{line}");
+    let rows = HELPS;
+    for row in rows.split("% ").skip(1) {
+        assert!(rt; is_row(&rt, row) == Some(true), "{row}");
     }
+    assert!(rt; rows.split("% ").count() == 10);
 }

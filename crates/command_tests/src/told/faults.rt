@@ -1,5 +1,7 @@
 //! How each fault is told, and how a command ends by it. A variant without a row in its table finds no place there.
 
+ghost use Rattle.std.specs.Prelude.{◌≤◌};
+
 use code_table::TableFault;
 use command_ends::{End, Fault};
 use line_check::{Cause, SetFault};
@@ -22,20 +24,25 @@ const INPUTS: &[(InputFault, &str, End)] = &[
     (InputFault::OutOfMemory, "out of memory", End::Memory),
 ];
 
-fn text_of_input(fault: InputFault) -> &'static str {
+/// The place of a fault in the table.
+fn place_of_input(fault: InputFault) -> usize
+    ensures { result ≤ 2 }
+{
     match fault {
-        InputFault::CannotRead => INPUTS[0].1,
-        InputFault::TooLong => INPUTS[1].1,
-        InputFault::OutOfMemory => INPUTS[2].1,
+        InputFault::CannotRead => 0,
+        InputFault::TooLong => 1,
+        InputFault::OutOfMemory => 2,
     }
 }
 
 #[test]
 fn faults_of_inputs(rt: HostRuntime) {
-    for (fault, text, end) in INPUTS {
+    let rows = INPUTS;
+    assert!(rt; rows.len() == 3);
+    for (place, (fault, text, end)) in rows.iter().enumerate() {
         let told = Fault::of_input(*fault, "story.tape");
         assert!(rt;
-            text_of_input(*fault) == *text && is_told(rt.alloc(), told, text, *end),
+            place_of_input(*fault) == place && is_told(rt.alloc(), told, text, *end),
             "{text}"
         );
     }
@@ -72,25 +79,30 @@ const TABLES: &[(TableFault, &str, End)] = &[
     (TableFault::OutOfMemory, "out of memory", End::Memory),
 ];
 
-fn text_of_table(fault: TableFault) -> &'static str {
+/// The place of a fault in the table.
+fn place_of_table(fault: TableFault) -> usize
+    ensures { result ≤ 7 }
+{
     match fault {
-        TableFault::NotToml => TABLES[0].1,
-        TableFault::MissingCodes => TABLES[1].1,
-        TableFault::WrongType { .. } => TABLES[2].1,
-        TableFault::BadFrame { .. } => TABLES[3].1,
-        TableFault::DuplicateFrame { .. } => TABLES[4].1,
-        TableFault::BadMeaning { .. } => TABLES[5].1,
-        TableFault::CaseCodeDiffers { .. } => TABLES[6].1,
-        TableFault::OutOfMemory => TABLES[7].1,
+        TableFault::NotToml => 0,
+        TableFault::MissingCodes => 1,
+        TableFault::WrongType { .. } => 2,
+        TableFault::BadFrame { .. } => 3,
+        TableFault::DuplicateFrame { .. } => 4,
+        TableFault::BadMeaning { .. } => 5,
+        TableFault::CaseCodeDiffers { .. } => 6,
+        TableFault::OutOfMemory => 7,
     }
 }
 
 #[test]
 fn faults_of_tables(rt: HostRuntime) {
-    for (fault, text, end) in TABLES {
+    let rows = TABLES;
+    assert!(rt; rows.len() == 8);
+    for (place, (fault, text, end)) in rows.iter().enumerate() {
         let told = Fault::of_table(*fault);
         assert!(rt;
-            text_of_table(*fault) == *text && is_told(rt.alloc(), told, text, *end),
+            place_of_table(*fault) == place && is_told(rt.alloc(), told, text, *end),
             "{text}"
         );
     }
@@ -132,24 +144,29 @@ const WIDTHS: &[(WidthFault, &str, End)] = &[
     (WidthFault::OutOfMemory, "out of memory", End::Memory),
 ];
 
-fn text_of_widths(fault: WidthFault) -> &'static str {
+/// The place of a fault in the table.
+fn place_of_widths(fault: WidthFault) -> usize
+    ensures { result ≤ 6 }
+{
     match fault {
-        WidthFault::NotToml => WIDTHS[0].1,
-        WidthFault::Missing { .. } => WIDTHS[1].1,
-        WidthFault::WrongType { .. } => WIDTHS[2].1,
-        WidthFault::OutOfRange { .. } => WIDTHS[3].1,
-        WidthFault::BandsCrossed => WIDTHS[4].1,
-        WidthFault::BadName { .. } => WIDTHS[5].1,
-        WidthFault::OutOfMemory => WIDTHS[6].1,
+        WidthFault::NotToml => 0,
+        WidthFault::Missing { .. } => 1,
+        WidthFault::WrongType { .. } => 2,
+        WidthFault::OutOfRange { .. } => 3,
+        WidthFault::BandsCrossed => 4,
+        WidthFault::BadName { .. } => 5,
+        WidthFault::OutOfMemory => 6,
     }
 }
 
 #[test]
 fn faults_of_widths(rt: HostRuntime) {
-    for (fault, text, end) in WIDTHS {
+    let rows = WIDTHS;
+    assert!(rt; rows.len() == 7);
+    for (place, (fault, text, end)) in rows.iter().enumerate() {
         let told = Fault::of_widths(*fault);
         assert!(rt;
-            text_of_widths(*fault) == *text && is_told(rt.alloc(), told, text, *end),
+            place_of_widths(*fault) == place && is_told(rt.alloc(), told, text, *end),
             "{text}"
         );
     }
@@ -167,25 +184,30 @@ const WIDTH_KEYS: &[(WidthKey, &str)] = &[
     (WidthKey::Entry { place: 2 }, "widths: missing matrix 2"),
 ];
 
-fn text_of_width_key(key: WidthKey) -> &'static str {
+/// The place of a key in the table.
+fn place_of_width_key(key: WidthKey) -> usize
+    ensures { result ≤ 7 }
+{
     match key {
-        WidthKey::Measure => WIDTH_KEYS[0].1,
-        WidthKey::BandMin => WIDTH_KEYS[1].1,
-        WidthKey::BandMax => WIDTH_KEYS[2].1,
-        WidthKey::Thin => WIDTH_KEYS[3].1,
-        WidthKey::En => WIDTH_KEYS[4].1,
-        WidthKey::Em => WIDTH_KEYS[5].1,
-        WidthKey::Matrix => WIDTH_KEYS[6].1,
-        WidthKey::Entry { .. } => WIDTH_KEYS[7].1,
+        WidthKey::Measure => 0,
+        WidthKey::BandMin => 1,
+        WidthKey::BandMax => 2,
+        WidthKey::Thin => 3,
+        WidthKey::En => 4,
+        WidthKey::Em => 5,
+        WidthKey::Matrix => 6,
+        WidthKey::Entry { .. } => 7,
     }
 }
 
 #[test]
 fn keys_of_widths(rt: HostRuntime) {
-    for (key, text) in WIDTH_KEYS {
+    let rows = WIDTH_KEYS;
+    assert!(rt; rows.len() == 8);
+    for (place, (key, text)) in rows.iter().enumerate() {
         let told = Fault::of_widths(WidthFault::Missing { key: *key });
         assert!(rt;
-            text_of_width_key(*key) == *text && is_told(rt.alloc(), told, text, End::Input),
+            place_of_width_key(*key) == place && is_told(rt.alloc(), told, text, End::Input),
             "{text}"
         );
     }
@@ -206,21 +228,26 @@ const TAPES: &[(TapeFault, &str, End)] = &[
     (TapeFault::OutOfMemory, "out of memory", End::Memory),
 ];
 
-fn text_of_tape(fault: TapeFault) -> &'static str {
+/// The place of a fault in the table.
+fn place_of_tape(fault: TapeFault) -> usize
+    ensures { result ≤ 3 }
+{
     match fault {
-        TapeFault::Empty => TAPES[0].1,
-        TapeFault::TooLong { .. } => TAPES[1].1,
-        TapeFault::BadFrame { .. } => TAPES[2].1,
-        TapeFault::OutOfMemory => TAPES[3].1,
+        TapeFault::Empty => 0,
+        TapeFault::TooLong { .. } => 1,
+        TapeFault::BadFrame { .. } => 2,
+        TapeFault::OutOfMemory => 3,
     }
 }
 
 #[test]
 fn faults_of_tapes(rt: HostRuntime) {
-    for (fault, text, end) in TAPES {
+    let rows = TAPES;
+    assert!(rt; rows.len() == 4);
+    for (place, (fault, text, end)) in rows.iter().enumerate() {
         let told = Fault::of_tape(*fault);
         assert!(rt;
-            text_of_tape(*fault) == *text && is_told(rt.alloc(), told, text, *end),
+            place_of_tape(*fault) == place && is_told(rt.alloc(), told, text, *end),
             "{text}"
         );
     }
@@ -238,24 +265,29 @@ const ROWS: &[(RowsFault, &str, End)] = &[
     (RowsFault::OutOfMemory, "out of memory", End::Memory),
 ];
 
-fn text_of_rows(fault: RowsFault) -> &'static str {
+/// The place of a fault in the table.
+fn place_of_rows(fault: RowsFault) -> usize
+    ensures { result ≤ 4 }
+{
     match fault {
-        RowsFault::Store => ROWS[0].1,
-        RowsFault::WrongStation => ROWS[1].1,
-        RowsFault::WrongSchema => ROWS[2].1,
-        RowsFault::Damaged { .. } => ROWS[3].1,
-        RowsFault::OutOfMemory => ROWS[4].1,
+        RowsFault::Store => 0,
+        RowsFault::WrongStation => 1,
+        RowsFault::WrongSchema => 2,
+        RowsFault::Damaged { .. } => 3,
+        RowsFault::OutOfMemory => 4,
     }
 }
 
 #[test]
 fn faults_of_rows(rt: HostRuntime) {
-    for (fault, text, end) in ROWS {
+    let rows = ROWS;
+    assert!(rt; rows.len() == 5);
+    for (place, (fault, text, end)) in rows.iter().enumerate() {
         let told = Fault::of_rows(*fault);
         // A step that the store refused is told as the store's fault.
         let step = Fault::of_step(StepRefusal::Store(*fault));
         assert!(rt;
-            text_of_rows(*fault) == *text && is_told(rt.alloc(), told, text, *end),
+            place_of_rows(*fault) == place && is_told(rt.alloc(), told, text, *end),
             "{text}"
         );
         assert!(rt; is_told(rt.alloc(), step, text, *end), "{text}");
@@ -343,34 +375,39 @@ const FAULTS: &[(Fault<'static>, &str, End)] = &[
     ),
 ];
 
-fn text_of(fault: Fault<'_>) -> &'static str {
+/// The place of a fault in the table.
+fn place_of(fault: Fault<'_>) -> usize
+    ensures { result ≤ 17 }
+{
     match fault {
-        Fault::CannotRead(_) => FAULTS[0].1,
-        Fault::CannotWrite => FAULTS[1].1,
-        Fault::InputTooLong => FAULTS[2].1,
-        Fault::OutOfMemory => FAULTS[3].1,
-        Fault::Table(_) => FAULTS[4].1,
-        Fault::Widths(_) => FAULTS[5].1,
-        Fault::Tape(_) => FAULTS[6].1,
-        Fault::Unset(_) => FAULTS[7].1,
-        Fault::Script { .. } => FAULTS[8].1,
-        Fault::Rows(_) => FAULTS[9].1,
-        Fault::Config(_) => FAULTS[10].1,
-        Fault::ConfigKey { .. } => FAULTS[11].1,
-        Fault::ConfigStation(_) => FAULTS[12].1,
-        Fault::Socket(_) => FAULTS[13].1,
-        Fault::SendFailed(_) => FAULTS[14].1,
-        Fault::Refused(_) => FAULTS[15].1,
-        Fault::Unpaired => FAULTS[16].1,
-        Fault::LayoutAlone => FAULTS[17].1,
+        Fault::CannotRead(_) => 0,
+        Fault::CannotWrite => 1,
+        Fault::InputTooLong => 2,
+        Fault::OutOfMemory => 3,
+        Fault::Table(_) => 4,
+        Fault::Widths(_) => 5,
+        Fault::Tape(_) => 6,
+        Fault::Unset(_) => 7,
+        Fault::Script { .. } => 8,
+        Fault::Rows(_) => 9,
+        Fault::Config(_) => 10,
+        Fault::ConfigKey { .. } => 11,
+        Fault::ConfigStation(_) => 12,
+        Fault::Socket(_) => 13,
+        Fault::SendFailed(_) => 14,
+        Fault::Refused(_) => 15,
+        Fault::Unpaired => 16,
+        Fault::LayoutAlone => 17,
     }
 }
 
 #[test]
 fn faults(rt: HostRuntime) {
-    for (fault, text, end) in FAULTS {
+    let rows = FAULTS;
+    assert!(rt; rows.len() == 18);
+    for (place, (fault, text, end)) in rows.iter().enumerate() {
         assert!(rt;
-            text_of(*fault) == *text && is_told(rt.alloc(), *fault, text, *end),
+            place_of(*fault) == place && is_told(rt.alloc(), *fault, text, *end),
             "{text}"
         );
     }

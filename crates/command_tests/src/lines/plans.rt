@@ -1,6 +1,6 @@
 //! Command lines that are taken.
 
-use crate::words::words_of;
+use super::splitting::words_of;
 use command_ends::End;
 use command_line::{Asked, Plan, parse, print_version};
 use tape_frames::Version;

@@ -1,16 +1,11 @@
 //! The texts of galleys and faults, of the whole command.
 
+use super::paths;
 use check_command::check;
-use command_ends::{End, TapePaths};
+use command_ends::End;
 use fixtures::{CODES, FLOOD, HARVEST, LIGATURE, OVERSET, WIDTHS};
 use std::alloc::Global;
 use std::io::Read;
-
-const PATHS: TapePaths<'static> = TapePaths {
-    table: "codes.toml",
-    widths: "widths.toml",
-    tape: "story.tape",
-};
 
 /// Whether `check` of these files ends so, and prints this text and this fault.
 fn ends<R: Read>(
@@ -27,7 +22,7 @@ fn ends<R: Read>(
     let mut told = Vec::new(alloc);
     let ended = check(
         alloc,
-        &PATHS,
+        &paths::OF_TAPE,
         &mut table,
         &mut widths,
         tape,

@@ -1,6 +1,6 @@
 //! The stations of a configuration: their addresses, their order and their faults.
 
-use super::configuring::{HEAD, fault_of, has_fault_with};
+use super::example::{HEAD, fault_of, has_fault_with};
 use configuration::{Config, ConfigFault, ConfigKey};
 use std::alloc::Global;
 
@@ -190,11 +190,20 @@ const SIXTEEN: &[(u8, u32)] = &[
     (0, 0),
 ];
 
-/// How many stations a configuration with the first so many of these has.
+/// A configuration with the first so many of these.
+fn with_first(alloc: Global, count: usize) -> Option<String> {
+    with_stations(alloc, SIXTEEN.get(..count)?)
+}
+
+/// How many stations such a configuration has.
 fn count_of(alloc: Global, count: usize) -> Option<usize> {
-    let text = with_stations(alloc, SIXTEEN.get(..count)?)?;
-    let config = Config::read(alloc, &text).ok()?;
+    let config = Config::read(alloc, &with_first(alloc, count)?).ok()?;
     Some(config.stations.len())
+}
+
+/// The fault of such a configuration, if it has one.
+fn fault_of_first(alloc: Global, count: usize) -> Option<ConfigFault> {
+    fault_of(alloc, &with_first(alloc, count)?)
 }
 
 /// The fault of a configuration with an empty list of stations.
@@ -209,7 +218,7 @@ fn fifteen_stations_at_most(rt: HostRuntime) {
     assert!(rt; count_of(alloc, 15) == Some(15));
     // One more is found before its entries are read.
     let many = ConfigFault::OutOfRange(ConfigKey::Station);
-    assert!(rt; fault_with(alloc, SIXTEEN) == Some(many));
+    assert!(rt; fault_of_first(alloc, 16) == Some(many));
     let none = ConfigFault::OutOfRange(ConfigKey::Member);
     assert!(rt; fault_of_none(alloc) == Some(none));
 }

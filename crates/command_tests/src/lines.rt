@@ -1,0 +1,7 @@
+//! The command line: the help, lines that are taken, lines that are usage, and what each command does with its words.
+
+mod helps;
+mod places;
+mod plans;
+mod splitting;
+mod usages;
