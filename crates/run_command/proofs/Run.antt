@@ -14,9 +14,9 @@ use Rattle.command_ends.specs.declared.end.End.TheVariants as ends
 use Rattle.command_ends.specs.declared.fault.Fault.{Fault}
 use Rattle.command_ends.specs.declared.fault.Fault.TheVariants as faults
 use Rattle.folders.specs.Written.{File}
-use Rattle.serve_command.specs.Serving.{asked, took, coming, sending, going, passing, IsStep, HasCause, ended}
-use Rattle.serve_command.specs.Driving.{Rests}
-use Rattle.serve_command.proofs.Served.{ends_badly, Passes-nil, Passes-then, takes_then, cause_then, refused_cause}
+use Rattle.exchange.specs.Events.{asked, took, coming, sending, going, passing, IsStep, HasCause, ended}
+use Rattle.exchange.specs.Driving.{Rests}
+use Rattle.exchange.proofs.Stretches.{ends_badly, Passes-nil, Passes-then, takes_then, cause_then, refused_cause}
 use Rattle.plant_files.specs.Asking.{call_of}
 use Rattle.folders.specs.declared.wishes.Wish.{Wish}
 use Rattle.folders.specs.declared.wishes.Wish.TheVariants.{Offered, Sought}

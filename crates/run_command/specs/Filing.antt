@@ -4,7 +4,7 @@ use Rattle.station.specs.declared.answer.Answer.{Answer}
 use Rattle.refusals.specs.declared.refusal.StepRefusal.{StepRefusal}
 use Rattle.folders.specs.Written.{File}
 use Rattle.plant_files.specs.Filing.{files_of}
-use Rattle.serve_command.specs.Serving.{Event, asked, took}
+use Rattle.exchange.specs.Events.{Event, asked, took}
 
 -- the files of what a step answered; of a refusal there are none
 abbrev pub answer_files : Result Answer StepRefusal → List File

@@ -7,7 +7,7 @@ use Rattle.command_ends.specs.declared.end.End.{End}
 use Rattle.command_ends.specs.declared.end.End.TheVariants as ends
 use Rattle.command_ends.specs.declared.fault.Fault.{Fault}
 use Rattle.folders.specs.Written.{File}
-use Rattle.serve_command.specs.Serving.{Event, Takes, passing, HasCause, ended}
+use Rattle.exchange.specs.Events.{Event, Takes, passing, HasCause, ended}
 use Rattle.folders.specs.Keeping.{Keeps, KeepsFront}
 use Rattle.run_command.specs.Filing.{filing}
 

@@ -1,53 +1,22 @@
 -- What `serve` did, by a list of what happened: which steps its station took, what passed over its wire, what it wrote and how it ended.
-use Rattle.std.specs.Prelude.{◌≡◌, ◌⊎◌, ◌+◌, ℕ, List, [], ◌∷◌, ◌++◌, map, flat_map, Bool, true, Option, Some, None, Result, Ok, Err}
+use Rattle.std.specs.Prelude.{◌≡◌, ◌⊎◌, ◌+◌, ℕ, List, [], ◌∷◌, ◌++◌, flat_map, Option, Some, None, Result, Ok, Err}
 use Rattle.std.specs.Io.KnownBytes.{Appends}
 use Rattle.streams.specs.Fronts.{AppendsFront}
 use Rattle.protocol.specs.Entries.{Entry, Tape, Void, Taped}
-use Rattle.protocol.specs.Circuit.{Datagram}
-use Rattle.protocol.specs.Refusals.{Call, Offering, Seeking, Falling_due, Receiving}
-use Rattle.saved_rows.specs.declared.fault.RowsFault.TheVariants as row_faults
+use Rattle.protocol.specs.Refusals.{Offering, Seeking, Falling_due, Receiving}
 use Rattle.saved_rows.specs.declared.rows.Rows.{Ghosts}
 use Rattle.tape_frames.specs.Entries.{owned_entry}
 use Rattle.station.specs.declared.answer.Answer.{Answer}
 use Rattle.station.specs.declared.answer.Release.{Release}
 use Rattle.refusals.specs.declared.refusal.StepRefusal.{StepRefusal}
-use Rattle.refusals.specs.declared.refusal.StepRefusal.TheVariants.{Store, OutOfMemory}
 use Rattle.station.specs.declared.station.Station.{Station}
 use Rattle.station.specs.Readiness.{slugs_of}
-use Rattle.station.specs.Stations.{sight}
-use Rattle.station.specs.Steps.{TakesStep}
-use Rattle.wire.specs.Passing.{Passed, came, sent, told, Passes}
+use Rattle.wire.specs.Passing.{Passed, Passes}
 use Rattle.command_ends.specs.ReleaseText.{release_text}
-use Rattle.command_ends.specs.Ends.{end_of}
 use Rattle.command_ends.specs.declared.end.End.{End}
 use Rattle.command_ends.specs.declared.end.End.TheVariants as ends
 use Rattle.command_ends.specs.declared.fault.Fault.{Fault}
-
--- the clock was asked, or the station was called and answered
-pub data Event : Type 0 where
-  asked : (moment : ℕ) → Event
-  took : (call : Call) (answer : Result Answer StepRefusal) → Event
-
--- a datagram that comes is the one that the station is called with
-abbrev pub coming : Call → List Passed
-coming (Offering n entry now) = []
-coming (Seeking n now) = []
-coming (Falling_due now) = []
-coming (Receiving bytes now) = came bytes ∷ []
-
--- each datagram that the station hands out is sent to its addressee, once, in order
-abbrev pub sending : List Datagram → List Passed
-sending out = map (λ (d : Datagram). sent d.to d.bytes) out
-
--- what the station hands out on the wire; a refusal hands out nothing
-abbrev pub going : Result Answer StepRefusal → List Passed
-going (Ok answer) = sending answer.out.items
-going (Err refusal) = []
-
--- what passes over the wire in an event
-abbrev pub passing : Event → List Passed
-passing (asked moment) = told moment ∷ []
-passing (took call answer) = coming call ++ going answer
+use Rattle.exchange.specs.Events.{Event, asked, took, passing, Takes, HasCause, ended}
 
 -- a release is written as its line, and its galley where its tape sets
 abbrev pub release_of : Release → List ℕ
@@ -68,45 +37,6 @@ abbrev pub writing : Event → List ℕ
 writing (asked moment) = []
 writing (took call answer) = written answer
 
--- one step by this call
-abbrev pub IsStep : {R : Type 0} → Ghosts R → Call → Station R → Station R → Result Answer StepRefusal → Type 0
-IsStep g call old new answer = TakesStep (sight g) call old new answer
-
--- these calls, one after the other, and nothing else changed the station
-abbrev pub Takes : {R : Type 0} → Ghosts R → Station R → Station R → List Event → Type 0
-Takes g old new [] = new ≡ old
-Takes g old new (asked moment ∷ rest) = Takes g old new rest
-Takes {R = R} g old new (took call answer ∷ rest) = (mid : Station R) × IsStep g call old mid answer × Takes g mid new rest
-
--- the station was stopped by its rows, otherwise than for memory
-abbrev pub IsByStore : StepRefusal → Type 0
-IsByStore (Store fault) = ¬ (fault ≡ row_faults.OutOfMemory)
-IsByStore _ = ⊥
-
--- the station was stopped for memory, its own or that of its rows
-abbrev pub IsForMemory : StepRefusal → Type 0
-IsForMemory (Store fault) = fault ≡ row_faults.OutOfMemory
-IsForMemory OutOfMemory = Unit {0}
-IsForMemory _ = ⊥
-
--- the station has stopped, and its last step answered a refusal of this kind
-pub record Stops (log : List Event) (new : Bool) (Kind : StepRefusal → Type 0) : Type 0 where
-  pub before : List Event
-  pub call : Call
-  pub refusal : StepRefusal
-  pub kind : Kind refusal
-  pub is_last : log ≡ before ++ took call (Err refusal) ∷ []
-  pub stopped : new ≡ true
-
--- an end has its cause: only by its store or for memory did the station stop; where it goes on and memory is the cause, a growth of the command was refused
-abbrev pub HasCause : List Event → Bool → Bool → End → Type 0
-HasCause log old new ends.Done = new ≡ old
-HasCause log old new ends.Input = new ≡ old
-HasCause log old new ends.Usage = ⊥
-HasCause log old new ends.Store = Stops log new IsByStore
-HasCause log old new ends.Socket = new ≡ old
-HasCause log old new ends.Memory = (new ≡ old) ⊎ Stops log new IsForMemory
-
 -- a station, its wire and its output
 pub record Post (R N W : Type 0) : Type 0 where
   pub station : Station R
@@ -126,11 +56,6 @@ pub record Known (R N W : Type 0) : Type 1 where
 -- of these, this is known
 abbrev pub known : {R N W : Type 0} → Ghosts R → (N → Option (List Passed)) → (W → Option (List ℕ)) → Known R N W
 known rows passed contents = record { rows = rows; passed = passed; contents = contents }
-
--- how a command goes on or ends
-abbrev pub ended : {A : Type 0} → Result A Fault → End
-ended (Ok done) = ends.Done
-ended (Err fault) = end_of fault
 
 -- what `serve` did up to this end, by a list of events: the station took these steps and no others; what passed over the wire is what
 -- came for them and what they handed out; of their releases' text a front was written, and where it ended well all of it, and the

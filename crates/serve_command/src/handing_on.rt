@@ -1,17 +1,19 @@
 //! What a station hands out, handed on: its datagrams to the wire, and its release to the output.
 
-ghost use Rattle.std.specs.Prelude.{◌≡◌, [], ◌∷◌, OnOk, OnErr, IfErr, option_copied};
+ghost use Rattle.std.specs.Prelude.{◌≡◌, OnOk, OnErr, IfErr, option_copied};
 ghost use Rattle.std.specs.Io.KnownBytes.{Appends};
 ghost use Rattle.streams.specs.Fronts.{AppendsFront};
 ghost use Rattle.station.specs.Readiness.{slugs_of};
-ghost use Rattle.wire.specs.Passing.{sent, Passes};
+ghost use Rattle.wire.specs.Passing.{Passes};
 ghost use Rattle.command_ends.specs.Ends.{IsOfWriting};
 ghost use Rattle.command_ends.specs.ReleaseText.{lent};
-ghost use Rattle.serve_command.specs.Serving.{sending, release_of, printing};
+ghost use Rattle.exchange.specs.Events.{sending};
+ghost use Rattle.serve_command.specs.Serving.{release_of, printing};
 
 use command_ends::{Fault, put_release};
+use exchange::send_answer;
 use line_check::{SetFault, Slug};
-use station::{Answer, Datagram, Release};
+use station::{Answer, Release};
 use std::alloc::Global;
 use std::io::Write;
 use wire::Wire;
@@ -65,25 +67,6 @@ fn announce_any<W: Write>(
     }
 }
 
-/// Sends a datagram to its addressee. One that the wire does not take is lost, and `err` has it.
-fn send<N: Wire, E: Write>(datagram: &Datagram, wire: &mut N, err: &mut E)
-    ensures { Passes (N.passed wire.old) (N.passed wire.new) (sent datagram.now.to datagram.now.bytes ∷ []) }
-{
-    let to = datagram.to();
-    if !wire.send(to, datagram.bytes()) {
-        let _ = Fault::SendFailed(to.get()).tell(err);
-    }
-}
-
-/// Sends datagrams, each once, in order.
-pub(crate) fn send_all<N: Wire, E: Write>(out: &[Datagram], wire: &mut N, err: &mut E)
-    ensures { Passes (N.passed wire.old) (N.passed wire.new) (sending out.now) }
-{
-    for datagram in out {
-        send(datagram, wire, err);
-    }
-}
-
 /// Hands on what a step of the station hands out: its datagrams to the wire, and its release to the output.
 pub(crate) fn hand_on<N: Wire, W: Write, E: Write>(
     alloc: Global,
@@ -97,6 +80,6 @@ pub(crate) fn hand_on<N: Wire, W: Write, E: Write>(
     ensures err { OnErr result (AppendsFront (W.contents out.old) (W.contents out.new) (printing answer.now.release)) }
     ensures fault { IfErr result IsOfWriting }
 {
-    send_all(answer.out.as_slice(), wire, err);
+    send_answer(answer, wire, err);
     announce_any(alloc, answer.release.as_ref(), out)
 }

@@ -5,9 +5,8 @@ ghost use Rattle.serve_command.specs.Serving.{ServesBy, ServesUpTo, IsTakingIn, 
 ghost use Rattle.command_ends.specs.declared.end.End.TheVariants.{Done};
 
 use crate::handing_on::hand_on;
-use crate::station_steps::{BUFFER, Outcome, pass_over, take_datagram};
-use crate::strangers::tell_strangers;
 use command_ends::{End, Fault};
+use exchange::{BUFFER, Outcome, pass_over, take_datagram, tell_strangers};
 use saved_rows::Rows;
 use station::{Station, StepRefusal};
 use std::alloc::Global;

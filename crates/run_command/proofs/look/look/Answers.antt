@@ -1,7 +1,7 @@
 -- The folders are seen, and then the station is asked.
 use Rattle.std.proofs.Common.{rules, ◌≡◌}
 use Rattle.command_ends.specs.Ends.{end_of}
-use Rattle.serve_command.specs.Serving.{ended}
+use Rattle.exchange.specs.Events.{ended}
 use Rattle.run_command.specs.Running.{known, plant}
 use Rattle.run_command.proofs.Run.{answered, wrote, and_then}
 use Rattle.command_ends.specs.declared.end.End.TheVariants.{Done}

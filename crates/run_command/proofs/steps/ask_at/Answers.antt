@@ -1,8 +1,8 @@
 -- What the station is asked is one step.
 use Rattle.std.proofs.Common.{refl}
 use Rattle.command_ends.specs.declared.end.End.TheVariants as ends
-use Rattle.serve_command.specs.Serving.{ended}
-use Rattle.serve_command.proofs.Served.{Passes-nil}
+use Rattle.exchange.specs.Events.{ended}
+use Rattle.exchange.proofs.Stretches.{Passes-nil}
 use Rattle.run_command.specs.Running.{known, plant}
 use Rattle.run_command.proofs.Run.{nothing, handed, refused, moved, and_then, unwritten, asked_passes}
 use Rattle.run_command.proofs.steps.ask_at.Goals as goal

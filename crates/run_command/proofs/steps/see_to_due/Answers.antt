@@ -1,6 +1,6 @@
 -- What was seen to is one step.
 use Rattle.protocol.specs.Refusals.{Falling_due}
-use Rattle.serve_command.proofs.Served.{Passes-nil}
+use Rattle.exchange.proofs.Stretches.{Passes-nil}
 use Rattle.run_command.specs.Running.{known, plant}
 use Rattle.run_command.proofs.Run.{handed, refused, unwritten}
 use Rattle.run_command.proofs.steps.see_to_due.Goals as goal

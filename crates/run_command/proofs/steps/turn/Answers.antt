@@ -2,7 +2,7 @@
 use Rattle.std.proofs.Common.{rules, ◌≡◌}
 use Rattle.command_ends.specs.Ends.{end_of}
 use Rattle.command_ends.specs.declared.end.End.TheVariants.{Done}
-use Rattle.serve_command.specs.Serving.{ended}
+use Rattle.exchange.specs.Events.{ended}
 use Rattle.run_command.specs.Running.{known, plant}
 use Rattle.run_command.proofs.Run.{answered, and_then, quiet_behind}
 use Rattle.run_command.proofs.steps.turn.Goals as goal

@@ -2,7 +2,7 @@
 use Rattle.std.proofs.Common.{rules, ◌≡◌, [], false, ◌∙◌, refl, inl}
 use Rattle.command_ends.specs.Ends.{end_of}
 use Rattle.command_ends.specs.declared.end.End.TheVariants as ends
-use Rattle.serve_command.proofs.Served.{Passes-nil}
+use Rattle.exchange.proofs.Stretches.{Passes-nil}
 use Rattle.run_command.specs.Running.{known, plant}
 use Rattle.run_command.proofs.Run.{nothing, answered, stays, from_none}
 use Rattle.run_command.proofs.turns.run_station.Goals as goal

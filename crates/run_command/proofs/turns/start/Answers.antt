@@ -1,5 +1,5 @@
 -- What lies there at the start is taken away, and then the turns.
-use Rattle.serve_command.specs.Serving.{ended}
+use Rattle.exchange.specs.Events.{ended}
 use Rattle.run_command.specs.Running.{known, plant}
 use Rattle.run_command.proofs.Run.{moved, and_then}
 use Rattle.run_command.proofs.turns.start.Goals as goal

@@ -2,8 +2,8 @@
 use Rattle.std.proofs.Common.{rules, ◌≡◌, refl}
 use Rattle.command_ends.specs.Ends.{end_of}
 use Rattle.command_ends.specs.declared.end.End.TheVariants.{Done}
-use Rattle.serve_command.specs.Serving.{ended}
-use Rattle.serve_command.proofs.Served.{Passes-nil}
+use Rattle.exchange.specs.Events.{ended}
+use Rattle.exchange.proofs.Stretches.{Passes-nil}
 use Rattle.run_command.specs.Running.{known, plant}
 use Rattle.run_command.proofs.Run.{nothing, answered, and_then}
 use Rattle.run_command.proofs.turns.take_turns.Goals as goal

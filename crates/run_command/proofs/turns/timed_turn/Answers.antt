@@ -1,5 +1,5 @@
 -- The clock was asked, and then the turn was taken.
-use Rattle.serve_command.specs.Serving.{ended}
+use Rattle.exchange.specs.Events.{ended}
 use Rattle.run_command.specs.Running.{known, plant}
 use Rattle.run_command.proofs.Run.{clocked}
 use Rattle.run_command.proofs.turns.timed_turn.Goals as goal

@@ -1,7 +1,7 @@
 -- The turn, and then the look, if there is one.
 use Rattle.std.proofs.Common.{rules, ◌≡◌}
 use Rattle.command_ends.specs.Ends.{end_of}
-use Rattle.serve_command.specs.Serving.{ended}
+use Rattle.exchange.specs.Events.{ended}
 use Rattle.run_command.specs.Running.{known, plant}
 use Rattle.run_command.proofs.Run.{answered, and_then}
 use Rattle.run_command.proofs.turns.turn_and_look.Goals as goal

@@ -4,7 +4,8 @@ use Rattle.protocol.specs.Entries.{Void}
 use Rattle.protocol.specs.Refusals.{Offering}
 use Rattle.command_ends.specs.declared.end.End.TheVariants as ends
 use Rattle.serve_command.specs.Serving.{known, post, AtClock, IsOffering, IsWithdrawal}
-use Rattle.serve_command.proofs.Served.{ends_badly, Passes-nil, nothing, handed, denied, clocked, of_form}
+use Rattle.exchange.proofs.Stretches.{ends_badly, Passes-nil}
+use Rattle.serve_command.proofs.Served.{nothing, handed, denied, clocked, of_form}
 use Rattle.serve_command.proofs.serve_loop.make_withdrawal.Goals as goal
 
 pub returns-in_default-clause-serves : goal.returns-in_default-clause-serves

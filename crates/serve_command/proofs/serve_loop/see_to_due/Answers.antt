@@ -2,7 +2,8 @@
 use Rattle.std.proofs.Common.{refl}
 use Rattle.protocol.specs.Refusals.{Falling_due}
 use Rattle.serve_command.specs.Serving.{known, post, IsSeeingToDue}
-use Rattle.serve_command.proofs.Served.{always, Passes-nil, handed, refused}
+use Rattle.exchange.proofs.Stretches.{Passes-nil}
+use Rattle.serve_command.proofs.Served.{always, handed, refused}
 use Rattle.serve_command.proofs.serve_loop.see_to_due.Goals as goal
 
 pub returns-in-Ok-clause-serves : goal.returns-in-Ok-clause-serves

@@ -2,7 +2,8 @@
 use Rattle.std.proofs.Common.{rules, ◌≡◌, ◌+◌, refl, sym}
 use Rattle.command_ends.specs.declared.end.End.TheVariants.{Done}
 use Rattle.serve_command.specs.Serving.{known, post, IsTurn, AtClock, Then, AreTurns, none, one_more}
-use Rattle.serve_command.proofs.Served.{Passes-nil, nothing, and_then, of_form, answered}
+use Rattle.exchange.proofs.Stretches.{Passes-nil}
+use Rattle.serve_command.proofs.Served.{nothing, and_then, of_form, answered}
 use Rattle.serve_command.proofs.serve_loop.take_turns.Goals as goal
 
 pub loop-init : goal.loop-init

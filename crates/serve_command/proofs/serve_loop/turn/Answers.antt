@@ -2,8 +2,10 @@
 use Rattle.std.proofs.Common.{rules, ◌≡◌, sym, ◌∙◌}
 use Rattle.command_ends.specs.Ends.{end_of}
 use Rattle.command_ends.specs.declared.end.End.TheVariants as ends
-use Rattle.serve_command.specs.Serving.{known, post, ended, IsTakingIn, IsSeeingToDue, IsTurn}
-use Rattle.serve_command.proofs.Served.{ends_badly, answered, and_then, of_form, quiet_behind}
+use Rattle.exchange.specs.Events.{ended}
+use Rattle.serve_command.specs.Serving.{known, post, IsTakingIn, IsSeeingToDue, IsTurn}
+use Rattle.exchange.proofs.Stretches.{ends_badly}
+use Rattle.serve_command.proofs.Served.{answered, and_then, of_form, quiet_behind}
 use Rattle.serve_command.proofs.serve_loop.turn.Goals as goal
 
 pub returns-in_err-take_in-clause-serves : goal.returns-in_err-take_in-clause-serves

@@ -1,8 +1,10 @@
 -- The withdrawal, and then the search.
 use Rattle.std.proofs.Common.{rules, ◌≡◌, sym, ◌∙◌}
 use Rattle.command_ends.specs.Ends.{end_of}
-use Rattle.serve_command.specs.Serving.{known, post, ended, IsWithdrawal, IsSearch, Then}
-use Rattle.serve_command.proofs.Served.{ends_badly, answered, and_then, of_form}
+use Rattle.exchange.specs.Events.{ended}
+use Rattle.serve_command.specs.Serving.{known, post, IsWithdrawal, IsSearch, Then}
+use Rattle.exchange.proofs.Stretches.{ends_badly}
+use Rattle.serve_command.proofs.Served.{answered, and_then, of_form}
 use Rattle.serve_command.proofs.serve_loop.withdraw_and_seek.Goals as goal
 
 pub returns-in_err-make_withdrawal-clause-serves : goal.returns-in_err-make_withdrawal-clause-serves

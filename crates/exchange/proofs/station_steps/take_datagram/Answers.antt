@@ -1,5 +1,5 @@
 -- What came is taken in by one step of the station.
-use Rattle.serve_command.proofs.station_steps.take_datagram.Goals as goal
+use Rattle.exchange.proofs.station_steps.take_datagram.Goals as goal
 
 pub returns-in-Ok-clause-takes : goal.returns-in-Ok-clause-takes
 returns-in-Ok-clause-takes g c = (_, record { step = λ kept. c.in-Ok.ensures.steps kept; passes = c.in-Datagram.ensures.passes; stops = c.in-Ok.ensures.stops })

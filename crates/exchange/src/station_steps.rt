@@ -3,11 +3,11 @@
 ghost use Rattle.std.specs.Prelude.{◌≡◌, false, OnOk, IfErr};
 ghost use Rattle.station.specs.Steps.{tears};
 ghost use Rattle.wire.specs.Passing.{Passes};
-ghost use Rattle.serve_command.specs.Driving.{IsTakenIn};
-ghost use Rattle.serve_command.specs.Serving.{sending};
+ghost use Rattle.exchange.specs.Driving.{IsTakenIn};
+ghost use Rattle.exchange.specs.Events.{sending};
 ghost use Rattle.command_ends.specs.Ends.{end_of, end_of_step};
 
-use crate::handing_on::send_all;
+use crate::sending::send_all;
 use command_ends::Fault;
 use saved_rows::Rows;
 use station::{Answer, Station, StepRefusal};

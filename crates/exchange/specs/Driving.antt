@@ -7,9 +7,9 @@ use Rattle.refusals.specs.declared.refusal.StepRefusal.{StepRefusal}
 use Rattle.station.specs.declared.station.Station.{Station}
 use Rattle.station.specs.Steps.{stopped_after}
 use Rattle.wire.specs.Passing.{Passed, Passes}
-use Rattle.serve_command.specs.Serving.{IsStep, coming}
-use Rattle.serve_command.specs.declared.station_steps.Outcome.{Outcome}
-use Rattle.serve_command.specs.declared.station_steps.Outcome.TheVariants.{Nothing, Failed, Done, Refused}
+use Rattle.exchange.specs.Events.{IsStep, coming}
+use Rattle.exchange.specs.declared.station_steps.Outcome.{Outcome}
+use Rattle.exchange.specs.declared.station_steps.Outcome.TheVariants.{Nothing, Failed, Done, Refused}
 
 -- the station took the step of this call with this answer, and what passed over the wire is what came for it
 pub record Drives {R N : Type 0} (g : Ghosts R) (passed : N → Option (List Passed)) (call : Call) (old new : Station R) (was is : N)
