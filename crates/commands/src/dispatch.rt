@@ -16,7 +16,7 @@ use draw_command::draw;
 use opened_files::Opened;
 use rehearse_command::rehearse;
 use row_files::RowFiles;
-use station_start::{run, serve};
+use station_commands::{run, serve};
 use std::io::{Read, Write};
 use tape_drawing::Page;
 

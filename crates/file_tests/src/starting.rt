@@ -5,7 +5,7 @@ use command_ends::End;
 use command_line::Plan;
 use fixtures::{CODES, FLOOD, WIDTHS};
 use host_row_files::{HostFiles, RowFiles};
-use station_start::serve;
+use station_commands::serve;
 use std::alloc::Global;
 use std::fs;
 use tape_frames::Version;

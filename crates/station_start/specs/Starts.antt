@@ -1,12 +1,11 @@
 -- What a station starts from, by its configuration.
-use Rattle.std.specs.Prelude.{◌≡◌, ℕ, List, [], length, Bool, true, false, Option, Some, None, Ok, MatchOption, IfSome, IsSome}
+use Rattle.std.specs.Prelude.{◌≡◌, ℕ, List, [], length, false, Option, Some, Ok, MatchOption, IfSome}
 use Rattle.toml.specs.Parse.{parse_document}
 use Rattle.code_table.specs.Tables.{Places}
 use Rattle.code_table.specs.Reading.{read_table}
 use Rattle.widths.specs.Widths.{WidthFile}
 use Rattle.widths.specs.Reading.{read_widths}
 use Rattle.tape_frames.specs.declared.version.Version.{Version}
-use Rattle.tape_frames.specs.declared.version.Version.TheVariants.{One}
 use Rattle.saved_rows.specs.declared.identity.Identity.{Identity}
 use Rattle.node_core.specs.Standing.{StandsFor}
 use Rattle.station.specs.declared.station.Station.{Station}
@@ -41,16 +40,6 @@ IsOfferAt texts asked offer = (offer.0 ≡ asked.0) × IfSome (texts asked.1) (�
 -- the tape that is offered for a number is the file at a path, where both are asked for
 abbrev pub IsOffer : (List ℕ → Option (List ℕ)) → Option (ℕ × List ℕ) → Option (ℕ × List ℕ) → Type 0
 IsOffer texts asked offer = MatchOption asked (MatchOption offer (Unit {0}) (λ _. ⊥)) (λ a. MatchOption offer ⊥ (λ o. IsOfferAt texts a o))
-
--- a layout is named of rows that are not to be made
-abbrev pub IsLayoutAlone : Bool → Option Version → Type 0
-IsLayoutAlone create layout = (create ≡ false) × IsSome layout
-
--- the version that rows are made in, if they are to be made: the one whose layout is named, else version 1
-abbrev pub made_in : Bool → Option Version → Option Version
-made_in false layout = None
-made_in true None = Some One
-made_in true (Some version) = Some version
 
 -- the rows were made for the station in this version, or taken up as the station's where none are to be made
 abbrev pub AreRowsOf :

@@ -1,17 +1,14 @@
 //! The files that a station reads before it starts.
 
-ghost use Rattle.std.specs.Prelude.{◌≡◌, IfOk, IfErr, IsErr, IfSome, string_bytes, option_map};
-ghost use Rattle.command_ends.specs.Ends.{end_of};
-ghost use Rattle.command_ends.specs.declared.end.End.TheVariants.{Usage};
-ghost use Rattle.station_start.specs.Starts.{IsTableAt, AreWidthsAt, IsOffer, IsLayoutAlone, made_in};
+ghost use Rattle.std.specs.Prelude.{◌≡◌, IfOk, IfSome, string_bytes, option_map};
+ghost use Rattle.station_start.specs.Starts.{IsTableAt, AreWidthsAt, IsOffer};
 
 use crate::host::Host;
 use code_table::CodeTable;
 use command_ends::{Fault, read_table, read_tape, read_widths};
-use command_line::Plan;
 use configuration::Config;
 use std::alloc::Global;
-use tape_frames::{Tape, Version};
+use tape_frames::Tape;
 use widths::Widths;
 
 /// What they hold.
@@ -21,30 +18,6 @@ pub(crate) struct Files {
     pub(crate) widths: Widths,
     /// The number and the tape that are offered, if any.
     pub(crate) offer: Option<(u32, Tape)>,
-}
-
-/// The number and the path of the tape that a plan gives, if any.
-pub(crate) fn offer_of<'a>(plan: &Plan<'a>) -> Result<Option<(u32, &'a str)>, Fault<'a>> {
-    match (plan.number, plan.tape) {
-        (Some(number), Some(tape)) => Ok(Some((number, tape))),
-        (None, None) => Ok(None),
-        _ => Err(Fault::Unpaired),
-    }
-}
-
-/// The version that the saved rows are made in, if they are made: version 1 where no layout is named. A layout of rows
-/// that are not made is refused.
-pub(crate) fn making_of<'a>(plan: &Plan<'_>) -> Result<Option<Version>, Fault<'a>>
-    ensures made { IfOk result (λ made. made ≡ made_in plan.now.create plan.now.layout) }
-    ensures alone { IsLayoutAlone plan.now.create plan.now.layout → IsErr result }
-    ensures refused { IfErr result (λ fault. IsLayoutAlone plan.now.create plan.now.layout × (end_of fault ≡ Usage)) }
-{
-    match (plan.create, plan.layout) {
-        (true, Some(version)) => Ok(Some(version)),
-        (true, None) => Ok(Some(Version::One)),
-        (false, None) => Ok(None),
-        (false, Some(_)) => Err(Fault::LayoutAlone),
-    }
 }
 
 /// The code table in the file at a path.

@@ -33,8 +33,8 @@ pub trait Host {
 
 /// The machine that the program runs on. What its files hold is not known.
 #[derive(Clone, Copy)]
-pub(crate) struct ThisHost<'a> {
-    pub(crate) rt: &'a HostRuntime,
+pub struct ThisHost<'a> {
+    pub rt: &'a HostRuntime,
 }
 
 impl<'a> Host for ThisHost<'a> {

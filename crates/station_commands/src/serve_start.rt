@@ -2,14 +2,13 @@
 
 ghost use Rattle.configuration.specs.Stations.{IsCircuit};
 
-use crate::files::{making_of, offer_of};
-use crate::host::{Host, ThisHost};
-use crate::start_up::{Started, start};
+use crate::plan::{making_of, offer_of};
 use command_ends::End;
 use command_line::Plan;
 use configuration::{Config, read_config};
 use row_files::{RowFiles, close_rows};
 use serve_command::serve_run;
+use station_start::{Host, Started, ThisHost, start};
 use std::io::Write;
 use tape_frames::Version;
 

@@ -2,8 +2,6 @@
 
 ghost use Rattle.configuration.specs.Stations.{IsCircuit};
 
-use crate::host::{Host, ThisHost};
-use crate::start_up::{Started, start};
 use command_ends::End;
 use configuration::{Config, Folders, read_config};
 use folders::NoFolders;
@@ -12,6 +10,7 @@ use row_files::{RowFiles, close_rows};
 use run_command::run_station;
 use saved_rows::Rows;
 use station::Station;
+use station_start::{Host, Started, ThisHost, start};
 use std::io::Write;
 use tape_frames::Version;
 use wire::Wire;
