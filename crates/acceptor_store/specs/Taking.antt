@@ -7,11 +7,17 @@ use Rattle.sqlite.specs.State.{State}
 use Rattle.sqlite.specs.Held.{state}
 use Rattle.row_table.specs.Tables.{layout_schema, no_schema}
 use Rattle.protocol.specs.Versions.{Version}
+use Rattle.tape_frames.specs.Entries.{version_of}
+use Rattle.saved_rows.specs.Identity.{IsIdentity}
 use Rattle.saved_rows.specs.Saved.{SameRows}
 use Rattle.saved_rows.specs.declared.identity.Identity.{Identity}
+use Rattle.saved_rows.specs.declared.fault.RowsFault.{RowsFault}
 use Rattle.row_columns.specs.Columns.{saved_in}
 use Rattle.row_columns.specs.FoundTables.{has_tables}
 use Rattle.row_columns.specs.StationRow.{IsStationOf}
+use Rattle.acceptor_store.specs.declared.rows_at_path.Wanted.{Wanted}
+use Rattle.acceptor_store.specs.declared.rows_at_path.Wanted.TheVariants.{Stored, Made}
+use Rattle.acceptor_store.specs.Opening.{IsReasonToRefuse, LeavesNothingNew, StaysUnwritten}
 use Rattle.acceptor_store.specs.Sqlite.{SqliteOf, Agrees, IsKept, IsOpen, IsOurs, IsOursAsFound, HoldsNoRow, rows_version, saved_of}
 
 module _ {S : Type 0} (g : Ghosts S) where
@@ -38,3 +44,25 @@ module _ {S : Type 0} (g : Ghosts S) where
     pub identity : s.identity ≡ i
     pub version : rows_version s ≡ made_at
     pub unstopped : s.stopped ≡ false
+
+  -- they are what was wanted of the database: taken up, or made
+  abbrev pub AreAsWanted : Wanted → State → SqliteOf S → Type 0
+  AreAsWanted (Stored given) was s = OpensAsStored given was s
+  AreAsWanted (Made i version) was s = IsMadeFor i (version_of version) was s
+
+-- tables are made for an identity alone
+abbrev pub CanBeMade : Wanted → Type 0
+CanBeMade (Stored given) = Unit {0}
+CanBeMade (Made i version) = IsIdentity i
+
+-- stored rows are not taken up for a reason, and nothing is written: `now` is the state of the connection as it comes back
+pub record RefusesStored (given : Option Identity) (fault : RowsFault) (was : State) (now : State) : Type 0 where
+  pub refuses : IsReasonToRefuse given fault was now
+  pub unwritten : StaysUnwritten was now
+  pub crash : LeavesNothingNew was now
+  pub clean : doubt was.is_clean ≤ doubt now.is_clean
+
+-- the same where stored rows were wanted; of tables that are not made nothing is said here
+abbrev pub RefusesWanted : Wanted → RowsFault → State → State → Type 0
+RefusesWanted (Stored given) fault was now = RefusesStored given fault was now
+RefusesWanted (Made i version) fault was now = Unit {0}

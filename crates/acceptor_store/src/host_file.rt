@@ -7,6 +7,7 @@ ghost use Rattle.sqlite.specs.Files.{file_state};
 ghost use Rattle.sqlite.specs.WalFiles.{image_at};
 ghost use Rattle.acceptor_store.specs.Sqlite.{IsOurs, IsRefusal, Agrees};
 
+use crate::rows_at_path::{Wanted, rows_in_files};
 use crate::sqlite_rows::SqliteRows;
 use crate::statements::fault_of;
 use saved_rows::{Identity, RowsFault};
@@ -52,9 +53,9 @@ impl<T: Start> SqliteRows<FileStore<FileFrom<T>>> {
             Ok(conn) => conn,
             Err((error, left)) => return Err((fault_of(&error), None, left)),
         };
-        match SqliteRows::open(rt.alloc(), conn, given) {
+        match rows_in_files(rt.alloc(), conn, Wanted::Stored(given)) {
             Ok(rows) => Ok(rows),
-            Err((fault, conn)) => Err((fault, Some(conn), None)),
+            Err((fault, conn)) => Err((fault.rows_fault(), Some(conn), None)),
         }
     }
 }

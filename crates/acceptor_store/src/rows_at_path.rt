@@ -1,38 +1,51 @@
 //! Rows in the file at a path, and what is the matter where there are none.
 
-ghost use Rattle.std.specs.Prelude.{◌≡◌, false, IsTrue, IfOk};
+ghost use Rattle.std.specs.Prelude.{◌≡◌, false, IsTrue, IfOk, IfErr};
 ghost use Rattle.sqlite.specs.State.{HasCleanDisk};
 ghost use Rattle.sqlite.specs.Held.{state};
 ghost use Rattle.sqlite.specs.Files.{file_state, over_files};
 ghost use Rattle.sqlite.specs.WalFiles.{image_at};
 ghost use Rattle.tape_frames.specs.Entries.{version_of};
 ghost use Rattle.saved_rows.specs.Identity.{IsIdentity};
+ghost use Rattle.acceptor_store.specs.Faults.{rows_fault};
 ghost use Rattle.acceptor_store.specs.Sqlite.{IsOurs, Agrees, HoldsNoRow, rows_version};
-ghost use Rattle.acceptor_store.specs.Taking.{IsMadeFor, OpensAsStored};
+ghost use Rattle.acceptor_store.specs.Taking.{AreAsWanted, CanBeMade, IsMadeFor, OpensAsStored, RefusesStored, RefusesWanted};
 
 use crate::faults::{FileFault, file_fault_of, test_unmade};
+use crate::given_up::into_files;
 use crate::sqlite_rows::SqliteRows;
 use row_columns::has_none;
 use saved_rows::Identity;
 use sqlite::{Alter, Connection, FileFrom, FileStore, Start};
+use sqlite_disk::Disk;
 use std::alloc::Global;
 use std::fs;
 use tape_frames::Version;
+
+/// What is wanted of a database: the rows in it, or new tables.
+#[derive(Clone, Copy)]
+pub(crate) enum Wanted {
+    /// The rows that it holds: those of this station, or whosever they are where none is given.
+    Stored(Option<Identity>),
+    /// Tables for this station, in the layout that rows of this version are made in.
+    Made(Identity, Version),
+}
 
 /// Takes up the rows of a database, as [`SqliteRows::open`] does, and tells what is the matter where there are none.
 fn take_rows<S: Alter + Drop>(
     alloc: Global,
     conn: Connection<S>,
     given: Option<Identity>,
-) -> Result<SqliteRows<S>, FileFault>
-    ensures { IfOk result (OpensAsStored S.Store given (state S.Store conn)) }
+) -> Result<SqliteRows<S>, (FileFault, Connection<S>)>
+    ensures taken { IfOk result (OpensAsStored S.Store given (state S.Store conn)) }
+    ensures refused { IfErr result (λ e. RefusesStored given (rows_fault e.0) (state S.Store conn) (state S.Store e.1)) }
 {
     if has_none(conn.schema()) {
-        return Err(FileFault::Unmade);
+        return Err((FileFault::Unmade, conn));
     }
     match SqliteRows::open(alloc, conn, given) {
         Ok(rows) => Ok(rows),
-        Err((fault, _)) => Err(FileFault::Rows(fault)),
+        Err((fault, conn)) => Err((FileFault::Rows(fault), conn)),
     }
 }
 
@@ -42,14 +55,65 @@ fn make_rows<S: Alter + Drop>(
     conn: Connection<S>,
     identity: Identity,
     version: Version,
-) -> Result<SqliteRows<S>, FileFault>
+) -> Result<SqliteRows<S>, (FileFault, Connection<S>)>
     requires { IsIdentity identity }
     ensures { IfOk result (IsMadeFor S.Store identity (version_of version) (state S.Store conn)) }
 {
-    test_unmade(conn.schema())?;
+    match test_unmade(conn.schema()) {
+        Ok(()) => {}
+        Err(fault) => return Err((fault, conn)),
+    }
     match SqliteRows::create(alloc, conn, identity, version) {
         Ok(rows) => Ok(rows),
-        Err((fault, _)) => Err(FileFault::Rows(fault)),
+        Err((fault, conn)) => Err((FileFault::Rows(fault), conn)),
+    }
+}
+
+/// Takes up the rows of a database or makes its tables, whichever is wanted. A database that is refused comes back.
+fn wanted_rows<S: Alter + Drop>(
+    alloc: Global,
+    conn: Connection<S>,
+    wanted: Wanted,
+) -> Result<SqliteRows<S>, (FileFault, Connection<S>)>
+    requires { CanBeMade wanted }
+    ensures taken { IfOk result (AreAsWanted S.Store wanted (state S.Store conn)) }
+    ensures refused { IfErr result (λ e. RefusesWanted wanted (rows_fault e.0) (state S.Store conn) (state S.Store e.1)) }
+{
+    match wanted {
+        Wanted::Stored(given) => take_rows(alloc, conn, given),
+        Wanted::Made(identity, version) => make_rows(alloc, conn, identity, version),
+    }
+}
+
+/// The same over two files. A store of files meets a function over any store here, for all who open one: each such place costs
+/// the prover many seconds.
+pub(crate) fn rows_in_files<D: Disk + Drop>(
+    alloc: Global,
+    conn: Connection<FileStore<D>>,
+    wanted: Wanted,
+) -> Result<SqliteRows<FileStore<D>>, (FileFault, Connection<FileStore<D>>)>
+    requires { CanBeMade wanted }
+    ensures taken { IfOk result (AreAsWanted over_files wanted (file_state conn)) }
+    ensures refused { IfErr result (λ e. RefusesWanted wanted (rows_fault e.0) (file_state conn) (file_state e.1)) }
+{
+    wanted_rows(alloc, conn, wanted)
+}
+
+/// The same for who wants no database back: one that is refused is given up, its files as they are.
+fn rows_or_fault<D: Disk + Drop>(
+    alloc: Global,
+    conn: Connection<FileStore<D>>,
+    wanted: Wanted,
+) -> Result<SqliteRows<FileStore<D>>, FileFault>
+    requires { CanBeMade wanted }
+    ensures { IfOk result (AreAsWanted over_files wanted (file_state conn)) }
+{
+    match rows_in_files(alloc, conn, wanted) {
+        Ok(rows) => Ok(rows),
+        Err((fault, conn)) => {
+            let _files = into_files(conn);
+            Err(fault)
+        }
     }
 }
 
@@ -77,7 +141,7 @@ impl<T: Start> SqliteRows<FileStore<FileFrom<T>>> {
             Err(_) => return Err(FileFault::Unopened),
         }
         match Connection::open_from(rt, path, false, start) {
-            Ok(conn) => take_rows(rt.alloc(), conn, given),
+            Ok(conn) => rows_or_fault(rt.alloc(), conn, Wanted::Stored(given)),
             Err((error, _)) => Err(file_fault_of(&error)),
         }
     }
@@ -100,7 +164,7 @@ impl<T: Start> SqliteRows<FileStore<FileFrom<T>>> {
         ensures unstopped { IfOk result (λ s. s.stopped ≡ false) }
     {
         match Connection::open_from(rt, path, false, start) {
-            Ok(conn) => make_rows(rt.alloc(), conn, identity, version),
+            Ok(conn) => rows_or_fault(rt.alloc(), conn, Wanted::Made(identity, version)),
             Err((error, _)) => Err(file_fault_of(&error)),
         }
     }

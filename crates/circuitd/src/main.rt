@@ -4,7 +4,7 @@
 use command_ends::{End, Fault};
 use command_line::{Asked, parse};
 use commands::carry_out;
-use host_row_files::HostFiles;
+use host_row_files::{HostFiles, RowFiles};
 use std::env;
 use std::io::{BufWriter, ErrorKind, LineWriter};
 use std::process::ExitCode;
@@ -23,33 +23,40 @@ fn command_words(rt: &HostRuntime) -> Result<Vec<String>, End> {
     }
 }
 
-/// Carries out what is asked over the standard streams and the files of the host. What is told on standard error is written a line
+/// Carries out what is asked over the standard streams and these files of rows. What is told on standard error is written a line
 /// at a time.
-fn carry_out_here(rt: &HostRuntime, asked: &Asked<'_>) -> End {
+fn carry_out_here<F: RowFiles>(rt: &HostRuntime, asked: &Asked<'_>, row_files: &F) -> End {
     let Ok(mut err) = LineWriter::new(rt.alloc(), rt.stderr()) else {
         return Fault::OutOfMemory.tell(&mut rt.stderr());
     };
     match BufWriter::new(rt.alloc(), rt.stdout()) {
-        Ok(mut out) => carry_out(rt, asked, &HostFiles, &mut rt.stdin(), &mut out, &mut err),
+        Ok(mut out) => carry_out(rt, asked, row_files, &mut rt.stdin(), &mut out, &mut err),
         Err(_) => Fault::OutOfMemory.tell(&mut err),
     }
 }
 
 /// Runs the command of these words.
-fn run_words(rt: &HostRuntime, words: &[String]) -> End {
+fn run_words<F: RowFiles>(rt: &HostRuntime, words: &[String], row_files: &F) -> End {
     match parse(rt.alloc(), words, &mut rt.stdout(), &mut rt.stderr()) {
-        Ok(asked) => carry_out_here(rt, &asked),
+        Ok(asked) => carry_out_here(rt, &asked, row_files),
         Err(end) => end,
     }
 }
 
-fn run(rt: &HostRuntime) -> End {
+/// Runs the command that the program was called with, over these files of rows.
+fn run<F: RowFiles>(rt: &HostRuntime, row_files: &F) -> End {
     match command_words(rt) {
-        Ok(words) => run_words(rt, &words),
+        Ok(words) => run_words(rt, &words, row_files),
         Err(end) => end,
     }
+}
+
+/// The same over the files of the host. They meet a function over any files here alone: each such place costs the prover many
+/// seconds.
+fn run_here(rt: &HostRuntime) -> End {
+    run(rt, &HostFiles)
 }
 
 fn main(rt: HostRuntime) -> ExitCode {
-    run(&rt).status()
+    run_here(&rt).status()
 }

@@ -2,6 +2,7 @@
 #![tactic(auto)]
 
 mod causes;
+mod database;
 mod host_files;
 
 pub use host_files::HostFiles;

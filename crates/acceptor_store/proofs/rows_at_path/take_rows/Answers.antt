@@ -1,7 +1,16 @@
+use Rattle.std.proofs.Common.{arith, refl}
 use Rattle.acceptor_store.proofs.rows_at_path.take_rows.Goals as goal
 
-pub returns-in-Ok : goal.returns-in-Ok
-returns-in-Ok g c = record {
+pub returns-then-has_none-clause-refused : goal.returns-then-has_none-clause-refused
+returns-then-has_none-clause-refused g c = record {
+  refuses = λ _ _ _. tt;
+  unwritten = λ _ _ _ _. refl;
+  crash = λ _ _ _ _ may. may;
+  clean = omega arith;
+}
+
+pub returns-in-Ok-clause-taken : goal.returns-in-Ok-clause-taken
+returns-in-Ok-clause-taken g c = record {
   is_open = c.in-Ok.ensures.«open»;
   same = c.in-Ok.ensures.same;
   unwritten = c.in-Ok.ensures.unwritten;
@@ -13,4 +22,12 @@ returns-in-Ok g c = record {
   clean = c.in-Ok.ensures.clean;
   crash = c.in-Ok.ensures.crash;
   ours = c.in-Ok.ensures.made;
+}
+
+pub returns-in-Err-clause-refused : goal.returns-in-Err-clause-refused
+returns-in-Err-clause-refused g c = record {
+  refuses = c.in-Err.ensures.refuses;
+  unwritten = c.in-Err.ensures.unchanged;
+  crash = c.in-Err.ensures.crash_err;
+  clean = c.in-Err.ensures.clean_err;
 }

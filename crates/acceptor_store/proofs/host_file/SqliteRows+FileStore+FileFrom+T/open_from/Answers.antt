@@ -1,48 +1,62 @@
-use Rattle.std.proofs.Common.{true, false, arith}
+use Rattle.std.proofs.Common.{true, false, arith, subst, sym}
 use Rattle.std.proofs.lemmas.Option.{IfSome_then}
 use Rattle.sqlite_std_file.specs.File.{IsFresh}
 use Rattle.sqlite.specs.State.{HasCleanDisk}
 use Rattle.sqlite.specs.Files.{file_state, IsCleanLeft, LeavesFiles}
+use Rattle.acceptor_store.specs.Opening.{IsReasonToRefuse}
 use Rattle.acceptor_store.proofs.host_file.SqliteRows+FileStore+FileFrom+T.open_from.Goals as goal
 
-pub returns-in-Ok-open-clause-open : goal.returns-in-Ok-open-clause-open
-returns-in-Ok-open-clause-open g c clean ours = c.in-Ok-open.ensures.«open» (clean, ours)
+pub returns-in-Ok-rows_in_files-clause-open : goal.returns-in-Ok-rows_in_files-clause-open
+returns-in-Ok-rows_in_files-clause-open g c clean ours = c.in-Ok-rows_in_files.ensures.taken.is_open (clean, ours)
+
+pub returns-in-Ok-rows_in_files-clause-given : goal.returns-in-Ok-rows_in_files-clause-given
+returns-in-Ok-rows_in_files-clause-given g c = c.in-Ok-rows_in_files.ensures.taken.agrees
+
+pub returns-in-Ok-rows_in_files-clause-unstopped : goal.returns-in-Ok-rows_in_files-clause-unstopped
+returns-in-Ok-rows_in_files-clause-unstopped g c = c.in-Ok-rows_in_files.ensures.taken.unstopped
 
 pub returns-in-Err-clause-left : goal.returns-in-Err-clause-left
 returns-in-Err-clause-left g c =
     IfSome_then _ {Q = λ left. (files : _) × IsFresh true files.log × IsFresh false files.db × (IsCleanLeft left → LeavesFiles files left)} c.in-Err.ensures.cause
     (λ left why. (why.0, why.1, why.2, λ clean. (why.3 clean).1))
 
-pub returns-in-Ok-open-clause-made : goal.returns-in-Ok-open-clause-made
-returns-in-Ok-open-clause-made g c = record {
-  was = c.in-Ok.conn;
-  opened = λ clean. c.in-Ok.ensures.opened (omega (arith, clean, c.in-Ok-open.ensures.clean));
-  found = λ clean. c.in-Ok.ensures.found (omega (arith, clean, c.in-Ok-open.ensures.clean));
-  ours = c.in-Ok-open.ensures.made;
-}
+pub returns-in-Ok-rows_in_files-clause-made : goal.returns-in-Ok-rows_in_files-clause-made
+returns-in-Ok-rows_in_files-clause-made g c =
+    let is = c.in-Ok-rows_in_files.ensures.taken in
+    record {
+      was = c.in-Ok.conn;
+      opened = λ clean. c.in-Ok.ensures.opened (omega (arith, clean, is.clean));
+      found = λ clean. c.in-Ok.ensures.found (omega (arith, clean, is.clean));
+      ours = is.ours;
+    }
 
-pub returns-in-Ok-open-clause-rows : goal.returns-in-Ok-open-clause-rows
-returns-in-Ok-open-clause-rows g c clean ours =
+pub returns-in-Ok-rows_in_files-clause-rows : goal.returns-in-Ok-rows_in_files-clause-rows
+returns-in-Ok-rows_in_files-clause-rows g c clean ours =
+    let is = c.in-Ok-rows_in_files.ensures.taken in
     let was = c.in-Ok.conn in
-    let early : HasCleanDisk (file_state was) = omega (arith, clean, c.in-Ok-open.ensures.clean) in
+    let early : HasCleanDisk (file_state was) = omega (arith, clean, is.clean) in
     record {
       was = was;
       opened = c.in-Ok.ensures.opened early;
       found = c.in-Ok.ensures.found early;
-      tables = c.in-Ok-open.ensures.tables (clean, ours);
-      unwritten = c.in-Ok-open.ensures.unwritten (clean, ours);
-      crash = c.in-Ok-open.ensures.crash (clean, ours);
-      same = c.in-Ok-open.ensures.same (clean, ours);
-      station = c.in-Ok-open.ensures.stored (clean, ours);
-      fresh = c.in-Ok-open.ensures.fresh;
+      tables = is.tables (clean, ours);
+      unwritten = is.unwritten (clean, ours);
+      crash = is.crash (clean, ours);
+      same = is.same (clean, ours);
+      station = is.stored (clean, ours);
+      fresh = is.fresh;
     }
 
-pub returns-in-Err-open-clause-refuses : goal.returns-in-Err-open-clause-refuses
-returns-in-Err-open-clause-refuses g c = record {
-  was = c.in-Ok.conn;
-  opened = λ clean. c.in-Ok.ensures.opened (omega (arith, clean, c.in-Err-open.ensures.clean_err));
-  found = λ clean. c.in-Ok.ensures.found (omega (arith, clean, c.in-Err-open.ensures.clean_err));
-  refuses = c.in-Err-open.ensures.refuses;
-  unwritten = c.in-Err-open.ensures.unchanged;
-  crash = c.in-Err-open.ensures.crash_err;
-}
+pub returns-in-Err-rows_in_files-clause-refuses : goal.returns-in-Err-rows_in_files-clause-refuses
+returns-in-Err-rows_in_files-clause-refuses g c =
+    let was = c.in-Ok.conn in
+    let now = c.in-Err-rows_in_files.conn in
+    let why = c.in-Err-rows_in_files.ensures.refused in
+    record {
+      was = was;
+      opened = λ clean. c.in-Ok.ensures.opened (omega (arith, clean, why.clean));
+      found = λ clean. c.in-Ok.ensures.found (omega (arith, clean, why.clean));
+      refuses = subst (λ fault. IsReasonToRefuse c.args.given fault (file_state was) (file_state now)) (sym c.rows_fault.ensures) why.refuses;
+      unwritten = why.unwritten;
+      crash = why.crash;
+    }

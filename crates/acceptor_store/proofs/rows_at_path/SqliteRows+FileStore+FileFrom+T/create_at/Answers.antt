@@ -2,11 +2,11 @@ use Rattle.std.proofs.lemmas.Result.{IfOk-weaker}
 use Rattle.acceptor_store.proofs.rows_at_path.SqliteRows+FileStore+FileFrom+T.create_at.Goals as goal
 
 pub returns-in-Ok-clause-open : goal.returns-in-Ok-clause-open
-returns-in-Ok-clause-open g c = IfOk-weaker c.make_rows.result _ _ (λ s is clean ours. is.is_open (clean, ours)) c.make_rows.ensures
+returns-in-Ok-clause-open g c = IfOk-weaker c.rows_or_fault.result _ _ (λ s is clean ours. is.is_open (clean, ours)) c.rows_or_fault.ensures
 
 pub returns-in-Ok-clause-made : goal.returns-in-Ok-clause-made
 returns-in-Ok-clause-made g c =
-    IfOk-weaker c.make_rows.result _ _
+    IfOk-weaker c.rows_or_fault.result _ _
     (λ s is. record {
       was = c.in-Ok.conn;
       opened = c.in-Ok.ensures.opened;
@@ -14,16 +14,16 @@ returns-in-Ok-clause-made g c =
       unmade = is.unmade;
       ours = is.ours;
     })
-    c.make_rows.ensures
+    c.rows_or_fault.ensures
 
 pub returns-in-Ok-clause-blank : goal.returns-in-Ok-clause-blank
-returns-in-Ok-clause-blank g c = IfOk-weaker c.make_rows.result _ _ (λ s is clean ours. is.blank (clean, ours)) c.make_rows.ensures
+returns-in-Ok-clause-blank g c = IfOk-weaker c.rows_or_fault.result _ _ (λ s is clean ours. is.blank (clean, ours)) c.rows_or_fault.ensures
 
 pub returns-in-Ok-clause-identity : goal.returns-in-Ok-clause-identity
-returns-in-Ok-clause-identity g c = IfOk-weaker c.make_rows.result _ _ (λ s is. is.identity) c.make_rows.ensures
+returns-in-Ok-clause-identity g c = IfOk-weaker c.rows_or_fault.result _ _ (λ s is. is.identity) c.rows_or_fault.ensures
 
 pub returns-in-Ok-clause-version : goal.returns-in-Ok-clause-version
-returns-in-Ok-clause-version g c = IfOk-weaker c.make_rows.result _ _ (λ s is. is.version) c.make_rows.ensures
+returns-in-Ok-clause-version g c = IfOk-weaker c.rows_or_fault.result _ _ (λ s is. is.version) c.rows_or_fault.ensures
 
 pub returns-in-Ok-clause-unstopped : goal.returns-in-Ok-clause-unstopped
-returns-in-Ok-clause-unstopped g c = IfOk-weaker c.make_rows.result _ _ (λ s is. is.unstopped) c.make_rows.ensures
+returns-in-Ok-clause-unstopped g c = IfOk-weaker c.rows_or_fault.result _ _ (λ s is. is.unstopped) c.rows_or_fault.ensures

@@ -6,28 +6,28 @@ use Rattle.acceptor_store.proofs.rows_at_path.SqliteRows+FileStore+FileFrom+T.op
 
 pub returns-in-Ok-clause-open : goal.returns-in-Ok-clause-open
 returns-in-Ok-clause-open g c =
-    IfOk-weaker c.take_rows.result _ _ (λ s is clean ours. is.is_open (clean, ours)) c.take_rows.ensures
+    IfOk-weaker c.rows_or_fault.result _ _ (λ s is clean ours. is.is_open (clean, ours)) c.rows_or_fault.ensures
 
 pub returns-in-Ok-clause-given : goal.returns-in-Ok-clause-given
-returns-in-Ok-clause-given g c = IfOk-weaker c.take_rows.result _ _ (λ s is. is.agrees) c.take_rows.ensures
+returns-in-Ok-clause-given g c = IfOk-weaker c.rows_or_fault.result _ _ (λ s is. is.agrees) c.rows_or_fault.ensures
 
 pub returns-in-Ok-clause-unstopped : goal.returns-in-Ok-clause-unstopped
-returns-in-Ok-clause-unstopped g c = IfOk-weaker c.take_rows.result _ _ (λ s is. is.unstopped) c.take_rows.ensures
+returns-in-Ok-clause-unstopped g c = IfOk-weaker c.rows_or_fault.result _ _ (λ s is. is.unstopped) c.rows_or_fault.ensures
 
 pub returns-in-Ok-clause-made : goal.returns-in-Ok-clause-made
 returns-in-Ok-clause-made g c =
-    IfOk-weaker c.take_rows.result _ _
+    IfOk-weaker c.rows_or_fault.result _ _
     (λ s is. record {
       was = c.in-Ok.conn;
       opened = λ clean. c.in-Ok.ensures.opened (omega (arith, clean, is.clean));
       found = λ clean. c.in-Ok.ensures.found (omega (arith, clean, is.clean));
       ours = is.ours;
     })
-    c.take_rows.ensures
+    c.rows_or_fault.ensures
 
 pub returns-in-Ok-clause-rows : goal.returns-in-Ok-clause-rows
 returns-in-Ok-clause-rows g c =
-    IfOk-weaker c.take_rows.result _ _
+    IfOk-weaker c.rows_or_fault.result _ _
     (λ s is clean ours.
     let was = c.in-Ok.conn in
     let early : HasCleanDisk (file_state was) = omega (arith, clean, is.clean) in
@@ -42,4 +42,4 @@ returns-in-Ok-clause-rows g c =
       station = is.stored (clean, ours);
       fresh = is.fresh;
     })
-    c.take_rows.ensures
+    c.rows_or_fault.ensures

@@ -1,4 +1,0 @@
-use Rattle.host_row_files.proofs.host_files.close_database.Goals as goal
-
-pub returns-in-Ok : goal.returns-in-Ok
-returns-in-Ok c = record { files = c.in-Ok.field-0; rows = c.in-Ok.ensures.rows }
