@@ -1,14 +1,9 @@
 -- The steps that the lines of a script order.
-use Rattle.std.specs.Prelude.{ℕ, List, Option, Some, None}
-use Rattle.std.specs.Str.Parse.{digits_value, without_leading_plus}
+use Rattle.std.specs.Prelude.{ℕ, Option, Some, None}
 use Rattle.world.specs.declared.step.Step.{Step}
 use Rattle.world.specs.declared.step.Step.TheVariants as steps
-use Rattle.rehearse_command.specs.declared.script.Order.{Order}
-use Rattle.rehearse_command.specs.declared.script.Order.TheVariants as orders
-
--- the number that a word of decimal digits writes
-abbrev pub written : List ℕ → ℕ
-written word = digits_value 10 (without_leading_plus word)
+use Rattle.script_lines.specs.declared.script.Order.{Order}
+use Rattle.script_lines.specs.declared.script.Order.TheVariants as orders
 
 -- the step that is ordered at a moment; the lines that set the stage or the moment order none
 abbrev pub step_of : Order → ℕ → Option Step

@@ -16,7 +16,8 @@ use Rattle.world.specs.Setups.{StationCircuit, StationState}
 use Rattle.world.specs.Founding.{Given, IsCircuitOf}
 use Rattle.world.specs.Reach.{StandsFor}
 use Rattle.world.specs.Taking.{actor, step_value, EndsAs}
-use Rattle.rehearse_command.specs.Lines.{outcome_line, datagrams_text, released_text}
+use Rattle.step_lines.specs.Datagrams.{datagrams_text}
+use Rattle.rehearse_command.specs.Lines.{outcome_line, released_text}
 
 -- one step: who acted and how it ended, the datagrams that were sent in it and the entries that were released
 pub record Scene : Type 0 where

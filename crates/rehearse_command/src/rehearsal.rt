@@ -12,10 +12,10 @@ ghost use Rattle.rehearse_command.specs.Orders.{step_of};
 ghost use Rattle.rehearse_command.specs.Rehearsals.{BeginsIn, GoesOn, Inputs, IsOn, IsSetUpBy, IsStaged, inputs, Rehearses, Stands, StandsFront, Stops};
 
 use crate::scene_lines::put_scene;
-use crate::script::{LineFault, Order, is_ignored, order_of};
 use code_table::CodeTable;
 use command_ends::{End, Fault, ScriptPaths, read_table, read_text, read_widths};
 use saved_rows::MemoryRows;
+use script_lines::{LineFault, Order, is_ignored, order_of};
 use std::alloc::{AllocError, Global};
 use std::io::{Read, Write};
 use std::mem::ManuallyDrop;

@@ -4,7 +4,8 @@ use Rattle.std.specs.Prelude.{flat_map}
 use Rattle.std.proofs.KnownBytes.{Appends-trans}
 use Rattle.std.proofs.lemmas.Result.{on_ok_weaker, on_err_weaker}
 use Rattle.streams.proofs.Parts.{at_err, front_of, front_then}
-use Rattle.rehearse_command.specs.Lines.{outcome_line, datagrams_text, released_text}
+use Rattle.step_lines.specs.Datagrams.{datagrams_text}
+use Rattle.rehearse_command.specs.Lines.{outcome_line, released_text}
 use Rattle.rehearse_command.proofs.scene_lines.put_scene.Goals as goal
 
 pub returns-in_err-put_outcome-clause-err : goal.returns-in_err-put_outcome-clause-err

@@ -4,7 +4,7 @@ use Rattle.std.specs.Prelude.{codes}
 use Rattle.command_ends.specs.ReleaseText.{plain_line}
 use Rattle.line_check.specs.Galley.{galley_of}
 use Rattle.streams.proofs.Parts.{at_err, front_of, front_then}
-use Rattle.rehearse_command.proofs.scene_lines.put_set.Goals as goal
+use Rattle.step_lines.proofs.release_lines.put_set.Goals as goal
 
 pub returns-in_err-put_release_line-clause-err : goal.returns-in_err-put_release_line-clause-err
 returns-in_err-put_release_line-clause-err g c =

@@ -2,8 +2,8 @@
 use Rattle.std.proofs.Common.{ℕ, List, subst, ◌∙◌}
 use Rattle.std.specs.Prelude.{OnErr}
 use Rattle.streams.specs.Fronts.{AppendsFront}
-use Rattle.rehearse_command.proofs.Listing.{datagram_is}
-use Rattle.rehearse_command.proofs.scene_lines.put_datagram.Goals as goal
+use Rattle.step_lines.proofs.Listing.{datagram_is}
+use Rattle.step_lines.proofs.datagram_lines.put_datagram.Goals as goal
 
 pub returns-in-Ok-packet_line-clause-err : goal.returns-in-Ok-packet_line-clause-err
 returns-in-Ok-packet_line-clause-err g c =

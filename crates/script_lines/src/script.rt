@@ -1,9 +1,8 @@
-//! The lines of a rehearsal script.
+//! What one line asks for.
 
 ghost use Rattle.std.specs.Prelude.{◌≡◌, IfOk, OnErr, codes};
-ghost use Rattle.rehearse_command.specs.Orders.{written};
-ghost use Rattle.rehearse_command.specs.Words.{version_word};
-ghost use Rattle.rehearse_command.specs.declared.script.Order.TheVariants.{Upgrade};
+ghost use Rattle.script_lines.specs.Words.{version_word, written};
+ghost use Rattle.script_lines.specs.declared.script.Order.TheVariants.{Upgrade};
 
 use ballots::Member;
 use hex::FromHexError;

@@ -1,7 +1,7 @@
 //! The words of notes, as they are printed.
 
 ghost use Rattle.std.specs.Prelude.{◌≡◌, Some};
-ghost use Rattle.rehearse_command.specs.Words.{ballot_text, note_ballot, note_text, note_word};
+ghost use Rattle.step_lines.specs.Notes.{ballot_text, note_ballot, note_text, note_word};
 
 use ballots::Ballot;
 use node_core::Note;

@@ -1,7 +1,7 @@
 -- One datagram more.
 use Rattle.streams.proofs.Parts.{at_err}
-use Rattle.rehearse_command.proofs.Listing.{wrote_datagram, stopped_datagram}
-use Rattle.rehearse_command.proofs.scene_lines.put_datagrams.Goals as goal
+use Rattle.step_lines.proofs.Listing.{wrote_datagram, stopped_datagram}
+use Rattle.step_lines.proofs.datagram_lines.put_datagrams.Goals as goal
 
 pub returns-in_err-put_datagram-clause-err : goal.returns-in_err-put_datagram-clause-err
 returns-in_err-put_datagram-clause-err g c =
