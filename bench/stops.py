@@ -5,7 +5,7 @@ usage: stops.py FOLDER
 
 FOLDER is outside the repository. Needs `rt` on the path. The crates below are copied to FOLDER/stops, with the libraries
 that were built of them, and those that were not are proved and built there first. The program stops/stops.rt.txt is put
-over them with the modules of the crate `stop_tests`; it is tried as it is, and not proved again (`rt try`), which takes
+over them with modules of the crate `database_tests`; it is tried as it is, and not proved again (`rt try`), which takes
 some 20 minutes of one core. The interpreter, which `rt try` runs first, gives it up: what is printed is the native run's.
 
 The works: the tables are made; two rows are saved; the rows go over to layout 2; a station of one is offered a tape; a run of `serve` is offered it. Of
@@ -23,21 +23,28 @@ import sys
 HERE = os.path.dirname(os.path.abspath(__file__))
 TOP = os.path.join(HERE, "..")
 PARTS = ("src", "specs", "proofs", "out/rlib")
-MODULES = ("disks", "samples", "stations", "stops", "works")
+# Modules of the crate of tests by the folder that they stand in, at the top those of none.
+MODULES = {
+    "": ("examples",),
+    "rows": ("identities", "samples"),
+    "stops": ("disks", "runs", "saves", "stations", "works"),
+}
+# The libraries that they name.
+NAMES = "ballots tape_frames saved_rows acceptor_store code_table widths station wire command_ends serve_command sqlite sqlite_disk fixtures"
 SECONDS = 7200
 
 
 def libraries():
-    """Returns the line of each crate of crates.txt, and the names of those of the repository below `stop_tests`."""
+    """Returns the line of each crate of crates.txt, and the names of those that the program stands on."""
     with open(f"{TOP}/crates.txt") as file:
         lines = [line.rstrip("\n") for line in file if line.strip() and not line.startswith("#")]
     needs = {line.split(":")[0]: line.split(":")[1].split() for line in lines}
-    below, open_ones = [], ["stop_tests"]
+    below, open_ones = [], NAMES.split()
     while open_ones:
-        for name in needs[open_ones.pop()]:
-            if name in needs and name not in below:
-                below.append(name)
-                open_ones.append(name)
+        name = open_ones.pop()
+        if name in needs and name not in below:
+            below.append(name)
+            open_ones += needs[name]
     return {line.split(":")[0]: line for line in lines}, below
 
 
@@ -53,11 +60,16 @@ def main():
     source = f"{work}/crates/stops/src"
     os.makedirs(source, exist_ok=True)
     shutil.copy(f"{HERE}/stops/stops.rt.txt", f"{source}/main.rt")
-    for module in MODULES:
-        shutil.copy(f"{TOP}/crates/stop_tests/src/{module}.rt", f"{source}/{module}.rt")
+    for folder, modules in MODULES.items():
+        os.makedirs(f"{source}/{folder}", exist_ok=True)
+        for module in modules:
+            shutil.copy(f"{TOP}/crates/database_tests/src/{folder}/{module}.rt", f"{source}/{folder}/{module}.rt")
+        if folder:
+            with open(f"{source}/{folder}.rt", "w") as file:
+                file.writelines(f"pub mod {module};\n" for module in modules)
     with open(f"{work}/crates.txt", "w") as file:
         file.writelines(line + "\n" for name, line in lines.items() if name in below)
-        file.write(lines["stop_tests"].replace("stop_tests:", "stops: anyhow") + "\n")
+        file.write(f"stops: anyhow {NAMES}\n")
     subprocess.run(["rt", "try", "--seconds", str(SECONDS)], cwd=f"{work}/crates/stops", check=True)
 
 

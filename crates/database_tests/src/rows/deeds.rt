@@ -1,0 +1,107 @@
+//! What is done to saved rows of any kind, and what has to come of it.
+
+use crate::rows::samples::{
+    Sample, is_copied, is_long_copied, is_long_row, is_row, long_row, row_of,
+};
+use ballots::{Number, Row};
+use saved_rows::{Rows, RowsFault};
+use std::alloc::Global;
+use tape_frames::Version;
+
+/// One call, with what it has to answer.
+#[derive(Clone, Copy)]
+pub enum Deed {
+    /// A row is saved under this number, or the save is refused so.
+    Put(u32, Sample, Option<RowsFault>),
+    /// A row is read under this number; the blank one with `None`.
+    Get(u32, Option<Sample>),
+    /// The row under this number is read, and copied.
+    Copy(u32, Sample),
+    /// The reading of this number is refused so.
+    Refused(u32, RowsFault),
+    /// A row with a tape of this many frames is saved under this number.
+    PutLong(u32, usize),
+    /// The row under this number has that tape, and so has a copy of it.
+    GetLong(u32, usize),
+    /// The rows go over to version 2, or that is refused so; they are at this version then.
+    Upgrade(Option<RowsFault>, Version),
+}
+
+/// The fault that the save of a row is refused with; `Some(None)` where it is saved.
+fn refusal_of<R: Rows>(
+    alloc: Global,
+    rows: &mut R,
+    number: u32,
+    sample: &Sample,
+) -> Option<Option<RowsFault>> {
+    let number = Number::new(number)?;
+    let row = row_of(alloc, sample)?;
+    if !row.fits(rows.version()) {
+        return None;
+    }
+    Some(rows.put(number, &row).err())
+}
+
+/// Whether a row with a long tape is saved; nothing where it does not fit the version of the rows.
+fn puts_long<R: Rows>(alloc: Global, rows: &mut R, number: u32, frames: usize) -> Option<bool> {
+    let number = Number::new(number)?;
+    let row = long_row(alloc, frames)?;
+    if !row.fits(rows.version()) {
+        return None;
+    }
+    Some(rows.put(number, &row).is_ok())
+}
+
+/// Whether the row that was read is the one of this deed.
+fn is_read(alloc: Global, row: &Row, deed: &Deed) -> bool {
+    match deed {
+        Deed::Get(_, sample) => is_row(row, sample.as_ref()),
+        Deed::Copy(_, sample) => is_row(row, Some(sample)) && is_copied(alloc, row, sample),
+        Deed::GetLong(_, frames) => is_long_row(row, *frames)
+            && is_long_copied(alloc, row, *frames),
+        _ => false,
+    }
+}
+
+/// Whether the reading of a number answers as this deed has to.
+fn reads<R: Rows>(alloc: Global, rows: &mut R, number: u32, deed: &Deed) -> bool {
+    let Some(number) = Number::new(number) else {
+        return false;
+    };
+    match rows.get(number) {
+        Ok(row) => is_read(alloc, &row, deed),
+        Err(fault) => matches!(deed, Deed::Refused(_, wanted) if fault == *wanted),
+    }
+}
+
+/// Whether a deed answers as it has to.
+fn is_done<R: Rows>(alloc: Global, rows: &mut R, deed: &Deed) -> bool {
+    match deed {
+        Deed::Put(number, sample, refusal) => {
+            refusal_of(alloc, rows, *number, sample) == Some(*refusal)
+        }
+        Deed::PutLong(number, frames) => puts_long(alloc, rows, *number, *frames) == Some(true),
+        Deed::Upgrade(refusal, version) => {
+            rows.upgrade().err() == *refusal && rows.version() == *version
+        }
+        Deed::Get(number, _)
+        | Deed::Copy(number, _)
+        | Deed::Refused(number, _)
+        | Deed::GetLong(number, _) => reads(alloc, rows, *number, deed),
+    }
+}
+
+/// Whether each deed answers as it has to.
+pub fn are_done<R: Rows>(alloc: Global, rows: &mut R, deeds: &[Deed]) -> bool {
+    done(alloc, rows, deeds) == deeds.len()
+}
+
+/// The place of the first deed that answers otherwise; how many there are where none does.
+pub fn done<R: Rows>(alloc: Global, rows: &mut R, deeds: &[Deed]) -> usize {
+    for (place, deed) in deeds.iter().enumerate() {
+        if !is_done(alloc, rows, deed) {
+            return place;
+        }
+    }
+    deeds.len()
+}

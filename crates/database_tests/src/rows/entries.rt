@@ -1,0 +1,130 @@
+//! Rows in databases of layout 2, which were made in it.
+
+use crate::rows::databases::{BOTH, READ};
+use crate::rows::deeds::Deed;
+use crate::rows::identities::OTHER;
+use crate::rows::memory::TWO;
+use crate::rows::samples::{PROMISED, VOTED, WITHDRAWN};
+use crate::rows::sessions::{Listing, MADE_TWO, Manner, OPENED_TWO, Session, first_amiss};
+use crate::tables::statements::{Found, IN_LAYOUT_TWO, VOTE_OF_12};
+use saved_rows::RowsFault;
+use tape_frames::Version;
+
+/// Two are saved, one is copied, and an upgrade changes nothing; they are taken up for their station, for another, and for any.
+const TAKEN_UP: &[Session] = &[
+    Session {
+        deeds: TWO,
+        listing: BOTH,
+        ..MADE_TWO
+    },
+    Session {
+        deeds: &[
+            Deed::Copy(12, VOTED),
+            Deed::Upgrade(None, Version::Two),
+            Deed::Get(4, None),
+        ],
+        listing: BOTH,
+        ..OPENED_TWO
+    },
+    Session {
+        manner: Manner::Open(Some(OTHER)),
+        refusal: Some(RowsFault::WrongStation),
+        ..MADE_TWO
+    },
+    Session {
+        manner: Manner::Open(None),
+        deeds: READ,
+        listing: BOTH,
+        ..MADE_TWO
+    },
+];
+
+/// How two rows stand in the table: a frame has six bits, and a withdrawal none.
+const STANDING: &[Found] = &[
+    (
+        "UPDATE acceptor_entry SET number = number WHERE number = 3 AND promised_round = 1 AND promised_owner = 1 \
+AND vote_round = 1 AND vote_owner = 1 AND length = 0 AND packed = x''",
+        1,
+    ),
+    VOTE_OF_12,
+    IN_LAYOUT_TWO,
+];
+
+/// A withdrawal is saved in place of a promise.
+const WITHDRAWAL: &[Session] = &[
+    Session {
+        deeds: &[
+            Deed::Put(3, PROMISED, None),
+            Deed::Put(12, VOTED, None),
+            Deed::Put(3, WITHDRAWN, None),
+            Deed::Copy(3, WITHDRAWN),
+        ],
+        listing: Listing::Rows(&[(3, WITHDRAWN), (12, VOTED)]),
+        ..MADE_TWO
+    },
+    Session {
+        found: STANDING,
+        deeds: &[Deed::Get(3, Some(WITHDRAWN))],
+        listing: Listing::Rows(&[(3, WITHDRAWN), (12, VOTED)]),
+        ..OPENED_TWO
+    },
+];
+
+/// The longest tape of all is saved, and is there again.
+const LONGEST: &[Session] = &[
+    Session {
+        deeds: &[Deed::PutLong(12, 16_384), Deed::GetLong(12, 16_384)],
+        listing: Listing::Count(1),
+        ..MADE_TWO
+    },
+    Session {
+        deeds: &[Deed::GetLong(12, 16_384)],
+        listing: Listing::Count(1),
+        ..OPENED_TWO
+    },
+];
+
+/// A statement saved it.
+const LONGEST_STATED: &[Session] = &[
+    MADE_TWO,
+    Session {
+        frames: 16_384,
+        deeds: &[Deed::GetLong(12, 16_384)],
+        listing: Listing::Count(1),
+        ..OPENED_TWO
+    },
+];
+
+/// With one frame more it is none.
+const TOO_LONG: &[Session] = &[
+    MADE_TWO,
+    Session {
+        frames: 16_385,
+        refusal: Some(RowsFault::Damaged { number: 12 }),
+        ..OPENED_TWO
+    },
+];
+
+/// The tables are made once.
+const MADE_ONCE: &[Session] = &[
+    MADE_TWO,
+    Session {
+        refusal: Some(RowsFault::Store),
+        ..MADE_TWO
+    },
+    OPENED_TWO,
+];
+
+const STORIES: &[&[Session]] = &[
+    TAKEN_UP,
+    WITHDRAWAL,
+    LONGEST,
+    LONGEST_STATED,
+    TOO_LONG,
+    MADE_ONCE,
+];
+
+#[test]
+fn in_a_database_of_layout_two(rt: HostRuntime) {
+    assert_eq!(rt; first_amiss(rt.alloc(), STORIES), None);
+}

@@ -1,0 +1,247 @@
+//! Rows in a database in memory, made or taken up one time after another.
+
+use crate::rows::deeds::{Deed, are_done};
+use crate::rows::identities::STATION;
+use crate::rows::samples::{Sample, is_row};
+use crate::tables::statements::{Found, finds, save_long};
+use crate::tables::takers::are_shown;
+use acceptor_store::SqliteRows;
+use ballots::{Number, Row};
+use command_ends::End;
+use rows_command::{print_rows, upgrade_rows};
+use saved_rows::{Identity, Rows, RowsFault};
+use sqlite::{Alter, Connection, MemStore};
+use std::alloc::Global;
+use std::io;
+use std::io::Write;
+use tape_frames::Version;
+
+/// How the rows come out of a database.
+#[derive(Clone, Copy)]
+pub enum Manner {
+    /// Made, for the station.
+    Create,
+    /// Taken up, where they are this station's, if one is given.
+    Open(Option<Identity>),
+}
+
+/// What is then listed.
+#[derive(Clone, Copy)]
+pub enum Listing {
+    /// These numbers and rows.
+    Rows(&'static [(u32, Sample)]),
+    /// So many rows.
+    Count(usize),
+    /// Nothing: it is refused so.
+    Refused(RowsFault),
+}
+
+/// Which command prints.
+#[derive(Clone, Copy)]
+pub enum Command {
+    Rows,
+    Upgrade,
+}
+
+/// What a command prints to a writer that takes so many bytes: a front of the text, how it ends, and its fault.
+#[derive(Clone, Copy)]
+pub struct Print {
+    pub command: Command,
+    pub room: usize,
+    pub text: &'static str,
+    pub end: End,
+    pub fault: &'static str,
+}
+
+/// What is done to a database: statements, one that saves a tape of so many frames 63 under 12, if of any, and some that
+/// find so many rows each; then the rows made or taken up, at this version, which may be refused; and, where they are not,
+/// deeds, a listing, what commands print, each time, and whether the rows 3 and 12 are shown until it is enough.
+#[derive(Clone, Copy)]
+pub struct Session {
+    pub statements: &'static str,
+    pub frames: usize,
+    pub found: &'static [Found],
+    pub manner: Manner,
+    pub version: Version,
+    pub refusal: Option<RowsFault>,
+    pub deeds: &'static [Deed],
+    pub listing: Listing,
+    pub prints: &'static [Print],
+    pub shows: bool,
+}
+
+/// The rows are made at version 1, and none is saved.
+pub const MADE: Session = Session {
+    statements: "",
+    frames: 0,
+    found: &[],
+    manner: Manner::Create,
+    version: Version::One,
+    refusal: None,
+    deeds: &[],
+    listing: Listing::Rows(&[]),
+    prints: &[],
+    shows: false,
+};
+
+/// The rows are taken up for the station, at version 1, and there is none.
+pub const OPENED: Session = Session {
+    manner: Manner::Open(Some(STATION)),
+    ..MADE
+};
+
+/// The same at version 2.
+pub const MADE_TWO: Session = Session {
+    version: Version::Two,
+    ..MADE
+};
+
+pub const OPENED_TWO: Session = Session {
+    version: Version::Two,
+    ..OPENED
+};
+
+/// Whether these numbers and rows are those, in their order.
+fn are_rows(rows: &[(Number, Row)], wanted: &[(u32, Sample)]) -> bool {
+    for ((number, row), (of, sample)) in rows.iter().zip(wanted) {
+        if number.get() != *of || !is_row(row, Some(sample)) {
+            return false;
+        }
+    }
+    rows.len() == wanted.len()
+}
+
+/// Whether what was listed is what is wanted.
+fn is_listed(listed: Result<Vec<(Number, Row)>, RowsFault>, wanted: &Listing) -> bool {
+    match (listed, wanted) {
+        (Ok(rows), Listing::Rows(wanted)) => are_rows(rows.as_slice(), wanted),
+        (Ok(rows), Listing::Count(count)) => rows.len() == *count,
+        (Err(fault), Listing::Refused(wanted)) => fault == *wanted,
+        _ => false,
+    }
+}
+
+/// A writer that takes one byte a call, and at most so many.
+#[derive(Drop)]
+struct Slow {
+    taken: Vec<u8>,
+    room: usize,
+}
+
+impl Write for Slow {
+    fn write(&mut self, buf: &[u8]) -> io::Result<usize> {
+        if self.room == 0 {
+            return Ok(0);
+        }
+        match buf.first() {
+            None => Ok(0),
+            Some(byte) => {
+                self.taken.push(*byte)?;
+                self.room -= 1;
+                Ok(1)
+            }
+        }
+    }
+
+    fn flush(&mut self) -> io::Result<()> {
+        Ok(())
+    }
+}
+
+/// Whether a command prints so.
+fn is_printed<S: Alter + Drop>(alloc: Global, rows: &mut SqliteRows<S>, print: &Print) -> bool {
+    let mut out = Slow {
+        taken: Vec::new(alloc),
+        room: print.room,
+    };
+    let mut err = Vec::new(alloc);
+    let end = match print.command {
+        Command::Rows => print_rows(alloc, rows, &mut out, &mut err),
+        Command::Upgrade => upgrade_rows(rows, &mut out, &mut err),
+    };
+    print.text.as_bytes().starts_with(&out.taken)
+        && (out.taken.len() == print.text.len() || out.room == 0)
+        && end == print.end
+        && err.as_slice() == print.fault.as_bytes()
+}
+
+/// Whether the commands print so, one after the other.
+fn are_printed<S: Alter + Drop>(alloc: Global, rows: &mut SqliteRows<S>, prints: &[Print]) -> bool {
+    for print in prints {
+        if !is_printed(alloc, rows, print) {
+            return false;
+        }
+    }
+    true
+}
+
+/// Whether the rows are the station's, at the version of a session, and answer, list and print as it says.
+fn serves<S: Alter + Drop>(alloc: Global, rows: &mut SqliteRows<S>, session: &Session) -> bool {
+    session.refusal.is_none()
+        && rows.identity() == STATION
+        && rows.version() == session.version
+        && are_done(alloc, rows, session.deeds)
+        && is_listed(rows.all(), &session.listing)
+        && are_printed(alloc, rows, session.prints)
+        && (!session.shows || are_shown(rows))
+}
+
+/// Runs the statements of a session, which have to find what they find.
+fn prepare<S: Alter>(alloc: Global, conn: &mut Connection<S>, session: &Session) -> Option<()> {
+    conn.execute_batch(session.statements).ok()?;
+    if session.frames > 0 {
+        save_long(alloc, conn, session.version, session.frames)?;
+    }
+    finds(conn, session.found).then_some(())
+}
+
+/// The connection after a session that went as it has to: here alone rows in memory have their whole type.
+fn after(
+    alloc: Global,
+    mut conn: Connection<MemStore>,
+    session: &Session,
+) -> Option<Connection<MemStore>> {
+    prepare(alloc, &mut conn, session)?;
+    let taken = match session.manner {
+        Manner::Create => SqliteRows::create(alloc, conn, STATION, session.version),
+        Manner::Open(given) => SqliteRows::open(alloc, conn, given),
+    };
+    match taken {
+        Ok(mut rows) => {
+            if !serves(alloc, &mut rows, session) {
+                return None;
+            }
+            Some(rows.into_connection())
+        }
+        Err((fault, conn)) => {
+            if session.refusal != Some(fault) {
+                return None;
+            }
+            Some(conn)
+        }
+    }
+}
+
+/// Whether each of these sessions over one new database goes as it has to.
+pub fn are_played(alloc: Global, sessions: &[Session]) -> bool {
+    let Ok(mut conn) = Connection::open_in_memory(alloc) else {
+        return false;
+    };
+    for session in sessions {
+        match after(alloc, conn, session) {
+            Some(next) => conn = next,
+            None => return false,
+        }
+    }
+    true
+}
+
+/// The place of the first of these stories that goes otherwise; nothing where none does.
+pub fn first_amiss(alloc: Global, stories: &[&[Session]]) -> Option<usize> {
+    for (place, sessions) in stories.iter().enumerate() {
+        if !are_played(alloc, sessions) {
+            return Some(place);
+        }
+    }
+    None
+}

@@ -1,0 +1,201 @@
+//! Rows in databases that go over from layout 1 to layout 2.
+
+use crate::rows::databases::{BOTH, READ, SAVED};
+use crate::rows::deeds::Deed;
+use crate::rows::identities::OTHER;
+use crate::rows::samples::{PROMISED, VOTED, WITHDRAWN};
+use crate::rows::sessions::{Listing, MADE, Manner, OPENED, OPENED_TWO, Session, first_amiss};
+use crate::tables::statements::{Found, IN_LAYOUT_TWO};
+use saved_rows::RowsFault;
+use tape_frames::Version;
+
+const STORE: Option<RowsFault> = Some(RowsFault::Store);
+
+/// Statements that find the rows of layout 1 as they were, and the station in layout 2.
+const AS_THEY_WERE: &[Found] = &[
+    (
+        "UPDATE acceptor_row SET number = number WHERE number = 3 AND promised_round = 1 AND promised_owner = 1 \
+AND vote_round IS NULL AND vote_owner IS NULL AND tape IS NULL",
+        1,
+    ),
+    (
+        "UPDATE acceptor_row SET number = number WHERE number = 12 AND promised_round = 1 AND promised_owner = 3 \
+AND vote_round = 1 AND vote_owner = 1 AND tape = x'010204'",
+        1,
+    ),
+    ("UPDATE acceptor_row SET number = number", 2),
+    IN_LAYOUT_TWO,
+];
+
+/// Two rows go over, and are as before; once more, and nothing changes. They are taken up for their station, for another, and
+/// for any; what is then saved leaves the rows of layout 1 as they were, and of these none is read.
+const WENT_OVER: &[Session] = &[
+    SAVED,
+    Session {
+        deeds: &[
+            Deed::Upgrade(None, Version::Two),
+            Deed::Get(12, Some(VOTED)),
+            Deed::Get(3, Some(PROMISED)),
+            Deed::Get(4, None),
+            Deed::Upgrade(None, Version::Two),
+            Deed::Copy(12, VOTED),
+        ],
+        listing: BOTH,
+        ..OPENED
+    },
+    Session {
+        found: AS_THEY_WERE,
+        deeds: READ,
+        listing: BOTH,
+        ..OPENED_TWO
+    },
+    Session {
+        manner: Manner::Open(Some(OTHER)),
+        refusal: Some(RowsFault::WrongStation),
+        ..OPENED_TWO
+    },
+    Session {
+        manner: Manner::Open(None),
+        deeds: &[
+            Deed::Upgrade(None, Version::Two),
+            Deed::Put(4, WITHDRAWN, None),
+            Deed::Put(3, VOTED, None),
+        ],
+        listing: Listing::Rows(&[(3, VOTED), (4, WITHDRAWN), (12, VOTED)]),
+        ..OPENED_TWO
+    },
+    Session {
+        statements: "INSERT INTO acceptor_row VALUES (13, 0, 0, 1, 1, NULL)",
+        deeds: &[Deed::Get(4, Some(WITHDRAWN)), Deed::Get(13, None)],
+        listing: Listing::Rows(&[(3, VOTED), (4, WITHDRAWN), (12, VOTED)]),
+        ..OPENED_TWO
+    },
+    Session {
+        statements: "DELETE FROM acceptor_row WHERE number = 13",
+        found: AS_THEY_WERE,
+        listing: Listing::Count(3),
+        ..OPENED_TWO
+    },
+];
+
+/// Where there are no rows, none go over.
+const NO_ROWS: &[Session] = &[
+    Session {
+        deeds: &[Deed::Upgrade(None, Version::Two)],
+        ..MADE
+    },
+    OPENED_TWO,
+];
+
+/// The longest tape of layout 1 goes over, and a longer one is then saved.
+const LONGEST: &[Session] = &[
+    Session {
+        deeds: &[
+            Deed::PutLong(12, 4096),
+            Deed::Upgrade(None, Version::Two),
+            Deed::GetLong(12, 4096),
+        ],
+        listing: Listing::Count(1),
+        ..MADE
+    },
+    Session {
+        deeds: &[
+            Deed::GetLong(12, 4096),
+            Deed::PutLong(13, 16_384),
+            Deed::GetLong(13, 16_384),
+        ],
+        listing: Listing::Count(2),
+        ..OPENED_TWO
+    },
+];
+
+/// An upgrade is refused, and nothing is answered after it.
+const REFUSED: &[Deed] = &[
+    Deed::Upgrade(STORE, Version::One),
+    Deed::Refused(12, RowsFault::Store),
+    Deed::Refused(4, RowsFault::Store),
+    Deed::Put(3, PROMISED, STORE),
+    Deed::Upgrade(STORE, Version::One),
+];
+
+const BALKED: Session = Session {
+    deeds: REFUSED,
+    listing: Listing::Refused(RowsFault::Store),
+    ..OPENED
+};
+
+/// The two rows are taken up again, in layout 1 and in layout 2.
+const AGAIN: Session = Session {
+    deeds: READ,
+    listing: BOTH,
+    ..OPENED
+};
+
+const OVER: Session = Session {
+    version: Version::Two,
+    ..AGAIN
+};
+
+/// A table of entries is there already; without it the rows go over.
+const TAKEN: &[Session] = &[
+    SAVED,
+    Session {
+        statements: "CREATE TABLE acceptor_entry (number INTEGER PRIMARY KEY)",
+        ..BALKED
+    },
+    AGAIN,
+    Session {
+        statements: "DROP TABLE acceptor_entry",
+        deeds: &[Deed::Upgrade(None, Version::Two)],
+        listing: BOTH,
+        ..OPENED
+    },
+    Session {
+        found: AS_THEY_WERE,
+        ..OVER
+    },
+];
+
+/// Tables that take no other layout, with two rows: the upgrade is refused once its entries are saved, and these are undone.
+const NO_OTHER: &str =
+    "CREATE TABLE station (one INTEGER PRIMARY KEY CHECK (one = 1), layout INTEGER NOT NULL CHECK (layout = 1), circuit INTEGER NOT NULL, member INTEGER NOT NULL, members INTEGER NOT NULL) STRICT;
+INSERT INTO station VALUES (1, 1, 7, 2, 3);
+CREATE TABLE acceptor_row (number INTEGER PRIMARY KEY, promised_round INTEGER NOT NULL, promised_owner INTEGER NOT NULL, vote_round INTEGER, vote_owner INTEGER, tape BLOB) STRICT;
+INSERT INTO acceptor_row VALUES (3, 1, 1, NULL, NULL, NULL), (12, 1, 3, 1, 1, x'010204')";
+
+/// No table of entries is left, or it could not be made here.
+const UNDONE: &[Session] = &[
+    Session {
+        statements: NO_OTHER,
+        ..BALKED
+    },
+    AGAIN,
+    Session {
+        statements: "CREATE TABLE acceptor_entry (number INTEGER PRIMARY KEY); DROP TABLE acceptor_entry",
+        ..BALKED
+    },
+];
+
+/// In a transaction no rows are taken up, so none go over; after it they do.
+const IN_A_TRANSACTION: &[Session] = &[
+    SAVED,
+    Session {
+        statements: "BEGIN",
+        refusal: STORE,
+        ..OPENED
+    },
+    Session {
+        statements: "COMMIT",
+        deeds: &[Deed::Upgrade(None, Version::Two)],
+        listing: BOTH,
+        ..OPENED
+    },
+    OVER,
+];
+
+const STORIES: &[&[Session]] = &[WENT_OVER, NO_ROWS, LONGEST, TAKEN, UNDONE, IN_A_TRANSACTION];
+
+#[test]
+fn rows_go_over(rt: HostRuntime) {
+    assert_eq!(rt; first_amiss(rt.alloc(), STORIES), None);
+}

@@ -1,0 +1,65 @@
+//! Saves into rows whose disk may stop, and what is found of them.
+
+ghost use Rattle.saved_rows.specs.Saved.{HasPromise};
+
+use crate::rows::samples::{Sample, is_row, row_of};
+use ballots::{Number, Row};
+use saved_rows::Rows;
+use std::alloc::Global;
+use tape_frames::Version;
+
+/// A row under its number.
+pub type Numbered = (u32, Sample);
+
+/// That a call was refused; nothing where a read is not refused then.
+fn refused<R: Rows>(rows: &mut R, number: Number) -> Option<bool> {
+    rows.get(number).is_err().then_some(false)
+}
+
+/// Whether a row is saved. Where it is refused, each read is refused from then on, or this answers nothing.
+fn saves<R: Rows>(rows: &mut R, number: Number, row: &Row) -> Option<bool>
+    requires { HasPromise row.now }
+{
+    if !row.fits(rows.version()) {
+        return None;
+    }
+    if rows.put(number, row).is_ok() {
+        Some(true)
+    } else {
+        refused(rows, number)
+    }
+}
+
+/// The same of a sample under its number.
+pub fn puts<R: Rows>(alloc: Global, rows: &mut R, numbered: &Numbered) -> Option<bool> {
+    let number = Number::new(numbered.0)?;
+    let row = row_of(alloc, &numbered.1)?;
+    saves(rows, number, &row)
+}
+
+/// Whether the rows go over to version 2. Where that is refused, each read is refused from then on, or this answers nothing.
+pub fn goes_over<R: Rows>(rows: &mut R) -> Option<bool> {
+    if rows.upgrade().is_ok() {
+        return (rows.version() == Version::Two).then_some(true);
+    }
+    refused(rows, Number::new(12)?)
+}
+
+/// Whether the row under the number of a sample is that of the sample.
+fn is_there<R: Rows>(rows: &mut R, numbered: &Numbered) -> Option<bool> {
+    let number = Number::new(numbered.0)?;
+    match rows.get(number) {
+        Ok(row) => Some(is_row(&row, Some(&numbered.1))),
+        Err(_) => None,
+    }
+}
+
+/// Whether each of these is there.
+pub fn are_there<R: Rows>(rows: &mut R, samples: &[Numbered]) -> bool {
+    for numbered in samples {
+        if is_there(rows, numbered) != Some(true) {
+            return false;
+        }
+    }
+    true
+}

@@ -1,0 +1,15 @@
+//! Stops while two rows go over to the second layout: both are found, all in the one layout or all in the other.
+
+use crate::stops::disks::Side;
+use crate::stops::runs::{stops_around, stops_throughout};
+use crate::stops::works::Work;
+
+#[test]
+fn the_log_stops(rt: HostRuntime) {
+    assert!(rt; stops_throughout(rt.alloc(), Work::Upgrade, Side::Log));
+}
+
+#[test]
+fn the_database_stops(rt: HostRuntime) {
+    assert!(rt; stops_around(rt.alloc(), Work::Upgrade, Side::Database));
+}

@@ -1,0 +1,31 @@
+//! Entries as the columns of their table.
+
+use row_table::EntryColumns;
+use std::alloc::Global;
+
+/// A promise of 1.1 alone.
+pub fn promise(number: u32) -> EntryColumns {
+    EntryColumns {
+        number,
+        promised_round: 1,
+        promised_owner: 1,
+        vote_round: None,
+        vote_owner: None,
+        length: None,
+        packed: None,
+    }
+}
+
+/// A promise of 1.3 beside a vote at 1.1 for 01 02 04, which are packed in three bytes.
+pub fn vote(alloc: Global, number: u32) -> Option<EntryColumns> {
+    let packed = vec![in alloc; 0x04u8, 0x21, 0x00].ok()?;
+    Some(EntryColumns {
+        number,
+        promised_round: 1,
+        promised_owner: 3,
+        vote_round: Some(1),
+        vote_owner: Some(1),
+        length: Some(3),
+        packed: Some(packed),
+    })
+}

@@ -1,0 +1,163 @@
+//! Rows that are taken one by one from a database, or shown as saved rows, to the last or to where it is enough.
+
+use crate::rows::databases::BOTH;
+use crate::rows::memory::PUT_TWO;
+use crate::rows::sessions::{MADE, Session, are_played};
+use crate::tables::columns::promise;
+use acceptor_store::{RowVisitor, SqliteRows};
+use ballots::Number;
+use row_table::{
+    Taker, create_entry_tables, create_tables, put_entry, put_row, visit_entries, visit_rows,
+};
+use sqlite::{Alter, Connection, Row};
+use std::alloc::Global;
+use tape_frames::Version;
+
+/// How many rows were taken, of at most so many that are wanted, and the number of the last.
+#[derive(Drop)]
+struct Count {
+    most: usize,
+    taken: usize,
+    last: i64,
+}
+
+impl Taker for Count {
+    ghost took = { λ _ _ _. Unit {0} };
+
+    ghost has_enough = { λ _. Unit {0} };
+
+    fn take(&mut self, row: &Row) -> bool {
+        self.taken = self.taken.saturating_add(1);
+        self.last = row.get(0).unwrap_or(0);
+        self.taken < self.most
+    }
+
+    ghost took_none = { λ _. tt };
+}
+
+impl RowVisitor for Count {
+    ghost saw = { λ _ _ _. Unit {0} };
+
+    ghost has_enough = { λ _. Unit {0} };
+
+    fn see(&mut self, number: Number, _row: &ballots::Row) -> bool {
+        self.taken = self.taken.saturating_add(1);
+        self.last = i64::from(number.get());
+        self.taken < self.most
+    }
+
+    ghost saw_none = { λ _. tt };
+}
+
+/// Whether all were taken, how many, and the number of the last.
+type Taken = (bool, usize, i64);
+
+/// What is taken of the rows 3 and 12 where so many are wanted at most.
+const TAKEN: &[(usize, Taken)] = &[(1, (false, 1, 3)), (2, (false, 2, 12)), (3, (true, 2, 12))];
+
+/// Which table the rows are in.
+#[derive(Clone, Copy)]
+enum Table {
+    Rows,
+    Entries,
+}
+
+/// What is taken of the rows of a table where so many are wanted at most.
+fn taken<S: Alter>(conn: &mut Connection<S>, table: Table, most: usize) -> Option<Taken> {
+    let mut count = Count {
+        most,
+        taken: 0,
+        last: 0,
+    };
+    let all = match table {
+        Table::Rows => visit_rows(conn, &mut count),
+        Table::Entries => visit_entries(conn, &mut count),
+    };
+    Some((all.ok()?, count.taken, count.last))
+}
+
+/// Makes the table in an empty database, with promises under 12 and 3.
+fn fill<S: Alter>(conn: &mut Connection<S>, table: Table) -> Option<()> {
+    if !conn.is_autocommit() {
+        return None;
+    }
+    match table {
+        Table::Rows => {
+            create_tables(conn, 7, 2, 3).ok()?;
+            put_row(conn, 12, 1, 1, None, None, None).ok()?;
+            put_row(conn, 3, 1, 1, None, None, None).ok()
+        }
+        Table::Entries => {
+            create_entry_tables(conn, 7, 2, 3).ok()?;
+            put_entry(conn, &promise(12)).ok()?;
+            put_entry(conn, &promise(3)).ok()
+        }
+    }
+}
+
+/// Whether the rows of this table of an empty database are taken until it is enough, once they are there.
+fn takes<S: Alter>(conn: &mut Connection<S>, table: Table) -> bool {
+    if fill(conn, table).is_none() {
+        return false;
+    }
+    for (most, wanted) in TAKEN {
+        if taken(conn, table, *most) != Some(*wanted) {
+            return false;
+        }
+    }
+    true
+}
+
+/// The same of a new database.
+fn are_taken(alloc: Global, table: Table) -> bool {
+    match Connection::open_in_memory(alloc) {
+        Ok(mut conn) => takes(&mut conn, table),
+        Err(_) => false,
+    }
+}
+
+/// What is shown of saved rows where so many are wanted at most.
+fn shown<S: Alter + Drop>(rows: &mut SqliteRows<S>, most: usize) -> Option<Taken> {
+    let mut count = Count {
+        most,
+        taken: 0,
+        last: 0,
+    };
+    let all = rows.visit(&mut count).ok()?;
+    Some((all, count.taken, count.last))
+}
+
+/// Whether the saved rows 3 and 12 are shown until it is enough.
+pub fn are_shown<S: Alter + Drop>(rows: &mut SqliteRows<S>) -> bool {
+    for (most, wanted) in TAKEN {
+        if shown(rows, *most) != Some(*wanted) {
+            return false;
+        }
+    }
+    true
+}
+
+#[test]
+fn rows_are_taken_until_it_is_enough(rt: HostRuntime) {
+    assert!(rt; are_taken(rt.alloc(), Table::Rows));
+    assert!(rt; are_taken(rt.alloc(), Table::Entries));
+}
+
+/// Two rows are saved, and shown, at version 1 and at version 2.
+const SHOWN: Session = Session {
+    deeds: PUT_TWO,
+    listing: BOTH,
+    shows: true,
+    ..MADE
+};
+
+const SHOWN_TWO: Session = Session {
+    version: Version::Two,
+    ..SHOWN
+};
+
+#[test]
+fn saved_rows_are_shown_until_it_is_enough(rt: HostRuntime) {
+    assert!(rt; are_played(rt.alloc(), &[SHOWN]));
+    assert!(rt; are_played(rt.alloc(), &[SHOWN_TWO]));
+}
