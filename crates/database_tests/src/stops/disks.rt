@@ -4,7 +4,7 @@ ghost use Rattle.std.specs.Prelude.{IsTrue};
 
 use acceptor_store::SqliteRows;
 use saved_rows::Rows;
-use sqlite::{Connection, FileStore, Files, Options};
+use sqlite::{Alter, Connection, FileStore, Files, Options};
 use sqlite_disk::{Crash, Disk, Fuse, Memory};
 use std::alloc::Global;
 
@@ -25,30 +25,23 @@ pub struct Left {
     pub closed: bool,
 }
 
-/// Saved rows over disks: what else is asked of them here.
+/// Saved rows in a database: what else is asked of them here.
 pub trait Stored: Rows {
     /// How many rows are listed; nothing where the list is refused.
     fn count(&mut self) -> Option<usize>;
-
-    /// The disks, taken out.
-    fn left(self) -> Left;
 }
 
-/// A database over two disks in memory.
-pub type Database = Connection<FileStore<Fuse<Memory>>>;
-
-impl Stored for SqliteRows<FileStore<Fuse<Memory>>> {
+impl<S: Alter + Drop> Stored for SqliteRows<S> {
     fn count(&mut self) -> Option<usize> {
         match self.all() {
             Ok(list) => Some(list.len()),
             Err(_) => None,
         }
     }
-
-    fn left(self) -> Left {
-        close(self.into_connection())
-    }
 }
+
+/// A database over two disks in memory.
+pub type Database = Connection<FileStore<Fuse<Memory>>>;
 
 /// A new disk that stops after so many calls.
 fn disk(alloc: Global, calls: u64) -> Fuse<Memory>
@@ -74,7 +67,7 @@ pub fn opened(alloc: Global, side: Side, calls: u64) -> Result<Database, Disks> 
 }
 
 /// Takes the disks out of a database.
-fn close(conn: Database) -> Left {
+pub fn close(conn: Database) -> Left {
     match conn.close_files() {
         Ok(disks) => Left {
             disks,

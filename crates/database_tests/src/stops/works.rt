@@ -2,12 +2,13 @@
 
 use crate::rows::identities::ALONE;
 use crate::rows::samples::{Choice, PROMISED, Sample, VOTED};
-use crate::stops::disks::{Database, Disks, Left, Side, Stored, opened, reopened};
+use crate::stops::disks::{Database, Disks, Left, Side, Stored, close, opened, reopened};
 use crate::stops::saves::{Numbered, are_there, goes_over, puts};
 use crate::stops::stations::{offered, served, sought};
 use acceptor_store::{SqliteRows, into_files};
 use fixtures::{FLOOD, LIGATURE};
 use saved_rows::{Rows, RowsFault};
+use sqlite::{Alter, Connection};
 use std::alloc::Global;
 use tape_frames::Version;
 
@@ -197,13 +198,13 @@ enum Task {
     Find(Expected),
 }
 
-/// What came of it.
+/// What came of it with the rows of a database.
 #[derive(Drop)]
-enum Came {
-    /// The work ended, or was refused: what is left, and what was told.
-    Ended(Left, Told),
-    /// The rows were not made: what is left.
-    Unmade(Disks),
+enum Taken<S: Alter + Drop> {
+    /// The work ended, or was refused: the database, and what was told.
+    Ended(Connection<S>, Told),
+    /// The rows were not made in it.
+    Unmade(Connection<S>),
     /// Whether they are as they may be.
     Found(bool),
     /// The work did something else than it may.
@@ -211,40 +212,59 @@ enum Came {
 }
 
 /// What comes of a task with these rows.
-fn over<R: Stored>(alloc: Global, rows: R, task: Task) -> Came {
+fn over<S: Alter + Drop>(alloc: Global, rows: SqliteRows<S>, task: Task) -> Taken<S> {
     match task {
         Task::Do(work) => match done(alloc, rows, work) {
-            Some((rows, told)) => Came::Ended(rows.left(), told),
-            None => Came::Strange,
+            Some((rows, told)) => Taken::Ended(rows.into_connection(), told),
+            None => Taken::Strange,
         },
-        Task::Find(expected) => Came::Found(holds(alloc, rows, expected)),
+        Task::Find(expected) => Taken::Found(holds(alloc, rows, expected)),
     }
 }
 
-/// What comes of it where the rows are refused.
-fn refused(fault: RowsFault, disks: Disks, task: Task) -> Came {
+/// What comes of it where the rows of this database are refused.
+fn refused<S: Alter + Drop>(fault: RowsFault, conn: Connection<S>, task: Task) -> Taken<S> {
     match task {
-        Task::Do(_) => Came::Unmade(disks),
-        Task::Find(expected) => Came::Found(may_be_refused(fault, expected)),
+        Task::Do(_) => Taken::Unmade(conn),
+        Task::Find(expected) => Taken::Found(may_be_refused(fault, expected)),
     }
 }
 
-/// What comes of a task with a database: here alone its rows have their whole type.
-fn taken(alloc: Global, conn: Database, task: Task) -> Came {
+/// What comes of a task with a database.
+fn in_database<S: Alter + Drop>(alloc: Global, conn: Connection<S>, task: Task) -> Taken<S> {
     let rows = match task {
         Task::Do(work) => SqliteRows::create(alloc, conn, ALONE, version_for(work)),
         Task::Find(_) => SqliteRows::open(alloc, conn, Some(ALONE)),
     };
     match rows {
         Ok(rows) => over(alloc, rows, task),
-        Err((fault, conn)) => refused(fault, into_files(conn), task),
+        Err((fault, conn)) => refused(fault, conn, task),
+    }
+}
+
+/// What came of it with the disks of a database, of which these are left.
+#[derive(Drop)]
+enum Came {
+    Ended(Left, Told),
+    Unmade(Disks),
+    Found(bool),
+    Strange,
+}
+
+/// What comes of a task with a database over disks: here alone its rows have their whole type.
+fn over_disks(alloc: Global, conn: Database, task: Task) -> Came {
+    match in_database(alloc, conn, task) {
+        Taken::Ended(conn, told) => Came::Ended(close(conn), told),
+        Taken::Unmade(conn) => Came::Unmade(into_files(conn)),
+        Taken::Found(is_right) => Came::Found(is_right),
+        Taken::Strange => Came::Strange,
     }
 }
 
 /// What comes of a work with rows that are made over new disks, of which this one stops after so many calls.
 fn worked(alloc: Global, side: Side, calls: u64, work: Work) -> Came {
     match opened(alloc, side, calls) {
-        Ok(conn) => taken(alloc, conn, Task::Do(work)),
+        Ok(conn) => over_disks(alloc, conn, Task::Do(work)),
         Err(disks) => Came::Unmade(disks),
     }
 }
@@ -252,7 +272,10 @@ fn worked(alloc: Global, side: Side, calls: u64, work: Work) -> Came {
 /// Whether what is found on the disks after a crash is as it may be.
 fn is_found(alloc: Global, disks: Disks, expected: Expected) -> bool {
     match reopened(alloc, disks) {
-        Some(conn) => matches!(taken(alloc, conn, Task::Find(expected)), Came::Found(true)),
+        Some(conn) => matches!(
+            over_disks(alloc, conn, Task::Find(expected)),
+            Came::Found(true)
+        ),
         None => false,
     }
 }
