@@ -382,6 +382,11 @@ const REHEARSE: Form = Form {
 /// The commands, in the order in which the help lists them: those over tapes, and those over stations.
 const FORMS: &[Form] = &[ANSWER, CHECK, DRAW, ROWS, UPGRADE, SERVE, RUN, REHEARSE];
 
+/// The commands. This function alone names the table, since each that names it is proved with all of its texts.
+fn forms() -> &'static [Form<'static>] {
+    FORMS
+}
+
 /// How `clap` tests a value.
 fn parser_of<'a>(value: Value) -> ValueParser<'a> {
     match value {
@@ -395,10 +400,10 @@ fn parser_of<'a>(value: Value) -> ValueParser<'a> {
 }
 
 fn with_absence<'a>(arg: Arg<'a>, absence: Absence<'a>) -> Arg<'a> {
+    let arg = arg.required(matches!(absence, Absence::Refused));
     match absence {
-        Absence::Refused => arg.required(true),
-        Absence::Empty => arg,
         Absence::Default(value) => arg.default_value(value),
+        _ => arg,
     }
 }
 
@@ -440,7 +445,7 @@ fn command_of<'a>(alloc: Global, form: Form<'a>) -> Result<Command<'a>, AllocErr
 
 /// Whether the first word behind the program's name is this name, or that of no command.
 fn is_needed(name: &str, first: &str) -> bool {
-    name == first || !FORMS.iter().any(|form| form.name == first)
+    name == first || !forms().iter().any(|form| form.name == first)
 }
 
 /// The grammar of a line whose first word, behind the program's own name, is this one: of the command that it names alone, since
@@ -450,7 +455,7 @@ pub(crate) fn grammar<'a>(alloc: Global, first: &str) -> Result<Command<'a>, All
         .version(VERSION)
         .about("A wire circuit whose numbers never mean two stories")
         .subcommand_required(true);
-    for form in FORMS {
+    for form in forms() {
         if is_needed(form.name, first) {
             program = program.subcommand(command_of(alloc, *form)?)?;
         }

@@ -103,15 +103,16 @@ fn rehearse_of<'a>(matches: &ArgMatches<'a>) -> Option<Asked<'a>> {
 }
 
 fn asked_of<'a>(matches: &ArgMatches<'a>) -> Option<Asked<'a>> {
-    match matches.subcommand() {
-        Some(("answer", given)) => answer_of(given),
-        Some(("check", given)) => check_of(given),
-        Some(("draw", given)) => draw_of(given),
-        Some(("rows", given)) => rows_of(given),
-        Some(("upgrade", given)) => upgrade_of(given),
-        Some(("serve", given)) => serve_of(given),
-        Some(("run", given)) => run_of(given),
-        Some(("rehearse", given)) => rehearse_of(given),
+    let (name, given) = matches.subcommand()?;
+    match name {
+        "answer" => answer_of(given),
+        "check" => check_of(given),
+        "draw" => draw_of(given),
+        "rows" => rows_of(given),
+        "upgrade" => upgrade_of(given),
+        "serve" => serve_of(given),
+        "run" => run_of(given),
+        "rehearse" => rehearse_of(given),
         _ => None,
     }
 }
