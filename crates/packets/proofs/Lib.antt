@@ -7,3 +7,4 @@ pub mod Taken
 pub mod Saying
 pub mod Unique
 pub mod Lengths
+mod Speaking

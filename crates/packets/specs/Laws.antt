@@ -1,10 +1,15 @@
 -- The laws of the grammar and of reading.
-use Rattle.std.specs.Prelude.{◌≡◌, ℕ, ◌≤◌, List, [], ◌∷◌, ◌++◌, length, Ok}
+use Rattle.std.specs.Prelude.{◌≡◌, ℕ, ◌<◌, ◌≤◌, List, [], ◌∷◌, ◌++◌, length, Ok}
 use Rattle.tape_frames.specs.Packing.{OnePacking, PackingIsGiven, UnpackingUndoes, TapesArePacked, PackedAreTapes}
 use Rattle.protocol.specs.Entries.{Tape, Entry}
 use Rattle.protocol.specs.Versions.{Version, One, Two}
 use Rattle.protocol.specs.Packets.{Packet, Accepted}
-use Rattle.protocol.specs.Fitting.{BodyFits}
+use Rattle.tape_frames.specs.Entries.{IsEntry}
+use Rattle.protocol.specs.Limits.{most_members}
+use Rattle.protocol.specs.Circuit.{Circuit}
+use Rattle.protocol.specs.Fitting.{BodyFits, SpellsWhatFits}
+use Rattle.protocol.specs.Onward.{SpellsWhatMayBeSaid}
+use Rattle.packets.specs.declared.fault.PacketFault.{PacketFault}
 use Rattle.packets.specs.Grammar.{IsBytes, Spells, IsPacket, said_version}
 use Rattle.packets.specs.Reading.{packet_in, packet_at}
 
@@ -88,3 +93,10 @@ worked_packing = 4 ∷ 32 ∷ 193 ∷ 12 ∷ 33 ∷ 0 ∷ []
 -- the packet's spelling in version 2 as far as the entry
 abbrev pub worked_front : List ℕ
 worked_front = 84 ∷ 78 ∷ 2 ∷ 4 ∷ 0 ∷ 7 ∷ 2 ∷ 1 ∷ 0 ∷ 0 ∷ 0 ∷ 12 ∷ 0 ∷ 0 ∷ 0 ∷ 1 ∷ 1 ∷ []
+
+-- a circuit of no more members than there may be, whose number has two bytes and that reads by the grammar: what it reads fits,
+-- and it has a spelling for each packet that a member may send, whose entry is one and fits
+abbrev pub MembersCanSpeak : (G F : Type 0) → Type 0
+MembersCanSpeak G F =
+    (z : Circuit PacketFault G F) → z.number < 65536 → z.count ≤ most_members → ((v : Version) (bytes : List ℕ) → z.reads v bytes ≡ packet_in v bytes)
+    → SpellsWhatFits z × ((v : Version) → SpellsWhatMayBeSaid z v IsEntry)

@@ -4,7 +4,7 @@ ghost use Rattle.std.specs.Prelude.{[], ◌∷◌, ◌++◌};
 ghost use Rattle.protocol.specs.Entries.{Void, Taped};
 ghost use Rattle.protocol.specs.Versions.{Two};
 ghost use Rattle.packets.specs.Grammar.{Spells};
-ghost use Rattle.packets.specs.Laws.{HasOneSpelling, OnlyWhatFits, SaysItsVersion, OnePacket, NoFront, LengthsAreBounded, ReadsItAgain, FindsWhatIsSpelled, ReadAsSaid, ReadWhatFits, TwoReadsBoth, Packings, worked_packet, worked_front, worked_tape, worked_packing};
+ghost use Rattle.packets.specs.Laws.{HasOneSpelling, MembersCanSpeak, OnlyWhatFits, SaysItsVersion, OnePacket, NoFront, LengthsAreBounded, ReadsItAgain, FindsWhatIsSpelled, ReadAsSaid, ReadWhatFits, TwoReadsBoth, Packings, worked_packet, worked_front, worked_tape, worked_packing};
 
 use tape_frames::laws::{packed, packing, unpacking};
 
@@ -71,3 +71,12 @@ pub fn worked_spellings()
     ensures tape { Spells Two (worked_front ++ 0 ∷ 7 ∷ worked_packing) (worked_packet (Taped worked_tape)) }
     ensures void { Spells Two (worked_front ++ 0 ∷ 0 ∷ []) (worked_packet Void) }
 {}
+
+/// The members of a circuit that reads by the grammar can spell what they may say.
+pub fn members_can_speak<G, F>()
+    ensures { MembersCanSpeak G F }
+{
+    one_spelling();
+    reading();
+    reading_by_version();
+}

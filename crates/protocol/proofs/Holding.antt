@@ -17,7 +17,7 @@ use Rattle.protocol.proofs.Places.{with_at_cases, with_at-self, with_at-same, sa
 use Rattle.protocol.proofs.Steps.{same_state, due_arrives}
 use Rattle.protocol.proofs.Fitting.{turns_fit}
 
-first_none : {A : Type 0} (x y : Option A) → or_else x y ≡ None → x ≡ None
+pub first_none : {A : Type 0} (x y : Option A) → or_else x y ≡ None → x ≡ None
 first_none None y e = refl
 first_none (Some a) y e = let no : Some a ≡ None = e in cc
 
@@ -126,7 +126,7 @@ module _ {D G F : Type 0} (z : Circuit D G F) (spells : SpellsWhatFits z) where
   may_leave (Some true) o before after now h = elim h [ inl x ↦ inr x.1 | inr x ↦ x.1 ]
   may_leave None o before after now h = h.1
 
-  taken_fits :
+  pub taken_fits :
       (w : State G F) → MembersFit w → (m : ℕ) (call : Call) (e : Event) (t : Turn) → IsMember z.count m
       → early_refusal (setup_of z (w.version m) m) (w.is_stopped m) (w.marks m) call ≡ None
       → event_of (setup_of z (w.version m) m) (w.marks m) call ≡ Some e
@@ -164,7 +164,7 @@ module _ {D G F : Type 0} (z : Circuit D G F) (spells : SpellsWhatFits z) where
   fresh_fits : (version : ℕ → Version) → MembersFit (fresh {G = G} {F = F} version)
   fresh_fits version = record { rows = λ m n. tt; marks = λ m. no_marks (version m) }
 
-  history_fits : {w : State G F} → History z w → MembersFit w
+  pub history_fits : {w : State G F} → History z w → MembersFit w
   history_fits (starts version f) = subst (λ (x : State G F). MembersFit x) (sym (same_state f)) (fresh_fits version)
   history_fits (goes_on {w = w} {after = after} h s o st) = step_fits w s o after (history_fits h) st
 

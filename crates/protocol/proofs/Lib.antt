@@ -24,3 +24,12 @@ pub mod Contending
 pub mod Tearing
 pub mod Upgrading
 pub mod Withdrawing
+pub mod Strangers
+pub mod Rounds
+pub mod Going
+pub mod Replying
+pub mod Voting
+pub mod Gathering
+pub mod Calm
+pub mod Beginning
+pub mod Unstuck

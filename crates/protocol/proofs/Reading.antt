@@ -477,14 +477,14 @@ moved_is n p since = go (first (moment_of n p.ballot) since) refl
 
 -- the latest vote
 
-vote_order : IsOrder (λ (v u : Vote). is_below u.ballot v.ballot)
+pub vote_order : IsOrder (λ (v u : Vote). is_below u.ballot v.ballot)
 vote_order = record {
   strict = λ x e. above_order.strict x.ballot e;
   trans = λ x y z e f. above_order.trans x.ballot y.ballot z.ballot e f;
   level = λ x y z e f. above_order.level x.ballot y.ballot z.ballot e f;
 }
 
-vote_speaks : (n m : ℕ) (x : Mark) (v : Vote) → vote_of n m x ≡ Some v → x ≡ Heard n m v.ballot v.entry
+pub vote_speaks : (n m : ℕ) (x : Mark) (v : Vote) → vote_of n m x ≡ Some v → x ≡ Heard n m v.ballot v.entry
 vote_speaks n m (Heard k j b t) v e = go ((k == n) && (j == m)) refl
   where
     go : (s : Bool) → ((k == n) && (j == m)) ≡ s → Heard k j b t ≡ Heard n m v.ballot v.entry
@@ -552,7 +552,7 @@ pub record LeastMember (c : ℕ) (f : ℕ → Option Vote) (p : Vote → Bool) (
 pub record NoMember (c : ℕ) (f : ℕ → Option Vote) (p : Vote → Bool) : Type 0 where
   pub no_one : (m : ℕ) (u : Vote) → IsMember c m → f m ≡ Some u → p u ≡ true → ⊥
 
-abbrev FoundAs : ℕ → (ℕ → Option Vote) → (Vote → Bool) → Option Vote → Type 0
+abbrev pub FoundAs : ℕ → (ℕ → Option Vote) → (Vote → Bool) → Option Vote → Type 0
 FoundAs c f p None = NoMember c f p
 FoundAs c f p (Some v) = LeastMember c f p v
 
@@ -592,10 +592,10 @@ found_member (suc c) f p =
 
 -- ripe
 
-abbrev stands_at : ℕ → List Mark → Ballot → ℕ → Bool
+abbrev pub stands_at : ℕ → List Mark → Ballot → ℕ → Bool
 stands_at n marks b m = votes_at b (latest n marks m)
 
-at_ballot : (n m : ℕ) (marks : List Mark) (b : Ballot) → votes_at b (latest n marks m) ≡ true → (u : Entry) × Latest marks n m b u
+pub at_ballot : (n m : ℕ) (marks : List Mark) (b : Ballot) → votes_at b (latest n marks m) ≡ true → (u : Entry) × Latest marks n m b u
 at_ballot n m marks b e = go (latest n marks m) refl
   where
     go : (r : Option Vote) → latest n marks m ≡ r → (u : Entry) × Latest marks n m b u
@@ -607,7 +607,7 @@ at_ballot n m marks b e = go (latest n marks m) refl
 stands : (n m : ℕ) (marks : List Mark) (b : Ballot) (t : Entry) → Latest marks n m b t → stands_at n marks b m ≡ true
 stands n m marks b t l = let (v, e, f) = latest_at n m marks b t l in rw e (is_same-self v.ballot b f)
 
-abbrev is_ripe : ℕ → ℕ → List Mark → Vote → Bool
+abbrev pub is_ripe : ℕ → ℕ → List Mark → Vote → Bool
 is_ripe c n marks v = is_majority c (stands_at n marks v.ballot)
 
 pub ripe_is : (c n : ℕ) (marks : List Mark) (v : Vote) → ripe c n marks ≡ Some v → Ripe c marks n v.ballot v.entry

@@ -55,7 +55,7 @@ abbrev pub Goes : {D G F : Type 0} → Circuit D G F → Packet → Datagram →
 Goes z p d = (d.to ≡ p.to) × (hears z Two d.bytes ≡ Ok p)
 
 -- what is carried in a version goes
-all_go : {D G F : Type 0} (z : Circuit D G F) (v : Version) (ps : List Packet) (ds : List Datagram) → AllZip (Carries z v) ps ds → AllZip (Goes z) ps ds
+pub all_go : {D G F : Type 0} (z : Circuit D G F) (v : Version) (ps : List Packet) (ds : List Datagram) → AllZip (Carries z v) ps ds → AllZip (Goes z) ps ds
 all_go z v [] [] h = h
 all_go z v [] (d ∷ ds) h = absurd h
 all_go z v (p ∷ ps) [] h = absurd h
@@ -133,7 +133,7 @@ read_among {D = D} z (q ∷ ps) (y ∷ ds) d p e (inl same) spelled = inl (one (
     one r f g = cc
 read_among z (q ∷ ps) (y ∷ ds) d p e (inr i) spelled = inr (read_among z ps ds d p e.1 i spelled)
 
-AllZip-append : {A B : Type 0} (R : A → B → Type 0) (xs us : List A) (ys vs : List B) → AllZip R xs ys → AllZip R us vs → AllZip R (xs ++ us) (ys ++ vs)
+pub AllZip-append : {A B : Type 0} (R : A → B → Type 0) (xs us : List A) (ys vs : List B) → AllZip R xs ys → AllZip R us vs → AllZip R (xs ++ us) (ys ++ vs)
 AllZip-append R [] us [] vs h k = k
 AllZip-append R [] us (y ∷ ys) vs h k = absurd h
 AllZip-append R (x ∷ xs) us [] vs h k = absurd h
@@ -177,7 +177,7 @@ due_arrives None i p now e = cc
 due_arrives (Some n) i p now e = cc
 
 -- a packet that arrives was sent
-arrived_sent :
+pub arrived_sent :
     {D G F : Type 0} (z : Circuit D G F) (w : State G F) (s : Step) (m : ℕ) (call : Call) (p : Packet) (now : ℕ) (packets : List Packet) → AllZip (Goes z) packets w.sent
     → task_of w.sent s ≡ Some (record { member = m; call = call }) → event_of (setup_of z (w.version m) m) (w.marks m) call ≡ Some (Arrived p now) → IsAmong packets p
 arrived_sent z w s m (Offering n entry i) p now ps e task event = cc

@@ -5,9 +5,11 @@ use Rattle.protocol.specs.Ballots.{IsMember}
 use Rattle.protocol.specs.Rows.{Row, blank, voted}
 use Rattle.protocol.specs.Turn.{Event, Offered, Sought, number_of, Note_nothing, Note_proposed}
 use Rattle.protocol.specs.Refusals.{Offering, Seeking, Tape_faulty, refusal, event_of}
-use Rattle.protocol.specs.Circuit.{Circuit, State, Step, Offers, Seeks, Restarts, Balks, Outcome, Done, Refused, Torn_by_store, Torn_as_armed, Torn_by_memory, Restarted, Upgraded, Armed, saved, Task, task_of, setup_of, MayLeave, Leaves, store_before_save, memory_before_save, at_save, is_refused, is_idle, is_spent, is_done, is_torn, restarts, upgrades, upgrade_is_torn, is_armed, History, goes_on}
+use Rattle.protocol.specs.Circuit.{with_at, Upgrades, Circuit, State, Step, Offers, Seeks, Restarts, Balks, Outcome, Done, Refused, Torn_by_store, Torn_as_armed, Torn_by_memory, Restarted, Upgraded, Armed, saved, Task, task_of, setup_of, MayLeave, Leaves, store_before_save, memory_before_save, at_save, is_refused, is_idle, is_spent, is_done, is_torn, restarts, upgrades, upgrade_is_torn, is_armed, History, goes_on}
 use Rattle.protocol.specs.Runs.{ballot}
-use Rattle.protocol.specs.Tearing.{by_store, StoreTearsTheUnrefused, WasArmed, TornAsItWasArmed}
+use Rattle.protocol.specs.Tearing.{by_store, StoreTearsTheUnrefused, WasArmed, TornAsItWasArmed, EndsUpgrade, TookUpgrade, UpgradesKeepRows}
+use Rattle.protocol.specs.Versions.{Version, Two}
+use Rattle.std.specs.Prelude.{ℕ}
 use Rattle.protocol.specs.Rehearsals.{MemoryEndsSetting, SettingWantsMemory, StaysArmed, ReadingLeavesArmed, SaveIsRefusedTwice, StoreRefusesToo}
 use Rattle.protocol.proofs.Places.{with_at-same, saved-same}
 use Rattle.protocol.proofs.Rehearsing.{same, begins, of_count, at_count, changes}
@@ -139,3 +141,53 @@ save_is_refused_twice {D = D} {G = G} {F = F} k reads version_of sets says v ent
 
 pub store_refuses_too : {D G F : Type 0} → StoreRefusesToo D G F
 store_refuses_too z one = at_count 1 SaveIsRefusedTwice save_is_refused_twice z one
+
+-- which member an upgrade is of
+abbrev upgraded_of : Step → Option ℕ
+upgraded_of (Upgrades m) = Some m
+upgraded_of _ = None
+
+its_upgrade : (m k : ℕ) → Upgrades m ≡ Upgrades k → k ≡ m
+its_upgrade m k is = some_is (ap upgraded_of (sym is))
+
+no_upgrade : (m : ℕ) (s : Step) → Upgrades m ≡ s → upgraded_of s ≡ None → ⊥
+no_upgrade m s is none = none_some (sym none ∙ ap upgraded_of (sym is))
+
+-- how a torn upgrade of m ended
+tear_ends :
+    (D G F : Type 0) (w after : State G F) (m : ℕ) (o : Outcome D F) (v : Version) (flag : Option Bool) → w.armed m ≡ flag
+    → MayLeave {D = D} {F = F} flag o (w.version m) Two v → after.version m ≡ v → after.is_stopped m ≡ true → EndsUpgrade w after m o
+tear_ends D G F w after m o v (Some false) flag may at stops =
+    subst (λ (x : Outcome D F). EndsUpgrade w after m x) (sym may.0) (false, flag, at ∙ may.1, stops)
+tear_ends D G F w after m o v (Some true) flag may at stops = elim may [
+    | inl x ↦ subst (λ (x : Outcome D F). EndsUpgrade w after m x) (sym x.0) (true, flag, at ∙ x.1, stops)
+    | inr x ↦ subst (λ (x : Outcome D F). EndsUpgrade w after m x) (sym x.0)
+        ((λ is. false_true (sym (some_is (sym flag ∙ is)))), elim x.1 [ inl y ↦ inl (at ∙ y) | inr y ↦ inr (at ∙ y) ], stops)
+  ]
+tear_ends D G F w after m o v None flag may at stops =
+    subst (λ (x : Outcome D F). EndsUpgrade w after m x) (sym may.0)
+    ((λ is. none_some (sym flag ∙ is)), elim may.1 [ inl y ↦ inl (at ∙ y) | inr y ↦ inr (at ∙ y) ], stops)
+
+pub upgrades_keep_rows : {D G F : Type 0} → UpgradesKeepRows D G F
+upgrades_keep_rows z w after o m (is_refused k call r task member refused how is) = absurd (none_some task)
+upgrades_keep_rows z w after o m (is_idle k call task member un event how is) = absurd (none_some task)
+upgrades_keep_rows z w after o m (is_spent k call e task member un event turn how is) = absurd (none_some task)
+upgrades_keep_rows z w after o m (is_done k call e t out task member un event turn carried unarmed how is) = absurd (none_some task)
+upgrades_keep_rows z w after o m (is_torn k call e row armed task member event leaves is) = absurd (none_some task)
+upgrades_keep_rows z w after o m (restarts k member is_restart how is) = absurd (no_upgrade m _ is_restart refl)
+upgrades_keep_rows {D = D} {G = G} {F = F} z w after o m (upgrades k member is_upgrade how unarmed is) =
+    subst (λ (j : ℕ). TookUpgrade w after j o) (its_upgrade m k is_upgrade) (record {
+      rows = is.rows;
+      marks = is.marks k ∙ with_at-same w.marks k [];
+      unarmed = is.armed k ∙ unarmed;
+      ends = subst (λ (x : Outcome D F). EndsUpgrade w after k x) (sym how)
+          (unarmed, is.version k ∙ with_at-same w.version k Two, is.is_stopped k ∙ with_at-same w.is_stopped k false);
+    })
+upgrades_keep_rows {D = D} {G = G} {F = F} z w after o m (upgrade_is_torn k v member is_upgrade may is) =
+    subst (λ (j : ℕ). TookUpgrade w after j o) (its_upgrade m k is_upgrade) (record {
+      rows = is.rows;
+      marks = is.marks k ∙ with_at-same w.marks k [];
+      unarmed = is.armed k ∙ with_at-same w.armed k None;
+      ends = tear_ends D G F w after k o v (w.armed k) refl may (is.version k ∙ with_at-same w.version k v) (is.is_stopped k ∙ with_at-same w.is_stopped k true);
+    })
+upgrades_keep_rows z w after o m (is_armed k b member is_balk how is) = absurd (no_upgrade m _ is_balk refl)

@@ -1,15 +1,22 @@
 -- What holds in every history of a circuit of stations.
-use Rattle.std.specs.Prelude.{◌≡◌, ℕ, List}
+use Rattle.std.specs.Prelude.{◌≡◌, ℕ, ◌<◌, ◌≤◌, ◌==◌, List, [], ◌∷◌, ◌++◌, None, Ok, Bool, true, false}
 use Rattle.protocol.specs.Lists.{IsAmong}
+use Rattle.protocol.specs.Limits.{most_members, is_number}
+use Rattle.protocol.specs.Ballots.{IsMember}
+use Rattle.protocol.specs.Entries.{Entry}
+use Rattle.protocol.specs.Versions.{Version, fits}
 use Rattle.protocol.specs.Circuit.{Release, State, History}
-use Rattle.protocol.specs.Agreement.{BallotsHaveOneEntry, ChosenIsOne, HeardIsVoted, PromisesBind, ReleasesAreChosen, ReportsAreGreatest, RipeIsChosen, VotesAreBacked, VotesAreOffered, WasOffered}
+use Rattle.protocol.specs.Proposals.{was_released, open_proposal}
+use Rattle.protocol.specs.Onward.{round_of, CanServe, AreAt, LeadToRelease, GoOver}
+use Rattle.tape_frames.specs.Entries.{IsEntry}
+use Rattle.protocol.specs.Agreement.{BallotsHaveOneEntry, ChosenIsOne, HeardIsVoted, PromisesBind, ReleasesAreChosen, ReportsAreGreatest, RipeIsChosen, VotesAreBacked, VotesAreOffered, WasOffered, IsChosen}
 use Rattle.packets.specs.declared.fault.PacketFault.{PacketFault}
 use Rattle.code_table.specs.Tables.{Places, mean}
 use Rattle.widths.specs.Widths.{WidthFile}
 use Rattle.line_check.specs.declared.slug.Slug.{Slug}
 use Rattle.line_check.specs.declared.fault.SetFault.{SetFault}
 use Rattle.station.specs.Readiness.{SetsEntry}
-use Rattle.world.specs.Setups.{StationCircuit, IsSetUp}
+use Rattle.world.specs.Setups.{StationCircuit, StationState, IsSetUp}
 
 -- all votes and Accepts of one number and ballot carry one entry
 abbrev pub OneEntry : Type 0
@@ -65,3 +72,59 @@ abbrev pub StationsAgree : Type 0
 StationsAgree =
     (tables : ℕ → Places) (files : ℕ → WidthFile) (z : StationCircuit) → IsSetUp tables files z
     → (w : State (List Slug) SetFault) → History z w → AreAgreed tables files w
+
+-- a circuit as stations may be set up: its number has two bytes, and it has no more members than there may be;
+-- and what was offered to them for n are entries
+pub record IsInService (tables : ℕ → Places) (files : ℕ → WidthFile) (z : StationCircuit) (w : StationState) (n : ℕ) : Type 0 where
+  pub set_up : IsSetUp tables files z
+  pub number : z.number < 65536
+  pub count : z.count ≤ most_members
+  pub offered : (t : Entry) → WasOffered w n t → IsEntry t
+
+-- a circuit of stations is never stuck: from each state that a history reaches, whatever went before, where a majority can serve, any member of it
+-- that is offered an entry for a number, one that it can spell and set, can come to release the number, by steps of the majority alone.
+-- What it releases is the entry that was chosen for the number, where one was
+abbrev pub StationsAreNeverStuck : Type 0
+StationsAreNeverStuck =
+    (tables : ℕ → Places) (files : ℕ → WidthFile) (z : StationCircuit) (w : StationState) (h : History z w) (among : ℕ → Bool) (v : Version) (n : ℕ)
+    → IsInService tables files z w n → CanServe z w among n → AreAt z w among v → is_number n ≡ true
+    → (m : ℕ) (entry : Entry) (slugs : List Slug) → IsMember z.count m → among m ≡ true → IsEntry entry → fits v entry ≡ true → z.sets m entry ≡ Ok slugs
+    → (to : LeadToRelease z among (λ k. k == m) m n (w.offers ++ record { member = m; number = n; entry = entry } ∷ []) w) × ((t : Entry) → IsChosen h n t → to.entry ≡ t)
+
+-- no station that runs has to start again for it, where the member that is asked has the highest promise of the majority for the number,
+-- which is neither open nor released with it
+abbrev pub RunningStationsNeedNotRestart : Type 0
+RunningStationsNeedNotRestart =
+    (tables : ℕ → Places) (files : ℕ → WidthFile) (z : StationCircuit) (w : StationState) (h : History z w) (among : ℕ → Bool) (v : Version) (n : ℕ)
+    → IsInService tables files z w n → CanServe z w among n → AreAt z w among v → is_number n ≡ true
+    → (m : ℕ) (entry : Entry) (slugs : List Slug) → IsMember z.count m → among m ≡ true → IsEntry entry → fits v entry ≡ true → z.sets m entry ≡ Ok slugs
+    → w.is_stopped m ≡ false → open_proposal n (w.marks m) ≡ None → was_released n (w.marks m) ≡ false
+    → ((k : ℕ) → IsMember z.count k → among k ≡ true → round_of (w.rows k n).promised ≤ round_of (w.rows m n).promised)
+    → (to : LeadToRelease z among (λ k. false) m n (w.offers ++ record { member = m; number = n; entry = entry } ∷ []) w) × ((t : Entry) → IsChosen h n t → to.entry ≡ t)
+
+-- nor where others of the majority have higher promises, and no number is open with the member that is asked
+abbrev pub DeniedStationsNeedNotRestart : Type 0
+DeniedStationsNeedNotRestart =
+    (tables : ℕ → Places) (files : ℕ → WidthFile) (z : StationCircuit) (w : StationState) (h : History z w) (among : ℕ → Bool) (v : Version) (n : ℕ)
+    → IsInService tables files z w n → CanServe z w among n → AreAt z w among v → is_number n ≡ true
+    → (m : ℕ) (entry : Entry) (slugs : List Slug) → IsMember z.count m → among m ≡ true → IsEntry entry → fits v entry ≡ true → z.sets m entry ≡ Ok slugs
+    → w.is_stopped m ≡ false → ((j : ℕ) → open_proposal j (w.marks m) ≡ None) → was_released n (w.marks m) ≡ false
+    → (to : LeadToRelease z among (λ k. false) m n (w.offers ++ record { member = m; number = n; entry = entry } ∷ []) w) × ((t : Entry) → IsChosen h n t → to.entry ≡ t)
+
+-- what is chosen any member of it can come to release with nothing offered
+abbrev pub ChosenIsFoundByStations : Type 0
+ChosenIsFoundByStations =
+    (tables : ℕ → Places) (files : ℕ → WidthFile) (z : StationCircuit) (w : StationState) (h : History z w) (among : ℕ → Bool) (v : Version) (n : ℕ)
+    → IsInService tables files z w n → CanServe z w among n → AreAt z w among v → is_number n ≡ true
+    → (m : ℕ) → IsMember z.count m → among m ≡ true → (t : Entry) → IsChosen h n t
+    → (to : LeadToRelease z among (λ k. k == m) m n w.offers w) × (to.entry ≡ t)
+
+-- half an upgrade is no dead end: at whatever versions the members of the majority are, those at version 1 can go over,
+-- and then any member of it can come to release the number as before
+abbrev pub HalfAnUpgradeIsNoDeadEndOfStations : Type 0
+HalfAnUpgradeIsNoDeadEndOfStations =
+    (tables : ℕ → Places) (files : ℕ → WidthFile) (z : StationCircuit) (w : StationState) (h : History z w) (among : ℕ → Bool) (n : ℕ)
+    → IsInService tables files z w n → CanServe z w among n → is_number n ≡ true
+    → (m : ℕ) (entry : Entry) (slugs : List Slug) → IsMember z.count m → among m ≡ true → IsEntry entry → z.sets m entry ≡ Ok slugs
+    → (over : StationState) × GoOver z among over w × (over.releases ≡ w.releases)
+    × (to : LeadToRelease z among (λ k. k == m) m n (w.offers ++ record { member = m; number = n; entry = entry } ∷ []) over) × ((t : Entry) → IsChosen h n t → to.entry ≡ t)

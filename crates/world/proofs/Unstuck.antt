@@ -1,0 +1,77 @@
+-- A circuit of stations is never stuck, since its members can spell what they may say.
+use Rattle.std.proofs.Common.{◌≡◌, ℕ, ◌⊎◌, inl, inr, sym, subst, List, Some, None}
+use Rattle.protocol.specs.Ballots.{Ballot}
+use Rattle.protocol.specs.Entries.{Entry}
+use Rattle.protocol.specs.Versions.{Version, Two}
+use Rattle.protocol.specs.Packets.{Body, Prepare, Promise, Accept, Accepted, Nack}
+use Rattle.protocol.specs.Circuit.{Circuit}
+use Rattle.protocol.specs.Onward.{BodyMaySay, SpellsWhatMayBeSaid, CircuitIsNeverStuck, RunningNeedNotRestart, DeniedNeedNotRestart, ChosenIsFound, HalfAnUpgradeIsNoDeadEnd}
+use Rattle.protocol.specs.Agreement.{WasOffered}
+use Rattle.tape_frames.specs.Entries.{IsEntry}
+use Rattle.packets.specs.declared.fault.PacketFault.{PacketFault}
+use Rattle.packets.specs.Laws.{MembersCanSpeak}
+use Rattle.line_check.specs.declared.slug.Slug.{Slug}
+use Rattle.line_check.specs.declared.fault.SetFault.{SetFault}
+use Rattle.world.specs.Laws.{StationsAreNeverStuck, RunningStationsNeedNotRestart, DeniedStationsNeedNotRestart, ChosenIsFoundByStations, HalfAnUpgradeIsNoDeadEndOfStations}
+
+body_more : (c : ℕ) (P Q : Entry → Type 0) → ((t : Entry) → P t → Q t) → (b : Ballot) (from to : ℕ) (body : Body) → BodyMaySay c P b from to body → BodyMaySay c Q b from to body
+body_more c P Q f b from to Prepare says = says
+body_more c P Q f b from to (Promise None) says = says
+body_more c P Q f b from to (Promise (Some vote)) says = (says.0, says.1, says.2, f vote.entry says.3)
+body_more c P Q f b from to (Accept entry) says = (says.0, f entry says.1)
+body_more c P Q f b from to (Accepted entry) says = f entry says
+body_more c P Q f b from to (Nack promised) says = says
+
+-- what spells each packet with entries of one kind spells each with fewer
+fewer : {D G F : Type 0} (z : Circuit D G F) (v : Version) (P Q : Entry → Type 0) → ((t : Entry) → P t → Q t) → SpellsWhatMayBeSaid z v Q → SpellsWhatMayBeSaid z v P
+fewer z v P Q f speaks p says body =
+    speaks p (record {
+      circuit = says.circuit;
+      from = says.from;
+      to = says.to;
+      differ = says.differ;
+      number = says.number;
+      ballot = says.ballot;
+      body = body_more z.count P Q f p.ballot p.from p.to p.body says.body;
+    }) body
+
+pub stations_are_never_stuck : MembersCanSpeak (List Slug) SetFault → CircuitIsNeverStuck PacketFault (List Slug) SetFault → StationsAreNeverStuck
+stations_are_never_stuck speak unstuck tables files z w h among v n serving can at_v number m entry slugs member in_it is_entry fits sets =
+    let s = speak z serving.number serving.count serving.set_up.reads in
+    unstuck z s.0 w h among v n can at_v number m entry slugs member in_it fits sets (fewer z v (λ t. (t ≡ entry) ⊎ WasOffered w n t) IsEntry entries (s.1 v))
+  where
+    entries : (t : Entry) → (t ≡ entry) ⊎ WasOffered w n t → IsEntry t
+    entries t (inl e) = subst (λ (x : Entry). IsEntry x) (sym e) is_entry
+    entries t (inr o) = serving.offered t o
+
+pub chosen_is_found : MembersCanSpeak (List Slug) SetFault → ChosenIsFound PacketFault (List Slug) SetFault → ChosenIsFoundByStations
+chosen_is_found speak found tables files z w h among v n serving can at_v number m member in_it t chosen =
+    let s = speak z serving.number serving.count serving.set_up.reads in
+    found z s.0 w h among v n can at_v number m member in_it t chosen (fewer z v (λ u. WasOffered w n u) IsEntry serving.offered (s.1 v))
+
+pub running_stations_need_not_restart : MembersCanSpeak (List Slug) SetFault → RunningNeedNotRestart PacketFault (List Slug) SetFault → RunningStationsNeedNotRestart
+running_stations_need_not_restart speak running tables files z w h among v n serving can at_v number m entry slugs member in_it is_entry fits sets going unopened unreleased highest =
+    let s = speak z serving.number serving.count serving.set_up.reads in
+    running z s.0 w h among v n can at_v number m entry slugs member in_it fits sets (fewer z v (λ t. (t ≡ entry) ⊎ WasOffered w n t) IsEntry entries (s.1 v)) going unopened unreleased highest
+  where
+    entries : (t : Entry) → (t ≡ entry) ⊎ WasOffered w n t → IsEntry t
+    entries t (inl e) = subst (λ (x : Entry). IsEntry x) (sym e) is_entry
+    entries t (inr o) = serving.offered t o
+
+pub half_an_upgrade_is_no_dead_end : MembersCanSpeak (List Slug) SetFault → HalfAnUpgradeIsNoDeadEnd PacketFault (List Slug) SetFault → HalfAnUpgradeIsNoDeadEndOfStations
+half_an_upgrade_is_no_dead_end speak upgrade tables files z w h among n serving can number m entry slugs member in_it is_entry sets =
+    let s = speak z serving.number serving.count serving.set_up.reads in
+    upgrade z s.0 w h among n can number m entry slugs member in_it sets (fewer z Two (λ t. (t ≡ entry) ⊎ WasOffered w n t) IsEntry entries (s.1 Two))
+  where
+    entries : (t : Entry) → (t ≡ entry) ⊎ WasOffered w n t → IsEntry t
+    entries t (inl e) = subst (λ (x : Entry). IsEntry x) (sym e) is_entry
+    entries t (inr o) = serving.offered t o
+
+pub denied_stations_need_not_restart : MembersCanSpeak (List Slug) SetFault → DeniedNeedNotRestart PacketFault (List Slug) SetFault → DeniedStationsNeedNotRestart
+denied_stations_need_not_restart speak denied tables files z w h among v n serving can at_v number m entry slugs member in_it is_entry fits sets going unopened unreleased =
+    let s = speak z serving.number serving.count serving.set_up.reads in
+    denied z s.0 w h among v n can at_v number m entry slugs member in_it fits sets (fewer z v (λ t. (t ≡ entry) ⊎ WasOffered w n t) IsEntry entries (s.1 v)) going unopened unreleased
+  where
+    entries : (t : Entry) → (t ≡ entry) ⊎ WasOffered w n t → IsEntry t
+    entries t (inl e) = subst (λ (x : Entry). IsEntry x) (sym e) is_entry
+    entries t (inr o) = serving.offered t o
