@@ -8,7 +8,7 @@ use Rattle.tape_frames.specs.Entries.{IsEntry}
 use Rattle.protocol.specs.Limits.{most_members}
 use Rattle.protocol.specs.Circuit.{Circuit}
 use Rattle.protocol.specs.Fitting.{BodyFits, SpellsWhatFits}
-use Rattle.protocol.specs.Onward.{SpellsWhatMayBeSaid}
+use Rattle.protocol.specs.Progress.{SpellsWhatMayBeSaid}
 use Rattle.packets.specs.declared.fault.PacketFault.{PacketFault}
 use Rattle.packets.specs.Grammar.{IsBytes, Spells, IsPacket, said_version}
 use Rattle.packets.specs.Reading.{packet_in, packet_at}

@@ -16,7 +16,7 @@ use Rattle.protocol.specs.Learner.{ripe}
 use Rattle.protocol.specs.Turn.{Note_promised, Note_voted, Note_counted, others, packet_to, to_others, hear, after_hearing, propose, answer, stays, packet_turn, proposal_to_others, Note_nacked, Note_denied}
 use Rattle.protocol.specs.Refusals.{names_stranger, packet_refusal}
 use Rattle.protocol.specs.Circuit.{Circuit, seat_at}
-use Rattle.protocol.specs.Onward.{IsBallotOf, BodyMaySay, MaySay}
+use Rattle.protocol.specs.Progress.{IsBallotOf, BodyMaySay, MaySay}
 use Rattle.protocol.proofs.Majorities.{among_members}
 use Rattle.protocol.proofs.Looking.{among_filter, filter_among}
 use Rattle.protocol.proofs.Places.{among-append, among_left, among_right, among_map_of}

@@ -1,246 +1,148 @@
--- Each vote that is saved has a round from 1 on.
-use Rattle.std.proofs.Common.{◌≡◌, ℕ, suc, ◌≤◌, ◌⊎◌, inl, inr, refl, sym, subst, ◌∙◌, arith, List, [], ◌∷◌, ◌++◌, Option, Some, None, Bool, true, false}
-use Rattle.std.specs.Prelude.{IfSome, nat_lt}
-use Rattle.std.specs.List.{AllZip}
+-- Rounds and counting: one member is no majority of more, a ballot of the next round stands above all promises of the last,
+-- and of the rounds of a set of members there is a greatest.
+use Rattle.std.proofs.Common.{◌≡◌, ℕ, zero, suc, ◌+◌, ◌*◌, ◌-◌, ◌<◌, ◌≤◌, ◌⊎◌, inl, inr, refl, sym, ap, subst, ◌∙◌, arith, List, [], ◌∷◌, ◌++◌, Option, Some, None, Bool, true, false, cond}
+use Rattle.std.specs.Prelude.{if◌then◌else◌, ◌==◌, nat_lt, Ok, count_by}
+use Rattle.std.proofs.lemmas.Bool.{le-leb, eqb-true, eqb-false, eq-eqb, le-ltb, lt-ltb, ltb-true, ltb-false}
+use Rattle.std.proofs.lemmas.Bool.Decides.{nat_tests}
+use Rattle.std.proofs.lemmas.List.Sums.{sum_by-append}
+use Rattle.protocol.specs.Limits.{is_number}
 use Rattle.protocol.specs.Lists.{IsAmong}
-use Rattle.protocol.specs.Seats.{Seat}
-use Rattle.protocol.specs.Ballots.{Ballot, IsMember, next, last_round}
+use Rattle.protocol.specs.Ballots.{Ballot, is_below, IsAtMost, IsMember, Majority, members, is_majority, is_same, last_round, next}
 use Rattle.protocol.specs.Entries.{Entry}
-use Rattle.protocol.specs.Rows.{Vote, Row}
-use Rattle.protocol.specs.Packets.{Packet, Body, Prepare, Promise, Accept, Accepted, Nack}
-use Rattle.protocol.specs.Marks.{Mark, Began, Promised, Proposed, Denied, Heard, Closed, Released}
-use Rattle.protocol.specs.Readings.{Gathers}
-use Rattle.protocol.specs.Turn.{Turn, stays, packet_to, to_others, others, Note, Event, Offered, Sought, Came_due, Arrived, number_of, turn}
-use Rattle.protocol.specs.Table.{Hears, was_settled, waits, releases, Proposes, nothing, proposes, Begins, asks, alone, StartTurn, starts, DueTurn, is_idle, gives_up, begins_anew, PrepareTurn, promises, is_silent, AcceptTurn, votes_again, votes, PromiseTurn, is_overtaken, is_repeated, counts, completes, NackTurn, is_denied, AcceptedTurn, settles, hears, AnswerTurn, IsTurn}
-use Rattle.protocol.specs.Table as table
-use Rattle.protocol.specs.Refusals.{Call, event_of}
-use Rattle.protocol.specs.Circuit.{Circuit, State, Step, Outcome, with_at, saved, IsTask, seat_at, setup_of, MayLeave, Leaves, store_before_save, memory_before_save, at_save, StepsTo, is_refused, is_idle as is_idle_step, is_spent, is_done, is_torn, restarts, upgrades, upgrade_is_torn, is_armed, History, starts as starts_fresh, goes_on}
-use Rattle.protocol.proofs.Places.{among_split, among-append, among-map, with_at_cases, with_at-self, saved_cases, saved-self}
-use Rattle.protocol.proofs.Meeting.{is_turn}
-use Rattle.protocol.proofs.Steps.{same_state, Goes, all_go, AllZip-append, arrived_sent}
+use Rattle.protocol.specs.Rows.{Vote, Row, raised, voted, vote_for}
+use Rattle.protocol.specs.Versions.{Version, fits}
+use Rattle.protocol.specs.Packets.{Prepare, Nack, Packet}
+use Rattle.protocol.specs.Acceptor.{is_above, is_at, vote_is_at}
+use Rattle.protocol.specs.Marks.{Mark, Denied, Began, Proposed, Heard}
+use Rattle.protocol.specs.Readings.{IsCounted}
+use Rattle.protocol.specs.Proposals.{begun, denied, due_moment, is_due, is_due_number, next_due, was_released, open_proposal, since_began, gathering_at, Opening, counted, is_counted}
+use Rattle.protocol.specs.Turn.{Came_due, greater_ballot, next_ballot, due_turn, renew, stays, Note_idle, begin, Event, Offered, Sought, number_of, start_turn, Turn, Note_began, packet_to, to_others, proposal_to_others, propose, hear, turn}
+use Rattle.protocol.specs.Refusals.{Falling_due, due_event, Call, Offering, Seeking, refusal, event_of}
+use Rattle.protocol.specs.Circuit.{Falls_due, Circuit, Datagram, Offer, State, Step, IsTask, offers_with, Offers, Seeks, seat_at, setup_of, History}
+use Rattle.protocol.specs.Fitting.{SpellsWhatFits}
+use Rattle.protocol.specs.Progress.{IsBallotOf, MaySay, SpellsWhatMayBeSaid, CanRelease, HasRoundLeft, round_of, CanServe, AreAt}
+use Rattle.protocol.proofs.Majorities.{one_more, among_members}
+use Rattle.protocol.proofs.Reading.{is_same-self, no_majority_of}
+use Rattle.protocol.proofs.Steps.{history_sound}
+use Rattle.protocol.proofs.Agreements.{heard_is_voted, votes_are_offered}
+use Rattle.protocol.proofs.OneStep.{receive, Brings, Stepped, Serves, still, Reaches, take, restart, Told}
+use Rattle.protocol.proofs.Replying.{turned, unrefused, nacks, denies, packet_says, goes_to, member_among, yes_no, apart, others_say, proposal_says}
+use Rattle.protocol.proofs.PhaseTwo.{Free, all_vote}
+use Rattle.protocol.proofs.PhaseTwo as phase_two
+use Rattle.protocol.proofs.PhaseOne.{Lower, finds, all_promise}
+use Rattle.protocol.proofs.Voters.{was_held}
+use Rattle.protocol.proofs.OneBallot.{opens_plain, opens_denied, begun_plain, begun_denied, denied_plain, denied_by_one, closed_plain, closed_denied, only_due}
+use Rattle.protocol.proofs.SavedBallots.{saved_promise_rises}
 
-module _ (c : ℕ) where
-  -- a ballot of a round from 1 on and of a member's: that a mark begins, that a row has, that a request is sent at
-  abbrev Good : Ballot → Type 0
-  Good b = (1 ≤ b.round) × IsMember c b.owner
+-- one member alone is no majority of two or more
 
-  abbrev VoteRises : Option Vote → Type 0
-  VoteRises vote = IfSome vote (λ u. Good u.ballot)
+none_counted : (p : ℕ → Bool) (xs : List ℕ) → ((x : ℕ) → IsAmong xs x → p x ≡ false) → count_by p xs ≡ 0
+none_counted p [] h = refl
+none_counted p (x ∷ xs) h =
+    let e : cond {A = ℕ} (p x) 1 0 ≡ 0 = ap (λ (t : Bool). cond {A = ℕ} t 1 0) (h x (inl refl)) in
+    let f : count_by p xs ≡ 0 = none_counted p xs (λ y i. h y (inr i)) in
+    omega (arith, one_more p x xs)
 
-  abbrev RowRises : Row → Type 0
-  RowRises row = VoteRises row.vote × IfSome row.promised Good
+one_counted : (p : ℕ → Bool) (m : ℕ) → ((k : ℕ) → p k ≡ true → k ≡ m) → (c : ℕ) → count_by p (members c) ≤ 1
+one_counted p m only zero = omega arith
+one_counted p m only (suc c) = go (p (suc c)) refl (one_counted p m only c)
+  where
+    sum : count_by p (members c ++ suc c ∷ []) ≡ count_by p (members c) + count_by p (suc c ∷ [])
+    sum = sum_by-append (λ y. cond (p y) 1 0) (members c) (suc c ∷ [])
 
-  abbrev MarkRises : Mark → Type 0
-  MarkRises (Began n b own report now) = Good b
-  MarkRises (Promised n m b report) = Unit {0}
-  MarkRises (Proposed n b now) = Unit {0}
-  MarkRises (Denied n p) = Unit {0}
-  MarkRises (Heard n m b entry) = Unit {0}
-  MarkRises (Closed n) = Unit {0}
-  MarkRises (Released n entry) = Unit {0}
+    one : count_by p (suc c ∷ []) ≡ cond (p (suc c)) 1 0 + 0
+    one = one_more p (suc c) []
 
-  record MarksRise (marks : List Mark) : Type 0 where
-    each : (x : Mark) → IsAmong marks x → MarkRises x
+    go : (t : Bool) → p (suc c) ≡ t → count_by p (members c) ≤ 1 → count_by p (members (suc c)) ≤ 1
+    go false e l =
+        let f : cond {A = ℕ} (p (suc c)) 1 0 ≡ 0 = ap (λ (t : Bool). cond {A = ℕ} t 1 0) e in
+        omega (arith, sum, one)
+    go true e l =
+        let f : cond {A = ℕ} (p (suc c)) 1 0 ≡ 1 = ap (λ (t : Bool). cond {A = ℕ} t 1 0) e in
+        let none : count_by p (members c) ≡ 0 = none_counted p (members c) (λ x i. other x i (p x) refl) in
+        omega (arith, sum, one)
+      where
+        other : (x : ℕ) → IsAmong (members c) x → (s : Bool) → p x ≡ s → p x ≡ false
+        other x i true g =
+            let a : x ≡ m = only x g in
+            let d : suc c ≡ m = only (suc c) e in
+            let l : x ≤ c = (among_members c x i).1 in
+            absurd (omega arith)
+        other x i false g = g
 
-  abbrev BodyRises : Ballot → Body → Type 0
-  BodyRises b Prepare = Good b
-  BodyRises b (Promise report) = Unit {0}
-  BodyRises b (Accept entry) = Good b
-  BodyRises b (Accepted entry) = Unit {0}
-  BodyRises b (Nack p) = Unit {0}
+pub few : (c m : ℕ) (p : ℕ → Bool) → 1 ≤ c → (c == 1) ≡ false → ((k : ℕ) → p k ≡ true → k ≡ m) → is_majority c p ≡ false
+few c m p some many only =
+    let l : count_by p (members c) ≤ 1 = one_counted p m only c in
+    let other : c ≡ 1 → ⊥ = eqb-false c 1 many in
+    le-ltb c (2 * count_by p (members c)) (two (count_by p (members c)) l (more c some other))
+  where
+    more : (c : ℕ) → 1 ≤ c → (c ≡ 1 → ⊥) → 2 ≤ c
+    more c some other = go (nat_lt c 2) refl
+      where
+        go : (t : Bool) → nat_lt c 2 ≡ t → 2 ≤ c
+        go true e = absurd (other (let l : c < 2 = ltb-true c 2 e in omega arith))
+        go false e = ltb-false c 2 e
 
-  abbrev PacketRises : Packet → Type 0
-  PacketRises p = BodyRises p.ballot p.body
+    two : (x : ℕ) → x ≤ 1 → 2 ≤ c → 2 * x ≤ c
+    two x l h = omega arith
 
-  abbrev EventRises : Event → Type 0
-  EventRises (Offered n entry now) = Unit {0}
-  EventRises (Sought n now) = Unit {0}
-  EventRises (Came_due n now) = Unit {0}
-  EventRises (Arrived p now) = PacketRises p
+pub left_below : (q : Option Ballot) → HasRoundLeft q → round_of q < last_round
+left_below None h = omega arith
+left_below (Some p) h = h
 
-  record TurnRises (t : Turn) : Type 0 where
-    row : RowRises t.row
-    marks : MarksRise t.marks
-    out : (p : Packet) → IsAmong t.out p → PacketRises p
+pub next_is : (m : ℕ) (q : Option Ballot) (r : ℕ) → round_of q ≡ r → r < last_round → next q m ≡ Some (record { round = suc r; owner = m })
+next_is m None r e l = ap (λ (x : ℕ). Some (record { round = x; owner = m })) one
+  where
+    one : 1 ≡ suc r
+    one = omega arith
+next_is m (Some p) r e l =
+    let f : nat_lt p.round last_round ≡ true = lt-ltb p.round last_round (let g : p.round ≡ r = e in omega arith) in
+    rw f (ap (λ (x : ℕ). Some (record { round = suc x; owner = m })) e)
 
-  and_mark : (x : Mark) {ms : List Mark} → MarkRises x → MarksRise ms → MarksRise (x ∷ ms)
-  and_mark x {ms = ms} f h = record { each = each }
-    where
-      each : (y : Mark) → IsAmong (x ∷ ms) y → MarkRises y
-      each y (inl e) = subst (λ (z : Mark). MarkRises z) (sym e) f
-      each y (inr i) = h.each y i
+pub above_none : (q : Option Ballot) (r m : ℕ) → round_of q ≤ r → (is_above q (record { round = suc r; owner = m }) ≡ false) × (is_at q (record { round = suc r; owner = m }) ≡ false)
+above_none None r m l = (refl, refl)
+above_none (Some p) r m l = let h : p.round ≤ r = l in (grind (arith, nat_tests), grind (arith, nat_tests))
 
-  stays_rise : {row : Row} {ms : List Mark} {t : Turn} {note : Note} → t ≡ stays row ms note → RowRises row → MarksRise ms → TurnRises t
-  stays_rise e r h = subst (λ (t : Turn). TurnRises t) (sym e) (record { row = r; marks = h; out = λ p i. absurd i })
+pub not_at : (v : Option Vote) (r m : ℕ) → ((x : Vote) → v ≡ Some x → x.ballot.round ≤ r) → vote_is_at v (record { round = suc r; owner = m }) ≡ false
+not_at None r m h = refl
+not_at (Some x) r m h = let l : x.ballot.round ≤ r = h x refl in grind (arith, nat_tests)
 
-  others_rise : (seat : Seat) (n : ℕ) (b : Ballot) (body : Body) → BodyRises b body → (p : Packet) → IsAmong (to_others seat n b body) p → PacketRises p
-  others_rise seat n b body f p i = let y = among-map (packet_to seat n b body) (others seat) p i in subst (λ (q : Packet). PacketRises q) (sym y.1) f
+-- of the numbers of those that pass there is a greatest: it is one of them, or 0
+pub greatest_of : (f : ℕ → ℕ) (p : ℕ → Bool) (limit : ℕ) → 0 < limit → (xs : List ℕ) → ((x : ℕ) → IsAmong xs x → p x ≡ true → f x < limit)
+    → (r : ℕ) × (r < limit) × ((x : ℕ) → IsAmong xs x → p x ≡ true → f x ≤ r) × ((r ≡ 0) ⊎ ((x : ℕ) × IsAmong xs x × (p x ≡ true) × (f x ≡ r)))
+greatest_of f p limit some [] h = (0, some, λ x i. absurd i, inl refl)
+greatest_of f p limit some (x ∷ xs) h = go (greatest_of f p limit some xs (λ y i. h y (inr i))) (p x) refl (nat_cases _ _)
+  where
+    nat_cases : (a b : ℕ) → (a ≤ b) ⊎ (b < a)
+    nat_cases a b = grind arith
 
-  one_rises : {q : Packet} → PacketRises q → (p : Packet) → IsAmong (q ∷ []) p → PacketRises p
-  one_rises f p (inl e) = subst (λ (x : Packet). PacketRises x) (sym e) f
-  one_rises f p (inr e) = absurd e
+    wider : {r : ℕ} → (r ≡ 0) ⊎ ((y : ℕ) × IsAmong xs y × (p y ≡ true) × (f y ≡ r)) → (r ≡ 0) ⊎ ((y : ℕ) × IsAmong (x ∷ xs) y × (p y ≡ true) × (f y ≡ r))
+    wider (inl e) = inl e
+    wider (inr (y, i, e, g)) = inr (y, inr i, e, g)
 
-  hears_rise : {c n j : ℕ} {b : Ballot} {t : Entry} {marks after : List Mark} {release : Option Entry} → Hears c n j b t marks release after → MarksRise marks → MarksRise after
-  hears_rise (was_settled i er ea) h = subst (λ (l : List Mark). MarksRise l) (sym ea) h
-  hears_rise {n = n} {j = j} {b = b} {t = t} (waits i w er ea) h = subst (λ (l : List Mark). MarksRise l) (sym ea) (and_mark (Heard n j b t) tt h)
-  hears_rise {n = n} {j = j} {b = b} {t = t} (releases a u i ripe er ea) h = subst (λ (l : List Mark). MarksRise l) (sym ea) (and_mark (Released n u) tt (and_mark (Heard n j b t) tt h))
+    go : (rest : (r : ℕ) × (r < limit) × ((y : ℕ) → IsAmong xs y → p y ≡ true → f y ≤ r) × ((r ≡ 0) ⊎ ((y : ℕ) × IsAmong xs y × (p y ≡ true) × (f y ≡ r)))) → (t : Bool) → p x ≡ t → (f x ≤ rest.0) ⊎ (rest.0 < f x)
+        → (r : ℕ) × (r < limit) × ((y : ℕ) → IsAmong (x ∷ xs) y → p y ≡ true → f y ≤ r) × ((r ≡ 0) ⊎ ((y : ℕ) × IsAmong (x ∷ xs) y × (p y ≡ true) × (f y ≡ r)))
+    go rest false e c = (rest.0, rest.1, λ y i g. elim i [ inl same ↦ absurd (yes_no (p x) e (subst (λ (q : ℕ). p q ≡ true) same g)) | inr j ↦ rest.2 y j g ], wider rest.3)
+    go rest true e (inl l) = (rest.0, rest.1, λ y i g. elim i [ inl same ↦ subst (λ (q : ℕ). f q ≤ rest.0) (sym same) l | inr j ↦ rest.2 y j g ], wider rest.3)
+    go rest true e (inr l) = (f x, h x (inl refl) e, λ y i g. elim i [ inl same ↦ subst (λ (q : ℕ). f q ≤ f x) (sym same) (omega arith) | inr j ↦ (let k : f y ≤ rest.0 = rest.2 y j g in omega arith) ], inr (x, inl refl, e, refl))
 
-  proposes_rise :
-      {seat : Seat} {n : ℕ} {b : Ballot} {now : ℕ} {own : Option Entry} {report : Option Vote} {since : List Mark} {row : Row} {marks : List Mark} {t : Turn}
-      → Proposes seat n b now own report since row marks t → Good b → RowRises row → MarksRise marks → TurnRises t
-  proposes_rise {n = n} (nothing picks e) l r h = stays_rise e r (and_mark (Closed n) tt h)
-  proposes_rise {seat = seat} {n = n} {b = b} {now = now} (proposes entry release after picks hearing e) l r h =
-      subst (λ (t : Turn). TurnRises t) (sym e) (record {
-        row = (l, l);
-        marks = hears_rise hearing (and_mark (Proposed n b now) tt h);
-        out = λ p i. elim (among-append (to_others seat n b (Accept entry)) (to_others seat n b (Accepted entry)) p i) [ inl y ↦ others_rise seat n b (Accept entry) l p y | inr y ↦ others_rise seat n b (Accepted entry) tt p y ];
-      })
+-- a saved vote is not above its row's promise
+pub vote_round : {D G F : Type 0} {z : Circuit D G F} {w : State G F} (h : History z w) (k n r : ℕ) → round_of (w.rows k n).promised ≤ r → (x : Vote) → (w.rows k n).vote ≡ Some x → x.ballot.round ≤ r
+vote_round {w = w} h k n r l x e =
+    let p = (history_sound h).sound.valid k n x e in
+    let q : p.at.round ≤ r = subst (λ (o : Option Ballot). round_of o ≤ r) p.is l in
+    at_most x.ballot p.at r p.reaches q
+  where
+    at_most : (a b : Ballot) (r : ℕ) → IsAtMost a b → b.round ≤ r → a.round ≤ r
+    at_most a b r h l = grind arith
 
-  begins_rise :
-      {seat : Seat} {n : ℕ} {b : Ballot} {own : Option Entry} {now : ℕ} {row : Row} {marks : List Mark} {t : Turn}
-      → Begins seat n b own now row marks t → Good b → RowRises row → MarksRise marks → TurnRises t
-  begins_rise {seat = seat} {n = n} {b = b} {own = own} {now = now} {row = row} (asks many e) l r h =
-      subst (λ (t : Turn). TurnRises t) (sym e) (record { row = (r.0, l); marks = and_mark (Began n b own row.vote now) l h; out = others_rise seat n b Prepare l })
-  begins_rise {n = n} {b = b} {own = own} {now = now} {row = row} (alone e proposing) l r h =
-      proposes_rise proposing l (r.0, l) (and_mark (Began n b own row.vote now) l h)
-
-  next_rises : (q : Option Ballot) (m : ℕ) (b : Ballot) → IsMember c m → next q m ≡ Some b → Good b
-  next_rises None m b i e = let f : b ≡ record { round = 1; owner = m } = cc in subst (λ (x : Ballot). Good x) (sym f) (omega arith, i)
-  next_rises (Some p) m b i e = go (nat_lt p.round last_round) refl
-    where
-      go : (t : Bool) → nat_lt p.round last_round ≡ t → Good b
-      go true f =
-          let g : Some (record { round = suc p.round; owner = m }) ≡ Some b = rw f at e in
-          let k : b ≡ record { round = suc p.round; owner = m } = cc in
-          subst (λ (x : Ballot). Good x) (sym k) (omega arith, i)
-      go false f = let g : None ≡ Some b = rw f at e in cc
-
-  due_rises : {seat : Seat} {n now : ℕ} {marks : List Mark} {row : Row} {t : Turn} → IsMember c seat.me → DueTurn seat n now marks row t → RowRises row → MarksRise marks → TurnRises t
-  due_rises me (table.DueTurn.is_idle i e) r h = stays_rise e r h
-  due_rises {n = n} me (gives_up b own denied seen due g g' l e) r h = stays_rise e r (and_mark (Closed n) tt h)
-  due_rises {seat = seat} me (begins_anew b own denied seen a due g g' l e begins) r h = begins_rise begins (next_rises seen seat.me a me e) r h
-
-  gathers_rise :
-      {marks : List Mark} {n : ℕ} {b : Ballot} {own : Option Entry} {report : Option Vote} {since : List Mark} → Gathers marks n b own report since → MarksRise marks → Good b
-  gathers_rise {marks = marks} {n = n} {b = b} {own = own} {report = report} {since = since} g h =
-      h.each (Began n b own report g.is_open.now) (among_split marks since g.is_open.before (Began n b own report g.is_open.now) g.is_open.began)
-
-  promise_rises :
-      {seat : Seat} {now : ℕ} {marks : List Mark} {row : Row} {p : Packet} {report : Option Vote} {t : Turn}
-      → PromiseTurn seat now marks row p report t → RowRises row → MarksRise marks → TurnRises t
-  promise_rises (table.PromiseTurn.is_stale i e) r h = stays_rise e r h
-  promise_rises (is_overtaken own mine since g i e) r h = stays_rise e r h
-  promise_rises (is_repeated own mine since s g i k e) r h = stays_rise e r h
-  promise_rises {p = p} {report = report} (counts own mine since g i k few e) r h = stays_rise e r (and_mark (Promised p.number p.from p.ballot report) tt h)
-  promise_rises {p = p} {report = report} (completes own mine since g i k many proposing) r h =
-      proposes_rise proposing (gathers_rise g h) r (and_mark (Promised p.number p.from p.ballot report) tt h)
-
-  answer_rises :
-      (seat : Seat) (now : ℕ) (marks : List Mark) (row : Row) (p : Packet) (body : Body) (t : Turn)
-      → AnswerTurn seat now marks row p body t → RowRises row → MarksRise marks → BodyRises p.ballot body → TurnRises t
-  answer_rises seat now marks row p Prepare t (promises free e) r h f = subst (λ (t : Turn). TurnRises t) (sym e) (record { row = (r.0, f); marks = h; out = one_rises tt })
-  answer_rises seat now marks row p Prepare t (is_silent same e) r h f = stays_rise e r h
-  answer_rises seat now marks row p Prepare t (table.PrepareTurn.nacks a is up e) r h f = subst (λ (t : Turn). TurnRises t) (sym e) (record { row = r; marks = h; out = one_rises tt })
-  answer_rises seat now marks row p (Promise report) t taken r h f = promise_rises taken r h
-  answer_rises seat now marks row p (Accept entry) t (table.AcceptTurn.nacks a is up e) r h f = subst (λ (t : Turn). TurnRises t) (sym e) (record { row = r; marks = h; out = one_rises tt })
-  answer_rises seat now marks row p (Accept entry) t (votes_again own release after free at_it hearing e) r h f =
-      subst (λ (t : Turn). TurnRises t) (sym e) (record { row = r; marks = hears_rise hearing h; out = others_rise seat p.number p.ballot (Accepted own) tt })
-  answer_rises seat now marks row p (Accept entry) t (votes release after free unvoted hearing e) r h f =
-      subst (λ (t : Turn). TurnRises t) (sym e) (record { row = (f, f); marks = hears_rise hearing h; out = others_rise seat p.number p.ballot (Accepted entry) tt })
-  answer_rises seat now marks row p (Accepted entry) t (settles i e) r h f = stays_rise e r h
-  answer_rises seat now marks row p (Accepted entry) t (hears release after i hearing e) r h f =
-      subst (λ (t : Turn). TurnRises t) (sym e) (record { row = r; marks = hears_rise hearing h; out = λ p i. absurd i })
-  answer_rises seat now marks row p (Nack a) t (table.NackTurn.is_stale i e) r h f = stays_rise e r h
-  answer_rises seat now marks row p (Nack a) t (is_denied own mine since o e) r h f = stays_rise e r (and_mark (Denied p.number a) tt h)
-
-  turn_rises : (seat : Seat) (marks : List Mark) (row : Row) (e : Event) (t : Turn) → IsMember c seat.me → IsTurn seat marks row e t → RowRises row → MarksRise marks → EventRises e → TurnRises t
-  turn_rises seat marks row (Offered n entry now) t me (starts b i begins) r h f = begins_rise begins (next_rises row.promised seat.me b me i) r h
-  turn_rises seat marks row (Sought n now) t me (starts b i begins) r h f = begins_rise begins (next_rises row.promised seat.me b me i) r h
-  turn_rises seat marks row (Came_due n now) t me taken r h f = due_rises me taken r h
-  turn_rises seat marks row (Arrived p now) t me taken r h f = answer_rises seat now marks row p p.body t taken r h f
-
-module _ {D G F : Type 0} (z : Circuit D G F) where
-  record StateRises (w : State G F) : Type 0 where
-    packets : List Packet
-    spelled : AllZip (Goes z) packets w.sent
-    asked : (p : Packet) → IsAmong packets p → PacketRises z.count p
-    rows : (m n : ℕ) → RowRises z.count (w.rows m n)
-    marks : (m : ℕ) → MarksRise z.count (w.marks m)
-
-  no_marks : MarksRise z.count []
-  no_marks = record { each = λ x i. absurd i }
-
-  saved_rise : (w : State G F) → StateRises w → (m n : ℕ) (row : Row) → RowRises z.count row → (k j : ℕ) → RowRises z.count (saved w.rows m n row k j)
-  saved_rise w h m n row f k j = elim (saved_cases w.rows m n (w.rows m n) row k j) [
-    | inl e ↦ subst (λ (r : Row). RowRises z.count r) (sym (e ∙ saved-self w.rows m n k j)) (h.rows k j)
-    | inr e ↦ subst (λ (r : Row). RowRises z.count r) (sym e.3) f
-  ]
-
-  marked_rise : (w : State G F) → StateRises w → (m : ℕ) (marks : List Mark) → MarksRise z.count marks → (k : ℕ) → MarksRise z.count (with_at w.marks m marks k)
-  marked_rise w h m marks f k = elim (with_at_cases w.marks m (w.marks m) marks k) [
-    | inl e ↦ subst (λ (l : List Mark). MarksRise z.count l) (sym (e ∙ with_at-self w.marks m k)) (h.marks k)
-    | inr e ↦ subst (λ (l : List Mark). MarksRise z.count l) (sym e.2) f
-  ]
-
-  may_leave : {A : Type 0} (armed : Option Bool) (o : Outcome D F) (before after now : A) → MayLeave armed o before after now → (now ≡ before) ⊎ (now ≡ after)
-  may_leave (Some false) o before after now h = inl h.1
-  may_leave (Some true) o before after now h = elim h [ inl x ↦ inr x.1 | inr x ↦ x.1 ]
-  may_leave None o before after now h = h.1
-
-  event_rises :
-      (w : State G F) → StateRises w → (s : Step) (m : ℕ) (call : Call) (e : Event) → IsTask w.sent s m call
-      → event_of (setup_of z (w.version m) m) (w.marks m) call ≡ Some e → EventRises z.count e
-  event_rises w h s m call (Offered n entry now) task event = tt
-  event_rises w h s m call (Sought n now) task event = tt
-  event_rises w h s m call (Came_due n now) task event = tt
-  event_rises w h s m call (Arrived p now) task event = h.asked p (arrived_sent z w s m call p now h.packets h.spelled task event)
-
-  -- what a turn leaves
-  taken_rises :
-      (w : State G F) → StateRises w → (s : Step) (m : ℕ) (call : Call) (e : Event) (t : Turn) → IsTask w.sent s m call → IsMember z.count m
-      → event_of (setup_of z (w.version m) m) (w.marks m) call ≡ Some e → turn (seat_at z m) (w.marks m) (w.rows m (number_of e)) e ≡ Some t → TurnRises z.count t
-  taken_rises w h s m call e t task member event taken =
-      turn_rises z.count (seat_at z m) (w.marks m) (w.rows m (number_of e)) e t member (is_turn (seat_at z m) (w.marks m) (w.rows m (number_of e)) e t member taken) (h.rows m (number_of e)) (h.marks m) (event_rises w h s m call e task event)
-
-  step_rises : (w : State G F) (s : Step) (o : Outcome D F) (after : State G F) → StateRises w → StepsTo z w s o after → StateRises after
-  step_rises w s o after h (is_refused m call r task member refused how is) = subst (λ (x : State G F). StateRises x) (sym (same_state is)) h
-  step_rises w s o after h (is_idle_step m call task member unrefused event how is) = subst (λ (x : State G F). StateRises x) (sym (same_state is)) h
-  step_rises w s o after h (is_spent m call e task member unrefused event turn how is) = subst (λ (x : State G F). StateRises x) (sym (same_state is)) h
-  step_rises w s o after h (is_done m call e t out task member unrefused event taken carried armed how is) =
-      let f = taken_rises w h s m call e t task member event taken in
-      subst (λ (x : State G F). StateRises x) (sym (same_state is)) (record {
-        packets = h.packets ++ t.out;
-        spelled = AllZip-append (Goes z) h.packets t.out w.sent out h.spelled (all_go z (w.version m) t.out out carried);
-        asked = λ p i. elim (among-append h.packets t.out p i) [ inl x ↦ h.asked p x | inr x ↦ f.out p x ];
-        rows = saved_rise w h m (number_of e) t.row f.row;
-        marks = marked_rise w h m t.marks f.marks;
-      })
-  step_rises w s o after h (is_torn m call e row armed task member event leaves is) =
-      subst (λ (x : State G F). StateRises x) (sym (same_state is)) (record { packets = h.packets; spelled = h.spelled; asked = h.asked; rows = saved_rise w h m (number_of e) row (left leaves); marks = marked_rise w h m [] no_marks })
-    where
-      left : Leaves z w m call e o row armed → RowRises z.count row
-      left (store_before_save how un same stays) = subst (λ (r : Row). RowRises z.count r) (sym same) (h.rows m (number_of e))
-      left (memory_before_save how un same stays) = subst (λ (r : Row). RowRises z.count r) (sym same) (h.rows m (number_of e))
-      left (at_save t un taken changes may disarmed) = elim (may_leave (w.armed m) o (w.rows m (number_of e)) t.row row may) [
-        | inl same ↦ subst (λ (r : Row). RowRises z.count r) (sym same) (h.rows m (number_of e))
-        | inr same ↦ subst (λ (r : Row). RowRises z.count r) (sym same) (taken_rises w h s m call e t task member event taken).row
-      ]
-  step_rises w s o after h (restarts m member is_restart how is) =
-      subst (λ (x : State G F). StateRises x) (sym (same_state is)) (record { packets = h.packets; spelled = h.spelled; asked = h.asked; rows = h.rows; marks = marked_rise w h m [] no_marks })
-  step_rises w s o after h (upgrades m member is_upgrade how unarmed is) =
-      subst (λ (x : State G F). StateRises x) (sym (same_state is)) (record { packets = h.packets; spelled = h.spelled; asked = h.asked; rows = h.rows; marks = marked_rise w h m [] no_marks })
-  step_rises w s o after h (upgrade_is_torn m v member is_upgrade turns is) =
-      subst (λ (x : State G F). StateRises x) (sym (same_state is)) (record { packets = h.packets; spelled = h.spelled; asked = h.asked; rows = h.rows; marks = marked_rise w h m [] no_marks })
-  step_rises w s o after h (is_armed m b member is_balk how is) =
-      subst (λ (x : State G F). StateRises x) (sym (same_state is)) (record { packets = h.packets; spelled = h.spelled; asked = h.asked; rows = h.rows; marks = h.marks })
-
-  history_rises : {w : State G F} → History z w → StateRises w
-  history_rises (starts_fresh version f) = subst (λ (x : State G F). StateRises x) (sym (same_state f)) (record { packets = []; spelled = tt; asked = λ p i. absurd i; rows = λ m n. (tt, tt); marks = λ m. no_marks })
-  history_rises (goes_on {w = w} {after = after} h s o st) = step_rises w s o after (history_rises h) st
-
-  pub vote_rises : {w : State G F} → History z w → (m n : ℕ) (x : Vote) → (w.rows m n).vote ≡ Some x → 1 ≤ x.ballot.round
-  vote_rises {w = w} h m n x e = let r : VoteRises z.count (Some x) = subst (λ (o : Option Vote). VoteRises z.count o) e ((history_rises h).rows m n).0 in r.0
-
-  -- and each promise, a member's
-  pub saved_promise_rises : {w : State G F} → History z w → (m n : ℕ) (p : Ballot) → (w.rows m n).promised ≡ Some p → (1 ≤ p.round) × IsMember z.count p.owner
-  saved_promise_rises {w = w} h m n p e = subst (λ (o : Option Ballot). IfSome o (Good z.count)) e ((history_rises h).rows m n).1
+-- nor is a vote that was heard
+pub heard_round :
+    {D G F : Type 0} {z : Circuit D G F} {w : State G F} (h : History z w) (m n j r : ℕ) → round_of (w.rows j n).promised ≤ r
+    → (a : Ballot) (u : Entry) → IsAmong (w.marks m) (Heard n j a u) → a.round ≤ r
+heard_round {z = z} {w = w} h m n j r l a u i =
+    let x = (history_sound h).sound.last j n a u (heard_is_voted z w h m n j a u i) in
+    at_most a x.0.ballot r x.2 (vote_round h j n r l x.0 x.1)
+  where
+    at_most : (a b : Ballot) (r : ℕ) → IsAtMost a b → b.round ≤ r → a.round ≤ r
+    at_most a b r h l = grind arith

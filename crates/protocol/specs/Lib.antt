@@ -19,6 +19,6 @@ pub mod Circuit
 pub mod Tearing
 pub mod Agreement
 pub mod Fitting
-pub mod Onward
+pub mod Progress
 pub mod Rehearsals
 pub mod NextDue

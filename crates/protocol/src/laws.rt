@@ -5,7 +5,7 @@ ghost use Rattle.protocol.specs.Acceptor.{StepsAreOfTheWhole};
 ghost use Rattle.protocol.specs.Agreement.{BallotsHaveOneEntry, ChosenIsOne, HeardIsVoted, HistoriesAgree, PromisesBind, ReleasesAreChosen, ReportsAreGreatest, RipeIsChosen, VotesAreBacked, VotesAreOffered};
 ghost use Rattle.protocol.specs.Fitting.{HistoriesFit, TurnsFit, VersionTwoReadsBoth};
 ghost use Rattle.protocol.specs.NextDue.{NextDueIsLeastNumber};
-ghost use Rattle.protocol.specs.Onward.{ChosenIsFound, CircuitIsNeverStuck, DeniedNeedNotRestart, HalfAnUpgradeIsNoDeadEnd, RunningNeedNotRestart};
+ghost use Rattle.protocol.specs.Progress.{ChosenIsFound, CircuitIsNeverStuck, DeniedNeedNotRestart, HalfAnUpgradeIsNoDeadEnd, RunningNeedNotRestart};
 ghost use Rattle.protocol.specs.Readings.{NextDueIsLeast};
 ghost use Rattle.protocol.specs.Rehearsals.{AddresseeIsToldFirst, LowerIsDenied, MixedMembersRelease, NumberIsToldFirst, NumberIsWithdrawn, NumbersAreRefused, OneMemberReleases, PacketsAreRefused, ReadingLeavesArmed, SavedVoteIsReleased, SettingWantsMemory, StoppedIsToldFirst, StoreRefusesToo, ThreeMembersRelease, TornUpgrades, TwoProposersFight, UnsavedVoteIsLost, VersionIsToldFirst, VoteOutlivesUpgrades, WithdrawalWantsVersionTwo};
 ghost use Rattle.protocol.specs.Runs.{BallotsStandApart, BeginsAbovePromise, ClosedIsForgotten, FallsDueAbove, FirstAcceptStands, FirstOfTwoReleases, GivesUp, GreaterReportIsTaken, LastRoundIsBegun, LastRoundIsSpent, LeastMemberDecides, LowerIsNacked, NumbersStandApart, OfferedAfterGivingUp, OneFindsNothing, OneReleases, PassedIsOvertaken, ReleasedIsSettled, RepeatedVoteCountsOnce, SecondOfTwoReleases, ThirdTakesOver, VoteIsReported};

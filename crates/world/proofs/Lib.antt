@@ -10,4 +10,4 @@ pub mod Founding
 pub mod Asking
 pub mod Tearing
 pub mod Existing
-pub mod Unstuck
+pub mod Progress

@@ -7,7 +7,7 @@ use Rattle.protocol.specs.Entries.{Entry}
 use Rattle.protocol.specs.Versions.{Version, fits}
 use Rattle.protocol.specs.Circuit.{Release, State, History}
 use Rattle.protocol.specs.Proposals.{was_released, open_proposal}
-use Rattle.protocol.specs.Onward.{round_of, CanServe, AreAt, LeadToRelease, GoOver}
+use Rattle.protocol.specs.Progress.{round_of, CanServe, AreAt, CanRelease, LeadsByUpgrades}
 use Rattle.tape_frames.specs.Entries.{IsEntry}
 use Rattle.protocol.specs.Agreement.{BallotsHaveOneEntry, ChosenIsOne, HeardIsVoted, PromisesBind, ReleasesAreChosen, ReportsAreGreatest, RipeIsChosen, VotesAreBacked, VotesAreOffered, WasOffered, IsChosen}
 use Rattle.packets.specs.declared.fault.PacketFault.{PacketFault}
@@ -89,7 +89,7 @@ StationsAreNeverStuck =
     (tables : ℕ → Places) (files : ℕ → WidthFile) (z : StationCircuit) (w : StationState) (h : History z w) (among : ℕ → Bool) (v : Version) (n : ℕ)
     → IsInService tables files z w n → CanServe z w among n → AreAt z w among v → is_number n ≡ true
     → (m : ℕ) (entry : Entry) (slugs : List Slug) → IsMember z.count m → among m ≡ true → IsEntry entry → fits v entry ≡ true → z.sets m entry ≡ Ok slugs
-    → (to : LeadToRelease z among (λ k. k == m) m n (w.offers ++ record { member = m; number = n; entry = entry } ∷ []) w) × ((t : Entry) → IsChosen h n t → to.entry ≡ t)
+    → (to : CanRelease z among (λ k. k == m) m n (w.offers ++ record { member = m; number = n; entry = entry } ∷ []) w) × ((t : Entry) → IsChosen h n t → to.entry ≡ t)
 
 -- no station that runs has to start again for it, where the member that is asked has the highest promise of the majority for the number,
 -- which is neither open nor released with it
@@ -100,7 +100,7 @@ RunningStationsNeedNotRestart =
     → (m : ℕ) (entry : Entry) (slugs : List Slug) → IsMember z.count m → among m ≡ true → IsEntry entry → fits v entry ≡ true → z.sets m entry ≡ Ok slugs
     → w.is_stopped m ≡ false → open_proposal n (w.marks m) ≡ None → was_released n (w.marks m) ≡ false
     → ((k : ℕ) → IsMember z.count k → among k ≡ true → round_of (w.rows k n).promised ≤ round_of (w.rows m n).promised)
-    → (to : LeadToRelease z among (λ k. false) m n (w.offers ++ record { member = m; number = n; entry = entry } ∷ []) w) × ((t : Entry) → IsChosen h n t → to.entry ≡ t)
+    → (to : CanRelease z among (λ k. false) m n (w.offers ++ record { member = m; number = n; entry = entry } ∷ []) w) × ((t : Entry) → IsChosen h n t → to.entry ≡ t)
 
 -- nor where others of the majority have higher promises, and no number is open with the member that is asked
 abbrev pub DeniedStationsNeedNotRestart : Type 0
@@ -109,7 +109,7 @@ DeniedStationsNeedNotRestart =
     → IsInService tables files z w n → CanServe z w among n → AreAt z w among v → is_number n ≡ true
     → (m : ℕ) (entry : Entry) (slugs : List Slug) → IsMember z.count m → among m ≡ true → IsEntry entry → fits v entry ≡ true → z.sets m entry ≡ Ok slugs
     → w.is_stopped m ≡ false → ((j : ℕ) → open_proposal j (w.marks m) ≡ None) → was_released n (w.marks m) ≡ false
-    → (to : LeadToRelease z among (λ k. false) m n (w.offers ++ record { member = m; number = n; entry = entry } ∷ []) w) × ((t : Entry) → IsChosen h n t → to.entry ≡ t)
+    → (to : CanRelease z among (λ k. false) m n (w.offers ++ record { member = m; number = n; entry = entry } ∷ []) w) × ((t : Entry) → IsChosen h n t → to.entry ≡ t)
 
 -- what is chosen any member of it can come to release with nothing offered
 abbrev pub ChosenIsFoundByStations : Type 0
@@ -117,7 +117,7 @@ ChosenIsFoundByStations =
     (tables : ℕ → Places) (files : ℕ → WidthFile) (z : StationCircuit) (w : StationState) (h : History z w) (among : ℕ → Bool) (v : Version) (n : ℕ)
     → IsInService tables files z w n → CanServe z w among n → AreAt z w among v → is_number n ≡ true
     → (m : ℕ) → IsMember z.count m → among m ≡ true → (t : Entry) → IsChosen h n t
-    → (to : LeadToRelease z among (λ k. k == m) m n w.offers w) × (to.entry ≡ t)
+    → (to : CanRelease z among (λ k. k == m) m n w.offers w) × (to.entry ≡ t)
 
 -- half an upgrade is no dead end: at whatever versions the members of the majority are, those at version 1 can go over,
 -- and then any member of it can come to release the number as before
@@ -126,5 +126,5 @@ HalfAnUpgradeIsNoDeadEndOfStations =
     (tables : ℕ → Places) (files : ℕ → WidthFile) (z : StationCircuit) (w : StationState) (h : History z w) (among : ℕ → Bool) (n : ℕ)
     → IsInService tables files z w n → CanServe z w among n → is_number n ≡ true
     → (m : ℕ) (entry : Entry) (slugs : List Slug) → IsMember z.count m → among m ≡ true → IsEntry entry → z.sets m entry ≡ Ok slugs
-    → (over : StationState) × GoOver z among over w × (over.releases ≡ w.releases)
-    × (to : LeadToRelease z among (λ k. k == m) m n (w.offers ++ record { member = m; number = n; entry = entry } ∷ []) over) × ((t : Entry) → IsChosen h n t → to.entry ≡ t)
+    → (over : StationState) × LeadsByUpgrades z among over w × (over.releases ≡ w.releases)
+    × (to : CanRelease z among (λ k. k == m) m n (w.offers ++ record { member = m; number = n; entry = entry } ∷ []) over) × ((t : Entry) → IsChosen h n t → to.entry ≡ t)

@@ -1,5 +1,5 @@
 -- By taking the steps.
-use Rattle.protocol.proofs.Unstuck.{circuit_is_never_stuck, chosen_is_found, half_an_upgrade_is_no_dead_end, running_need_not_restart, denied_need_not_restart}
+use Rattle.protocol.proofs.Progress.{circuit_is_never_stuck, chosen_is_found, half_an_upgrade_is_no_dead_end, running_need_not_restart, denied_need_not_restart}
 use Rattle.protocol.proofs.laws.circuit_is_never_stuck.Goals as goal
 
 pub returns-clause-offered : goal.returns-clause-offered

@@ -1,5 +1,5 @@
 -- From the law of any circuit.
-use Rattle.world.proofs.Unstuck.{stations_are_never_stuck, running_stations_need_not_restart, denied_stations_need_not_restart, chosen_is_found, half_an_upgrade_is_no_dead_end}
+use Rattle.world.proofs.Progress.{stations_are_never_stuck, running_stations_need_not_restart, denied_stations_need_not_restart, chosen_is_found, half_an_upgrade_is_no_dead_end}
 use Rattle.world.proofs.laws.circuit_is_never_stuck.Goals as goal
 
 pub returns-clause-offered : goal.returns-clause-offered

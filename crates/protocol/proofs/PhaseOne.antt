@@ -16,19 +16,19 @@ use Rattle.protocol.specs.Turn.{Turn, packet_to, proposal_to_others, propose, he
 use Rattle.protocol.specs.Refusals.{names_stranger}
 use Rattle.protocol.specs.Circuit.{Circuit, Datagram, Offer, State, Carries, seat_at, History}
 use Rattle.protocol.specs.Fitting.{SpellsWhatFits}
-use Rattle.protocol.specs.Onward.{LeadToRelease, IsBallotOf, BodyMaySay, MaySay, SpellsWhatMayBeSaid}
+use Rattle.protocol.specs.Progress.{round_of, IsBallotOf, BodyMaySay, MaySay, SpellsWhatMayBeSaid}
 use Rattle.protocol.proofs.Order.{irrefl}
 use Rattle.protocol.proofs.Majorities.{among_members, shared}
 use Rattle.protocol.specs.Readings.{IsCounted, Picks, the_reported, the_own}
 use Rattle.protocol.proofs.Reading.{is_same-self, majority_of, no_majority_of, pick_is}
 use Rattle.protocol.proofs.Steps.{history_sound}
-use Rattle.protocol.proofs.Going.{Told, Stepped, receive}
+use Rattle.protocol.proofs.OneStep.{Told, Stepped, Serves, still, Reaches, receive}
 use Rattle.protocol.proofs.Replying.{promises, counts, completes, picks, with_promise, unrefused, member_among, yes_no, apart, turned, packet_says, proposal_says}
-use Rattle.protocol.proofs.Strangers.{was_held, voter_is_member}
-use Rattle.protocol.proofs.Rounds.{vote_rises}
+use Rattle.protocol.proofs.Voters.{was_held, voter_is_member}
+use Rattle.protocol.proofs.SavedBallots.{vote_rises}
 use Rattle.protocol.proofs.Agreements.{votes_are_offered}
-use Rattle.protocol.proofs.Voting.{Serves, still, Free, all_vote}
-use Rattle.protocol.proofs.Voting as voting
+use Rattle.protocol.proofs.PhaseTwo.{Free, all_vote}
+use Rattle.protocol.proofs.PhaseTwo as phase_two
 
 -- a member's own vote names no stranger
 pub names_none : {D G F : Type 0} {z : Circuit D G F} {w : State G F} (h : History z w) (k n : ℕ) → names_stranger z.count (Promise (w.rows k n).vote) ≡ false
@@ -120,10 +120,14 @@ finds c m n b o since Voted at (inr voted) many reported =
     by (the_own none is) u j h = absurd (none j u h)
 
 module _
-    {D G F : Type 0} (z : Circuit D G F) (fit : SpellsWhatFits z) (among again : ℕ → Bool) (v : Version) (m n : ℕ) (final : List Offer) (entries : Entry → Type 0) (speaks : SpellsWhatMayBeSaid z v entries)
-    (number : is_number n ≡ true) (b : Ballot) (at : IsBallotOf z.count b) (member : IsMember z.count m) (owner : b.owner ≡ m)
+    {D G F : Type 0} (z : Circuit D G F) (fit : SpellsWhatFits z) (among again : ℕ → Bool) (v : Version) (m n : ℕ) (final : List Offer)
+    (entries : Entry → Type 0) (speaks : SpellsWhatMayBeSaid z v entries) (limit : ℕ)
+    (number : is_number n ≡ true) (b : Ballot) (at : IsBallotOf z.count b) (member : IsMember z.count m) (owner : b.owner ≡ m) (low : b.round ≤ limit)
     (many : z.count < 2 * count_by among (members z.count)) (in_it : among m ≡ true) (o : Opening) (at_b : o.ballot ≡ b)
     (Voted : ℕ → Type 0) (own_or_voted : ((e : Entry) × (o.own ≡ Some e)) ⊎ Majority z.count Voted) where
+  abbrev Goal : State G F → Type 0
+  Goal w = Reaches z among again v m n final limit w
+
   abbrev Leaves : ℕ → Row → List Mark → List Packet → State G F → State G F → Type 0
   Leaves k row marks out w after = Stepped z v n entries k row marks out w.offers w after
 
@@ -136,7 +140,7 @@ module _
   pub record Gathering (w : State G F) : Type 0 where
     pub known : Told z n entries w
     pub settled : w.offers ≡ final
-    pub serves : Serves z among v w
+    pub serves : Serves z among v n limit w
     pub unvoted : vote_is_at (w.rows m n).vote b ≡ false
     pub promised : is_at (w.rows m n).promised b ≡ true
     pub opens : gathering_at n b (w.marks m) ≡ Some o
@@ -156,7 +160,7 @@ module _
   record Answered (k : ℕ) (report : Option Vote) (w w1 : State G F) : Type 0 where
     known : Told z n entries w1
     settled : w1.offers ≡ final
-    serves : Serves z among v w1
+    serves : Serves z among v n limit w1
     marks : w1.marks m ≡ w.marks m
     row : w1.rows m n ≡ w.rows m n
     raised_row : w1.rows k n ≡ raised (w.rows k n) b
@@ -175,8 +179,8 @@ module _
   counts_it :
       (w : State G F) → Gathering w → (k : ℕ) → IsMember z.count k → among k ≡ true → (k == m) ≡ false → counts_in w k ≡ false
       → (report : Option Vote) → names_stranger z.count (Promise report) ≡ false → (Voted k → (u : Vote) × (report ≡ Some u)) → (w1 : State G F) → Answered k report w w1
-      → ((after : State G F) → Gathering after → counts_in after k ≡ true → ((j : ℕ) → counts_in w j ≡ true → counts_in after j ≡ true) → LeadToRelease z among again m n final after)
-      → LeadToRelease z among again m n final w1
+      → ((after : State G F) → Gathering after → counts_in after k ≡ true → ((j : ℕ) → counts_in w j ≡ true → counts_in after j ≡ true) → Goal after)
+      → Goal w1
   counts_it w g k i e other uncounted report known reports w1 a rest = go (is_majority z.count (is_counted (with_promise (seat_at z m) (w1.marks m) q report o))) refl
     where
       q : Packet
@@ -207,18 +211,18 @@ module _
       not_yet : is_counted (counted m n o (since_began n (w1.marks m))) k ≡ false
       not_yet = subst (λ (l : List Mark). is_counted (counted m n o (since_began n l)) k ≡ false) (sym a.marks) uncounted
 
-      delivers : (t : Turn) → packet_turn (seat_at z m) 0 (w1.marks m) (w1.rows m n) q (Promise report) ≡ t
+      delivers : (t : Turn) → packet_turn (seat_at z m) 0 (w1.marks m) (w1.rows m n) q (Promise report) ≡ t → round_of t.row.promised ≤ limit
           → (((u : Vote) → t.row.vote ≡ Some u → ¬ (t.row ≡ w1.rows m n) → entries u.entry) → (x : Packet) → IsAmong t.out x → MaySay z entries x)
-          → ((after : State G F) → Leaves m t.row t.marks t.out w1 after → (m ≡ m → t.release ≡ None) → LeadToRelease z among again m n final after) → LeadToRelease z among again m n final w1
-      delivers t is says on =
+          → ((after : State G F) → Leaves m t.row t.marks t.out w1 after → (m ≡ m → t.release ≡ None) → Goal after) → Goal w1
+      delivers t is under says on =
           let (d, sent, c) = a.answer in
-          receive z fit among again v m n final entries speaks w1 a.known m q d t member in_it (a.serves.version m member in_it) (a.serves.unarmed m member in_it) (a.serves.going m member in_it) sent c refl refl
-          (unrefused z.number z.count k m n b (Promise report) i.1 at.owner.1 known) is a.settled says on
+          receive z fit among again v m n final entries speaks limit w1 a.known a.serves m q d t member in_it sent c refl refl
+          (unrefused z.number z.count k m n b (Promise report) i.1 at.owner.1 known) is under a.settled says on
 
       changes : (entry : Entry) → ¬ (voted b entry ≡ w1.rows m n)
       changes entry e = yes_no (vote_is_at (w1.rows m n).vote b) (subst (λ (r : Row). vote_is_at r.vote b ≡ false) (sym a.row) g.unvoted) (subst (λ (r : Row). vote_is_at r.vote b ≡ true) e (is_same-self b b refl))
 
-      goes_on_so : is_majority z.count (is_counted (with_promise (seat_at z m) (w1.marks m) q report o)) ≡ false → (after : State G F) → Leaves m (w1.rows m n) (Promised n k b report ∷ w1.marks m) [] w1 after → LeadToRelease z among again m n final after
+      goes_on_so : is_majority z.count (is_counted (with_promise (seat_at z m) (w1.marks m) q report o)) ≡ false → (after : State G F) → Leaves m (w1.rows m n) (Promised n k b report ∷ w1.marks m) [] w1 after → Goal after
       goes_on_so few after st =
           let marks : after.marks m ≡ Promised n k b report ∷ w.marks m = st.marks_are ∙ ap (λ (l : List Mark). Promised n k b report ∷ l) a.marks in
           let more : (j : ℕ) → counts_in w j ≡ true → counts_in after j ≡ true =
@@ -228,7 +232,7 @@ module _
           (record {
             known = st.told;
             settled = st.offers_are ∙ a.settled;
-            serves = still st a.serves;
+            serves = still st a.serves (a.serves.rounds m member in_it);
             unvoted = subst (λ (r : Row). vote_is_at r.vote b ≡ false) (sym (st.row_is ∙ a.row)) g.unvoted;
             promised = subst (λ (r : Row). is_at r.promised b ≡ true) (sym st.row_is) promised;
             opens = subst (λ (l : List Mark). gathering_at n b l ≡ Some o) (sym marks) g.opens;
@@ -264,19 +268,19 @@ module _
       proposes_so :
           (entry : Entry) (after : State G F)
           → Leaves m (voted b entry) (hear z.count n m b entry (Proposed n b 0 ∷ Promised n k b report ∷ w1.marks m)).marks (proposal_to_others (seat_at z m) n b entry) w1 after
-          → (hear z.count n m b entry (Proposed n b 0 ∷ Promised n k b report ∷ w1.marks m)).release ≡ None → entries entry → LeadToRelease z among again m n final after
+          → (hear z.count n m b entry (Proposed n b 0 ∷ Promised n k b report ∷ w1.marks m)).release ≡ None → entries entry → Goal after
       proposes_so entry after st none said =
-          let g2 = voting.proposed z fit among again v m n final entries speaks number b at member owner 0 entry (Promised n k b report ∷ w1.marks m) w1 after w1.offers said a.settled a.serves st none in_it
+          let g2 = phase_two.proposed z fit among again v m n final entries speaks limit number b at member owner low 0 entry (Promised n k b report ∷ w1.marks m) w1 after w1.offers said a.settled a.serves st none in_it
           (subst (λ (l : List Mark). was_released n l ≡ false) (sym a.marks) g.unreleased) heard_low (free_after k report w w1 g a) in
-          all_vote z fit among again v m n final entries speaks number b at member owner many in_it entry (members z.count) after g2 (λ j h. among_members z.count j h) (λ j i' e'. inr (member_among z.count j i'))
+          all_vote z fit among again v m n final entries speaks limit number b at member owner low many in_it entry (members z.count) after g2 (λ j h. among_members z.count j h) (λ j i' e'. inr (member_among z.count j i'))
         where
           heard_low : (j : ℕ) → IsMember z.count j → among j ≡ true → (x : Ballot) (u : Entry) → IsAmong (Promised n k b report ∷ w1.marks m) (Heard n j x u) → IsAtMost x b
           heard_low j i' e' x u (inl f) = cc
           heard_low j i' e' x u (inr h) = g.heard_low j i' e' x u (subst (λ (l : List Mark). IsAmong l (Heard n j x u)) a.marks h)
 
-      go : (t : Bool) → is_majority z.count (is_counted (with_promise (seat_at z m) (w1.marks m) q report o)) ≡ t → LeadToRelease z among again m n final w1
+      go : (t : Bool) → is_majority z.count (is_counted (with_promise (seat_at z m) (w1.marks m) q report o)) ≡ t → Goal w1
       go false t =
-          delivers _ (counts (seat_at z m) (w1.marks m) (w1.rows m n) q report o opens promised not_yet t) (λ voted x j. absurd j) (λ after st none. goes_on_so t after st)
+          delivers _ (counts (seat_at z m) (w1.marks m) (w1.rows m n) q report o opens promised not_yet t) (a.serves.rounds m member in_it) (λ voted x j. absurd j) (λ after st none. goes_on_so t after st)
       go true t =
           let all : List Counted = with_promise (seat_at z m) (w1.marks m) q report o in
           let at_w : all ≡ counted m n o (Promised n k b report ∷ since_began n (w.marks m)) = ap (λ (l : List Mark). with_promise (seat_at z m) l q report o) a.marks in
@@ -285,24 +289,24 @@ module _
           ≡ propose (seat_at z m) n b 0 (Promised n k b report ∷ w1.marks m) (w1.rows m n) (Some entry) =
           completes (seat_at z m) (w1.marks m) (w1.rows m n) q report o opens promised not_yet t
           ∙ ap (λ (x : Option Entry). propose (seat_at z m) n b 0 (Promised n k b report ∷ w1.marks m) (w1.rows m n) x) (ap (λ (l : List Counted). pick o.own l) at_w ∙ picked) in
-          delivers _ is
+          delivers _ is low
           (λ votes x j. proposal_says z entries m n b member number at owner entry (votes (vote_for b entry) refl (changes entry)) x j)
           (λ after st none. proposes_so entry after st (none refl) (st.told.offered entry (votes_are_offered z after st.told.history m n b entry (was_held st.told.history m n b entry (ap (λ (r : Row). r.vote) st.row_is)))))
 
   -- one member more promises, and is counted
   one_promises :
       (w : State G F) → Gathering w → (k : ℕ) → IsMember z.count k → among k ≡ true → counts_in w k ≡ false
-      → ((after : State G F) → Gathering after → counts_in after k ≡ true → ((j : ℕ) → counts_in w j ≡ true → counts_in after j ≡ true) → LeadToRelease z among again m n final after)
-      → LeadToRelease z among again m n final w
+      → ((after : State G F) → Gathering after → counts_in after k ≡ true → ((j : ℕ) → counts_in w j ≡ true → counts_in after j ≡ true) → Goal after)
+      → Goal w
   one_promises w g k i e uncounted rest =
       let other : (k == m) ≡ false = apart k m (λ f. yes_no (counts_in w k) uncounted (subst (λ (j : ℕ). counts_in w j ≡ true) (sym f) (me_counted w))) in
       let back : (m == k) ≡ false = turned k m other in
       let p : Packet = packet_to (seat_at z m) n b Prepare k in
       let (d, sent, c) = g.asked k i other in
-      receive z fit among again v m n final entries speaks w g.known k p d _ i e (g.serves.version k i e) (g.serves.unarmed k i e) (g.serves.going k i e) sent c refl refl
+      receive z fit among again v m n final entries speaks limit w g.known g.serves k p d _ i e sent c refl refl
       (unrefused z.number z.count m k n b Prepare member.1 at.owner.1 refl)
       (promises (seat_at z k) (w.marks k) (w.rows k n) p (g.free k i e other).unpromised (g.lower k i e uncounted).unpromised)
-      g.settled
+      low g.settled
       (λ votes x j. elim j [
         | inl same ↦ subst (λ (q : Packet). MaySay z entries q) (sym same) (packet_says z entries k m n b (Promise (w.rows k n).vote) i member back number at (report_says g.known k m b owner at.round_high (g.lower k i e uncounted).under))
         | inr none ↦ absurd none
@@ -311,7 +315,7 @@ module _
       (record {
         known = st.told;
         settled = st.offers_are ∙ g.settled;
-        serves = still st g.serves;
+        serves = still st g.serves low;
         marks = st.marks_other m back;
         row = st.row_other m back;
         raised_row = st.row_is;
@@ -324,15 +328,15 @@ module _
   -- all of them promise
   pub all_promise :
       (rest : List ℕ) (w : State G F) → Gathering w → ((k : ℕ) → IsAmong rest k → IsMember z.count k)
-      → ((k : ℕ) → IsMember z.count k → among k ≡ true → (counts_in w k ≡ true) ⊎ IsAmong rest k) → LeadToRelease z among again m n final w
+      → ((k : ℕ) → IsMember z.count k → among k ≡ true → (counts_in w k ≡ true) ⊎ IsAmong rest k) → Goal w
   all_promise [] w g inside left =
       absurd (no_majority_of z.count (counts_in w) (λ k. counts_in w k ≡ true) (λ k i t. t) g.few
       (record { has = among; many = many; each = λ k i e. elim (left k i e) [ inl t ↦ t | inr none ↦ absurd none ] }))
   all_promise (k ∷ rest) w g inside left = go (among k) refl (counts_in w k) refl (λ after x y. all_promise rest after x (λ j i. inside j (inr i)) y)
     where
       go : (s : Bool) → among k ≡ s → (t : Bool) → counts_in w k ≡ t
-          → ((after : State G F) → Gathering after → ((j : ℕ) → IsMember z.count j → among j ≡ true → (counts_in after j ≡ true) ⊎ IsAmong rest j) → LeadToRelease z among again m n final after)
-          → LeadToRelease z among again m n final w
+          → ((after : State G F) → Gathering after → ((j : ℕ) → IsMember z.count j → among j ≡ true → (counts_in after j ≡ true) ⊎ IsAmong rest j) → Goal after)
+          → Goal w
       go false e t f on = on w g (λ j i x. elim (left j i x) [ inl y ↦ inl y | inr y ↦ elim y [ inl same ↦ absurd (yes_no (among k) e (subst (λ (q : ℕ). among q ≡ true) same x)) | inr h ↦ inr h ] ])
       go true e true f on = on w g (λ j i x. elim (left j i x) [ inl y ↦ inl y | inr y ↦ elim y [ inl same ↦ inl (subst (λ (q : ℕ). counts_in w q ≡ true) (sym same) f) | inr h ↦ inr h ] ])
       go true e false f on =

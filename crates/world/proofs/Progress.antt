@@ -5,7 +5,7 @@ use Rattle.protocol.specs.Entries.{Entry}
 use Rattle.protocol.specs.Versions.{Version, Two}
 use Rattle.protocol.specs.Packets.{Body, Prepare, Promise, Accept, Accepted, Nack}
 use Rattle.protocol.specs.Circuit.{Circuit}
-use Rattle.protocol.specs.Onward.{BodyMaySay, SpellsWhatMayBeSaid, CircuitIsNeverStuck, RunningNeedNotRestart, DeniedNeedNotRestart, ChosenIsFound, HalfAnUpgradeIsNoDeadEnd}
+use Rattle.protocol.specs.Progress.{BodyMaySay, SpellsWhatMayBeSaid, CircuitIsNeverStuck, RunningNeedNotRestart, DeniedNeedNotRestart, ChosenIsFound, HalfAnUpgradeIsNoDeadEnd}
 use Rattle.protocol.specs.Agreement.{WasOffered}
 use Rattle.tape_frames.specs.Entries.{IsEntry}
 use Rattle.packets.specs.declared.fault.PacketFault.{PacketFault}

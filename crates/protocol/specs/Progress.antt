@@ -30,7 +30,7 @@ release_of z m n entry = record { member = m; number = n; entry = entry; set = z
 
 -- so they come to a state in which m has released an entry for n; if anything else was released on the way, then by some of them for n.
 -- The offers that were ever made are then these
-pub record LeadToRelease {D G F : Type 0} (z : Circuit D G F) (among again : ℕ → Bool) (m n : ℕ) (offers : List Offer) (w : State G F) : Type 0 where
+pub record CanRelease {D G F : Type 0} (z : Circuit D G F) (among again : ℕ → Bool) (m n : ℕ) (offers : List Offer) (w : State G F) : Type 0 where
   pub after : State G F
   pub leads : Leads z among again after w
   pub entry : Entry
@@ -99,7 +99,7 @@ CircuitIsNeverStuck D G F =
     → (w : State G F) (h : History z w) (among : ℕ → Bool) (v : Version) (n : ℕ) → CanServe z w among n → AreAt z w among v → is_number n ≡ true
     → (m : ℕ) (entry : Entry) (slugs : G) → IsMember z.count m → among m ≡ true → fits v entry ≡ true → z.sets m entry ≡ Ok slugs
     → SpellsWhatMayBeSaid z v (λ t. (t ≡ entry) ⊎ WasOffered w n t)
-    → (to : LeadToRelease z among (λ k. k == m) m n (w.offers ++ record { member = m; number = n; entry = entry } ∷ []) w) × ((t : Entry) → IsChosen h n t → to.entry ≡ t)
+    → (to : CanRelease z among (λ k. k == m) m n (w.offers ++ record { member = m; number = n; entry = entry } ∷ []) w) × ((t : Entry) → IsChosen h n t → to.entry ≡ t)
 
 -- nobody who runs has to start again for it, where the member that is asked has the highest promise of the majority for the number,
 -- which is neither open nor released with it
@@ -111,7 +111,7 @@ RunningNeedNotRestart D G F =
     → SpellsWhatMayBeSaid z v (λ t. (t ≡ entry) ⊎ WasOffered w n t)
     → w.is_stopped m ≡ false → open_proposal n (w.marks m) ≡ None → was_released n (w.marks m) ≡ false
     → ((k : ℕ) → IsMember z.count k → among k ≡ true → round_of (w.rows k n).promised ≤ round_of (w.rows m n).promised)
-    → (to : LeadToRelease z among (λ k. false) m n (w.offers ++ record { member = m; number = n; entry = entry } ∷ []) w) × ((t : Entry) → IsChosen h n t → to.entry ≡ t)
+    → (to : CanRelease z among (λ k. false) m n (w.offers ++ record { member = m; number = n; entry = entry } ∷ []) w) × ((t : Entry) → IsChosen h n t → to.entry ≡ t)
 
 -- nor where others of the majority have higher promises, and no number is open with the member that is asked: it is denied by the highest of them,
 -- and begins anew above that as it falls due
@@ -122,7 +122,7 @@ DeniedNeedNotRestart D G F =
     → (m : ℕ) (entry : Entry) (slugs : G) → IsMember z.count m → among m ≡ true → fits v entry ≡ true → z.sets m entry ≡ Ok slugs
     → SpellsWhatMayBeSaid z v (λ t. (t ≡ entry) ⊎ WasOffered w n t)
     → w.is_stopped m ≡ false → ((j : ℕ) → open_proposal j (w.marks m) ≡ None) → was_released n (w.marks m) ≡ false
-    → (to : LeadToRelease z among (λ k. false) m n (w.offers ++ record { member = m; number = n; entry = entry } ∷ []) w) × ((t : Entry) → IsChosen h n t → to.entry ≡ t)
+    → (to : CanRelease z among (λ k. false) m n (w.offers ++ record { member = m; number = n; entry = entry } ∷ []) w) × ((t : Entry) → IsChosen h n t → to.entry ≡ t)
 
 -- and what is chosen is never lost: there any member of it can come to release the entry that is chosen, with nothing offered
 abbrev pub ChosenIsFound : (D G F : Type 0) → Type 0
@@ -131,14 +131,14 @@ ChosenIsFound D G F =
     → (w : State G F) (h : History z w) (among : ℕ → Bool) (v : Version) (n : ℕ) → CanServe z w among n → AreAt z w among v → is_number n ≡ true
     → (m : ℕ) → IsMember z.count m → among m ≡ true → (t : Entry) → IsChosen h n t
     → SpellsWhatMayBeSaid z v (λ u. WasOffered w n u)
-    → (to : LeadToRelease z among (λ k. k == m) m n w.offers w) × (to.entry ≡ t)
+    → (to : CanRelease z among (λ k. k == m) m n w.offers w) × (to.entry ≡ t)
 
 -- to the state after, by members of a set that go over to version 2, one after the other
-pub data GoOver {D G F : Type 0} (z : Circuit D G F) (among : ℕ → Bool) (after : State G F) : State G F → Type 0 where
-  are_over : {w : State G F} → w ≡ after → GoOver z among after w
-  goes_over :
+pub data LeadsByUpgrades {D G F : Type 0} (z : Circuit D G F) (among : ℕ → Bool) (after : State G F) : State G F → Type 0 where
+  are_upgraded : {w : State G F} → w ≡ after → LeadsByUpgrades z among after w
+  upgrades_one :
       {w between : State G F} (m : ℕ) → among m ≡ true
-      → StepsTo z w (Upgrades m) Upgraded between → GoOver z among after between → GoOver z among after w
+      → StepsTo z w (Upgrades m) Upgraded between → LeadsByUpgrades z among after between → LeadsByUpgrades z among after w
 
 -- half an upgrade is no dead end: at whatever versions the members of the majority are, those at version 1 can go over,
 -- and then any member of it can come to release the number as before, the chosen entry, where one was chosen
@@ -148,5 +148,5 @@ HalfAnUpgradeIsNoDeadEnd D G F =
     → (w : State G F) (h : History z w) (among : ℕ → Bool) (n : ℕ) → CanServe z w among n → is_number n ≡ true
     → (m : ℕ) (entry : Entry) (slugs : G) → IsMember z.count m → among m ≡ true → z.sets m entry ≡ Ok slugs
     → SpellsWhatMayBeSaid z Two (λ t. (t ≡ entry) ⊎ WasOffered w n t)
-    → (over : State G F) × GoOver z among over w × (over.releases ≡ w.releases)
-    × (to : LeadToRelease z among (λ k. k == m) m n (w.offers ++ record { member = m; number = n; entry = entry } ∷ []) over) × ((t : Entry) → IsChosen h n t → to.entry ≡ t)
+    → (over : State G F) × LeadsByUpgrades z among over w × (over.releases ≡ w.releases)
+    × (to : CanRelease z among (λ k. k == m) m n (w.offers ++ record { member = m; number = n; entry = entry } ∷ []) over) × ((t : Entry) → IsChosen h n t → to.entry ≡ t)

@@ -1,21 +1,24 @@
 -- A circuit is never stuck, and what is chosen is found.
-use Rattle.std.proofs.Common.{◌≡◌, ℕ, ◌⊎◌, inl, inr, refl, sym, subst, List, [], ◌∷◌, ◌++◌, Some, None, Bool, true, false, ◌==◌}
+use Rattle.std.proofs.Common.{◌≤◌, arith, ◌≡◌, ℕ, ◌⊎◌, inl, inr, refl, sym, subst, List, [], ◌∷◌, ◌++◌, Some, None, Bool, true, false, ◌==◌}
 use Rattle.protocol.specs.Lists.{IsAmong}
-use Rattle.protocol.specs.Ballots.{Ballot, IsMember, members}
+use Rattle.protocol.specs.Ballots.{Ballot, IsMember, members, last_round}
 use Rattle.protocol.specs.Entries.{Entry}
 use Rattle.protocol.specs.Rows.{Vote}
 use Rattle.protocol.specs.Versions.{Version, One, Two}
 use Rattle.protocol.specs.Circuit.{Circuit, Offer, Release, State, Done, Restarts, Restarted, Upgrades, Upgraded, with_at, StepsTo, upgrades, History, goes_on}
-use Rattle.protocol.proofs.Going.{same}
+use Rattle.protocol.proofs.OneStep.{same}
 use Rattle.protocol.proofs.Replying.{member_among, yes_no}
 use Rattle.std.proofs.lemmas.Bool.{eqb-false, eq-eqb}
 use Rattle.protocol.specs.Agreement.{WasVoted, WasOffered, IsChosen}
-use Rattle.protocol.specs.Onward.{Leads, is_there, takes_turn, starts_again, release_of, LeadToRelease, CanServe, AreAt, GoOver, are_over, goes_over, CircuitIsNeverStuck, RunningNeedNotRestart, DeniedNeedNotRestart, ChosenIsFound, HalfAnUpgradeIsNoDeadEnd}
+use Rattle.protocol.specs.Progress.{Leads, is_there, takes_turn, starts_again, release_of, CanRelease, CanServe, AreAt, LeadsByUpgrades, are_upgraded, upgrades_one, CircuitIsNeverStuck, RunningNeedNotRestart, DeniedNeedNotRestart, ChosenIsFound, HalfAnUpgradeIsNoDeadEnd}
 use Rattle.protocol.proofs.Places.{among_right}
 use Rattle.protocol.proofs.Majorities.{weaker, among_members}
 use Rattle.protocol.proofs.Steps.{history_sound}
 use Rattle.protocol.proofs.Agreements.{chosen_is_one, releases_are_chosen}
-use Rattle.protocol.proofs.Beginning.{by_offer, by_search, leads_on, leads_calmly, leads_through}
+use Rattle.protocol.proofs.Rounds.{left_below}
+use Rattle.protocol.proofs.OneStep.{Reaches}
+use Rattle.protocol.proofs.Waking.{Able, by_offer, by_search, leads_on, leads_calmly}
+use Rattle.protocol.proofs.Denial.{leads_through}
 
 -- votes stay as a history goes on
 record Later {D G F : Type 0} {z : Circuit D G F} {w : State G F} (h : History z w) (after : State G F) : Type 0 where
@@ -33,7 +36,7 @@ follow (starts_again m in_it why st rest) h =
 
 -- what is released is what was chosen before
 same_entry :
-    {D G F : Type 0} {z : Circuit D G F} {among again : ℕ → Bool} {m n : ℕ} {offers : List Offer} {w : State G F} (h : History z w) (to : LeadToRelease z among again m n offers w)
+    {D G F : Type 0} {z : Circuit D G F} {among again : ℕ → Bool} {m n : ℕ} {offers : List Offer} {w : State G F} (h : History z w) (to : CanRelease z among again m n offers w)
     → (t : Entry) → IsChosen h n t → to.entry ≡ t
 same_entry {G = G} {F = F} {z = z} {m = m} {n = n} {w = w} h to t c =
     let l = follow to.leads h in
@@ -43,35 +46,50 @@ same_entry {G = G} {F = F} {z = z} {m = m} {n = n} {w = w} h to t c =
     (subst (λ (q : List (Release G F)). IsAmong q released) (sym to.released) (among_right (w.releases ++ to.on_the_way) (released ∷ []) released (inl refl))))
     (c.0, weaker (λ k i x. l.stays k n c.0 t x) c.1)
 
+able : {D G F : Type 0} {z : Circuit D G F} {w : State G F} {among : ℕ → Bool} {v : Version} {n : ℕ} → CanServe z w among n → AreAt z w among v → Able z among v n last_round w
+able {w = w} {n = n} can at_v = record {
+  version = at_v;
+  unarmed = can.unarmed;
+  rounds = λ k i e. left_below (w.rows k n).promised (can.rounds k i e);
+}
+
+reached :
+    {D G F : Type 0} {z : Circuit D G F} {among again : ℕ → Bool} {v : Version} {m n : ℕ} {offers : List Offer} {limit : ℕ} {w : State G F}
+    → Reaches z among again v m n offers limit w → CanRelease z among again m n offers w
+reached x = x.can
+
+le-refl : last_round ≤ last_round
+le-refl = omega arith
+
 pub circuit_is_never_stuck : {D G F : Type 0} → CircuitIsNeverStuck D G F
 circuit_is_never_stuck z fit w h among v n can at_v number m entry slugs member in_it fits sets speaks =
     let final : List Offer = w.offers ++ record { member = m; number = n; entry = entry } ∷ [] in
-    let to : LeadToRelease z among (λ k. k == m) m n final w = leads_on z fit among (λ k. k == m) v m n final (λ t. (t ≡ entry) ⊎ WasOffered w n t) speaks number member can.many in_it
+    let to : CanRelease z among (λ k. k == m) m n final w = reached (leads_on z fit among (λ k. k == m) v m n final (λ t. (t ≡ entry) ⊎ WasOffered w n t) speaks last_round le-refl number member can.many in_it
     w.offers (Some entry) (by_offer z v m n w.offers (λ t. (t ≡ entry) ⊎ WasOffered w n t) entry slugs number fits sets (inl refl)) (λ j. ⊥) (inl (entry, refl)) (eq-eqb m m refl)
-    w (record { history = h; offered = λ t o. inr o }) refl (λ j none. absurd none) can at_v in
+    w (record { history = h; offered = λ t o. inr o }) refl (λ j none. absurd none) (able can at_v)) in
     (to, same_entry h to)
 
 pub running_need_not_restart : {D G F : Type 0} → RunningNeedNotRestart D G F
 running_need_not_restart z fit w h among v n can at_v number m entry slugs member in_it fits sets speaks going unopened unreleased highest =
     let final : List Offer = w.offers ++ record { member = m; number = n; entry = entry } ∷ [] in
-    let to : LeadToRelease z among (λ k. false) m n final w = leads_calmly z fit among (λ k. false) v m n final (λ t. (t ≡ entry) ⊎ WasOffered w n t) speaks number member can.many in_it
+    let to : CanRelease z among (λ k. false) m n final w = reached (leads_calmly z fit among (λ k. false) v m n final (λ t. (t ≡ entry) ⊎ WasOffered w n t) speaks last_round le-refl number member can.many in_it
     w.offers (Some entry) (by_offer z v m n w.offers (λ t. (t ≡ entry) ⊎ WasOffered w n t) entry slugs number fits sets (inl refl)) (λ j. ⊥) (inl (entry, refl))
-    w (record { history = h; offered = λ t o. inr o }) refl (λ j none. absurd none) can at_v going unopened unreleased highest in
+    w (record { history = h; offered = λ t o. inr o }) refl (λ j none. absurd none) (able can at_v) going unopened unreleased highest) in
     (to, same_entry h to)
 
 pub denied_need_not_restart : {D G F : Type 0} → DeniedNeedNotRestart D G F
 denied_need_not_restart z fit w h among v n can at_v number m entry slugs member in_it fits sets speaks going unopened unreleased =
     let final : List Offer = w.offers ++ record { member = m; number = n; entry = entry } ∷ [] in
-    let to : LeadToRelease z among (λ k. false) m n final w = leads_through z fit among (λ k. false) v m n final (λ t. (t ≡ entry) ⊎ WasOffered w n t) speaks number member can.many in_it
+    let to : CanRelease z among (λ k. false) m n final w = reached (leads_through z fit among (λ k. false) v m n final (λ t. (t ≡ entry) ⊎ WasOffered w n t) speaks last_round le-refl number member can.many in_it
     w.offers (Some entry) (by_offer z v m n w.offers (λ t. (t ≡ entry) ⊎ WasOffered w n t) entry slugs number fits sets (inl refl)) (λ j. ⊥) (inl (entry, refl))
-    w (record { history = h; offered = λ t o. inr o }) refl (λ j none. absurd none) can at_v going unopened unreleased in
+    w (record { history = h; offered = λ t o. inr o }) refl (λ j none. absurd none) (able can at_v) going unopened unreleased) in
     (to, same_entry h to)
 
 pub chosen_is_found : {D G F : Type 0} → ChosenIsFound D G F
 chosen_is_found z fit w h among v n can at_v number m member in_it t chosen speaks =
-    let to : LeadToRelease z among (λ k. k == m) m n w.offers w = leads_on z fit among (λ k. k == m) v m n w.offers (λ u. WasOffered w n u) speaks number member can.many in_it
+    let to : CanRelease z among (λ k. k == m) m n w.offers w = reached (leads_on z fit among (λ k. k == m) v m n w.offers (λ u. WasOffered w n u) speaks last_round le-refl number member can.many in_it
     w.offers None (by_search z v m n w.offers (λ u. WasOffered w n u) number) (λ j. WasVoted h j n chosen.0 t) (inr chosen.1) (eq-eqb m m refl)
-    w (record { history = h; offered = λ u o. o }) refl (λ j voted. has_vote j voted) can at_v in
+    w (record { history = h; offered = λ u o. o }) refl (λ j voted. has_vote j voted) (able can at_v)) in
     (to, same_entry h to t chosen)
   where
     has_vote : (j : ℕ) → WasVoted h j n chosen.0 t → (u : Vote) × ((w.rows j n).vote ≡ Some u)
@@ -80,7 +98,7 @@ chosen_is_found z fit w h among v n can at_v number m member in_it t chosen spea
 -- members at version 1 that have gone over
 record Crossed {D G F : Type 0} {z : Circuit D G F} {w : State G F} (h : History z w) (among : ℕ → Bool) (n : ℕ) : Type 0 where
   over : State G F
-  goes : GoOver z among over w
+  goes : LeadsByUpgrades z among over w
   later : Later h over
   can : CanServe z over among n
   at_two : AreAt z over among Two
@@ -93,7 +111,7 @@ crosses :
     → ((k : ℕ) → IsMember z.count k → among k ≡ true → (w.version k ≡ Two) ⊎ IsAmong rest k) → Crossed h among n
 crosses z among n [] w h can inside left = record {
   over = w;
-  goes = are_over refl;
+  goes = are_upgraded refl;
   later = record { history = h; stays = λ m i b t x. x };
   can = can;
   at_two = λ k i e. elim (left k i e) [ inl t ↦ t | inr none ↦ absurd none ];
@@ -121,7 +139,7 @@ crosses {D = D} {G = G} {F = F} z among n (k ∷ rest) w h can inside left = go 
     on : (e : among k ≡ true) → Crossed (goes_on h (Upgrades k) Upgraded (step e)) among n → Crossed h among n
     on e c = record {
       over = c.over;
-      goes = goes_over k e (step e) c.goes;
+      goes = upgrades_one k e (step e) c.goes;
       later = record { history = c.later.history; stays = λ m i b t x. c.later.stays m i b t (inr x) };
       can = c.can;
       at_two = c.at_two;
@@ -141,8 +159,8 @@ pub half_an_upgrade_is_no_dead_end : {D G F : Type 0} → HalfAnUpgradeIsNoDeadE
 half_an_upgrade_is_no_dead_end {D = D} {G = G} {F = F} z fit w h among n can number m entry slugs member in_it sets speaks =
     let c : Crossed h among n = crosses z among n (members z.count) w h can (λ k i. among_members z.count k i) (λ k i e. inr (member_among z.count k i)) in
     let final : List Offer = w.offers ++ record { member = m; number = n; entry = entry } ∷ [] in
-    let to : LeadToRelease z among (λ k. k == m) m n final c.over = leads_on z fit among (λ k. k == m) Two m n final (λ t. (t ≡ entry) ⊎ WasOffered w n t) speaks number member can.many in_it
+    let to : CanRelease z among (λ k. k == m) m n final c.over = reached (leads_on z fit among (λ k. k == m) Two m n final (λ t. (t ≡ entry) ⊎ WasOffered w n t) speaks last_round le-refl number member can.many in_it
     w.offers (Some entry) (by_offer z Two m n w.offers (λ t. (t ≡ entry) ⊎ WasOffered w n t) entry slugs number refl sets (inl refl)) (λ j. ⊥) (inl (entry, refl)) (eq-eqb m m refl)
     c.over (record { history = c.later.history; offered = λ t o. inr (o.0, subst (λ (l : List Offer). IsAmong l (record { member = o.0; number = n; entry = t })) c.offers o.1) })
-    c.offers (λ j none. absurd none) c.can c.at_two in
+    c.offers (λ j none. absurd none) (able c.can c.at_two)) in
     (c.over, c.goes, c.releases, to, λ t x. same_entry c.later.history to t (x.0, weaker (λ k i y. c.later.stays k n x.0 t y) x.1))

@@ -1,5 +1,5 @@
 -- From an entry that is proposed to its release: each member of the majority gets the Accept and votes, and the proposer gets the news.
-use Rattle.std.proofs.Common.{◌≡◌, ℕ, ◌*◌, ◌<◌, ◌⊎◌, inl, inr, refl, sym, ap, subst, ◌∙◌, List, [], ◌∷◌, Option, Some, None, Bool, true, false}
+use Rattle.std.proofs.Common.{◌≡◌, ℕ, ◌*◌, ◌<◌, ◌≤◌, ◌⊎◌, inl, inr, refl, sym, ap, subst, ◌∙◌, List, [], ◌∷◌, Option, Some, None, Bool, true, false}
 use Rattle.std.specs.Prelude.{◌==◌, count_by, filter_map}
 use Rattle.std.proofs.lemmas.Bool.{eq-eqb}
 use Rattle.protocol.specs.Limits.{is_number}
@@ -16,28 +16,13 @@ use Rattle.protocol.specs.Learner.{vote_of, latest, votes_at, ripe}
 use Rattle.protocol.specs.Turn.{packet_to, to_others, proposal_to_others, hear}
 use Rattle.protocol.specs.Circuit.{Circuit, Datagram, Offer, State, Carries, seat_at}
 use Rattle.protocol.specs.Fitting.{SpellsWhatFits}
-use Rattle.protocol.specs.Onward.{LeadToRelease, IsBallotOf, SpellsWhatMayBeSaid}
+use Rattle.protocol.specs.Progress.{IsBallotOf, SpellsWhatMayBeSaid}
 use Rattle.protocol.proofs.Below.{at_most_refl, at_most_otherwise, both_at_most}
 use Rattle.protocol.proofs.Places.{among_left, among_split}
 use Rattle.protocol.proofs.Looking.{filter_map_among, among_filter_map, IsTop, greatest_top, greatest_none}
 use Rattle.protocol.proofs.Reading.{is_same-self, is_same-true, below-is, vote_speaks, vote_order, no_majority_of, NoMember, FoundAs, found_member, stands_at, at_ballot, is_ripe}
-use Rattle.protocol.proofs.Going.{Told, Stepped, receive}
+use Rattle.protocol.proofs.OneStep.{Told, Stepped, Serves, still, Reaches, receive}
 use Rattle.protocol.proofs.Replying.{votes, waits, goes_to, unrefused, yes_no, apart, turned, others_say}
-
--- the members of the set are at one version, unarmed and not stopped
-pub record Serves {D G F : Type 0} (z : Circuit D G F) (among : ℕ → Bool) (v : Version) (w : State G F) : Type 0 where
-  pub version : (k : ℕ) → IsMember z.count k → among k ≡ true → w.version k ≡ v
-  pub unarmed : (k : ℕ) → IsMember z.count k → among k ≡ true → w.armed k ≡ None
-  pub going : (k : ℕ) → IsMember z.count k → among k ≡ true → w.is_stopped k ≡ false
-
-pub still :
-    {D G F : Type 0} {z : Circuit D G F} {among : ℕ → Bool} {v : Version} {w after : State G F} {n : ℕ} {entries : Entry → Type 0} {k : ℕ} {row : Row} {marks : List Mark} {out : List Packet} {offers : List Offer}
-    → Stepped z v n entries k row marks out offers w after → Serves z among v w → Serves z among v after
-still st s = record {
-  version = λ k i e. st.version k ∙ s.version k i e;
-  unarmed = λ k i e. st.armed k ∙ s.unarmed k i e;
-  going = λ k i e. st.is_stopped k ∙ s.going k i e;
-}
 
 -- a row that may vote at b: it is not promised above, and has no vote there
 pub record Free (b : Ballot) (row : Row) : Type 0 where
@@ -71,8 +56,12 @@ heard_more n k j b u marks only e =
     heard_tests n j b l.0 (Heard n k b u ∷ marks) only (inr (among_split marks l.1.after l.1.before (Heard n j b l.0) l.1.heard))
 
 module _
-    {D G F : Type 0} (z : Circuit D G F) (fit : SpellsWhatFits z) (among again : ℕ → Bool) (v : Version) (m n : ℕ) (final : List Offer) (entries : Entry → Type 0) (speaks : SpellsWhatMayBeSaid z v entries)
-    (number : is_number n ≡ true) (b : Ballot) (at : IsBallotOf z.count b) (member : IsMember z.count m) (owner : b.owner ≡ m) where
+    {D G F : Type 0} (z : Circuit D G F) (fit : SpellsWhatFits z) (among again : ℕ → Bool) (v : Version) (m n : ℕ) (final : List Offer)
+    (entries : Entry → Type 0) (speaks : SpellsWhatMayBeSaid z v entries) (limit : ℕ)
+    (number : is_number n ≡ true) (b : Ballot) (at : IsBallotOf z.count b) (member : IsMember z.count m) (owner : b.owner ≡ m) (low : b.round ≤ limit) where
+  abbrev Goal : State G F → Type 0
+  Goal w = Reaches z among again v m n final limit w
+
   abbrev Leaves : ℕ → Row → List Mark → List Packet → State G F → State G F → Type 0
   Leaves k row marks out w after = Stepped z v n entries k row marks out w.offers w after
 
@@ -81,7 +70,7 @@ module _
     pub known : Told z n entries w
     pub settled : w.offers ≡ final
     pub said : entries entry
-    pub serves : Serves z among v w
+    pub serves : Serves z among v n limit w
     pub unreleased : was_released n (w.marks m) ≡ false
     pub only : (j : ℕ) → IsMember z.count j → among j ≡ true → (a : Ballot) (u : Entry) → IsAmong (w.marks m) (Heard n j a u) → IsAtMost a b
     pub unripe : ripe z.count n (w.marks m) ≡ None
@@ -91,7 +80,7 @@ module _
 
   -- an entry is proposed
   pub proposed :
-      (now : ℕ) (entry : Entry) (base : List Mark) (w after : State G F) (offers : List Offer) → entries entry → offers ≡ final → Serves z among v w
+      (now : ℕ) (entry : Entry) (base : List Mark) (w after : State G F) (offers : List Offer) → entries entry → offers ≡ final → Serves z among v n limit w
       → Stepped z v n entries m (voted b entry) (hear z.count n m b entry (Proposed n b now ∷ base)).marks (proposal_to_others (seat_at z m) n b entry) offers w after
       → (hear z.count n m b entry (Proposed n b now ∷ base)).release ≡ None
       → among m ≡ true → was_released n base ≡ false → ((j : ℕ) → IsMember z.count j → among j ≡ true → (a : Ballot) (u : Entry) → IsAmong base (Heard n j a u) → IsAtMost a b)
@@ -104,7 +93,7 @@ module _
         known = st.told;
         settled = st.offers_are ∙ settled;
         said = said;
-        serves = still st serves;
+        serves = still st serves low;
         unreleased = subst (λ (l : List Mark). was_released n l ≡ false) (sym marks) unreleased;
         only = λ j i' e' a u i. only j i' e' a u (subst (λ (l : List Mark). IsAmong l (Heard n j a u)) marks i);
         unripe = subst (λ (l : List Mark). ripe z.count n l ≡ None) (sym marks) x.1;
@@ -143,36 +132,36 @@ module _
   one_votes :
       (entry : Entry) (w : State G F) → Voting entry w → (k : ℕ) → IsMember z.count k → among k ≡ true → among m ≡ true → votes_at b (latest n (w.marks m) k) ≡ false
       → ((after : State G F) → Voting entry after → votes_at b (latest n (after.marks m) k) ≡ true
-      → ((j : ℕ) → IsMember z.count j → among j ≡ true → votes_at b (latest n (w.marks m) j) ≡ true → votes_at b (latest n (after.marks m) j) ≡ true) → LeadToRelease z among again m n final after)
-      → LeadToRelease z among again m n final w
+      → ((j : ℕ) → IsMember z.count j → among j ≡ true → votes_at b (latest n (w.marks m) j) ≡ true → votes_at b (latest n (after.marks m) j) ≡ true) → Goal after)
+      → Goal w
   one_votes entry w g k i e in_it unheard rest =
       let other : (k == m) ≡ false = apart k m (λ f. yes_no (votes_at b (latest n (w.marks m) k)) unheard (subst (λ (j : ℕ). votes_at b (latest n (w.marks m) j) ≡ true) (sym f) g.mine)) in
       let p : Packet = packet_to (seat_at z m) n b (Accept entry) k in
       let (d, sent, c) = g.told k i other in
       let f = g.free k i e unheard in
-      receive z fit among again v m n final entries speaks w g.known k p d _ i e (g.serves.version k i e) (g.serves.unarmed k i e) (g.serves.going k i e) sent c refl refl
+      receive z fit among again v m n final entries speaks limit w g.known g.serves k p d _ i e sent c refl refl
       (unrefused z.number z.count m k n b (Accept entry) member.1 at.owner.1 refl)
       (votes (seat_at z k) (w.marks k) (w.rows k n) p entry f.unpromised f.unvoted)
-      g.settled
+      low g.settled
       (λ voted q j. others_say z entries k n b (Accepted entry) i number at (λ x. g.said) q j)
       (λ w1 st none. second other w1 st)
     where
-      second : (k == m) ≡ false → (w1 : State G F) → Leaves k (voted b entry) (hear z.count n k b entry (w.marks k)).marks (to_others (seat_at z k) n b (Accepted entry)) w w1 → LeadToRelease z among again m n final w1
+      second : (k == m) ≡ false → (w1 : State G F) → Leaves k (voted b entry) (hear z.count n k b entry (w.marks k)).marks (to_others (seat_at z k) n b (Accepted entry)) w w1 → Goal w1
       second other w1 st =
           let back : (m == k) ≡ false = turned k m other in
           let q : Packet = packet_to (seat_at z k) n b (Accepted entry) m in
           let (d, sent, c) = st.went q (goes_to (seat_at z k) n b (Accepted entry) m member back) in
-          let s1 = still st g.serves in
+          let s1 = still st g.serves low in
           let same : w1.marks m ≡ w.marks m = st.marks_other m back in
-          receive z fit among again v m n final entries speaks w1 st.told m q d _ member in_it (s1.version m member in_it) (s1.unarmed m member in_it) (s1.going m member in_it) sent c refl refl
+          receive z fit among again v m n final entries speaks limit w1 st.told s1 m q d _ member in_it sent c refl refl
           (unrefused z.number z.count k m n b (Accepted entry) i.1 at.owner.1 refl)
           refl
-          (st.offers_are ∙ g.settled)
+          (s1.rounds m member in_it) (st.offers_are ∙ g.settled)
           (λ voted x j. absurd j)
           (λ w2 st2 none. third other w1 st same w2 st2 (none refl))
         where
           third : (k == m) ≡ false → (w1 : State G F) → Leaves k (voted b entry) (hear z.count n k b entry (w.marks k)).marks (to_others (seat_at z k) n b (Accepted entry)) w w1 → w1.marks m ≡ w.marks m
-              → (w2 : State G F) → Leaves m (w1.rows m n) (hear z.count n k b entry (w1.marks m)).marks [] w1 w2 → (hear z.count n k b entry (w1.marks m)).release ≡ None → LeadToRelease z among again m n final w2
+              → (w2 : State G F) → Leaves m (w1.rows m n) (hear z.count n k b entry (w1.marks m)).marks [] w1 w2 → (hear z.count n k b entry (w1.marks m)).release ≡ None → Goal w2
           third other w1 st same w2 st2 none =
               let x = waits z.count n k b entry (w1.marks m) (subst (λ (l : List Mark). was_released n l ≡ false) (sym same) g.unreleased) none in
               let marks : w2.marks m ≡ Heard n k b entry ∷ w.marks m = st2.marks_are ∙ x.0 ∙ ap (λ (l : List Mark). Heard n k b entry ∷ l) same in
@@ -184,7 +173,7 @@ module _
                 known = st2.told;
                 settled = st2.offers_are ∙ st.offers_are ∙ g.settled;
                 said = g.said;
-                serves = still st2 (still st g.serves);
+                serves = still st2 (still st g.serves low) ((still st g.serves low).rounds m member in_it);
                 unreleased = subst (λ (l : List Mark). was_released n l ≡ false) (sym marks) g.unreleased;
                 only = λ j i' e' a u i. only j i' e' a u (subst (λ (l : List Mark). IsAmong l (Heard n j a u)) marks i);
                 unripe = subst (λ (l : List Mark). ripe z.count n l ≡ None) (sym (st2.marks_are ∙ x.0)) x.1;
@@ -217,13 +206,13 @@ module _
   pub all_vote :
       (many : z.count < 2 * count_by among (members z.count)) (in_it : among m ≡ true) (entry : Entry) (rest : List ℕ) (w : State G F) → Voting entry w
       → ((k : ℕ) → IsAmong rest k → IsMember z.count k)
-      → ((k : ℕ) → IsMember z.count k → among k ≡ true → (votes_at b (latest n (w.marks m) k) ≡ true) ⊎ IsAmong rest k) → LeadToRelease z among again m n final w
+      → ((k : ℕ) → IsMember z.count k → among k ≡ true → (votes_at b (latest n (w.marks m) k) ≡ true) ⊎ IsAmong rest k) → Goal w
   all_vote many in_it entry [] w g inside left = absurd (not_all many entry w g (λ k i e. elim (left k i e) [ inl t ↦ t | inr none ↦ absurd none ]))
   all_vote many in_it entry (k ∷ rest) w g inside left = go (among k) refl (votes_at b (latest n (w.marks m) k)) refl (λ after x y. all_vote many in_it entry rest after x (λ j i. inside j (inr i)) y)
     where
       go : (s : Bool) → among k ≡ s → (t : Bool) → votes_at b (latest n (w.marks m) k) ≡ t
-          → ((after : State G F) → Voting entry after → ((j : ℕ) → IsMember z.count j → among j ≡ true → (votes_at b (latest n (after.marks m) j) ≡ true) ⊎ IsAmong rest j) → LeadToRelease z among again m n final after)
-          → LeadToRelease z among again m n final w
+          → ((after : State G F) → Voting entry after → ((j : ℕ) → IsMember z.count j → among j ≡ true → (votes_at b (latest n (after.marks m) j) ≡ true) ⊎ IsAmong rest j) → Goal after)
+          → Goal w
       go false e t f on = on w g (λ j i x. elim (left j i x) [ inl y ↦ inl y | inr y ↦ elim y [ inl same ↦ absurd (yes_no (among k) e (subst (λ (q : ℕ). among q ≡ true) same x)) | inr z ↦ inr z ] ])
       go true e true f on = on w g (λ j i x. elim (left j i x) [ inl y ↦ inl y | inr y ↦ elim y [ inl same ↦ inl (subst (λ (q : ℕ). votes_at b (latest n (w.marks m) q) ≡ true) (sym same) f) | inr z ↦ inr z ] ])
       go true e false f on =

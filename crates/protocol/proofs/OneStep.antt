@@ -1,5 +1,5 @@
 -- One step of a member on the way to a release, and what it leaves in each place.
-use Rattle.std.proofs.Common.{◌≡◌, ℕ, ◌⊎◌, zero, suc, inl, inr, refl, sym, ap, subst, ◌∙◌, arith, List, [], ◌∷◌, ◌++◌, Option, Some, None, append_assoc, append-nil, Bool, true, false}
+use Rattle.std.proofs.Common.{◌≡◌, ℕ, ◌⊎◌, ◌≤◌, zero, suc, inl, inr, refl, sym, ap, subst, ◌∙◌, arith, List, [], ◌∷◌, ◌++◌, Option, Some, None, append_assoc, append-nil, Bool, true, false}
 use Rattle.std.specs.Prelude.{◌==◌, ◌-◌, slice_get, Ok}
 use Rattle.std.specs.List.{AllZip}
 use Rattle.std.proofs.lemmas.Bool.{ne_eqb, eqb-true, eqb-false}
@@ -15,12 +15,12 @@ use Rattle.protocol.specs.Refusals.{Call, Receiving, packet_refusal, early_refus
 use Rattle.protocol.specs.Circuit.{Circuit, hears, Datagram, Offer, Release, State, IsSameState, Step, Delivers, Restarts, Done, Torn_by_store, Restarted, Carries, Task, IsTask, datagram_at, delivery, seat_at, setup_of, with_at, saved, offers_with, releases_with, MayLeave, at_save, StepsTo, is_done, is_torn, restarts, History, goes_on}
 use Rattle.protocol.specs.Agreement.{WasOffered}
 use Rattle.protocol.specs.Fitting.{BodyFits, SpellsWhatFits}
-use Rattle.protocol.specs.Onward.{is_there, takes_turn, starts_again, Leads, release_of, LeadToRelease, MaySay, SpellsWhatMayBeSaid}
+use Rattle.protocol.specs.Progress.{is_there, takes_turn, starts_again, Leads, release_of, round_of, CanRelease, MaySay, SpellsWhatMayBeSaid}
 use Rattle.protocol.proofs.Places.{with_at-same, saved-same, among-append, among_left, among_right}
 use Rattle.protocol.proofs.Steps.{heard_here}
 use Rattle.protocol.proofs.Agreements.{votes_are_offered}
 use Rattle.protocol.proofs.Holding.{first_none, taken_fits, history_fits}
-use Rattle.protocol.proofs.Strangers.{was_held}
+use Rattle.protocol.proofs.Voters.{was_held}
 
 pub same : {G F : Type 0} (w : State G F) → IsSameState w w
 same w = record { version = λ m. refl; rows = λ m n. refl; marks = λ m. refl; is_stopped = λ m. refl; armed = λ m. refl; sent = refl; offers = refl; releases = refl }
@@ -89,7 +89,43 @@ pub record Renewed {D G F : Type 0} (z : Circuit D G F) (n : ℕ) (entries : Ent
   pub goes_other : (j : ℕ) → w.is_stopped j ≡ false → after.is_stopped j ≡ false
   pub offers : after.offers ≡ w.offers
 
-module _ {D G F : Type 0} (z : Circuit D G F) (fit : SpellsWhatFits z) (among again : ℕ → Bool) (v : Version) (m n : ℕ) (final : List Offer) (entries : Entry → Type 0) (speaks : SpellsWhatMayBeSaid z v entries) where
+-- the members of the set are at one version, unarmed and not stopped, and no promise of theirs for n is of a round above the limit
+pub record Serves {D G F : Type 0} (z : Circuit D G F) (among : ℕ → Bool) (v : Version) (n limit : ℕ) (w : State G F) : Type 0 where
+  pub version : (k : ℕ) → IsMember z.count k → among k ≡ true → w.version k ≡ v
+  pub unarmed : (k : ℕ) → IsMember z.count k → among k ≡ true → w.armed k ≡ None
+  pub going : (k : ℕ) → IsMember z.count k → among k ≡ true → w.is_stopped k ≡ false
+  pub rounds : (k : ℕ) → IsMember z.count k → among k ≡ true → round_of (w.rows k n).promised ≤ limit
+
+-- so they stay at a turn that promises no higher round
+pub still :
+    {D G F : Type 0} {z : Circuit D G F} {among : ℕ → Bool} {v : Version} {limit : ℕ} {w after : State G F} {n : ℕ}
+    {entries : Entry → Type 0} {k : ℕ} {row : Row} {marks : List Mark} {out : List Packet} {offers : List Offer}
+    → Stepped z v n entries k row marks out offers w after → Serves z among v n limit w → round_of row.promised ≤ limit
+    → Serves z among v n limit after
+still {z = z} {among = among} {limit = limit} {after = after} {n = n} {k = k} st s low = record {
+  version = λ j i e. st.version j ∙ s.version j i e;
+  unarmed = λ j i e. st.armed j ∙ s.unarmed j i e;
+  going = λ j i e. st.is_stopped j ∙ s.going j i e;
+  rounds = λ j i e. rounds j i e (j == k) refl;
+}
+  where
+    rounds : (j : ℕ) → IsMember z.count j → among j ≡ true → (t : Bool) → (j == k) ≡ t → round_of (after.rows j n).promised ≤ limit
+    rounds j i e true f =
+        subst (λ (x : ℕ). round_of (after.rows x n).promised ≤ limit) (sym (eqb-true j k f))
+        (subst (λ (q : Row). round_of q.promised ≤ limit) (sym st.row_is) low)
+    rounds j i e false f = subst (λ (q : Row). round_of q.promised ≤ limit) (sym (st.row_other j f)) (s.rounds j i e)
+
+-- m can come to release n, and after that the members of the set still serve
+pub record Reaches {D G F : Type 0} (z : Circuit D G F) (among again : ℕ → Bool) (v : Version) (m n : ℕ) (offers : List Offer) (limit : ℕ) (w : State G F) : Type 0 where
+  pub can : CanRelease z among again m n offers w
+  pub serves : Serves z among v n limit can.after
+
+module _
+    {D G F : Type 0} (z : Circuit D G F) (fit : SpellsWhatFits z) (among again : ℕ → Bool) (v : Version) (m n : ℕ) (final : List Offer)
+    (entries : Entry → Type 0) (speaks : SpellsWhatMayBeSaid z v entries) (limit : ℕ) where
+  abbrev Goal : State G F → Type 0
+  Goal w = Reaches z among again v m n final limit w
+
   -- datagrams for packets that may be said
   spelled : (ps : List Packet) → ((p : Packet) → IsAmong ps p → MaySay z entries p) → ((p : Packet) → IsAmong ps p → BodyFits v p.body) → (out : List Datagram) × AllZip (Carries z v) ps out
   spelled [] says fits = ([], tt)
@@ -111,16 +147,23 @@ module _ {D G F : Type 0} (z : Circuit D G F) (fit : SpellsWhatFits z) (among ag
 
   -- a member takes a turn: it releases the number, or goes on from what the turn leaves. What the turn votes for was offered
   pub take :
-      (w : State G F) → Told z n entries w
+      (w : State G F) → Told z n entries w → Serves z among v n limit w
       → (s : Step) (k : ℕ) (call : Call) (e : Event) (t : Turn) → IsTask w.sent s k call → IsMember z.count k → among k ≡ true
       → refusal (setup_of z (w.version k) k) (w.is_stopped k) (w.marks k) call ≡ None
       → event_of (setup_of z (w.version k) k) (w.marks k) call ≡ Some e → number_of e ≡ n
-      → turn (seat_at z k) (w.marks k) (w.rows k n) e ≡ Some t → w.version k ≡ v → w.armed k ≡ None → Brings entries e → ((u : Entry) → t.release ≡ Some u → offers_with w.offers k e ≡ final)
+      → turn (seat_at z k) (w.marks k) (w.rows k n) e ≡ Some t → round_of t.row.promised ≤ limit → Brings entries e
+      → ((u : Entry) → t.release ≡ Some u → offers_with w.offers k e ≡ final)
       → (((u : Vote) → t.row.vote ≡ Some u → ¬ (t.row ≡ w.rows k n) → entries u.entry) → (p : Packet) → IsAmong t.out p → MaySay z entries p)
-      → ((after : State G F) → Stepped z v n entries k t.row t.marks t.out (offers_with w.offers k e) w after → (k ≡ m → t.release ≡ None) → LeadToRelease z among again m n final after)
-      → LeadToRelease z among again m n final w
-  take w told s k call e t task member in_it free event number taken version unarmed brings settled says rest = go t.release refl
+      → ((after : State G F) → Stepped z v n entries k t.row t.marks t.out (offers_with w.offers k e) w after → (k ≡ m → t.release ≡ None) → Goal after)
+      → Goal w
+  take w told serves s k call e t task member in_it free event number taken low brings settled says rest = go t.release refl
     where
+      version : w.version k ≡ v
+      version = serves.version k member in_it
+
+      unarmed : w.armed k ≡ None
+      unarmed = serves.unarmed k member in_it
+
       taken_so : turn (seat_at z k) (w.marks k) (w.rows k (number_of e)) e ≡ Some t
       taken_so = subst (λ (x : ℕ). turn (seat_at z k) (w.marks k) (w.rows k x) e ≡ Some t) (sym number) taken
 
@@ -183,10 +226,11 @@ module _ {D G F : Type 0} (z : Circuit D G F) (fit : SpellsWhatFits z) (among ag
       begins : Leads z among again after w
       begins = takes_turn s k call t.note task in_it step (is_there refl)
 
-      go : (r : Option Entry) → t.release ≡ r → LeadToRelease z among again m n final w
+      go : (r : Option Entry) → t.release ≡ r → Goal w
       go None f =
-          let to = rest after stepped (λ is_m. f) in
-          record {
+          let reached = rest after stepped (λ is_m. f) in
+          let to = reached.can in
+          record { serves = reached.serves; can = record {
             after = to.after;
             leads = takes_turn s k call t.note task in_it step to.leads;
             entry = to.entry;
@@ -194,7 +238,7 @@ module _ {D G F : Type 0} (z : Circuit D G F) (fit : SpellsWhatFits z) (among ag
             are_theirs = to.are_theirs;
             offers_are = to.offers_are;
             released = to.released ∙ ap (λ (r : Option Entry). releases_with z w.releases k (number_of e) r ++ to.on_the_way ++ release_of z m n to.entry ∷ []) f;
-          }
+          } }
       go (Some u) f = mine (k == m) refl
         where
           now : releases_with z w.releases k (number_of e) t.release ≡ w.releases ++ release_of z k n u ∷ []
@@ -204,8 +248,8 @@ module _ {D G F : Type 0} (z : Circuit D G F) (fit : SpellsWhatFits z) (among ag
           theirs more h x (inl it) = (subst (λ (y : Release G F). among y.member ≡ true) (sym it) in_it, ap (λ (y : Release G F). y.number) it)
           theirs more h x (inr i) = h x i
 
-          mine : (b : Bool) → (k == m) ≡ b → LeadToRelease z among again m n final w
-          mine true is_m = record {
+          mine : (b : Bool) → (k == m) ≡ b → Goal w
+          mine true is_m = record { serves = still stepped serves low; can = record {
             after = after;
             leads = begins;
             entry = u;
@@ -213,10 +257,11 @@ module _ {D G F : Type 0} (z : Circuit D G F) (fit : SpellsWhatFits z) (among ag
             are_theirs = λ x i. absurd i;
             offers_are = settled u f;
             released = now ∙ ap (λ (x : ℕ). w.releases ++ release_of z x n u ∷ []) (eqb-true k m is_m) ∙ ap (λ (l : List (Release G F)). l ++ release_of z m n u ∷ []) (sym (append-nil w.releases));
-          }
+          } }
           mine false other =
-              let to = rest after stepped (λ is_m. absurd (eqb-false k m other is_m)) in
-              record {
+              let reached = rest after stepped (λ is_m. absurd (eqb-false k m other is_m)) in
+              let to = reached.can in
+              record { serves = reached.serves; can = record {
                 after = to.after;
                 leads = takes_turn s k call t.note task in_it step to.leads;
                 entry = to.entry;
@@ -224,25 +269,26 @@ module _ {D G F : Type 0} (z : Circuit D G F) (fit : SpellsWhatFits z) (among ag
                 are_theirs = theirs to.on_the_way to.are_theirs;
                 offers_are = to.offers_are;
                 released = to.released ∙ ap (λ (l : List (Release G F)). l ++ to.on_the_way ++ release_of z m n to.entry ∷ []) now ∙ ap (λ (l : List (Release G F)). l ++ release_of z m n to.entry ∷ []) (append_assoc w.releases (release_of z k n u ∷ []) to.on_the_way);
-              }
+              } }
 
   -- a member gets a datagram that was sent
   pub receive :
-      (w : State G F) → Told z n entries w
+      (w : State G F) → Told z n entries w → Serves z among v n limit w
       → (k : ℕ) (p : Packet) (d : Datagram) (t : Turn) → IsMember z.count k → among k ≡ true
-      → w.version k ≡ v → w.armed k ≡ None → w.is_stopped k ≡ false
       → IsAmong w.sent d → Carries z v p d → p.to ≡ k → p.number ≡ n
       → packet_refusal {D = D} {F = F} (seat_at z k) p ≡ None
-      → packet_turn (seat_at z k) 0 (w.marks k) (w.rows k n) p p.body ≡ t → w.offers ≡ final
+      → packet_turn (seat_at z k) 0 (w.marks k) (w.rows k n) p p.body ≡ t → round_of t.row.promised ≤ limit → w.offers ≡ final
       → (((u : Vote) → t.row.vote ≡ Some u → ¬ (t.row ≡ w.rows k n) → entries u.entry) → (q : Packet) → IsAmong t.out q → MaySay z entries q)
-      → ((after : State G F) → Stepped z v n entries k t.row t.marks t.out w.offers w after → (k ≡ m → t.release ≡ None) → LeadToRelease z among again m n final after)
-      → LeadToRelease z among again m n final w
-  receive w told k p d t member in_it version unarmed going sent carries to number unrefused taken settled says rest =
+      → ((after : State G F) → Stepped z v n entries k t.row t.marks t.out w.offers w after → (k ≡ m → t.release ≡ None) → Goal after)
+      → Goal w
+  receive w told serves k p d t member in_it sent carries to number unrefused taken low settled says rest =
+      let version : w.version k ≡ v = serves.version k member in_it in
+      let going : w.is_stopped k ≡ false = serves.going k member in_it in
       let (i, place) = datagram_place w.sent d sent in
       let heard : hears z (w.version k) d.bytes ≡ Ok p = subst (λ (x : Version). hears z x d.bytes ≡ Ok p) (sym version) (heard_here z v d.bytes p carries.1) in
       let task : IsTask w.sent (Delivers i 0) k (Receiving d.bytes 0) =
       ap (λ (o : Option Datagram). delivery o 0) place ∙ ap (λ (x : ℕ). Some (task_for x d)) (carries.0 ∙ to) in
-      take w told (Delivers i 0) k (Receiving d.bytes 0) (Arrived p 0) t task member in_it (rw (going, heard, unrefused) refl) (rw heard refl) number (ap Some taken) version unarmed tt (λ u f. settled) says rest
+      take w told serves (Delivers i 0) k (Receiving d.bytes 0) (Arrived p 0) t task member in_it (rw (going, heard, unrefused) refl) (rw heard refl) number (ap Some taken) low tt (λ u f. settled) says rest
     where
       task_for : ℕ → Datagram → Task
       task_for x d = record { member = x; call = Receiving d.bytes 0 }
@@ -250,11 +296,12 @@ module _ {D G F : Type 0} (z : Circuit D G F) (fit : SpellsWhatFits z) (among ag
   -- a member starts again
   pub restart :
       (w : State G F) → Told z n entries w → (k : ℕ) → IsMember z.count k → among k ≡ true → (w.is_stopped k ≡ true) ⊎ (again k ≡ true)
-      → ((after : State G F) → Renewed z n entries k w after → LeadToRelease z among again m n final after)
-      → LeadToRelease z among again m n final w
+      → ((after : State G F) → Renewed z n entries k w after → Goal after)
+      → Goal w
   restart w told k member in_it why rest =
-      let to = rest after renewed in
-      record {
+      let reached = rest after renewed in
+      let to = reached.can in
+      record { serves = reached.serves; can = record {
         after = to.after;
         leads = starts_again k in_it why step to.leads;
         entry = to.entry;
@@ -262,7 +309,7 @@ module _ {D G F : Type 0} (z : Circuit D G F) (fit : SpellsWhatFits z) (among ag
         are_theirs = to.are_theirs;
         offers_are = to.offers_are;
         released = to.released;
-      }
+      } }
     where
       after : State G F
       after = record w { marks = with_at w.marks k []; is_stopped = with_at w.is_stopped k false }
