@@ -56,7 +56,8 @@ module _
   Beginning r w = waking.Beginning z fit among again v m n final entries speaks limit high number member many in_it initial own asking Voted own_or_voted r w
 
   abbrev Waking : ℕ → List ℕ → State G F → Type 0
-  Waking r rest w = waking.Waking z fit among again v m n final entries speaks limit high number member many in_it initial own asking Voted own_or_voted r rest w
+  Waking r rest w =
+      waking.Waking z fit among again v m n final entries speaks limit high number member many in_it initial own asking Voted own_or_voted r rest w
 
   goes_through : (r : ℕ) (w : State G F) → Set r w → Beginning r w → r < limit → Goal w
   goes_through = waking.goes_through z fit among again v m n final entries speaks limit high number member many in_it initial own asking Voted own_or_voted
@@ -112,7 +113,9 @@ module _
     unrefused = rw (g.serves.going m member in_it) refl;
     brings_it = ap (λ (l : List Mark). due_event (next_due m now l) now) at_marks ∙ ap (λ (o : Option ℕ). due_event o now) (only_due m n now marks due closed);
     number_is = refl;
-    turns = ap (λ (l : List Mark). turn (seat_at z m) l (w.rows m n) (Came_due n now)) at_marks ∙ taken ∙ ap (λ (l : List Mark). Some (begin (seat_at z m) n (record { round = suc r; owner = m }) own now l (w.rows m n))) (sym at_marks);
+    turns =
+        ap (λ (l : List Mark). turn (seat_at z m) l (w.rows m n) (Came_due n now)) at_marks ∙ taken
+        ∙ ap (λ (l : List Mark). Some (begin (seat_at z m) n (record { round = suc r; owner = m }) own now l (w.rows m n))) (sym at_marks);
     brings = tt;
     settles = offers;
   }
@@ -132,7 +135,9 @@ module _
       next_is_so : next_ballot m n marks (w.rows m n) ≡ Some (record { round = suc r; owner = m })
       next_is_so = rw (one, denied_so) nexts
 
-      taken : turn (seat_at z m) marks (w.rows m n) (Came_due n now) ≡ Some (begin (seat_at z m) n (record { round = suc r; owner = m }) own now marks (w.rows m n))
+      taken :
+          turn (seat_at z m) marks (w.rows m n) (Came_due n now) ≡ Some
+          (begin (seat_at z m) n (record { round = suc r; owner = m }) own now marks (w.rows m n))
       taken =
           ap (λ (x : Option Opening). Some (due_turn (seat_at z m) n now marks (w.rows m n) x)) opens
           ∙ ap (λ (t : Bool). Some (if t then renew (seat_at z m) n now o marks (w.rows m n) (next_ballot m n marks (w.rows m n)) else stays (w.rows m n) marks Note_idle)) is_now
@@ -164,7 +169,8 @@ module _
       votes j voted false e = subst (λ (q : Row). (u : Vote) × (q.vote ≡ Some u)) (sym (st.row_other j e)) (g.has_vote j voted)
 
       rounds : (j : ℕ) → IsMember z.count j → among j ≡ true → (t : Bool) → (j == k) ≡ t → round_of (after.rows j n).promised ≤ r
-      rounds j i f true e = subst (λ (y : ℕ). round_of (after.rows y n).promised ≤ r) (sym (eqb-true j k e)) (subst (λ (q : Row). round_of q.promised ≤ r) (sym st.row_is) low)
+      rounds j i f true e =
+          subst (λ (y : ℕ). round_of (after.rows y n).promised ≤ r) (sym (eqb-true j k e)) (subst (λ (q : Row). round_of q.promised ≤ r) (sym st.row_is) low)
       rounds j i f false e = subst (λ (q : Row). round_of q.promised ≤ r) (sym (st.row_other j e)) (g.rounds j i f)
 
   -- one of the set, k, is promised at round r, above the proposer's own: that begins below, is denied by k where r leaves a round between,
@@ -244,7 +250,9 @@ module _
           nat_cases a c = grind arith
 
           set1 : Set r w1
-          set1 = set_on r m (raised row b) marks (to_others (seat_at z m) n b Prepare) (offers_with w.offers m asking.event) w w1 g.is_set st below refl (omega arith) (λ f. g.is_set.unreleased)
+          set1 =
+              set_on r m (raised row b) marks (to_others (seat_at z m) n b Prepare) (offers_with w.offers m asking.event) w w1 g.is_set st below refl
+              (omega arith) (λ f. g.is_set.unreleased)
 
           settled : w1.offers ≡ final
           settled = st.offers_are ∙ be.settles
@@ -292,13 +300,17 @@ module _
               ballot : IsBallotOf z.count a
               ballot = record { round_low = good.0; round_high = reach (let x : a.round ≡ r = round in omega arith); owner = good.1 }
 
-              told : suc s < r → (a : Ballot) → (w.rows k n).promised ≡ Some a → (w2 : State G F) → Leaves k (w1.rows k n) (w1.marks k) (packet_to (seat_at z k) n b (Nack a) m ∷ []) w1 w2 → Goal w2
+              told :
+                  suc s < r → (a : Ballot) → (w.rows k n).promised ≡ Some a → (w2 : State G F)
+                  → Leaves k (w1.rows k n) (w1.marks k) (packet_to (seat_at z k) n b (Nack a) m ∷ []) w1 w2 → Goal w2
               told l a is w2 st2 =
                   let back : (m == k) ≡ false = turned k m other in
                   let q : Packet = packet_to (seat_at z k) n b (Nack a) m in
                   let (d, sent, c) = st2.went q (inl refl) in
                   let marks2 : w2.marks m ≡ marks = st2.marks_other m back ∙ st.marks_are in
-                  let set2 : Set r w2 = set_on r k (w1.rows k n) (w1.marks k) (packet_to (seat_at z k) n b (Nack a) m ∷ []) w1.offers w1 w2 set1 st2 below refl (set1.rounds k i e) (λ f. subst (λ (x : ℕ). was_released n (w1.marks x) ≡ false) (sym f) set1.unreleased) in
+                  let set2 : Set r w2 =
+                  set_on r k (w1.rows k n) (w1.marks k) (packet_to (seat_at z k) n b (Nack a) m ∷ []) w1.offers w1 w2 set1 st2 below refl
+                  (set1.rounds k i e) (λ f. subst (λ (x : ℕ). was_released n (w1.marks x) ≡ false) (sym f) set1.unreleased) in
                   receive z fit among again v m n final entries speaks limit w2 st2.told set2.serves m q d _ member in_it sent c refl refl
                   (unrefused z.number z.count k m n b (Nack a) i.1 at.owner.1 (le-ltb z.count a.owner (saved_promise_rises z g.is_set.known.history k n a is).1.1))
                   (denies (seat_at z m) (w2.marks m) (w2.rows m n) q a (record { ballot = b; own = own; report = row.vote; now = 0 })
@@ -308,12 +320,17 @@ module _
                   (λ votes x j. absurd j)
                   (λ w3 st3 none. last l a is w2 st2 marks2 set2 w3 st3)
                 where
-                  last : suc s < r → (a : Ballot) → (w.rows k n).promised ≡ Some a → (w2 : State G F) → Leaves k (w1.rows k n) (w1.marks k) (packet_to (seat_at z k) n b (Nack a) m ∷ []) w1 w2
+                  last :
+                      suc s < r → (a : Ballot) → (w.rows k n).promised ≡ Some a → (w2 : State G F)
+                      → Leaves k (w1.rows k n) (w1.marks k) (packet_to (seat_at z k) n b (Nack a) m ∷ []) w1 w2
                       → w2.marks m ≡ marks → Set r w2 → (w3 : State G F) → Leaves m (w2.rows m n) (Denied n a ∷ w2.marks m) [] w2 w3 → Goal w3
                   last l a is w2 st2 marks2 set2 w3 st3 =
                       let marks3 : w3.marks m ≡ Denied n a ∷ marks = st3.marks_are ∙ ap (λ (x : List Mark). Denied n a ∷ x) marks2 in
-                      let set3 : Set r w3 = set_on r m (w2.rows m n) (Denied n a ∷ w2.marks m) [] w2.offers w2 w3 set2 st3 below refl (set2.rounds m member in_it) (λ f. set2.unreleased) in
-                      let promised3 : (w3.rows m n).promised ≡ Some b = ap (λ (x : Row). x.promised) (st3.row_is ∙ st2.row_other m (turned k m other)) ∙ promised in
+                      let set3 : Set r w3 =
+                      set_on r m (w2.rows m n) (Denied n a ∷ w2.marks m) [] w2.offers w2 w3 set2 st3 below refl (set2.rounds m member in_it)
+                      (λ f. set2.unreleased) in
+                      let promised3 : (w3.rows m n).promised ≡ Some b =
+                      ap (λ (x : Row). x.promised) (st3.row_is ∙ st2.row_other m (turned k m other)) ∙ promised in
                       let above_b : is_below b a ≡ true = over a (subst (λ (x : Option Ballot). round_of x ≡ r) is at_r) in
                       goes_through r w3 set3
                       (falls_due s r w3 row.vote (Denied n a ∷ marks) (Some a) set3 (st3.offers_are ∙ st2.offers_are ∙ settled) marks3

@@ -22,6 +22,7 @@ pub mod Holding
 pub mod Rehearsing
 pub mod Contending
 pub mod Tearing
+pub mod Missing
 pub mod Upgrading
 pub mod Withdrawing
 pub mod Voters
@@ -35,3 +36,4 @@ pub mod Rounds
 pub mod Waking
 pub mod Denial
 pub mod Progress
+pub mod Everywhere

@@ -25,7 +25,9 @@ unbegun n (Denied k p ∷ xs) r o = unbegun n xs r o
 unbegun n (Heard k m b entry ∷ xs) r o = unbegun n xs r o
 unbegun n (Began k b own report now ∷ xs) r o = go (k == n) refl (unbegun n xs r)
   where
-    go : (t : Bool) → (k == n) ≡ t → (open_proposal n xs ≡ None → has (begins n) (since_end n xs) ≡ false) → has (begins n) (since_end n (Began k b own report now ∷ xs)) ≡ false
+    go :
+        (t : Bool) → (k == n) ≡ t → (open_proposal n xs ≡ None → has (begins n) (since_end n xs) ≡ false)
+        → has (begins n) (since_end n (Began k b own report now ∷ xs)) ≡ false
     go true e rest =
         let p : Opening = record { ballot = b; own = own; report = report; now = now } in
         let no : Some p ≡ None = rw r at (rw e at o) in
@@ -33,12 +35,16 @@ unbegun n (Began k b own report now ∷ xs) r o = go (k == n) refl (unbegun n xs
     go false e rest = rw e (rest (rw e at o))
 unbegun n (Closed k ∷ xs) r o = go (k == n) refl (unbegun n xs r)
   where
-    go : (t : Bool) → (k == n) ≡ t → (open_proposal n xs ≡ None → has (begins n) (since_end n xs) ≡ false) → has (begins n) (since_end n (Closed k ∷ xs)) ≡ false
+    go :
+        (t : Bool) → (k == n) ≡ t → (open_proposal n xs ≡ None → has (begins n) (since_end n xs) ≡ false)
+        → has (begins n) (since_end n (Closed k ∷ xs)) ≡ false
     go true e rest = rw e refl
     go false e rest = rw e (rest (rw e at o))
 unbegun n (Released k u ∷ xs) r o = go (k == n) refl (λ r o. unbegun n xs r o)
   where
-    go : (t : Bool) → (k == n) ≡ t → (was_released n xs ≡ false → open_proposal n xs ≡ None → has (begins n) (since_end n xs) ≡ false) → has (begins n) (since_end n (Released k u ∷ xs)) ≡ false
+    go :
+        (t : Bool) → (k == n) ≡ t → (was_released n xs ≡ false → open_proposal n xs ≡ None → has (begins n) (since_end n xs) ≡ false)
+        → has (begins n) (since_end n (Released k u ∷ xs)) ≡ false
     go true e rest = rw e refl
     go false e rest = rw e (rest (rw e at r) (rw e at o))
 
@@ -71,7 +77,8 @@ module _ (n : ℕ) (b : Ballot) (own : Option Entry) (report : Option Vote) (now
 
   one_begun : count_by (begins n) (Began n b own report now ∷ since_end n base) ≡ 1
   one_begun =
-      let one : count_by (begins n) (Began n b own report now ∷ since_end n base) ≡ cond {A = ℕ} (begins n (Began n b own report now)) 1 0 + count_by (begins n) (since_end n base) = sum_by-cons (λ y. cond {A = ℕ} (begins n y) 1 0) (Began n b own report now) (since_end n base) in
+      let one : count_by (begins n) (Began n b own report now ∷ since_end n base) ≡ cond {A = ℕ} (begins n (Began n b own report now)) 1 0 + count_by (begins n) (since_end n base) =
+      sum_by-cons (λ y. cond {A = ℕ} (begins n y) 1 0) (Began n b own report now) (since_end n base) in
       let f : cond {A = ℕ} (begins n (Began n b own report now)) 1 0 ≡ 1 = ap (λ (t : Bool). cond {A = ℕ} t 1 0) self in
       let g : count_by (begins n) (since_end n base) ≡ 0 = count_none (begins n) (since_end n base) (unbegun n base unreleased unopened) in
       omega (arith, one)
@@ -81,7 +88,8 @@ module _ (n : ℕ) (b : Ballot) (own : Option Entry) (report : Option Vote) (now
 
   pub begun_denied : (p : Ballot) → begun n (Denied n p ∷ begun_here) ≡ 1
   begun_denied p =
-      let one : count_by (begins n) (Denied n p ∷ Began n b own report now ∷ since_end n base) ≡ cond {A = ℕ} (begins n (Denied n p)) 1 0 + count_by (begins n) (Began n b own report now ∷ since_end n base) = sum_by-cons (λ y. cond {A = ℕ} (begins n y) 1 0) (Denied n p) (Began n b own report now ∷ since_end n base) in
+      let one : count_by (begins n) (Denied n p ∷ Began n b own report now ∷ since_end n base) ≡ cond {A = ℕ} (begins n (Denied n p)) 1 0 + count_by (begins n) (Began n b own report now ∷ since_end n base) =
+      sum_by-cons (λ y. cond {A = ℕ} (begins n y) 1 0) (Denied n p) (Began n b own report now ∷ since_end n base) in
       let f : cond {A = ℕ} (begins n (Denied n p)) 1 0 ≡ 0 = refl in
       omega (arith, one, one_begun)
 
@@ -98,7 +106,9 @@ module _ (n : ℕ) (b : Ballot) (own : Option Entry) (report : Option Vote) (now
   closed_denied p j other o = rw other o
 
 -- the only open number is due next, where it is due
-pub only_due : (m n now : ℕ) (ms : List Mark) → is_due_number m now ms n ≡ true → ((j : ℕ) → (n == j) ≡ false → open_proposal j ms ≡ None) → next_due m now ms ≡ Some n
+pub only_due :
+    (m n now : ℕ) (ms : List Mark) → is_due_number m now ms n ≡ true → ((j : ℕ) → (n == j) ≡ false → open_proposal j ms ≡ None)
+    → next_due m now ms ≡ Some n
 only_due m n now ms due closed = go (next_due m now ms) refl (next_due_is_least_number m now ms)
   where
     go : (r : Option ℕ) → next_due m now ms ≡ r → IsLeast (is_due_number m now ms) (next_due m now ms) → next_due m now ms ≡ Some n

@@ -23,7 +23,8 @@ use Rattle.protocol.proofs.Holding.{first_none, taken_fits, history_fits}
 use Rattle.protocol.proofs.Voters.{was_held}
 
 pub same : {G F : Type 0} (w : State G F) → IsSameState w w
-same w = record { version = λ m. refl; rows = λ m n. refl; marks = λ m. refl; is_stopped = λ m. refl; armed = λ m. refl; sent = refl; offers = refl; releases = refl }
+same w =
+    record { version = λ m. refl; rows = λ m n. refl; marks = λ m. refl; is_stopped = λ m. refl; armed = λ m. refl; sent = refl; offers = refl; releases = refl }
 
 -- what stands among datagrams has a place from 1
 pub place_of : (ds : List Datagram) (d : Datagram) → IsAmong ds d → (k : ℕ) × (slice_get ds k ≡ Some d)
@@ -127,7 +128,9 @@ module _
   Goal w = Reaches z among again v m n final limit w
 
   -- datagrams for packets that may be said
-  spelled : (ps : List Packet) → ((p : Packet) → IsAmong ps p → MaySay z entries p) → ((p : Packet) → IsAmong ps p → BodyFits v p.body) → (out : List Datagram) × AllZip (Carries z v) ps out
+  spelled :
+      (ps : List Packet) → ((p : Packet) → IsAmong ps p → MaySay z entries p) → ((p : Packet) → IsAmong ps p → BodyFits v p.body)
+      → (out : List Datagram) × AllZip (Carries z v) ps out
   spelled [] says fits = ([], tt)
   spelled (p ∷ ps) says fits =
       let (bytes, reads) = speaks p (says p (inl refl)) (fits p (inl refl)) in
@@ -182,13 +185,17 @@ module _
 
       offered : (u : Vote) → t.row.vote ≡ Some u → ¬ (t.row ≡ w.rows k n) → entries u.entry
       offered u is changes =
-          let h : History z torn = goes_on told.history s Torn_by_store (is_torn k call e t.row None task member event (at_save t free taken_so (λ same. changes (same ∙ ap (λ (x : ℕ). w.rows k x) number)) left refl) (same torn)) in
-          let held : (torn.rows k n).vote ≡ Some (vote_for u.ballot u.entry) = ap (λ (x : ℕ). (torn.rows k x).vote) (sym number) ∙ ap (λ (r : Row). r.vote) (saved-same w.rows k (number_of e) t.row) ∙ is in
+          let h : History z torn =
+          goes_on told.history s Torn_by_store
+          (is_torn k call e t.row None task member event (at_save t free taken_so (λ same. changes (same ∙ ap (λ (x : ℕ). w.rows k x) number)) left refl) (same torn)) in
+          let held : (torn.rows k n).vote ≡ Some (vote_for u.ballot u.entry) =
+          ap (λ (x : ℕ). (torn.rows k x).vote) (sym number) ∙ ap (λ (r : Row). r.vote) (saved-same w.rows k (number_of e) t.row) ∙ is in
           more_offered w.offers k e brings told.offered u.entry (votes_are_offered z torn h k n u.ballot u.entry (was_held h k n u.ballot u.entry held))
 
       fits : (p : Packet) → IsAmong t.out p → BodyFits v p.body
       fits p i =
-          subst (λ (x : Version). BodyFits x p.body) version ((taken_fits z fit w (history_fits z fit told.history) k call e t member (first_none (early_refusal (setup_of z (w.version k) k) (w.is_stopped k) (w.marks k) call) _ free) event taken_so).out p i)
+          subst (λ (x : Version). BodyFits x p.body) version
+          ((taken_fits z fit w (history_fits z fit told.history) k call e t member (first_none (early_refusal (setup_of z (w.version k) k) (w.is_stopped k) (w.marks k) call) _ free) event taken_so).out p i)
 
       out : (out : List Datagram) × AllZip (Carries z v) t.out out
       out = spelled t.out (says offered) fits
@@ -203,7 +210,9 @@ module _
       }
 
       step : StepsTo z w s (Done t.note) after
-      step = is_done k call e t out.0 task member free event taken_so (subst (λ (x : Version). AllZip (Carries z x) t.out out.0) (sym version) out.1) (inl unarmed) refl (same after)
+      step =
+          is_done k call e t out.0 task member free event taken_so (subst (λ (x : Version). AllZip (Carries z x) t.out out.0) (sym version) out.1)
+          (inl unarmed) refl (same after)
 
       went : (p : Packet) → IsAmong t.out p → (d : Datagram) × IsAmong after.sent d × Carries z v p d
       went p i = let (d, j, c) = carried (Carries z v) t.out out.0 p out.1 i in (d, among_right w.sent out.0 d j, c)
@@ -230,46 +239,62 @@ module _
       go None f =
           let reached = rest after stepped (λ is_m. f) in
           let to = reached.can in
-          record { serves = reached.serves; can = record {
-            after = to.after;
-            leads = takes_turn s k call t.note task in_it step to.leads;
-            entry = to.entry;
-            on_the_way = to.on_the_way;
-            are_theirs = to.are_theirs;
-            offers_are = to.offers_are;
-            released = to.released ∙ ap (λ (r : Option Entry). releases_with z w.releases k (number_of e) r ++ to.on_the_way ++ release_of z m n to.entry ∷ []) f;
-          } }
+          record {
+            serves = reached.serves;
+            can = record {
+              after = to.after;
+              leads = takes_turn s k call t.note task in_it step to.leads;
+              entry = to.entry;
+              on_the_way = to.on_the_way;
+              are_theirs = to.are_theirs;
+              offers_are = to.offers_are;
+              released =
+                  to.released ∙ ap (λ (r : Option Entry). releases_with z w.releases k (number_of e) r ++ to.on_the_way ++ release_of z m n to.entry ∷ []) f;
+            };
+          }
       go (Some u) f = mine (k == m) refl
         where
           now : releases_with z w.releases k (number_of e) t.release ≡ w.releases ++ release_of z k n u ∷ []
           now = ap (λ (r : Option Entry). releases_with z w.releases k (number_of e) r) f ∙ ap (λ (x : ℕ). w.releases ++ release_of z k x u ∷ []) number
 
-          theirs : (more : List (Release G F)) → ((x : Release G F) → IsAmong more x → (among x.member ≡ true) × (x.number ≡ n)) → (x : Release G F) → IsAmong (release_of z k n u ∷ more) x → (among x.member ≡ true) × (x.number ≡ n)
+          theirs :
+              (more : List (Release G F)) → ((x : Release G F) → IsAmong more x → (among x.member ≡ true) × (x.number ≡ n)) → (x : Release G F)
+              → IsAmong (release_of z k n u ∷ more) x → (among x.member ≡ true) × (x.number ≡ n)
           theirs more h x (inl it) = (subst (λ (y : Release G F). among y.member ≡ true) (sym it) in_it, ap (λ (y : Release G F). y.number) it)
           theirs more h x (inr i) = h x i
 
           mine : (b : Bool) → (k == m) ≡ b → Goal w
-          mine true is_m = record { serves = still stepped serves low; can = record {
-            after = after;
-            leads = begins;
-            entry = u;
-            on_the_way = [];
-            are_theirs = λ x i. absurd i;
-            offers_are = settled u f;
-            released = now ∙ ap (λ (x : ℕ). w.releases ++ release_of z x n u ∷ []) (eqb-true k m is_m) ∙ ap (λ (l : List (Release G F)). l ++ release_of z m n u ∷ []) (sym (append-nil w.releases));
-          } }
+          mine true is_m = record {
+            serves = still stepped serves low;
+            can = record {
+              after = after;
+              leads = begins;
+              entry = u;
+              on_the_way = [];
+              are_theirs = λ x i. absurd i;
+              offers_are = settled u f;
+              released =
+                  now ∙ ap (λ (x : ℕ). w.releases ++ release_of z x n u ∷ []) (eqb-true k m is_m)
+                  ∙ ap (λ (l : List (Release G F)). l ++ release_of z m n u ∷ []) (sym (append-nil w.releases));
+            };
+          }
           mine false other =
               let reached = rest after stepped (λ is_m. absurd (eqb-false k m other is_m)) in
               let to = reached.can in
-              record { serves = reached.serves; can = record {
-                after = to.after;
-                leads = takes_turn s k call t.note task in_it step to.leads;
-                entry = to.entry;
-                on_the_way = release_of z k n u ∷ to.on_the_way;
-                are_theirs = theirs to.on_the_way to.are_theirs;
-                offers_are = to.offers_are;
-                released = to.released ∙ ap (λ (l : List (Release G F)). l ++ to.on_the_way ++ release_of z m n to.entry ∷ []) now ∙ ap (λ (l : List (Release G F)). l ++ release_of z m n to.entry ∷ []) (append_assoc w.releases (release_of z k n u ∷ []) to.on_the_way);
-              } }
+              record {
+                serves = reached.serves;
+                can = record {
+                  after = to.after;
+                  leads = takes_turn s k call t.note task in_it step to.leads;
+                  entry = to.entry;
+                  on_the_way = release_of z k n u ∷ to.on_the_way;
+                  are_theirs = theirs to.on_the_way to.are_theirs;
+                  offers_are = to.offers_are;
+                  released =
+                      to.released ∙ ap (λ (l : List (Release G F)). l ++ to.on_the_way ++ release_of z m n to.entry ∷ []) now
+                      ∙ ap (λ (l : List (Release G F)). l ++ release_of z m n to.entry ∷ []) (append_assoc w.releases (release_of z k n u ∷ []) to.on_the_way);
+                };
+              }
 
   -- a member gets a datagram that was sent
   pub receive :
@@ -288,7 +313,8 @@ module _
       let heard : hears z (w.version k) d.bytes ≡ Ok p = subst (λ (x : Version). hears z x d.bytes ≡ Ok p) (sym version) (heard_here z v d.bytes p carries.1) in
       let task : IsTask w.sent (Delivers i 0) k (Receiving d.bytes 0) =
       ap (λ (o : Option Datagram). delivery o 0) place ∙ ap (λ (x : ℕ). Some (task_for x d)) (carries.0 ∙ to) in
-      take w told serves (Delivers i 0) k (Receiving d.bytes 0) (Arrived p 0) t task member in_it (rw (going, heard, unrefused) refl) (rw heard refl) number (ap Some taken) low tt (λ u f. settled) says rest
+      take w told serves (Delivers i 0) k (Receiving d.bytes 0) (Arrived p 0) t task member in_it (rw (going, heard, unrefused) refl)
+      (rw heard refl) number (ap Some taken) low tt (λ u f. settled) says rest
     where
       task_for : ℕ → Datagram → Task
       task_for x d = record { member = x; call = Receiving d.bytes 0 }
@@ -301,15 +327,18 @@ module _
   restart w told k member in_it why rest =
       let reached = rest after renewed in
       let to = reached.can in
-      record { serves = reached.serves; can = record {
-        after = to.after;
-        leads = starts_again k in_it why step to.leads;
-        entry = to.entry;
-        on_the_way = to.on_the_way;
-        are_theirs = to.are_theirs;
-        offers_are = to.offers_are;
-        released = to.released;
-      } }
+      record {
+        serves = reached.serves;
+        can = record {
+          after = to.after;
+          leads = starts_again k in_it why step to.leads;
+          entry = to.entry;
+          on_the_way = to.on_the_way;
+          are_theirs = to.are_theirs;
+          offers_are = to.offers_are;
+          released = to.released;
+        };
+      }
     where
       after : State G F
       after = record w { marks = with_at w.marks k []; is_stopped = with_at w.is_stopped k false }

@@ -37,7 +37,8 @@ names_none {z = z} {w = w} h k n = go (w.rows k n).vote refl
     go : (r : Option Vote) → (w.rows k n).vote ≡ r → names_stranger z.count (Promise r) ≡ false
     go None e = refl
     go (Some x) e =
-        let i : IsMember z.count x.ballot.owner = voter_is_member z x.ballot.owner n x.ballot x.entry h ((history_sound h).sound.owned k n x.ballot x.entry (was_held h k n x.ballot x.entry e)) in
+        let i : IsMember z.count x.ballot.owner =
+        voter_is_member z x.ballot.owner n x.ballot x.entry h ((history_sound h).sound.owned k n x.ballot x.entry (was_held h k n x.ballot x.entry e)) in
         le-ltb z.count x.ballot.owner i.1
 
 -- a member's own vote may be reported, where it is below the ballot
@@ -56,7 +57,9 @@ report_says {z = z} {n = n} {entries = entries} {w = w} h k m b owner high under
       record {
         round_low = vote_rises z h.history k n x e;
         round_high = not_above x.ballot b (under x e) high;
-        owner = voter_is_member z x.ballot.owner n x.ballot x.entry h.history ((history_sound h.history).sound.owned k n x.ballot x.entry (was_held h.history k n x.ballot x.entry e));
+        owner =
+            voter_is_member z x.ballot.owner n x.ballot x.entry h.history
+            ((history_sound h.history).sound.owned k n x.ballot x.entry (was_held h.history k n x.ballot x.entry e));
       },
       under x e,
       h.offered x.entry (votes_are_offered z w h.history k n x.ballot x.entry (was_held h.history k n x.ballot x.entry e)),
@@ -77,28 +80,37 @@ or_left false q e = refl
 
 -- who is counted with one promise more
 module _ (n m k : ℕ) (b : Ballot) (report : Option Vote) (o : Opening) (at : o.ballot ≡ b) (since : List Mark) where
-  more_counted : counted m n o (Promised n k b report ∷ since) ≡ record { member = m; report = o.report } ∷ record { member = k; report = report } ∷ filter_map (promise_of n o.ballot) since
+  more_counted :
+      counted m n o (Promised n k b report ∷ since) ≡ record { member = m; report = o.report } ∷ record { member = k; report = report } ∷ filter_map
+      (promise_of n o.ballot) since
   more_counted = let e : (n == n) ≡ true = eq-eqb n n refl in let f : is_same b o.ballot ≡ true = is_same-self b o.ballot (sym at) in rw (e, f) refl
 
   pub counted_now : is_counted (counted m n o (Promised n k b report ∷ since)) k ≡ true
   counted_now = subst (λ (l : List Counted). is_counted l k ≡ true) (sym more_counted) (go (m == k) refl)
     where
-      go : (t : Bool) → (m == k) ≡ t → is_counted (record { member = m; report = o.report } ∷ record { member = k; report = report } ∷ filter_map (promise_of n o.ballot) since) k ≡ true
+      go :
+          (t : Bool) → (m == k) ≡ t
+          → is_counted (record { member = m; report = o.report } ∷ record { member = k; report = report } ∷ filter_map (promise_of n o.ballot) since) k ≡ true
       go true e = rw e refl
       go false e = let f : (k == k) ≡ true = eq-eqb k k refl in rw (e, f) refl
 
   pub counted_still : (j : ℕ) → is_counted (counted m n o since) j ≡ true → is_counted (counted m n o (Promised n k b report ∷ since)) j ≡ true
   counted_still j t = subst (λ (l : List Counted). is_counted l j ≡ true) (sym more_counted) (go (m == j) (k == j) refl refl)
     where
-      go : (x y : Bool) → (m == j) ≡ x → (k == j) ≡ y → is_counted (record { member = m; report = o.report } ∷ record { member = k; report = report } ∷ filter_map (promise_of n o.ballot) since) j ≡ true
+      go :
+          (x y : Bool) → (m == j) ≡ x → (k == j) ≡ y
+          → is_counted (record { member = m; report = o.report } ∷ record { member = k; report = report } ∷ filter_map (promise_of n o.ballot) since) j ≡ true
       go true y e f = rw e refl
       go false true e f = rw (e, f) refl
       go false false e f = rw (e, f) (rw e at t)
 
-  pub counted_else : (j : ℕ) → (k == j) ≡ false → is_counted (counted m n o since) j ≡ false → is_counted (counted m n o (Promised n k b report ∷ since)) j ≡ false
+  pub counted_else :
+      (j : ℕ) → (k == j) ≡ false → is_counted (counted m n o since) j ≡ false → is_counted (counted m n o (Promised n k b report ∷ since)) j ≡ false
   counted_else j other t = subst (λ (l : List Counted). is_counted l j ≡ false) (sym more_counted) (go (m == j) refl)
     where
-      go : (x : Bool) → (m == j) ≡ x → is_counted (record { member = m; report = o.report } ∷ record { member = k; report = report } ∷ filter_map (promise_of n o.ballot) since) j ≡ false
+      go :
+          (x : Bool) → (m == j) ≡ x
+          → is_counted (record { member = m; report = o.report } ∷ record { member = k; report = report } ∷ filter_map (promise_of n o.ballot) since) j ≡ false
       go true e = let impossible : true ≡ false = rw e at t in cc
       go false e = rw (e, other) (rw e at t)
 
@@ -115,7 +127,9 @@ finds c m n b o since Voted at (inr voted) many reported =
     let r = reported both.0 both.3 both.2 in
     by (pick_is m n b o since at) r.0 both.0 r.1
   where
-    by : Picks m n b o.own o.report since (pick o.own (counted m n o since)) → (u : Vote) (j : ℕ) → IsCounted m n b o.report since j (Some u) → (entry : Entry) × (pick o.own (counted m n o since) ≡ Some entry)
+    by :
+        Picks m n b o.own o.report since (pick o.own (counted m n o since)) → (u : Vote) (j : ℕ) → IsCounted m n b o.report since j (Some u)
+        → (entry : Entry) × (pick o.own (counted m n o since) ≡ Some entry)
     by (the_reported k x i top is) u j h = (x.entry, is)
     by (the_own none is) u j h = absurd (none j u h)
 
@@ -168,39 +182,53 @@ module _
     sent : (d : Datagram) → IsAmong w.sent d → IsAmong w1.sent d
     answer : (d : Datagram) × IsAmong w1.sent d × Carries z v (packet_to (seat_at z k) n b (Promise report) m) d
 
-  free_after : (k : ℕ) (report : Option Vote) (w w1 : State G F) → Gathering w → Answered k report w w1 → (j : ℕ) → IsMember z.count j → among j ≡ true → (j == m) ≡ false → Free b (w1.rows j n)
+  free_after :
+      (k : ℕ) (report : Option Vote) (w w1 : State G F) → Gathering w → Answered k report w w1 → (j : ℕ) → IsMember z.count j → among j ≡ true
+      → (j == m) ≡ false → Free b (w1.rows j n)
   free_after k report w w1 g a j i e other = go (j == k) refl
     where
       go : (t : Bool) → (j == k) ≡ t → Free b (w1.rows j n)
-      go true f = let same : j ≡ k = eqb-true j k f in subst (λ (x : ℕ). Free b (w1.rows x n)) (sym same) (subst (λ (r : Row). Free b r) (sym a.raised_row) (promised_free b (w.rows k n) (subst (λ (x : ℕ). Free b (w.rows x n)) same (g.free j i e other))))
+      go true f =
+          let same : j ≡ k = eqb-true j k f in
+          subst (λ (x : ℕ). Free b (w1.rows x n)) (sym same)
+          (subst (λ (r : Row). Free b r) (sym a.raised_row) (promised_free b (w.rows k n) (subst (λ (x : ℕ). Free b (w.rows x n)) same (g.free j i e other))))
       go false f = subst (λ (r : Row). Free b r) (sym (a.row_other j f)) (g.free j i e other)
 
   -- the promise is counted
   counts_it :
       (w : State G F) → Gathering w → (k : ℕ) → IsMember z.count k → among k ≡ true → (k == m) ≡ false → counts_in w k ≡ false
-      → (report : Option Vote) → names_stranger z.count (Promise report) ≡ false → (Voted k → (u : Vote) × (report ≡ Some u)) → (w1 : State G F) → Answered k report w w1
+      → (report : Option Vote) → names_stranger z.count (Promise report) ≡ false → (Voted k → (u : Vote) × (report ≡ Some u)) → (w1 : State G F)
+      → Answered k report w w1
       → ((after : State G F) → Gathering after → counts_in after k ≡ true → ((j : ℕ) → counts_in w j ≡ true → counts_in after j ≡ true) → Goal after)
       → Goal w1
-  counts_it w g k i e other uncounted report known reports w1 a rest = go (is_majority z.count (is_counted (with_promise (seat_at z m) (w1.marks m) q report o))) refl
+  counts_it w g k i e other uncounted report known reports w1 a rest =
+      go (is_majority z.count (is_counted (with_promise (seat_at z m) (w1.marks m) q report o))) refl
     where
       q : Packet
       q = packet_to (seat_at z k) n b (Promise report) m
 
       -- each counted member that voted before has reported a vote
-      reported : (j : ℕ) → Voted j → is_counted (counted m n o (Promised n k b report ∷ since_began n (w.marks m))) j ≡ true → (u : Vote) × IsCounted m n b o.report (Promised n k b report ∷ since_began n (w.marks m)) j (Some u)
+      reported :
+          (j : ℕ) → Voted j → is_counted (counted m n o (Promised n k b report ∷ since_began n (w.marks m))) j ≡ true
+          → (u : Vote) × IsCounted m n b o.report (Promised n k b report ∷ since_began n (w.marks m)) j (Some u)
       reported j voted t = go (k == j) refl (counts_in w j) refl
         where
-          keep : (u : Vote) → IsCounted m n b o.report (since_began n (w.marks m)) j (Some u) → IsCounted m n b o.report (Promised n k b report ∷ since_began n (w.marks m)) j (Some u)
+          keep :
+              (u : Vote) → IsCounted m n b o.report (since_began n (w.marks m)) j (Some u)
+              → IsCounted m n b o.report (Promised n k b report ∷ since_began n (w.marks m)) j (Some u)
           keep u (inl x) = inl x
           keep u (inr x) = inr (inr x)
 
-          go : (x : Bool) → (k == j) ≡ x → (y : Bool) → counts_in w j ≡ y → (u : Vote) × IsCounted m n b o.report (Promised n k b report ∷ since_began n (w.marks m)) j (Some u)
+          go :
+              (x : Bool) → (k == j) ≡ x → (y : Bool) → counts_in w j ≡ y
+              → (u : Vote) × IsCounted m n b o.report (Promised n k b report ∷ since_began n (w.marks m)) j (Some u)
           go x f true h = let r = g.reported j voted h in (r.0, keep r.0 r.1)
           go true f false h =
               let same : k ≡ j = eqb-true k j f in
               let r = reports (subst (λ (x : ℕ). Voted x) (sym same) voted) in
               (r.0, inr (inl (ap (λ (x : ℕ). Promised n x b (Some r.0)) (sym same) ∙ ap (λ (x : Option Vote). Promised n k b x) (sym r.1))))
-          go false f false h = absurd (yes_no (is_counted (counted m n o (Promised n k b report ∷ since_began n (w.marks m))) j) (counted_else n m k b report o at_b (since_began n (w.marks m)) j f h) t)
+          go false f false h =
+              absurd (yes_no (is_counted (counted m n o (Promised n k b report ∷ since_began n (w.marks m))) j) (counted_else n m k b report o at_b (since_began n (w.marks m)) j f h) t)
 
       promised : is_at (w1.rows m n).promised b ≡ true
       promised = subst (λ (r : Row). is_at r.promised b ≡ true) (sym a.row) g.promised
@@ -220,14 +248,20 @@ module _
           (unrefused z.number z.count k m n b (Promise report) i.1 at.owner.1 known) is under a.settled says on
 
       changes : (entry : Entry) → ¬ (voted b entry ≡ w1.rows m n)
-      changes entry e = yes_no (vote_is_at (w1.rows m n).vote b) (subst (λ (r : Row). vote_is_at r.vote b ≡ false) (sym a.row) g.unvoted) (subst (λ (r : Row). vote_is_at r.vote b ≡ true) e (is_same-self b b refl))
+      changes entry e =
+          yes_no (vote_is_at (w1.rows m n).vote b) (subst (λ (r : Row). vote_is_at r.vote b ≡ false) (sym a.row) g.unvoted)
+          (subst (λ (r : Row). vote_is_at r.vote b ≡ true) e (is_same-self b b refl))
 
-      goes_on_so : is_majority z.count (is_counted (with_promise (seat_at z m) (w1.marks m) q report o)) ≡ false → (after : State G F) → Leaves m (w1.rows m n) (Promised n k b report ∷ w1.marks m) [] w1 after → Goal after
+      goes_on_so :
+          is_majority z.count (is_counted (with_promise (seat_at z m) (w1.marks m) q report o)) ≡ false → (after : State G F)
+          → Leaves m (w1.rows m n) (Promised n k b report ∷ w1.marks m) [] w1 after → Goal after
       goes_on_so few after st =
           let marks : after.marks m ≡ Promised n k b report ∷ w.marks m = st.marks_are ∙ ap (λ (l : List Mark). Promised n k b report ∷ l) a.marks in
           let more : (j : ℕ) → counts_in w j ≡ true → counts_in after j ≡ true =
           λ j t. subst (λ (l : List Mark). is_counted (counted m n o (since_began n l)) j ≡ true) (sym marks) (counted_still n m k b report o at_b (since_began n (w.marks m)) j t) in
-          let now : counts_in after k ≡ true = subst (λ (l : List Mark). is_counted (counted m n o (since_began n l)) k ≡ true) (sym marks) (counted_now n m k b report o at_b (since_began n (w.marks m))) in
+          let now : counts_in after k ≡ true =
+          subst (λ (l : List Mark). is_counted (counted m n o (since_began n l)) k ≡ true) (sym marks)
+          (counted_now n m k b report o at_b (since_began n (w.marks m))) in
           rest after
           (record {
             known = st.told;
@@ -241,20 +275,25 @@ module _
             few = subst (λ (l : List Mark). is_majority z.count (is_counted (counted m n o (since_began n l))) ≡ false) (sym st.marks_are) few;
             free = λ j i' e' off. subst (λ (r : Row). Free b r) (sym (st.row_other j off)) (free_after k report w w1 g a j i' e' off);
             lower = λ j i' e' t.
-                let off : (j == m) ≡ false = apart j m (λ f. yes_no (counts_in after j) t (subst (λ (x : ℕ). counts_in after x ≡ true) (sym f) (me_counted after))) in
+                let off : (j == m) ≡ false =
+                apart j m (λ f. yes_no (counts_in after j) t (subst (λ (x : ℕ). counts_in after x ≡ true) (sym f) (me_counted after))) in
                 let far : (j == k) ≡ false = apart j k (λ f. yes_no (counts_in after j) t (subst (λ (x : ℕ). counts_in after x ≡ true) (sym f) now)) in
                 subst (λ (r : Row). Lower b r) (sym (st.row_other j off ∙ a.row_other j far)) (g.lower j i' e' (before j after more t));
             has_vote = λ j voted t.
-                let off : (j == m) ≡ false = apart j m (λ f. yes_no (counts_in after j) t (subst (λ (x : ℕ). counts_in after x ≡ true) (sym f) (me_counted after))) in
+                let off : (j == m) ≡ false =
+                apart j m (λ f. yes_no (counts_in after j) t (subst (λ (x : ℕ). counts_in after x ≡ true) (sym f) (me_counted after))) in
                 let far : (j == k) ≡ false = apart j k (λ f. yes_no (counts_in after j) t (subst (λ (x : ℕ). counts_in after x ≡ true) (sym f) now)) in
                 subst (λ (r : Row). (u : Vote) × (r.vote ≡ Some u)) (sym (st.row_other j off ∙ a.row_other j far)) (g.has_vote j voted (before j after more t));
             reported = λ j voted t.
-                subst (λ (l : List Mark). (u : Vote) × IsCounted m n b o.report (since_began n l) j (Some u)) (sym marks) (reported j voted (subst (λ (l : List Mark). is_counted (counted m n o (since_began n l)) j ≡ true) marks t));
+                subst (λ (l : List Mark). (u : Vote) × IsCounted m n b o.report (since_began n l) j (Some u)) (sym marks)
+                (reported j voted (subst (λ (l : List Mark). is_counted (counted m n o (since_began n l)) j ≡ true) marks t));
             asked = λ j i' off. let (d, s, c) = g.asked j i' off in (d, st.sent d (a.sent d s), c);
           })
           now more
         where
-          heard_low : (j : ℕ) → IsMember z.count j → among j ≡ true → (x : Ballot) (u : Entry) → IsAmong (Promised n k b report ∷ w.marks m) (Heard n j x u) → IsAtMost x b
+          heard_low :
+              (j : ℕ) → IsMember z.count j → among j ≡ true → (x : Ballot) (u : Entry) → IsAmong (Promised n k b report ∷ w.marks m) (Heard n j x u)
+              → IsAtMost x b
           heard_low j i' e' x u (inl f) = cc
           heard_low j i' e' x u (inr h) = g.heard_low j i' e' x u h
 
@@ -272,19 +311,26 @@ module _
       proposes_so entry after st none said =
           let g2 = phase_two.proposed z fit among again v m n final entries speaks limit number b at member owner low 0 entry (Promised n k b report ∷ w1.marks m) w1 after w1.offers said a.settled a.serves st none in_it
           (subst (λ (l : List Mark). was_released n l ≡ false) (sym a.marks) g.unreleased) heard_low (free_after k report w w1 g a) in
-          all_vote z fit among again v m n final entries speaks limit number b at member owner low many in_it entry (members z.count) after g2 (λ j h. among_members z.count j h) (λ j i' e'. inr (member_among z.count j i'))
+          all_vote z fit among again v m n final entries speaks limit number b at member owner low many in_it entry (members z.count) after g2
+          (λ j h. among_members z.count j h) (λ j i' e'. inr (member_among z.count j i'))
         where
-          heard_low : (j : ℕ) → IsMember z.count j → among j ≡ true → (x : Ballot) (u : Entry) → IsAmong (Promised n k b report ∷ w1.marks m) (Heard n j x u) → IsAtMost x b
+          heard_low :
+              (j : ℕ) → IsMember z.count j → among j ≡ true → (x : Ballot) (u : Entry) → IsAmong (Promised n k b report ∷ w1.marks m) (Heard n j x u)
+              → IsAtMost x b
           heard_low j i' e' x u (inl f) = cc
           heard_low j i' e' x u (inr h) = g.heard_low j i' e' x u (subst (λ (l : List Mark). IsAmong l (Heard n j x u)) a.marks h)
 
       go : (t : Bool) → is_majority z.count (is_counted (with_promise (seat_at z m) (w1.marks m) q report o)) ≡ t → Goal w1
       go false t =
-          delivers _ (counts (seat_at z m) (w1.marks m) (w1.rows m n) q report o opens promised not_yet t) (a.serves.rounds m member in_it) (λ voted x j. absurd j) (λ after st none. goes_on_so t after st)
+          delivers _ (counts (seat_at z m) (w1.marks m) (w1.rows m n) q report o opens promised not_yet t) (a.serves.rounds m member in_it)
+          (λ voted x j. absurd j) (λ after st none. goes_on_so t after st)
       go true t =
           let all : List Counted = with_promise (seat_at z m) (w1.marks m) q report o in
-          let at_w : all ≡ counted m n o (Promised n k b report ∷ since_began n (w.marks m)) = ap (λ (l : List Mark). with_promise (seat_at z m) l q report o) a.marks in
-          let (entry, picked) = finds z.count m n b o (Promised n k b report ∷ since_began n (w.marks m)) Voted at_b own_or_voted (subst (λ (l : List Counted). is_majority z.count (is_counted l) ≡ true) at_w t) reported in
+          let at_w : all ≡ counted m n o (Promised n k b report ∷ since_began n (w.marks m)) =
+          ap (λ (l : List Mark). with_promise (seat_at z m) l q report o) a.marks in
+          let (entry, picked) =
+          finds z.count m n b o (Promised n k b report ∷ since_began n (w.marks m)) Voted at_b own_or_voted
+          (subst (λ (l : List Counted). is_majority z.count (is_counted l) ≡ true) at_w t) reported in
           let is : packet_turn (seat_at z m) 0 (w1.marks m) (w1.rows m n) q (Promise report)
           ≡ propose (seat_at z m) n b 0 (Promised n k b report ∷ w1.marks m) (w1.rows m n) (Some entry) =
           completes (seat_at z m) (w1.marks m) (w1.rows m n) q report o opens promised not_yet t
@@ -337,8 +383,12 @@ module _
       go : (s : Bool) → among k ≡ s → (t : Bool) → counts_in w k ≡ t
           → ((after : State G F) → Gathering after → ((j : ℕ) → IsMember z.count j → among j ≡ true → (counts_in after j ≡ true) ⊎ IsAmong rest j) → Goal after)
           → Goal w
-      go false e t f on = on w g (λ j i x. elim (left j i x) [ inl y ↦ inl y | inr y ↦ elim y [ inl same ↦ absurd (yes_no (among k) e (subst (λ (q : ℕ). among q ≡ true) same x)) | inr h ↦ inr h ] ])
-      go true e true f on = on w g (λ j i x. elim (left j i x) [ inl y ↦ inl y | inr y ↦ elim y [ inl same ↦ inl (subst (λ (q : ℕ). counts_in w q ≡ true) (sym same) f) | inr h ↦ inr h ] ])
+      go false e t f on =
+          on w g
+          (λ j i x. elim (left j i x) [ inl y ↦ inl y | inr y ↦ elim y [ inl same ↦ absurd (yes_no (among k) e (subst (λ (q : ℕ). among q ≡ true) same x)) | inr h ↦ inr h ] ])
+      go true e true f on =
+          on w g
+          (λ j i x. elim (left j i x) [ inl y ↦ inl y | inr y ↦ elim y [ inl same ↦ inl (subst (λ (q : ℕ). counts_in w q ≡ true) (sym same) f) | inr h ↦ inr h ] ])
       go true e false f on =
           one_promises w g k (inside k (inl refl)) e f
           (λ after x now more. on after x (λ j i y. elim (left j i y) [ inl t ↦ inl (more j t) | inr t ↦ elim t [ inl same ↦ inl (subst (λ (q : ℕ). counts_in after q ≡ true) (sym same) now) | inr h ↦ inr h ] ]))

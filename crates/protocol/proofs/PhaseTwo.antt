@@ -36,12 +36,15 @@ pub heard_tests :
 heard_tests n k b u marks only i = go (latest n marks k) refl
   where
     found : IsAmong (filter_map (vote_of n k) marks) (vote_for b u)
-    found = filter_map_among (vote_of n k) marks (Heard n k b u) (vote_for b u) i (let e : (n == n) ≡ true = eq-eqb n n refl in let f : (k == k) ≡ true = eq-eqb k k refl in rw (e, f) refl)
+    found =
+        filter_map_among (vote_of n k) marks (Heard n k b u) (vote_for b u) i
+        (let e : (n == n) ≡ true = eq-eqb n n refl in let f : (k == k) ≡ true = eq-eqb k k refl in rw (e, f) refl)
 
     go : (r : Option Vote) → latest n marks k ≡ r → votes_at b (latest n marks k) ≡ true
     go None e = absurd (greatest_none (λ (v u : Vote). is_below u.ballot v.ballot) (filter_map (vote_of n k) marks) (vote_for b u) e found)
     go (Some x) e =
-        let top : IsTop (λ (v u : Vote). is_below u.ballot v.ballot) (filter_map (vote_of n k) marks) x = greatest_top (λ (v u : Vote). is_below u.ballot v.ballot) vote_order (filter_map (vote_of n k) marks) x e in
+        let top : IsTop (λ (v u : Vote). is_below u.ballot v.ballot) (filter_map (vote_of n k) marks) x =
+        greatest_top (λ (v u : Vote). is_below u.ballot v.ballot) vote_order (filter_map (vote_of n k) marks) x e in
         let (y, j, f) = among_filter_map (vote_of n k) marks x top.is_among in
         let low : IsAtMost x.ballot b = only x.ballot x.entry (subst (λ (q : Mark). IsAmong marks q) (vote_speaks n k y x f) j) in
         let high : IsAtMost b x.ballot = at_most_otherwise x.ballot b (λ l. top.none_above (vote_for b u) found (below-is x.ballot b l)) in
@@ -76,14 +79,17 @@ module _
     pub unripe : ripe z.count n (w.marks m) ≡ None
     pub mine : votes_at b (latest n (w.marks m) m) ≡ true
     pub free : (k : ℕ) → IsMember z.count k → among k ≡ true → votes_at b (latest n (w.marks m) k) ≡ false → Free b (w.rows k n)
-    pub told : (k : ℕ) → IsMember z.count k → (k == m) ≡ false → (d : Datagram) × IsAmong w.sent d × Carries z v (packet_to (seat_at z m) n b (Accept entry) k) d
+    pub told :
+        (k : ℕ) → IsMember z.count k → (k == m) ≡ false
+        → (d : Datagram) × IsAmong w.sent d × Carries z v (packet_to (seat_at z m) n b (Accept entry) k) d
 
   -- an entry is proposed
   pub proposed :
       (now : ℕ) (entry : Entry) (base : List Mark) (w after : State G F) (offers : List Offer) → entries entry → offers ≡ final → Serves z among v n limit w
       → Stepped z v n entries m (voted b entry) (hear z.count n m b entry (Proposed n b now ∷ base)).marks (proposal_to_others (seat_at z m) n b entry) offers w after
       → (hear z.count n m b entry (Proposed n b now ∷ base)).release ≡ None
-      → among m ≡ true → was_released n base ≡ false → ((j : ℕ) → IsMember z.count j → among j ≡ true → (a : Ballot) (u : Entry) → IsAmong base (Heard n j a u) → IsAtMost a b)
+      → among m ≡ true → was_released n base ≡ false
+      → ((j : ℕ) → IsMember z.count j → among j ≡ true → (a : Ballot) (u : Entry) → IsAmong base (Heard n j a u) → IsAtMost a b)
       → ((k : ℕ) → IsMember z.count k → among k ≡ true → (k == m) ≡ false → Free b (w.rows k n))
       → Voting entry after
   proposed now entry base w after offers said settled serves st none in_it unreleased unheard free =
@@ -98,12 +104,19 @@ module _
         only = λ j i' e' a u i. only j i' e' a u (subst (λ (l : List Mark). IsAmong l (Heard n j a u)) marks i);
         unripe = subst (λ (l : List Mark). ripe z.count n l ≡ None) (sym marks) x.1;
         mine = subst (λ (l : List Mark). votes_at b (latest n l m) ≡ true) (sym marks) mine;
-        free = λ k i e f. let other : (k == m) ≡ false = apart k m (λ g. yes_no (votes_at b (latest n (after.marks m) k)) f (subst (λ (j : ℕ). votes_at b (latest n (after.marks m) j) ≡ true) (sym g) (subst (λ (l : List Mark). votes_at b (latest n l m) ≡ true) (sym marks) mine))) in
+        free = λ k i e f.
+            let other : (k == m) ≡ false =
+            apart k m
+            (λ g. yes_no (votes_at b (latest n (after.marks m) k)) f (subst (λ (j : ℕ). votes_at b (latest n (after.marks m) j) ≡ true) (sym g) (subst (λ (l : List Mark). votes_at b (latest n l m) ≡ true) (sym marks) mine))) in
             subst (λ (r : Row). Free b r) (sym (st.row_other k other)) (free k i e other);
-        told = λ k i other. st.went (packet_to (seat_at z m) n b (Accept entry) k) (among_left (to_others (seat_at z m) n b (Accept entry)) (to_others (seat_at z m) n b (Accepted entry)) (packet_to (seat_at z m) n b (Accept entry) k) (goes_to (seat_at z m) n b (Accept entry) k i other));
+        told = λ k i other.
+            st.went (packet_to (seat_at z m) n b (Accept entry) k)
+            (among_left (to_others (seat_at z m) n b (Accept entry)) (to_others (seat_at z m) n b (Accepted entry)) (packet_to (seat_at z m) n b (Accept entry) k) (goes_to (seat_at z m) n b (Accept entry) k i other));
       }
     where
-      only : (j : ℕ) → IsMember z.count j → among j ≡ true → (a : Ballot) (u : Entry) → IsAmong (Heard n m b entry ∷ Proposed n b now ∷ base) (Heard n j a u) → IsAtMost a b
+      only :
+          (j : ℕ) → IsMember z.count j → among j ≡ true → (a : Ballot) (u : Entry)
+          → IsAmong (Heard n m b entry ∷ Proposed n b now ∷ base) (Heard n j a u) → IsAtMost a b
       only j i e a u (inl h) = let same : a ≡ b = cc in subst (λ (x : Ballot). IsAtMost x b) (sym same) (at_most_refl b)
       only j i e a u (inr (inl h)) = cc
       only j i e a u (inr (inr h)) = unheard j i e a u h
@@ -112,30 +125,38 @@ module _
       mine = heard_tests n m b entry (Heard n m b entry ∷ Proposed n b now ∷ base) (only m member in_it) (inl refl)
 
   -- not all votes of a majority were heard and none is ripe
-  not_all : (many : z.count < 2 * count_by among (members z.count)) (entry : Entry) (w : State G F) → Voting entry w → ((k : ℕ) → IsMember z.count k → among k ≡ true → votes_at b (latest n (w.marks m) k) ≡ true) → ⊥
+  not_all :
+      (many : z.count < 2 * count_by among (members z.count)) (entry : Entry) (w : State G F) → Voting entry w
+      → ((k : ℕ) → IsMember z.count k → among k ≡ true → votes_at b (latest n (w.marks m) k) ≡ true) → ⊥
   not_all many entry w g all = by (latest n (w.marks m) m) refl
     where
       none : NoMember z.count (latest n (w.marks m)) (is_ripe z.count n (w.marks m))
-      none = subst (FoundAs z.count (latest n (w.marks m)) (is_ripe z.count n (w.marks m))) g.unripe (found_member z.count (latest n (w.marks m)) (is_ripe z.count n (w.marks m)))
+      none =
+          subst (FoundAs z.count (latest n (w.marks m)) (is_ripe z.count n (w.marks m))) g.unripe
+          (found_member z.count (latest n (w.marks m)) (is_ripe z.count n (w.marks m)))
 
       majority : (t : Bool) → is_majority z.count (stands_at n (w.marks m) b) ≡ t → is_majority z.count (stands_at n (w.marks m) b) ≡ true
       majority true e = e
-      majority false e = absurd (no_majority_of z.count (stands_at n (w.marks m) b) (λ k. stands_at n (w.marks m) b k ≡ true) (λ k i f. f) e (record { has = among; many = many; each = all }))
+      majority false e =
+          absurd (no_majority_of z.count (stands_at n (w.marks m) b) (λ k. stands_at n (w.marks m) b k ≡ true) (λ k i f. f) e (record { has = among; many = many; each = all }))
 
       by : (r : Option Vote) → latest n (w.marks m) m ≡ r → ⊥
       by None e = let no : false ≡ true = rw e at g.mine in cc
       by (Some x) e =
           let same : x.ballot ≡ b = is_same-true x.ballot b (rw e at g.mine) in
-          none.no_one m x member e (subst (λ (a : Ballot). is_majority z.count (stands_at n (w.marks m) a) ≡ true) (sym same) (majority (is_majority z.count (stands_at n (w.marks m) b)) refl))
+          none.no_one m x member e
+          (subst (λ (a : Ballot). is_majority z.count (stands_at n (w.marks m) a) ≡ true) (sym same) (majority (is_majority z.count (stands_at n (w.marks m) b)) refl))
 
   -- one member more votes
   one_votes :
       (entry : Entry) (w : State G F) → Voting entry w → (k : ℕ) → IsMember z.count k → among k ≡ true → among m ≡ true → votes_at b (latest n (w.marks m) k) ≡ false
       → ((after : State G F) → Voting entry after → votes_at b (latest n (after.marks m) k) ≡ true
-      → ((j : ℕ) → IsMember z.count j → among j ≡ true → votes_at b (latest n (w.marks m) j) ≡ true → votes_at b (latest n (after.marks m) j) ≡ true) → Goal after)
+      → ((j : ℕ) → IsMember z.count j → among j ≡ true → votes_at b (latest n (w.marks m) j) ≡ true → votes_at b (latest n (after.marks m) j) ≡ true)
+      → Goal after)
       → Goal w
   one_votes entry w g k i e in_it unheard rest =
-      let other : (k == m) ≡ false = apart k m (λ f. yes_no (votes_at b (latest n (w.marks m) k)) unheard (subst (λ (j : ℕ). votes_at b (latest n (w.marks m) j) ≡ true) (sym f) g.mine)) in
+      let other : (k == m) ≡ false =
+      apart k m (λ f. yes_no (votes_at b (latest n (w.marks m) k)) unheard (subst (λ (j : ℕ). votes_at b (latest n (w.marks m) j) ≡ true) (sym f) g.mine)) in
       let p : Packet = packet_to (seat_at z m) n b (Accept entry) k in
       let (d, sent, c) = g.told k i other in
       let f = g.free k i e unheard in
@@ -146,7 +167,9 @@ module _
       (λ voted q j. others_say z entries k n b (Accepted entry) i number at (λ x. g.said) q j)
       (λ w1 st none. second other w1 st)
     where
-      second : (k == m) ≡ false → (w1 : State G F) → Leaves k (voted b entry) (hear z.count n k b entry (w.marks k)).marks (to_others (seat_at z k) n b (Accepted entry)) w w1 → Goal w1
+      second :
+          (k == m) ≡ false → (w1 : State G F)
+          → Leaves k (voted b entry) (hear z.count n k b entry (w.marks k)).marks (to_others (seat_at z k) n b (Accepted entry)) w w1 → Goal w1
       second other w1 st =
           let back : (m == k) ≡ false = turned k m other in
           let q : Packet = packet_to (seat_at z k) n b (Accepted entry) m in
@@ -160,14 +183,20 @@ module _
           (λ voted x j. absurd j)
           (λ w2 st2 none. third other w1 st same w2 st2 (none refl))
         where
-          third : (k == m) ≡ false → (w1 : State G F) → Leaves k (voted b entry) (hear z.count n k b entry (w.marks k)).marks (to_others (seat_at z k) n b (Accepted entry)) w w1 → w1.marks m ≡ w.marks m
-              → (w2 : State G F) → Leaves m (w1.rows m n) (hear z.count n k b entry (w1.marks m)).marks [] w1 w2 → (hear z.count n k b entry (w1.marks m)).release ≡ None → Goal w2
+          third :
+              (k == m) ≡ false → (w1 : State G F)
+              → Leaves k (voted b entry) (hear z.count n k b entry (w.marks k)).marks (to_others (seat_at z k) n b (Accepted entry)) w w1
+              → w1.marks m ≡ w.marks m
+              → (w2 : State G F) → Leaves m (w1.rows m n) (hear z.count n k b entry (w1.marks m)).marks [] w1 w2
+              → (hear z.count n k b entry (w1.marks m)).release ≡ None → Goal w2
           third other w1 st same w2 st2 none =
               let x = waits z.count n k b entry (w1.marks m) (subst (λ (l : List Mark). was_released n l ≡ false) (sym same) g.unreleased) none in
               let marks : w2.marks m ≡ Heard n k b entry ∷ w.marks m = st2.marks_are ∙ x.0 ∙ ap (λ (l : List Mark). Heard n k b entry ∷ l) same in
               let more : (j : ℕ) → IsMember z.count j → among j ≡ true → votes_at b (latest n (w.marks m) j) ≡ true → votes_at b (latest n (w2.marks m) j) ≡ true =
               λ j i' e' t. subst (λ (l : List Mark). votes_at b (latest n l j) ≡ true) (sym marks) (heard_more n k j b entry (w.marks m) (only j i' e') t) in
-              let now : votes_at b (latest n (w2.marks m) k) ≡ true = subst (λ (l : List Mark). votes_at b (latest n l k) ≡ true) (sym marks) (heard_tests n k b entry (Heard n k b entry ∷ w.marks m) (only k i e) (inl refl)) in
+              let now : votes_at b (latest n (w2.marks m) k) ≡ true =
+              subst (λ (l : List Mark). votes_at b (latest n l k) ≡ true) (sym marks)
+              (heard_tests n k b entry (Heard n k b entry ∷ w.marks m) (only k i e) (inl refl)) in
               rest w2
               (record {
                 known = st2.told;
@@ -183,7 +212,9 @@ module _
               })
               now more
             where
-              only : (j : ℕ) → IsMember z.count j → among j ≡ true → (a : Ballot) (u : Entry) → IsAmong (Heard n k b entry ∷ w.marks m) (Heard n j a u) → IsAtMost a b
+              only :
+                  (j : ℕ) → IsMember z.count j → among j ≡ true → (a : Ballot) (u : Entry) → IsAmong (Heard n k b entry ∷ w.marks m) (Heard n j a u)
+                  → IsAtMost a b
               only j i' e' a u (inl h) = let same : a ≡ b = cc in subst (λ (x : Ballot). IsAtMost x b) (sym same) (at_most_refl b)
               only j i' e' a u (inr h) = g.only j i' e' a u h
 
@@ -194,9 +225,14 @@ module _
                   → votes_at b (latest n (w2.marks m) k) ≡ true
                   → (j : ℕ) → IsMember z.count j → among j ≡ true → votes_at b (latest n (w2.marks m) j) ≡ false → Free b (w2.rows j n)
               free w1 st w2 st2 more now j i' e' t =
-                  let far : (j == k) ≡ false = apart j k (λ f. yes_no (votes_at b (latest n (w2.marks m) j)) t (subst (λ (x : ℕ). votes_at b (latest n (w2.marks m) x) ≡ true) (sym f) now)) in
-                  let off : (j == m) ≡ false = apart j m (λ f. yes_no (votes_at b (latest n (w2.marks m) j)) t (subst (λ (x : ℕ). votes_at b (latest n (w2.marks m) x) ≡ true) (sym f) (more m member in_it g.mine))) in
-                  subst (λ (r : Row). Free b r) (sym (st2.row_other j off ∙ st.row_other j far)) (g.free j i' e' (go (votes_at b (latest n (w.marks m) j)) refl))
+                  let far : (j == k) ≡ false =
+                  apart j k
+                  (λ f. yes_no (votes_at b (latest n (w2.marks m) j)) t (subst (λ (x : ℕ). votes_at b (latest n (w2.marks m) x) ≡ true) (sym f) now)) in
+                  let off : (j == m) ≡ false =
+                  apart j m
+                  (λ f. yes_no (votes_at b (latest n (w2.marks m) j)) t (subst (λ (x : ℕ). votes_at b (latest n (w2.marks m) x) ≡ true) (sym f) (more m member in_it g.mine))) in
+                  subst (λ (r : Row). Free b r) (sym (st2.row_other j off ∙ st.row_other j far))
+                  (g.free j i' e' (go (votes_at b (latest n (w.marks m) j)) refl))
                 where
                   go : (s : Bool) → votes_at b (latest n (w.marks m) j) ≡ s → votes_at b (latest n (w.marks m) j) ≡ false
                   go true f = absurd (yes_no (votes_at b (latest n (w2.marks m) j)) t (more j i' e' f))
@@ -208,13 +244,18 @@ module _
       → ((k : ℕ) → IsAmong rest k → IsMember z.count k)
       → ((k : ℕ) → IsMember z.count k → among k ≡ true → (votes_at b (latest n (w.marks m) k) ≡ true) ⊎ IsAmong rest k) → Goal w
   all_vote many in_it entry [] w g inside left = absurd (not_all many entry w g (λ k i e. elim (left k i e) [ inl t ↦ t | inr none ↦ absurd none ]))
-  all_vote many in_it entry (k ∷ rest) w g inside left = go (among k) refl (votes_at b (latest n (w.marks m) k)) refl (λ after x y. all_vote many in_it entry rest after x (λ j i. inside j (inr i)) y)
+  all_vote many in_it entry (k ∷ rest) w g inside left =
+      go (among k) refl (votes_at b (latest n (w.marks m) k)) refl (λ after x y. all_vote many in_it entry rest after x (λ j i. inside j (inr i)) y)
     where
       go : (s : Bool) → among k ≡ s → (t : Bool) → votes_at b (latest n (w.marks m) k) ≡ t
           → ((after : State G F) → Voting entry after → ((j : ℕ) → IsMember z.count j → among j ≡ true → (votes_at b (latest n (after.marks m) j) ≡ true) ⊎ IsAmong rest j) → Goal after)
           → Goal w
-      go false e t f on = on w g (λ j i x. elim (left j i x) [ inl y ↦ inl y | inr y ↦ elim y [ inl same ↦ absurd (yes_no (among k) e (subst (λ (q : ℕ). among q ≡ true) same x)) | inr z ↦ inr z ] ])
-      go true e true f on = on w g (λ j i x. elim (left j i x) [ inl y ↦ inl y | inr y ↦ elim y [ inl same ↦ inl (subst (λ (q : ℕ). votes_at b (latest n (w.marks m) q) ≡ true) (sym same) f) | inr z ↦ inr z ] ])
+      go false e t f on =
+          on w g
+          (λ j i x. elim (left j i x) [ inl y ↦ inl y | inr y ↦ elim y [ inl same ↦ absurd (yes_no (among k) e (subst (λ (q : ℕ). among q ≡ true) same x)) | inr z ↦ inr z ] ])
+      go true e true f on =
+          on w g
+          (λ j i x. elim (left j i x) [ inl y ↦ inl y | inr y ↦ elim y [ inl same ↦ inl (subst (λ (q : ℕ). votes_at b (latest n (w.marks m) q) ≡ true) (sym same) f) | inr z ↦ inr z ] ])
       go true e false f on =
           one_votes entry w g k (inside k (inl refl)) e in_it f
           (λ after x now more. on after x (λ j i y. elim (left j i y) [ inl t ↦ inl (more j i y t) | inr t ↦ elim t [ inl same ↦ inl (subst (λ (q : ℕ). votes_at b (latest n (after.marks m) q) ≡ true) (sym same) now) | inr z ↦ inr z ] ]))

@@ -21,11 +21,13 @@ use Rattle.protocol.proofs.Waking.{Able, by_offer, by_search, leads_on, leads_ca
 use Rattle.protocol.proofs.Denial.{leads_through}
 
 -- votes stay as a history goes on
-record Later {D G F : Type 0} {z : Circuit D G F} {w : State G F} (h : History z w) (after : State G F) : Type 0 where
-  history : History z after
-  stays : (m n : ℕ) (b : Ballot) (t : Entry) → WasVoted h m n b t → WasVoted history m n b t
+pub record Later {D G F : Type 0} {z : Circuit D G F} {w : State G F} (h : History z w) (after : State G F) : Type 0 where
+  pub history : History z after
+  pub stays : (m n : ℕ) (b : Ballot) (t : Entry) → WasVoted h m n b t → WasVoted history m n b t
 
-follow : {D G F : Type 0} {z : Circuit D G F} {among again : ℕ → Bool} {after w : State G F} → Leads z among again after w → (h : History z w) → Later h after
+pub follow :
+    {D G F : Type 0} {z : Circuit D G F} {among again : ℕ → Bool} {after w : State G F} → Leads z among again after w → (h : History z w)
+    → Later h after
 follow {G = G} {F = F} (is_there e) h = subst (λ (x : State G F). Later h x) e (record { history = h; stays = λ m n b t x. x })
 follow (takes_turn s m call note task in_it st rest) h =
     let l = follow rest (goes_on h s (Done note) st) in
@@ -35,8 +37,9 @@ follow (starts_again m in_it why st rest) h =
     record { history = l.history; stays = λ k n b t x. l.stays k n b t (inr x) }
 
 -- what is released is what was chosen before
-same_entry :
-    {D G F : Type 0} {z : Circuit D G F} {among again : ℕ → Bool} {m n : ℕ} {offers : List Offer} {w : State G F} (h : History z w) (to : CanRelease z among again m n offers w)
+pub same_entry :
+    {D G F : Type 0} {z : Circuit D G F} {among again : ℕ → Bool} {m n : ℕ} {offers : List Offer} {w : State G F} (h : History z w)
+    (to : CanRelease z among again m n offers w)
     → (t : Entry) → IsChosen h n t → to.entry ≡ t
 same_entry {G = G} {F = F} {z = z} {m = m} {n = n} {w = w} h to t c =
     let l = follow to.leads h in
@@ -46,7 +49,9 @@ same_entry {G = G} {F = F} {z = z} {m = m} {n = n} {w = w} h to t c =
     (subst (λ (q : List (Release G F)). IsAmong q released) (sym to.released) (among_right (w.releases ++ to.on_the_way) (released ∷ []) released (inl refl))))
     (c.0, weaker (λ k i x. l.stays k n c.0 t x) c.1)
 
-able : {D G F : Type 0} {z : Circuit D G F} {w : State G F} {among : ℕ → Bool} {v : Version} {n : ℕ} → CanServe z w among n → AreAt z w among v → Able z among v n last_round w
+able :
+    {D G F : Type 0} {z : Circuit D G F} {w : State G F} {among : ℕ → Bool} {v : Version} {n : ℕ} → CanServe z w among n → AreAt z w among v
+    → Able z among v n last_round w
 able {w = w} {n = n} can at_v = record {
   version = at_v;
   unarmed = can.unarmed;
@@ -65,7 +70,8 @@ pub circuit_is_never_stuck : {D G F : Type 0} → CircuitIsNeverStuck D G F
 circuit_is_never_stuck z fit w h among v n can at_v number m entry slugs member in_it fits sets speaks =
     let final : List Offer = w.offers ++ record { member = m; number = n; entry = entry } ∷ [] in
     let to : CanRelease z among (λ k. k == m) m n final w = reached (leads_on z fit among (λ k. k == m) v m n final (λ t. (t ≡ entry) ⊎ WasOffered w n t) speaks last_round le-refl number member can.many in_it
-    w.offers (Some entry) (by_offer z v m n w.offers (λ t. (t ≡ entry) ⊎ WasOffered w n t) entry slugs number fits sets (inl refl)) (λ j. ⊥) (inl (entry, refl)) (eq-eqb m m refl)
+    w.offers (Some entry) (by_offer z v m n w.offers (λ t. (t ≡ entry) ⊎ WasOffered w n t) entry slugs number fits sets (inl refl)) (λ j. ⊥)
+    (inl (entry, refl)) (eq-eqb m m refl)
     w (record { history = h; offered = λ t o. inr o }) refl (λ j none. absurd none) (able can at_v)) in
     (to, same_entry h to)
 
@@ -118,7 +124,9 @@ crosses z among n [] w h can inside left = record {
   releases = refl;
   offers = refl;
 }
-crosses {D = D} {G = G} {F = F} z among n (k ∷ rest) w h can inside left = go (among k) refl (w.version k) refl (λ left. crosses z among n rest w h can (λ j i. inside j (inr i)) left) (λ g can left. crosses z among n rest after g can (λ j i. inside j (inr i)) left)
+crosses {D = D} {G = G} {F = F} z among n (k ∷ rest) w h can inside left =
+    go (among k) refl (w.version k) refl (λ left. crosses z among n rest w h can (λ j i. inside j (inr i)) left)
+    (λ g can left. crosses z among n rest after g can (λ j i. inside j (inr i)) left)
   where
     after : State G F
     after = record w { version = with_at w.version k Two; marks = with_at w.marks k []; is_stopped = with_at w.is_stopped k false }
@@ -153,14 +161,16 @@ crosses {D = D} {G = G} {F = F} z among n (k ∷ rest) w h can inside left = go 
         → Crossed h among n
     go false e u f skip cross = skip (skips (λ j it x. absurd (yes_no (among k) e (subst (λ (q : ℕ). among q ≡ true) it x))))
     go true e Two f skip cross = skip (skips (λ j it x. subst (λ (q : ℕ). w.version q ≡ Two) (sym it) f))
-    go true e One f skip cross = on e (cross (goes_on h (Upgrades k) Upgraded (step e)) (record { many = can.many; unarmed = can.unarmed; rounds = can.rounds }) left_after)
+    go true e One f skip cross =
+        on e (cross (goes_on h (Upgrades k) Upgraded (step e)) (record { many = can.many; unarmed = can.unarmed; rounds = can.rounds }) left_after)
 
 pub half_an_upgrade_is_no_dead_end : {D G F : Type 0} → HalfAnUpgradeIsNoDeadEnd D G F
 half_an_upgrade_is_no_dead_end {D = D} {G = G} {F = F} z fit w h among n can number m entry slugs member in_it sets speaks =
     let c : Crossed h among n = crosses z among n (members z.count) w h can (λ k i. among_members z.count k i) (λ k i e. inr (member_among z.count k i)) in
     let final : List Offer = w.offers ++ record { member = m; number = n; entry = entry } ∷ [] in
     let to : CanRelease z among (λ k. k == m) m n final c.over = reached (leads_on z fit among (λ k. k == m) Two m n final (λ t. (t ≡ entry) ⊎ WasOffered w n t) speaks last_round le-refl number member can.many in_it
-    w.offers (Some entry) (by_offer z Two m n w.offers (λ t. (t ≡ entry) ⊎ WasOffered w n t) entry slugs number refl sets (inl refl)) (λ j. ⊥) (inl (entry, refl)) (eq-eqb m m refl)
+    w.offers (Some entry) (by_offer z Two m n w.offers (λ t. (t ≡ entry) ⊎ WasOffered w n t) entry slugs number refl sets (inl refl)) (λ j. ⊥)
+    (inl (entry, refl)) (eq-eqb m m refl)
     c.over (record { history = c.later.history; offered = λ t o. inr (o.0, subst (λ (l : List Offer). IsAmong l (record { member = o.0; number = n; entry = t })) c.offers o.1) })
     c.offers (λ j none. absurd none) (able c.can c.at_two)) in
     (c.over, c.goes, c.releases, to, λ t x. same_entry c.later.history to t (x.0, weaker (λ k i y. c.later.stays k n x.0 t y) x.1))

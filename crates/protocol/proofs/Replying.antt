@@ -32,12 +32,16 @@ pub nacks : (s : Seat) (marks : List Mark) (row : Row) (p : Packet) (a : Ballot)
 nacks s marks row p a e f = rw (e, f) refl
 
 -- and a Nack is taken in by the proposal at its ballot
-pub denies : (s : Seat) (marks : List Mark) (row : Row) (p : Packet) (a : Ballot) (o : Opening) → open_proposal p.number marks ≡ Some o → is_same o.ballot p.ballot ≡ true
+pub denies :
+    (s : Seat) (marks : List Mark) (row : Row) (p : Packet) (a : Ballot) (o : Opening) → open_proposal p.number marks ≡ Some o
+    → is_same o.ballot p.ballot ≡ true
     → packet_turn s 0 marks row p (Nack a) ≡ stays row (Denied p.number a ∷ marks) (Note_denied a)
 denies s marks row p a o e f = rw (e, f) refl
 
 -- an Accept that is not below the promise is voted for, where its ballot has no vote
-pub votes : (s : Seat) (marks : List Mark) (row : Row) (p : Packet) (entry : Entry) → is_above row.promised p.ballot ≡ false → vote_is_at row.vote p.ballot ≡ false
+pub votes :
+    (s : Seat) (marks : List Mark) (row : Row) (p : Packet) (entry : Entry) → is_above row.promised p.ballot ≡ false
+    → vote_is_at row.vote p.ballot ≡ false
     → packet_turn s 0 marks row p (Accept entry)
     ≡ after_hearing (voted p.ballot entry) (to_others s p.number p.ballot (Accepted entry)) (Note_voted p.ballot) (hear s.members p.number s.me p.ballot entry marks)
 votes s marks row p entry e f = rw (e, f) refl
@@ -76,7 +80,9 @@ pub waits : (c n j : ℕ) (b : Ballot) (entry : Entry) (marks : List Mark) → w
     → ((hear c n j b entry marks).marks ≡ Heard n j b entry ∷ marks) × (ripe c n (Heard n j b entry ∷ marks) ≡ None)
 waits c n j b entry marks unreleased none = go (ripe c n (Heard n j b entry ∷ marks)) refl
   where
-    go : (r : Option Vote) → ripe c n (Heard n j b entry ∷ marks) ≡ r → ((hear c n j b entry marks).marks ≡ Heard n j b entry ∷ marks) × (ripe c n (Heard n j b entry ∷ marks) ≡ None)
+    go :
+        (r : Option Vote) → ripe c n (Heard n j b entry ∷ marks) ≡ r
+        → ((hear c n j b entry marks).marks ≡ Heard n j b entry ∷ marks) × (ripe c n (Heard n j b entry ∷ marks) ≡ None)
     go None e = (rw (unreleased, e) refl, e)
     go (Some v) e = let no : Some v.entry ≡ None = rw e at (rw unreleased at none) in cc
 
@@ -101,7 +107,9 @@ map_among f (y ∷ xs) x (inl e) = inl (ap f e)
 map_among f (y ∷ xs) x (inr i) = inr (map_among f xs x i)
 
 -- what goes to all others goes to each
-pub goes_to : (s : Seat) (n : ℕ) (b : Ballot) (body : Body) (k : ℕ) → IsMember s.members k → (k == s.me) ≡ false → IsAmong (to_others s n b body) (packet_to s n b body k)
+pub goes_to :
+    (s : Seat) (n : ℕ) (b : Ballot) (body : Body) (k : ℕ) → IsMember s.members k → (k == s.me) ≡ false
+    → IsAmong (to_others s n b body) (packet_to s n b body k)
 goes_to s n b body k member other =
     map_among (packet_to s n b body) (others s) k (filter_among (λ j. not (j == s.me)) (members s.members) k (member_among s.members k member) (rw other refl))
 
@@ -142,7 +150,8 @@ pub others_say :
 others_say z entries from n b body i number at says p j =
     let (k, in_others, e) = among_map_of (packet_to (seat_at z from) n b body) (others (seat_at z from)) p j in
     let (in_members, other) = among_filter (λ x. not (x == from)) (members z.count) k in_others in
-    subst (λ (q : Packet). MaySay z entries q) (sym e) (packet_says z entries from k n b body i (among_members z.count k in_members) (not-true (k == from) other) number at (says k))
+    subst (λ (q : Packet). MaySay z entries q) (sym e)
+    (packet_says z entries from k n b body i (among_members z.count k in_members) (not-true (k == from) other) number at (says k))
 
 -- and so what goes out as an entry is proposed
 pub proposal_says :

@@ -99,7 +99,9 @@ next_is m (Some p) r e l =
     let f : nat_lt p.round last_round ≡ true = lt-ltb p.round last_round (let g : p.round ≡ r = e in omega arith) in
     rw f (ap (λ (x : ℕ). Some (record { round = suc x; owner = m })) e)
 
-pub above_none : (q : Option Ballot) (r m : ℕ) → round_of q ≤ r → (is_above q (record { round = suc r; owner = m }) ≡ false) × (is_at q (record { round = suc r; owner = m }) ≡ false)
+pub above_none :
+    (q : Option Ballot) (r m : ℕ) → round_of q ≤ r
+    → (is_above q (record { round = suc r; owner = m }) ≡ false) × (is_at q (record { round = suc r; owner = m }) ≡ false)
 above_none None r m l = (refl, refl)
 above_none (Some p) r m l = let h : p.round ≤ r = l in (grind (arith, nat_tests), grind (arith, nat_tests))
 
@@ -120,14 +122,20 @@ greatest_of f p limit some (x ∷ xs) h = go (greatest_of f p limit some xs (λ 
     wider (inl e) = inl e
     wider (inr (y, i, e, g)) = inr (y, inr i, e, g)
 
-    go : (rest : (r : ℕ) × (r < limit) × ((y : ℕ) → IsAmong xs y → p y ≡ true → f y ≤ r) × ((r ≡ 0) ⊎ ((y : ℕ) × IsAmong xs y × (p y ≡ true) × (f y ≡ r)))) → (t : Bool) → p x ≡ t → (f x ≤ rest.0) ⊎ (rest.0 < f x)
+    go :
+        (rest : (r : ℕ) × (r < limit) × ((y : ℕ) → IsAmong xs y → p y ≡ true → f y ≤ r) × ((r ≡ 0) ⊎ ((y : ℕ) × IsAmong xs y × (p y ≡ true) × (f y ≡ r))))
+        → (t : Bool) → p x ≡ t → (f x ≤ rest.0) ⊎ (rest.0 < f x)
         → (r : ℕ) × (r < limit) × ((y : ℕ) → IsAmong (x ∷ xs) y → p y ≡ true → f y ≤ r) × ((r ≡ 0) ⊎ ((y : ℕ) × IsAmong (x ∷ xs) y × (p y ≡ true) × (f y ≡ r)))
-    go rest false e c = (rest.0, rest.1, λ y i g. elim i [ inl same ↦ absurd (yes_no (p x) e (subst (λ (q : ℕ). p q ≡ true) same g)) | inr j ↦ rest.2 y j g ], wider rest.3)
+    go rest false e c =
+        (rest.0, rest.1, λ y i g. elim i [ inl same ↦ absurd (yes_no (p x) e (subst (λ (q : ℕ). p q ≡ true) same g)) | inr j ↦ rest.2 y j g ], wider rest.3)
     go rest true e (inl l) = (rest.0, rest.1, λ y i g. elim i [ inl same ↦ subst (λ (q : ℕ). f q ≤ rest.0) (sym same) l | inr j ↦ rest.2 y j g ], wider rest.3)
-    go rest true e (inr l) = (f x, h x (inl refl) e, λ y i g. elim i [ inl same ↦ subst (λ (q : ℕ). f q ≤ f x) (sym same) (omega arith) | inr j ↦ (let k : f y ≤ rest.0 = rest.2 y j g in omega arith) ], inr (x, inl refl, e, refl))
+    go rest true e (inr l) =
+        (f x, h x (inl refl) e, λ y i g. elim i [ inl same ↦ subst (λ (q : ℕ). f q ≤ f x) (sym same) (omega arith) | inr j ↦ (let k : f y ≤ rest.0 = rest.2 y j g in omega arith) ], inr (x, inl refl, e, refl))
 
 -- a saved vote is not above its row's promise
-pub vote_round : {D G F : Type 0} {z : Circuit D G F} {w : State G F} (h : History z w) (k n r : ℕ) → round_of (w.rows k n).promised ≤ r → (x : Vote) → (w.rows k n).vote ≡ Some x → x.ballot.round ≤ r
+pub vote_round :
+    {D G F : Type 0} {z : Circuit D G F} {w : State G F} (h : History z w) (k n r : ℕ) → round_of (w.rows k n).promised ≤ r → (x : Vote)
+    → (w.rows k n).vote ≡ Some x → x.ballot.round ≤ r
 vote_round {w = w} h k n r l x e =
     let p = (history_sound h).sound.valid k n x e in
     let q : p.at.round ≤ r = subst (λ (o : Option Ballot). round_of o ≤ r) p.is l in

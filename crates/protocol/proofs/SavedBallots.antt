@@ -80,10 +80,13 @@ module _ (c : ℕ) where
   one_rises f p (inl e) = subst (λ (x : Packet). PacketRises x) (sym e) f
   one_rises f p (inr e) = absurd e
 
-  hears_rise : {c n j : ℕ} {b : Ballot} {t : Entry} {marks after : List Mark} {release : Option Entry} → Hears c n j b t marks release after → MarksRise marks → MarksRise after
+  hears_rise :
+      {c n j : ℕ} {b : Ballot} {t : Entry} {marks after : List Mark} {release : Option Entry} → Hears c n j b t marks release after → MarksRise marks
+      → MarksRise after
   hears_rise (was_settled i er ea) h = subst (λ (l : List Mark). MarksRise l) (sym ea) h
   hears_rise {n = n} {j = j} {b = b} {t = t} (waits i w er ea) h = subst (λ (l : List Mark). MarksRise l) (sym ea) (and_mark (Heard n j b t) tt h)
-  hears_rise {n = n} {j = j} {b = b} {t = t} (releases a u i ripe er ea) h = subst (λ (l : List Mark). MarksRise l) (sym ea) (and_mark (Released n u) tt (and_mark (Heard n j b t) tt h))
+  hears_rise {n = n} {j = j} {b = b} {t = t} (releases a u i ripe er ea) h =
+      subst (λ (l : List Mark). MarksRise l) (sym ea) (and_mark (Released n u) tt (and_mark (Heard n j b t) tt h))
 
   proposes_rise :
       {seat : Seat} {n : ℕ} {b : Ballot} {now : ℕ} {own : Option Entry} {report : Option Vote} {since : List Mark} {row : Row} {marks : List Mark} {t : Turn}
@@ -93,14 +96,16 @@ module _ (c : ℕ) where
       subst (λ (t : Turn). TurnRises t) (sym e) (record {
         row = (l, l);
         marks = hears_rise hearing (and_mark (Proposed n b now) tt h);
-        out = λ p i. elim (among-append (to_others seat n b (Accept entry)) (to_others seat n b (Accepted entry)) p i) [ inl y ↦ others_rise seat n b (Accept entry) l p y | inr y ↦ others_rise seat n b (Accepted entry) tt p y ];
+        out = λ p i.
+            elim (among-append (to_others seat n b (Accept entry)) (to_others seat n b (Accepted entry)) p i) [ inl y ↦ others_rise seat n b (Accept entry) l p y | inr y ↦ others_rise seat n b (Accepted entry) tt p y ];
       })
 
   begins_rise :
       {seat : Seat} {n : ℕ} {b : Ballot} {own : Option Entry} {now : ℕ} {row : Row} {marks : List Mark} {t : Turn}
       → Begins seat n b own now row marks t → Good b → RowRises row → MarksRise marks → TurnRises t
   begins_rise {seat = seat} {n = n} {b = b} {own = own} {now = now} {row = row} (asks many e) l r h =
-      subst (λ (t : Turn). TurnRises t) (sym e) (record { row = (r.0, l); marks = and_mark (Began n b own row.vote now) l h; out = others_rise seat n b Prepare l })
+      subst (λ (t : Turn). TurnRises t) (sym e)
+      (record { row = (r.0, l); marks = and_mark (Began n b own row.vote now) l h; out = others_rise seat n b Prepare l })
   begins_rise {n = n} {b = b} {own = own} {now = now} {row = row} (alone e proposing) l r h =
       proposes_rise proposing l (r.0, l) (and_mark (Began n b own row.vote now) l h)
 
@@ -115,7 +120,9 @@ module _ (c : ℕ) where
           subst (λ (x : Ballot). Good x) (sym k) (omega arith, i)
       go false f = let g : None ≡ Some b = rw f at e in cc
 
-  due_rises : {seat : Seat} {n now : ℕ} {marks : List Mark} {row : Row} {t : Turn} → IsMember c seat.me → DueTurn seat n now marks row t → RowRises row → MarksRise marks → TurnRises t
+  due_rises :
+      {seat : Seat} {n now : ℕ} {marks : List Mark} {row : Row} {t : Turn} → IsMember c seat.me → DueTurn seat n now marks row t → RowRises row
+      → MarksRise marks → TurnRises t
   due_rises me (table.DueTurn.is_idle i e) r h = stays_rise e r h
   due_rises {n = n} me (gives_up b own denied seen due g g' l e) r h = stays_rise e r (and_mark (Closed n) tt h)
   due_rises {seat = seat} me (begins_anew b own denied seen a due g g' l e begins) r h = begins_rise begins (next_rises seen seat.me a me e) r h
@@ -138,22 +145,28 @@ module _ (c : ℕ) where
   answer_rises :
       (seat : Seat) (now : ℕ) (marks : List Mark) (row : Row) (p : Packet) (body : Body) (t : Turn)
       → AnswerTurn seat now marks row p body t → RowRises row → MarksRise marks → BodyRises p.ballot body → TurnRises t
-  answer_rises seat now marks row p Prepare t (promises free e) r h f = subst (λ (t : Turn). TurnRises t) (sym e) (record { row = (r.0, f); marks = h; out = one_rises tt })
+  answer_rises seat now marks row p Prepare t (promises free e) r h f =
+      subst (λ (t : Turn). TurnRises t) (sym e) (record { row = (r.0, f); marks = h; out = one_rises tt })
   answer_rises seat now marks row p Prepare t (is_silent same e) r h f = stays_rise e r h
-  answer_rises seat now marks row p Prepare t (table.PrepareTurn.nacks a is up e) r h f = subst (λ (t : Turn). TurnRises t) (sym e) (record { row = r; marks = h; out = one_rises tt })
+  answer_rises seat now marks row p Prepare t (table.PrepareTurn.nacks a is up e) r h f =
+      subst (λ (t : Turn). TurnRises t) (sym e) (record { row = r; marks = h; out = one_rises tt })
   answer_rises seat now marks row p (Promise report) t taken r h f = promise_rises taken r h
-  answer_rises seat now marks row p (Accept entry) t (table.AcceptTurn.nacks a is up e) r h f = subst (λ (t : Turn). TurnRises t) (sym e) (record { row = r; marks = h; out = one_rises tt })
+  answer_rises seat now marks row p (Accept entry) t (table.AcceptTurn.nacks a is up e) r h f =
+      subst (λ (t : Turn). TurnRises t) (sym e) (record { row = r; marks = h; out = one_rises tt })
   answer_rises seat now marks row p (Accept entry) t (votes_again own release after free at_it hearing e) r h f =
       subst (λ (t : Turn). TurnRises t) (sym e) (record { row = r; marks = hears_rise hearing h; out = others_rise seat p.number p.ballot (Accepted own) tt })
   answer_rises seat now marks row p (Accept entry) t (votes release after free unvoted hearing e) r h f =
-      subst (λ (t : Turn). TurnRises t) (sym e) (record { row = (f, f); marks = hears_rise hearing h; out = others_rise seat p.number p.ballot (Accepted entry) tt })
+      subst (λ (t : Turn). TurnRises t) (sym e)
+      (record { row = (f, f); marks = hears_rise hearing h; out = others_rise seat p.number p.ballot (Accepted entry) tt })
   answer_rises seat now marks row p (Accepted entry) t (settles i e) r h f = stays_rise e r h
   answer_rises seat now marks row p (Accepted entry) t (hears release after i hearing e) r h f =
       subst (λ (t : Turn). TurnRises t) (sym e) (record { row = r; marks = hears_rise hearing h; out = λ p i. absurd i })
   answer_rises seat now marks row p (Nack a) t (table.NackTurn.is_stale i e) r h f = stays_rise e r h
   answer_rises seat now marks row p (Nack a) t (is_denied own mine since o e) r h f = stays_rise e r (and_mark (Denied p.number a) tt h)
 
-  turn_rises : (seat : Seat) (marks : List Mark) (row : Row) (e : Event) (t : Turn) → IsMember c seat.me → IsTurn seat marks row e t → RowRises row → MarksRise marks → EventRises e → TurnRises t
+  turn_rises :
+      (seat : Seat) (marks : List Mark) (row : Row) (e : Event) (t : Turn) → IsMember c seat.me → IsTurn seat marks row e t → RowRises row
+      → MarksRise marks → EventRises e → TurnRises t
   turn_rises seat marks row (Offered n entry now) t me (starts b i begins) r h f = begins_rise begins (next_rises row.promised seat.me b me i) r h
   turn_rises seat marks row (Sought n now) t me (starts b i begins) r h f = begins_rise begins (next_rises row.promised seat.me b me i) r h
   turn_rises seat marks row (Came_due n now) t me taken r h f = due_rises me taken r h
@@ -198,9 +211,12 @@ module _ {D G F : Type 0} (z : Circuit D G F) where
   -- what a turn leaves
   taken_rises :
       (w : State G F) → StateRises w → (s : Step) (m : ℕ) (call : Call) (e : Event) (t : Turn) → IsTask w.sent s m call → IsMember z.count m
-      → event_of (setup_of z (w.version m) m) (w.marks m) call ≡ Some e → turn (seat_at z m) (w.marks m) (w.rows m (number_of e)) e ≡ Some t → TurnRises z.count t
+      → event_of (setup_of z (w.version m) m) (w.marks m) call ≡ Some e → turn (seat_at z m) (w.marks m) (w.rows m (number_of e)) e ≡ Some t
+      → TurnRises z.count t
   taken_rises w h s m call e t task member event taken =
-      turn_rises z.count (seat_at z m) (w.marks m) (w.rows m (number_of e)) e t member (is_turn (seat_at z m) (w.marks m) (w.rows m (number_of e)) e t member taken) (h.rows m (number_of e)) (h.marks m) (event_rises w h s m call e task event)
+      turn_rises z.count (seat_at z m) (w.marks m) (w.rows m (number_of e)) e t member
+      (is_turn (seat_at z m) (w.marks m) (w.rows m (number_of e)) e t member taken) (h.rows m (number_of e)) (h.marks m)
+      (event_rises w h s m call e task event)
 
   step_rises : (w : State G F) (s : Step) (o : Outcome D F) (after : State G F) → StateRises w → StepsTo z w s o after → StateRises after
   step_rises w s o after h (is_refused m call r task member refused how is) = subst (λ (x : State G F). StateRises x) (sym (same_state is)) h
@@ -216,7 +232,8 @@ module _ {D G F : Type 0} (z : Circuit D G F) where
         marks = marked_rise w h m t.marks f.marks;
       })
   step_rises w s o after h (is_torn m call e row armed task member event leaves is) =
-      subst (λ (x : State G F). StateRises x) (sym (same_state is)) (record { packets = h.packets; spelled = h.spelled; asked = h.asked; rows = saved_rise w h m (number_of e) row (left leaves); marks = marked_rise w h m [] no_marks })
+      subst (λ (x : State G F). StateRises x) (sym (same_state is))
+      (record { packets = h.packets; spelled = h.spelled; asked = h.asked; rows = saved_rise w h m (number_of e) row (left leaves); marks = marked_rise w h m [] no_marks })
     where
       left : Leaves z w m call e o row armed → RowRises z.count row
       left (store_before_save how un same stays) = subst (λ (r : Row). RowRises z.count r) (sym same) (h.rows m (number_of e))
@@ -226,16 +243,22 @@ module _ {D G F : Type 0} (z : Circuit D G F) where
         | inr same ↦ subst (λ (r : Row). RowRises z.count r) (sym same) (taken_rises w h s m call e t task member event taken).row
       ]
   step_rises w s o after h (restarts m member is_restart how is) =
-      subst (λ (x : State G F). StateRises x) (sym (same_state is)) (record { packets = h.packets; spelled = h.spelled; asked = h.asked; rows = h.rows; marks = marked_rise w h m [] no_marks })
+      subst (λ (x : State G F). StateRises x) (sym (same_state is))
+      (record { packets = h.packets; spelled = h.spelled; asked = h.asked; rows = h.rows; marks = marked_rise w h m [] no_marks })
   step_rises w s o after h (upgrades m member is_upgrade how unarmed is) =
-      subst (λ (x : State G F). StateRises x) (sym (same_state is)) (record { packets = h.packets; spelled = h.spelled; asked = h.asked; rows = h.rows; marks = marked_rise w h m [] no_marks })
+      subst (λ (x : State G F). StateRises x) (sym (same_state is))
+      (record { packets = h.packets; spelled = h.spelled; asked = h.asked; rows = h.rows; marks = marked_rise w h m [] no_marks })
   step_rises w s o after h (upgrade_is_torn m v member is_upgrade turns is) =
-      subst (λ (x : State G F). StateRises x) (sym (same_state is)) (record { packets = h.packets; spelled = h.spelled; asked = h.asked; rows = h.rows; marks = marked_rise w h m [] no_marks })
+      subst (λ (x : State G F). StateRises x) (sym (same_state is))
+      (record { packets = h.packets; spelled = h.spelled; asked = h.asked; rows = h.rows; marks = marked_rise w h m [] no_marks })
   step_rises w s o after h (is_armed m b member is_balk how is) =
-      subst (λ (x : State G F). StateRises x) (sym (same_state is)) (record { packets = h.packets; spelled = h.spelled; asked = h.asked; rows = h.rows; marks = h.marks })
+      subst (λ (x : State G F). StateRises x) (sym (same_state is))
+      (record { packets = h.packets; spelled = h.spelled; asked = h.asked; rows = h.rows; marks = h.marks })
 
   history_rises : {w : State G F} → History z w → StateRises w
-  history_rises (starts_fresh version f) = subst (λ (x : State G F). StateRises x) (sym (same_state f)) (record { packets = []; spelled = tt; asked = λ p i. absurd i; rows = λ m n. (tt, tt); marks = λ m. no_marks })
+  history_rises (starts_fresh version f) =
+      subst (λ (x : State G F). StateRises x) (sym (same_state f))
+      (record { packets = []; spelled = tt; asked = λ p i. absurd i; rows = λ m n. (tt, tt); marks = λ m. no_marks })
   history_rises (goes_on {w = w} {after = after} h s o st) = step_rises w s o after (history_rises h) st
 
   pub vote_rises : {w : State G F} → History z w → (m n : ℕ) (x : Vote) → (w.rows m n).vote ≡ Some x → 1 ≤ x.ballot.round

@@ -3,15 +3,15 @@ use Rattle.std.proofs.Common.{◌≡◌, inl, inr, refl, sym, ap, subst, ◌∙�
 use Rattle.std.specs.Prelude.{if◌then◌else◌}
 use Rattle.protocol.specs.Ballots.{IsMember}
 use Rattle.protocol.specs.Rows.{Row, blank, voted}
-use Rattle.protocol.specs.Turn.{Event, Offered, Sought, number_of, Note_nothing, Note_proposed}
-use Rattle.protocol.specs.Refusals.{Offering, Seeking, Tape_faulty, refusal, event_of}
+use Rattle.protocol.specs.Turn.{Event, Offered, Sought, number_of, Note, Note_nothing, Note_proposed}
+use Rattle.protocol.specs.Refusals.{Call, Offering, Seeking, Tape_faulty, refusal, event_of}
 use Rattle.protocol.specs.Circuit.{with_at, Upgrades, Circuit, State, Step, Offers, Seeks, Restarts, Balks, Outcome, Done, Refused, Torn_by_store, Torn_as_armed, Torn_by_memory, Restarted, Upgraded, Armed, saved, Task, task_of, setup_of, MayLeave, Leaves, store_before_save, memory_before_save, at_save, is_refused, is_idle, is_spent, is_done, is_torn, restarts, upgrades, upgrade_is_torn, is_armed, History, goes_on}
 use Rattle.protocol.specs.Runs.{ballot}
-use Rattle.protocol.specs.Tearing.{by_store, StoreTearsTheUnrefused, WasArmed, TornAsItWasArmed, EndsUpgrade, TookUpgrade, UpgradesKeepRows}
+use Rattle.protocol.specs.Tearing.{by_store, StoreTearsTheUnrefused, WasArmed, TornAsItWasArmed, EndsUpgrade, TookUpgrade, UpgradesKeepRows, ArmedStoresSaveNothing}
 use Rattle.protocol.specs.Versions.{Version, Two}
 use Rattle.std.specs.Prelude.{ℕ}
 use Rattle.protocol.specs.Rehearsals.{MemoryEndsSetting, SettingWantsMemory, StaysArmed, ReadingLeavesArmed, SaveIsRefusedTwice, StoreRefusesToo}
-use Rattle.protocol.proofs.Places.{with_at-same, saved-same}
+use Rattle.protocol.proofs.Places.{with_at-same, saved-same, saved_cases, saved-self}
 use Rattle.protocol.proofs.Rehearsing.{same, begins, of_count, at_count, changes}
 
 false_true : false ≡ true → ⊥
@@ -160,10 +160,10 @@ tear_ends :
 tear_ends D G F w after m o v (Some false) flag may at stops =
     subst (λ (x : Outcome D F). EndsUpgrade w after m x) (sym may.0) (false, flag, at ∙ may.1, stops)
 tear_ends D G F w after m o v (Some true) flag may at stops = elim may [
-    | inl x ↦ subst (λ (x : Outcome D F). EndsUpgrade w after m x) (sym x.0) (true, flag, at ∙ x.1, stops)
-    | inr x ↦ subst (λ (x : Outcome D F). EndsUpgrade w after m x) (sym x.0)
-        ((λ is. false_true (sym (some_is (sym flag ∙ is)))), elim x.1 [ inl y ↦ inl (at ∙ y) | inr y ↦ inr (at ∙ y) ], stops)
-  ]
+  | inl x ↦ subst (λ (x : Outcome D F). EndsUpgrade w after m x) (sym x.0) (true, flag, at ∙ x.1, stops)
+  | inr x ↦ subst (λ (x : Outcome D F). EndsUpgrade w after m x) (sym x.0)
+      ((λ is. false_true (sym (some_is (sym flag ∙ is)))), elim x.1 [ inl y ↦ inl (at ∙ y) | inr y ↦ inr (at ∙ y) ], stops)
+]
 tear_ends D G F w after m o v None flag may at stops =
     subst (λ (x : Outcome D F). EndsUpgrade w after m x) (sym may.0)
     ((λ is. none_some (sym flag ∙ is)), elim may.1 [ inl y ↦ inl (at ∙ y) | inr y ↦ inr (at ∙ y) ], stops)
@@ -191,3 +191,46 @@ upgrades_keep_rows {D = D} {G = G} {F = F} z w after o m (upgrade_is_torn k v me
       ends = tear_ends D G F w after k o v (w.armed k) refl may (is.version k ∙ with_at-same w.version k v) (is.is_stopped k ∙ with_at-same w.is_stopped k true);
     })
 upgrades_keep_rows z w after o m (is_armed k b member is_balk how is) = absurd (no_upgrade m _ is_balk refl)
+
+-- the outcome is a turn that was taken
+abbrev is_taken : {D F : Type 0} → Outcome D F → Bool
+is_taken (Done note) = true
+is_taken _ = false
+
+not_taken : {D F : Type 0} (note : Note) (o : Outcome D F) → Done note ≡ o → is_taken o ≡ false → ⊥
+not_taken note o is other = false_true (sym other ∙ sym (ap is_taken is))
+
+-- what a refused save leaves is not of a turn that was taken
+may_not_be_done : (D F : Type 0) {A : Type 0} (flag : Option Bool) (note : Note) (before after now : A) → MayLeave {A = A} {D = D} {F = F} flag (Done note) before after now → ⊥
+may_not_be_done D F (Some false) note before after now may = not_taken note Torn_as_armed may.0 refl
+may_not_be_done D F (Some true) note before after now may =
+    elim may [ inl x ↦ not_taken note Torn_as_armed x.0 refl | inr x ↦ not_taken note Torn_by_store x.0 refl ]
+may_not_be_done D F None note before after now may = not_taken note Torn_by_store may.0 refl
+
+-- nor is a torn step
+torn_is_not_done :
+    {D G F : Type 0} (z : Circuit D G F) (w : State G F) (k : ℕ) (call : Call) (e : Event) (note : Note) (row : Row) (armed : Option Bool)
+    → Leaves {D = D} z w k call e (Done note) row armed → ⊥
+torn_is_not_done z w k call e note row armed (store_before_save how unrefused left left_armed) = not_taken note Torn_by_store how refl
+torn_is_not_done z w k call e note row armed (memory_before_save how early left left_armed) = not_taken note Torn_by_memory how refl
+torn_is_not_done {D = D} {F = F} z w k call e note row armed (at_save t unrefused turn changed may left_armed) =
+    may_not_be_done D F (w.armed k) note (w.rows k (number_of e)) t.row row may
+
+pub armed_stores_save_nothing : {D G F : Type 0} → ArmedStoresSaveNothing D G F
+armed_stores_save_nothing z w after s note m n (is_refused k call r task member refused how is) changed = absurd (changed (is.rows m n))
+armed_stores_save_nothing z w after s note m n (is_idle k call task member un event how is) changed = absurd (changed (is.rows m n))
+armed_stores_save_nothing z w after s note m n (is_spent k call e task member un event turn how is) changed = absurd (changed (is.rows m n))
+armed_stores_save_nothing z w after s note m n (is_done k call e t out task member un event turn carried unarmed how is) changed =
+    elim (saved_cases w.rows k (number_of e) (w.rows k (number_of e)) t.row m n) [
+      | inl x ↦ absurd (changed (is.rows m n ∙ x ∙ saved-self w.rows k (number_of e) m n))
+      | inr x ↦ elim unarmed [
+        | inl free ↦ subst (λ (j : ℕ). w.armed j ≡ None) (sym x.0) free
+        | inr same ↦ absurd (changed (is.rows m n ∙ x.3 ∙ same ∙ sym x.2 ∙ saved-self w.rows k (number_of e) m n))
+      ]
+    ]
+armed_stores_save_nothing z w after s note m n (is_torn k call e row armed task member event leaves is) changed =
+    absurd (torn_is_not_done z w k call e note row armed leaves)
+armed_stores_save_nothing z w after s note m n (restarts k member is_restart how is) changed = absurd (changed (is.rows m n))
+armed_stores_save_nothing z w after s note m n (upgrades k member is_upgrade how unarmed is) changed = absurd (changed (is.rows m n))
+armed_stores_save_nothing z w after s note m n (upgrade_is_torn k v member is_upgrade may is) changed = absurd (changed (is.rows m n))
+armed_stores_save_nothing z w after s note m n (is_armed k b member is_balk how is) changed = absurd (changed (is.rows m n))

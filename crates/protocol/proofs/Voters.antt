@@ -7,7 +7,9 @@ use Rattle.protocol.specs.Circuit.{Circuit, State, Step, Outcome, saved, StepsTo
 use Rattle.protocol.specs.Agreement.{HoldsVote, WasVoted}
 use Rattle.protocol.proofs.Places.{saved_cases, saved-self}
 
-pub was_held : {D G F : Type 0} {z : Circuit D G F} {w : State G F} (h : History z w) (m n : ℕ) (b : Ballot) (t : Entry) → HoldsVote w m n b t → WasVoted h m n b t
+pub was_held :
+    {D G F : Type 0} {z : Circuit D G F} {w : State G F} (h : History z w) (m n : ℕ) (b : Ballot) (t : Entry) → HoldsVote w m n b t
+    → WasVoted h m n b t
 was_held (starts version f) m n b t v = v
 was_held (goes_on h s o st) m n b t v = inl v
 

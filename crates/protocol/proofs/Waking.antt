@@ -41,7 +41,9 @@ pub record Asking {D G F : Type 0} (z : Circuit D G F) (v : Version) (m n : ℕ)
   pub call : Call
   pub event : Event
   pub task : (sent : List Datagram) → IsTask sent step m call
-  pub unrefused : (w : State G F) → w.is_stopped m ≡ false → was_released n (w.marks m) ≡ false → open_proposal n (w.marks m) ≡ None → w.version m ≡ v → refusal (setup_of z (w.version m) m) (w.is_stopped m) (w.marks m) call ≡ None
+  pub unrefused :
+      (w : State G F) → w.is_stopped m ≡ false → was_released n (w.marks m) ≡ false → open_proposal n (w.marks m) ≡ None → w.version m ≡ v
+      → refusal (setup_of z (w.version m) m) (w.is_stopped m) (w.marks m) call ≡ None
   pub brings_it : (u : Version) (marks : List Mark) → event_of (setup_of z u m) marks call ≡ Some event
   pub number : number_of event ≡ n
   pub turns : (marks : List Mark) (row : Row) → turn (seat_at z m) marks row event ≡ start_turn (seat_at z m) n own 0 marks row (next row.promised m)
@@ -135,7 +137,9 @@ module _
     pub unrefused : refusal (setup_of z (w.version m) m) (w.is_stopped m) (w.marks m) call ≡ None
     pub brings_it : event_of (setup_of z (w.version m) m) (w.marks m) call ≡ Some event
     pub number_is : number_of event ≡ n
-    pub turns : turn (seat_at z m) (w.marks m) (w.rows m n) event ≡ Some (begin (seat_at z m) n (record { round = suc r; owner = m }) own now (w.marks m) (w.rows m n))
+    pub turns :
+        turn (seat_at z m) (w.marks m) (w.rows m n) event ≡ Some
+        (begin (seat_at z m) n (record { round = suc r; owner = m }) own now (w.marks m) (w.rows m n))
     pub brings : Brings entries event
     pub settles : offers_with w.offers m event ≡ final
 
@@ -218,7 +222,8 @@ module _
 
       more : (z.count == 1) ≡ false → (after : State G F) → Asked be.event (raised row b) began (to_others (seat_at z m) n b Prepare) w after → Goal after
       more one after st =
-          all_promise z fit among again v m n final entries speaks limit number b at member refl low many in_it o refl Voted own_or_voted (members z.count) after
+          all_promise z fit among again v m n final entries speaks limit number b at member refl low many in_it o refl Voted own_or_voted
+          (members z.count) after
           (record {
             known = st.told;
             settled = st.offers_are ∙ be.settles;
@@ -228,13 +233,17 @@ module _
             opens = subst (λ (l : List Mark). gathering_at n b l ≡ Some o) (sym st.marks_are) opens;
             unreleased = subst (λ (l : List Mark). was_released n l ≡ false) (sym st.marks_are) g.unreleased;
             heard_low = λ j i e a u h. heard_low j i e a u (subst (λ (l : List Mark). IsAmong l (Heard n j a u)) st.marks_are h);
-            few = subst (λ (l : List Mark). is_majority z.count (is_counted (counted m n o (since_began n l))) ≡ false) (sym st.marks_are) (few z.count m (is_counted (counted m n o (since_began n began))) some one only);
+            few =
+                subst (λ (l : List Mark). is_majority z.count (is_counted (counted m n o (since_began n l))) ≡ false) (sym st.marks_are)
+                (few z.count m (is_counted (counted m n o (since_began n began))) some one only);
             free = λ k i e other. subst (λ (x : Row). Free b x) (sym (st.row_other k other)) (free k i e);
             lower = λ k i e t.
                 subst (λ (x : Row). Lower b x) (sym (st.row_other k (far st k t)))
                 (record { unpromised = (above_none (w.rows k n).promised r m (g.rounds k i e)).1; under = λ x f. inl (less x.ballot.round (vote_round g.known.history k n r (g.rounds k i e) x f)) });
             has_vote = λ j voted t. subst (λ (x : Row). (u : Vote) × (x.vote ≡ Some u)) (sym (st.row_other j (far st j t))) (g.has_vote j voted);
-            reported = λ j voted t. own_report (since_began n (after.marks m)) j voted (only j (subst (λ (l : List Mark). is_counted (counted m n o (since_began n l)) j ≡ true) st.marks_are t));
+            reported = λ j voted t.
+                own_report (since_began n (after.marks m)) j voted
+                (only j (subst (λ (l : List Mark). is_counted (counted m n o (since_began n l)) j ≡ true) st.marks_are t));
             asked = λ k i other. st.went (packet_to (seat_at z m) n b Prepare k) (goes_to (seat_at z m) n b Prepare k i other);
           })
           (λ j h. among_members z.count j h) (λ j i' e'. inr (member_among z.count j i'))
@@ -261,8 +270,12 @@ module _
           me : (k : ℕ) → k ≡ m → is_counted (counted m n o (since_began n began)) k ≡ true
           me k e = let f : (m == k) ≡ true = eq-eqb m k (sym e) in rw (self, f) refl
 
-          far : {after : State G F} → Asked be.event (raised row b) began (to_others (seat_at z m) n b Prepare) w after → (k : ℕ) → is_counted (counted m n o (since_began n (after.marks m))) k ≡ false → (k == m) ≡ false
-          far {after = after} st k t = apart k m (λ f. yes_no (is_counted (counted m n o (since_began n (after.marks m))) k) t (subst (λ (l : List Mark). is_counted (counted m n o (since_began n l)) k ≡ true) (sym st.marks_are) (me k f)))
+          far :
+              {after : State G F} → Asked be.event (raised row b) began (to_others (seat_at z m) n b Prepare) w after → (k : ℕ)
+              → is_counted (counted m n o (since_began n (after.marks m))) k ≡ false → (k == m) ≡ false
+          far {after = after} st k t =
+              apart k m
+              (λ f. yes_no (is_counted (counted m n o (since_began n (after.marks m))) k) t (subst (λ (l : List Mark). is_counted (counted m n o (since_began n l)) k ≡ true) (sym st.marks_are) (me k f)))
 
       counted_me : (j : ℕ) → is_counted (counted m n o []) j ≡ true → j ≡ m
       counted_me j e = go (m == j) refl
@@ -279,11 +292,13 @@ module _
           me k e = let f : (m == k) ≡ true = eq-eqb m k (sym e) in rw f refl
 
           only : (k : ℕ) → IsMember z.count k → k ≡ m
-          only k i = let e : z.count ≡ 1 = eqb-true z.count 1 one in let a : 1 ≤ m = member.0 in let l : m ≤ z.count = member.1 in let c : 1 ≤ k = i.0 in let d : k ≤ z.count = i.1 in omega arith
+          only k i =
+              let e : z.count ≡ 1 = eqb-true z.count 1 one in let a : 1 ≤ m = member.0 in let l : m ≤ z.count = member.1 in let c : 1 ≤ k = i.0 in let d : k ≤ z.count = i.1 in omega arith
 
           go : (t : Bool) → is_majority z.count (is_counted (counted m n o [])) ≡ t → is_majority z.count (is_counted (counted m n o [])) ≡ true
           go true e = e
-          go false e = absurd (no_majority_of z.count (is_counted (counted m n o [])) (λ k. is_counted (counted m n o []) k ≡ true) (λ k i t. t) e (record { has = among; many = many; each = λ k i f. me k (only k i) }))
+          go false e =
+              absurd (no_majority_of z.count (is_counted (counted m n o [])) (λ k. is_counted (counted m n o []) k ≡ true) (λ k i t. t) e (record { has = among; many = many; each = λ k i f. me k (only k i) }))
 
       go : (t : Bool) → (z.count == 1) ≡ t → Goal w
       go true one =
@@ -300,7 +315,9 @@ module _
   asks r w g at_r below = goes_through r w g.is_set (asked_begins r w g at_r below) below
 
   -- of two members or more, it raises its own promise to round r, a round at a time: it seeks and starts again
-  raises : (may : again m ≡ true) (one : (z.count == 1) ≡ false) (r : ℕ) → r < limit → (d : ℕ) (w : State G F) → Ready r w → round_of (w.rows m n).promised + d ≡ r → Goal w
+  raises :
+      (may : again m ≡ true) (one : (z.count == 1) ≡ false) (r : ℕ) → r < limit → (d : ℕ) (w : State G F) → Ready r w
+      → round_of (w.rows m n).promised + d ≡ r → Goal w
   raises may one r below zero w g at_r = asks r w g (omega arith) below
   raises may one r below (suc d) w g at_r = go (λ after x e. raises may one r below d after x e)
     where
@@ -320,7 +337,8 @@ module _
       free_call = rw (g.is_set.serves.going m member in_it, g.unopened, g.is_set.unreleased, number) refl
 
       began : Turn
-      began = record { row = raised row b; marks = Began n b None row.vote 0 ∷ w.marks m; out = to_others (seat_at z m) n b Prepare; release = None; note = Note_began b }
+      began =
+          record { row = raised row b; marks = Began n b None row.vote 0 ∷ w.marks m; out = to_others (seat_at z m) n b Prepare; release = None; note = Note_began b }
 
       renews :
           ((after : State G F) → Ready r after → round_of (after.rows m n).promised + d ≡ r → Goal after)
@@ -347,19 +365,29 @@ module _
           })
           (subst (λ (x : Row). round_of x.promised + d ≡ r) (sym (re.rows m n ∙ st.row_is)) (omega arith)))
         where
-          has_vote : (k : ℕ) → Voted k → (w1 : State G F) → Leaves m (raised row b) (Began n b None row.vote 0 ∷ w.marks m) (to_others (seat_at z m) n b Prepare) w w1 → (t : Bool) → (k == m) ≡ t → (u : Vote) × ((w1.rows k n).vote ≡ Some u)
+          has_vote :
+              (k : ℕ) → Voted k → (w1 : State G F)
+              → Leaves m (raised row b) (Began n b None row.vote 0 ∷ w.marks m) (to_others (seat_at z m) n b Prepare) w w1 → (t : Bool) → (k == m) ≡ t
+              → (u : Vote) × ((w1.rows k n).vote ≡ Some u)
           has_vote k voted w1 st true f =
               let x = g.is_set.has_vote m (subst (λ (j : ℕ). Voted j) (eqb-true k m f) voted) in
-              subst (λ (j : ℕ). (u : Vote) × ((w1.rows j n).vote ≡ Some u)) (sym (eqb-true k m f)) (subst (λ (y : Row). (u : Vote) × (y.vote ≡ Some u)) (sym st.row_is) x)
+              subst (λ (j : ℕ). (u : Vote) × ((w1.rows j n).vote ≡ Some u)) (sym (eqb-true k m f))
+              (subst (λ (y : Row). (u : Vote) × (y.vote ≡ Some u)) (sym st.row_is) x)
           has_vote k voted w1 st false f = subst (λ (x : Row). (u : Vote) × (x.vote ≡ Some u)) (sym (st.row_other k f)) (g.is_set.has_vote k voted)
 
-          rounds : (k : ℕ) → IsMember z.count k → among k ≡ true → (w1 : State G F) → Leaves m (raised row b) (Began n b None row.vote 0 ∷ w.marks m) (to_others (seat_at z m) n b Prepare) w w1 → (t : Bool) → (k == m) ≡ t → round_of (w1.rows k n).promised ≤ r
-          rounds k i e w1 st true f = subst (λ (x : ℕ). round_of (w1.rows x n).promised ≤ r) (sym (eqb-true k m f)) (subst (λ (x : Row). round_of x.promised ≤ r) (sym st.row_is) (omega arith))
+          rounds :
+              (k : ℕ) → IsMember z.count k → among k ≡ true → (w1 : State G F)
+              → Leaves m (raised row b) (Began n b None row.vote 0 ∷ w.marks m) (to_others (seat_at z m) n b Prepare) w w1 → (t : Bool) → (k == m) ≡ t
+              → round_of (w1.rows k n).promised ≤ r
+          rounds k i e w1 st true f =
+              subst (λ (x : ℕ). round_of (w1.rows x n).promised ≤ r) (sym (eqb-true k m f))
+              (subst (λ (x : Row). round_of x.promised ≤ r) (sym st.row_is) (omega arith))
           rounds k i e w1 st false f = subst (λ (x : Row). round_of x.promised ≤ r) (sym (st.row_other k f)) (g.is_set.rounds k i e)
 
       go : ((after : State G F) → Ready r after → round_of (after.rows m n).promised + d ≡ r → Goal after) → Goal w
       go on =
-          take z fit among again v m n final entries speaks limit w g.is_set.known g.is_set.serves (Seeks m n 0) m (Seeking n 0) (Sought n 0) began refl member in_it free_call refl refl
+          take z fit among again v m n final entries speaks limit w g.is_set.known g.is_set.serves (Seeks m n 0) m (Seeking n 0)
+          (Sought n 0) began refl member in_it free_call refl refl
           (rw (nexts, one) refl) low tt (λ u f. cc)
           (λ votes p j. others_say z entries m n b Prepare member number (record { round_low = omega arith; round_high = reach low; owner = member }) (λ k. refl) p j)
           (λ w1 st none. renews on w1 st)
@@ -417,9 +445,11 @@ module _
           refl (let l : round_of (after.rows m n).promised ≤ r = x.is_set.rounds m member in_it in omega arith)
         where
           only : (k : ℕ) → IsMember z.count k → m ≡ k
-          only k i = let e : z.count ≡ 1 = eqb-true z.count 1 one in let a : 1 ≤ m = member.0 in let l : m ≤ z.count = member.1 in let c : 1 ≤ k = i.0 in let d : k ≤ z.count = i.1 in omega arith
+          only k i =
+              let e : z.count ≡ 1 = eqb-true z.count 1 one in let a : 1 ≤ m = member.0 in let l : m ≤ z.count = member.1 in let c : 1 ≤ k = i.0 in let d : k ≤ z.count = i.1 in omega arith
       go after x false one =
-          raises may one r below (r - round_of (after.rows m n).promised) after x (sum_to (round_of (after.rows m n).promised) r (x.is_set.rounds m member in_it))
+          raises may one r below (r - round_of (after.rows m n).promised) after x
+          (sum_to (round_of (after.rows m n).promised) r (x.is_set.rounds m member in_it))
 
   -- those that are stopped start again
   pub wakes :
@@ -457,7 +487,8 @@ module _
             version = λ j i x. re.version j ∙ g.version j i x;
             unarmed = λ j i x. re.armed j ∙ g.unarmed j i x;
             rounds = λ j i x. subst (λ (q : Row). round_of q.promised ≤ r) (sym (re.rows j n)) (g.rounds j i x);
-            left = λ j i x. elim (g.left j i x) [ inl t ↦ inl (re.goes_other j t) | inr t ↦ elim t [ inl same ↦ inl (subst (λ (q : ℕ). after.is_stopped q ≡ false) (sym same) re.goes) | inr y ↦ inr y ] ];
+            left = λ j i x.
+                elim (g.left j i x) [ inl t ↦ inl (re.goes_other j t) | inr t ↦ elim t [ inl same ↦ inl (subst (λ (q : ℕ). after.is_stopped q ≡ false) (sym same) re.goes) | inr y ↦ inr y ] ];
             inside = λ j i. g.inside j (inr i);
           })
           (λ last x marks rows. on last x
@@ -485,7 +516,8 @@ module _
   leads_on may w h offers has_vote able =
       let (r, below, above, attained) = greatest_of (λ k. round_of (w.rows k n).promised) among limit (some w able) (members z.count)
       (λ k i e. able.rounds k (among_members z.count k i) e) in
-      wakes r (members z.count) w (waking r w h offers has_vote able (λ k i e. above k (member_among z.count k i) e)) (λ after x marks rows. starts may r below after x)
+      wakes r (members z.count) w (waking r w h offers has_vote able (λ k i e. above k (member_among z.count k i) e))
+      (λ after x marks rows. starts may r below after x)
 
   -- from a state in which the proposer runs, has the highest promise, and n is neither open nor released with it
   pub leads_calmly :

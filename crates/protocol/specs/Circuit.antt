@@ -227,15 +227,15 @@ pub data StepsTo {D G F : Type 0} (z : Circuit D G F) (w : State G F) (s : Step)
       → StepsTo z w s o after
   -- the store or want of memory ends it: the station stops and forgets its marks, and nothing is sent or released
   is_torn :
-      (m : ℕ) (call : Call) (e : Event) (row : Row) (armed : Option Bool) → IsTask w.sent s m call → IsMember z.count m
-      → event_of (setup_of z (w.version m) m) (w.marks m) call ≡ Some e
-      → Leaves z w m call e o row armed
+      (k : ℕ) (call : Call) (e : Event) (row : Row) (armed : Option Bool) → IsTask w.sent s k call → IsMember z.count k
+      → event_of (setup_of z (w.version k) k) (w.marks k) call ≡ Some e
+      → Leaves z w k call e o row armed
       → IsSameState after (record w {
-        rows = saved w.rows m (number_of e) row;
-        marks = with_at w.marks m [];
-        is_stopped = with_at w.is_stopped m true;
-        armed = with_at w.armed m armed;
-        offers = offers_with w.offers m e;
+        rows = saved w.rows k (number_of e) row;
+        marks = with_at w.marks k [];
+        is_stopped = with_at w.is_stopped k true;
+        armed = with_at w.armed k armed;
+        offers = offers_with w.offers k e;
       })
       → StepsTo z w s o after
   -- a member starts again: it forgets its marks and keeps its rows (to Lamport a process that fails and restarts)

@@ -16,6 +16,7 @@ pub mod Readings
 pub mod Table
 pub mod Refusals
 pub mod Circuit
+pub mod Missing
 pub mod Tearing
 pub mod Agreement
 pub mod Fitting

@@ -1,5 +1,6 @@
--- A circuit is never stuck: from each state that a history reaches, the members of a majority can go on, by steps of their own alone, to a release.
-use Rattle.std.specs.Prelude.{◌≡◌, ℕ, ◌*◌, ◌<◌, ◌≤◌, ◌⊎◌, List, [], ◌∷◌, ◌++◌, Option, Some, None, Ok, Bool, true, false, ◌==◌, count_by}
+-- A circuit is never stuck: from each state that a history reaches, the members of a majority can go on, by steps of their own alone,
+-- to a release. That they do is not said (Lamport 2001, section 2.4, Progress).
+use Rattle.std.specs.Prelude.{◌≡◌, ℕ, suc, ◌+◌, ◌*◌, ◌<◌, ◌≤◌, ◌⊎◌, List, [], ◌∷◌, ◌++◌, Option, Some, None, Ok, Bool, true, false, ◌==◌, count_by}
 use Rattle.protocol.specs.Limits.{is_number}
 use Rattle.protocol.specs.Lists.{IsAmong}
 use Rattle.protocol.specs.Ballots.{Ballot, IsBelow, last_round, members, IsMember}
@@ -13,8 +14,8 @@ use Rattle.protocol.specs.Circuit.{Circuit, State, Step, Restarts, Upgrades, Don
 use Rattle.protocol.specs.Agreement.{IsChosen, WasOffered}
 use Rattle.protocol.specs.Fitting.{BodyFits, SpellsWhatFits}
 
--- to the state after, by steps of the members of a set alone: each is asked something or gets a datagram, and is done with it;
--- those that are stopped start again, and some that are not may too
+-- steps lead to the state after: at each a member of the set takes a turn, which is done, or starts again;
+-- one that is not stopped starts again only where it may
 pub data Leads {D G F : Type 0} (z : Circuit D G F) (among again : ℕ → Bool) (after : State G F) : State G F → Type 0 where
   is_there : {w : State G F} → w ≡ after → Leads z among again after w
   takes_turn :
@@ -28,8 +29,20 @@ pub data Leads {D G F : Type 0} (z : Circuit D G F) (among again : ℕ → Bool)
 abbrev pub release_of : {D G F : Type 0} → Circuit D G F → (m n : ℕ) → Entry → Release G F
 release_of z m n entry = record { member = m; number = n; entry = entry; set = z.sets m entry }
 
--- so they come to a state in which m has released an entry for n; if anything else was released on the way, then by some of them for n.
--- The offers that were ever made are then these
+-- the offers with one more
+abbrev pub with_offer : List Offer → (m n : ℕ) → Entry → List Offer
+with_offer offers m n entry = offers ++ record { member = m; number = n; entry = entry } ∷ []
+
+-- the entry is this one, or one that was offered for n
+abbrev pub IsOfOffers : {G F : Type 0} → State G F → ℕ → Entry → Entry → Type 0
+IsOfOffers w n entry t = (t ≡ entry) ⊎ WasOffered w n t
+
+-- the entry is the one that was chosen for n, where one was
+abbrev pub IsTheChosen : {D G F : Type 0} {z : Circuit D G F} {w : State G F} → History z w → ℕ → Entry → Type 0
+IsTheChosen h n entry = (t : Entry) → IsChosen h n t → entry ≡ t
+
+-- such steps lead to a state in which m has released an entry for n; what else is released on the way is of n, and by members of the set;
+-- the offers that were ever made are then these
 pub record CanRelease {D G F : Type 0} (z : Circuit D G F) (among again : ℕ → Bool) (m n : ℕ) (offers : List Offer) (w : State G F) : Type 0 where
   pub after : State G F
   pub leads : Leads z among again after w
@@ -50,7 +63,7 @@ HasRoundLeft None = Unit {0}
 HasRoundLeft (Some p) = p.round < last_round
 
 -- the members of the set are a majority, none of their stores is armed to refuse the next save, and each has a round left for n.
--- Whether they are stopped, what they have taken in and what is on its way is all one
+-- It does not matter whether they are stopped, what they have taken in, or what is on its way
 pub record CanServe {D G F : Type 0} (z : Circuit D G F) (w : State G F) (among : ℕ → Bool) (n : ℕ) : Type 0 where
   pub many : z.count < 2 * count_by among (members z.count)
   pub unarmed : (k : ℕ) → IsMember z.count k → among k ≡ true → w.armed k ≡ None
@@ -96,57 +109,92 @@ SpellsWhatMayBeSaid z v entries = (p : Packet) → MaySay z entries p → BodyFi
 abbrev pub CircuitIsNeverStuck : (D G F : Type 0) → Type 0
 CircuitIsNeverStuck D G F =
     (z : Circuit D G F) → SpellsWhatFits z
-    → (w : State G F) (h : History z w) (among : ℕ → Bool) (v : Version) (n : ℕ) → CanServe z w among n → AreAt z w among v → is_number n ≡ true
-    → (m : ℕ) (entry : Entry) (slugs : G) → IsMember z.count m → among m ≡ true → fits v entry ≡ true → z.sets m entry ≡ Ok slugs
-    → SpellsWhatMayBeSaid z v (λ t. (t ≡ entry) ⊎ WasOffered w n t)
-    → (to : CanRelease z among (λ k. k == m) m n (w.offers ++ record { member = m; number = n; entry = entry } ∷ []) w) × ((t : Entry) → IsChosen h n t → to.entry ≡ t)
+    → (w : State G F) (h : History z w) (among : ℕ → Bool) (v : Version) (n : ℕ)
+    → CanServe z w among n → AreAt z w among v → is_number n ≡ true
+    → (m : ℕ) (entry : Entry) (slugs : G)
+    → IsMember z.count m → among m ≡ true → fits v entry ≡ true → z.sets m entry ≡ Ok slugs
+    → SpellsWhatMayBeSaid z v (IsOfOffers w n entry)
+    → (to : CanRelease z among (λ k. k == m) m n (with_offer w.offers m n entry) w) × IsTheChosen h n to.entry
 
 -- nobody who runs has to start again for it, where the member that is asked has the highest promise of the majority for the number,
 -- which is neither open nor released with it
 abbrev pub RunningNeedNotRestart : (D G F : Type 0) → Type 0
 RunningNeedNotRestart D G F =
     (z : Circuit D G F) → SpellsWhatFits z
-    → (w : State G F) (h : History z w) (among : ℕ → Bool) (v : Version) (n : ℕ) → CanServe z w among n → AreAt z w among v → is_number n ≡ true
-    → (m : ℕ) (entry : Entry) (slugs : G) → IsMember z.count m → among m ≡ true → fits v entry ≡ true → z.sets m entry ≡ Ok slugs
-    → SpellsWhatMayBeSaid z v (λ t. (t ≡ entry) ⊎ WasOffered w n t)
+    → (w : State G F) (h : History z w) (among : ℕ → Bool) (v : Version) (n : ℕ)
+    → CanServe z w among n → AreAt z w among v → is_number n ≡ true
+    → (m : ℕ) (entry : Entry) (slugs : G)
+    → IsMember z.count m → among m ≡ true → fits v entry ≡ true → z.sets m entry ≡ Ok slugs
+    → SpellsWhatMayBeSaid z v (IsOfOffers w n entry)
     → w.is_stopped m ≡ false → open_proposal n (w.marks m) ≡ None → was_released n (w.marks m) ≡ false
     → ((k : ℕ) → IsMember z.count k → among k ≡ true → round_of (w.rows k n).promised ≤ round_of (w.rows m n).promised)
-    → (to : CanRelease z among (λ k. false) m n (w.offers ++ record { member = m; number = n; entry = entry } ∷ []) w) × ((t : Entry) → IsChosen h n t → to.entry ≡ t)
+    → (to : CanRelease z among (λ k. false) m n (with_offer w.offers m n entry) w) × IsTheChosen h n to.entry
 
 -- nor where others of the majority have higher promises, and no number is open with the member that is asked: it is denied by the highest of them,
 -- and begins anew above that as it falls due
 abbrev pub DeniedNeedNotRestart : (D G F : Type 0) → Type 0
 DeniedNeedNotRestart D G F =
     (z : Circuit D G F) → SpellsWhatFits z
-    → (w : State G F) (h : History z w) (among : ℕ → Bool) (v : Version) (n : ℕ) → CanServe z w among n → AreAt z w among v → is_number n ≡ true
-    → (m : ℕ) (entry : Entry) (slugs : G) → IsMember z.count m → among m ≡ true → fits v entry ≡ true → z.sets m entry ≡ Ok slugs
-    → SpellsWhatMayBeSaid z v (λ t. (t ≡ entry) ⊎ WasOffered w n t)
+    → (w : State G F) (h : History z w) (among : ℕ → Bool) (v : Version) (n : ℕ)
+    → CanServe z w among n → AreAt z w among v → is_number n ≡ true
+    → (m : ℕ) (entry : Entry) (slugs : G)
+    → IsMember z.count m → among m ≡ true → fits v entry ≡ true → z.sets m entry ≡ Ok slugs
+    → SpellsWhatMayBeSaid z v (IsOfOffers w n entry)
     → w.is_stopped m ≡ false → ((j : ℕ) → open_proposal j (w.marks m) ≡ None) → was_released n (w.marks m) ≡ false
-    → (to : CanRelease z among (λ k. false) m n (w.offers ++ record { member = m; number = n; entry = entry } ∷ []) w) × ((t : Entry) → IsChosen h n t → to.entry ≡ t)
+    → (to : CanRelease z among (λ k. false) m n (with_offer w.offers m n entry) w) × IsTheChosen h n to.entry
 
 -- and what is chosen is never lost: there any member of it can come to release the entry that is chosen, with nothing offered
 abbrev pub ChosenIsFound : (D G F : Type 0) → Type 0
 ChosenIsFound D G F =
     (z : Circuit D G F) → SpellsWhatFits z
-    → (w : State G F) (h : History z w) (among : ℕ → Bool) (v : Version) (n : ℕ) → CanServe z w among n → AreAt z w among v → is_number n ≡ true
+    → (w : State G F) (h : History z w) (among : ℕ → Bool) (v : Version) (n : ℕ)
+    → CanServe z w among n → AreAt z w among v → is_number n ≡ true
     → (m : ℕ) → IsMember z.count m → among m ≡ true → (t : Entry) → IsChosen h n t
     → SpellsWhatMayBeSaid z v (λ u. WasOffered w n u)
     → (to : CanRelease z among (λ k. k == m) m n w.offers w) × (to.entry ≡ t)
 
--- to the state after, by members of a set that go over to version 2, one after the other
+-- upgrades of members of the set, one after the other, lead to the state after
 pub data LeadsByUpgrades {D G F : Type 0} (z : Circuit D G F) (among : ℕ → Bool) (after : State G F) : State G F → Type 0 where
   are_upgraded : {w : State G F} → w ≡ after → LeadsByUpgrades z among after w
   upgrades_one :
       {w between : State G F} (m : ℕ) → among m ≡ true
       → StepsTo z w (Upgrades m) Upgraded between → LeadsByUpgrades z among after between → LeadsByUpgrades z among after w
 
--- half an upgrade is no dead end: at whatever versions the members of the majority are, those at version 1 can go over,
+-- half an upgrade is no dead end: at whatever versions the members of the majority are, those at version 1 can be upgraded,
 -- and then any member of it can come to release the number as before, the chosen entry, where one was chosen
 abbrev pub HalfAnUpgradeIsNoDeadEnd : (D G F : Type 0) → Type 0
 HalfAnUpgradeIsNoDeadEnd D G F =
     (z : Circuit D G F) → SpellsWhatFits z
     → (w : State G F) (h : History z w) (among : ℕ → Bool) (n : ℕ) → CanServe z w among n → is_number n ≡ true
     → (m : ℕ) (entry : Entry) (slugs : G) → IsMember z.count m → among m ≡ true → z.sets m entry ≡ Ok slugs
-    → SpellsWhatMayBeSaid z Two (λ t. (t ≡ entry) ⊎ WasOffered w n t)
+    → SpellsWhatMayBeSaid z Two (IsOfOffers w n entry)
     → (over : State G F) × LeadsByUpgrades z among over w × (over.releases ≡ w.releases)
-    × (to : CanRelease z among (λ k. k == m) m n (w.offers ++ record { member = m; number = n; entry = entry } ∷ []) over) × ((t : Entry) → IsChosen h n t → to.entry ≡ t)
+    × (to : CanRelease z among (λ k. k == m) m n (with_offer w.offers m n entry) over) × IsTheChosen h n to.entry
+
+-- such steps lead to a state in which every member of the set has released one entry for n; what else is released on the way is that entry,
+-- for n, by members of the set; the offers that were ever made are then these
+pub record AllCanRelease {D G F : Type 0} (z : Circuit D G F) (among : ℕ → Bool) (n : ℕ) (offers : List Offer) (w : State G F) : Type 0 where
+  pub after : State G F
+  pub leads : Leads z among (λ k. true) after w
+  pub entry : Entry
+  pub on_the_way : List (Release G F)
+  pub are_theirs : (x : Release G F) → IsAmong on_the_way x → (among x.member ≡ true) × (x.number ≡ n) × (x.entry ≡ entry)
+  pub each : (k : ℕ) → IsMember z.count k → among k ≡ true → IsAmong on_the_way (release_of z k n entry)
+  pub released : after.releases ≡ w.releases ++ on_the_way
+  pub offers_are : after.offers ≡ offers
+
+-- above the promise of each member of the set for n so many rounds are left
+abbrev pub HaveRoundsLeft : {D G F : Type 0} → Circuit D G F → State G F → (ℕ → Bool) → (n rounds : ℕ) → Type 0
+HaveRoundsLeft z w among n rounds = (k : ℕ) → IsMember z.count k → among k ≡ true → round_of (w.rows k n).promised + rounds ≤ last_round
+
+-- for every plant, not for one: where a majority can serve, and each of it has a round left for every member of the circuit and one more,
+-- an entry that is offered at one of it can come to be released at each of it, by steps of the majority alone; any of it may start again for that
+abbrev pub EveryMemberReleases : (D G F : Type 0) → Type 0
+EveryMemberReleases D G F =
+    (z : Circuit D G F) → SpellsWhatFits z
+    → (w : State G F) (h : History z w) (among : ℕ → Bool) (v : Version) (n : ℕ)
+    → CanServe z w among n → HaveRoundsLeft z w among n (suc z.count) → AreAt z w among v → is_number n ≡ true
+    → (m : ℕ) (entry : Entry) (slugs : G)
+    → IsMember z.count m → among m ≡ true → fits v entry ≡ true → z.sets m entry ≡ Ok slugs
+    → SpellsWhatMayBeSaid z v (IsOfOffers w n entry)
+    → (to : AllCanRelease z among n (with_offer w.offers m n entry) w) × IsTheChosen h n to.entry

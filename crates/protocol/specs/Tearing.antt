@@ -1,7 +1,7 @@
 -- What tears a step, and what it leaves: of every step of a circuit.
 use Rattle.std.specs.Prelude.{◌≡◌, ℕ, ◌⊎◌, [], Some, None, Bool, true, false, if◌then◌else◌}
 use Rattle.protocol.specs.Versions.{Two}
-use Rattle.protocol.specs.Turn.{Event, number_of, Turn, turn}
+use Rattle.protocol.specs.Turn.{Event, number_of, Note, Turn, turn}
 use Rattle.protocol.specs.Refusals.{Call, refusal, event_of}
 use Rattle.protocol.specs.Circuit.{Circuit, State, Step, Outcome, Done, Refused, Torn_by_store, Torn_as_armed, Torn_by_memory, Restarted, Upgraded, Armed, Task, IsTask, seat_at, setup_of, StepsTo, Upgrades}
 
@@ -68,3 +68,9 @@ pub record TookUpgrade {D G F : Type 0} (w after : State G F) (m : ℕ) (o : Out
 abbrev pub UpgradesKeepRows : (D G F : Type 0) → Type 0
 UpgradesKeepRows D G F =
     (z : Circuit D G F) (w after : State G F) (o : Outcome D F) (m : ℕ) → StepsTo z w (Upgrades m) o after → TookUpgrade w after m o
+
+-- an armed store saves nothing: where a step is done and changed a row, the member's store was not armed
+abbrev pub ArmedStoresSaveNothing : (D G F : Type 0) → Type 0
+ArmedStoresSaveNothing D G F =
+    (z : Circuit D G F) (w after : State G F) (s : Step) (note : Note) (m n : ℕ)
+    → StepsTo z w s (Done note) after → ¬ (after.rows m n ≡ w.rows m n) → w.armed m ≡ None

@@ -4,13 +4,14 @@
 ghost use Rattle.protocol.specs.Acceptor.{StepsAreOfTheWhole};
 ghost use Rattle.protocol.specs.Agreement.{BallotsHaveOneEntry, ChosenIsOne, HeardIsVoted, HistoriesAgree, PromisesBind, ReleasesAreChosen, ReportsAreGreatest, RipeIsChosen, VotesAreBacked, VotesAreOffered};
 ghost use Rattle.protocol.specs.Fitting.{HistoriesFit, TurnsFit, VersionTwoReadsBoth};
+ghost use Rattle.protocol.specs.Missing.{MissingIsExact};
 ghost use Rattle.protocol.specs.NextDue.{NextDueIsLeastNumber};
-ghost use Rattle.protocol.specs.Progress.{ChosenIsFound, CircuitIsNeverStuck, DeniedNeedNotRestart, HalfAnUpgradeIsNoDeadEnd, RunningNeedNotRestart};
+ghost use Rattle.protocol.specs.Progress.{ChosenIsFound, CircuitIsNeverStuck, DeniedNeedNotRestart, EveryMemberReleases, HalfAnUpgradeIsNoDeadEnd, RunningNeedNotRestart};
 ghost use Rattle.protocol.specs.Readings.{NextDueIsLeast};
 ghost use Rattle.protocol.specs.Rehearsals.{AddresseeIsToldFirst, LowerIsDenied, MixedMembersRelease, NumberIsToldFirst, NumberIsWithdrawn, NumbersAreRefused, OneMemberReleases, PacketsAreRefused, ReadingLeavesArmed, SavedVoteIsReleased, SettingWantsMemory, StoppedIsToldFirst, StoreRefusesToo, ThreeMembersRelease, TornUpgrades, TwoProposersFight, UnsavedVoteIsLost, VersionIsToldFirst, VoteOutlivesUpgrades, WithdrawalWantsVersionTwo};
 ghost use Rattle.protocol.specs.Runs.{BallotsStandApart, BeginsAbovePromise, ClosedIsForgotten, FallsDueAbove, FirstAcceptStands, FirstOfTwoReleases, GivesUp, GreaterReportIsTaken, LastRoundIsBegun, LastRoundIsSpent, LeastMemberDecides, LowerIsNacked, NumbersStandApart, OfferedAfterGivingUp, OneFindsNothing, OneReleases, PassedIsOvertaken, ReleasedIsSettled, RepeatedVoteCountsOnce, SecondOfTwoReleases, ThirdTakesOver, VoteIsReported};
 ghost use Rattle.protocol.specs.Table.{NumbersAreReleasedOnce, TurnsAreAnAcceptors, TurnsAreOfTheTable};
-ghost use Rattle.protocol.specs.Tearing.{StoreTearsTheUnrefused, TornAsItWasArmed, UpgradesKeepRows};
+ghost use Rattle.protocol.specs.Tearing.{StoreTearsTheUnrefused, TornAsItWasArmed, UpgradesKeepRows, ArmedStoresSaveNothing};
 
 /// An acceptor that keeps one row answers as the whole list of its requests says.
 pub fn acceptor_steps()
@@ -61,10 +62,20 @@ pub fn what_the_store_tears<D, G, F>()
     ensures armed { TornAsItWasArmed D G F }
 {}
 
-/// However an upgrade ends, each row stays. A member whose store is armed does not go over as done: its upgrade is torn, as it was armed or by its
+/// However an upgrade ends, each row stays. A member whose store is armed is not upgraded: its upgrade is torn, as it was armed or by its
 /// own store, and it has stopped.
 pub fn upgrades_keep_rows<D, G, F>()
     ensures { UpgradesKeepRows D G F }
+{}
+
+/// An armed store saves nothing: where a step is done and changed a row, the store of its member was not armed.
+pub fn armed_stores_save_nothing<D, G, F>()
+    ensures { ArmedStoresSaveNothing D G F }
+{}
+
+/// A circuit has a step exactly where `missing` names nothing: its member is one of the circuit and, of a delivery, the datagram was sent.
+pub fn missing_is_exact()
+    ensures { MissingIsExact }
 {}
 
 /// All votes and Accepts of one number and ballot carry one entry.
@@ -218,11 +229,13 @@ pub fn vote_outlives_upgrades<D, G, F>()
 /// an entry for a number can come to release the number, by steps of theirs alone; what it releases is the entry that was chosen, where one was.
 /// Nobody who runs has to start again for it, where the member that is asked has their highest promise for the number, and the number is free;
 /// nor where others have higher ones, and no number is open with it: it is denied, and begins anew above.
-/// What is chosen any of them can come to release with nothing offered. And where some of them are at version 1, they can go over first.
+/// What is chosen any of them can come to release with nothing offered. Where some of them are at version 1, they can be upgraded first.
+/// And every one of them can come to release the number, where each has a round left for every member of the circuit, and one more.
 pub fn circuit_is_never_stuck<D, G, F>()
     ensures offered { CircuitIsNeverStuck D G F }
     ensures running { RunningNeedNotRestart D G F }
     ensures denied { DeniedNeedNotRestart D G F }
     ensures chosen { ChosenIsFound D G F }
     ensures upgrade { HalfAnUpgradeIsNoDeadEnd D G F }
+    ensures every { EveryMemberReleases D G F }
 {}

@@ -1,5 +1,5 @@
 -- What holds in every history of a circuit of stations.
-use Rattle.std.specs.Prelude.{◌≡◌, ℕ, ◌<◌, ◌≤◌, ◌==◌, List, [], ◌∷◌, ◌++◌, None, Ok, Bool, true, false}
+use Rattle.std.specs.Prelude.{◌≡◌, ℕ, suc, ◌<◌, ◌≤◌, ◌==◌, List, None, Ok, Bool, true, false}
 use Rattle.protocol.specs.Lists.{IsAmong}
 use Rattle.protocol.specs.Limits.{most_members, is_number}
 use Rattle.protocol.specs.Ballots.{IsMember}
@@ -7,7 +7,7 @@ use Rattle.protocol.specs.Entries.{Entry}
 use Rattle.protocol.specs.Versions.{Version, fits}
 use Rattle.protocol.specs.Circuit.{Release, State, History}
 use Rattle.protocol.specs.Proposals.{was_released, open_proposal}
-use Rattle.protocol.specs.Progress.{round_of, CanServe, AreAt, CanRelease, LeadsByUpgrades}
+use Rattle.protocol.specs.Progress.{with_offer, IsTheChosen, round_of, CanServe, AreAt, CanRelease, LeadsByUpgrades, AllCanRelease, HaveRoundsLeft}
 use Rattle.tape_frames.specs.Entries.{IsEntry}
 use Rattle.protocol.specs.Agreement.{BallotsHaveOneEntry, ChosenIsOne, HeardIsVoted, PromisesBind, ReleasesAreChosen, ReportsAreGreatest, RipeIsChosen, VotesAreBacked, VotesAreOffered, WasOffered, IsChosen}
 use Rattle.packets.specs.declared.fault.PacketFault.{PacketFault}
@@ -86,45 +86,60 @@ pub record IsInService (tables : ℕ → Places) (files : ℕ → WidthFile) (z 
 -- What it releases is the entry that was chosen for the number, where one was
 abbrev pub StationsAreNeverStuck : Type 0
 StationsAreNeverStuck =
-    (tables : ℕ → Places) (files : ℕ → WidthFile) (z : StationCircuit) (w : StationState) (h : History z w) (among : ℕ → Bool) (v : Version) (n : ℕ)
-    → IsInService tables files z w n → CanServe z w among n → AreAt z w among v → is_number n ≡ true
-    → (m : ℕ) (entry : Entry) (slugs : List Slug) → IsMember z.count m → among m ≡ true → IsEntry entry → fits v entry ≡ true → z.sets m entry ≡ Ok slugs
-    → (to : CanRelease z among (λ k. k == m) m n (w.offers ++ record { member = m; number = n; entry = entry } ∷ []) w) × ((t : Entry) → IsChosen h n t → to.entry ≡ t)
+    (tables : ℕ → Places) (files : ℕ → WidthFile) (z : StationCircuit) (w : StationState) (h : History z w)
+    → (among : ℕ → Bool) (v : Version) (n : ℕ) → IsInService tables files z w n → CanServe z w among n → AreAt z w among v → is_number n ≡ true
+    → (m : ℕ) (entry : Entry) (slugs : List Slug)
+    → IsMember z.count m → among m ≡ true → IsEntry entry → fits v entry ≡ true → z.sets m entry ≡ Ok slugs
+    → (to : CanRelease z among (λ k. k == m) m n (with_offer w.offers m n entry) w) × IsTheChosen h n to.entry
 
 -- no station that runs has to start again for it, where the member that is asked has the highest promise of the majority for the number,
 -- which is neither open nor released with it
 abbrev pub RunningStationsNeedNotRestart : Type 0
 RunningStationsNeedNotRestart =
-    (tables : ℕ → Places) (files : ℕ → WidthFile) (z : StationCircuit) (w : StationState) (h : History z w) (among : ℕ → Bool) (v : Version) (n : ℕ)
-    → IsInService tables files z w n → CanServe z w among n → AreAt z w among v → is_number n ≡ true
-    → (m : ℕ) (entry : Entry) (slugs : List Slug) → IsMember z.count m → among m ≡ true → IsEntry entry → fits v entry ≡ true → z.sets m entry ≡ Ok slugs
+    (tables : ℕ → Places) (files : ℕ → WidthFile) (z : StationCircuit) (w : StationState) (h : History z w)
+    → (among : ℕ → Bool) (v : Version) (n : ℕ) → IsInService tables files z w n → CanServe z w among n → AreAt z w among v → is_number n ≡ true
+    → (m : ℕ) (entry : Entry) (slugs : List Slug)
+    → IsMember z.count m → among m ≡ true → IsEntry entry → fits v entry ≡ true → z.sets m entry ≡ Ok slugs
     → w.is_stopped m ≡ false → open_proposal n (w.marks m) ≡ None → was_released n (w.marks m) ≡ false
     → ((k : ℕ) → IsMember z.count k → among k ≡ true → round_of (w.rows k n).promised ≤ round_of (w.rows m n).promised)
-    → (to : CanRelease z among (λ k. false) m n (w.offers ++ record { member = m; number = n; entry = entry } ∷ []) w) × ((t : Entry) → IsChosen h n t → to.entry ≡ t)
+    → (to : CanRelease z among (λ k. false) m n (with_offer w.offers m n entry) w) × IsTheChosen h n to.entry
 
 -- nor where others of the majority have higher promises, and no number is open with the member that is asked
 abbrev pub DeniedStationsNeedNotRestart : Type 0
 DeniedStationsNeedNotRestart =
-    (tables : ℕ → Places) (files : ℕ → WidthFile) (z : StationCircuit) (w : StationState) (h : History z w) (among : ℕ → Bool) (v : Version) (n : ℕ)
-    → IsInService tables files z w n → CanServe z w among n → AreAt z w among v → is_number n ≡ true
-    → (m : ℕ) (entry : Entry) (slugs : List Slug) → IsMember z.count m → among m ≡ true → IsEntry entry → fits v entry ≡ true → z.sets m entry ≡ Ok slugs
+    (tables : ℕ → Places) (files : ℕ → WidthFile) (z : StationCircuit) (w : StationState) (h : History z w)
+    → (among : ℕ → Bool) (v : Version) (n : ℕ) → IsInService tables files z w n → CanServe z w among n → AreAt z w among v → is_number n ≡ true
+    → (m : ℕ) (entry : Entry) (slugs : List Slug)
+    → IsMember z.count m → among m ≡ true → IsEntry entry → fits v entry ≡ true → z.sets m entry ≡ Ok slugs
     → w.is_stopped m ≡ false → ((j : ℕ) → open_proposal j (w.marks m) ≡ None) → was_released n (w.marks m) ≡ false
-    → (to : CanRelease z among (λ k. false) m n (w.offers ++ record { member = m; number = n; entry = entry } ∷ []) w) × ((t : Entry) → IsChosen h n t → to.entry ≡ t)
+    → (to : CanRelease z among (λ k. false) m n (with_offer w.offers m n entry) w) × IsTheChosen h n to.entry
 
 -- what is chosen any member of it can come to release with nothing offered
 abbrev pub ChosenIsFoundByStations : Type 0
 ChosenIsFoundByStations =
-    (tables : ℕ → Places) (files : ℕ → WidthFile) (z : StationCircuit) (w : StationState) (h : History z w) (among : ℕ → Bool) (v : Version) (n : ℕ)
-    → IsInService tables files z w n → CanServe z w among n → AreAt z w among v → is_number n ≡ true
+    (tables : ℕ → Places) (files : ℕ → WidthFile) (z : StationCircuit) (w : StationState) (h : History z w)
+    → (among : ℕ → Bool) (v : Version) (n : ℕ) → IsInService tables files z w n → CanServe z w among n → AreAt z w among v → is_number n ≡ true
     → (m : ℕ) → IsMember z.count m → among m ≡ true → (t : Entry) → IsChosen h n t
     → (to : CanRelease z among (λ k. k == m) m n w.offers w) × (to.entry ≡ t)
 
--- half an upgrade is no dead end: at whatever versions the members of the majority are, those at version 1 can go over,
+-- half an upgrade is no dead end: at whatever versions the members of the majority are, those at version 1 can be upgraded,
 -- and then any member of it can come to release the number as before
 abbrev pub HalfAnUpgradeIsNoDeadEndOfStations : Type 0
 HalfAnUpgradeIsNoDeadEndOfStations =
-    (tables : ℕ → Places) (files : ℕ → WidthFile) (z : StationCircuit) (w : StationState) (h : History z w) (among : ℕ → Bool) (n : ℕ)
-    → IsInService tables files z w n → CanServe z w among n → is_number n ≡ true
-    → (m : ℕ) (entry : Entry) (slugs : List Slug) → IsMember z.count m → among m ≡ true → IsEntry entry → z.sets m entry ≡ Ok slugs
+    (tables : ℕ → Places) (files : ℕ → WidthFile) (z : StationCircuit) (w : StationState) (h : History z w)
+    → (among : ℕ → Bool) (n : ℕ) → IsInService tables files z w n → CanServe z w among n → is_number n ≡ true
+    → (m : ℕ) (entry : Entry) (slugs : List Slug)
+    → IsMember z.count m → among m ≡ true → IsEntry entry → z.sets m entry ≡ Ok slugs
     → (over : StationState) × LeadsByUpgrades z among over w × (over.releases ≡ w.releases)
-    × (to : CanRelease z among (λ k. k == m) m n (w.offers ++ record { member = m; number = n; entry = entry } ∷ []) over) × ((t : Entry) → IsChosen h n t → to.entry ≡ t)
+    × (to : CanRelease z among (λ k. k == m) m n (with_offer w.offers m n entry) over) × IsTheChosen h n to.entry
+
+-- for every plant, not for one: where each member of the majority has a round left for every member of the circuit and one more,
+-- an entry that is offered at one of them can come to be released at each of them, by steps of the majority alone
+abbrev pub EveryStationReleases : Type 0
+EveryStationReleases =
+    (tables : ℕ → Places) (files : ℕ → WidthFile) (z : StationCircuit) (w : StationState) (h : History z w)
+    → (among : ℕ → Bool) (v : Version) (n : ℕ) → IsInService tables files z w n
+    → CanServe z w among n → HaveRoundsLeft z w among n (suc z.count) → AreAt z w among v → is_number n ≡ true
+    → (m : ℕ) (entry : Entry) (slugs : List Slug)
+    → IsMember z.count m → among m ≡ true → IsEntry entry → fits v entry ≡ true → z.sets m entry ≡ Ok slugs
+    → (to : AllCanRelease z among n (with_offer w.offers m n entry) w) × IsTheChosen h n to.entry

@@ -2,7 +2,7 @@
 //! The functions do nothing but cite the laws that they rest on.
 
 ghost use Rattle.world.specs.Taking.{TearsForMemory};
-ghost use Rattle.world.specs.Laws.{OneEntry, VotesOffered, PromisesKept, ReportsGreatest, VotesBacked, HeardVoted, RipeChosen, OneChosen, ReleasesChosen, CircuitsExist, StationsAgree, StationsAreNeverStuck, RunningStationsNeedNotRestart, DeniedStationsNeedNotRestart, ChosenIsFoundByStations, HalfAnUpgradeIsNoDeadEndOfStations};
+ghost use Rattle.world.specs.Laws.{OneEntry, VotesOffered, PromisesKept, ReportsGreatest, VotesBacked, HeardVoted, RipeChosen, OneChosen, ReleasesChosen, CircuitsExist, StationsAgree, StationsAreNeverStuck, RunningStationsNeedNotRestart, DeniedStationsNeedNotRestart, ChosenIsFoundByStations, HalfAnUpgradeIsNoDeadEndOfStations, EveryStationReleases};
 
 use crate::slugs::Slugs;
 use line_check::SetFault;
@@ -85,13 +85,14 @@ pub fn agreement()
 }
 
 /// A circuit of stations is never stuck: where a majority can serve, any member of it that is offered an entry can come to release the number,
-/// by steps of the majority alone; and what is chosen it can come to release with nothing offered.
+/// by steps of the majority alone, and so can every one of them; what is chosen each can come to release with nothing offered.
 pub fn circuit_is_never_stuck()
     ensures offered { StationsAreNeverStuck }
     ensures running { RunningStationsNeedNotRestart }
     ensures denied { DeniedStationsNeedNotRestart }
     ensures chosen { ChosenIsFoundByStations }
     ensures upgrade { HalfAnUpgradeIsNoDeadEndOfStations }
+    ensures every { EveryStationReleases }
 {
     packets::laws::members_can_speak::<Slugs, SetFault>();
     laws::circuit_is_never_stuck::<PacketFault, Slugs, SetFault>();
