@@ -1,6 +1,6 @@
 -- For every plant, not for one: after the release of one member each other one of the set searches, and releases what was chosen.
 use Rattle.std.proofs.Common.{◌≡◌, ℕ, zero, suc, ◌+◌, ◌-◌, ◌*◌, ◌<◌, ◌≤◌, ◌⊎◌, inl, inr, refl, sym, ap, subst, ◌∙◌, arith, List, [], ◌∷◌, ◌++◌, Some, None, append_assoc, Bool, true, false}
-use Rattle.std.specs.Prelude.{length, count_by, Ok}
+use Rattle.std.specs.Prelude.{length, count_by}
 use Rattle.protocol.specs.Limits.{is_number}
 use Rattle.protocol.specs.Lists.{IsAmong}
 use Rattle.protocol.specs.Ballots.{last_round, IsMember, members}
@@ -10,13 +10,13 @@ use Rattle.protocol.specs.Versions.{Version, fits}
 use Rattle.protocol.specs.Circuit.{Circuit, Offer, Release, State, History}
 use Rattle.protocol.specs.Agreement.{WasVoted, WasOffered, IsChosen}
 use Rattle.protocol.specs.Fitting.{SpellsWhatFits}
-use Rattle.protocol.specs.Progress.{Leads, is_there, takes_turn, starts_again, release_of, round_of, CanRelease, SpellsWhatMayBeSaid, AllCanRelease, EveryMemberReleases}
+use Rattle.protocol.specs.Progress.{Leads, is_there, takes_turn, starts_again, release_of, round_of, CanRelease, SpellsWhatMayBeSaid, EveryMemberReleases}
 use Rattle.protocol.proofs.Places.{among-append, among_left, among_right}
 use Rattle.protocol.proofs.Majorities.{weaker, among_members}
 use Rattle.protocol.proofs.Steps.{history_sound}
 use Rattle.protocol.proofs.Replying.{member_among, yes_no}
 use Rattle.protocol.proofs.OneStep.{Serves, Reaches}
-use Rattle.protocol.proofs.Waking.{Able, by_offer, by_search, leads_on}
+use Rattle.protocol.proofs.Waking.{by_offer, by_search, leads_on}
 use Rattle.protocol.proofs.Progress.{Later, follow, same_entry}
 use Rattle.protocol.proofs.Agreements.{releases_are_chosen, histories_agree}
 

@@ -1,9 +1,9 @@
 -- A step is missing exactly where the circuit does not have it.
 use Rattle.std.proofs.Common.{◌≡◌, ℕ, zero, suc, refl, sym, ap, subst, ◌∙◌, arith, List, [], ◌∷◌, ◌++◌, Option, Some, None, Bool, true, false}
 use Rattle.std.specs.Prelude.{◌==◌, ◌-◌, ◌&&◌, nat_le, slice_get, length}
-use Rattle.std.proofs.lemmas.Bool.{ne_eqb, eq-eqb, le-leb, leb-true, and_parts}
+use Rattle.std.proofs.lemmas.Bool.{ne_eqb, le-leb, leb-true, and_parts}
 use Rattle.protocol.specs.Ballots.{IsMember}
-use Rattle.protocol.specs.Circuit.{Datagram, Step, Offers, Seeks, Falls_due, Delivers, Restarts, Upgrades, Balks, datagram_at, Missing, No_such_member, No_such_datagram, member_missing, datagram_missing, missing}
+use Rattle.protocol.specs.Circuit.{Datagram, Offers, Seeks, Falls_due, Delivers, Restarts, Upgrades, Balks, datagram_at, No_such_member, No_such_datagram, member_missing, datagram_missing}
 use Rattle.protocol.specs.Missing.{WasSentAs, HasStep, MissingIsExact}
 
 none_some : {A : Type 0} {a : A} → None ≡ Some a → ⊥

@@ -5,7 +5,7 @@ use Rattle.protocol.specs.Ballots.{IsMember}
 use Rattle.protocol.specs.Rows.{Row, blank, voted}
 use Rattle.protocol.specs.Turn.{Event, Offered, Sought, number_of, Note, Note_nothing, Note_proposed}
 use Rattle.protocol.specs.Refusals.{Call, Offering, Seeking, Tape_faulty, refusal, event_of}
-use Rattle.protocol.specs.Circuit.{with_at, Upgrades, Circuit, State, Step, Offers, Seeks, Restarts, Balks, Outcome, Done, Refused, Torn_by_store, Torn_as_armed, Torn_by_memory, Restarted, Upgraded, Armed, saved, Task, task_of, setup_of, MayLeave, Leaves, store_before_save, memory_before_save, at_save, is_refused, is_idle, is_spent, is_done, is_torn, restarts, upgrades, upgrade_is_torn, is_armed, History, goes_on}
+use Rattle.protocol.specs.Circuit.{Upgrades, Circuit, State, Step, Offers, Seeks, Restarts, Balks, Outcome, Done, Refused, Torn_by_store, Torn_as_armed, Torn_by_memory, Restarted, Upgraded, Armed, saved, Task, task_of, setup_of, MayLeave, Leaves, store_before_save, memory_before_save, at_save, is_refused, is_idle, is_spent, is_done, is_torn, restarts, upgrades, upgrade_is_torn, is_armed, History, goes_on}
 use Rattle.protocol.specs.Runs.{ballot}
 use Rattle.protocol.specs.Tearing.{by_store, StoreTearsTheUnrefused, WasArmed, TornAsItWasArmed, EndsUpgrade, TookUpgrade, UpgradesKeepRows, ArmedStoresSaveNothing}
 use Rattle.protocol.specs.Versions.{Version, Two}

@@ -1,38 +1,33 @@
 -- From any state in which a majority can serve to a ballot of one of its members above all their promises: those that are stopped start again,
 -- and the proposer last; it raises its own promise where it must, and then is offered an entry, or searches.
-use Rattle.std.proofs.Common.{◌≡◌, ℕ, zero, suc, ◌+◌, ◌*◌, ◌-◌, ◌<◌, ◌≤◌, ◌⊎◌, inl, inr, refl, sym, ap, subst, ◌∙◌, arith, List, [], ◌∷◌, ◌++◌, Option, Some, None, Bool, true, false, cond}
-use Rattle.std.specs.Prelude.{if◌then◌else◌, ◌==◌, nat_lt, Ok, count_by}
-use Rattle.std.proofs.lemmas.Bool.{le-leb, eqb-true, eqb-false, eq-eqb, le-ltb, lt-ltb, ltb-true, ltb-false}
-use Rattle.std.proofs.lemmas.Bool.Decides.{nat_tests}
-use Rattle.std.proofs.lemmas.List.Sums.{sum_by-append}
+use Rattle.std.proofs.Common.{◌≡◌, ℕ, zero, suc, ◌+◌, ◌*◌, ◌-◌, ◌<◌, ◌≤◌, ◌⊎◌, inl, inr, refl, sym, ap, subst, ◌∙◌, arith, List, [], ◌∷◌, ◌++◌, Option, Some, None, Bool, true, false}
+use Rattle.std.specs.Prelude.{◌==◌, Ok, count_by}
+use Rattle.std.proofs.lemmas.Bool.{eqb-true, eq-eqb}
 use Rattle.protocol.specs.Limits.{is_number}
 use Rattle.protocol.specs.Lists.{IsAmong}
-use Rattle.protocol.specs.Ballots.{Ballot, is_below, IsAtMost, IsMember, Majority, members, is_majority, is_same, last_round, next}
+use Rattle.protocol.specs.Ballots.{Ballot, IsAtMost, IsMember, Majority, members, is_majority, is_same, last_round, next}
 use Rattle.protocol.specs.Entries.{Entry}
 use Rattle.protocol.specs.Rows.{Vote, Row, raised, voted, vote_for}
 use Rattle.protocol.specs.Versions.{Version, fits}
-use Rattle.protocol.specs.Packets.{Prepare, Nack, Packet}
-use Rattle.protocol.specs.Acceptor.{is_above, is_at, vote_is_at}
-use Rattle.protocol.specs.Marks.{Mark, Denied, Began, Proposed, Heard}
+use Rattle.protocol.specs.Packets.{Prepare, Packet}
+use Rattle.protocol.specs.Acceptor.{is_at, vote_is_at}
+use Rattle.protocol.specs.Marks.{Mark, Began, Proposed, Heard}
 use Rattle.protocol.specs.Readings.{IsCounted}
-use Rattle.protocol.specs.Proposals.{begun, denied, due_moment, is_due, is_due_number, next_due, was_released, open_proposal, since_began, gathering_at, Opening, counted, is_counted}
-use Rattle.protocol.specs.Turn.{Came_due, greater_ballot, next_ballot, due_turn, renew, stays, Note_idle, begin, Event, Offered, Sought, number_of, start_turn, Turn, Note_began, packet_to, to_others, proposal_to_others, propose, hear, turn}
-use Rattle.protocol.specs.Refusals.{Falling_due, due_event, Call, Offering, Seeking, refusal, event_of}
-use Rattle.protocol.specs.Circuit.{Falls_due, Circuit, Datagram, Offer, State, Step, IsTask, offers_with, Offers, Seeks, seat_at, setup_of, History}
+use Rattle.protocol.specs.Proposals.{was_released, open_proposal, since_began, gathering_at, Opening, counted, is_counted}
+use Rattle.protocol.specs.Turn.{begin, Event, Offered, Sought, number_of, start_turn, Turn, Note_began, packet_to, to_others, proposal_to_others, propose, hear, turn}
+use Rattle.protocol.specs.Refusals.{Call, Offering, Seeking, refusal, event_of}
+use Rattle.protocol.specs.Circuit.{Circuit, Datagram, Offer, State, Step, IsTask, offers_with, Offers, Seeks, seat_at, setup_of}
 use Rattle.protocol.specs.Fitting.{SpellsWhatFits}
-use Rattle.protocol.specs.Progress.{IsBallotOf, MaySay, SpellsWhatMayBeSaid, CanRelease, HasRoundLeft, round_of, CanServe, AreAt}
-use Rattle.protocol.proofs.Majorities.{one_more, among_members}
+use Rattle.protocol.specs.Progress.{IsBallotOf, MaySay, SpellsWhatMayBeSaid, round_of}
+use Rattle.protocol.proofs.Majorities.{among_members}
 use Rattle.protocol.proofs.Reading.{is_same-self, no_majority_of}
-use Rattle.protocol.proofs.Steps.{history_sound}
-use Rattle.protocol.proofs.Agreements.{heard_is_voted, votes_are_offered}
-use Rattle.protocol.proofs.OneStep.{receive, Brings, Stepped, Serves, still, Reaches, take, restart, Told}
-use Rattle.protocol.proofs.Replying.{turned, unrefused, nacks, denies, packet_says, goes_to, member_among, yes_no, apart, others_say, proposal_says}
+use Rattle.protocol.proofs.Agreements.{votes_are_offered}
+use Rattle.protocol.proofs.OneStep.{Brings, Stepped, Serves, still, Reaches, take, restart, Told}
+use Rattle.protocol.proofs.Replying.{goes_to, member_among, yes_no, apart, others_say, proposal_says}
 use Rattle.protocol.proofs.PhaseTwo.{Free, all_vote}
 use Rattle.protocol.proofs.PhaseTwo as phase_two
 use Rattle.protocol.proofs.PhaseOne.{Lower, finds, all_promise}
 use Rattle.protocol.proofs.Voters.{was_held}
-use Rattle.protocol.proofs.OneBallot.{opens_plain, opens_denied, begun_plain, begun_denied, denied_plain, denied_by_one, closed_plain, closed_denied, only_due}
-use Rattle.protocol.proofs.SavedBallots.{saved_promise_rises}
 use Rattle.protocol.proofs.Rounds.{few, next_is, above_none, not_at, greatest_of, vote_round, heard_round}
 
 -- what the proposer is asked: it is offered an entry, or searches; and what offers there are then
