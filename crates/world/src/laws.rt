@@ -85,7 +85,7 @@ pub fn agreement()
 }
 
 /// A circuit of stations is never stuck: where a majority can serve, any member of it that is offered an entry can come to release the number,
-/// by steps of the majority alone, and so can every one of them; what is chosen each can come to release with nothing offered.
+/// by steps of the majority alone, and so can every one of them; what is chosen any of them can come to release with nothing offered.
 pub fn circuit_is_never_stuck()
     ensures offered { StationsAreNeverStuck }
     ensures running { RunningStationsNeedNotRestart }
