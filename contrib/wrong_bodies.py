@@ -280,6 +280,12 @@ def judged_lines(lines):
     return ('NAME', names[0]) if names else None
 
 
+def lines_in(crate):
+    """How many lines of code a crate has."""
+    sources = os.walk(os.path.join(TOP, 'crates', crate, 'src'))
+    return sum(read(os.path.join(folder, name)).count('\n') for folder, _, names in sources for name in names)
+
+
 def tried_in(crate):
     """What is told of each wrong body of a crate."""
     edits = edits_of(crate)
@@ -299,7 +305,8 @@ def main():
     parser.add_argument('--all', action='store_true', help='tell the reason of each that is refused, too')
     parser.add_argument('crates', nargs='*', metavar='CRATE')
     asked = parser.parse_args()
-    names = asked.crates or list(lines_of_crates())
+    # The largest first, so that no lane is left with one at the end.
+    names = sorted(asked.crates or lines_of_crates(), key=lines_in, reverse=True)
     with ThreadPoolExecutor(asked.jobs) as pool:
         told = [each for of_crate in pool.map(tried_in, names) for each in of_crate]
     counts = {}
