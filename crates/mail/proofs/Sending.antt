@@ -9,7 +9,7 @@ use Rattle.protocol.specs.Ballots.{Ballot, members}
 use Rattle.protocol.specs.Rows.{Vote}
 use Rattle.protocol.specs.Packets.{Packet, Body, Prepare, Accept, Accepted}
 use Rattle.protocol.specs.Turn.{packet_to, others, to_others}
-use Rattle.packets.specs.Rules.{keeps_rules, kind_of, may_send, may_say}
+use Rattle.messages.specs.Rules.{keeps_rules, kind_of, may_send, may_say}
 use Rattle.protocol.specs.Seats.{Seat}
 use Rattle.mail.specs.Mails.{Mail, letter_sends, mail_sends}
 use Rattle.mail.specs.declared.letter.Letter.{Letter}

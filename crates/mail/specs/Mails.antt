@@ -5,7 +5,7 @@ use Rattle.protocol.specs.Entries.{Entry}
 use Rattle.protocol.specs.Rows.{Vote}
 use Rattle.protocol.specs.Packets.{Packet, Prepare, Promise, Accepted, Nack}
 use Rattle.protocol.specs.Turn.{packet_to, to_others, proposal_to_others}
-use Rattle.packets.specs.Rules.{keeps_rules}
+use Rattle.messages.specs.Rules.{keeps_rules}
 use Rattle.protocol.specs.Seats.{Seat}
 use Rattle.protocol.specs.Limits.{most_sent}
 use Rattle.mail.specs.declared.letter.Letter.{Letter}

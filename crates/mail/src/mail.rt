@@ -3,15 +3,15 @@
 ghost use Rattle.std.specs.Prelude.{◌≡◌, ℕ, ◌≤◌, ◌<◌, ◌+◌, ◌∷◌, [], Some, IsTrue, length, slice_get};
 ghost use Rattle.protocol.specs.Turn.{packet_to, to_others, proposal_to_others, others};
 ghost use Rattle.protocol.specs.Limits.{most_members};
-ghost use Rattle.packets.specs.Bodies.{said};
+ghost use Rattle.messages.specs.Bodies.{said};
 ghost use Rattle.tape_frames.specs.Entries.{lent_entry};
-ghost use Rattle.packets.specs.Rules.{keeps_rules, may_send, kind_of, may_say};
+ghost use Rattle.messages.specs.Rules.{keeps_rules, may_send, kind_of, may_say};
 ghost use Rattle.mail.specs.Mails.{MayGo, IsFew};
 
 use crate::letter::Letter;
 use crate::seat::Seat;
 use ballots::{Ballot, Member, Number};
-use packets::{BodyRef, PacketRef};
+use messages::{BodyRef, PacketRef};
 use std::marker::Model;
 use tape_frames::EntryRef;
 

@@ -6,7 +6,7 @@ ghost use Rattle.mail.specs.Mails.{vote_below, mail_sends};
 use crate::letter::Letter;
 use crate::mail::Mail;
 use ballots::{Ballot, Vote, VoteRef};
-use packets::{BodyRef, PacketRef};
+use messages::{BodyRef, PacketRef};
 use std::marker::Model;
 
 /// The packets that go out with a turn, in order, their entries lent. Clauses see the list of them.

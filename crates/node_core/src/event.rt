@@ -5,7 +5,7 @@ ghost use Rattle.protocol.specs.Turn.{number_of};
 ghost use Rattle.node_core.specs.Turns.{event_value};
 
 use ballots::Number;
-use packets::PacketRef;
+use messages::PacketRef;
 use tape_frames::Entry;
 
 /// An event of one number. `now` is its moment, in milliseconds.

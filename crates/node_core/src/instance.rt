@@ -3,7 +3,7 @@
 ghost use Rattle.std.specs.Prelude.{◌≡◌, ◌≤◌, List, ◌∷◌, None, IfOk, IfErr, IsTrue, IsSome, MatchBool, false, option_map};
 ghost use Rattle.protocol.specs.Ballots.{next};
 ghost use Rattle.protocol.specs.Packets.{Accept as AcceptBody};
-ghost use Rattle.packets.specs.Rules.{keeps_rules};
+ghost use Rattle.messages.specs.Rules.{keeps_rules};
 ghost use Rattle.protocol.specs.Rows.{Row as RowValue};
 ghost use Rattle.tape_frames.specs.Entries.{owned_entry, lent_entry};
 ghost use Rattle.protocol.specs.Marks.{Mark, Closed};
@@ -22,7 +22,7 @@ use crate::voting::{self, Voting};
 use ballots::{Ballot, Member, Number, Row, VoteRef};
 use learner::Heard;
 use mail::{Letter, Mail, Seat};
-use packets::{BodyRef, PacketRef};
+use messages::{BodyRef, PacketRef};
 use proposer::{Counted, DueAnswer, Proposal};
 use std::alloc::{AllocError, Global};
 use tape_frames::{Entry, EntryRef};

@@ -11,7 +11,7 @@ use crate::turn::{CoreRefusal, Note, Turn};
 use crate::voting::{self, Voting};
 use ballots::Row;
 use mail::Seat;
-use packets::{BodyRef, PacketRef};
+use messages::{BodyRef, PacketRef};
 use std::alloc::{AllocError, Global};
 
 /// Answers a packet.

@@ -5,7 +5,7 @@ ghost use Rattle.protocol.specs.Marks.{Mark};
 ghost use Rattle.protocol.specs.Packets.{Prepare, Accept};
 ghost use Rattle.protocol.specs.Turn.{prepare_turn, accept_turn};
 ghost use Rattle.tape_frames.specs.Entries.{lent_entry};
-ghost use Rattle.packets.specs.Rules.{keeps_rules};
+ghost use Rattle.messages.specs.Rules.{keeps_rules};
 ghost use Rattle.node_core.specs.Calls.{IsForMember};
 ghost use Rattle.mail.specs.Mails.{MayGo, IsFew};
 ghost use Rattle.node_core.specs.Turns.{IsTurn, IsSending, IsOrderly, Stirs};
@@ -16,7 +16,7 @@ use crate::turn::{Note, Turn};
 use acceptor::{AcceptAnswer, PrepareAnswer};
 use ballots::Row;
 use mail::{Letter, Mail, Seat};
-use packets::PacketRef;
+use messages::PacketRef;
 use std::alloc::{AllocError, Global};
 use tape_frames::EntryRef;
 

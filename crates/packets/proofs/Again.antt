@@ -14,9 +14,9 @@ use Rattle.protocol.specs.Rows.{Vote}
 use Rattle.protocol.specs.Versions.{Version, One, Two}
 use Rattle.protocol.specs.Packets.{Packet, Body, Prepare, Promise, Accept, Accepted, Nack}
 use Rattle.protocol.specs.Fitting.{Fits, BodyFits}
-use Rattle.packets.specs.declared.body.Kind.{Kind}
-use Rattle.packets.specs.declared.body.Kind.TheVariants as kinds
-use Rattle.packets.specs.Rules.{kind_of, may_send, may_say, keeps_rules}
+use Rattle.messages.specs.declared.body.Kind.{Kind}
+use Rattle.messages.specs.declared.body.Kind.TheVariants as kinds
+use Rattle.messages.specs.Rules.{kind_of, may_send, may_say, keeps_rules}
 use Rattle.packets.specs.Spelling.{kind_byte, ballot_bytes, header_bytes, entry_bytes, body_bytes, spelling}
 use Rattle.packets.specs.Grammar.{IsTapeOne, IsBody, IsPacket, number_of_version}
 use Rattle.packets.specs.Laws.{Packings}

@@ -12,7 +12,7 @@ use Rattle.protocol.specs.Rows.{Vote}
 use Rattle.protocol.specs.Versions.{Version, One, Two}
 use Rattle.protocol.specs.Packets.{Packet, Body, Prepare, Promise, Accept, Accepted, Nack}
 use Rattle.protocol.specs.Fitting.{Fits, BodyFits}
-use Rattle.packets.specs.Rules.{kind_of}
+use Rattle.messages.specs.Rules.{kind_of}
 use Rattle.packets.specs.Spelling.{kind_byte, ballot_bytes, entry_bytes, report_bytes, body_bytes, spelling}
 use Rattle.packets.specs.Grammar.{IsTapeOne, SpellsBallot, SpellsTape, SpellsPacked, SpellsEntry, SpellsVote, SpellsBody, Spells, number_of_version, number_of_kind, IsBody, IsPacket}
 use Rattle.packets.specs.Laws.{HasOneSpelling, OnlyWhatFits, Packings}

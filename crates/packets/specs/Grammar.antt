@@ -11,7 +11,7 @@ use Rattle.protocol.specs.Rows.{Vote}
 use Rattle.protocol.specs.Versions.{Version, One, Two}
 use Rattle.protocol.specs.Packets.{Packet, Body, Prepare, Promise, Accept, Accepted, Nack}
 use Rattle.protocol.specs.Limits.{most_members, last_number, most_frames_one}
-use Rattle.packets.specs.Rules.{keeps_rules}
+use Rattle.messages.specs.Rules.{keeps_rules}
 
 -- a tape that version 1 spells: one frame or more, up to its most
 pub record IsTapeOne (tape : Tape) : Type 0 where

@@ -1,5 +1,3 @@
-pub mod Bodies
-pub mod Rules
 pub mod Grammar
 pub mod Spelling
 pub mod Reading

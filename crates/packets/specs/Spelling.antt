@@ -8,10 +8,10 @@ use Rattle.protocol.specs.Entries.{Entry}
 use Rattle.protocol.specs.Rows.{Vote}
 use Rattle.protocol.specs.Versions.{Version, One, Two}
 use Rattle.protocol.specs.Packets.{Packet, Body, Prepare, Promise, Accept, Accepted, Nack}
-use Rattle.packets.specs.Rules.{kind_of}
+use Rattle.messages.specs.Rules.{kind_of}
 use Rattle.packets.specs.Grammar.{number_of_version}
-use Rattle.packets.specs.declared.body.Kind.{Kind}
-use Rattle.packets.specs.declared.body.Kind.TheVariants as kinds
+use Rattle.messages.specs.declared.body.Kind.{Kind}
+use Rattle.messages.specs.declared.body.Kind.TheVariants as kinds
 
 -- the number of a kind
 abbrev pub kind_byte : Kind → ℕ

@@ -7,18 +7,17 @@ ghost use Rattle.tape_frames.specs.Entries.{lent_entry, version_of};
 ghost use Rattle.protocol.specs.Ballots.{is_below};
 ghost use Rattle.protocol.specs.Fitting.{BodyFits};
 ghost use Rattle.protocol.specs.Packets.{Packet as PacketValue};
-ghost use Rattle.packets.specs.Bodies.{said};
+ghost use Rattle.messages.specs.Bodies.{said};
 ghost use Rattle.packets.specs.Grammar.{SpellsAt, said_version};
-ghost use Rattle.packets.specs.Rules.{kind_of, may_say};
+ghost use Rattle.messages.specs.Rules.{kind_of, may_say};
 ghost use Rattle.packets.specs.Reading.{frames_at, packed_entry, packed_at, entry_at, whole_entry_at, vote_at, promise_at, nack_at, body_at, packet_in, packet_at, Seen};
-ghost use Rattle.packets.specs.declared.body.Kind.TheVariants as kinds;
+ghost use Rattle.messages.specs.declared.body.Kind.TheVariants as kinds;
 
-use crate::body::{BodyRef, Kind};
 use crate::fault::PacketFault;
 use crate::header::{HEADER_LEN, ballot_of, header_of, u16_of};
 use crate::laws::packings;
-use crate::packet::PacketRef;
 use ballots::{Ballot, VoteRef};
+use messages::{BodyRef, Kind, PacketRef};
 use tape_frames::{EntryRef, MAX_FRAMES, MAX_FRAMES_ONE, PackedRef, TapeRef, Version, packed_len};
 
 #[tactic(auto, unfolding(crate::specs::Reading::frames_at))]

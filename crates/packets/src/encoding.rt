@@ -7,17 +7,16 @@ ghost use Rattle.protocol.specs.Ballots.{IsBallot};
 ghost use Rattle.protocol.specs.Fitting.{BodyFits};
 ghost use Rattle.protocol.specs.Packets.{Promise};
 ghost use Rattle.protocol.specs.Versions.{Two};
-ghost use Rattle.packets.specs.Bodies.{said};
+ghost use Rattle.messages.specs.Bodies.{said};
 ghost use Rattle.packets.specs.Grammar.{Spells, IsBody, IsPacket};
 ghost use Rattle.packets.specs.Laws.{shortest, longest};
 ghost use Rattle.packets.specs.Reading.{packet_in, packet_at};
 ghost use Rattle.packets.specs.Spelling.{kind_byte, ballot_bytes, header_bytes, entry_bytes, report_bytes, body_bytes, spelling};
 
-use crate::body::{BodyRef, Kind};
 use crate::header::{HEADER_LEN, version_byte};
 use crate::laws::packings;
-use crate::packet::PacketRef;
 use ballots::{Ballot, VoteRef};
+use messages::{BodyRef, Kind, PacketRef};
 use std::alloc::{AllocError, Global};
 use tape_frames::{EntryRef, Version, packed_len};
 

@@ -4,7 +4,7 @@ ghost use Rattle.std.specs.Prelude.{◌≡◌, ◌≤◌, OnOk, IfErr, true, fal
 ghost use Rattle.node_core.specs.Calls.{IsForMember};
 ghost use Rattle.protocol.specs.Seats.{sits};
 ghost use Rattle.protocol.specs.Refusals.{names_stranger, is_of_stranger};
-ghost use Rattle.packets.specs.Bodies.{said};
+ghost use Rattle.messages.specs.Bodies.{said};
 ghost use Rattle.station.specs.Refusing.{ChecksPacket};
 ghost use Rattle.station.specs.Steps.{tears};
 

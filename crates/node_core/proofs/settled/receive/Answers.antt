@@ -5,7 +5,7 @@ use Rattle.std.proofs.lemmas.Result.{MatchResult-weaker, MatchResult-from_both}
 use Rattle.protocol.specs.Packets.{Body}
 use Rattle.protocol.specs.Turn.{packet_turn}
 use Rattle.tape_frames.specs.Entries.{lent_entry}
-use Rattle.packets.specs.Bodies.{said}
+use Rattle.messages.specs.Bodies.{said}
 use Rattle.node_core.specs.Handling.{IsTurnAlone}
 use Rattle.node_core.specs.Turns.{Stirs}
 use Rattle.node_core.proofs.Accepting.{prepare_adds_none, none_told, voting_alone}

@@ -1,6 +1,6 @@
 -- The packet to another.
 use Rattle.std.proofs.Common.{ap, ◌∙◌, Some}
-use Rattle.packets.specs.Bodies.{said}
+use Rattle.messages.specs.Bodies.{said}
 use Rattle.mail.proofs.Sending.{none_sent_at, sent_at, other_keeps}
 use Rattle.mail.proofs.mail.Mail.to_other.Goals as goal
 

@@ -4,8 +4,8 @@ ghost use Rattle.std.specs.Prelude.{◌≡◌, ◌↔◌, IfOk, IsOk, IsTrue, fa
 ghost use Rattle.tape_frames.specs.Entries.{version_of};
 ghost use Rattle.protocol.specs.Fitting.{BodyFits};
 ghost use Rattle.protocol.specs.Packets.{Promise};
-ghost use Rattle.packets.specs.Bodies.{said, told, has_tape};
-ghost use Rattle.packets.specs.Rules.{kind_of, may_send, may_say};
+ghost use Rattle.messages.specs.Bodies.{said, told, has_tape};
+ghost use Rattle.messages.specs.Rules.{kind_of, may_send, may_say};
 
 use ballots::{Ballot, Member, Vote, VoteRef};
 use std::alloc::{AllocError, Global};
@@ -13,11 +13,16 @@ use tape_frames::{Entry, EntryRef, Version};
 
 /// The kind of a packet.
 #[derive(Clone, Copy, PartialEq, Eq)]
-pub(crate) enum Kind {
+pub enum Kind {
+    /// A request to promise.
     Prepare,
+    /// A promise.
     Promise,
+    /// A request to vote.
     Accept,
+    /// The news of a vote.
     Accepted,
+    /// A refusal.
     Nack,
 }
 
@@ -51,8 +56,9 @@ pub enum Body {
     Nack { promised: Ballot },
 }
 
-/// Whether the ballot's owner is the member that a packet of this kind asks for.
-pub(crate) fn may_send(kind: Kind, owner: Member, from: Member, to: Member) -> bool
+/// Whether the ballot's owner is the member that a packet of this kind asks for: its sender for a request, its addressee for a
+/// Promise or a Nack, any for an Accepted.
+pub fn may_send(kind: Kind, owner: Member, from: Member, to: Member) -> bool
     ensures { result ≡ may_send kind owner from to }
 {
     match kind {
@@ -77,7 +83,7 @@ fn copy_promise(alloc: Global, report: &Option<VoteRef<'_>>) -> Result<Body, All
 
 impl<'a> BodyRef<'a> {
     /// The kind of packet that says this.
-    pub(crate) fn kind(&self) -> Kind
+    pub fn kind(&self) -> Kind
         ensures { result ≡ kind_of (said self.now) }
     {
         match self {

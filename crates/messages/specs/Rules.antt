@@ -2,8 +2,8 @@
 use Rattle.std.specs.Prelude.{ℕ, Bool, true, not, ◌&&◌, ◌==◌, Some, None}
 use Rattle.protocol.specs.Ballots.{Ballot, is_below}
 use Rattle.protocol.specs.Packets.{Packet, Body, Prepare, Promise, Accept, Accepted, Nack}
-use Rattle.packets.specs.declared.body.Kind.{Kind}
-use Rattle.packets.specs.declared.body.Kind.TheVariants as kinds
+use Rattle.messages.specs.declared.body.Kind.{Kind}
+use Rattle.messages.specs.declared.body.Kind.TheVariants as kinds
 
 -- the kind of packet that says this
 abbrev pub kind_of : Body → Kind

@@ -3,10 +3,10 @@ use Rattle.std.specs.Prelude.{Bool, true, false, Some, None}
 use Rattle.protocol.specs.Entries.{Entry, Void, Taped}
 use Rattle.protocol.specs.Packets.{Body, Prepare, Promise, Accept, Accepted, Nack}
 use Rattle.tape_frames.specs.Entries.{owned_entry, lent_entry}
-use Rattle.packets.specs.declared.body.BodyRef.{BodyRef}
-use Rattle.packets.specs.declared.body.BodyRef.TheVariants as lent
-use Rattle.packets.specs.declared.body.Body.{Body as OwnedBody}
-use Rattle.packets.specs.declared.body.Body.TheVariants as owned
+use Rattle.messages.specs.declared.body.BodyRef.{BodyRef}
+use Rattle.messages.specs.declared.body.BodyRef.TheVariants as lent
+use Rattle.messages.specs.declared.body.Body.{Body as OwnedBody}
+use Rattle.messages.specs.declared.body.Body.TheVariants as owned
 
 -- what a body says whose entries are lent
 abbrev pub said : BodyRef → Body

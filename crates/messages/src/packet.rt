@@ -3,8 +3,8 @@
 ghost use Rattle.std.specs.Prelude.{◌≡◌, ◌↔◌, ◌==◌, IsSome, IfSome, IfOk, IsOk, IsTrue, false};
 ghost use Rattle.tape_frames.specs.Entries.{version_of};
 ghost use Rattle.protocol.specs.Fitting.{BodyFits};
-ghost use Rattle.packets.specs.Bodies.{said, has_tape};
-ghost use Rattle.packets.specs.Rules.{packet_with, keeps_rules};
+ghost use Rattle.messages.specs.Bodies.{said, has_tape};
+ghost use Rattle.messages.specs.Rules.{packet_with, keeps_rules};
 
 use crate::body::{Body, BodyRef, may_send};
 use ballots::{Ballot, Member, Number};
@@ -30,8 +30,8 @@ pub struct PacketRef<'a> {
 impl<'a> Model for PacketRef<'a> {
     ghost use Rattle.std.specs.Prelude.{IsTrue};
     ghost use Rattle.protocol.specs.Packets.{Packet as PacketValue};
-    ghost use Rattle.packets.specs.Bodies.{said};
-    ghost use Rattle.packets.specs.Rules.{packet_with, keeps_rules};
+    ghost use Rattle.messages.specs.Bodies.{said};
+    ghost use Rattle.messages.specs.Rules.{packet_with, keeps_rules};
 
     ghost Value = { PacketValue };
 
@@ -54,8 +54,8 @@ pub struct Packet {
 impl Model for Packet {
     ghost use Rattle.std.specs.Prelude.{IsTrue};
     ghost use Rattle.protocol.specs.Packets.{Packet as PacketValue};
-    ghost use Rattle.packets.specs.Bodies.{told};
-    ghost use Rattle.packets.specs.Rules.{packet_with, keeps_rules};
+    ghost use Rattle.messages.specs.Bodies.{told};
+    ghost use Rattle.messages.specs.Rules.{packet_with, keeps_rules};
 
     ghost Value = { PacketValue };
 

@@ -1,0 +1,8 @@
+//! What stations say to one another: packets, owned and lent, and the rules that each keeps.
+#![tactic(auto)]
+
+mod body;
+mod packet;
+
+pub use body::{Body, BodyRef, Kind, may_send};
+pub use packet::{Packet, PacketRef};
