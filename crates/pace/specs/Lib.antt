@@ -1,0 +1,4 @@
+pub mod Behind
+pub mod Fairness
+pub mod Order
+pub mod Room

@@ -1,0 +1,11 @@
+//! How a station that stays up paces its work: which work comes next, which members are behind, and what waits in memory.
+#![tactic(auto)]
+
+pub mod laws;
+mod members;
+mod turns;
+mod waiting;
+
+pub use members::Pace;
+pub use turns::{Deeds, Done, LOOK, Sight, Turns, WAIT, Work};
+pub use waiting::{Datagram, MOST_RECEIVES, Waiting};
