@@ -2,3 +2,5 @@ pub mod Behind
 pub mod Fairness
 pub mod Order
 pub mod Room
+pub mod Rule
+pub mod UnderWay

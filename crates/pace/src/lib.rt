@@ -5,7 +5,9 @@ pub mod laws;
 mod members;
 mod turns;
 mod waiting;
+mod window;
 
 pub use members::Pace;
 pub use turns::{Deeds, Done, LOOK, Sight, Turns, WAIT, Work};
 pub use waiting::{Datagram, MOST_RECEIVES, Waiting};
+pub use window::Window;

@@ -18,7 +18,7 @@ const MOST_BEFORE_DUE: u8 = 64;
 const MOST_BEFORE_DEED: u8 = 16;
 
 /// How many files are under way at most.
-const MOST_UNDER_WAY: usize = 16;
+pub(crate) const MOST_UNDER_WAY: usize = 16;
 
 /// What a station does next.
 #[derive(Clone, Copy, PartialEq, Eq)]
@@ -72,7 +72,7 @@ pub struct Sight {
     pub waits: bool,
     /// What there is to do with files.
     pub deeds: Deeds,
-    /// How many files are under way: asked for, and neither released nor put off since.
+    /// How many files are under way.
     pub under_way: usize,
     /// Whether a member is behind.
     pub is_behind: bool,
