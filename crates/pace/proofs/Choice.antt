@@ -1,7 +1,6 @@
 -- What it says of the tests that a kind of work came next.
 use Rattle.std.proofs.Common.{◌≡◌, ◌≤◌, ◌<◌, ◌⊎◌, inl, inr, ℕ, refl, Bool, true, false, not, ◌&&◌, nat_le, cond, arith}
 use Rattle.std.proofs.lemmas.Bool.Decides.{nat_tests}
-use Rattle.pace.specs.declared.turns.Done.{Done}
 use Rattle.pace.specs.declared.turns.Done.TheVariants as dones
 use Rattle.pace.specs.declared.turns.Seen.{Seen}
 use Rattle.pace.specs.declared.turns.Seen.TheVariants as seens

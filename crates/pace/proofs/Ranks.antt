@@ -1,5 +1,5 @@
 -- How many turns are left at most until a kind of work comes: each turn that does other work leaves fewer.
-use Rattle.std.proofs.Common.{◌≡◌, ◌≤◌, ◌<◌, ◌+◌, ◌*◌, ◌-◌, ◌⊎◌, inl, inr, ℕ, suc, refl, sym, ap, ◌∙◌, Bool, true, false, not, ◌&&◌, nat_le, min, List, [], ◌∷◌, length, cond, arith}
+use Rattle.std.proofs.Common.{◌≡◌, ◌≤◌, ◌<◌, ◌+◌, ◌*◌, ◌-◌, ◌⊎◌, inl, inr, ℕ, suc, sym, ap, ◌∙◌, Bool, true, false, not, ◌&&◌, nat_le, min, List, [], ◌∷◌, length, cond, arith}
 use Rattle.pace.specs.declared.turns.Done.{Done}
 use Rattle.pace.specs.declared.turns.Done.TheVariants as dones
 use Rattle.pace.specs.declared.turns.Sight.{Sight}

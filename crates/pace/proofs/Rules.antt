@@ -1,12 +1,11 @@
 -- What the rule says of each kind of work.
-use Rattle.std.proofs.Common.{◌≡◌, ◌≤◌, ◌<◌, ◌⊎◌, inl, inr, ℕ, refl, ap, sym, ◌∙◌, Bool, true, false, not, ◌&&◌, nat_le, nat_lt, arith}
+use Rattle.std.proofs.Common.{◌≡◌, ◌<◌, ◌⊎◌, inl, inr, ℕ, refl, sym, Bool, true, false, not, ◌&&◌, nat_le, nat_lt, arith}
 use Rattle.std.proofs.lemmas.Bool.Decides.{nat_tests}
 use Rattle.pace.specs.declared.turns.Seen.{Seen}
 use Rattle.pace.specs.declared.turns.Seen.TheVariants as seens
 use Rattle.pace.specs.declared.turns.Sight.{Sight}
-use Rattle.pace.specs.declared.turns.Work.{Work}
 use Rattle.pace.specs.declared.turns.Work.TheVariants as works
-use Rattle.pace.specs.Order.{Counts, has_deed, may_ask, has_rested, next_work}
+use Rattle.pace.specs.Order.{Counts, has_deed, may_ask, has_rested}
 use Rattle.pace.specs.Rule.{LooksComeFirst, DatagramsWait, DueNumbersGiveWay, DeedsGiveWay, AsksAreFew, WaitsHaveNoWork}
 use Rattle.pace.proofs.Choice.{at_least, first_holds, choice}
 

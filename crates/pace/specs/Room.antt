@@ -1,5 +1,5 @@
 -- The datagrams that wait, and which of them find a place.
-use Rattle.std.specs.Prelude.{◌≡◌, ◌≤◌, ◌<◌, ℕ, ◌+◌, ◌-◌, ◌^◌, Bool, min, List, [], ◌∷◌, ◌++◌, length, vec_len, if◌then◌else◌}
+use Rattle.std.specs.Prelude.{◌≤◌, ◌<◌, ℕ, ◌+◌, ◌-◌, ◌^◌, Bool, min, List, [], ◌∷◌, ◌++◌, length, vec_len, if◌then◌else◌}
 use Rattle.std.specs.List.{sum_by}
 use Rattle.pace.specs.declared.waiting.Datagram.{Datagram}
 
