@@ -1,8 +1,8 @@
 -- The lines of a run, in the words of a rehearsal.
 use Rattle.std.specs.Prelude.{ℕ, List, ◌++◌, codes, decimal}
 use Rattle.protocol.specs.Ballots.{Ballot}
-use Rattle.run_command.specs.declared.messages.Event.{Event}
-use Rattle.run_command.specs.declared.messages.Event.TheVariants.{Began, GaveUp, Nothing, Released, Sent, Lost}
+use Rattle.run_command.specs.declared.telling.Event.{Event}
+use Rattle.run_command.specs.declared.telling.Event.TheVariants.{Began, GaveUp, Nothing, Released, Sent, Lost}
 
 -- a ballot, as `round.owner`
 abbrev pub ballot_text : Ballot → List ℕ

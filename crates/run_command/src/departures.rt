@@ -6,7 +6,7 @@ ghost use Rattle.tape_frames.specs.Entries.{lent_entry};
 ghost use Rattle.command_ends.specs.EntryText.{entry_text};
 ghost use Rattle.command_ends.specs.ReleaseText.{plain_line};
 
-use crate::messages::{Event, Reason, tell, tell_folder, tell_refused};
+use crate::telling::{Event, Reason, tell, tell_folder, tell_refused};
 use command_ends::entry_text;
 use folders::{Asked, FolderFault, Folders, Place, place_of};
 use std::alloc::{AllocError, Global};

@@ -3,9 +3,9 @@
 
 mod departures;
 mod look;
-mod messages;
 mod offer_book;
 mod steps;
+mod telling;
 mod turns;
 
 pub use turns::run_station;

@@ -5,9 +5,9 @@ ghost use Rattle.folders.specs.Keeping.{Keeps};
 ghost use Rattle.run_command.specs.Running.{RunsUpTo};
 
 use crate::departures::refuse;
-use crate::messages::{Reason, tell_folder};
 use crate::offer_book::OfferBook;
 use crate::steps::ask_at;
+use crate::telling::{Reason, tell_folder};
 use ballots::Number;
 use command_ends::Fault;
 use folders::{

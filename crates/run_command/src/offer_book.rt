@@ -4,7 +4,7 @@ ghost use Rattle.std.specs.Prelude.{◌≡◌, []};
 ghost use Rattle.folders.specs.Keeping.{Keeps};
 
 use crate::departures::{refuse, settle};
-use crate::messages::{Event, Reason, tell, tell_folder, tell_wrong_circuit};
+use crate::telling::{Event, Reason, tell, tell_folder, tell_wrong_circuit};
 use ballots::Number;
 use folders::{
     Asked, Folders, LAST_PAUSE, LOOK, NamedFile, Stamp, TELL, Watched, has_passed, index_of,

@@ -8,8 +8,8 @@ ghost use Rattle.plant_files.specs.Filing.{files_of};
 ghost use Rattle.folders.specs.Keeping.{Keeps};
 ghost use Rattle.run_command.specs.Running.{RunsUpTo};
 
-use crate::messages::Reason;
 use crate::offer_book::OfferBook;
+use crate::telling::Reason;
 use command_ends::Fault;
 use exchange::{Outcome, pass_over, send_answer, take_datagram, tell_strangers};
 use folders::{Folders, NamedFile};
