@@ -35,7 +35,7 @@ TOP = os.path.dirname(os.path.dirname(os.path.abspath(__file__)))
 HEAD = re.compile(r'^( *)(?:pub(?:\([a-z]+\))? )?(?:const )?(?:unsafe )?fn (\w+)')
 IMPL = re.compile(r'^impl\b(?:<.*?>)? ?(?:(?:\w+::)*(\w+)(?:<.*>)? for )?(?:&(?:mut )?)?(?:\w+::)*(\w+)')
 # What a check says of a goal that is false, of one that was not reached, and of a name that an edit took from a proof file.
-STRONG = re.compile(r'allow values at which|may be false: the known facts|types? (?:first )?differ')
+STRONG = re.compile(r'allow values at which|may be false: the known facts|types? (?:first )?differ|but this has type')
 WEAK = re.compile(r'did not prove `|it is not proved that|does not hold|no proof of `')
 NAME = re.compile(r'that can be named from here|has no field|which was not admitted|has no `|is not in scope')
 PLACE = re.compile(r'^(?:note: )?(?:\./)?((?:src|specs|proofs)/\S+?):(\d+):\d+: ')
