@@ -58,7 +58,7 @@ fresh_layout : {S : Type 0} (s : SqliteOf S) → s.upgraded ≡ false → rows_l
 fresh_layout s fresh = ap (layout_now s.was) fresh ∙ still s.was
 
 -- what the store owes is no more than a fact
-ours_prop : (alone : Bool) (was : Layout) (found : Option Schema) (x y : IsOurs alone was found) → x ≡ y
+pub ours_prop : (alone : Bool) (was : Layout) (found : Option Schema) (x y : IsOurs alone was found) → x ≡ y
 ours_prop alone was None = ×_prop (Coded-set coded_bool _ _) Unit-prop
 ours_prop alone was (Some it) = ×_prop (Coded-set coded_bool _ _) (Coded-set schema.the_row.coded _ _)
 
@@ -78,7 +78,7 @@ version_after (Second origin) layout (inr over) = inr (ap version_in over)
 
 module _ {D : Type 0} {g : Ghosts D} {E : Type 0} {h : Ghosts E} (conn : Held (FileStore D g)) (files : Files D) (left : Image) (gives : GivesUp g conn files) (clean : AreClean g files.log files.db) (may : outcomes g files.log files.db left) where
   -- an open found a database that the crash could leave
-  found_left : (was : Held (FileStore E h)) → IsOpened was → FindsIn left (file_state was) → ∥ (file_state conn).may_leave (file_state was).now.trees ∥₁
+  pub found_left : (was : Held (FileStore E h)) → IsOpened was → FindsIn left (file_state was) → ∥ (file_state conn).may_leave (file_state was).now.trees ∥₁
   found_left was opened found =
       ∥∥₁_map (gives clean left may) (λ db. subst (file_state conn).may_leave (sym (ap (λ (d : Database). d.trees) opened.0.clean ∙ found.holds db.0 db.2)) db.1)
 
@@ -87,7 +87,7 @@ found_schema : {E : Type 0} {h : Ghosts E} (was : Held (FileStore E h)) → IsOp
 found_schema was opened layout tables = same_schema layout ((file_state was).now.trees catalog_tree) (file_state was).now.schema tables (opened.1 opened.0.is_open).0.lists
 
 -- rows that were opened from a database of a station have its tables as their own
-found_ours : {E : Type 0} {h : Ghosts E} (left : Image) (again : SqliteOf (FileStore E h)) (opened : AreOpenedFrom left again) (layout : Layout) (i : Identity)
+pub found_ours : {E : Type 0} {h : Ghosts E} (left : Image) (again : SqliteOf (FileStore E h)) (opened : AreOpenedFrom left again) (layout : Layout) (i : Identity)
     → IsOfStation layout i (file_state opened.made.was).now.trees → IsOurs again.alone again.was again.found
 found_ours left again opened layout i holds =
     let made = opened.made in
@@ -103,12 +103,12 @@ module _ {E : Type 0} {h : Ghosts E} (left : Image) (again : SqliteOf (FileStore
   now_layout : rows_layout again ≡ layout
   now_layout = fresh_layout again taken.fresh ∙ taken_layout
 
-  taken_rows : (n : ℕ) → saved_of over_files again n ≡ saved_in layout (file_state taken.was).now.trees n
+  pub taken_rows : (n : ℕ) → saved_of over_files again n ≡ saved_in layout (file_state taken.was).now.trees n
   taken_rows n =
       taken.same n
       ∙ ap (λ l. saved_in l (file_state taken.was).now.trees n) taken_layout
 
-  taken_station : (i : Identity) → IsStationOf layout i (file_state taken.was).now.trees → again.identity ≡ i
+  pub taken_station : (i : Identity) → IsStationOf layout i (file_state taken.was).now.trees → again.identity ≡ i
   taken_station i is = ap (λ (s : ℕ × Identity). s.1) (some_same _ _ (sym taken.station ∙ is))
 
 pub opens : {D : Type 0} {g : Ghosts D} {E : Type 0} {h : Ghosts E} → OpensWhatIsLeft D g E h

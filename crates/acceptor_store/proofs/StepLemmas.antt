@@ -10,10 +10,10 @@ use Rattle.saved_rows.specs.Saved.{Saved}
 use Rattle.acceptor_store.specs.Restarts.{AreTorn}
 use Rattle.acceptor_store.specs.Steps.{CrashIsTwoSteps, UpgradeCrashIsTwoSteps}
 
-at_itself : {A : Type 0} (f : ℕ → A) (m : ℕ) (x : A) → with_at f m x m ≡ x
+pub at_itself : {A : Type 0} (f : ℕ → A) (m : ℕ) (x : A) → with_at f m x m ≡ x
 at_itself f m x = ap (λ b. if b then x else f m) ((Decides-eqb m m).1 refl)
 
-same_state : {G F : Type 0} (w : State G F) → IsSameState w w
+pub same_state : {G F : Type 0} (w : State G F) → IsSameState w w
 same_state w = record { version = λ m. refl; rows = λ m n. refl; marks = λ m. refl; is_stopped = λ m. refl; armed = λ m. refl; sent = refl; offers = refl; releases = refl }
 
 -- the rows with the one that a torn step left are those that were found

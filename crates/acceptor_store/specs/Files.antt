@@ -1,5 +1,5 @@
 -- Saved rows in a host's file.
-use Rattle.std.specs.Prelude.{◌≡◌, Bool, Option, true, false}
+use Rattle.std.specs.Prelude.{◌≡◌, ◌≤◌, Bool, Option, true, false}
 use Rattle.sqlite_disk.specs.declared.Disk.{Ghosts}
 use Rattle.sqlite.specs.declared.FileStore.{FileStore}
 use Rattle.sqlite.specs.declared.Leftover.{Leftover}
@@ -13,12 +13,13 @@ use Rattle.sqlite_disk.specs.declared.Files.{Files}
 use Rattle.sqlite.specs.Recovery.{Image}
 use Rattle.sqlite.specs.Start.{FindsIn}
 use Rattle.sqlite_trees.specs.Tree.{Trees}
+use Rattle.sqlite_trees.specs.View.{doubt}
 use Rattle.row_table.specs.Tables.{layout_schema, no_schema}
 use Rattle.saved_rows.specs.Saved.{SameRows}
 use Rattle.saved_rows.specs.declared.identity.Identity.{Identity}
 use Rattle.saved_rows.specs.declared.fault.RowsFault.{RowsFault}
 use Rattle.row_columns.specs.Columns.{saved_in}
-use Rattle.row_columns.specs.FoundTables.{has_tables}
+use Rattle.row_columns.specs.FoundTables.{has_any}
 use Rattle.row_columns.specs.StationRow.{IsStationOf}
 use Rattle.acceptor_store.specs.Sqlite.{SqliteOf, IsOurs, IsOursAsFound, IsOfStation, rows_layout, saved_of}
 use Rattle.acceptor_store.specs.Opening.{IsReasonToRefuse, LeavesNothingNew, StaysUnwritten}
@@ -51,13 +52,15 @@ pub record RefusesFiles {D : Type 0} {g : Ghosts D} (start : Image) (given : Opt
   pub unwritten : StaysUnwritten (file_state was) (file_state conn)
   pub crash : LeavesNothingNew (file_state was) (file_state conn)
 
--- What the store owes where it made the tables: the database that the files held did not have both of them, and they are its own if it had no table at all
+-- What the store owes where it made the tables: the database that the files held had none of them, and they are its own if it had no table at all
 pub record MakesItsOwn {D : Type 0} {g : Ghosts D} (start : Image) (s : SqliteOf (FileStore D g)) : Type 0 where
   pub was : Held (FileStore D g)
   pub opened : HasCleanDisk (file_state was) → IsOpened was
   pub found : HasCleanDisk (file_state was) → FindsIn start (file_state was)
-  pub unmade : has_tables (file_state was).now.schema ≡ false
+  pub unmade : has_any (file_state was).now.schema ≡ false
   pub ours : (file_state was).now.schema ≡ no_schema → IsOurs s.alone s.was s.found
+  -- where the disk has returned what was written, it had when the file was opened
+  pub clean : doubt (file_state was).is_clean ≤ doubt (file_state s.conn).is_clean
 
 -- the database file alone, without its log, holds the rows and the station, as it reads now and after a crash
 pub record HoldsRowsAlone {D : Type 0} {g : Ghosts D} (s : SqliteOf (FileStore D g)) (files : Files D) : Type 0 where

@@ -8,6 +8,7 @@ pub mod Upgrading
 pub mod Faults
 pub mod Files
 pub mod Restarts
+pub mod Acknowledged
 pub mod Steps
 pub mod Testing
 pub mod Reading

@@ -196,9 +196,9 @@ module _ {S : Type 0} (g : Ghosts S) where
   abbrev pub IsKeptAsFound : State → SqliteOf S → Type 0
   IsKeptAsFound was s = HasCleanDisk (state g s.conn) → (layout : Layout) → was.now.schema ≡ layout_schema layout → IsKept s
 
-  -- of rows that were open, a crash leaves nothing that it could not have left before
+  -- of rows that were open, a crash leaves no database that it could not have left before
   abbrev pub LeavesNoOther : SqliteOf S → SqliteOf S → Type 0
-  LeavesNoOther old new = IsOpen old → (left : Saved) → MayLeave new left → MayLeave old left
+  LeavesNoOther old new = IsOpen old → (db : Trees) → (state g new.conn).may_leave db → (state g old.conn).may_leave db
 
   -- a crash leaves the rows as they were
   abbrev pub LeavesSameRows : SqliteOf S → SqliteOf S → Type 0
@@ -216,6 +216,12 @@ module _ {S : Type 0} (g : Ghosts S) where
   -- and a database of their station
   abbrev pub LeavesItsStation : SqliteOf S → SqliteOf S → Type 0
   LeavesItsStation old new = IsOpen old → old.stopped ≡ false → LeavesStation new old.identity
+
+  -- rows between two calls, none of which was refused: whatever a crash leaves now is a database of their station, with the rows that they have
+  pub record IsAtRest (s : SqliteOf S) : Type 0 where
+    pub is_open : IsOpen s
+    pub station : LeavesStation s s.identity
+    pub rows : LeavesSameRows s s
 
   -- a failure has shut the connection, or the rows are as they were, or with this one
   abbrev pub HoldsEither : ℕ → Row → SqliteOf S → SqliteOf S → Type 0

@@ -1,10 +1,10 @@
 -- Rows that were taken up from a database, or made in one: `was` is the state of its connection before.
-use Rattle.std.specs.Prelude.{◌≡◌, ◌≤◌, Option, false}
+use Rattle.std.specs.Prelude.{◌≡◌, ◌≤◌, Option, IsTrue, true, false}
 use Rattle.sqlite_trees.specs.declared.store.Store.{Ghosts}
 use Rattle.sqlite_trees.specs.Tree.{Trees}
 use Rattle.sqlite_trees.specs.View.{doubt}
 use Rattle.sqlite.specs.State.{State}
-use Rattle.sqlite.specs.Held.{state}
+use Rattle.sqlite.specs.Held.{Held, state}
 use Rattle.row_table.specs.Tables.{layout_schema, no_schema}
 use Rattle.protocol.specs.Versions.{Version}
 use Rattle.tape_frames.specs.Entries.{version_of}
@@ -12,18 +12,24 @@ use Rattle.saved_rows.specs.Identity.{IsIdentity}
 use Rattle.saved_rows.specs.Saved.{SameRows}
 use Rattle.saved_rows.specs.declared.identity.Identity.{Identity}
 use Rattle.saved_rows.specs.declared.fault.RowsFault.{RowsFault}
+use Rattle.saved_rows.specs.declared.fault.RowsFault.TheVariants.{Store}
 use Rattle.row_columns.specs.Columns.{saved_in}
-use Rattle.row_columns.specs.FoundTables.{has_tables}
+use Rattle.row_columns.specs.FoundTables.{has_any, has_none, has_tables}
+use Rattle.row_columns.specs.Layouts.{made_in}
 use Rattle.row_columns.specs.StationRow.{IsStationOf}
 use Rattle.acceptor_store.specs.declared.rows_at_path.Wanted.{Wanted}
 use Rattle.acceptor_store.specs.declared.rows_at_path.Wanted.TheVariants.{Stored, Made}
-use Rattle.acceptor_store.specs.Opening.{IsReasonToRefuse, LeavesNothingNew, StaysUnwritten}
-use Rattle.acceptor_store.specs.Sqlite.{SqliteOf, Agrees, IsKept, IsOpen, IsOurs, IsOursAsFound, HoldsNoRow, rows_version, saved_of}
+use Rattle.acceptor_store.specs.declared.faults.FileFault.{FileFault}
+use Rattle.acceptor_store.specs.declared.faults.FileFault.TheVariants as faults
+use Rattle.acceptor_store.specs.Faults.{IsOfTaking, IsOfMaking}
+use Rattle.acceptor_store.specs.Opening.{HasWhatItHad, IsReasonToRefuse, LeavesNothingNew, MakesAllOrNothing, StaysUnwritten}
+use Rattle.acceptor_store.specs.Sqlite.{SqliteOf, Agrees, IsAtRest, IsKept, IsOpen, IsOurs, IsOursAsFound, IsRefusal, HoldsNoRow, rows_version, saved_of}
 
 module _ {S : Type 0} (g : Ghosts S) where
   -- they were taken up for the station that is given, if any: where they are kept, the rows and the station are those that were stored, and nothing is written
   pub record OpensAsStored (given : Option Identity) (was : State) (s : SqliteOf S) : Type 0 where
     pub is_open : IsKept g s → IsOpen g s
+    pub rests : IsKept g s → IsAtRest g s
     pub same : IsKept g s → SameRows (saved_in s.was was.now.trees) (saved_of g s)
     pub unwritten : IsKept g s → (state g s.conn).now ≡ was.now
     pub agrees : Agrees given s.identity
@@ -35,15 +41,19 @@ module _ {S : Type 0} (g : Ghosts S) where
     pub crash : IsKept g s → (left : Trees) → (state g s.conn).may_leave left → was.may_leave left
     pub ours : IsOursAsFound was s
 
-  -- their tables, which were not both there, were made for this station, at this version: where they are kept, they hold no row
+  -- their tables, none of which was there, were made for this station, at this version: where they are kept, they hold no row
   pub record IsMadeFor (i : Identity) (made_at : Version) (was : State) (s : SqliteOf S) : Type 0 where
     pub is_open : IsKept g s → IsOpen g s
-    pub unmade : has_tables was.now.schema ≡ false
+    pub rests : IsKept g s → IsAtRest g s
+    pub unmade : has_any was.now.schema ≡ false
     pub ours : was.now.schema ≡ no_schema → IsOurs s.alone s.was s.found
     pub blank : IsKept g s → HoldsNoRow g s
     pub identity : s.identity ≡ i
+    pub layout : s.was ≡ made_in made_at
+    pub fresh : s.upgraded ≡ false
     pub version : rows_version s ≡ made_at
     pub unstopped : s.stopped ≡ false
+    pub clean : doubt was.is_clean ≤ doubt (state g s.conn).is_clean
 
   -- they are what was wanted of the database: taken up, or made
   abbrev pub AreAsWanted : Wanted → State → SqliteOf S → Type 0
@@ -62,7 +72,32 @@ pub record RefusesStored (given : Option Identity) (fault : RowsFault) (was : St
   pub crash : LeavesNothingNew was now
   pub clean : doubt was.is_clean ≤ doubt now.is_clean
 
--- the same where stored rows were wanted; of tables that are not made nothing is said here
-abbrev pub RefusesWanted : Wanted → RowsFault → State → State → Type 0
-RefusesWanted (Stored given) fault was now = RefusesStored given fault was now
-RefusesWanted (Made i version) fault was now = Unit {0}
+module _ {S : Type 0} (g : Ghosts S) where
+  -- why stored rows are not taken up: there is no table of them, and the database comes back as it was, or they are refused
+  abbrev pub TellsWhyUntaken : Option Identity → FileFault → Held S → Held S → Type 0
+  TellsWhyUntaken given faults.Unmade was now = (has_none (state g was).now.schema ≡ true) × (now ≡ was)
+  TellsWhyUntaken given (faults.Rows fault) was now = (has_none (state g was).now.schema ≡ false) × RefusesStored given fault (state g was) (state g now)
+  TellsWhyUntaken given _ was now = ⊥
+
+  -- tables are not made, and nothing is changed: where one of them was there, the database comes back as it was
+  pub record RefusesToMake (i : Identity) (made_at : Version) (fault : RowsFault) (was now : Held S) : Type 0 where
+    pub refusal : IsRefusal fault
+    pub over : IsTrue (has_any (state g was).now.schema) → (fault ≡ Store) × (now ≡ was)
+    pub unchanged : HasWhatItHad (state g was) (state g now)
+    pub crash : MakesAllOrNothing (made_in made_at) i (state g was) (state g now)
+
+  -- why tables are not made: they are all there, and the database comes back as it was, or that is refused
+  abbrev pub TellsWhyUnmade : Identity → Version → FileFault → Held S → Held S → Type 0
+  TellsWhyUnmade i made_at faults.Made was now = (has_tables (state g was).now.schema ≡ true) × (now ≡ was)
+  TellsWhyUnmade i made_at (faults.Rows fault) was now = (has_tables (state g was).now.schema ≡ false) × RefusesToMake i made_at fault was now
+  TellsWhyUnmade i made_at _ was now = ⊥
+
+  -- why a database does not give what was wanted of it
+  abbrev pub RefusesWanted : Wanted → FileFault → Held S → Held S → Type 0
+  RefusesWanted (Stored given) fault was now = TellsWhyUntaken given fault was now
+  RefusesWanted (Made i version) fault was now = TellsWhyUnmade i (version_of version) fault was now
+
+-- the faults that what was wanted may be refused with
+abbrev pub IsFaultOf : Wanted → FileFault → Type 0
+IsFaultOf (Stored given) fault = IsOfTaking fault
+IsFaultOf (Made i version) fault = IsOfMaking fault

@@ -1,8 +1,8 @@
 //! Why a file of the host gives no rows.
 
-ghost use Rattle.std.specs.Prelude.{◌≡◌, false, OnOk};
+ghost use Rattle.std.specs.Prelude.{◌≡◌, true, false, IfErr, OnOk};
 ghost use Rattle.row_columns.specs.FoundTables.{has_tables};
-ghost use Rattle.acceptor_store.specs.Faults.{rows_fault};
+ghost use Rattle.acceptor_store.specs.Faults.{rows_fault, IsOfFile};
 ghost use Rattle.acceptor_store.specs.Sqlite.{IsRefusal};
 
 use row_columns::has_tables;
@@ -54,7 +54,8 @@ impl FileFault {
 
 /// What a file is refused for that the database does not open or close.
 pub(crate) fn file_fault_of(error: &Error) -> FileFault
-    ensures { IsRefusal (rows_fault result) }
+    ensures refusal { IsRefusal (rows_fault result) }
+    ensures file { IsOfFile result }
 {
     match error {
         Error::SqliteFailure(ErrorCode::OutOfMemory) => FileFault::Rows(RowsFault::OutOfMemory),
@@ -70,7 +71,8 @@ pub(crate) fn file_fault_of(error: &Error) -> FileFault
 
 /// Refuses a database that has the tables of saved rows.
 pub(crate) fn test_unmade(schema: &Schema) -> Result<(), FileFault>
-    ensures { OnOk result (has_tables schema.now ≡ false) }
+    ensures unmade { OnOk result (has_tables schema.now ≡ false) }
+    ensures made { IfErr result (λ fault. (fault ≡ FileFault.Made) × (has_tables schema.now ≡ true)) }
 {
     if has_tables(schema) {
         Err(FileFault::Made)

@@ -3,9 +3,9 @@
 ghost use Rattle.std.specs.Prelude.{◌≡◌, false, None, IsTrue, IfOk, IfErr, IfSome};
 ghost use Rattle.sqlite_std_file.specs.File.{IsFresh};
 ghost use Rattle.sqlite.specs.State.{HasCleanDisk};
-ghost use Rattle.sqlite.specs.Files.{file_state};
+ghost use Rattle.sqlite.specs.Files.{file_state, over_files};
 ghost use Rattle.sqlite.specs.WalFiles.{image_at};
-ghost use Rattle.acceptor_store.specs.Sqlite.{IsOurs, IsRefusal, Agrees};
+ghost use Rattle.acceptor_store.specs.Sqlite.{IsAtRest, IsOurs, IsRefusal, Agrees};
 
 use crate::rows_at_path::{Wanted, rows_in_files};
 use crate::sqlite_rows::SqliteRows;
@@ -36,11 +36,13 @@ impl<T: Start> SqliteRows<FileStore<FileFrom<T>>> {
         ),
     >
         ensures open { IfOk result (λ s. HasCleanDisk (file_state s.conn) → IsOurs s.alone s.was s.found → IsTrue (file_state s.conn).is_open) }
+        ensures rests { IfOk result (λ s. HasCleanDisk (file_state s.conn) → IsOurs s.alone s.was s.found → IsAtRest over_files s) }
 
         // What the store owes, told of the file; with what the host owes the rows are those that the file held.
         ensures made { IfOk result (TakesItsOwn (image_at T.Start)) }
         ensures rows { IfOk result (λ s. HasCleanDisk (file_state s.conn) → IsOurs s.alone s.was s.found → IsTakenUp (image_at T.Start) s) }
         ensures given { IfOk result (λ s. Agrees given s.identity) }
+        ensures fresh { IfOk result (λ s. s.upgraded ≡ false) }
         ensures unstopped { IfOk result (λ s. s.stopped ≡ false) }
 
         // Why it is refused. No row is written then either; where no database was opened, one that the files held is

@@ -1,9 +1,11 @@
 //! Laws over what a crash leaves and what an open finds. The functions do nothing: their contracts are the laws.
 //! `D` are the disks before the crash, `E` those of the next start.
 
+ghost use Rattle.acceptor_store.specs.Acknowledged.{AcknowledgedSaveIsFound, CrashAtRestIsRestart, CrashAtRestLosesNothing, LeavesRowsAtRest};
 ghost use Rattle.acceptor_store.specs.Restarts.{OpensWhatIsLeft, PutOutlivesCrash, UpgradeOutlivesCrash, CreateOutlivesCrash};
 ghost use Rattle.acceptor_store.specs.Steps.{CrashIsTwoSteps, UpgradeCrashIsTwoSteps};
 
+use sqlite::Alter;
 use sqlite_disk::Disk;
 
 /// An open of what a crash left finds rows that the crash could leave, of the same station.
@@ -35,4 +37,21 @@ pub fn a_crash_is_two_steps<D, G, F>()
 /// A crash of a station as it goes over, and its next start, are the torn upgrade and the restart of a circuit.
 pub fn an_upgrade_crash_is_two_steps<D, G, F>()
     ensures { UpgradeCrashIsTwoSteps D G F }
+{}
+
+/// After a save that was answered Ok, and calls that save nothing under its number, the next start finds its row.
+pub fn an_acknowledged_save_is_found<D: Disk, E: Disk>()
+    ensures { AcknowledgedSaveIsFound D D.Disk E E.Disk }
+{}
+
+/// A crash of rows at rest, and the next start, are the restart of a circuit: the same station has the same rows, at the
+/// same version.
+pub fn a_crash_at_rest_is_a_restart<D: Disk, E: Disk, B, G, F>()
+    ensures found { CrashAtRestLosesNothing D D.Disk E E.Disk }
+    ensures restart { CrashAtRestIsRestart D D.Disk E E.Disk B G F }
+{}
+
+/// A save and an upgrade that are answered Ok leave rows at rest, and so does a reading of rows at rest, while they are open.
+pub fn calls_leave_rows_at_rest<S: Alter>()
+    ensures { LeavesRowsAtRest S.Store }
 {}

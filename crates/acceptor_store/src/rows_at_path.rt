@@ -7,9 +7,10 @@ ghost use Rattle.sqlite.specs.Files.{file_state, over_files};
 ghost use Rattle.sqlite.specs.WalFiles.{image_at};
 ghost use Rattle.tape_frames.specs.Entries.{version_of};
 ghost use Rattle.saved_rows.specs.Identity.{IsIdentity};
-ghost use Rattle.acceptor_store.specs.Faults.{rows_fault};
-ghost use Rattle.acceptor_store.specs.Sqlite.{IsOurs, Agrees, HoldsNoRow, rows_version};
-ghost use Rattle.acceptor_store.specs.Taking.{AreAsWanted, CanBeMade, IsMadeFor, OpensAsStored, RefusesStored, RefusesWanted};
+ghost use Rattle.row_columns.specs.Layouts.{made_in};
+ghost use Rattle.acceptor_store.specs.Faults.{IsOfMaking, IsOfTaking};
+ghost use Rattle.acceptor_store.specs.Sqlite.{IsAtRest, IsOurs, Agrees, HoldsNoRow, rows_version};
+ghost use Rattle.acceptor_store.specs.Taking.{AreAsWanted, CanBeMade, IsFaultOf, IsMadeFor, OpensAsStored, RefusesWanted, TellsWhyUnmade, TellsWhyUntaken};
 
 use crate::faults::{FileFault, file_fault_of, test_unmade};
 use crate::given_up::into_files;
@@ -38,7 +39,7 @@ fn take_rows<S: Alter + Drop>(
     given: Option<Identity>,
 ) -> Result<SqliteRows<S>, (FileFault, Connection<S>)>
     ensures taken { IfOk result (OpensAsStored S.Store given (state S.Store conn)) }
-    ensures refused { IfErr result (λ e. RefusesStored given (rows_fault e.0) (state S.Store conn) (state S.Store e.1)) }
+    ensures refused { IfErr result (λ e. TellsWhyUntaken S.Store given e.0 conn e.1) }
 {
     if has_none(conn.schema()) {
         return Err((FileFault::Unmade, conn));
@@ -57,7 +58,8 @@ fn make_rows<S: Alter + Drop>(
     version: Version,
 ) -> Result<SqliteRows<S>, (FileFault, Connection<S>)>
     requires { IsIdentity identity }
-    ensures { IfOk result (IsMadeFor S.Store identity (version_of version) (state S.Store conn)) }
+    ensures made { IfOk result (IsMadeFor S.Store identity (version_of version) (state S.Store conn)) }
+    ensures refused { IfErr result (λ e. TellsWhyUnmade S.Store identity (version_of version) e.0 conn e.1) }
 {
     match test_unmade(conn.schema()) {
         Ok(()) => {}
@@ -77,7 +79,7 @@ fn wanted_rows<S: Alter + Drop>(
 ) -> Result<SqliteRows<S>, (FileFault, Connection<S>)>
     requires { CanBeMade wanted }
     ensures taken { IfOk result (AreAsWanted S.Store wanted (state S.Store conn)) }
-    ensures refused { IfErr result (λ e. RefusesWanted wanted (rows_fault e.0) (state S.Store conn) (state S.Store e.1)) }
+    ensures refused { IfErr result (λ e. RefusesWanted S.Store wanted e.0 conn e.1) }
 {
     match wanted {
         Wanted::Stored(given) => take_rows(alloc, conn, given),
@@ -94,7 +96,7 @@ pub(crate) fn rows_in_files<D: Disk + Drop>(
 ) -> Result<SqliteRows<FileStore<D>>, (FileFault, Connection<FileStore<D>>)>
     requires { CanBeMade wanted }
     ensures taken { IfOk result (AreAsWanted over_files wanted (file_state conn)) }
-    ensures refused { IfErr result (λ e. RefusesWanted wanted (rows_fault e.0) (file_state conn) (file_state e.1)) }
+    ensures refused { IfErr result (λ e. RefusesWanted over_files wanted e.0 conn e.1) }
 {
     wanted_rows(alloc, conn, wanted)
 }
@@ -106,7 +108,8 @@ fn rows_or_fault<D: Disk + Drop>(
     wanted: Wanted,
 ) -> Result<SqliteRows<FileStore<D>>, FileFault>
     requires { CanBeMade wanted }
-    ensures { IfOk result (AreAsWanted over_files wanted (file_state conn)) }
+    ensures taken { IfOk result (AreAsWanted over_files wanted (file_state conn)) }
+    ensures fault { IfErr result (IsFaultOf wanted) }
 {
     match rows_in_files(alloc, conn, wanted) {
         Ok(rows) => Ok(rows),
@@ -122,6 +125,7 @@ impl<T: Start> SqliteRows<FileStore<FileFrom<T>>> {
 
     /// Takes up the rows in the file at a path, as [`SqliteRows::open_from`] does, and tells what is the matter where there
     /// are none. A file that is not there is not made, and one without the tables stays without them.
+    #[tactic(auto, using(crate::proofs::FaultLemmas::taking_of_file))]
     pub fn open_at(
         rt: &HostRuntime,
         path: &str,
@@ -129,10 +133,13 @@ impl<T: Start> SqliteRows<FileStore<FileFrom<T>>> {
         given: Option<Identity>,
     ) -> Result<SqliteRows<FileStore<FileFrom<T>>>, FileFault>
         ensures open { IfOk result (λ s. HasCleanDisk (file_state s.conn) → IsOurs s.alone s.was s.found → IsTrue (file_state s.conn).is_open) }
+        ensures rests { IfOk result (λ s. HasCleanDisk (file_state s.conn) → IsOurs s.alone s.was s.found → IsAtRest over_files s) }
         ensures made { IfOk result (TakesItsOwn (image_at T.Start)) }
         ensures rows { IfOk result (λ s. HasCleanDisk (file_state s.conn) → IsOurs s.alone s.was s.found → IsTakenUp (image_at T.Start) s) }
         ensures given { IfOk result (λ s. Agrees given s.identity) }
+        ensures fresh { IfOk result (λ s. s.upgraded ≡ false) }
         ensures unstopped { IfOk result (λ s. s.stopped ≡ false) }
+        ensures fault { IfErr result IsOfTaking }
     {
         // To the database a missing file is an empty one.
         match fs::exists(rt, path) {
@@ -148,6 +155,7 @@ impl<T: Start> SqliteRows<FileStore<FileFrom<T>>> {
 
     /// Makes the tables of a station in the file at a path, as [`SqliteRows::create`] does, and tells what is the matter
     /// where they are not made. A file that is not there is made; one that holds the tables stays as it is.
+    #[tactic(auto, using(crate::proofs::FaultLemmas::making_of_file))]
     pub fn create_at(
         rt: &HostRuntime,
         path: &str,
@@ -157,11 +165,14 @@ impl<T: Start> SqliteRows<FileStore<FileFrom<T>>> {
     ) -> Result<SqliteRows<FileStore<FileFrom<T>>>, FileFault>
         requires { IsIdentity identity }
         ensures open { IfOk result (λ s. HasCleanDisk (file_state s.conn) → IsOurs s.alone s.was s.found → IsTrue (file_state s.conn).is_open) }
+        ensures rests { IfOk result (λ s. HasCleanDisk (file_state s.conn) → IsOurs s.alone s.was s.found → IsAtRest over_files s) }
         ensures made { IfOk result (MakesItsOwn (image_at T.Start)) }
         ensures blank { IfOk result (λ s. HasCleanDisk (file_state s.conn) → IsOurs s.alone s.was s.found → HoldsNoRow over_files s) }
         ensures identity { IfOk result (λ s. s.identity ≡ identity) }
+        ensures layout { IfOk result (λ s. (s.was ≡ made_in (version_of version)) × (s.upgraded ≡ false)) }
         ensures version { IfOk result (λ s. rows_version s ≡ version_of version) }
         ensures unstopped { IfOk result (λ s. s.stopped ≡ false) }
+        ensures fault { IfErr result IsOfMaking }
     {
         match Connection::open_from(rt, path, false, start) {
             Ok(conn) => rows_or_fault(rt.alloc(), conn, Wanted::Made(identity, version)),

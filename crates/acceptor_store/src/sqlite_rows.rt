@@ -8,6 +8,7 @@ ghost use Rattle.tape_frames.specs.Entries.{version_of};
 ghost use Rattle.row_table.specs.Tables.{no_schema, layout_schema};
 ghost use Rattle.saved_rows.specs.Identity.{IsIdentity};
 ghost use Rattle.protocol.specs.Versions.{Two};
+ghost use Rattle.row_columns.specs.FoundTables.{has_any};
 ghost use Rattle.row_columns.specs.StationRow.{IsStationOf};
 ghost use Rattle.row_columns.specs.Layouts.{layout_now, made_in};
 ghost use Rattle.acceptor_store.specs.Sqlite.{rows_layout, rows_version};
@@ -20,7 +21,7 @@ use crate::reading::{RowVisitor, show_all};
 use crate::statements::{fault_of, list, read, save};
 use crate::upgrade::go_over;
 use ballots::{Number, Row};
-use row_columns::{Layout, layout_now, made_in, version_in};
+use row_columns::{Layout, has_any, layout_now, made_in, version_in};
 use saved_rows::{Identity, Rows, RowsFault};
 use sqlite::{Alter, Connection};
 use sqlite_schema::schema::Schema;
@@ -96,15 +97,15 @@ fn is_empty(schema: &Schema) -> bool
 
 impl<S: Alter + Drop> SqliteRows<S> {
     ghost use Rattle.acceptor_store.specs.Sqlite.{IsKept, IsOpen, IsOurs, Stands, saved_of, IsRefusal, Agrees};
-    ghost use Rattle.acceptor_store.specs.Sqlite.{HoldsNoRow, IsKeptAsFound, IsOursAsFound, LeavesNoOther, LeavesNoRow};
+    ghost use Rattle.acceptor_store.specs.Sqlite.{HoldsNoRow, IsAtRest, IsKeptAsFound, IsOursAsFound, LeavesNoOther, LeavesNoRow};
     ghost use Rattle.acceptor_store.specs.Opening.{HasWhatItHad, IsReasonToRefuse, LeavesNothingNew, MakesAllOrNothing, StaysUnwritten};
     ghost use Rattle.row_columns.specs.Columns.{saved_in};
     ghost use Rattle.sqlite.specs.Held.{state};
 
     /// Makes the two tables of this version's layout in one transaction: the empty map of this station.
     ///
-    /// `Store` where a table of these names is there, the connection is in a transaction, or a statement was
-    /// refused; `OutOfMemory`. Then nothing is changed, and the connection comes back. A crash leaves the
+    /// `Store` where a table of saved rows is there, of whichever layout, the connection is in a transaction, or a
+    /// statement was refused; `OutOfMemory`. Then nothing is changed, and the connection comes back. A crash leaves the
     /// database as it was, or with both tables and the identity.
     pub fn create(
         alloc: Global,
@@ -123,14 +124,20 @@ impl<S: Alter + Drop> SqliteRows<S> {
         // What the store owes: in an empty database the tables are its own. With what the host owes they are kept.
         ensures made { IfOk result (λ s. (state S.Store conn).now.schema ≡ no_schema → IsOurs s.alone s.was s.found) }
         ensures kept { IfOk result (λ s. HasCleanDisk (state S.Store s.conn) → (state S.Store conn).now.schema ≡ no_schema → IsKept S.Store s) }
+        ensures clean { IfOk result (λ s. doubt (state S.Store conn).is_clean ≤ doubt (state S.Store s.conn).is_clean) }
         ensures crash { IfOk result (λ s. IsKept S.Store s → LeavesNoRow S.Store (made_in (version_of version)) identity s) }
+        ensures rests { IfOk result (λ s. IsKept S.Store s → IsAtRest S.Store s) }
+
+        // Over a table of saved rows nothing is made, and the database comes back as it was.
+        ensures over { IsTrue (has_any (state S.Store conn).now.schema) → result ≡ Err (RowsFault.Store, conn) }
+        ensures unmade { OnOk result (has_any (state S.Store conn).now.schema ≡ false) }
 
         // A refusal changes nothing.
         ensures refusal { IfErr result (λ e. IsRefusal e.0) }
         ensures unchanged { IfErr result (λ e. HasWhatItHad (state S.Store conn) (state S.Store e.1)) }
         ensures crash_err { IfErr result (λ e. MakesAllOrNothing (made_in (version_of version)) identity (state S.Store conn) (state S.Store e.1)) }
     {
-        if !conn.is_autocommit() {
+        if !conn.is_autocommit() || has_any(conn.schema()) {
             return Err((RowsFault::Store, conn));
         }
         let alone = is_empty(conn.schema());
@@ -174,6 +181,7 @@ impl<S: Alter + Drop> SqliteRows<S> {
         ensures unstopped { IfOk result (λ s. s.stopped ≡ false) }
         ensures clean { IfOk result (λ s. doubt (state S.Store conn).is_clean ≤ doubt (state S.Store s.conn).is_clean) }
         ensures crash { IfOk result (λ s. IsKept S.Store s → (left : _) → (state S.Store s.conn).may_leave left → (state S.Store conn).may_leave left) }
+        ensures rests { IfOk result (λ s. IsKept S.Store s → IsAtRest S.Store s) }
 
         // What the store owes: tables as `create` makes them, or an upgrade leaves, are its own. With what the host owes they are kept.
         ensures made { IfOk result (IsOursAsFound (state S.Store conn)) }
@@ -211,7 +219,7 @@ impl<S: Alter + Drop> SqliteRows<S> {
     /// All rows that are saved, in order of their numbers; their version has each. No row is changed.
     ///
     /// A refusal is counted: `Store` after a refused `put` or `upgrade`, or where the statement was refused; `OutOfMemory`;
-    /// `Damaged` only where another wrote to the database.
+    /// `Damaged` of a row that nobody saves so, as where another wrote to the database.
     pub fn all(&mut self) -> Result<Vec<(Number, Row)>, RowsFault>
         ensures rows { IsKept S.Store self.new → IfOk result (λ rows. IsListOf (saved_of S.Store self.old) rows.items) }
         ensures fits { IfOk result (λ rows. AreFitting (rows_version self.old) rows.items) }
@@ -282,6 +290,14 @@ impl<S: Alter + Drop> SqliteRows<S> {
                 Err(fault)
             }
         }
+    }
+
+    /// A law, which does nothing: rows that are kept, open and not stopped are at rest, whatever was called of them before.
+    pub fn are_at_rest(&self)
+        ensures { IsKept S.Store self.now → IsOpen S.Store self.now → self.now.stopped ≡ false → IsAtRest S.Store self.now }
+    {
+        // What rows keep true of themselves is known once they are looked into.
+        let _stopped = self.stopped;
     }
 
     /// The station that the rows belong to.

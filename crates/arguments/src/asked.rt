@@ -32,6 +32,11 @@ pub enum Asked<'a> {
     Upgrade {
         path: &'a str,
     },
+    /// To make the row file that the configuration at a path names, in the layout for rows of this version.
+    Create {
+        config: &'a str,
+        layout: Version,
+    },
     /// To serve a station.
     Serve(Plan<'a>),
     /// To run the station of the configuration at a path until it is stopped.

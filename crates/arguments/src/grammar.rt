@@ -6,7 +6,7 @@ use clap::{Arg, ArgAction, Command};
 use std::alloc::{AllocError, Global};
 
 /// The version of the program.
-const VERSION: &str = "0.2.0";
+const VERSION: &str = "0.3.0";
 
 /// The versions of packets and the layouts of saved rows, as `--wire` and `--layout` name them.
 const VERSIONS: &[&str] = &["1", "2"];
@@ -213,6 +213,38 @@ const UPGRADE: Form = Form {
     given: &[DB],
 };
 
+const CREATION_EXAMPLE: &str = "\
+Example: the row file of a station that never ran, for a circuit that is new:
+
+  $ circuitd create station2.toml
+  made station2.db: station 2 of 3 circuit 7 layout 2
+
+Where a file is there already, or its log, nothing is made: a station that starts over an empty row file has
+forgotten what it promised.";
+
+const CREATION: Form = Form {
+    name: "create",
+    about: "Makes the row file of a station that never ran: what it promises and votes for is saved there",
+    example: CREATION_EXAMPLE,
+    given: &[
+        Given {
+            name: "CONFIG",
+            shape: Shape::Word(Value::Text),
+            help: "The station's configuration: its circuit, its member, its files and the addresses of all stations",
+        },
+        Given {
+            name: "layout",
+            shape: Shape::Choice(Choice {
+                shown: "L",
+                value: Value::Version,
+                absence: Absence::Default("2"),
+                goes_with: None,
+            }),
+            help: "The layout of the row file: in layout 2 a number may be withdrawn; 1 for a circuit with stations of layout 1",
+        },
+    ],
+};
+
 const SERVE_EXAMPLE: &str = "\
 Example: the first plant of a circuit makes its row file and puts a story on the wire as number 12.
 It serves for about a minute, and prints the story when the circuit has agreed on it:
@@ -380,7 +412,9 @@ const REHEARSE: Form = Form {
 };
 
 /// The commands, in the order in which the help lists them: those over tapes, and those over stations.
-const FORMS: &[Form] = &[ANSWER, CHECK, DRAW, ROWS, UPGRADE, SERVE, RUN, REHEARSE];
+const FORMS: &[Form] = &[
+    ANSWER, CHECK, DRAW, ROWS, UPGRADE, CREATION, SERVE, RUN, REHEARSE,
+];
 
 /// The commands. This function alone names the table, since each that names it is proved with all of its texts.
 fn forms() -> &'static [Form<'static>] {

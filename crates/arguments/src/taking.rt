@@ -67,6 +67,12 @@ fn upgrade_of<'a>(matches: &ArgMatches<'a>) -> Option<Asked<'a>> {
     Some(Asked::Upgrade { path })
 }
 
+fn create_of<'a>(matches: &ArgMatches<'a>) -> Option<Asked<'a>> {
+    let config = matches.get_str("CONFIG")?;
+    let layout = version_of(matches, "layout")?;
+    Some(Asked::Create { config, layout })
+}
+
 fn serve_of<'a>(matches: &ArgMatches<'a>) -> Option<Asked<'a>> {
     let plan = Plan {
         config: matches.get_str("CONFIG")?,
@@ -110,6 +116,7 @@ fn asked_of<'a>(matches: &ArgMatches<'a>) -> Option<Asked<'a>> {
         "draw" => draw_of(given),
         "rows" => rows_of(given),
         "upgrade" => upgrade_of(given),
+        "create" => create_of(given),
         "serve" => serve_of(given),
         "run" => run_of(given),
         "rehearse" => rehearse_of(given),

@@ -6,16 +6,23 @@ use command_line::{Asked, parse};
 use commands::carry_out;
 use host_row_files::{HostFiles, RowFiles};
 use std::env;
-use std::io::{BufWriter, ErrorKind, LineWriter};
+use std::io::{BufWriter, ErrorKind, LineWriter, Write};
 use std::process::ExitCode;
 
+/// Tells that a word of the call is no text. That the writer fails is ignored.
+fn no_text(rt: &HostRuntime) -> End {
+    let _ = writeln!(rt.stderr(), "usage: an argument is not UTF-8");
+    End::Usage
+}
+
+/// The words that the program was called with.
 fn command_words(rt: &HostRuntime) -> Result<Vec<String>, End> {
     let args = match env::args(rt) {
         Ok(args) => args,
         Err(e) if e.kind() == ErrorKind::OutOfMemory => {
             return Err(Fault::OutOfMemory.tell(&mut rt.stderr()));
         }
-        Err(_) => return Err(End::Usage),
+        Err(_) => return Err(no_text(rt)),
     };
     match args.collect(rt.alloc()) {
         Ok(words) => Ok(words),

@@ -13,11 +13,11 @@ use streams::put_all;
 
 /// Writes the version.
 fn put_version<'a, W: Write>(out: &mut W) -> Result<(), Fault<'a>>
-    ensures ok { OnOk result (Appends (W.contents out.old) (W.contents out.new) (codes "circuitd 0.2.0\n")) }
-    ensures err { OnErr result (AppendsFront (W.contents out.old) (W.contents out.new) (codes "circuitd 0.2.0\n")) }
+    ensures ok { OnOk result (Appends (W.contents out.old) (W.contents out.new) (codes "circuitd 0.3.0\n")) }
+    ensures err { OnErr result (AppendsFront (W.contents out.old) (W.contents out.new) (codes "circuitd 0.3.0\n")) }
     ensures fault { IfErr result (λ fault. fault ≡ CannotWrite) }
 {
-    match put_all(out, b"circuitd 0.2.0\n") {
+    match put_all(out, b"circuitd 0.3.0\n") {
         Ok(()) => Ok(()),
         Err(_) => Err(Fault::CannotWrite),
     }
@@ -25,8 +25,8 @@ fn put_version<'a, W: Write>(out: &mut W) -> Result<(), Fault<'a>>
 
 /// The same, with all of it handed on.
 fn hand_on_version<'a, W: Write>(out: &mut W) -> Result<(), Fault<'a>>
-    ensures ok { OnOk result (Appends (W.contents out.old) (W.contents out.new) (codes "circuitd 0.2.0\n")) }
-    ensures err { OnErr result (AppendsFront (W.contents out.old) (W.contents out.new) (codes "circuitd 0.2.0\n")) }
+    ensures ok { OnOk result (Appends (W.contents out.old) (W.contents out.new) (codes "circuitd 0.3.0\n")) }
+    ensures err { OnErr result (AppendsFront (W.contents out.old) (W.contents out.new) (codes "circuitd 0.3.0\n")) }
     ensures fault { IfErr result (λ fault. fault ≡ CannotWrite) }
 {
     put_version(out)?;
@@ -39,8 +39,8 @@ fn hand_on_version<'a, W: Write>(out: &mut W) -> Result<(), Fault<'a>>
 /// Prints the program's name and its version. Where the output can't be written, `err` has that fault.
 #[tactic(auto, using(streams::proofs::Fronts::front_of_all))]
 pub fn print_version<W: Write, E: Write>(out: &mut W, err: &mut E) -> End
-    ensures done { result ≡ Done → Appends (W.contents out.old) (W.contents out.new) (codes "circuitd 0.2.0\n") }
-    ensures front { AppendsFront (W.contents out.old) (W.contents out.new) (codes "circuitd 0.2.0\n") }
+    ensures done { result ≡ Done → Appends (W.contents out.old) (W.contents out.new) (codes "circuitd 0.3.0\n") }
+    ensures front { AppendsFront (W.contents out.old) (W.contents out.new) (codes "circuitd 0.3.0\n") }
     ensures ends { IsOfInput result }
 {
     match hand_on_version(out) {

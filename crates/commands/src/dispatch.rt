@@ -6,7 +6,8 @@ ghost use Rattle.tape_frames.specs.Entries.{version_of};
 ghost use Rattle.tape_frames.specs.declared.version.Version.{Version as VersionValue};
 ghost use Rattle.answer_command.specs.AnswerText.{WritesAnswer, WritesAnswerFront};
 ghost use Rattle.command_ends.specs.declared.end.End.TheVariants.{Done};
-ghost use Rattle.arguments.specs.declared.asked.Asked.TheVariants.{Answer, Upgrade};
+ghost use Rattle.arguments.specs.declared.asked.Asked.TheVariants.{Answer, Create, Upgrade};
+ghost use Rattle.station_commands.specs.Creations.{IsCreated};
 
 use answer_command::answer;
 use check_command::check;
@@ -16,7 +17,7 @@ use draw_command::draw;
 use opened_files::Opened;
 use rehearse_command::rehearse;
 use row_files::RowFiles;
-use station_commands::{run, serve};
+use station_commands::{create, run, serve};
 use std::io::{Read, Write};
 use tape_drawing::Page;
 
@@ -101,6 +102,8 @@ pub fn carry_out<F: RowFiles, R: Read, W: Write, E: Write>(
         → WritesAnswer circuit me (version_of wire) (R.remaining input.old) (W.contents out.old) (W.contents out.new) }
     ensures front { (circuit : ℕ) → (me : ℕ) → (wire : VersionValue) → asked.now ≡ Answer circuit me wire
         → WritesAnswerFront circuit me (version_of wire) (R.remaining input.old) (W.contents out.old) (W.contents out.new) }
+    ensures created { (config : _) → (layout : VersionValue) → asked.now ≡ Create config layout → result ≡ Done
+        → IsCreated F.leaves row_files.now layout (W.contents out.old) (W.contents out.new) }
     ensures over { (path : _) → asked.now ≡ Upgrade path → result ≡ Done → Appends (W.contents out.old) (W.contents out.new) (codes "layout 2\n") }
 {
     match asked {
@@ -111,6 +114,7 @@ pub fn carry_out<F: RowFiles, R: Read, W: Write, E: Write>(
         Asked::Draw { paths, page } => run_draw(rt, paths, *page, out, err),
         Asked::Rows { path } => row_files.list(rt, *path, out, err),
         Asked::Upgrade { path } => row_files.upgrade(rt, *path, out, err),
+        Asked::Create { config, layout } => create(rt, *config, *layout, row_files, out, err),
         Asked::Serve(plan) => serve(rt, plan, row_files, out, err),
         Asked::Run {
             config,

@@ -67,7 +67,7 @@ pub fn play_in_databases(
     ensures unplayed { IfErr result (IsUnplayed (length members.items)) }
     ensures plays { IfOk result (λ p. Plays ⟦<SqliteRows<MemStore> as Rows>⟧ circuit members.items (λ _. version_of version) steps.now p.world p.run) }
     ensures stops { IfOk result (λ p. IfErr p.run (StopsAt steps.now p.world)) }
-    ensures agreed { IfOk result (λ p. Agreed p.world) }
+    ensures agreed { IfOk result (λ p. Agreed ⟦<SqliteRows<MemStore> as Rows>⟧ p.world) }
 {
     let Some(count) = member_count(members.len()) else {
         return Err(PlayFault::BadCount);

@@ -1,5 +1,5 @@
 -- Stretches of what happened to a station on a wire, one after the other, and why one came to an end.
-use Rattle.std.proofs.Common.{◌≡◌, ℕ, List, [], ◌∷◌, ◌++◌, Bool, true, Option, Some, None, Result, Ok, Err, inl, inr, refl, sym, ap, ◌∙◌, subst, append_assoc, append-nil}
+use Rattle.std.proofs.Common.{◌≡◌, List, [], ◌∷◌, ◌++◌, Bool, true, Option, Some, None, Err, inl, inr, refl, sym, ap, ◌∙◌, subst, append_assoc, append-nil}
 use Rattle.protocol.specs.Refusals.{Call}
 use Rattle.saved_rows.specs.declared.fault.RowsFault.TheVariants as row_faults
 use Rattle.saved_rows.specs.declared.rows.Rows.{Ghosts}

@@ -8,8 +8,7 @@ use Rattle.station.specs.declared.answer.Answer.{Answer}
 use Rattle.refusals.specs.declared.refusal.StepRefusal.{StepRefusal}
 use Rattle.refusals.specs.declared.refusal.StepRefusal.TheVariants.{Store, OutOfMemory}
 use Rattle.station.specs.declared.station.Station.{Station}
-use Rattle.station.specs.Stations.{sight}
-use Rattle.station.specs.Steps.{TakesStep}
+use Rattle.station.specs.Steps.{IsStep}
 use Rattle.wire.specs.Passing.{Passed, came, sent, told}
 use Rattle.command_ends.specs.Ends.{end_of}
 use Rattle.command_ends.specs.declared.end.End.{End}
@@ -41,10 +40,6 @@ going (Err refusal) = []
 abbrev pub passing : Event → List Passed
 passing (asked moment) = told moment ∷ []
 passing (took call answer) = coming call ++ going answer
-
--- one step by this call
-abbrev pub IsStep : {R : Type 0} → Ghosts R → Call → Station R → Station R → Result Answer StepRefusal → Type 0
-IsStep g call old new answer = TakesStep (sight g) call old new answer
 
 -- these calls, one after the other, and nothing else changed the station
 abbrev pub Takes : {R : Type 0} → Ghosts R → Station R → Station R → List Event → Type 0

@@ -1,2 +1,3 @@
 pub mod Events
 pub mod Driving
+pub mod Said

@@ -1,9 +1,11 @@
 //! What a station on a wire is driven by: it takes in what comes, sends what it hands out, and passes over what does not stop it.
 #![tactic(auto)]
 
+mod said;
 mod sending;
 mod station_steps;
 mod strangers;
 
+pub use said::Said;
 pub use station_steps::{BUFFER, Outcome, pass_over, send_answer, take_datagram};
-pub use strangers::tell_strangers;
+pub use strangers::{tell_lost, tell_strangers};

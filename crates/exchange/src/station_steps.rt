@@ -7,6 +7,7 @@ ghost use Rattle.exchange.specs.Driving.{IsTakenIn};
 ghost use Rattle.exchange.specs.Events.{sending};
 ghost use Rattle.command_ends.specs.Ends.{end_of, end_of_step};
 
+use crate::said::{Said, said_in};
 use crate::sending::send_all;
 use command_ends::Fault;
 use saved_rows::Rows;
@@ -24,8 +25,8 @@ pub enum Outcome {
     Nothing,
     /// The network failed.
     Failed,
-    /// One came, and the station took it in.
-    Done(Answer),
+    /// One came, and the station took it in; what its head says.
+    Done { answer: Answer, said: Option<Said> },
     /// One came, and the station refused it.
     Refused(StepRefusal),
 }
@@ -46,7 +47,10 @@ pub fn take_datagram<R: Rows, N: Wire>(
         Arrival::Failed => return Outcome::Failed,
     };
     match station.receive(&buffer[..length], now) {
-        Ok(answer) => Outcome::Done(answer),
+        Ok(answer) => Outcome::Done {
+            answer,
+            said: said_in(&buffer[..length]),
+        },
         Err(refusal) => Outcome::Refused(refusal),
     }
 }

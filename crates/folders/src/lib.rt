@@ -20,6 +20,6 @@ pub use memory::{MemoryFolders, Moved, Noted};
 pub use named_file::NamedFile;
 pub use names::{Kind, Request, STOP, file_name, has_stop, is_left, named};
 pub use none::NoFolders;
-pub use pauses::{LAST_PAUSE, LOOK, TELL, has_passed};
+pub use pauses::{LAST_PAUSE, TELL, has_passed};
 pub use watch::{Watched, index_of, is_whole};
 pub use wishes::{Asked, Wish, place_of};

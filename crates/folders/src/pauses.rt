@@ -2,9 +2,6 @@
 
 ghost use Rattle.std.specs.Prelude.{◌≡◌, ◌≤◌, ◌+◌, ◌*◌, ◌↔◌, IsTrue, min};
 
-/// The least pause between two looks at the folders, in milliseconds.
-pub const LOOK: u64 = 250;
-
 /// How long a file has to stay as it is before it is taken up.
 pub(crate) const STILL: u64 = 1000;
 

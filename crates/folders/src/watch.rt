@@ -17,6 +17,15 @@ pub struct Watched {
     pub since: u64,
 }
 
+impl Watched {
+    /// Whether it was found as it is for so long, at a moment in milliseconds, that it is worth another look: a second.
+    pub fn is_ripe(&self, now: u64) -> bool
+        ensures { IsTrue result ↔ (self.now.since + 1000 ≤ now) }
+    {
+        has_passed(self.since, STILL, now)
+    }
+}
+
 /// Whether two stamps are one.
 fn is_unchanged(before: Stamp, stamp: Stamp) -> bool
     ensures { IsTrue result ↔ IsUnchanged before stamp }

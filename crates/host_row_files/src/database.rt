@@ -1,11 +1,12 @@
 //! What a command does with all rows of a database, and the close of one over two files.
 
-ghost use Rattle.std.specs.Prelude.{◌≡◌, OnOk, IfErr};
+ghost use Rattle.std.specs.Prelude.{◌≡◌, IfOk, OnOk, IfErr};
 ghost use Rattle.std.specs.Io.KnownBytes.{Appends};
 ghost use Rattle.rows_command.specs.RowsText.{layout_text};
 ghost use Rattle.command_ends.specs.Ends.{IsOfRows};
 ghost use Rattle.command_ends.specs.declared.end.End.TheVariants.{Done};
 ghost use Rattle.acceptor_store.specs.Files.{WasClosed};
+ghost use Rattle.host_row_files.specs.Taking.{AreUpgraded, WereUpgraded};
 ghost use Rattle.host_row_files.specs.declared.database.Task.TheVariants.{Upgrade};
 
 use crate::causes::refused_by;
@@ -35,6 +36,7 @@ fn carried_out<S: Alter + Drop, W: Write, E: Write>(
     err: &mut E,
 ) -> Result<SqliteRows<S>, End>
     ensures done { OnOk result (task ≡ Upgrade → Appends (W.contents out.old) (W.contents out.new) layout_text) }
+    ensures upgraded { IfOk result (λ now. task ≡ Upgrade → AreUpgraded S.Store rows now) }
     ensures fails { IfErr result (λ end. ¬ (end ≡ Done)) }
     ensures rows { IfErr result IsOfRows }
 {
@@ -70,6 +72,7 @@ pub(crate) fn done_over<D: Disk + Drop, W: Write, E: Write>(
     err: &mut E,
 ) -> End
     ensures ends { IsOfRows result }
+    ensures upgraded { task ≡ Upgrade → result ≡ Done → WereUpgraded rows }
     ensures done { task ≡ Upgrade → result ≡ Done → Appends (W.contents out.old) (W.contents out.new) layout_text }
 {
     match carried_out(rows, task, out, err) {

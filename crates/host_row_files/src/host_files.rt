@@ -1,24 +1,35 @@
 //! Saved rows in files of the host, each a database.
 
-ghost use Rattle.std.specs.Prelude.{◌≡◌};
+ghost use Rattle.std.specs.Prelude.{◌≡◌, Some, IsTrue};
 ghost use Rattle.saved_rows.specs.Identity.{IsIdentity};
 ghost use Rattle.tape_frames.specs.Entries.{version_of};
 ghost use Rattle.acceptor_store.specs.Files.{WasClosed};
-ghost use Rattle.acceptor_store.specs.Sqlite.{Agrees, rows_version};
+ghost use Rattle.acceptor_store.specs.Sqlite.{rows_version};
+ghost use Rattle.host_row_files.specs.Taking.{AreTaken, HasMade, HasUpgraded};
 
 use crate::causes::refused_by;
 use crate::database::{Task, close_database, done_over};
+use crate::look::test_opening;
+use crate::making::make_at;
 use acceptor_store::SqliteRows;
 use command_ends::End;
 use row_files::{RefusedRows, RowFiles};
-use saved_rows::Identity;
+use saved_rows::{Identity, Rows, RowsFault};
 use sqlite::{FileFrom, FileStore, Wary};
+use sqlite_disk::Disk;
 use std::io::Write;
 use tape_frames::Version;
 
 /// The database in a file. The database supposes nothing of a torn write, since a story that is lost to one would be a
 /// promise broken.
 type Database = SqliteRows<FileStore<FileFrom<Wary>>>;
+
+/// Whether rows are those of this version.
+fn are_at<R: Rows>(rows: &R, version: Version) -> bool
+    ensures { IsTrue result → R.version rows.now ≡ version_of version }
+{
+    rows.version() == version
+}
 
 /// The files of the host.
 #[derive(Clone, Copy)]
@@ -27,11 +38,25 @@ pub struct HostFiles;
 impl RowFiles for HostFiles {
     type Rows = Database;
 
-    ghost makes = { λ _ _ i version rows. (rows.identity ≡ i) × (rows_version rows ≡ version_of version) };
+    ghost leaves = { λ _ _ i version. HasMade ⟦<FileFrom<Wary> as Disk>⟧ i (version_of version) };
 
-    ghost takes_up = { λ _ _ given rows. Agrees given rows.identity };
+    ghost makes = { λ _ _ i version rows. HasMade ⟦<FileFrom<Wary> as Disk>⟧ i (version_of version) × AreTaken (Some i) rows × (rows_version rows ≡ version_of version) };
+
+    ghost takes_up = { λ _ _ given rows. AreTaken given rows };
+
+    ghost upgrades = { λ _ _. HasUpgraded ⟦<FileFrom<Wary> as Disk>⟧ };
 
     ghost closes = { λ _ rows. WasClosed rows };
+
+    fn make(
+        &self,
+        rt: &HostRuntime,
+        path: &str,
+        identity: Identity,
+        version: Version,
+    ) -> Result<(), RefusedRows> {
+        make_at(rt, path, identity, version)
+    }
 
     fn create(
         &self,
@@ -40,9 +65,13 @@ impl RowFiles for HostFiles {
         identity: Identity,
         version: Version,
     ) -> Result<Database, RefusedRows> {
-        match SqliteRows::create_at(rt, path, Wary, identity, version) {
-            Ok(rows) => Ok(rows),
-            Err(fault) => Err(refused_by(fault)),
+        make_at(rt, path, identity, version)?;
+        let rows = self.open(rt, path, Some(identity))?;
+        // A file that another put there in between may be in another layout.
+        if are_at(&rows, version) {
+            Ok(rows)
+        } else {
+            Err(RefusedRows::by(RowsFault::WrongSchema))
         }
     }
 
@@ -52,6 +81,7 @@ impl RowFiles for HostFiles {
         path: &str,
         identity: Option<Identity>,
     ) -> Result<Database, RefusedRows> {
+        test_opening(rt, path)?;
         match SqliteRows::open_at(rt, path, Wary, identity) {
             Ok(rows) => Ok(rows),
             Err(fault) => Err(refused_by(fault)),

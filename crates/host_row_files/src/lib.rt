@@ -4,6 +4,8 @@
 mod causes;
 mod database;
 mod host_files;
+mod look;
+mod making;
 
 pub use host_files::HostFiles;
 pub use row_files::{RefusedRows, RowFiles, RowsCause};

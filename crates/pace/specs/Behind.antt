@@ -9,7 +9,6 @@ use Rattle.pace.specs.declared.members.Follower.{Follower}
 -- how many units were asked for, when the newest, and how many by when no datagram waited last; the ballots that came up last, each
 -- with how many units were asked for by then, its serial; and of each member, in rising order, what is known of it
 pub record PaceValue : Type 0 where
-  pub own : ℕ
   pub asked : ℕ
   pub asked_at : ℕ
   pub settled : ℕ
@@ -21,12 +20,12 @@ abbrev pub nobody : Follower
 nobody = record { serial = 0; heard = None }
 
 -- before anything is asked for
-abbrev pub first_pace : ℕ → PaceValue
-first_pace own = record { own = own; asked = 0; asked_at = 0; settled = 0; known = []; followers = replicate most_members nobody }
+abbrev pub first_pace : PaceValue
+first_pace = record { asked = 0; asked_at = 0; settled = 0; known = []; followers = replicate most_members nobody }
 
--- an entry is a unit, and one more for each 512 bytes
+-- an entry is a unit, and one more for each 2,048 bytes
 abbrev pub units_of : ℕ → ℕ
-units_of length = length / 512 + 1
+units_of length = length / 2048 + 1
 
 -- the serial of a ballot of this number and owner
 abbrev pub serial_for : ℕ → ℕ → Known → ℕ
@@ -40,11 +39,11 @@ newest_of number owner known = fold (λ newest k. max newest (serial_for number 
 abbrev pub with_newest : Known → List Known → List Known
 with_newest k known = (if nat_lt (length known) 128 then known else drop 1 known) ++ k ∷ []
 
--- a ballot for an entry of so many bytes was begun
-abbrev pub asked_for : ℕ → ℕ → ℕ → PaceValue → PaceValue
-asked_for number length now p =
+-- an own ballot for an entry of so many bytes was begun
+abbrev pub asked_for : ℕ → ℕ → ℕ → ℕ → PaceValue → PaceValue
+asked_for number own length now p =
     let serial = min (p.asked + units_of length) (2 ^ 64 - 1) in
-    record p { asked = serial; asked_at = now; known = with_newest (record { number = number; owner = p.own; serial = serial }) p.known }
+    record p { asked = serial; asked_at = now; known = with_newest (record { number = number; owner = own; serial = serial }) p.known }
 
 -- a ballot of another member came up: the first of its owner for the number that has a serial counts
 abbrev pub came_up : ℕ → ℕ → PaceValue → PaceValue

@@ -13,7 +13,7 @@ pub record Turn : Type 0 where
   pub done : Done
   pub moment : ℕ
 
--- this was done of that work
+-- this was done of that work; a datagram that came while it was waited was taken in at once
 abbrev pub carries_out : Work → Done → Bool
 carries_out works.Look dones.Looked = true
 carries_out works.TakeIn dones.TookIn = true
@@ -21,6 +21,7 @@ carries_out works.Due dones.SawOne = true
 carries_out works.Due dones.SawNothing = true
 carries_out (works.Deed asks) dones.DidDeed = true
 carries_out works.Wait dones.Waited = true
+carries_out works.Wait dones.TookIn = true
 carries_out work done = false
 
 -- in each turn the work was done that came next, from these counts on; what was found, and how long each took, is left open

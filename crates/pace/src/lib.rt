@@ -3,11 +3,13 @@
 
 pub mod laws;
 mod members;
+mod share;
 mod turns;
 mod waiting;
 mod window;
 
 pub use members::Pace;
+pub use share::Datagram;
 pub use turns::{Deeds, Done, LOOK, Sight, Turns, WAIT, Work};
-pub use waiting::{Datagram, MOST_RECEIVES, Waiting};
+pub use waiting::{MOST_AFTER_A_SEND, MOST_RECEIVES, Waiting};
 pub use window::Window;

@@ -12,7 +12,7 @@ use std::marker::Model;
 const MOST_KNOWN: usize = 128;
 
 /// How many bytes of an entry are a unit of work.
-const BYTES_A_UNIT: usize = 512;
+const BYTES_A_UNIT: usize = 2048;
 
 /// How many units a member may lack, of what was asked since the newest ballot for which it is known to have voted.
 const MOST_BEHIND: u64 = 8;
@@ -45,8 +45,8 @@ struct Follower {
 }
 
 /// What a station asked of its circuit, and how far each member is with it.
+#[derive(Drop)]
 pub struct Pace {
-    own: Member,
     /// How many units were asked for.
     asked: u64,
     /// When the newest ballot was asked for, in milliseconds.
@@ -62,10 +62,10 @@ impl Model for Pace {
 
     ghost Value = { PaceValue };
 
-    ghost view = { λ p. record { own = p.own; asked = p.asked; asked_at = p.asked_at; settled = p.settled; known = p.known.items; followers = p.followers } };
+    ghost view = { λ p. record { asked = p.asked; asked_at = p.asked_at; settled = p.settled; known = p.known.items; followers = p.followers } };
 }
 
-/// How many units an entry of so many bytes is: one, and one more for each 512 bytes.
+/// How many units an entry of so many bytes is: one, and one more for each 2,048 bytes.
 fn units_of(length: usize) -> u64
     ensures { result ≡ units_of length }
 {
@@ -127,12 +127,11 @@ impl Follower {
 }
 
 impl Pace {
-    /// Nothing was asked for yet, and nobody heard. The station is this member.
-    pub fn new(own: Member) -> Pace
-        ensures { result ≡ first_pace own }
+    /// Nothing was asked for yet, and nobody heard.
+    pub fn new() -> Pace
+        ensures { result ≡ first_pace }
     {
         Pace {
-            own,
             asked: 0,
             asked_at: 0,
             settled: 0,
@@ -144,15 +143,16 @@ impl Pace {
         }
     }
 
-    /// A ballot was begun for a file that was asked for, whose entry has so many bytes, at a moment in milliseconds.
-    pub fn ask(&mut self, number: Number, length: usize, now: u64)
-        ensures { self.new ≡ asked_for number length now self.old }
+    /// A ballot of the station itself, this member, was begun for a file that was asked for, whose entry has so many bytes, at a moment
+    /// in milliseconds.
+    pub fn ask(&mut self, number: Number, own: Member, length: usize, now: u64)
+        ensures { self.new ≡ asked_for number own length now self.old }
     {
         self.asked = self.asked.saturating_add(units_of(length));
         self.asked_at = now;
         let ballot = Known {
             number: number.get(),
-            owner: self.own.get(),
+            owner: own.get(),
             serial: self.asked,
         };
         remember(&mut self.known, ballot);

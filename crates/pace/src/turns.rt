@@ -31,7 +31,7 @@ pub enum Work {
     Due,
     /// One file is read, moved or asked for, the latter only where it may ask.
     Deed { may_ask: bool },
-    /// Nothing is to be done: it waits for a datagram, 50 ms at most.
+    /// Nothing is to be done: it waits for a datagram, 50 ms at most, and takes in the one that comes.
     Wait,
 }
 
@@ -40,7 +40,7 @@ pub enum Work {
 pub enum Done {
     /// It looked at the folder.
     Looked,
-    /// It took a datagram in, or passed over one.
+    /// It took a datagram in, or passed over one; it may have waited for it.
     TookIn,
     /// It saw to one number that was due.
     SawOne,
@@ -48,7 +48,7 @@ pub enum Done {
     SawNothing,
     /// It read, moved or asked for a file.
     DidDeed,
-    /// It waited, and a datagram came or none did.
+    /// It waited, and no datagram came.
     Waited,
 }
 
@@ -90,6 +90,7 @@ pub(crate) enum Seen {
 }
 
 /// What is counted of a station's work for the choice of the next.
+#[derive(Drop)]
 pub struct Turns {
     /// When the last look ended, in milliseconds.
     looked: Option<u64>,

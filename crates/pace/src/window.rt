@@ -9,6 +9,7 @@ use ballots::Number;
 use std::marker::Model;
 
 /// The numbers whose files are under way: asked for, and neither released, found empty nor given up since.
+#[derive(Drop)]
 pub struct Window {
     numbers: ArrayVec<u32, MOST_UNDER_WAY>,
 }
@@ -55,6 +56,13 @@ impl Window {
         ensures { result ≡ length self.now }
     {
         self.numbers.len()
+    }
+
+    /// The numbers that are under way, in the order in which they were asked for.
+    pub fn numbers(&self) -> &[u32]
+        ensures { result.now ≡ self.now }
+    {
+        self.numbers.as_slice()
     }
 
     /// The file of a number is asked for; whether it found a place, as it does where fewer than 16 are under way.

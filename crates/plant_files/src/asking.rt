@@ -1,8 +1,7 @@
 //! What the station is asked for a file among the offers, and which of its refusals stand.
 
-ghost use Rattle.std.specs.Prelude.{◌≡◌, ◌↔◌, IsTrue};
-ghost use Rattle.station.specs.Stations.{sight};
-ghost use Rattle.station.specs.Steps.{TakesStep, stopped_after};
+ghost use Rattle.std.specs.Prelude.{◌↔◌, IsTrue};
+ghost use Rattle.station.specs.Steps.{IsStep};
 ghost use Rattle.plant_files.specs.Asking.{call_of, IsOfOffer};
 
 use folders::Wish;
@@ -18,9 +17,7 @@ pub fn ask<R: Rows>(
     number: u32,
     now: u64,
 ) -> Result<Answer, StepRefusal>
-    ensures was_kept { R.kept station.new.rows → R.kept station.old.rows }
-    ensures step { R.kept station.new.rows → TakesStep (sight R.Rows) (call_of wish.now number now) station.old station.new result }
-    ensures stops { station.new.stopped ≡ stopped_after station.old.stopped result }
+    ensures { IsStep R.Rows (call_of wish.now number now) station.old station.new result }
 {
     match wish {
         Wish::Offered(Entry::Tape(tape)) => station.offer(number, tape, now),

@@ -19,9 +19,9 @@ use Rattle.protocol.specs.Fitting.{SpellsWhatFits}
 use Rattle.protocol.specs.Progress.{IsBallotOf, MaySay, SpellsWhatMayBeSaid, round_of}
 use Rattle.protocol.proofs.Majorities.{among_members}
 use Rattle.protocol.proofs.Reading.{is_same-self}
-use Rattle.protocol.proofs.OneStep.{receive, Stepped, Serves, still, Reaches, take, Told}
+use Rattle.protocol.proofs.OneStep.{receive, restart, Stepped, Serves, still, Reaches, take, Told}
 use Rattle.protocol.proofs.Replying.{turned, unrefused, nacks, denies, packet_says, goes_to, member_among, yes_no, apart, others_say}
-use Rattle.protocol.proofs.OneBallot.{opens_plain, opens_denied, begun_plain, begun_denied, denied_plain, denied_by_one, closed_plain, closed_denied, only_due}
+use Rattle.protocol.proofs.OneBallot.{opens_plain, opens_denied, begun_plain, begun_denied, denied_plain, denied_by_one, closed_plain, closed_denied, least_due}
 use Rattle.protocol.proofs.SavedBallots.{saved_promise_rises}
 use Rattle.protocol.proofs.Rounds.{next_is, greatest_of}
 use Rattle.protocol.proofs.Waking.{Asking, Able}
@@ -81,6 +81,12 @@ module _
   under : {a r : ℕ} → r < limit → a ≤ r → a ≤ limit
   under l h = omega arith
 
+  not_below : (j : ℕ) → j < n → (n == j) ≡ false
+  not_below j l = apart n j (λ f. clash f)
+    where
+      clash : n ≡ j → ⊥
+      clash f = omega arith
+
   abbrev Leaves : ℕ → Row → List Mark → List Packet → State G F → State G F → Type 0
   Leaves k row marks out w after = Stepped z v n entries k row marks out w.offers w after
 
@@ -92,7 +98,7 @@ module _
       (s r : ℕ) (w : State G F) (report : Option Vote) (marks : List Mark) (dn : Option Ballot) → Set r w → w.offers ≡ final
       → w.marks m ≡ marks
       → open_proposal n marks ≡ Some (record { ballot = record { round = suc s; owner = m }; own = own; report = report; now = 0 })
-      → begun n marks ≡ 1 → denied n marks ≡ dn → ((j : ℕ) → (n == j) ≡ false → open_proposal j marks ≡ None)
+      → begun n marks ≡ 1 → denied n marks ≡ dn → ((j : ℕ) → j < n → open_proposal j marks ≡ None)
       → next (greater_ballot (w.rows m n).promised dn) m ≡ Some (record { round = suc r; owner = m })
       → Beginning r w
   falls_due s r w report marks dn g offers at_marks opens one denied_so closed nexts = record {
@@ -102,7 +108,7 @@ module _
     now = now;
     task = refl;
     unrefused = rw (g.serves.going m member in_it) refl;
-    brings_it = ap (λ (l : List Mark). due_event (next_due m now l) now) at_marks ∙ ap (λ (o : Option ℕ). due_event o now) (only_due m n now marks due closed);
+    brings_it = ap (λ (l : List Mark). due_event (next_due m now l) now) at_marks ∙ ap (λ (o : Option ℕ). due_event o now) (least_due m n now marks due closed);
     number_is = refl;
     turns =
         ap (λ (l : List Mark). turn (seat_at z m) l (w.rows m n) (Came_due n now)) at_marks ∙ taken
@@ -167,7 +173,7 @@ module _
   -- one of the set, k, is promised at round r, above the proposer's own: that begins below, is denied by k where r leaves a round between,
   -- and as it falls due it begins above
   denied_goes :
-      (s r k : ℕ) (w : State G F) → Ready r w → ((j : ℕ) → open_proposal j (w.marks m) ≡ None) → round_of (w.rows m n).promised ≡ s → s < r → r < limit
+      (s r k : ℕ) (w : State G F) → Ready r w → ((j : ℕ) → j < n → open_proposal j (w.marks m) ≡ None) → round_of (w.rows m n).promised ≡ s → s < r → r < limit
       → IsMember z.count k → among k ≡ true → round_of (w.rows k n).promised ≡ r → Goal w
   denied_goes s r k w g unopened at_s lower below i e at_r =
       take z fit among again v m n final entries speaks limit w g.is_set.known g.is_set.serves be.step m be.call be.event began be.task member in_it be.unrefused be.brings_it be.number_is
@@ -258,7 +264,7 @@ module _
               (opens_plain n b own row.vote 0 base g.is_set.unreleased g.unopened)
               (begun_plain n b own row.vote 0 base g.is_set.unreleased g.unopened)
               (denied_plain n b own row.vote 0 base g.is_set.unreleased g.unopened)
-              (λ j f. closed_plain n b own row.vote 0 base g.is_set.unreleased g.unopened j f (unopened j))
+              (λ j l. closed_plain n b own row.vote 0 base g.is_set.unreleased g.unopened j (not_below j l) (unopened j l))
               (subst (λ (q : Option Ballot). next (greater_ballot q None) m ≡ Some (record { round = suc r; owner = m })) (sym promised) (next_is m (Some b) r (omega arith) (reach below))))
               below
 
@@ -328,7 +334,7 @@ module _
                       (opens_denied n b own row.vote 0 base g.is_set.unreleased g.unopened a)
                       (begun_denied n b own row.vote 0 base g.is_set.unreleased g.unopened a)
                       (denied_by_one n b own row.vote 0 base g.is_set.unreleased g.unopened a)
-                      (λ j f. closed_denied n b own row.vote 0 base g.is_set.unreleased g.unopened a j f (unopened j))
+                      (λ j l. closed_denied n b own row.vote 0 base g.is_set.unreleased g.unopened a j (not_below j l) (unopened j l))
                       (subst (λ (x : Option Ballot). next (greater_ballot x (Some a)) m ≡ Some (record { round = suc r; owner = m })) (sym promised3)
                       (rw above_b (next_is m (Some a) r (subst (λ (x : Option Ballot). round_of x ≡ r) is at_r) (reach below)))))
                       below
@@ -344,12 +350,12 @@ module _
           weigh (inl l) = falls l
           weigh (inr l) = by_promise l (w.rows k n).promised refl
 
-  -- from a state in which the proposer runs, and nothing is open with it nor n released
+  -- from a state in which the proposer runs, neither n nor a lower number is open with it, and n not released
   pub leads_through :
       (w : State G F) → Told z n entries w → w.offers ≡ initial → ((j : ℕ) → Voted j → (u : Vote) × ((w.rows j n).vote ≡ Some u))
-      → Able z among v n limit w → w.is_stopped m ≡ false → ((j : ℕ) → open_proposal j (w.marks m) ≡ None) → was_released n (w.marks m) ≡ false
-      → Goal w
-  leads_through w h offers has_vote able going unopened unreleased =
+      → Able z among v n limit w → w.is_stopped m ≡ false → open_proposal n (w.marks m) ≡ None
+      → ((j : ℕ) → j < n → open_proposal j (w.marks m) ≡ None) → was_released n (w.marks m) ≡ false → Goal w
+  leads_through w h offers has_vote able going unopened lower unreleased =
       let (r, below, above, attained) = greatest_of (λ k. round_of (w.rows k n).promised) among limit (some w able) (members z.count)
       (λ k i e. able.rounds k (among_members z.count k i) e) in
       wakes r (members z.count) w (to_wake r w h offers has_vote able (λ k i e. above k (member_among z.count k i) e))
@@ -363,7 +369,7 @@ module _
           → (r ≤ round_of (w.rows m n).promised) ⊎ (round_of (w.rows m n).promised < r) → Goal after
       by r below attained after x marks rows (inl l) =
           asks (round_of (w.rows m n).promised) after
-          (record { is_set = made (λ k i e. higher (x.rounds k i e) l); unopened = subst (λ (y : List Mark). open_proposal n y ≡ None) (sym marks) (unopened n); offers = x.offers })
+          (record { is_set = made (λ k i e. higher (x.rounds k i e) l); unopened = subst (λ (y : List Mark). open_proposal n y ≡ None) (sym marks) unopened; offers = x.offers })
           (ap (λ (q : Row). round_of q.promised) (rows m))
           (able.rounds m member in_it)
         where
@@ -389,8 +395,26 @@ module _
               has_vote = x.has_vote;
               rounds = x.rounds;
             };
-            unopened = subst (λ (y : List Mark). open_proposal n y ≡ None) (sym marks) (unopened n);
+            unopened = subst (λ (y : List Mark). open_proposal n y ≡ None) (sym marks) unopened;
             offers = x.offers;
           })
-          (λ j. subst (λ (y : List Mark). open_proposal j y ≡ None) (sym marks) (unopened j))
+          (λ j h. subst (λ (y : List Mark). open_proposal j y ≡ None) (sym marks) (lower j h))
           (ap (λ (q : Row). round_of q.promised) (rows m)) l below (among_members z.count k i) e (ap (λ (q : Row). round_of q.promised) (rows k) ∙ f)
+
+  -- from any state, where the proposer may start again
+  pub leads_on :
+      again m ≡ true → (w : State G F) → Told z n entries w → w.offers ≡ initial → ((j : ℕ) → Voted j → (u : Vote) × ((w.rows j n).vote ≡ Some u))
+      → Able z among v n limit w → Goal w
+  leads_on may w h offers has_vote able =
+      restart z fit among again v m n final entries speaks limit w h m member in_it (inr may)
+      (λ after re. leads_through after re.told (re.offers ∙ offers)
+      (λ j voted. subst (λ (x : Row). (u : Vote) × (x.vote ≡ Some u)) (sym (re.rows j n)) (has_vote j voted))
+      (record {
+        version = λ k i e. re.version k ∙ able.version k i e;
+        unarmed = λ k i e. re.armed k ∙ able.unarmed k i e;
+        rounds = λ k i e. subst (λ (x : Row). round_of x.promised < limit) (sym (re.rows k n)) (able.rounds k i e);
+      })
+      re.goes
+      (subst (λ (l : List Mark). open_proposal n l ≡ None) (sym re.marks_are) refl)
+      (λ j l. subst (λ (y : List Mark). open_proposal j y ≡ None) (sym re.marks_are) refl)
+      (subst (λ (l : List Mark). was_released n l ≡ false) (sym re.marks_are) refl))

@@ -16,7 +16,8 @@ use Rattle.protocol.proofs.Majorities.{weaker, among_members}
 use Rattle.protocol.proofs.Steps.{history_sound}
 use Rattle.protocol.proofs.Replying.{member_among, yes_no}
 use Rattle.protocol.proofs.OneStep.{Serves, Reaches}
-use Rattle.protocol.proofs.Waking.{by_offer, by_search, leads_on}
+use Rattle.protocol.proofs.Waking.{by_offer, by_search}
+use Rattle.protocol.proofs.Denial.{leads_on}
 use Rattle.protocol.proofs.Progress.{Later, follow, same_entry}
 use Rattle.protocol.proofs.Agreements.{releases_are_chosen, histories_agree}
 

@@ -25,7 +25,7 @@ second_none : {A : Type 0} (x y : Option A) → or_else x y ≡ None → y ≡ N
 second_none None y e = e
 second_none (Some a) y e = let no : Some a ≡ None = e in cc
 
-unstopped : {D F : Type 0} (b : Bool) (x : Option (Refusal D F)) → (if b then Some Stopped else x) ≡ None → x ≡ None
+pub unstopped : {D F : Type 0} (b : Bool) (x : Option (Refusal D F)) → (if b then Some Stopped else x) ≡ None → x ≡ None
 unstopped true x e = let no : Some Stopped ≡ None = e in cc
 unstopped false x e = e
 

@@ -35,5 +35,8 @@ pub mod OneBallot
 pub mod Rounds
 pub mod Waking
 pub mod Denial
+pub mod OpenMarks
+pub mod OpenNumbers
+pub mod GivingUp
 pub mod Progress
 pub mod Everywhere

@@ -1,7 +1,7 @@
 -- What is read from the marks of a member that began a number anew, after which it was denied at most once.
-use Rattle.std.proofs.Common.{◌≡◌, ℕ, ◌+◌, refl, sym, ap, subst, ◌∙◌, arith, List, [], ◌∷◌, Option, Some, None, Bool, true, false, cond}
+use Rattle.std.proofs.Common.{◌≡◌, ℕ, ◌+◌, ◌<◌, ◌≤◌, ◌⊎◌, inl, inr, refl, sym, ap, subst, ◌∙◌, arith, List, [], ◌∷◌, Option, Some, None, Bool, true, false, cond}
 use Rattle.std.specs.Prelude.{◌==◌, count_by}
-use Rattle.std.proofs.lemmas.Bool.{eqb-true, eq-eqb}
+use Rattle.std.proofs.lemmas.Bool.{eq-eqb}
 use Rattle.std.proofs.lemmas.List.Sums.{sum_by-cons}
 use Rattle.protocol.specs.Lists.{has}
 use Rattle.protocol.specs.Ballots.{Ballot}
@@ -105,20 +105,22 @@ module _ (n : ℕ) (b : Ballot) (own : Option Entry) (report : Option Vote) (now
   pub closed_denied : (p : Ballot) (j : ℕ) → (n == j) ≡ false → open_proposal j base ≡ None → open_proposal j (Denied n p ∷ begun_here) ≡ None
   closed_denied p j other o = rw other o
 
--- the only open number is due next, where it is due
-pub only_due :
-    (m n now : ℕ) (ms : List Mark) → is_due_number m now ms n ≡ true → ((j : ℕ) → (n == j) ≡ false → open_proposal j ms ≡ None)
-    → next_due m now ms ≡ Some n
-only_due m n now ms due closed = go (next_due m now ms) refl (next_due_is_least_number m now ms)
+-- the least number that is open is due next, where it is due
+pub least_due :
+    (m n now : ℕ) (ms : List Mark) → is_due_number m now ms n ≡ true → ((j : ℕ) → j < n → open_proposal j ms ≡ None) → next_due m now ms ≡ Some n
+least_due m n now ms due closed = go (next_due m now ms) refl (next_due_is_least_number m now ms)
   where
+    nat_cases : (a c : ℕ) → (a ≤ c) ⊎ (c < a)
+    nat_cases a c = grind arith
+
     go : (r : Option ℕ) → next_due m now ms ≡ r → IsLeast (is_due_number m now ms) (next_due m now ms) → next_due m now ms ≡ Some n
     go None e least =
         let none : (k : ℕ) → is_due_number m now ms k ≡ false = subst (λ (o : Option ℕ). IsLeast (is_due_number m now ms) o) e least in
         absurd (yes_no (is_due_number m now ms n) (none n) due)
     go (Some j) e least =
         let is : IsLeast (is_due_number m now ms) (Some j) = subst (λ (o : Option ℕ). IsLeast (is_due_number m now ms) o) e least in
-        e ∙ ap Some (sym (same (n == j) refl j is.0))
+        e ∙ ap Some (same j is.0 (is.1 n due) (nat_cases n j))
       where
-        same : (t : Bool) → (n == j) ≡ t → (k : ℕ) → is_due_number m now ms j ≡ true → n ≡ j
-        same true f k d = eqb-true n j f
-        same false f k d = let no : false ≡ true = rw (closed j f) at d in cc
+        same : (j : ℕ) → is_due_number m now ms j ≡ true → j ≤ n → (n ≤ j) ⊎ (j < n) → j ≡ n
+        same j d l (inl h) = omega arith
+        same j d l (inr h) = let no : false ≡ true = rw (closed j h) at d in cc

@@ -128,7 +128,7 @@ module _
   Goal w = Reaches z among again v m n final limit w
 
   -- datagrams for packets that may be said
-  spelled :
+  pub spelled :
       (ps : List Packet) → ((p : Packet) → IsAmong ps p → MaySay z entries p) → ((p : Packet) → IsAmong ps p → BodyFits v p.body)
       → (out : List Datagram) × AllZip (Carries z v) ps out
   spelled [] says fits = ([], tt)

@@ -1,24 +1,27 @@
 -- A circuit is never stuck, and what is chosen is found.
-use Rattle.std.proofs.Common.{◌≤◌, arith, ◌≡◌, ℕ, ◌⊎◌, inl, inr, refl, sym, subst, List, [], ◌∷◌, ◌++◌, Some, None, Bool, true, false, ◌==◌}
+use Rattle.std.proofs.Common.{◌<◌, ◌≤◌, ◌+◌, suc, arith, ◌≡◌, ℕ, ◌⊎◌, inl, inr, refl, sym, subst, ◌∙◌, List, [], ◌∷◌, ◌++◌, Some, None, Bool, true, false, ◌==◌}
 use Rattle.protocol.specs.Lists.{IsAmong}
 use Rattle.protocol.specs.Ballots.{Ballot, IsMember, members, last_round}
 use Rattle.protocol.specs.Entries.{Entry}
 use Rattle.protocol.specs.Rows.{Vote}
 use Rattle.protocol.specs.Versions.{Version, One, Two}
 use Rattle.protocol.specs.Circuit.{Circuit, Offer, Release, State, Done, Restarts, Restarted, Upgrades, Upgraded, with_at, StepsTo, upgrades, History, goes_on}
+use Rattle.protocol.specs.Proposals.{denied}
+use Rattle.protocol.specs.Turn.{most_ballots}
 use Rattle.protocol.proofs.OneStep.{same}
 use Rattle.protocol.proofs.Replying.{member_among, yes_no}
 use Rattle.std.proofs.lemmas.Bool.{eqb-false, eq-eqb}
 use Rattle.protocol.specs.Agreement.{WasVoted, WasOffered, IsChosen}
-use Rattle.protocol.specs.Progress.{Leads, is_there, takes_turn, starts_again, release_of, CanRelease, CanServe, AreAt, LeadsByUpgrades, are_upgraded, upgrades_one, CircuitIsNeverStuck, RunningNeedNotRestart, DeniedNeedNotRestart, ChosenIsFound, HalfAnUpgradeIsNoDeadEnd}
+use Rattle.protocol.specs.Progress.{Leads, is_there, takes_turn, starts_again, release_of, round_of, CanRelease, CanServe, AreAt, LeadsByUpgrades, are_upgraded, upgrades_one, CircuitIsNeverStuck, RunningNeedNotRestart, DeniedNeedNotRestart, HasRoundsToGiveUp, BusyNeedNotRestart, ChosenIsFound, HalfAnUpgradeIsNoDeadEnd}
 use Rattle.protocol.proofs.Places.{among_right}
 use Rattle.protocol.proofs.Majorities.{weaker, among_members}
 use Rattle.protocol.proofs.Steps.{history_sound}
 use Rattle.protocol.proofs.Agreements.{chosen_is_one, releases_are_chosen}
 use Rattle.protocol.proofs.Rounds.{left_below}
 use Rattle.protocol.proofs.OneStep.{Reaches}
-use Rattle.protocol.proofs.Waking.{Able, by_offer, by_search, leads_on, leads_calmly}
-use Rattle.protocol.proofs.Denial.{leads_through}
+use Rattle.protocol.proofs.Waking.{Able, by_offer, by_search}
+use Rattle.protocol.proofs.Denial.{leads_on}
+use Rattle.protocol.proofs.GivingUp.{leads_busily}
 
 -- votes stay as a history goes on
 pub record Later {D G F : Type 0} {z : Circuit D G F} {w : State G F} (h : History z w) (after : State G F) : Type 0 where
@@ -75,21 +78,33 @@ circuit_is_never_stuck z fit w h among v n can at_v number m entry slugs member 
     w (record { history = h; offered = λ t o. inr o }) refl (λ j none. absurd none) (able can at_v)) in
     (to, same_entry h to)
 
+pub busy_need_not_restart : {D G F : Type 0} → BusyNeedNotRestart D G F
+busy_need_not_restart z fit w h among v n can at_v number m entry slugs member in_it fits sets speaks going unreleased rounds =
+    let final : List Offer = w.offers ++ record { member = m; number = n; entry = entry } ∷ [] in
+    let to : CanRelease z among (λ k. false) m n final w = reached (leads_busily z fit among (λ k. false) v m n final (λ t. (t ≡ entry) ⊎ WasOffered w n t) speaks last_round le-refl number member can.many in_it
+    w.offers (Some entry) (by_offer z v m n w.offers (λ t. (t ≡ entry) ⊎ WasOffered w n t) entry slugs number fits sets (inl refl)) (entry, refl)
+    w (record { history = h; offered = λ t o. inr o }) refl (able can at_v) going unreleased (λ o e. room (rounds o e))) in
+    (to, same_entry h to)
+  where
+    below : (a : ℕ) → a + suc most_ballots ≤ last_round → a + most_ballots < last_round
+    below a l = omega arith
+
+    room : HasRoundsToGiveUp w m n → (round_of (w.rows m n).promised + most_ballots < last_round) × (round_of (denied n (w.marks m)) + most_ballots < last_round)
+    room r = (below (round_of (w.rows m n).promised) r.above_promise, below (round_of (denied n (w.marks m))) r.above_denial)
+
+none_some : {A : Type 0} {x : A} → None ≡ Some x → ⊥
+none_some e = cc
+
+-- so where n is not open, and where no number is
 pub running_need_not_restart : {D G F : Type 0} → RunningNeedNotRestart D G F
 running_need_not_restart z fit w h among v n can at_v number m entry slugs member in_it fits sets speaks going unopened unreleased highest =
-    let final : List Offer = w.offers ++ record { member = m; number = n; entry = entry } ∷ [] in
-    let to : CanRelease z among (λ k. false) m n final w = reached (leads_calmly z fit among (λ k. false) v m n final (λ t. (t ≡ entry) ⊎ WasOffered w n t) speaks last_round le-refl number member can.many in_it
-    w.offers (Some entry) (by_offer z v m n w.offers (λ t. (t ≡ entry) ⊎ WasOffered w n t) entry slugs number fits sets (inl refl)) (λ j. ⊥) (inl (entry, refl))
-    w (record { history = h; offered = λ t o. inr o }) refl (λ j none. absurd none) (able can at_v) going unopened unreleased highest) in
-    (to, same_entry h to)
+    busy_need_not_restart z fit w h among v n can at_v number m entry slugs member in_it fits sets speaks going unreleased
+    (λ o e. absurd (none_some (sym unopened ∙ e)))
 
 pub denied_need_not_restart : {D G F : Type 0} → DeniedNeedNotRestart D G F
 denied_need_not_restart z fit w h among v n can at_v number m entry slugs member in_it fits sets speaks going unopened unreleased =
-    let final : List Offer = w.offers ++ record { member = m; number = n; entry = entry } ∷ [] in
-    let to : CanRelease z among (λ k. false) m n final w = reached (leads_through z fit among (λ k. false) v m n final (λ t. (t ≡ entry) ⊎ WasOffered w n t) speaks last_round le-refl number member can.many in_it
-    w.offers (Some entry) (by_offer z v m n w.offers (λ t. (t ≡ entry) ⊎ WasOffered w n t) entry slugs number fits sets (inl refl)) (λ j. ⊥) (inl (entry, refl))
-    w (record { history = h; offered = λ t o. inr o }) refl (λ j none. absurd none) (able can at_v) going unopened unreleased) in
-    (to, same_entry h to)
+    busy_need_not_restart z fit w h among v n can at_v number m entry slugs member in_it fits sets speaks going unreleased
+    (λ o e. absurd (none_some (sym (unopened n) ∙ e)))
 
 pub chosen_is_found : {D G F : Type 0} → ChosenIsFound D G F
 chosen_is_found z fit w h among v n can at_v number m member in_it t chosen speaks =

@@ -1,6 +1,6 @@
--- From any state in which a majority can serve to a ballot of one of its members above all their promises: those that are stopped start again,
--- and the proposer last; it raises its own promise where it must, and then is offered an entry, or searches.
-use Rattle.std.proofs.Common.{◌≡◌, ℕ, zero, suc, ◌+◌, ◌*◌, ◌-◌, ◌<◌, ◌≤◌, ◌⊎◌, inl, inr, refl, sym, ap, subst, ◌∙◌, arith, List, [], ◌∷◌, ◌++◌, Option, Some, None, Bool, true, false}
+-- From any state in which a majority can serve: those of it that are stopped start again; and from one in which no promise of theirs
+-- is above that of a member that runs, to a ballot of this member, as it is offered an entry, or searches.
+use Rattle.std.proofs.Common.{◌≡◌, ℕ, suc, ◌*◌, ◌<◌, ◌≤◌, ◌⊎◌, inl, inr, refl, sym, ap, subst, ◌∙◌, arith, List, [], ◌∷◌, ◌++◌, Option, Some, None, Bool, true, false}
 use Rattle.std.specs.Prelude.{◌==◌, Ok, count_by}
 use Rattle.std.proofs.lemmas.Bool.{eqb-true, eq-eqb}
 use Rattle.protocol.specs.Limits.{is_number}
@@ -28,7 +28,7 @@ use Rattle.protocol.proofs.PhaseTwo.{Free, all_vote}
 use Rattle.protocol.proofs.PhaseTwo as phase_two
 use Rattle.protocol.proofs.PhaseOne.{Lower, finds, all_promise}
 use Rattle.protocol.proofs.Voters.{was_held}
-use Rattle.protocol.proofs.Rounds.{few, next_is, above_none, not_at, greatest_of, vote_round, heard_round}
+use Rattle.protocol.proofs.Rounds.{few, next_is, above_none, not_at, vote_round, heard_round}
 
 -- what the proposer is asked: it is offered an entry, or searches; and what offers there are then
 pub record Asking {D G F : Type 0} (z : Circuit D G F) (v : Version) (m n : ℕ) (initial final : List Offer) (entries : Entry → Type 0) (own : Option Entry) : Type 0 where
@@ -309,84 +309,6 @@ module _
   pub asks : (r : ℕ) (w : State G F) → Ready r w → round_of (w.rows m n).promised ≡ r → r < limit → Goal w
   asks r w g at_r below = goes_through r w g.is_set (asked_begins r w g at_r below) below
 
-  -- of two members or more, it raises its own promise to round r, a round at a time: it seeks and starts again
-  raises :
-      (may : again m ≡ true) (one : (z.count == 1) ≡ false) (r : ℕ) → r < limit → (d : ℕ) (w : State G F) → Ready r w
-      → round_of (w.rows m n).promised + d ≡ r → Goal w
-  raises may one r below zero w g at_r = asks r w g (omega arith) below
-  raises may one r below (suc d) w g at_r = go (λ after x e. raises may one r below d after x e)
-    where
-      b : Ballot
-      b = record { round = suc (round_of (w.rows m n).promised); owner = m }
-
-      row : Row
-      row = w.rows m n
-
-      low : b.round ≤ limit
-      low = omega arith
-
-      nexts : next row.promised m ≡ Some b
-      nexts = next_is m row.promised (round_of row.promised) refl (reach low)
-
-      free_call : refusal (setup_of z (w.version m) m) (w.is_stopped m) (w.marks m) (Seeking n 0) ≡ None
-      free_call = rw (g.is_set.serves.going m member in_it, g.unopened, g.is_set.unreleased, number) refl
-
-      began : Turn
-      began =
-          record { row = raised row b; marks = Began n b None row.vote 0 ∷ w.marks m; out = to_others (seat_at z m) n b Prepare; release = None; note = Note_began b }
-
-      renews :
-          ((after : State G F) → Ready r after → round_of (after.rows m n).promised + d ≡ r → Goal after)
-          → (w1 : State G F) → Leaves m (raised row b) (Began n b None row.vote 0 ∷ w.marks m) (to_others (seat_at z m) n b Prepare) w w1 → Goal w1
-      renews on w1 st =
-          let s1 = still st g.is_set.serves low in
-          restart z fit among again v m n final entries speaks limit w1 st.told m member in_it (inr may)
-          (λ w2 re. on w2
-          (record {
-            is_set = record {
-              known = re.told;
-              serves = record {
-                version = λ k i e. re.version k ∙ s1.version k i e;
-                unarmed = λ k i e. re.armed k ∙ s1.unarmed k i e;
-                going = λ k i e. re.goes_other k (s1.going k i e);
-                rounds = λ k i e. subst (λ (x : Row). round_of x.promised ≤ limit) (sym (re.rows k n)) (s1.rounds k i e);
-              };
-              unreleased = subst (λ (l : List Mark). was_released n l ≡ false) (sym re.marks_are) refl;
-              has_vote = λ j voted. subst (λ (x : Row). (u : Vote) × (x.vote ≡ Some u)) (sym (re.rows j n)) (has_vote j voted w1 st (j == m) refl);
-              rounds = λ k i e. subst (λ (x : Row). round_of x.promised ≤ r) (sym (re.rows k n)) (rounds k i e w1 st (k == m) refl);
-            };
-            unopened = subst (λ (l : List Mark). open_proposal n l ≡ None) (sym re.marks_are) refl;
-            offers = re.offers ∙ st.offers_are ∙ g.offers;
-          })
-          (subst (λ (x : Row). round_of x.promised + d ≡ r) (sym (re.rows m n ∙ st.row_is)) (omega arith)))
-        where
-          has_vote :
-              (k : ℕ) → Voted k → (w1 : State G F)
-              → Leaves m (raised row b) (Began n b None row.vote 0 ∷ w.marks m) (to_others (seat_at z m) n b Prepare) w w1 → (t : Bool) → (k == m) ≡ t
-              → (u : Vote) × ((w1.rows k n).vote ≡ Some u)
-          has_vote k voted w1 st true f =
-              let x = g.is_set.has_vote m (subst (λ (j : ℕ). Voted j) (eqb-true k m f) voted) in
-              subst (λ (j : ℕ). (u : Vote) × ((w1.rows j n).vote ≡ Some u)) (sym (eqb-true k m f))
-              (subst (λ (y : Row). (u : Vote) × (y.vote ≡ Some u)) (sym st.row_is) x)
-          has_vote k voted w1 st false f = subst (λ (x : Row). (u : Vote) × (x.vote ≡ Some u)) (sym (st.row_other k f)) (g.is_set.has_vote k voted)
-
-          rounds :
-              (k : ℕ) → IsMember z.count k → among k ≡ true → (w1 : State G F)
-              → Leaves m (raised row b) (Began n b None row.vote 0 ∷ w.marks m) (to_others (seat_at z m) n b Prepare) w w1 → (t : Bool) → (k == m) ≡ t
-              → round_of (w1.rows k n).promised ≤ r
-          rounds k i e w1 st true f =
-              subst (λ (x : ℕ). round_of (w1.rows x n).promised ≤ r) (sym (eqb-true k m f))
-              (subst (λ (x : Row). round_of x.promised ≤ r) (sym st.row_is) (omega arith))
-          rounds k i e w1 st false f = subst (λ (x : Row). round_of x.promised ≤ r) (sym (st.row_other k f)) (g.is_set.rounds k i e)
-
-      go : ((after : State G F) → Ready r after → round_of (after.rows m n).promised + d ≡ r → Goal after) → Goal w
-      go on =
-          take z fit among again v m n final entries speaks limit w g.is_set.known g.is_set.serves (Seeks m n 0) m (Seeking n 0)
-          (Sought n 0) began refl member in_it free_call refl refl
-          (rw (nexts, one) refl) low tt (λ u f. cc)
-          (λ votes p j. others_say z entries m n b Prepare member number (record { round_low = omega arith; round_high = reach low; owner = member }) (λ k. refl) p j)
-          (λ w1 st none. renews on w1 st)
-
   -- the members of the set are being started again, those in the list still to come
   pub record Waking (r : ℕ) (rest : List ℕ) (w : State G F) : Type 0 where
     pub known : Told z n entries w
@@ -406,45 +328,6 @@ module _
     going = λ k i e. elim (x.left k i e) [ inl t ↦ t | inr none ↦ absurd none ];
     rounds = λ k i e. under below (x.rounds k i e);
   }
-
-  -- the proposer starts again last
-  starts : (may : again m ≡ true) (r : ℕ) → r < limit → (w : State G F) → Waking r [] w → Goal w
-  starts may r below w g =
-      restart z fit among again v m n final entries speaks limit w g.known m member in_it (inr may)
-      (λ after re. go after
-      (record {
-        is_set = record {
-          known = re.told;
-          serves = record {
-            version = λ k i e. re.version k ∙ g.version k i e;
-            unarmed = λ k i e. re.armed k ∙ g.unarmed k i e;
-            going = λ k i e. re.goes_other k (elim (g.left k i e) [ inl t ↦ t | inr none ↦ absurd none ]);
-            rounds = λ k i e. subst (λ (x : Row). round_of x.promised ≤ limit) (sym (re.rows k n)) (under below (g.rounds k i e));
-          };
-          unreleased = subst (λ (l : List Mark). was_released n l ≡ false) (sym re.marks_are) refl;
-          has_vote = λ j voted. subst (λ (x : Row). (u : Vote) × (x.vote ≡ Some u)) (sym (re.rows j n)) (g.has_vote j voted);
-          rounds = λ k i e. subst (λ (x : Row). round_of x.promised ≤ r) (sym (re.rows k n)) (g.rounds k i e);
-        };
-        unopened = subst (λ (l : List Mark). open_proposal n l ≡ None) (sym re.marks_are) refl;
-        offers = re.offers ∙ g.offers;
-      })
-      (z.count == 1) refl)
-    where
-      sum_to : (a r : ℕ) → a ≤ r → a + (r - a) ≡ r
-      sum_to a r l = omega arith
-
-      go : (after : State G F) → Ready r after → (t : Bool) → (z.count == 1) ≡ t → Goal after
-      go after x true one =
-          asks (round_of (after.rows m n).promised) after
-          (record { is_set = record { known = x.is_set.known; serves = x.is_set.serves; unreleased = x.is_set.unreleased; has_vote = x.is_set.has_vote; rounds = λ k i e. subst (λ (j : ℕ). round_of (after.rows j n).promised ≤ round_of (after.rows m n).promised) (only k i) (omega arith) }; unopened = x.unopened; offers = x.offers })
-          refl (let l : round_of (after.rows m n).promised ≤ r = x.is_set.rounds m member in_it in omega arith)
-        where
-          only : (k : ℕ) → IsMember z.count k → m ≡ k
-          only k i =
-              let e : z.count ≡ 1 = eqb-true z.count 1 one in let a : 1 ≤ m = member.0 in let l : m ≤ z.count = member.1 in let c : 1 ≤ k = i.0 in let d : k ≤ z.count = i.1 in omega arith
-      go after x false one =
-          raises may one r below (r - round_of (after.rows m n).promised) after x
-          (sum_to (round_of (after.rows m n).promised) r (x.is_set.rounds m member in_it))
 
   -- those that are stopped start again
   pub wakes :
@@ -503,35 +386,3 @@ module _
     left = λ k i e. inr (member_among z.count k i);
     inside = λ k i. among_members z.count k i;
   }
-
-  -- from any state, where the proposer may start again
-  pub leads_on :
-      again m ≡ true → (w : State G F) → Told z n entries w → w.offers ≡ initial → ((j : ℕ) → Voted j → (u : Vote) × ((w.rows j n).vote ≡ Some u))
-      → Able z among v n limit w → Goal w
-  leads_on may w h offers has_vote able =
-      let (r, below, above, attained) = greatest_of (λ k. round_of (w.rows k n).promised) among limit (some w able) (members z.count)
-      (λ k i e. able.rounds k (among_members z.count k i) e) in
-      wakes r (members z.count) w (waking r w h offers has_vote able (λ k i e. above k (member_among z.count k i) e))
-      (λ after x marks rows. starts may r below after x)
-
-  -- from a state in which the proposer runs, has the highest promise, and n is neither open nor released with it
-  pub leads_calmly :
-      (w : State G F) → Told z n entries w → w.offers ≡ initial → ((j : ℕ) → Voted j → (u : Vote) × ((w.rows j n).vote ≡ Some u))
-      → Able z among v n limit w → w.is_stopped m ≡ false → open_proposal n (w.marks m) ≡ None → was_released n (w.marks m) ≡ false
-      → ((k : ℕ) → IsMember z.count k → among k ≡ true → round_of (w.rows k n).promised ≤ round_of (w.rows m n).promised) → Goal w
-  leads_calmly w h offers has_vote able going unopened unreleased highest =
-      wakes (round_of (w.rows m n).promised) (members z.count) w (waking (round_of (w.rows m n).promised) w h offers has_vote able highest)
-      (λ after x marks rows. asks (round_of (w.rows m n).promised) after
-      (record {
-        is_set = record {
-          known = x.known;
-          serves = awake (round_of (w.rows m n).promised) (able.rounds m member in_it) after x;
-          unreleased = subst (λ (l : List Mark). was_released n l ≡ false) (sym (marks going)) unreleased;
-          has_vote = x.has_vote;
-          rounds = x.rounds;
-        };
-        unopened = subst (λ (l : List Mark). open_proposal n l ≡ None) (sym (marks going)) unopened;
-        offers = x.offers;
-      })
-      (ap (λ (q : Row). round_of q.promised) (rows m))
-      (able.rounds m member in_it))

@@ -7,8 +7,8 @@ use Rattle.protocol.specs.Ballots.{Ballot, IsBelow, last_round, members, IsMembe
 use Rattle.protocol.specs.Entries.{Entry}
 use Rattle.protocol.specs.Versions.{Version, Two, fits}
 use Rattle.protocol.specs.Packets.{Packet, Body, Prepare, Promise, Accept, Accepted, Nack}
-use Rattle.protocol.specs.Proposals.{was_released, open_proposal}
-use Rattle.protocol.specs.Turn.{Note}
+use Rattle.protocol.specs.Proposals.{Opening, was_released, open_proposal, denied}
+use Rattle.protocol.specs.Turn.{Note, most_ballots}
 use Rattle.protocol.specs.Refusals.{Call}
 use Rattle.protocol.specs.Circuit.{Circuit, State, Step, Restarts, Upgrades, Done, Restarted, Upgraded, IsTask, StepsTo, History, Release, Offer}
 use Rattle.protocol.specs.Agreement.{IsChosen, WasOffered}
@@ -141,6 +141,26 @@ DeniedNeedNotRestart D G F =
     → IsMember z.count m → among m ≡ true → fits v entry ≡ true → z.sets m entry ≡ Ok slugs
     → SpellsWhatMayBeSaid z v (IsOfOffers w n entry)
     → w.is_stopped m ≡ false → ((j : ℕ) → open_proposal j (w.marks m) ≡ None) → was_released n (w.marks m) ≡ false
+    → (to : CanRelease z among (λ k. false) m n (with_offer w.offers m n entry) w) × IsTheChosen h n to.entry
+
+-- above the member's promise for n, and above the greatest one that denied n there, a round is left for each ballot that a proposal may begin,
+-- and one more: enough to give n up, and then to be offered it
+pub record HasRoundsToGiveUp {G F : Type 0} (w : State G F) (m n : ℕ) : Type 0 where
+  pub above_promise : round_of (w.rows m n).promised + suc most_ballots ≤ last_round
+  pub above_denial : round_of (denied n (w.marks m)) + suc most_ballots ≤ last_round
+
+-- nor whatever numbers are open with the member that is asked: the lower ones fall due first, each until it is given up,
+-- and so does n, where it is open
+abbrev pub BusyNeedNotRestart : (D G F : Type 0) → Type 0
+BusyNeedNotRestart D G F =
+    (z : Circuit D G F) → SpellsWhatFits z
+    → (w : State G F) (h : History z w) (among : ℕ → Bool) (v : Version) (n : ℕ)
+    → CanServe z w among n → AreAt z w among v → is_number n ≡ true
+    → (m : ℕ) (entry : Entry) (slugs : G)
+    → IsMember z.count m → among m ≡ true → fits v entry ≡ true → z.sets m entry ≡ Ok slugs
+    → SpellsWhatMayBeSaid z v (IsOfOffers w n entry)
+    → w.is_stopped m ≡ false → was_released n (w.marks m) ≡ false
+    → ((o : Opening) → open_proposal n (w.marks m) ≡ Some o → HasRoundsToGiveUp w m n)
     → (to : CanRelease z among (λ k. false) m n (with_offer w.offers m n entry) w) × IsTheChosen h n to.entry
 
 -- and what is chosen is never lost: there any member of it can come to release the entry that is chosen, with nothing offered

@@ -6,7 +6,7 @@ ghost use Rattle.protocol.specs.Agreement.{BallotsHaveOneEntry, ChosenIsOne, Hea
 ghost use Rattle.protocol.specs.Fitting.{HistoriesFit, TurnsFit, VersionTwoReadsBoth};
 ghost use Rattle.protocol.specs.Missing.{MissingIsExact};
 ghost use Rattle.protocol.specs.NextDue.{NextDueIsLeastNumber};
-ghost use Rattle.protocol.specs.Progress.{ChosenIsFound, CircuitIsNeverStuck, DeniedNeedNotRestart, EveryMemberReleases, HalfAnUpgradeIsNoDeadEnd, RunningNeedNotRestart};
+ghost use Rattle.protocol.specs.Progress.{BusyNeedNotRestart, ChosenIsFound, CircuitIsNeverStuck, DeniedNeedNotRestart, EveryMemberReleases, HalfAnUpgradeIsNoDeadEnd, RunningNeedNotRestart};
 ghost use Rattle.protocol.specs.Readings.{NextDueIsLeast};
 ghost use Rattle.protocol.specs.Rehearsals.{AddresseeIsToldFirst, LowerIsDenied, MixedMembersRelease, NumberIsToldFirst, NumberIsWithdrawn, NumbersAreRefused, OneMemberReleases, PacketsAreRefused, ReadingLeavesArmed, SavedVoteIsReleased, SettingWantsMemory, StoppedIsToldFirst, StoreRefusesToo, ThreeMembersRelease, TornUpgrades, TwoProposersFight, UnsavedVoteIsLost, VersionIsToldFirst, VoteOutlivesUpgrades, WithdrawalWantsVersionTwo};
 ghost use Rattle.protocol.specs.Runs.{BallotsStandApart, BeginsAbovePromise, ClosedIsForgotten, FallsDueAbove, FirstAcceptStands, FirstOfTwoReleases, GivesUp, GreaterReportIsTaken, LastRoundIsBegun, LastRoundIsSpent, LeastMemberDecides, LowerIsNacked, NumbersStandApart, OfferedAfterGivingUp, OneFindsNothing, OneReleases, PassedIsOvertaken, ReleasedIsSettled, RepeatedVoteCountsOnce, SecondOfTwoReleases, ThirdTakesOver, VoteIsReported};
@@ -229,12 +229,14 @@ pub fn vote_outlives_upgrades<D, G, F>()
 /// an entry for a number can come to release the number, by steps of theirs alone; what it releases is the entry that was chosen, where one was.
 /// Nobody who runs has to start again for it, where the member that is asked has their highest promise for the number, and the number is free;
 /// nor where others have higher ones, and no number is open with it: it is denied, and begins anew above.
+/// Nor whatever numbers are open with it: the lower ones fall due first, each until it is given up, and so does the number, where it is open.
 /// What is chosen any of them can come to release with nothing offered. Where some of them are at version 1, they can be upgraded first.
 /// And every one of them can come to release the number, where each has a round left for every member of the circuit, and one more.
 pub fn circuit_is_never_stuck<D, G, F>()
     ensures offered { CircuitIsNeverStuck D G F }
     ensures running { RunningNeedNotRestart D G F }
     ensures denied { DeniedNeedNotRestart D G F }
+    ensures busy { BusyNeedNotRestart D G F }
     ensures chosen { ChosenIsFound D G F }
     ensures upgrade { HalfAnUpgradeIsNoDeadEnd D G F }
     ensures every { EveryMemberReleases D G F }

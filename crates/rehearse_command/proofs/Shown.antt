@@ -67,9 +67,15 @@ module _ (by : Inputs) where
   pub shown_new : (start now : Option (List ℕ)) (k : ℕ) (members : List Given) (version : Version) (v : World MemoryOf) → All (IsSetUpBy by) members → IsBeginning ghosts k members v → IsFresh ghosts k members (λ m. version) v → IsReached ghosts v → Appends start now [] → Stands by start now v
   shown_new start now k members version v set_up begins stands reached written =
       let none : (x : Release (List Slug) SetFault) → IsAmong v.releases.items x → ⊥ = λ x among. subst (λ (l : List (Release (List Slug) SetFault)). IsAmong l x) begins.2.releases among in
+      let at = reached.reached (λ m t is. tt) in
       record {
         reached = reached;
-        agreed = record { one = λ x y a b same. absurd (none x a); offered = λ x a. absurd (none x a); set = λ x a. absurd (none x a) };
+        agreed = record {
+          one = λ x y a b same. absurd (none x a);
+          offered = λ x a. absurd (none x a);
+          chosen = record { z = at.0; w = at.1.0; stands_for = at.1.1; history = at.1.2; each = λ x a. absurd (none x a) };
+          set = λ x a. absurd (none x a);
+        };
         scenes = [];
         are_of = record { sent = sym begins.2.sent; releases = sym begins.2.releases };
         number = k;
@@ -81,7 +87,7 @@ module _ (by : Inputs) where
       }
 
   -- one step more was taken, and so much of what it shows was written
-  pub shown_more : (P Q : List ℕ → Type 0) (v w : World MemoryOf) (scene : Scene) (s : Shows by v P) → IsReached ghosts w → Agreed w
+  pub shown_more : (P Q : List ℕ → Type 0) (v w : World MemoryOf) (scene : Scene) (s : Shows by v P) → IsReached ghosts w → Agreed ghosts w
       → ArePlayed s.number s.members s.version w (s.scenes ++ scene ∷ []) → v.sent.items ++ scene.sent ≡ w.sent.items → v.releases.items ++ scene.releases ≡ w.releases.items
       → ((text : List ℕ) → P text → Q (text ++ scene_text (length v.sent.items) scene)) → Shows by w Q
   shown_more P Q v w scene s reached agreed played sent releases more =
@@ -112,7 +118,7 @@ module _ (by : Inputs) where
   -- a step was taken, and so much of what it shows was written
   pub shown_step : (P Q : List ℕ → Type 0) (v w : World MemoryOf) (step : Step) (seen : Seen) (before : ℕ) (sent : List Datagram) (releases : List (Release (List Slug) SetFault))
       → Shows by v P → MovesOn v w step (Ok seen) → actor v.sent.items step ≡ Some seen.member
-      → (IsReached ghosts v → IsReached ghosts w) → (IsReached ghosts w → AllHonest ghosts.honest w → Agreed w)
+      → (IsReached ghosts v → IsReached ghosts w) → (IsReached ghosts w → AllHonest ghosts.honest w → Agreed ghosts w)
       → before ≡ length v.sent.items → v.sent.items ++ sent ≡ w.sent.items → v.releases.items ++ releases ≡ w.releases.items
       → ((text : List ℕ) → P text → Q (text ++ scene_text before (record { member = seen.member; outcome = seen.outcome; sent = sent; releases = releases }))) → Shows by w Q
   shown_step P Q v w step seen before sent releases s moves acts reached agreed first all_sent all_released more =
@@ -129,7 +135,7 @@ module _ (by : Inputs) where
 
   -- no step was taken
   pub shown_still : (P : List ℕ → Type 0) (v w : World MemoryOf) (step : Step) (refusal : WorldRefusal) → Shows by v P → MovesOn v w step (Err refusal)
-      → (IsReached ghosts v → IsReached ghosts w) → (IsReached ghosts w → AllHonest ghosts.honest w → Agreed w)
+      → (IsReached ghosts v → IsReached ghosts w) → (IsReached ghosts w → AllHonest ghosts.honest w → Agreed ghosts w)
       → w.sent.items ≡ v.sent.items → w.releases.items ≡ v.releases.items → Shows by w P
   shown_still P v w step refusal s moves reached agreed sent releases = record {
     reached = reached s.reached;

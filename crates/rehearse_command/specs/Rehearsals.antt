@@ -34,7 +34,7 @@ IsSetUpBy by member =
 -- the scenes are those steps and all that happened in them, and what is shown of them is what was written
 pub record Shows (by : Inputs) (v : World MemoryOf) (IsWritten : List ℕ → Type 0) : Type 0 where
   pub reached : IsReached ghosts v
-  pub agreed : Agreed v
+  pub agreed : Agreed ghosts v
   pub scenes : List Scene
   pub are_of : AreOf v scenes
   pub number : ℕ

@@ -1,5 +1,5 @@
 -- Which of the tables of saved rows a schema has.
-use Rattle.std.specs.Prelude.{Bool, ◌&&◌, not, is_some, codes}
+use Rattle.std.specs.Prelude.{Bool, ◌&&◌, ◌||◌, not, is_some, codes}
 use Rattle.sqlite_schema.specs.Names.{table_named}
 use Rattle.sqlite_schema.specs.declared.schema.Schema.{Schema}
 use Rattle.row_columns.specs.Layouts.{layout_in}
@@ -15,3 +15,8 @@ has_tables schema = has_station schema && is_some (layout_in schema)
 -- neither is there
 abbrev pub has_none : Schema → Bool
 has_none schema = not (has_station schema) && not (is_some (layout_in schema))
+
+-- a table of one of their names is there, whatever its columns are
+abbrev pub has_any : Schema → Bool
+has_any schema =
+    (has_station schema || is_some (table_named schema (codes "acceptor_row"))) || is_some (table_named schema (codes "acceptor_entry"))

@@ -1,7 +1,7 @@
 //! Which of the tables of saved rows a database has that was just opened.
 
 ghost use Rattle.std.specs.Prelude.{◌≡◌};
-ghost use Rattle.row_columns.specs.FoundTables.{has_station, has_tables, has_none};
+ghost use Rattle.row_columns.specs.FoundTables.{has_station, has_tables, has_none, has_any};
 
 use crate::layout::layout_in;
 use sqlite_schema::schema::Schema;
@@ -25,4 +25,13 @@ pub fn has_none(schema: &Schema) -> bool
     ensures { result ≡ has_none schema.now }
 {
     !has_station(schema) && layout_in(schema).is_none()
+}
+
+/// Whether a table of one of their names is there, whatever its columns are.
+pub fn has_any(schema: &Schema) -> bool
+    ensures { result ≡ has_any schema.now }
+{
+    has_station(schema)
+        || schema.table_named(b"acceptor_row").is_some()
+        || schema.table_named(b"acceptor_entry").is_some()
 }

@@ -5,9 +5,11 @@ use Rattle.row_files.specs.declared.causes.RowsCause.TheVariants as causes
 
 -- the line that an operator reads
 abbrev pub cause_text : RowsCause → List ℕ
-cause_text causes.Missing = codes "no such file: it is made by --create, at a station's first start alone"
+cause_text causes.Missing = codes "no such file: look for it and its log; only a station that never ran is made, by circuitd create"
+cause_text causes.LogAlone = codes "its log is here and the file is not: find the file, and put the two together"
+cause_text causes.BeingMade = codes "another process is making it"
 cause_text causes.InUse = codes "another process has it open"
-cause_text causes.Unmade = codes "nothing was made in it yet: start with --create"
+cause_text causes.Unmade = codes "no station is in it: find its log, and put the two together; if the station never ran, move it away"
 cause_text causes.Made = codes "it was made already: start without --create"
 cause_text causes.Unread = codes "its tables are not those of saved rows, or can't be read"
 cause_text causes.Damaged = codes "it is no database, or damaged, or without its log"

@@ -1,24 +1,31 @@
 //! Why a file of saved rows is refused, as an operator is told it.
 
-ghost use Rattle.std.specs.Prelude.{◌≡◌};
+ghost use Rattle.std.specs.Prelude.{◌≡◌, Some};
 ghost use Rattle.command_ends.specs.Ends.{end_of_rows, IsOfRows};
 ghost use Rattle.command_ends.specs.declared.end.End.TheVariants.{Done};
+ghost use Rattle.saved_rows.specs.declared.fault.RowsFault.TheVariants.{Store, OutOfMemory};
 ghost use Rattle.row_files.specs.Causes.{cause_text};
 
 use command_ends::{End, Fault};
 use saved_rows::RowsFault;
-use std::io::Write;
+use std::alloc::AllocError;
+use std::io;
+use std::io::{ErrorKind, Write};
 
 /// What is the matter with a file of saved rows that is refused.
 #[derive(Clone, Copy, PartialEq, Eq)]
 pub enum RowsCause {
     /// There is no such file.
     Missing,
+    /// There is no such file, and its log lies there.
+    LogAlone,
+    /// Another process is making it.
+    BeingMade,
     /// Another process has it open.
     InUse,
-    /// It is a database, and no tables were made in it.
+    /// It is a database without the tables of saved rows.
     Unmade,
-    /// The tables are there already.
+    /// The file is there already.
     Made,
     /// It has other tables than those of saved rows, or they can't be read.
     Unread,
@@ -39,10 +46,16 @@ impl RowsCause {
     {
         match self {
             RowsCause::Missing => {
-                "no such file: it is made by --create, at a station's first start alone"
+                "no such file: look for it and its log; only a station that never ran is made, by circuitd create"
             }
+            RowsCause::LogAlone => {
+                "its log is here and the file is not: find the file, and put the two together"
+            }
+            RowsCause::BeingMade => "another process is making it",
             RowsCause::InUse => "another process has it open",
-            RowsCause::Unmade => "nothing was made in it yet: start with --create",
+            RowsCause::Unmade => {
+                "no station is in it: find its log, and put the two together; if the station never ran, move it away"
+            }
             RowsCause::Made => "it was made already: start without --create",
             RowsCause::Unread => "its tables are not those of saved rows, or can't be read",
             RowsCause::Damaged => "it is no database, or damaged, or without its log",
@@ -68,6 +81,16 @@ impl RefusedRows {
         RefusedRows { fault, cause: None }
     }
 
+    /// A store that refused, for this cause.
+    pub fn for_cause(cause: RowsCause) -> RefusedRows
+        ensures { result ≡ record { fault = Store; cause = Some cause } }
+    {
+        RefusedRows {
+            fault: RowsFault::Store,
+            cause: Some(cause),
+        }
+    }
+
     /// Writes the text of the fault, and on a line below it the cause, if there is one; and gives the end. That the
     /// writer fails is ignored.
     pub fn tell<E: Write>(&self, err: &mut E) -> End
@@ -80,5 +103,24 @@ impl RefusedRows {
             let _ = writeln!(err, "{}", cause.text());
         }
         end
+    }
+}
+
+impl From<AllocError> for RefusedRows {
+    ghost from_gives = { λ _ refused. refused.fault ≡ OutOfMemory };
+
+    fn from(_error: AllocError) -> RefusedRows {
+        RefusedRows::by(RowsFault::OutOfMemory)
+    }
+}
+
+/// What the host answers of a file that it does not open, look at, name or remove.
+impl From<io::Error> for RefusedRows {
+    fn from(error: io::Error) -> RefusedRows {
+        match error.kind() {
+            ErrorKind::OutOfMemory => RefusedRows::by(RowsFault::OutOfMemory),
+            ErrorKind::StorageFull => RefusedRows::for_cause(RowsCause::DiskFull),
+            _ => RefusedRows::for_cause(RowsCause::Unopened),
+        }
     }
 }

@@ -19,19 +19,40 @@ pub trait RowFiles {
     /// The rows in one of them.
     type Rows: Rows;
 
-    // The rows in the file at a path were made for this station, in this version.
+    // A file was made whole for this station, in this version, and given the name at this path.
+    ghost leaves: { Self → List ℕ → IdentityValue → VersionValue → Type 0 };
+
+    // So was one at a path, and these rows were taken up from it.
     ghost makes: { Self → List ℕ → IdentityValue → VersionValue → Self.Rows → Type 0 };
 
     // The rows in the file at a path were taken up as those of this station, or whosever they are where none was given.
     ghost takes_up: { Self → List ℕ → Option IdentityValue → Self.Rows → Type 0 };
 
+    // The rows in the file at a path were taken up, whosever they are, and all of them upgraded, and the file was closed.
+    ghost upgrades: { Self → List ℕ → Type 0 };
+
     // The file of these rows was closed, and has them all without its log.
     ghost closes: { Self → Self.Rows → Type 0 };
 
-    /// Makes the tables of this station, for rows of this version, in the file at a path, which is made where it is not there.
+    /// Makes the row file of this station at a path, in the layout for rows of this version. It has its name once it is whole:
+    /// cut off at any moment, the making leaves nothing at the path, or all of the file.
     ///
-    /// `Store`, with its cause, where the tables are there already or the file is refused, as one that another has open;
-    /// `OutOfMemory`. A file that holds the tables stays as it is.
+    /// `Store`, with its cause, where something stands at the path, a log that is not empty lies beside it, another process is
+    /// making it, or the host refuses; `OutOfMemory`. What stood there stays as it was.
+    fn make(
+        &self,
+        rt: &HostRuntime,
+        path: &str,
+        identity: Identity,
+        version: Version,
+    ) -> Result<(), RefusedRows>
+        requires { IsIdentity identity }
+        ensures { OnOk result (leaves self.now path.now identity version) };
+
+    /// Makes the row file of this station at a path, and takes up the rows in it.
+    ///
+    /// It is refused as [`RowFiles::make`] and [`RowFiles::open`] are; and with `WrongSchema`, where the file at the path is in
+    /// another layout by then.
     fn create(
         &self,
         rt: &HostRuntime,
@@ -40,19 +61,21 @@ pub trait RowFiles {
         version: Version,
     ) -> Result<Self::Rows, RefusedRows>
         requires { IsIdentity identity }
-        ensures { IfOk result (makes self.now path.now identity version) };
+        ensures made { IfOk result (makes self.now path.now identity version) }
+        ensures open { IfOk result (λ rows. Self.Rows.kept rows → Self.Rows.is_open rows) };
 
     /// Takes up the rows in the file at a path: those of this station, or whosever they are where none is given.
     ///
-    /// A file that is not there, or in which nothing was made, is refused with `Store`, its cause beside it, and not made;
-    /// else the fault is that of the rows.
+    /// A file that is not there, what is no database, and one that lists no table and has no log, is refused with `Store`, its
+    /// cause beside it, before anything is written; else the fault is that of the rows.
     fn open(
         &self,
         rt: &HostRuntime,
         path: &str,
         identity: Option<Identity>,
     ) -> Result<Self::Rows, RefusedRows>
-        ensures { IfOk result (takes_up self.now path.now identity) };
+        ensures taken { IfOk result (takes_up self.now path.now identity) }
+        ensures open { IfOk result (λ rows. Self.Rows.kept rows → Self.Rows.is_open rows) };
 
     /// Closes the file of these rows, as a good end does: what its log holds is copied into it, so that a copy of the file
     /// alone has them all.
@@ -82,5 +105,6 @@ pub trait RowFiles {
         err: &mut E,
     ) -> End
         ensures ends { IsOfRows result }
+        ensures upgraded { result ≡ Done → upgrades self.now path.now }
         ensures done { result ≡ Done → Appends (W.contents out.old) (W.contents out.new) (codes "layout 2\n") };
 }

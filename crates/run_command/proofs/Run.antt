@@ -6,7 +6,7 @@ use Rattle.protocol.specs.Refusals.{Call}
 use Rattle.station.specs.declared.answer.Answer.{Answer}
 use Rattle.refusals.specs.declared.refusal.StepRefusal.{StepRefusal}
 use Rattle.station.specs.declared.station.Station.{Station}
-use Rattle.station.specs.Steps.{tears, stopped_after}
+use Rattle.station.specs.Steps.{IsStep, tears, stopped_after}
 use Rattle.wire.specs.Passing.{Passed, told, Passes}
 use Rattle.command_ends.specs.Ends.{end_of, end_of_step}
 use Rattle.command_ends.specs.declared.end.End.{End}
@@ -14,7 +14,7 @@ use Rattle.command_ends.specs.declared.end.End.TheVariants as ends
 use Rattle.command_ends.specs.declared.fault.Fault.{Fault}
 use Rattle.command_ends.specs.declared.fault.Fault.TheVariants as faults
 use Rattle.folders.specs.Written.{File}
-use Rattle.exchange.specs.Events.{asked, took, coming, sending, going, passing, IsStep, HasCause, ended}
+use Rattle.exchange.specs.Events.{asked, took, coming, sending, going, passing, HasCause, ended}
 use Rattle.exchange.specs.Driving.{Rests}
 use Rattle.exchange.proofs.Stretches.{ends_badly, Passes-nil, Passes-then, takes_then, cause_then, refused_cause}
 use Rattle.plant_files.specs.Asking.{call_of}
@@ -172,6 +172,18 @@ module _ {R N F : Type 0} (k : Known R N F) where
     cause = cause_then (asked now ∷ []) b.log s.stopped s.stopped new.station.stopped end refl b.cause;
   }
 
+  -- before it nothing passed over the wire
+  pub found : (s : Station R) (w v : N) (f : F) (q : List File) (new : Plant R N F) (end : End)
+      → Passes (k.passed w) (k.passed v) [] → Runs k (plant s v f q) new end → Runs k (plant s w f q) new end
+  found s w v f q new end p b = record {
+    log = b.log;
+    steps = b.steps;
+    passes = Passes-then (k.passed w) (k.passed v) (k.passed new.wire) [] (flat_map passing b.log) p b.passes;
+    front = b.front;
+    whole = b.whole;
+    cause = b.cause;
+  }
+
   pub and_then : (old mid new : Plant R N F) (end : End) → (k.rows.kept new.station.rows → k.rows.kept mid.station.rows)
       → Runs k old mid ends.Done → Runs k mid new end → Runs k old new end
   and_then old mid new end back a b =
@@ -190,20 +202,6 @@ module _ {R N F : Type 0} (k : Known R N F) where
             (keeps_then (k.written old.folders) (k.written mid.folders) (k.written new.folders) old.waits mid.waits new.waits (flat_map filing a.log) (flat_map filing b.log) (a.whole refl) (b.whole done));
         cause = cause_then a.log b.log old.station.stopped mid.station.stopped new.station.stopped end a.cause b.cause;
       }
-
-  -- a moment in which nothing passed over the wire
-  pub quiet_behind : (old : Plant R N F) (s : Station R) (w v : N) (f : F) (q : List File) (end : End) → Passes (k.passed w) (k.passed v) []
-      → Runs k old (plant s w f q) end → Runs k old (plant s v f q) end
-  quiet_behind old s w v f q end p a = record {
-    log = a.log;
-    steps = a.steps;
-    passes =
-        subst (λ (l : List Passed). Passes (k.passed old.wire) (k.passed v) l) (append-nil (flat_map passing a.log))
-        (Passes-then (k.passed old.wire) (k.passed w) (k.passed v) (flat_map passing a.log) [] a.passes p);
-    front = a.front;
-    whole = a.whole;
-    cause = a.cause;
-  }
 
   -- the same end, as it is answered
   pub answered : (old new : Plant R N F) (end same : End) → same ≡ end → Runs k old new end → Runs k old new same

@@ -1,3 +1,4 @@
 pub mod Filing
+pub mod Pacing
 pub mod Running
 pub mod Words

@@ -4,6 +4,7 @@
 mod departures;
 mod look;
 mod offer_book;
+mod pacing;
 mod steps;
 mod telling;
 mod turns;

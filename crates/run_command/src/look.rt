@@ -1,25 +1,21 @@
-//! A look at the folders: what lies among the offers, what is taken up, and what the station is asked.
+//! A look at the folders: what lies among the offers; and what is taken up of it, one file after the other.
 
 ghost use Rattle.std.specs.Prelude.{◌≡◌, []};
 ghost use Rattle.folders.specs.Keeping.{Keeps};
-ghost use Rattle.run_command.specs.Running.{RunsUpTo};
 
 use crate::departures::refuse;
 use crate::offer_book::OfferBook;
-use crate::steps::ask_at;
 use crate::telling::{Reason, tell_folder};
 use ballots::Number;
-use command_ends::Fault;
 use folders::{
     Asked, FolderFault, Folders, Kind, NamedFile, Request, STOP, Stamp, Watched, Wish, has_stop,
-    is_left, named,
+    is_left, is_whole, named,
 };
 use saved_rows::Rows;
 use station::Station;
 use std::alloc::Global;
 use std::io::Write;
 use tape_frames::{Entry, MAX_FRAMES, Tape, TapeFault};
-use wire::Wire;
 
 /// The tape in a file of this stamp, or why it is none.
 fn read_tape<F: Folders>(
@@ -139,37 +135,46 @@ fn take_up<F: Folders, E: Write>(
     }
 }
 
-/// Looks at a file that was not taken up yet.
-fn watch<F: Folders, E: Write>(
+/// Reads the file at a place of those that are watched, and takes it up or refuses it. One that was changed meanwhile is watched anew;
+/// one that is gone is forgotten.
+pub(crate) fn read_at<F: Folders, E: Write>(
     folders: &mut F,
     book: &mut OfferBook,
-    name: &str,
+    place: usize,
     now: u64,
     err: &mut E,
 )
     ensures { F.written folders.new ≡ F.written folders.old }
 {
-    let Ok(stamp) = folders.stamp(book.alloc, name) else {
+    let Some(file) = book.take_watched(place) else {
         return;
     };
-    if let Some(file) = book.whole(name, stamp, now) {
+    let Ok(stamp) = folders.stamp(book.alloc, file.name.as_str()) else {
+        return;
+    };
+    if is_whole(file.stamp, file.since, stamp, now) {
         take_up(folders, book, file, now, err);
+    } else {
+        book.watch_anew(file, stamp, now);
+    }
+}
+
+/// Looks at a file that was not taken up yet.
+fn watch<F: Folders>(folders: &mut F, book: &mut OfferBook, name: &str, now: u64)
+    ensures { F.written folders.new ≡ F.written folders.old }
+{
+    if let Ok(stamp) = folders.stamp(book.alloc, name) {
+        book.see(name, stamp, now);
     }
 }
 
 /// Looks at each file that was not taken up yet.
-fn watch_all<F: Folders, E: Write>(
-    folders: &mut F,
-    book: &mut OfferBook,
-    names: &[String],
-    now: u64,
-    err: &mut E,
-)
+fn watch_all<F: Folders>(folders: &mut F, book: &mut OfferBook, names: &[String], now: u64)
     ensures { F.written folders.new ≡ F.written folders.old }
 {
     for name in names {
         if !is_left(name.as_str()) && !book.has_asked(name.as_str()) {
-            watch(folders, book, name.as_str(), now, err);
+            watch(folders, book, name.as_str(), now);
         }
     }
 }
@@ -184,10 +189,11 @@ fn see_offers<F: Folders, E: Write>(
     ensures { F.written folders.new ≡ F.written folders.old }
 {
     match folders.names(book.alloc) {
-        Ok(listing) => {
+        Ok(mut listing) => {
+            listing.names.sort_unstable();
             book.note_reading(true, listing.skipped, err);
             book.forget(listing.names.as_slice());
-            watch_all(folders, book, listing.names.as_slice(), now, err);
+            watch_all(folders, book, listing.names.as_slice(), now);
             // A folder of that name is left alone, as other folders are.
             has_stop(listing.names.as_slice()) && folders.stamp(book.alloc, STOP).is_ok()
         }
@@ -198,53 +204,19 @@ fn see_offers<F: Folders, E: Write>(
     }
 }
 
-/// Asks the station for each file for which it is time to.
-fn ask_all<R: Rows, N: Wire, F: Folders, E: Write>(
-    station: &mut Station<R>,
-    wire: &mut N,
+/// A look at the folders: writes the files that wait, and looks at the offers. Where the file that ends the run lies there, the run is
+/// over.
+pub(crate) fn look<R: Rows, F: Folders, E: Write>(
+    station: &Station<R>,
     folders: &mut F,
     waits: &mut Vec<NamedFile>,
     book: &mut OfferBook,
     now: u64,
     err: &mut E,
-) -> Result<(), Fault<'static>>
-    ensures was_kept { R.kept station.new.rows → R.kept station.old.rows }
-    ensures runs { RunsUpTo result R.Rows N.passed F.written station.old station.new wire.old wire.new folders.old folders.new waits.old.items waits.new.items }
-{
-    for place in 0..book.asked.len() {
-        ask_at(station, wire, folders, waits, book, place, now, err)?;
-    }
-    Ok(())
-}
-
-/// Writes the files that wait, and looks at the offers; whether the file that ends the run lies there.
-fn write_and_look<F: Folders, E: Write>(
-    folders: &mut F,
-    waits: &mut Vec<NamedFile>,
-    book: &mut OfferBook,
-    now: u64,
-    err: &mut E,
-) -> bool
+)
     ensures { Keeps (F.written folders.old) (F.written folders.new) waits.old.items waits.new.items [] }
 {
+    book.pacing.sweep(station);
     book.write(folders, waits, err);
-    see_offers(folders, book, now, err)
-}
-
-/// A look at the folders; whether the run ends well.
-pub(crate) fn look<R: Rows, N: Wire, F: Folders, E: Write>(
-    station: &mut Station<R>,
-    wire: &mut N,
-    folders: &mut F,
-    waits: &mut Vec<NamedFile>,
-    book: &mut OfferBook,
-    now: u64,
-    err: &mut E,
-) -> Result<bool, Fault<'static>>
-    ensures was_kept { R.kept station.new.rows → R.kept station.old.rows }
-    ensures runs { RunsUpTo result R.Rows N.passed F.written station.old station.new wire.old wire.new folders.old folders.new waits.old.items waits.new.items }
-{
-    let is_over = write_and_look(folders, waits, book, now, err);
-    ask_all(station, wire, folders, waits, book, now, err)?;
-    Ok(is_over)
+    book.is_over = see_offers(folders, book, now, err);
 }

@@ -1,16 +1,19 @@
 //! What a run keeps in mind beside its station: the files among the offers, and what was told.
 
-ghost use Rattle.std.specs.Prelude.{◌≡◌, []};
+ghost use Rattle.std.specs.Prelude.{◌≡◌, ◌≤◌, [], length};
 ghost use Rattle.folders.specs.Keeping.{Keeps};
 
 use crate::departures::{refuse, settle};
+use crate::pacing::Pacing;
 use crate::telling::{Event, Reason, tell, tell_folder, tell_wrong_circuit};
 use ballots::Number;
+use exchange::Said;
 use folders::{
-    Asked, Folders, LAST_PAUSE, LOOK, NamedFile, Stamp, TELL, Watched, has_passed, index_of,
-    is_whole, write_waiting,
+    Asked, Folders, LAST_PAUSE, NamedFile, Stamp, TELL, Watched, Wish, has_passed, index_of,
+    write_waiting,
 };
 use node_core::Note;
+use pace::{Deeds, Work};
 use saved_rows::Rows;
 use station::{Answer, Release, Station, StepRefusal};
 use std::alloc::{AllocError, Global};
@@ -33,8 +36,15 @@ pub(crate) struct OfferBook {
     pub(crate) watched: Vec<Watched>,
     pub(crate) asked: Vec<Asked>,
     released: Vec<Known>,
-    /// When the folders were looked at last.
-    looked: Option<u64>,
+    /// The pace of the run.
+    pub(crate) pacing: Pacing,
+    /// Whether the file that ends the run was seen.
+    pub(crate) is_over: bool,
+    /// The places before which no file is to be asked for, or read, as far as it was seen since the last look.
+    next_asked: usize,
+    next_watched: usize,
+    /// The place at which the next name of a look is watched, if all names are watched in the order of the look.
+    next_seen: usize,
     /// Whether it was told that the folder of offers, or that of releases, does not serve, since it did.
     is_unread: bool,
     is_unwritten: bool,
@@ -42,6 +52,17 @@ pub(crate) struct OfferBook {
     skipped: usize,
     /// When it was told last that a station speaks for another circuit.
     strayed: Option<u64>,
+}
+
+/// What is to be done with a file.
+#[derive(Clone, Copy)]
+pub(crate) enum Deed {
+    /// Nothing.
+    Nothing,
+    /// The station is asked for the one at this place.
+    Ask(usize),
+    /// The one at this place of those that are watched is read, and taken up or refused.
+    Read(usize),
 }
 
 /// Tells what became of a file's ballot: a new one was begun, or there is none any more.
@@ -162,9 +183,48 @@ fn settle_all<F: Folders, E: Write>(
     }
 }
 
-/// Whether a name is among these.
+/// Whether a name is among these, which are in order.
 fn has_name(names: &[String], name: &str) -> bool {
-    names.iter().any(|each| each.as_str() == name)
+    names
+        .binary_search_by(|each| each.as_str().cmp(name))
+        .is_ok()
+}
+
+/// The first place from one on of a file for which the station is to be asked, or how many there are.
+fn next_due(asked: &[Asked], from: usize, now: u64) -> usize
+    ensures { result ≤ length asked.now }
+{
+    for place in from..asked.len() {
+        if asked[place].is_due(now) {
+            return place;
+        }
+    }
+    asked.len()
+}
+
+/// The first place from one on of a file that was watched for long enough to be read, or how many there are.
+fn next_ripe(watched: &[Watched], from: usize, now: u64) -> usize
+    ensures { result ≤ length watched.now }
+{
+    for place in from..watched.len() {
+        if watched[place].is_ripe(now) {
+            return place;
+        }
+    }
+    watched.len()
+}
+
+/// How many bytes the entry of a wish has: as many as its tape has frames.
+fn length_of(wish: &Wish) -> usize {
+    match wish {
+        Wish::Offered(Entry::Tape(tape)) => tape.frames().len(),
+        Wish::Offered(Entry::Void) | Wish::Sought => 0,
+    }
+}
+
+/// Whether a step with this note closed a ballot.
+fn is_of_close(note: &Note) -> bool {
+    matches!(note, Note::GaveUp { .. } | Note::Nothing { .. })
 }
 
 /// Whether a step with this note may have begun or closed a ballot.
@@ -184,7 +244,11 @@ impl OfferBook {
             watched: Vec::new(alloc),
             asked: Vec::new(alloc),
             released: Vec::new(alloc),
-            looked: None,
+            pacing: Pacing::new(),
+            is_over: false,
+            next_asked: 0,
+            next_watched: 0,
+            next_seen: 0,
             is_unread: false,
             is_unwritten: false,
             skipped: 0,
@@ -192,16 +256,37 @@ impl OfferBook {
         }
     }
 
-    /// Whether it is time to look at the folders; then this is the moment of the look.
-    pub(crate) fn looks(&mut self, now: u64) -> bool {
-        let is_time = match self.looked {
-            Some(looked) => has_passed(looked, LOOK, now),
-            None => true,
-        };
-        if is_time {
-            self.looked = Some(now);
+    /// What is to be done with a file at this moment. One that was read is asked for before the next is read, so that few are kept in
+    /// memory.
+    pub(crate) fn deed(&mut self, now: u64) -> Deed {
+        self.next_asked = next_due(self.asked.as_slice(), self.next_asked, now);
+        if self.next_asked < self.asked.len() {
+            return Deed::Ask(self.next_asked);
         }
-        is_time
+        self.next_watched = next_ripe(self.watched.as_slice(), self.next_watched, now);
+        if self.next_watched < self.watched.len() {
+            Deed::Read(self.next_watched)
+        } else {
+            Deed::Nothing
+        }
+    }
+
+    /// The work that comes next at this moment, where a datagram waits in memory or none does.
+    pub(crate) fn next_work(&mut self, waits: bool, now: u64) -> Work {
+        let deeds = match self.deed(now) {
+            Deed::Nothing => Deeds::Nothing,
+            Deed::Ask(_) => Deeds::Asks,
+            Deed::Read(_) => Deeds::Others,
+        };
+        self.pacing.next(waits, deeds, now)
+    }
+
+    /// A datagram was taken in, or passed over; this is what its head says, if the station took it.
+    pub(crate) fn hear(&mut self, said: Option<Said>, now: u64) {
+        self.pacing.took_in();
+        if let Some(said) = said {
+            self.pacing.hear(said, now);
+        }
     }
 
     /// The folder of offers can be read, or can't, and it has so many names that are passed over: a change of either is told.
@@ -216,8 +301,12 @@ impl OfferBook {
         self.skipped = skipped;
     }
 
-    /// Forgets the files that no longer lie among the offers, or were settled.
+    /// Forgets the files that do not lie among the offers, whose names are these in order, or were settled. What there is to do with
+    /// the others is sought anew.
     pub(crate) fn forget(&mut self, names: &[String]) {
+        self.next_asked = 0;
+        self.next_watched = 0;
+        self.next_seen = 0;
         self.watched
             .retain(|file| has_name(names, file.name.as_str()));
         self.asked.retain(|asked| !asked.is_settled && has_name(names, asked.name.as_str()));
@@ -239,31 +328,59 @@ impl OfferBook {
         let _ = self.watched.push(Watched { since, ..file });
     }
 
-    /// The file of this name that is found with this stamp, if it is whole; then it is no longer watched.
-    pub(crate) fn whole(&mut self, name: &str, stamp: Stamp, now: u64) -> Option<Watched> {
-        let Some(place) = index_of(self.watched.as_slice(), name) else {
-            self.watch(name, stamp, now);
-            return None;
-        };
-        let file = self.watched.get_mut(place)?;
-        if is_whole(file.stamp, file.since, stamp, now) {
-            return Some(self.watched.swap_remove(place));
+    /// The place of a name among those that are watched.
+    fn place_of(&self, name: &str) -> Option<usize> {
+        match self.watched.get(self.next_seen) {
+            Some(file) if file.name.as_str() == name => Some(self.next_seen),
+            _ => index_of(self.watched.as_slice(), name),
         }
-        if file.stamp != stamp {
-            file.stamp = stamp;
-            file.since = now;
-        }
-        None
     }
 
-    /// Watches a file from now on. Where there is no memory for it, it is found again at the next look.
+    /// A file of this name is found with this stamp, and was not taken up yet: it is watched until it stays as it is.
+    pub(crate) fn see(&mut self, name: &str, stamp: Stamp, now: u64) {
+        let Some(place) = self.place_of(name) else {
+            self.watch(name, stamp, now);
+            return;
+        };
+        self.next_seen = place.saturating_add(1);
+        if let Some(file) = self.watched.get_mut(place) {
+            if file.stamp != stamp {
+                file.stamp = stamp;
+                file.since = now;
+            }
+        }
+    }
+
+    /// The file at a place of those that are watched; it is watched no longer.
+    pub(crate) fn take_watched(&mut self, place: usize) -> Option<Watched> {
+        if place < self.watched.len() {
+            Some(self.watched.remove(place))
+        } else {
+            None
+        }
+    }
+
+    /// Watches a file again that was changed, with the stamp that it has now.
+    pub(crate) fn watch_anew(&mut self, file: Watched, stamp: Stamp, now: u64) {
+        let _ = self.watched.push(Watched {
+            stamp,
+            since: now,
+            ..file
+        });
+    }
+
+    /// Watches a file from now on, at its place in the order of the look. Where there is no memory for it, it is found again at the next
+    /// look.
     fn watch(&mut self, name: &str, stamp: Stamp, now: u64) {
         if let Ok(name) = String::from_str(self.alloc, name) {
-            let _ = self.watched.push(Watched {
+            let place = self.next_seen.min(self.watched.len());
+            let file = Watched {
                 name,
                 stamp,
                 since: now,
-            });
+            };
+            let _ = self.watched.insert(place, file);
+            self.next_seen = place.saturating_add(1);
         }
     }
 
@@ -344,7 +461,11 @@ impl OfferBook {
         ensures { F.written folders.new ≡ F.written folders.old }
     {
         self.follow(station, &answer.note, now, err);
+        if is_of_close(&answer.note) {
+            self.pacing.sweep(station);
+        }
         if let Some(release) = &answer.release {
+            self.pacing.leave(release.number);
             self.take_release(folders, release, now, err);
         }
     }
@@ -391,11 +512,17 @@ impl OfferBook {
         }
     }
 
-    /// The station took up the file at a place.
-    pub(crate) fn set_out(&mut self, place: usize) {
-        if let Some(asked) = self.asked.get_mut(place) {
-            asked.set_out();
+    /// The station took up the file at a place: where it began a ballot for it, the file is under way.
+    pub(crate) fn set_out<R: Rows>(&mut self, station: &Station<R>, place: usize, now: u64) {
+        let Some(asked) = self.asked.get_mut(place) else {
+            return;
+        };
+        if let Some(ballot) = station.open_ballot(asked.number) {
+            let length = length_of(&asked.wish);
+            self.pacing
+                .set_out(asked.number, ballot.owner(), length, now);
         }
+        asked.set_out();
     }
 
     /// The station is asked again for the file at a place.

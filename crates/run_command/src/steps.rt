@@ -1,6 +1,6 @@
 //! The steps of a run: what its station takes in, sees to and is asked, and what comes of each.
 
-ghost use Rattle.std.specs.Prelude.{◌≡◌, OnOk, OnErr, IfErr};
+ghost use Rattle.std.specs.Prelude.{◌≡◌, [], OnOk, OnErr, IfErr};
 ghost use Rattle.command_ends.specs.declared.fault.Fault.TheVariants.{OutOfMemory};
 ghost use Rattle.wire.specs.Passing.{Passes};
 ghost use Rattle.exchange.specs.Events.{sending};
@@ -8,11 +8,13 @@ ghost use Rattle.plant_files.specs.Filing.{files_of};
 ghost use Rattle.folders.specs.Keeping.{Keeps};
 ghost use Rattle.run_command.specs.Running.{RunsUpTo};
 
-use crate::offer_book::OfferBook;
+use crate::look::{look, read_at};
+use crate::offer_book::{Deed, OfferBook};
 use crate::telling::Reason;
 use command_ends::Fault;
-use exchange::{Outcome, pass_over, send_answer, take_datagram, tell_strangers};
+use exchange::{Outcome, pass_over, send_answer, take_datagram, tell_lost, tell_strangers};
 use folders::{Folders, NamedFile};
+use pace::Work;
 use plant_files::{ask, is_of_offer, keep_any};
 use saved_rows::Rows;
 use station::{Answer, Station, StepRefusal};
@@ -61,8 +63,12 @@ fn take_in<R: Rows, N: Wire, F: Folders, E: Write>(
     match take_datagram(station, wire, now, buffer) {
         Outcome::Nothing => Ok(()),
         Outcome::Failed => Err(Fault::Socket("receive failed")),
-        Outcome::Done(answer) => hand_on(station, &answer, wire, folders, waits, book, now, err),
+        Outcome::Done { answer, said } => {
+            book.hear(said, now);
+            hand_on(station, &answer, wire, folders, waits, book, now, err)
+        }
         Outcome::Refused(refusal) => {
+            book.hear(None, now);
             book.hear_refusal(refusal, now, err);
             pass_over(refusal)
         }
@@ -83,28 +89,12 @@ fn see_to_due<R: Rows, N: Wire, F: Folders, E: Write>(
     ensures runs { RunsUpTo result R.Rows N.passed F.written station.old station.new wire.old wire.new folders.old folders.new waits.old.items waits.new.items }
 {
     match station.due(now) {
-        Ok(answer) => hand_on(station, &answer, wire, folders, waits, book, now, err),
+        Ok(answer) => {
+            book.pacing.saw(&answer.note);
+            hand_on(station, &answer, wire, folders, waits, book, now, err)
+        }
         Err(refusal) => pass_over(refusal),
     }
-}
-
-/// One turn, as `serve` takes it: one datagram at most, what is told of strangers, and then what is due.
-pub(crate) fn turn<R: Rows, N: Wire, F: Folders, E: Write>(
-    station: &mut Station<R>,
-    wire: &mut N,
-    folders: &mut F,
-    waits: &mut Vec<NamedFile>,
-    book: &mut OfferBook,
-    now: u64,
-    buffer: &mut [u8],
-    err: &mut E,
-) -> Result<(), Fault<'static>>
-    ensures was_kept { R.kept station.new.rows → R.kept station.old.rows }
-    ensures runs { RunsUpTo result R.Rows N.passed F.written station.old station.new wire.old wire.new folders.old folders.new waits.old.items waits.new.items }
-{
-    take_in(station, wire, folders, waits, book, now, buffer, err)?;
-    tell_strangers(wire, now, err);
-    see_to_due(station, wire, folders, waits, book, now, err)
 }
 
 /// What becomes of a file for which the station did not take the step: its number is settled already, or it waits, or it is no
@@ -129,7 +119,7 @@ fn take_refusal<F: Folders, E: Write>(
 }
 
 /// Asks the station what the file at a place asks for, if it is time to.
-pub(crate) fn ask_at<R: Rows, N: Wire, F: Folders, E: Write>(
+fn ask_at<R: Rows, N: Wire, F: Folders, E: Write>(
     station: &mut Station<R>,
     wire: &mut N,
     folders: &mut F,
@@ -147,12 +137,73 @@ pub(crate) fn ask_at<R: Rows, N: Wire, F: Folders, E: Write>(
     };
     match ask(station, &asked.wish, asked.number.get(), now) {
         Ok(answer) => {
-            book.set_out(place);
+            book.set_out(station, place, now);
             hand_on(station, &answer, wire, folders, waits, book, now, err)
         }
         Err(refusal) => {
             take_refusal(folders, book, place, refusal, now, err);
             pass_over(refusal)
         }
+    }
+}
+
+/// Does what there is to do with one file, if there is anything: it is asked for, or read.
+fn do_deed<R: Rows, N: Wire, F: Folders, E: Write>(
+    station: &mut Station<R>,
+    wire: &mut N,
+    folders: &mut F,
+    waits: &mut Vec<NamedFile>,
+    book: &mut OfferBook,
+    now: u64,
+    err: &mut E,
+) -> Result<(), Fault<'static>>
+    ensures was_kept { R.kept station.new.rows → R.kept station.old.rows }
+    ensures runs { RunsUpTo result R.Rows N.passed F.written station.old station.new wire.old wire.new folders.old folders.new waits.old.items waits.new.items }
+{
+    match book.deed(now) {
+        Deed::Ask(place) => ask_at(station, wire, folders, waits, book, place, now, err),
+        Deed::Read(place) => {
+            read_at(folders, book, place, now, err);
+            Ok(())
+        }
+        Deed::Nothing => Ok(()),
+    }
+}
+
+/// Takes in what waits at the wire, and tells of strangers and of what found no place; whether a datagram waits in memory.
+fn find<N: Wire, E: Write>(wire: &mut N, now: u64, err: &mut E) -> bool
+    ensures { Passes (N.passed wire.old) (N.passed wire.new) [] }
+{
+    let is_waiting = wire.fetch();
+    tell_strangers(wire, now, err);
+    tell_lost(wire, now, err);
+    is_waiting
+}
+
+/// One turn: the work that comes next.
+pub(crate) fn turn<R: Rows, N: Wire, F: Folders, E: Write>(
+    station: &mut Station<R>,
+    wire: &mut N,
+    folders: &mut F,
+    waits: &mut Vec<NamedFile>,
+    book: &mut OfferBook,
+    now: u64,
+    buffer: &mut [u8],
+    err: &mut E,
+) -> Result<(), Fault<'static>>
+    ensures was_kept { R.kept station.new.rows → R.kept station.old.rows }
+    ensures runs { RunsUpTo result R.Rows N.passed F.written station.old station.new wire.old wire.new folders.old folders.new waits.old.items waits.new.items }
+{
+    let is_waiting = find(wire, now, err);
+    match book.next_work(is_waiting, now) {
+        Work::Look => {
+            look(station, folders, waits, book, now, err);
+            Ok(())
+        }
+        Work::TakeIn | Work::Wait => {
+            take_in(station, wire, folders, waits, book, now, buffer, err)
+        }
+        Work::Due => see_to_due(station, wire, folders, waits, book, now, err),
+        Work::Deed { .. } => do_deed(station, wire, folders, waits, book, now, err),
     }
 }

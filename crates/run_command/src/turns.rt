@@ -4,7 +4,6 @@ ghost use Rattle.std.specs.Prelude.{◌≡◌, false};
 ghost use Rattle.command_ends.specs.declared.end.End.TheVariants.{Done};
 ghost use Rattle.run_command.specs.Running.{RunsUpTo, RunsAfresh};
 
-use crate::look::look;
 use crate::offer_book::OfferBook;
 use crate::steps::turn;
 use command_ends::{End, Fault};
@@ -16,29 +15,7 @@ use std::alloc::Global;
 use std::io::Write;
 use wire::Wire;
 
-/// One turn, and a look at the folders where it is time for one; whether the run ends well.
-fn turn_and_look<R: Rows, N: Wire, F: Folders, E: Write>(
-    station: &mut Station<R>,
-    wire: &mut N,
-    folders: &mut F,
-    waits: &mut Vec<NamedFile>,
-    book: &mut OfferBook,
-    now: u64,
-    buffer: &mut [u8],
-    err: &mut E,
-) -> Result<bool, Fault<'static>>
-    ensures was_kept { R.kept station.new.rows → R.kept station.old.rows }
-    ensures runs { RunsUpTo result R.Rows N.passed F.written station.old station.new wire.old wire.new folders.old folders.new waits.old.items waits.new.items }
-{
-    turn(station, wire, folders, waits, book, now, buffer, err)?;
-    if book.looks(now) {
-        look(station, wire, folders, waits, book, now, err)
-    } else {
-        Ok(false)
-    }
-}
-
-/// The same, at the moment of the clock.
+/// One turn, at the moment of the clock.
 fn timed_turn<R: Rows, N: Wire, F: Folders, E: Write>(
     station: &mut Station<R>,
     wire: &mut N,
@@ -47,12 +24,12 @@ fn timed_turn<R: Rows, N: Wire, F: Folders, E: Write>(
     book: &mut OfferBook,
     buffer: &mut [u8],
     err: &mut E,
-) -> Result<bool, Fault<'static>>
+) -> Result<(), Fault<'static>>
     ensures was_kept { R.kept station.new.rows → R.kept station.old.rows }
     ensures runs { RunsUpTo result R.Rows N.passed F.written station.old station.new wire.old wire.new folders.old folders.new waits.old.items waits.new.items }
 {
     let now = wire.now();
-    turn_and_look(station, wire, folders, waits, book, now, buffer, err)
+    turn(station, wire, folders, waits, book, now, buffer, err)
 }
 
 /// The turns of a station, one after the other, until the run ends.
@@ -64,16 +41,17 @@ fn take_turns<R: Rows, N: Wire, F: Folders, E: Write>(
     book: &mut OfferBook,
     buffer: &mut [u8],
     err: &mut E,
-) -> Result<bool, Fault<'static>>
+) -> Result<(), Fault<'static>>
     ensures was_kept { R.kept station.new.rows → R.kept station.old.rows }
     ensures runs { RunsUpTo result R.Rows N.passed F.written station.old station.new wire.old wire.new folders.old folders.new waits.old.items waits.new.items }
 {
     for _ in 0..u64::MAX {
-        if timed_turn(station, wire, folders, waits, book, buffer, err)? {
-            return Ok(true);
+        timed_turn(station, wire, folders, waits, book, buffer, err)?;
+        if book.is_over {
+            return Ok(());
         }
     }
-    Ok(false)
+    Ok(())
 }
 
 /// The same, once a file that ended the run before is taken away.
@@ -86,7 +64,7 @@ fn start<R: Rows, N: Wire, F: Folders, E: Write>(
     quiet: bool,
     buffer: &mut [u8],
     err: &mut E,
-) -> Result<bool, Fault<'static>>
+) -> Result<(), Fault<'static>>
     ensures was_kept { R.kept station.new.rows → R.kept station.old.rows }
     ensures runs { RunsUpTo result R.Rows N.passed F.written station.old station.new wire.old wire.new folders.old folders.new waits.old.items waits.new.items }
 {
@@ -131,7 +109,7 @@ pub fn run_station<R: Rows, N: Wire, F: Folders, E: Write>(
         &mut buffer,
         err,
     ) {
-        Ok(_) => End::Done,
+        Ok(()) => End::Done,
         Err(fault) => fault.tell(err),
     }
 }

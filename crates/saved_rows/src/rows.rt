@@ -64,7 +64,7 @@ pub trait Rows: Drop {
 
     /// The row of a number, blank where none is saved; the version has it. No row is changed.
     ///
-    /// A refusal is counted. `Damaged` comes only where another wrote to the store.
+    /// A refusal is counted. `Damaged` tells of a row that nobody saves so: another wrote to the store. No clause says that it never comes else.
     fn get(&mut self, number: Number) -> Result<Row, RowsFault>
         ensures row { kept self.new → IfOk result (λ row. row ≡ saved self.old number) }
         ensures open { kept self.new → OnOk result (is_open self.new) }

@@ -10,14 +10,14 @@ use Rattle.protocol.specs.Refusals.{Call}
 use Rattle.station.specs.declared.answer.Answer.{Answer}
 use Rattle.refusals.specs.declared.refusal.StepRefusal.{StepRefusal}
 use Rattle.station.specs.declared.station.Station.{Station}
-use Rattle.station.specs.Steps.{tears, stopped_after}
+use Rattle.station.specs.Steps.{IsStep, tears, stopped_after}
 use Rattle.wire.specs.Passing.{Passed, told, Passes}
 use Rattle.command_ends.specs.Ends.{end_of, end_of_step, IsOfWriting}
 use Rattle.command_ends.specs.declared.end.End.{End}
 use Rattle.command_ends.specs.declared.end.End.TheVariants as ends
 use Rattle.command_ends.specs.declared.fault.Fault.{Fault}
 use Rattle.exchange.specs.Driving.{Rests}
-use Rattle.exchange.specs.Events.{Event, asked, took, coming, sending, going, passing, IsStep, HasCause, ended}
+use Rattle.exchange.specs.Events.{Event, asked, took, coming, sending, going, passing, HasCause, ended}
 use Rattle.exchange.proofs.Stretches.{Passes-nil, Passes-then, takes_then, ends_badly, cause_then, refused_cause}
 use Rattle.serve_command.specs.Serving.{printing, written, writing, Post, post, Known, Serves, AtClock, Then}
 

@@ -30,7 +30,7 @@ fn take_in<R: Rows, N: Wire, W: Write, E: Write>(
     match take_datagram(station, wire, now, buffer) {
         Outcome::Nothing => Ok(()),
         Outcome::Failed => Err(Fault::Socket("receive failed")),
-        Outcome::Done(answer) => hand_on(alloc, &answer, wire, out, err),
+        Outcome::Done { answer, said: _ } => hand_on(alloc, &answer, wire, out, err),
         Outcome::Refused(refusal) => pass_over(refusal),
     }
 }

@@ -360,13 +360,6 @@ pub check_handed_on :
 check_handed_on o (Ok a) q h is = absurd h.1
 check_handed_on o (Err e) q h is = subst (λ (t : StepRefusal). IsRefusal o t) (sym h.1) is
 
--- the same of a step
-pub handed_on :
-    {R : Type 0} (x : Sight R) (call : refusals.Call) (s : Station R) (marks : List Mark) (r : Result Answer StepRefusal) (q : StepRefusal)
-    → IsErr r × IsErrAnd r (λ e. e ≡ q) → Steps x call s s marks (Err q) → Steps x call s s marks r
-handed_on x call s marks (Ok a) q h step = absurd h.1
-handed_on x call s marks (Err e) q h step = subst (λ (t : StepRefusal). Steps x call s s marks (Err t)) (sym h.1) step
-
 -- a version is not below itself
 not_lower : (v : Version) → is_lower v v ≡ false
 not_lower One = refl
@@ -404,10 +397,3 @@ stays_stopped x call s stopped =
       };
       steps = λ marks stands. (ap (λ (b : Bool). refusals.refusal (setup_of s) b marks call) stopped, refl);
     }
-
--- the step of a station that goes on, from what it found
-pub from_found :
-    {R : Type 0} (x : Sight R) (call : refusals.Call) (old mid new : Station R) (r : Result Answer StepRefusal) → old.stopped ≡ false → mid ≡ record old { speaker = mid.speaker }
-    → (old.stopped ≡ false → Follows x old mid) → (mid.stopped ≡ false → (marks : List Mark) → StandsFor mid.speaker.core marks → Steps x call mid new marks r) → TakesStep x call old new r
-from_found {R = R} x call old mid new r goes same follows steps =
-    record { found = mid; follows = follows goes; steps = steps (ap (λ (t : Station R). t.stopped) same ∙ goes) }

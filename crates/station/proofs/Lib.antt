@@ -2,4 +2,5 @@ pub mod Zips
 pub mod Remembering
 pub mod Taking
 pub mod Asking
+pub mod Calling
 pub mod Refused

@@ -1,9 +1,10 @@
 -- What a turn hands out, made ready before its row is saved; and what the save leaves.
-use Rattle.std.specs.Prelude.{◌≡◌, ◌⊎◌, ℕ, List, [], Option, Some, None, Result, Ok, Err, option_map}
+use Rattle.std.specs.Prelude.{◌≡◌, ◌≤◌, ◌⊎◌, ℕ, List, [], Option, Some, None, IfSome, Result, Ok, Err, option_map}
 use Rattle.std.specs.List.{AllZip}
 use Rattle.std.specs.declared.vec.Vec.{Vec}
 use Rattle.std.specs.Global.{Global}
 use Rattle.protocol.specs.Entries.{Entry, Void, Taped}
+use Rattle.protocol.specs.Limits.{last_number}
 use Rattle.protocol.specs.Rows.{Row}
 use Rattle.protocol.specs.Packets.{Packet}
 use Rattle.protocol.specs.Versions.{Version}
@@ -53,6 +54,14 @@ IsReleased table widths n None None = Unit {0}
 IsReleased table widths n None (Some r) = ⊥
 IsReleased table widths n (Some entry) None = ⊥
 IsReleased table widths n (Some entry) (Some r) = (r.number ≡ n) × (owned_entry r.entry ≡ entry) × SetsEntry (mean table) widths entry (slugs_of r.set)
+
+-- a story has this number
+abbrev pub IsNumber : ℕ → Type 0
+IsNumber n = (1 ≤ n) × (n ≤ last_number)
+
+-- what is released, if anything is, has a number that a story has
+abbrev pub IsNumbered : Option Release → Type 0
+IsNumbered o = IfSome o (λ r. IsNumber r.number)
 
 -- the rows after a save of the turn's row that was done; where it has none, the rows stay
 abbrev pub RowSaved : {R : Type 0} → Sight R → ℕ → Option Row → R → R → Type 0

@@ -1,13 +1,15 @@
 -- What a step of a station does, for marks that its core stands for.
-use Rattle.std.specs.Prelude.{◌≡◌, ◌⊎◌, ℕ, List, [], Bool, true, false, ◌||◌, Option, Some, None, Result, Ok, Err}
+use Rattle.std.specs.Prelude.{◌≡◌, ◌≤◌, ◌⊎◌, ℕ, List, [], length, Bool, true, false, ◌||◌, Option, Some, None, Result, Ok, Err, IfOk}
 use Rattle.std.specs.List.{AllZip}
 use Rattle.protocol.specs.Rows.{Row}
+use Rattle.protocol.specs.Limits.{most_sent}
 use Rattle.protocol.specs.Marks.{Mark}
 use Rattle.protocol.specs.Proposals.{was_released, open_proposal}
 use Rattle.protocol.specs.Turn.{Event, Offered, Sought, Came_due, Arrived, number_of, Note_idle, Turn, turn}
 use Rattle.protocol.specs.Refusals.{Call, refusal, early_refusal, event_of}
-use Rattle.saved_rows.specs.Saved.{SameRows, WithRow, IsEither}
+use Rattle.saved_rows.specs.Saved.{SameRows, WithRow, IsEither, Rises}
 use Rattle.saved_rows.specs.declared.fault.RowsFault.{RowsFault}
+use Rattle.saved_rows.specs.declared.rows.Rows.{Ghosts}
 use Rattle.node_core.specs.Standing.{StandsFor, seat_of}
 use Rattle.node_core.specs.Turns.{note_value, Stirs}
 use Rattle.station.specs.declared.answer.Answer.{Answer}
@@ -15,8 +17,8 @@ use Rattle.station.specs.declared.station.Station.{Station}
 use Rattle.refusals.specs.declared.refusal.StepRefusal.{StepRefusal}
 use Rattle.refusals.specs.declared.refusal.StepRefusal.TheVariants.{Stopped, BadDatagram, WrongCircuit, NotForMe, Stranger, BadNumber, AlreadyReleased, AlreadyOpen, WireTooOld, TapeFaulty, RoundsSpent, Store, OutOfMemory}
 use Rattle.station.specs.Refusing.{IsRefusal}
-use Rattle.station.specs.Stations.{Sight, setup_of, IsFixed, Follows}
-use Rattle.station.specs.Readiness.{Carries, IsReleased}
+use Rattle.station.specs.Stations.{Sight, sight, setup_of, IsFixed, wire_at, Follows}
+use Rattle.station.specs.Readiness.{Carries, IsReleased, IsNumbered}
 
 -- rows that were read, and no more
 pub record WasRead {R : Type 0} (x : Sight R) (old new : R) : Type 0 where
@@ -87,6 +89,7 @@ pub record Spent {R : Type 0} (x : Sight R) (e : Event) (old new : Station R) (m
   pub none : turn_of x old marks e ≡ None
   pub same : new ≡ record old { rows = new.rows }
   pub was_open : x.is_open old.rows
+  pub is_open : x.is_open new.rows
   pub read : WasRead x old.rows new.rows
 
 -- an offer or a search is of a number that is neither released nor open
@@ -184,3 +187,47 @@ tears OutOfMemory = true
 abbrev pub stopped_after : Bool → Result Answer StepRefusal → Bool
 stopped_after was (Ok a) = was
 stopped_after was (Err r) = tears r || was
+
+-- the refusals that are found before the row of the number is read
+abbrev pub is_early : StepRefusal → Bool
+is_early Stopped = true
+is_early (BadDatagram fault) = true
+is_early WrongCircuit = true
+is_early NotForMe = true
+is_early Stranger = true
+is_early BadNumber = true
+is_early AlreadyReleased = true
+is_early AlreadyOpen = true
+is_early WireTooOld = true
+is_early (TapeFaulty fault) = true
+is_early RoundsSpent = false
+is_early (Store fault) = false
+is_early OutOfMemory = false
+
+-- what holds where a call was refused before its row was read
+abbrev pub IfEarly : {A : Type 0} → Result A StepRefusal → Type 0 → Type 0
+IfEarly (Ok x) P = Unit {0}
+IfEarly (Err r) P = is_early r ≡ true → P
+
+-- a call of a station, answered so: what `Station::offer`, `withdraw`, `seek`, `due` and `receive` promise, each of its own call
+pub record IsStep {R : Type 0} (g : Ghosts R) (call : Call) (old new : Station R) (answer : Result Answer StepRefusal) : Type 0 where
+  -- over rows that are kept it is a step of the protocol's
+  pub steps : g.kept new.rows → TakesStep (sight g) call old new answer
+  -- where it is refused before its row is read it is one over whatever rows, so it changes nothing
+  pub early : IfEarly answer (TakesStep (sight g) call old new answer)
+  -- what held of the rows as the call ended held before, and rows that were made for the store stay so
+  pub was_kept : g.kept new.rows → g.kept old.rows
+  pub made : g.made old.rows → g.made new.rows
+  -- no more datagrams are handed out than there are places for
+  pub few : IfOk answer (λ a. length a.out.items ≤ most_sent)
+  -- what is released has a number that a story has
+  pub numbered : IfOk answer (λ a. IsNumbered a.release)
+  -- where the store refused, the count of its refusals rose, and the rows blame this fault
+  pub cause : OnStore answer (Rises (g.refusals old.rows) (g.refusals new.rows))
+  pub blames : IfStore answer (IsBlamed (sight g) old.rows new.rows)
+  -- the version of the rows stays, and the station speaks in it
+  pub version : g.version new.rows ≡ g.version old.rows
+  pub wire : new.speaker.wire ≡ wire_at (sight g) old
+  -- which answers stop the station, and what one that has stopped answers
+  pub stops : new.stopped ≡ stopped_after old.stopped answer
+  pub stopped : old.stopped ≡ true → (answer ≡ Err Stopped) × (new ≡ old)

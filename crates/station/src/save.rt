@@ -1,6 +1,6 @@
 //! What a turn hands out is made ready, and then its row is saved.
 
-ghost use Rattle.std.specs.Prelude.{◌≡◌, ◌≤◌, [], None, IfOk, IfErr, OnOk, OnErr, IfSome, true, length, option_map};
+ghost use Rattle.std.specs.Prelude.{◌≡◌, ◌≤◌, [], None, IfOk, IfErr, OnOk, OnErr, IfSome, true, false, length, option_map};
 ghost use Rattle.std.specs.List.{AllZip};
 ghost use Rattle.protocol.specs.Fitting.{BodyFits};
 ghost use Rattle.tape_frames.specs.Entries.{owned_entry, version_of};
@@ -8,8 +8,8 @@ ghost use Rattle.saved_rows.specs.Saved.{HasPromise, RowFits, Rises};
 ghost use Rattle.node_core.specs.Turns.{sent};
 ghost use Rattle.station.specs.Speaking.{AllFit, TurnSpeaks};
 ghost use Rattle.station.specs.Stations.{sight};
-ghost use Rattle.station.specs.Readiness.{Carries, IsReleased, RowSaved, RowBalked, Saves, WasChecked};
-ghost use Rattle.station.specs.Steps.{OnStore, IfStore, tears};
+ghost use Rattle.station.specs.Readiness.{Carries, IsReleased, IsNumbered, RowSaved, RowBalked, Saves, WasChecked};
+ghost use Rattle.station.specs.Steps.{OnStore, IfStore, tears, is_early};
 
 use crate::answer::{Answer, Release};
 use crate::datagram::Datagram;
@@ -69,12 +69,15 @@ fn release(
 ) -> Result<Option<Release>, AllocError>
     requires { WasChecked table.now widths.now checked }
     ensures released { IfOk result (IsReleased table.now widths.now number (option_map owned_entry entry)) }
+    ensures numbered { IfOk result IsNumbered }
     ensures memory { OnErr result (entry ≡ None → ⊥) }
 {
     let Some(entry) = entry else {
         return Ok(None);
     };
     let set = set_entry(alloc, table, widths, &entry, checked)?;
+    // A number is in its range.
+    let _range = number.get();
     Ok(Some(Release { number, entry, set }))
 }
 
@@ -117,10 +120,12 @@ pub(crate) fn save<R: Rows>(
     ensures was_kept { R.kept rows.new → R.kept rows.old }
     ensures made { R.made rows.old → R.made rows.new }
     ensures many { IfOk result (λ a. length a.out.items ≡ length (sent before.now turn)) }
+    ensures numbered { IfOk result (λ a. IsNumbered a.release) }
     ensures cause { OnStore result (Rises (R.refusals rows.old) (R.refusals rows.new)) }
     ensures blames { IfStore result (R.blames rows.old rows.new) }
     ensures counts { R.refusals rows.old ≤ R.refusals rows.new }
     ensures tears { IfErr result (λ r. tears r ≡ true) }
+    ensures late { IfErr result (λ r. is_early r ≡ false) }
 {
     let Ok(out) = spell_all(alloc, &turn.out(before), rows.version()) else {
         return Err(StepRefusal::OutOfMemory);

@@ -1,7 +1,8 @@
 //! What a station remembers, in the version in which it speaks.
 
-ghost use Rattle.std.specs.Prelude.{◌≡◌, ◌≤◌, [], IfOk, IfErr, IsSome, IfSome, true, false, length};
+ghost use Rattle.std.specs.Prelude.{◌≡◌, ◌≤◌, List, [], IfOk, IfErr, IsSome, IfSome, true, false, length};
 ghost use Rattle.protocol.specs.Versions.{fits};
+ghost use Rattle.protocol.specs.Marks.{Mark};
 ghost use Rattle.protocol.specs.Fitting.{BodyFits, EventFits};
 ghost use Rattle.protocol.specs.Limits.{most_members, most_sent};
 ghost use Rattle.saved_rows.specs.Saved.{RowFits};
@@ -121,6 +122,8 @@ impl Speaker {
         requires arrived { MayCome self.old.core.me self.old.core.members event }
         requires event { EventFits self.old.wire (event_value event) }
         requires row { RowFits self.old.wire row.now }
+        // What it took in are some marks.
+        ensures stands { (marks : List Mark) × StandsFor self.old.core marks }
         ensures ok { IfOk result (λ x. OfItsMarks self.old.core (λ marks. TookTurn self.old.core event.entry marks row.now x self.new.core)) }
         ensures fits { IfOk result (λ x. TurnSpeaks self.old.wire row.now x) }
         ensures promised { IfOk result (λ x. IfSome x.row (λ r. IsSome r.promised)) }

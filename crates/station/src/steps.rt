@@ -1,6 +1,6 @@
 //! The steps of a station.
 
-ghost use Rattle.std.specs.Prelude.{◌≡◌, ◌≤◌, List, [], true, false, Err, IfOk, OnOk, IfErr, length};
+ghost use Rattle.std.specs.Prelude.{◌≡◌, ◌≤◌, List, [], true, false, IfOk, OnOk, IfErr, length};
 ghost use Rattle.protocol.specs.Entries.{Void, Taped};
 ghost use Rattle.protocol.specs.Versions.{fits};
 ghost use Rattle.protocol.specs.Marks.{Mark};
@@ -13,10 +13,10 @@ ghost use Rattle.saved_rows.specs.Saved.{Rises};
 ghost use Rattle.node_core.specs.Standing.{StandsFor, OfItsMarks};
 ghost use Rattle.node_core.specs.Calls.{MayCome};
 ghost use Rattle.node_core.specs.Turns.{event_value};
-ghost use Rattle.station.specs.Readiness.{WasChecked};
+ghost use Rattle.station.specs.Readiness.{WasChecked, IsNumbered};
 ghost use Rattle.station.specs.Refusing.{ChecksNumber, ChecksOffer};
-ghost use Rattle.station.specs.Stations.{sight, IsFixed, wire_at};
-ghost use Rattle.station.specs.Steps.{Ends, IsFree, TakesStep, OnStore, IfStore, IsBlamed, tears, stopped_after};
+ghost use Rattle.station.specs.Stations.{sight, IsFixed};
+ghost use Rattle.station.specs.Steps.{Ends, IsFree, IsStep, OnStore, IfStore, IsBlamed, tears, is_early, stopped_after};
 
 use crate::answer::Answer;
 use crate::checks::check_packet;
@@ -35,16 +35,7 @@ impl<R: Rows> Station<R> {
     /// Refused, in this order: `Stopped`, `BadNumber`, `AlreadyReleased`, `AlreadyOpen`, `WireTooOld`,
     /// `TapeFaulty`, `RoundsSpent`; `Store` and `OutOfMemory` stop the station.
     pub fn offer(&mut self, number: u32, tape: &Tape, now: u64) -> Result<Answer, StepRefusal>
-        ensures steps { R.kept self.new.rows → TakesStep (sight R.Rows) (Offering number (Taped tape.now) now) self.old self.new result }
-        ensures was_kept { R.kept self.new.rows → R.kept self.old.rows }
-        ensures made { R.made self.old.rows → R.made self.new.rows }
-        ensures few { IfOk result (λ a. length a.out.items ≤ most_sent) }
-        ensures cause { OnStore result (Rises (R.refusals self.old.rows) (R.refusals self.new.rows)) }
-        ensures blames { IfStore result (IsBlamed (sight R.Rows) self.old.rows self.new.rows) }
-        ensures version { R.version self.new.rows ≡ R.version self.old.rows }
-        ensures wire { self.new.speaker.wire ≡ wire_at (sight R.Rows) self.old }
-        ensures stops { self.new.stopped ≡ stopped_after self.old.stopped result }
-        ensures stopped { self.old.stopped ≡ true → (result ≡ Err StepRefusal.Stopped) × (self.new ≡ self.old) }
+        ensures { IsStep R.Rows (Offering number (Taped tape.now) now) self.old self.new result }
     {
         if self.stopped {
             return Err(StepRefusal::Stopped);
@@ -71,16 +62,7 @@ impl<R: Rows> Station<R> {
     /// Refused, in this order: `Stopped`, `BadNumber`, `AlreadyReleased`, `AlreadyOpen`, `WireTooOld`,
     /// `RoundsSpent`; `Store` and `OutOfMemory` stop the station.
     pub fn withdraw(&mut self, number: u32, now: u64) -> Result<Answer, StepRefusal>
-        ensures steps { R.kept self.new.rows → TakesStep (sight R.Rows) (Offering number Void now) self.old self.new result }
-        ensures was_kept { R.kept self.new.rows → R.kept self.old.rows }
-        ensures made { R.made self.old.rows → R.made self.new.rows }
-        ensures few { IfOk result (λ a. length a.out.items ≤ most_sent) }
-        ensures cause { OnStore result (Rises (R.refusals self.old.rows) (R.refusals self.new.rows)) }
-        ensures blames { IfStore result (IsBlamed (sight R.Rows) self.old.rows self.new.rows) }
-        ensures version { R.version self.new.rows ≡ R.version self.old.rows }
-        ensures wire { self.new.speaker.wire ≡ wire_at (sight R.Rows) self.old }
-        ensures stops { self.new.stopped ≡ stopped_after self.old.stopped result }
-        ensures stopped { self.old.stopped ≡ true → (result ≡ Err StepRefusal.Stopped) × (self.new ≡ self.old) }
+        ensures { IsStep R.Rows (Offering number Void now) self.old self.new result }
     {
         if self.stopped {
             return Err(StepRefusal::Stopped);
@@ -96,16 +78,7 @@ impl<R: Rows> Station<R> {
     /// Refused, in this order: `Stopped`, `BadNumber`, `AlreadyReleased`, `AlreadyOpen`,
     /// `RoundsSpent`; `Store` and `OutOfMemory` stop the station.
     pub fn seek(&mut self, number: u32, now: u64) -> Result<Answer, StepRefusal>
-        ensures steps { R.kept self.new.rows → TakesStep (sight R.Rows) (Seeking number now) self.old self.new result }
-        ensures was_kept { R.kept self.new.rows → R.kept self.old.rows }
-        ensures made { R.made self.old.rows → R.made self.new.rows }
-        ensures few { IfOk result (λ a. length a.out.items ≤ most_sent) }
-        ensures cause { OnStore result (Rises (R.refusals self.old.rows) (R.refusals self.new.rows)) }
-        ensures blames { IfStore result (IsBlamed (sight R.Rows) self.old.rows self.new.rows) }
-        ensures version { R.version self.new.rows ≡ R.version self.old.rows }
-        ensures wire { self.new.speaker.wire ≡ wire_at (sight R.Rows) self.old }
-        ensures stops { self.new.stopped ≡ stopped_after self.old.stopped result }
-        ensures stopped { self.old.stopped ≡ true → (result ≡ Err StepRefusal.Stopped) × (self.new ≡ self.old) }
+        ensures { IsStep R.Rows (Seeking number now) self.old self.new result }
     {
         if self.stopped {
             return Err(StepRefusal::Stopped);
@@ -120,16 +93,7 @@ impl<R: Rows> Station<R> {
     ///
     /// Refused as `Stopped`; `Store` and `OutOfMemory` stop the station.
     pub fn due(&mut self, now: u64) -> Result<Answer, StepRefusal>
-        ensures steps { R.kept self.new.rows → TakesStep (sight R.Rows) (Falling_due now) self.old self.new result }
-        ensures was_kept { R.kept self.new.rows → R.kept self.old.rows }
-        ensures made { R.made self.old.rows → R.made self.new.rows }
-        ensures few { IfOk result (λ a. length a.out.items ≤ most_sent) }
-        ensures cause { OnStore result (Rises (R.refusals self.old.rows) (R.refusals self.new.rows)) }
-        ensures blames { IfStore result (IsBlamed (sight R.Rows) self.old.rows self.new.rows) }
-        ensures version { R.version self.new.rows ≡ R.version self.old.rows }
-        ensures wire { self.new.speaker.wire ≡ wire_at (sight R.Rows) self.old }
-        ensures stops { self.new.stopped ≡ stopped_after self.old.stopped result }
-        ensures stopped { self.old.stopped ≡ true → (result ≡ Err StepRefusal.Stopped) × (self.new ≡ self.old) }
+        ensures { IsStep R.Rows (Falling_due now) self.old self.new result }
     {
         if self.stopped {
             return Err(StepRefusal::Stopped);
@@ -147,16 +111,7 @@ impl<R: Rows> Station<R> {
     /// Refused, in this order: `Stopped`, `BadDatagram`, `WrongCircuit`, `NotForMe`, `Stranger`;
     /// `Store` and `OutOfMemory` stop the station.
     pub fn receive(&mut self, bytes: &[u8], now: u64) -> Result<Answer, StepRefusal>
-        ensures steps { R.kept self.new.rows → TakesStep (sight R.Rows) (Receiving bytes.now now) self.old self.new result }
-        ensures was_kept { R.kept self.new.rows → R.kept self.old.rows }
-        ensures made { R.made self.old.rows → R.made self.new.rows }
-        ensures few { IfOk result (λ a. length a.out.items ≤ most_sent) }
-        ensures cause { OnStore result (Rises (R.refusals self.old.rows) (R.refusals self.new.rows)) }
-        ensures blames { IfStore result (IsBlamed (sight R.Rows) self.old.rows self.new.rows) }
-        ensures version { R.version self.new.rows ≡ R.version self.old.rows }
-        ensures wire { self.new.speaker.wire ≡ wire_at (sight R.Rows) self.old }
-        ensures stops { self.new.stopped ≡ stopped_after self.old.stopped result }
-        ensures stopped { self.old.stopped ≡ true → (result ≡ Err StepRefusal.Stopped) × (self.new ≡ self.old) }
+        ensures { IsStep R.Rows (Receiving bytes.now now) self.old self.new result }
     {
         if self.stopped {
             return Err(StepRefusal::Stopped);
@@ -177,8 +132,6 @@ impl<R: Rows> Station<R> {
     fn check_number(&self, number: u32) -> Result<Number, StepRefusal>
         ensures value { IfOk result (λ n. n ≡ number) }
         ensures checks { (marks : List Mark) → StandsFor self.now.speaker.core marks → ChecksNumber number marks result }
-        ensures cause { OnStore result ⊥ }
-        ensures blames { IfStore result (λ fault. ⊥) }
         ensures goes_on { IfErr result (λ r. tears r ≡ false) }
     {
         let Some(number) = Number::new(number) else {
@@ -199,8 +152,6 @@ impl<R: Rows> Station<R> {
         ensures value { IfOk result (λ n. n ≡ number) }
         ensures fits { OnOk result (fits self.now.speaker.wire (lent_entry entry.entry) ≡ true) }
         ensures checks { OfItsMarks self.now.speaker.core (λ marks. ChecksOffer self.now.speaker.wire number (lent_entry entry.entry) marks result) }
-        ensures cause { OnStore result ⊥ }
-        ensures blames { IfStore result (λ fault. ⊥) }
         ensures goes_on { IfErr result (λ r. tears r ≡ false) }
     {
         let number = self.check_number(number)?;
@@ -225,11 +176,15 @@ impl<R: Rows> Station<R> {
         requires arrived { MayCome self.old.speaker.core.me self.old.speaker.core.members event }
         requires fits { EventFits self.old.speaker.wire (event_value event) }
         requires checked { WasChecked self.old.table self.old.widths checked }
-        ensures takes { R.kept self.new.rows → (marks : List Mark) → StandsFor self.old.speaker.core marks → IsFree marks (event_value event.entry)
-            → Ends (sight R.Rows) (event_value event.entry) self.old self.new marks result }
+        requires free { OfItsMarks self.old.speaker.core (λ marks. IsFree marks (event_value event)) }
+        ensures takes { R.kept self.new.rows → OfItsMarks self.old.speaker.core (λ marks. Ends (sight R.Rows) (event_value event.entry) self.old self.new marks result) }
+
+        // What is refused early is so before the turn.
+        ensures late { IfErr result (λ r. is_early r ≡ false) }
         ensures was_kept { R.kept self.new.rows → R.kept self.old.rows }
         ensures made { R.made self.old.rows → R.made self.new.rows }
         ensures few { IfOk result (λ a. length a.out.items ≤ most_sent) }
+        ensures numbered { IfOk result (λ a. IsNumbered a.release) }
         ensures cause { OnStore result (Rises (R.refusals self.old.rows) (R.refusals self.new.rows)) }
         ensures blames { IfStore result (IsBlamed (sight R.Rows) self.old.rows self.new.rows) }
         ensures version { R.version self.new.rows ≡ R.version self.old.rows }

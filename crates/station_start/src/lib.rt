@@ -6,4 +6,4 @@ mod host;
 mod start_up;
 
 pub use host::{Host, ThisHost};
-pub use start_up::{Started, start};
+pub use start_up::{Started, make_rows, start};

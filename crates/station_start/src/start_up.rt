@@ -1,6 +1,6 @@
 //! A station that starts from its configuration: the files that this names, its saved rows and its wire.
 
-ghost use Rattle.std.specs.Prelude.{◌≡◌, IfOk, option_map, string_bytes};
+ghost use Rattle.std.specs.Prelude.{◌≡◌, IfOk, OnOk, option_map, string_bytes};
 ghost use Rattle.configuration.specs.Reading.{file_of};
 ghost use Rattle.configuration.specs.Stations.{IsCircuit};
 ghost use Rattle.saved_rows.specs.Identity.{IsIdentity};
@@ -42,7 +42,7 @@ fn identity_of(config: &Config) -> Identity
     }
 }
 
-/// The saved rows of this station in the file at a path, made in a version or taken up.
+/// The saved rows of this station in the file at a path, which is made first where a version is given, or taken up.
 fn rows_of<F: RowFiles>(
     rt: &HostRuntime,
     row_files: &F,
@@ -51,12 +51,32 @@ fn rows_of<F: RowFiles>(
     making: Option<Version>,
 ) -> Result<F::Rows, RefusedRows>
     requires { IsIdentity identity }
-    ensures { IfOk result (AreRowsOf making (F.makes row_files.now path.now) (F.takes_up row_files.now path.now) identity) }
+    ensures rows { IfOk result (AreRowsOf making (F.makes row_files.now path.now) (F.takes_up row_files.now path.now) identity) }
+    ensures open { IfOk result (λ rows. F.Rows.kept rows → F.Rows.is_open rows) }
 {
     match making {
         Some(version) => row_files.create(rt, path, identity, version),
         None => row_files.open(rt, path, Some(identity)),
     }
+}
+
+/// Makes the row file that a configuration names, for its station and in the layout for rows of this version, and tells whose rows
+/// they are.
+///
+/// It is refused as [`RowFiles::make`] is.
+pub fn make_rows<F: RowFiles>(
+    rt: &HostRuntime,
+    row_files: &F,
+    config: &Config,
+    version: Version,
+) -> Result<Identity, RefusedRows>
+    requires { IsCircuit config.now.member config.now.stations.items }
+    ensures made { OnOk result (F.leaves row_files.now (string_bytes config.now.rows) (identity_of (file_of config.now)) version) }
+    ensures identity { IfOk result (λ i. i ≡ identity_of (file_of config.now)) }
+{
+    let identity = identity_of(config);
+    row_files.make(rt, &config.rows, identity, version)?;
+    Ok(identity)
 }
 
 /// The wire at the member's own address, of those of all stations.
@@ -129,8 +149,8 @@ fn start_over<'f, H: Host, R: Rows>(
     })
 }
 
-/// The station of a configuration, over its saved rows in one of the files, made in a version or taken up, and in their
-/// version, with its wire and the tape that it offers first, if a number and a path are given.
+/// The station of a configuration, over its saved rows in one of the files, which is made first where a version is given, and in
+/// their version, with its wire and the tape that it offers first, if a number and a path are given.
 ///
 /// What it starts from is looked for in this order, and the first fault ends it and is told to `err`: the code table, the
 /// widths, the tape, the saved rows, the socket.
@@ -150,6 +170,7 @@ pub fn start<H: Host, F: RowFiles, E: Write>(
     ensures offer { IfOk result (λ s. IsOffer (H.text host.now) (option_map (λ o. (o.0, o.1.now)) offer.entry) s.offer) }
     ensures rows { IfOk result (λ s. AreRowsAt F.makes F.takes_up row_files.now (string_bytes config.rows) making
         (identity_of (file_of config)) s.station.rows) }
+    ensures open { IfOk result (λ s. F.Rows.kept s.station.rows → F.Rows.is_open s.station.rows) }
     ensures version { IfOk result (λ s. s.station.speaker.wire ≡ F.Rows.version s.station.rows) }
     ensures wire { IfOk result (λ s. IsWireOf H.is_bound (file_of config) s.wire) }
 {

@@ -1,4 +1,4 @@
-//! The tests of a station and of a whole circuit, of `serve` and of `run`, over rows and folders in memory.
+//! The tests of a station, of a whole circuit and of a day of one, of `serve` and of `run`, over rows and folders in memory.
 #![tactic(auto)]
 
 #[cfg(test)]
@@ -9,6 +9,8 @@ mod circuits;
 mod given;
 #[cfg(test)]
 mod notes;
+#[cfg(test)]
+mod played_day;
 #[cfg(test)]
 mod run;
 #[cfg(test)]

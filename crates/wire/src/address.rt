@@ -1,8 +1,8 @@
 //! Where a station listens, and whether a datagram comes from there.
 
-ghost use Rattle.std.specs.Prelude.{◌≡◌, ◌↔◌, IsTrue, false};
-ghost use Rattle.std.specs.List.{All, Any};
-ghost use Rattle.wire.specs.Addresses.{IsAt};
+ghost use Rattle.std.specs.Prelude.{◌≡◌, ◌↔◌, IsTrue, MatchOption};
+ghost use Rattle.std.specs.List.{All};
+ghost use Rattle.wire.specs.Addresses.{IsAt, IsFirstAt};
 
 use ballots::Member;
 use std::net::{IpAddr, SocketAddr};
@@ -27,15 +27,14 @@ fn is_at(address: &Address, sender: SocketAddr) -> bool
     }
 }
 
-/// Whether it comes from one of these addresses.
-pub(crate) fn is_among(stations: &[Address], sender: SocketAddr) -> bool
-    ensures among { IsTrue result → Any (λ a. IsAt a sender) stations.now }
-    ensures else_none { result ≡ false → All (λ a. ¬ IsAt a sender) stations.now }
+/// The place of the first of these addresses from which it comes; `None` where it comes from none.
+pub(crate) fn place_of(stations: &[Address], sender: SocketAddr) -> Option<usize>
+    ensures { MatchOption result (All (λ a. ¬ IsAt a sender) stations.now) (λ place. IsFirstAt stations.now sender place) }
 {
-    for address in stations {
+    for (place, address) in stations.iter().enumerate() {
         if is_at(address, sender) {
-            return true;
+            return Some(place);
         }
     }
-    false
+    None
 }

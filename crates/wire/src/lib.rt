@@ -2,6 +2,7 @@
 #![tactic(auto)]
 
 mod address;
+mod buffer;
 mod strangers;
 mod udp;
 mod wire;

@@ -7,7 +7,7 @@ use std::fmt;
 use std::net::SocketAddr;
 
 /// How long it is at least from one telling to the next, in milliseconds.
-const PAUSE: u64 = 1000;
+pub(crate) const PAUSE: u64 = 1000;
 
 /// Datagrams of senders that the configuration does not name.
 #[derive(Clone, Copy)]

@@ -23,7 +23,15 @@ pub trait Wire {
     // What has passed over it, in order, where that is known: a socket of the host tells nothing.
     ghost passed: { Self → Option (List Passed) } = { λ _. None };
 
-    /// Takes one datagram at most, within the time limit.
+    /// Takes into memory what waits at the network, and waits for nothing; whether a datagram waits in memory then. A wire that keeps
+    /// none in memory answers that none does.
+    fn fetch(&mut self) -> bool
+        ensures passes { Passes (passed self.old) (passed self.new) [] }
+    {
+        false
+    }
+
+    /// Takes one datagram at most: one that waits in memory, or else one that comes within the time limit.
     fn receive(&mut self, buffer: &mut [u8]) -> Arrival
         ensures fits { Fits result (length buffer.new) }
         ensures passes { Passes (passed self.old) (passed self.new) (came_by result buffer.new) };
@@ -39,6 +47,14 @@ pub trait Wire {
     /// The datagrams of strangers since the last telling, where there are such to tell at this moment. A wire to which none
     /// comes tells none.
     fn strangers(&mut self, _now: u64) -> Option<Strangers>
+        ensures passes { Passes (passed self.old) (passed self.new) [] }
+    {
+        None
+    }
+
+    /// How many datagrams of stations found no place in memory since the last telling, where there are such to tell at this moment. A
+    /// wire that keeps none in memory tells none.
+    fn lost(&mut self, _now: u64) -> Option<u64>
         ensures passes { Passes (passed self.old) (passed self.new) [] }
     {
         None

@@ -1,11 +1,11 @@
 -- A circuit of stations is never stuck, since its members can spell what they may say.
-use Rattle.std.proofs.Common.{◌≡◌, ℕ, ◌⊎◌, inl, inr, sym, subst, List, Some, None}
+use Rattle.std.proofs.Common.{ℕ, inl, inr, sym, subst, List, Some, None}
 use Rattle.protocol.specs.Ballots.{Ballot}
 use Rattle.protocol.specs.Entries.{Entry}
 use Rattle.protocol.specs.Versions.{Version, Two}
 use Rattle.protocol.specs.Packets.{Body, Prepare, Promise, Accept, Accepted, Nack}
 use Rattle.protocol.specs.Circuit.{Circuit}
-use Rattle.protocol.specs.Progress.{BodyMaySay, SpellsWhatMayBeSaid, IsOfOffers, CircuitIsNeverStuck, RunningNeedNotRestart, DeniedNeedNotRestart, ChosenIsFound, HalfAnUpgradeIsNoDeadEnd, EveryMemberReleases}
+use Rattle.protocol.specs.Progress.{BodyMaySay, SpellsWhatMayBeSaid, IsOfOffers, CircuitIsNeverStuck, RunningNeedNotRestart, DeniedNeedNotRestart, BusyNeedNotRestart, ChosenIsFound, HalfAnUpgradeIsNoDeadEnd, EveryMemberReleases}
 use Rattle.protocol.specs.Agreement.{WasOffered}
 use Rattle.tape_frames.specs.Entries.{IsEntry}
 use Rattle.packets.specs.declared.fault.PacketFault.{PacketFault}
@@ -15,7 +15,7 @@ use Rattle.line_check.specs.declared.fault.SetFault.{SetFault}
 use Rattle.code_table.specs.Tables.{Places}
 use Rattle.widths.specs.Widths.{WidthFile}
 use Rattle.world.specs.Setups.{StationCircuit, StationState}
-use Rattle.world.specs.Laws.{IsInService, StationsAreNeverStuck, RunningStationsNeedNotRestart, DeniedStationsNeedNotRestart, ChosenIsFoundByStations, HalfAnUpgradeIsNoDeadEndOfStations, EveryStationReleases}
+use Rattle.world.specs.Laws.{IsInService, StationsAreNeverStuck, RunningStationsNeedNotRestart, DeniedStationsNeedNotRestart, BusyStationsNeedNotRestart, ChosenIsFoundByStations, HalfAnUpgradeIsNoDeadEndOfStations, EveryStationReleases}
 
 body_more :
     (c : ℕ) (P Q : Entry → Type 0) → ((t : Entry) → P t → Q t) → (b : Ballot) (from to : ℕ) (body : Body) → BodyMaySay c P b from to body
@@ -80,6 +80,12 @@ pub denied_stations_need_not_restart :
 denied_stations_need_not_restart speak denied tables files z w h among v n serving can at_v number m entry slugs member in_it is_entry fits sets going unopened unreleased =
     let s = speak z serving.number serving.count serving.set_up.reads in
     denied z s.0 w h among v n can at_v number m entry slugs member in_it fits sets (of_offers serving entry is_entry v (s.1 v)) going unopened unreleased
+
+pub busy_stations_need_not_restart :
+    MembersCanSpeak (List Slug) SetFault → BusyNeedNotRestart PacketFault (List Slug) SetFault → BusyStationsNeedNotRestart
+busy_stations_need_not_restart speak busy tables files z w h among v n serving can at_v number m entry slugs member in_it is_entry fits sets going unreleased rounds =
+    let s = speak z serving.number serving.count serving.set_up.reads in
+    busy z s.0 w h among v n can at_v number m entry slugs member in_it fits sets (of_offers serving entry is_entry v (s.1 v)) going unreleased rounds
 
 pub every_station_releases : MembersCanSpeak (List Slug) SetFault → EveryMemberReleases PacketFault (List Slug) SetFault → EveryStationReleases
 every_station_releases speak every tables files z w h among v n serving can left at_v number m entry slugs member in_it is_entry fits sets =

@@ -75,17 +75,18 @@ stationed v zero low high = absurd (omega arith)
 stationed v (suc j) low high = found v.stations.items j (omega arith)
 
 -- what is released in a reached world is agreed
-pub agreed : {R : Type 0} (is_open : R → Type 0) (saved : R → Saved) (version : R → Version) → StationsAgree → (z : StationCircuit) (v : World R) → Reached is_open saved version z v → Agreed v
-agreed {R = R} is_open saved version law z v r = record {
+pub agreed : {R : Type 0} (g : Ghosts R) → StationsAgree → (z : StationCircuit) (v : World R) → Reached g.is_open g.saved g.version z v → Agreed g v
+agreed {R = R} g law z v r = record {
   one = λ x y i j same. a.one x y (in_state x i) (in_state y j) same;
   offered = λ x i. (let o = a.offered x (in_state x i) in (o.0, subst (λ (l : List circuit.Offer). IsAmong l (record { member = o.0; number = x.number; entry = x.entry })) h.offers o.1));
+  chosen = record { z = z; w = r.0; stands_for = h; history = r.2; each = λ x i. a.chosen x (in_state x i) };
   set = λ x i. set x (in_state x i);
 }
   where
-    h : StandsFor is_open saved version z v r.0
+    h : StandsFor g.is_open g.saved g.version z v r.0
     h = r.1
 
-    a : AreAgreed h.tables h.files r.0
+    a : AreAgreed h.tables h.files r.2
     a = law h.tables h.files z h.set_up r.0 r.2
 
     in_state : (x : Release (List Slug) SetFault) → IsAmong v.releases.items x → IsAmong r.0.releases x
@@ -100,8 +101,8 @@ agreed {R = R} is_open saved version law z v r = record {
         (s.0, s.1, subst (λ (f : WidthFile). SetsEntry (mean s.0.table) f x.entry x.set) (sym shows.widths) with_table)
 
 -- what is released in a world that is reached, and whose hosts were honest, is agreed
-pub reached_agreed : {R : Type 0} (g : Ghosts R) → StationsAgree → (v : World R) → IsReached g v → AllHonest g.honest v → Agreed v
-reached_agreed g law v r honest = let at = r.reached honest in agreed g.is_open g.saved g.version law at.0 v at.1
+pub reached_agreed : {R : Type 0} (g : Ghosts R) → StationsAgree → (v : World R) → IsReached g v → AllHonest g.honest v → Agreed g v
+reached_agreed g law v r honest = let at = r.reached honest in agreed g law at.0 v at.1
 
 -- a world that is reached stays so, where what was made stays and what is kept was kept
 pub stays_reached :

@@ -1,13 +1,13 @@
 -- What holds in every history of a circuit of stations.
-use Rattle.std.specs.Prelude.{◌≡◌, ℕ, suc, ◌<◌, ◌≤◌, ◌==◌, List, None, Ok, Bool, true, false}
+use Rattle.std.specs.Prelude.{◌≡◌, ℕ, suc, ◌<◌, ◌≤◌, ◌==◌, List, Some, None, Ok, Bool, true, false}
 use Rattle.protocol.specs.Lists.{IsAmong}
 use Rattle.protocol.specs.Limits.{most_members, is_number}
 use Rattle.protocol.specs.Ballots.{IsMember}
 use Rattle.protocol.specs.Entries.{Entry}
 use Rattle.protocol.specs.Versions.{Version, fits}
-use Rattle.protocol.specs.Circuit.{Release, State, History}
-use Rattle.protocol.specs.Proposals.{was_released, open_proposal}
-use Rattle.protocol.specs.Progress.{with_offer, IsTheChosen, round_of, CanServe, AreAt, CanRelease, LeadsByUpgrades, AllCanRelease, HaveRoundsLeft}
+use Rattle.protocol.specs.Circuit.{Release, History}
+use Rattle.protocol.specs.Proposals.{Opening, was_released, open_proposal}
+use Rattle.protocol.specs.Progress.{with_offer, IsTheChosen, round_of, CanServe, AreAt, HasRoundsToGiveUp, CanRelease, LeadsByUpgrades, AllCanRelease, HaveRoundsLeft}
 use Rattle.tape_frames.specs.Entries.{IsEntry}
 use Rattle.protocol.specs.Agreement.{BallotsHaveOneEntry, ChosenIsOne, HeardIsVoted, PromisesBind, ReleasesAreChosen, ReportsAreGreatest, RipeIsChosen, VotesAreBacked, VotesAreOffered, WasOffered, IsChosen}
 use Rattle.packets.specs.declared.fault.PacketFault.{PacketFault}
@@ -54,11 +54,12 @@ OneChosen = ChosenIsOne PacketFault (List Slug) SetFault
 abbrev pub ReleasesChosen : Type 0
 ReleasesChosen = ReleasesAreChosen PacketFault (List Slug) SetFault
 
--- any two releases of one number have equal entries; each released entry was offered for its number,
--- and what was made of it is what its member's table and widths make of it: a tape's slugs, or its fault
-pub record AreAgreed (tables : ℕ → Places) (files : ℕ → WidthFile) (w : State (List Slug) SetFault) : Type 0 where
+-- any two releases of one number have equal entries; each released entry was offered for its number, and was chosen for it:
+-- at one ballot a majority voted for it; and what was made of it is what its member's table and widths make of it: a tape's slugs, or its fault
+pub record AreAgreed (tables : ℕ → Places) (files : ℕ → WidthFile) {z : StationCircuit} {w : StationState} (h : History z w) : Type 0 where
   pub one : (x y : Release (List Slug) SetFault) → IsAmong w.releases x → IsAmong w.releases y → x.number ≡ y.number → x.entry ≡ y.entry
   pub offered : (x : Release (List Slug) SetFault) → IsAmong w.releases x → WasOffered w x.number x.entry
+  pub chosen : (x : Release (List Slug) SetFault) → IsAmong w.releases x → IsChosen h x.number x.entry
   pub set : (x : Release (List Slug) SetFault) → IsAmong w.releases x → SetsEntry (mean (tables x.member)) (files x.member) x.entry x.set
 
 -- there is a circuit of stations of any number and member count, whatever their tables and width files
@@ -71,7 +72,7 @@ CircuitsExist =
 abbrev pub StationsAgree : Type 0
 StationsAgree =
     (tables : ℕ → Places) (files : ℕ → WidthFile) (z : StationCircuit) → IsSetUp tables files z
-    → (w : State (List Slug) SetFault) → History z w → AreAgreed tables files w
+    → (w : StationState) (h : History z w) → AreAgreed tables files h
 
 -- a circuit as stations may be set up: its number has two bytes, and it has no more members than there may be;
 -- and what was offered to them for n are entries
@@ -112,6 +113,17 @@ DeniedStationsNeedNotRestart =
     → (m : ℕ) (entry : Entry) (slugs : List Slug)
     → IsMember z.count m → among m ≡ true → IsEntry entry → fits v entry ≡ true → z.sets m entry ≡ Ok slugs
     → w.is_stopped m ≡ false → ((j : ℕ) → open_proposal j (w.marks m) ≡ None) → was_released n (w.marks m) ≡ false
+    → (to : CanRelease z among (λ k. false) m n (with_offer w.offers m n entry) w) × IsTheChosen h n to.entry
+
+-- nor whatever numbers are open with the member that is asked; where n itself is, it may have to be given up first
+abbrev pub BusyStationsNeedNotRestart : Type 0
+BusyStationsNeedNotRestart =
+    (tables : ℕ → Places) (files : ℕ → WidthFile) (z : StationCircuit) (w : StationState) (h : History z w)
+    → (among : ℕ → Bool) (v : Version) (n : ℕ) → IsInService tables files z w n → CanServe z w among n → AreAt z w among v → is_number n ≡ true
+    → (m : ℕ) (entry : Entry) (slugs : List Slug)
+    → IsMember z.count m → among m ≡ true → IsEntry entry → fits v entry ≡ true → z.sets m entry ≡ Ok slugs
+    → w.is_stopped m ≡ false → was_released n (w.marks m) ≡ false
+    → ((o : Opening) → open_proposal n (w.marks m) ≡ Some o → HasRoundsToGiveUp w m n)
     → (to : CanRelease z among (λ k. false) m n (with_offer w.offers m n entry) w) × IsTheChosen h n to.entry
 
 -- what is chosen any member of it can come to release with nothing offered

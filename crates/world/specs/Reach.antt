@@ -4,6 +4,7 @@ use Rattle.protocol.specs.Lists.{IsAmong}
 use Rattle.protocol.specs.Entries.{Entry}
 use Rattle.protocol.specs.Versions.{Version}
 use Rattle.protocol.specs.Circuit.{Release, Outcome, StepsTo, History}
+use Rattle.protocol.specs.Agreement.{IsChosen}
 use Rattle.packets.specs.declared.fault.PacketFault.{PacketFault}
 use Rattle.code_table.specs.Tables.{Places, mean}
 use Rattle.widths.specs.Widths.{WidthFile}
@@ -128,9 +129,19 @@ SetsAs s entry set = SetsEntry (mean s.table) s.widths entry set
 abbrev pub IsSetByMember : {R : Type 0} → World R → Release (List Slug) SetFault → Type 0
 IsSetByMember {R = R} v x = (s : Station (Balky R)) × (station_at v x.member ≡ Some s) × SetsAs s x.entry x.set
 
+-- a history of a circuit leads to a state that the world stands for, and in it each entry that was released was chosen for its number:
+-- at one ballot a majority of the members voted for it
+pub record AllChosen {R : Type 0} (g : Ghosts R) (v : World R) : Type 0 where
+  pub z : StationCircuit
+  pub w : StationState
+  pub stands_for : StandsFor g.is_open g.saved g.version z v w
+  pub history : History z w
+  pub each : (x : Release (List Slug) SetFault) → IsAmong v.releases.items x → IsChosen history x.number x.entry
+
 -- the headline, of a world's own logs: any two releases of one number have equal entries; each released entry was offered for its
--- number; and each was released by a member, whose station's table and widths give it these slugs, or this fault
-pub record Agreed {R : Type 0} (v : World R) : Type 0 where
+-- number, and chosen by a majority; and each was released by a member, whose station's table and widths give it these slugs, or this fault
+pub record Agreed {R : Type 0} (g : Ghosts R) (v : World R) : Type 0 where
   pub one : (x y : Release (List Slug) SetFault) → IsAmong v.releases.items x → IsAmong v.releases.items y → x.number ≡ y.number → x.entry ≡ y.entry
   pub offered : (x : Release (List Slug) SetFault) → IsAmong v.releases.items x → IsOffered v x.number x.entry
+  pub chosen : AllChosen g v
   pub set : (x : Release (List Slug) SetFault) → IsAmong v.releases.items x → IsSetByMember v x

@@ -2,7 +2,7 @@
 //! The functions do nothing but cite the laws that they rest on.
 
 ghost use Rattle.world.specs.Taking.{TearsForMemory};
-ghost use Rattle.world.specs.Laws.{OneEntry, VotesOffered, PromisesKept, ReportsGreatest, VotesBacked, HeardVoted, RipeChosen, OneChosen, ReleasesChosen, CircuitsExist, StationsAgree, StationsAreNeverStuck, RunningStationsNeedNotRestart, DeniedStationsNeedNotRestart, ChosenIsFoundByStations, HalfAnUpgradeIsNoDeadEndOfStations, EveryStationReleases};
+ghost use Rattle.world.specs.Laws.{OneEntry, VotesOffered, PromisesKept, ReportsGreatest, VotesBacked, HeardVoted, RipeChosen, OneChosen, ReleasesChosen, CircuitsExist, StationsAgree, StationsAreNeverStuck, RunningStationsNeedNotRestart, BusyStationsNeedNotRestart, DeniedStationsNeedNotRestart, ChosenIsFoundByStations, HalfAnUpgradeIsNoDeadEndOfStations, EveryStationReleases};
 
 use crate::slugs::Slugs;
 use line_check::SetFault;
@@ -76,20 +76,23 @@ pub fn circuits_exist()
     packets::laws::reading_by_version();
 }
 
-/// Over every history no two releases of one number differ, each released entry was offered for its number,
-/// and the slugs of a tape are those that its member's table and widths give it, or its fault is; a withdrawal has none.
+/// Over every history no two releases of one number differ, each released entry was offered for its number and chosen
+/// for it by a majority, and the slugs of a tape are those that its member's table and widths give it, or its fault is; a withdrawal has none.
 pub fn agreement()
     ensures { StationsAgree }
 {
     laws::agreement::<PacketFault, Slugs, SetFault>();
+    laws::releases_are_chosen::<PacketFault, Slugs, SetFault>();
 }
 
 /// A circuit of stations is never stuck: where a majority can serve, any member of it that is offered an entry can come to release the number,
 /// by steps of the majority alone, and so can every one of them; what is chosen any of them can come to release with nothing offered.
+/// One that runs need not start again for it, whatever numbers are open with it.
 pub fn circuit_is_never_stuck()
     ensures offered { StationsAreNeverStuck }
     ensures running { RunningStationsNeedNotRestart }
     ensures denied { DeniedStationsNeedNotRestart }
+    ensures busy { BusyStationsNeedNotRestart }
     ensures chosen { ChosenIsFoundByStations }
     ensures upgrade { HalfAnUpgradeIsNoDeadEndOfStations }
     ensures every { EveryStationReleases }

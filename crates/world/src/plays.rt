@@ -54,7 +54,7 @@ pub fn play<R: Rows>(
     ensures stops { IfOk result (λ p. IfErr p.run (StopsAt steps.now p.world)) }
     // The headline.
     ensures reached { IfOk result (λ p. AreNewlyMade R.Rows members.items → IsReached R.Rows p.world) }
-    ensures agreed { IfOk result (λ p. AreNewlyMade R.Rows members.items → AllHonest R.honest p.world → Agreed p.world) }
+    ensures agreed { IfOk result (λ p. AreNewlyMade R.Rows members.items → AllHonest R.honest p.world → Agreed R.Rows p.world) }
 {
     match World::new(alloc, circuit, members) {
         Ok(world) => {
@@ -152,7 +152,7 @@ pub fn play_in_memory(
     ensures unplayed { IfErr result (IsUnplayed (length members.items)) }
     ensures plays { IfOk result (λ p. Plays ⟦<MemoryRows as Rows>⟧ circuit members.items (λ _. version_of version) steps.now p.world p.run) }
     ensures stops { IfOk result (λ p. IfErr p.run (StopsAt steps.now p.world)) }
-    ensures agreed { IfOk result (λ p. Agreed p.world) }
+    ensures agreed { IfOk result (λ p. Agreed ⟦<MemoryRows as Rows>⟧ p.world) }
 {
     let members = founders(alloc, version, members)?;
     match play(alloc, circuit, members, steps) {

@@ -40,7 +40,7 @@ impl<R: Rows> World<R> {
         ensures made { AllMade R.made self.old → AllMade R.made self.new }
         // The headline: a world that is reached stays so; and where the hosts of its rows were honest, what is released in it is agreed.
         ensures reached { IsReached R.Rows self.old → IsReached R.Rows self.new }
-        ensures agreed { IsReached R.Rows self.new → AllHonest R.honest self.new → Agreed self.new }
+        ensures agreed { IsReached R.Rows self.new → AllHonest R.honest self.new → Agreed R.Rows self.new }
     {
         laws::agreement();
         match step {
@@ -77,7 +77,7 @@ impl<R: Rows> World<R> {
         ensures was_kept { AllKept R.kept self.new → AllKept R.kept self.old }
         ensures made { AllMade R.made self.old → AllMade R.made self.new }
         ensures reached { IsReached R.Rows self.old → IsReached R.Rows self.new }
-        ensures agreed { IsReached R.Rows self.new → AllHonest R.honest self.new → Agreed self.new }
+        ensures agreed { IsReached R.Rows self.new → AllHonest R.honest self.new → Agreed R.Rows self.new }
     {
         laws::agreement();
         for (at, step) in steps.iter().enumerate() {

@@ -17,6 +17,7 @@ Commands:
   draw      Draws a tape as an SVG document: its holes, what each frame means, and its slugs to scale
   rows      Lists what a station saved: per number its promise, its vote and the frames of that, in hex
   upgrade   Takes what a station saved over to layout 2: it speaks version 2 then, and a number may be withdrawn
+  create    Makes the row file of a station that never ran: what it promises and votes for is saved there
   serve     Runs this plant's station on the wire, and prints each story that the circuit has agreed on
   run       Runs this plant's station until it is stopped: stories are offered and released as files
   rehearse  Rehearses a whole circuit by a script: who offers, what is delivered when, who starts again
@@ -119,6 +120,25 @@ Example: a station goes over between two runs, and all that it saved stays:
 
   $ circuitd upgrade station2.db
   layout 2
+% circuitd create --help
+Makes the row file of a station that never ran: what it promises and votes for is saved there
+
+Usage: circuitd create [OPTIONS] <CONFIG>
+
+Arguments:
+  <CONFIG>  The station's configuration: its circuit, its member, its files and the addresses of all stations
+
+Options:
+      --layout <L>  The layout of the row file: in layout 2 a number may be withdrawn; 1 for a circuit with stations of layout 1 [default: 2] [possible values: 1, 2]
+  -h, --help        Print help
+
+Example: the row file of a station that never ran, for a circuit that is new:
+
+  $ circuitd create station2.toml
+  made station2.db: station 2 of 3 circuit 7 layout 2
+
+Where a file is there already, or its log, nothing is made: a station that starts over an empty row file has
+forgotten what it promised.
 % circuitd serve --help
 Runs this plant's station on the wire, and prints each story that the circuit has agreed on
 
@@ -226,5 +246,5 @@ fn lines_that_ask_for_help(rt: HostRuntime) {
     for row in rows.split("% ").skip(1) {
         assert!(rt; is_row(&rt, row) == Some(true), "{row}");
     }
-    assert!(rt; rows.split("% ").count() == 10);
+    assert!(rt; rows.split("% ").count() == 11);
 }

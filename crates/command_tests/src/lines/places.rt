@@ -21,31 +21,47 @@ fn refused(fault: RowsFault, cause: RowsCause) -> RefusedRows {
     }
 }
 
-/// Files of rows that none can be made in or taken up from; where they are listed or go over, their path stands for them.
+/// Files of rows of which one can be made, and none taken up; where they are listed or go over, their path stands for them.
 struct NoRows;
 
 impl RowFiles for NoRows {
     type Rows = MemoryRows;
 
-    // None are made or taken up.
+    // Nothing is said of what is made, and none are taken up.
+    ghost leaves = { λ _ _ _ _. Unit {0} };
+
     ghost makes = { λ _ _ _ _ _. Unit {0} };
 
     ghost takes_up = { λ _ _ _ _. Unit {0} };
 
+    ghost upgrades = { λ _ _. Unit {0} };
+
     ghost closes = { λ _ _. Unit {0} };
 
-    fn create(
+    fn make(
         &self,
         _rt: &HostRuntime,
         path: &str,
         _identity: Identity,
         version: Version,
-    ) -> Result<MemoryRows, RefusedRows> {
+    ) -> Result<(), RefusedRows> {
         match (path, version) {
+            ("new.db", _) => Ok(()),
             ("made.db", Version::One) => Err(refused(RowsFault::Store, RowsCause::Made)),
             ("made.db", Version::Two) => Err(RefusedRows::by(RowsFault::Damaged { number: 2 })),
             _ => Err(refused(RowsFault::Store, RowsCause::DiskFull)),
         }
+    }
+
+    fn create(
+        &self,
+        rt: &HostRuntime,
+        path: &str,
+        identity: Identity,
+        version: Version,
+    ) -> Result<MemoryRows, RefusedRows> {
+        self.make(rt, path, identity, version)?;
+        self.open(rt, path, Some(identity))
     }
 
     fn open(
@@ -144,6 +160,26 @@ $ circuitd rows station1.db
 $ circuitd upgrade station1.db
 > over station1.db
 ! upgraded
+= store
+$ circuitd create circuitd_words/new.toml
+> made new.db: station 1 of 1 circuit 7 layout 2
+= done
+$ circuitd create --layout 1 circuitd_words/new.toml
+> made new.db: station 1 of 1 circuit 7 layout 1
+= done
+$ circuitd create circuitd_words/station.toml
+! store: damaged 2
+= store
+$ circuitd create circuitd_words/station.toml --layout 1
+! store: refused
+! it was made already: start without --create
+= store
+$ circuitd create circuitd_words/none.toml
+! cannot read circuitd_words/none.toml
+= input
+$ circuitd serve circuitd_words/new.toml --turns 1 --create
+! store: refused
+! no such file: look for it and its log; only a station that never ran is made, by circuitd create
 = store
 $ circuitd serve circuitd_words/station.toml --turns 1 --create --layout 1
 ! store: refused
@@ -260,9 +296,9 @@ fn put_blanks(rt: &HostRuntime, path: &str) -> Option<()> {
     put(rt, path, &blanks)
 }
 
-/// Puts a station there that names the blanks in place of this file.
-fn put_long_station(rt: &HostRuntime, path: &str, file: &str) -> Option<()> {
-    let text = STATION.replace(rt.alloc(), file, "blanks").ok()?;
+/// Puts a station there that names another file in place of this one.
+fn put_station_with(rt: &HostRuntime, path: &str, file: &str, other: &str) -> Option<()> {
+    let text = STATION.replace(rt.alloc(), file, other).ok()?;
     put(rt, path, text.as_bytes())
 }
 
@@ -279,8 +315,14 @@ fn put_files(rt: &HostRuntime) -> Option<()> {
     put(rt, "circuitd_words/story.script", SCRIPT)?;
     put_blanks(rt, "circuitd_words/blanks")?;
     put(rt, "circuitd_words/station.toml", STATION.as_bytes())?;
-    put_long_station(rt, "circuitd_words/long_table.toml", "codes.toml")?;
-    put_long_station(rt, "circuitd_words/long_widths.toml", "widths.toml")
+    put_station_with(rt, "circuitd_words/new.toml", "made.db", "new.db")?;
+    put_station_with(rt, "circuitd_words/long_table.toml", "codes.toml", "blanks")?;
+    put_station_with(
+        rt,
+        "circuitd_words/long_widths.toml",
+        "widths.toml",
+        "blanks",
+    )
 }
 
 #[test]
@@ -290,7 +332,7 @@ fn words_in_their_places(rt: HostRuntime) {
     for run in runs.split("$ ").skip(1) {
         assert!(rt; goes(&rt, run) == Some(true), "{run}");
     }
-    assert!(rt; runs.split("$ ").count() == 15);
+    assert!(rt; runs.split("$ ").count() == 21);
     let lines = TOO_LONG;
     for line in lines.lines() {
         assert!(rt; is_too_long(&rt, line) == Some(true), "{line}");

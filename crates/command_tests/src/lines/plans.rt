@@ -110,6 +110,33 @@ fn versions_of_answer(rt: HostRuntime) {
     }
 }
 
+/// Lines that ask to make the row file of `station.toml`, and the version whose layout it is made in.
+const CREATIONS: &[(&str, Version)] = &[
+    ("circuitd create station.toml", Version::Two),
+    ("circuitd create station.toml --layout 1", Version::One),
+    ("circuitd create --layout=2 station.toml", Version::Two),
+];
+
+/// Whether a line asks to make the row file of `station.toml` in this version's layout.
+fn is_creation(rt: &HostRuntime, line: &str, wanted: Version) -> bool {
+    let Some(words) = words_of(rt.alloc(), line) else {
+        return false;
+    };
+    let mut told = Vec::new(rt.alloc());
+    let mut mistakes = Vec::new(rt.alloc());
+    match parse(rt.alloc(), &words, &mut told, &mut mistakes) {
+        Ok(Asked::Create { config, layout }) => config == "station.toml" && layout == wanted,
+        _ => false,
+    }
+}
+
+#[test]
+fn layouts_of_create(rt: HostRuntime) {
+    for (line, layout) in CREATIONS {
+        assert!(rt; is_creation(&rt, *line, *layout), "{line}");
+    }
+}
+
 /// Lines that ask to run a station, the layout in which its rows are made, if they are, and whether faults alone are told.
 const RUNS: &[(&str, Option<Version>, bool)] = &[
     ("circuitd run station.toml", None, false),
@@ -173,7 +200,7 @@ fn prints_version(rt: &HostRuntime) -> bool {
     let mut out = Vec::new(rt.alloc());
     let mut err = Vec::new(rt.alloc());
     let end = print_version(&mut out, &mut err);
-    end == End::Done && out.as_slice() == "circuitd 0.2.0\n".as_bytes() && err.is_empty()
+    end == End::Done && out.as_slice() == "circuitd 0.3.0\n".as_bytes() && err.is_empty()
 }
 
 #[test]

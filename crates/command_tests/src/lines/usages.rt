@@ -9,7 +9,7 @@ use command_line::parse;
 const USAGES: &str = "\
 $ circuitd
 'circuitd' requires a subcommand but one was not provided
-  [subcommands: answer, check, draw, rows, upgrade, serve, run, rehearse, help]
+  [subcommands: answer, check, draw, rows, upgrade, create, serve, run, rehearse, help]
 
 Usage: circuitd <COMMAND>
 $ circuitd sing
@@ -135,6 +135,14 @@ unexpected argument '--now' found
   tip: to pass '--now' as a value, use '-- --now'
 
 Usage: circuitd serve --turns <T> <CONFIG>
+$ circuitd create
+the following required arguments were not provided:
+  <CONFIG>
+
+Usage: circuitd create <CONFIG>
+$ circuitd create station.toml --layout 3
+invalid value '3' for '--layout <L>'
+  [possible values: 1, 2]
 $ circuitd run
 the following required arguments were not provided:
   <CONFIG>
@@ -190,5 +198,5 @@ fn lines_that_are_usage(rt: HostRuntime) {
     for row in rows.split("$ ").skip(1) {
         assert!(rt; is_row(&rt, row) == Some(true), "{row}");
     }
-    assert!(rt; rows.split("$ ").count() == 41);
+    assert!(rt; rows.split("$ ").count() == 43);
 }

@@ -15,6 +15,13 @@ const PATH: &str = "circuitd_row_files/station2.db";
 
 const COPY: &str = "circuitd_row_files/copy2.db";
 
+/// The log of the file, and the two names under which it is made.
+const LOG: &str = "circuitd_row_files/station2.db-wal";
+
+const PART: &str = "circuitd_row_files/station2.db.making";
+
+const PART_LOG: &str = "circuitd_row_files/station2.db.making-wal";
+
 /// Whether these rows save the promise of 1.3 for 12.
 fn saves<R: Rows>(rt: &HostRuntime, rows: &mut R) -> bool {
     are_done(rt.alloc(), rows, &[Deed::Put(12, HIGHER, None)])
@@ -34,9 +41,9 @@ fn refusal_of<F: RowFiles>(
     files.open(rt, PATH, identity).err()
 }
 
-/// How it is refused where its tables are to be made, if it is.
+/// How it is refused where it is to be made, if it is.
 fn making_of<F: RowFiles>(rt: &HostRuntime, files: &F) -> Option<RefusedRows> {
-    files.create(rt, PATH, STATION, Version::One).err()
+    files.make(rt, PATH, STATION, Version::One).err()
 }
 
 /// A refused store, for this cause.
@@ -49,11 +56,14 @@ fn by(cause: RowsCause) -> Option<RefusedRows> {
 
 /// Whether the file is made, takes the promise, and is refused to another while it is open.
 fn is_made<F: RowFiles>(rt: &HostRuntime, files: &F) -> bool {
-    match files.create(rt, PATH, STATION, Version::One) {
+    if making_of(rt, files).is_some() {
+        return false;
+    }
+    match files.open(rt, PATH, Some(STATION)) {
         Ok(mut rows) => {
             saves(rt, &mut rows)
                 && refusal_of(rt, files, None) == by(RowsCause::InUse)
-                && making_of(rt, files) == by(RowsCause::InUse)
+                && making_of(rt, files) == by(RowsCause::Made)
         }
         Err(_) => false,
     }
@@ -85,21 +95,45 @@ fn stays_missing<F: RowFiles>(rt: &HostRuntime, files: &F) -> bool {
         && matches!(fs::exists(rt, PATH), Ok(false))
 }
 
-/// Whether a file of these bytes is refused to whoever asks, for this cause.
-fn is_refused<F: RowFiles>(rt: &HostRuntime, files: &F, bytes: &[u8], cause: RowsCause) -> bool {
-    fs::write(rt, PATH, bytes).is_ok() && refusal_of(rt, files, None) == by(cause)
+/// Whether it is refused to whoever asks, and to be made, for this cause.
+fn is_refused<F: RowFiles>(rt: &HostRuntime, files: &F, cause: RowsCause) -> bool {
+    refusal_of(rt, files, None) == by(cause) && making_of(rt, files) == by(cause)
 }
 
-/// Whether a first start that was cut off can be made again: a file without tables is refused, and takes them.
+/// Whether the file has these bytes.
+fn holds(rt: &HostRuntime, bytes: &[u8]) -> bool {
+    match fs::read(rt, PATH) {
+        Ok(found) => found.as_slice() == bytes,
+        Err(_) => false,
+    }
+}
+
+/// Whether a file of these bytes is no database, and stays as it is.
+fn is_foreign<F: RowFiles>(rt: &HostRuntime, files: &F, bytes: &[u8]) -> bool {
+    fs::write(rt, PATH, bytes).is_ok()
+        && is_refused(rt, files, RowsCause::Damaged)
+        && holds(rt, bytes)
+}
+
+/// Whether nothing is made over a log whose file is gone.
+fn stays_alone<F: RowFiles>(rt: &HostRuntime, files: &F) -> bool {
+    fs::remove_file(rt, PATH).is_ok() && is_refused(rt, files, RowsCause::LogAlone)
+}
+
+/// Whether what a making left that was cut off is removed by the next one, which goes through.
 fn is_made_again<F: RowFiles>(rt: &HostRuntime, files: &F) -> bool {
-    fs::remove_file(rt, PATH).is_ok()
-        && is_refused(rt, files, b"", RowsCause::Unmade)
+    fs::remove_file(rt, LOG).is_ok()
+        && fs::write(rt, PART, b"SQLite").is_ok()
+        && fs::write(rt, PART_LOG, b"frames").is_ok()
         && making_of(rt, files).is_none()
-        && refusal_of(rt, files, None).is_none()
+        && matches!(fs::exists(rt, PART), Ok(false))
+        && matches!(fs::exists(rt, PART_LOG), Ok(false))
+        && matches!(fs::exists(rt, LOG), Ok(false))
+        && refusal_of(rt, files, Some(STATION)).is_none()
 }
 
 /// How many places there are at which the file has to answer.
-const PLACES: usize = 7;
+const PLACES: usize = 9;
 
 /// The first place at which the file does not answer as it has to; their number where there is none.
 pub fn first_wrong<F: RowFiles>(rt: &HostRuntime, files: &F) -> usize {
@@ -118,11 +152,17 @@ pub fn first_wrong<F: RowFiles>(rt: &HostRuntime, files: &F) -> usize {
     if !is_whole(rt, files) {
         return 4;
     }
-    if !is_refused(rt, files, b"no database", RowsCause::Damaged) {
+    if !is_foreign(rt, files, b"no database") {
         return 5;
     }
-    if !is_made_again(rt, files) {
+    if !is_foreign(rt, files, b"") {
         return 6;
+    }
+    if !stays_alone(rt, files) {
+        return 7;
+    }
+    if !is_made_again(rt, files) {
+        return 8;
     }
     PLACES
 }

@@ -30,8 +30,8 @@ const FIRST_ROWS: &str = "station 1 of 1 circuit 7\n12 1.1 1.1 01020301030204\n"
 const LATER_ROWS: &str = "station 1 of 1 circuit 7\n12 2.1 2.1 01020301030204\n";
 
 /// What is told of a row file that is not there, of one that is made already, and of one that is no database.
-const MISSING: &str =
-    "store: refused\nno such file: it is made by --create, at a station's first start alone\n";
+const MISSING: &str = "store: refused\n\
+no such file: look for it and its log; only a station that never ran is made, by circuitd create\n";
 
 const MADE: &str = "store: refused\nit was made already: start without --create\n";
 

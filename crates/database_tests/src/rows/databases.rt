@@ -4,7 +4,7 @@ use crate::rows::deeds::Deed;
 use crate::rows::identities::OTHER;
 use crate::rows::memory::TWO;
 use crate::rows::samples::{Choice, PROMISED, Sample, VOTED};
-use crate::rows::sessions::{Listing, MADE, Manner, OPENED, Session, first_amiss};
+use crate::rows::sessions::{Listing, MADE, MADE_TWO, Manner, OPENED, Session, first_amiss};
 use saved_rows::RowsFault;
 
 /// What the two rows of `TWO` are listed as.
@@ -60,6 +60,23 @@ const MADE_ONCE: &[Session] = &[
         ..MADE
     },
     AGAIN,
+];
+
+/// Beside a table of the other layout, without a station, none is made, and its row stays.
+const BESIDE_ANOTHER: &[Session] = &[
+    Session {
+        statements: "CREATE TABLE acceptor_entry (packed BLOB); INSERT INTO acceptor_entry VALUES (x'3f')",
+        refusal: Some(RowsFault::Store),
+        ..MADE
+    },
+    Session {
+        found: &[(
+            "UPDATE acceptor_entry SET packed = packed WHERE packed = x'3f'",
+            1,
+        )],
+        refusal: Some(RowsFault::Store),
+        ..MADE_TWO
+    },
 ];
 
 /// A database without the tables.
@@ -163,6 +180,7 @@ const STORIES: &[&[Session]] = &[
     COPIED,
     TAKEN_UP,
     MADE_ONCE,
+    BESIDE_ANOTHER,
     EMPTY,
     STOPPED,
     STATED,

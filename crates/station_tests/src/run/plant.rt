@@ -24,7 +24,7 @@ pub enum Saved {
     LastPromise,
 }
 
-/// A run: what the station saved before, what happens to its folders, how many turns of 250 milliseconds there are, how it
+/// A run: what the station saved before, what happens to its folders, after how many quarters of a second the network fails, how it
 /// has to end, what the folders have to hold, and what has to be told.
 #[derive(Clone, Copy)]
 pub struct Run {
@@ -32,7 +32,7 @@ pub struct Run {
     pub version: Version,
     pub saved: Saved,
     pub acts: &'static [Act],
-    pub turns: u32,
+    pub quarters: u64,
     pub quiet: bool,
     pub end: End,
     /// A line for each file that was written among the releases, for each that left the offers, and for each text.
@@ -46,7 +46,7 @@ pub const RUN: Run = Run {
     version: Version::Two,
     saved: Saved::Nothing,
     acts: &[],
-    turns: 60,
+    quarters: 60,
     quiet: false,
     end: End::Done,
     folders: "",
@@ -74,7 +74,7 @@ fn rows_of(alloc: Global, run: &Run) -> Option<MemoryRows> {
     }
 }
 
-fn station_of(alloc: Global, run: &Run) -> Option<Station<MemoryRows>> {
+pub fn station_of(alloc: Global, run: &Run) -> Option<Station<MemoryRows>> {
     station_over(alloc, 1, run.members, rows_of(alloc, run)?)
 }
 
@@ -119,8 +119,8 @@ fn ends(alloc: Global, stage: &mut Stage, run: &Run) -> bool {
     };
     let mut wire = Ticking {
         moment: 0,
-        tick: 250,
-        left: run.turns,
+        tick: 25,
+        until: run.quarters.saturating_mul(250),
     };
     let mut err = Vec::new(alloc);
     let end = run_station(alloc, &mut station, &mut wire, stage, run.quiet, &mut err);

@@ -21,9 +21,9 @@ const REFUSED: &[Run] = &[
             Act(9, Laid(Stop, Nothing)),
         ],
         folders: "\
-refused 012.tape\nrefused story.tape\nrefused 1000000.seek\nrefused 012.tape.txt: no number\n\
-refused story.tape.txt: no number\nrefused 1000000.seek.txt: no number\n",
-        err: "refused 012.tape: no number\nrefused story.tape: no number\nrefused 1000000.seek: no number\n",
+refused 012.tape\nrefused 1000000.seek\nrefused story.tape\nrefused 012.tape.txt: no number\n\
+refused 1000000.seek.txt: no number\nrefused story.tape.txt: no number\n",
+        err: "refused 012.tape: no number\nrefused 1000000.seek: no number\nrefused story.tape: no number\n",
         ..RUN
     },
     Run {

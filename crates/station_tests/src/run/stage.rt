@@ -76,6 +76,8 @@ fn bytes_of(held: Held) -> &'static [u8] {
 pub enum What {
     /// A file is laid among the offers, or written anew.
     Laid(Name, Held),
+    /// The flood story is laid among the offers for each of so many numbers, from 1 on.
+    Burst(u32),
     /// The folder of releases is full, or no longer.
     Full(bool),
     /// Nothing can be set aside, or it can again.
@@ -105,8 +107,18 @@ impl Stage {
         }
     }
 
+    /// Lays the flood story among the offers for each number up to this.
+    fn lay_all(&mut self, alloc: Global, last: u32) -> Result<(), AllocError> {
+        for number in 1..=last {
+            let name = format!(in alloc; "{number}.tape")?;
+            self.folders.lay(alloc, &name, FLOOD, 0)?;
+        }
+        Ok(())
+    }
+
     fn act(&mut self, alloc: Global, what: What) -> Result<(), AllocError> {
         match what {
+            What::Burst(last) => self.lay_all(alloc, last),
             What::Laid(name, held) => {
                 let changed = i64::try_from(self.looks).unwrap_or(i64::MAX);
                 self.folders

@@ -111,7 +111,7 @@ fn written_anew(rt: HostRuntime) {
 const ALONE: Run = Run {
     members: 3,
     acts: &[Act(1, Laid(Seek12, Nothing))],
-    turns: 8,
+    quarters: 7,
     end: End::Socket,
     err: "12 began 1.1\n12 began 2.1\nsocket: receive failed\n",
     ..RUN
@@ -126,7 +126,7 @@ fn alone(rt: HostRuntime) {
 const GIVEN_UP: Run = Run {
     members: 3,
     acts: &[Act(1, Laid(Seek12, Nothing))],
-    turns: 74,
+    quarters: 49,
     end: End::Socket,
     err: "\
 12 began 1.1\n12 began 2.1\n12 began 3.1\n12 began 4.1\n12 began 5.1\n12 began 6.1\n\

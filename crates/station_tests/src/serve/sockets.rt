@@ -100,3 +100,27 @@ fn three_pass_on(rt: &HostRuntime) -> Option<bool> {
 fn three_sockets(rt: HostRuntime) {
     assert!(rt; three_pass_on(&rt) == Some(true));
 }
+
+/// Whether a station keeps what its friend sends, as far as there are places for one of two members, gives the first of it first, and
+/// tells how many found none, once a second at most.
+fn keeps_a_share(rt: &HostRuntime) -> Option<bool> {
+    let friend = any_socket(rt)?;
+    let mut station = station_with(rt, port_of(&friend)?)?;
+    let port = station.port().ok()?;
+    let mut is_waiting = true;
+    for round in 0..50u8 {
+        for _ in 0..100 {
+            is_waiting &= friend.send_to(&[round, 1], ("127.0.0.1", port)).is_ok();
+        }
+        is_waiting &= station.fetch();
+    }
+    let mut buffer = [7u8; 12_314];
+    let first = station.receive(&mut buffer) == Arrival::Datagram { length: 2 };
+    let told = station.lost(0) == Some(904) && station.lost(5) == None;
+    Some(is_waiting && first && buffer.starts_with(&[0, 1, 7]) && told)
+}
+
+#[test]
+fn a_share_of_the_memory(rt: HostRuntime) {
+    assert!(rt; keeps_a_share(&rt) == Some(true));
+}

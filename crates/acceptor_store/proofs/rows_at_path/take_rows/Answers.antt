@@ -1,17 +1,17 @@
-use Rattle.std.proofs.Common.{arith, refl}
+use Rattle.std.proofs.Common.{rules, ◌≡◌, true, false, refl}
+use Rattle.sqlite.specs.Held.{state}
+use Rattle.row_columns.specs.FoundTables.{has_none}
 use Rattle.acceptor_store.proofs.rows_at_path.take_rows.Goals as goal
 
 pub returns-then-has_none-clause-refused : goal.returns-then-has_none-clause-refused
-returns-then-has_none-clause-refused g c = record {
-  refuses = λ _ _ _. tt;
-  unwritten = λ _ _ _ _. refl;
-  crash = λ _ _ _ _ may. may;
-  clean = omega arith;
-}
+returns-then-has_none-clause-refused g c =
+    let none : has_none (state g.S.Store c.args.conn).now.schema ≡ true = search rules in
+    (none, refl)
 
 pub returns-in-Ok-clause-taken : goal.returns-in-Ok-clause-taken
 returns-in-Ok-clause-taken g c = record {
   is_open = c.in-Ok.ensures.«open»;
+  rests = c.in-Ok.ensures.rests;
   same = c.in-Ok.ensures.same;
   unwritten = c.in-Ok.ensures.unwritten;
   agrees = c.in-Ok.ensures.given;
@@ -25,9 +25,13 @@ returns-in-Ok-clause-taken g c = record {
 }
 
 pub returns-in-Err-clause-refused : goal.returns-in-Err-clause-refused
-returns-in-Err-clause-refused g c = record {
-  refuses = c.in-Err.ensures.refuses;
-  unwritten = c.in-Err.ensures.unchanged;
-  crash = c.in-Err.ensures.crash_err;
-  clean = c.in-Err.ensures.clean_err;
-}
+returns-in-Err-clause-refused g c =
+    let some : has_none (state g.S.Store c.args.conn).now.schema ≡ false = search rules in (
+      some,
+      record {
+        refuses = c.in-Err.ensures.refuses;
+        unwritten = c.in-Err.ensures.unchanged;
+        crash = c.in-Err.ensures.crash_err;
+        clean = c.in-Err.ensures.clean_err;
+      },
+    )

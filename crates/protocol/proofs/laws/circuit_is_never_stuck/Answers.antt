@@ -1,5 +1,5 @@
 -- By taking the steps.
-use Rattle.protocol.proofs.Progress.{circuit_is_never_stuck, chosen_is_found, half_an_upgrade_is_no_dead_end, running_need_not_restart, denied_need_not_restart}
+use Rattle.protocol.proofs.Progress.{circuit_is_never_stuck, chosen_is_found, half_an_upgrade_is_no_dead_end, running_need_not_restart, denied_need_not_restart, busy_need_not_restart}
 use Rattle.protocol.proofs.Everywhere.{every_member_releases}
 use Rattle.protocol.proofs.laws.circuit_is_never_stuck.Goals as goal
 
@@ -17,6 +17,9 @@ returns-clause-running g c = running_need_not_restart
 
 pub returns-clause-denied : goal.returns-clause-denied
 returns-clause-denied g c = denied_need_not_restart
+
+pub returns-clause-busy : goal.returns-clause-busy
+returns-clause-busy g c = busy_need_not_restart
 
 pub returns-clause-every : goal.returns-clause-every
 returns-clause-every g c = every_member_releases

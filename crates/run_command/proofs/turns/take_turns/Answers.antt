@@ -35,8 +35,8 @@ returns-in_err-timed_turn-clause-runs g c =
     answered k old new (end_of c.in_err-timed_turn.field-0.0) (ended c.from_residual.result) same
     (and_then k old mid new (end_of c.in_err-timed_turn.field-0.0) c.timed_turn.ensures.was_kept c.loop.invariant.runs c.in_err-timed_turn.ensures.runs)
 
-pub returns-then-branch-clause-runs : goal.returns-then-branch-clause-runs
-returns-then-branch-clause-runs g c =
+pub returns-then-book-clause-runs : goal.returns-then-book-clause-runs
+returns-then-book-clause-runs g c =
     and_then (known g.R.Rows g.N.Wire.passed g.F.Folders.written)
     (plant c.args.station.now c.args.wire.now c.args.folders.now c.args.waits.now.items) (plant c.loop.station c.loop.wire c.loop.folders c.loop.waits.items)
     (plant c.timed_turn.new.station c.timed_turn.new.wire c.timed_turn.new.folders c.timed_turn.new.waits.items) Done c.timed_turn.ensures.was_kept c.loop.invariant.runs c.in_ok-timed_turn.ensures.runs

@@ -8,5 +8,5 @@ pub returns-clause-runs : goal.returns-clause-runs
 returns-clause-runs g c =
     clocked (known g.R.Rows g.N.Wire.passed g.F.Folders.written)
     c.args.station.now c.args.wire.now c.now-now.new.self c.args.folders.now c.args.waits.now.items
-    (plant c.turn_and_look.new.station c.turn_and_look.new.wire c.turn_and_look.new.folders c.turn_and_look.new.waits.items) c.now-now.result (ended c.turn_and_look.result)
-    c.now-now.ensures.passes c.turn_and_look.ensures.runs
+    (plant c.turn.new.station c.turn.new.wire c.turn.new.folders c.turn.new.waits.items) c.now-now.result (ended c.turn.result)
+    c.now-now.ensures.passes c.turn.ensures.runs

@@ -21,7 +21,7 @@ returns-in-Ok-clause-serves g c =
     (λ log done form. subst (λ (o : Option ℕ). IsWithdrawal o log) (sym c.in-Some.is) form)
     (clocked k c.args.station.now c.args.wire.now c.now-now.new.self c.args.out.now new c.now-now.result _ (IsOffering c.in-Some.number Void) c.now-now.ensures.passes
     (handed k (Offering c.in-Some.number Void c.now-now.result) c.in-Ok.answer (post c.args.station.now c.now-now.new.self c.args.out.now) new c.now-now.new.self c.hand_on.result (IsOffering c.in-Some.number Void c.now-now.result)
-    (λ kept. c.in-Ok.ensures.steps kept) (Passes-nil (g.N.Wire.passed c.now-now.new.self)) c.hand_on.ensures.sends c.hand_on.ensures.ok c.hand_on.ensures.err c.hand_on.ensures.fault
+    (λ kept. c.in-Ok.ensures) (Passes-nil (g.N.Wire.passed c.now-now.new.self)) c.hand_on.ensures.sends c.hand_on.ensures.ok c.hand_on.ensures.err c.hand_on.ensures.fault
     c.in-Ok.ensures.stops (_, refl)))
 
 pub returns-in-Err-clause-serves : goal.returns-in-Err-clause-serves
@@ -32,4 +32,4 @@ returns-in-Err-clause-serves g c =
     (λ log done form. absurd (ends_badly c.of_step.result done))
     (clocked k c.args.station.now c.args.wire.now c.now-now.new.self c.args.out.now new c.now-now.result _ (λ now log. Unit {0}) c.now-now.ensures.passes
     (denied k (Offering c.in-Some.number Void c.now-now.result) c.in-Err.refusal c.args.station.now c.withdraw.new.self c.now-now.new.self c.args.out.now c.of_step.result (λ log. Unit {0})
-    (λ kept. c.in-Err.ensures.steps kept) (Passes-nil (g.N.Wire.passed c.now-now.new.self)) c.in-Err.ensures.stops c.of_step.ensures))
+    (λ kept. c.in-Err.ensures) (Passes-nil (g.N.Wire.passed c.now-now.new.self)) c.in-Err.ensures.stops c.of_step.ensures))

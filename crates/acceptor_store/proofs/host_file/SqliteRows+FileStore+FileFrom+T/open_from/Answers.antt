@@ -2,12 +2,19 @@ use Rattle.std.proofs.Common.{true, false, arith, subst, sym}
 use Rattle.std.proofs.lemmas.Option.{IfSome_then}
 use Rattle.sqlite_std_file.specs.File.{IsFresh}
 use Rattle.sqlite.specs.State.{HasCleanDisk}
-use Rattle.sqlite.specs.Files.{file_state, IsCleanLeft, LeavesFiles}
+use Rattle.sqlite.specs.Files.{file_state, over_files, IsCleanLeft, LeavesFiles}
 use Rattle.acceptor_store.specs.Opening.{IsReasonToRefuse}
+use Rattle.acceptor_store.proofs.FaultLemmas.{refused_as_rows}
 use Rattle.acceptor_store.proofs.host_file.SqliteRows+FileStore+FileFrom+T.open_from.Goals as goal
 
 pub returns-in-Ok-rows_in_files-clause-open : goal.returns-in-Ok-rows_in_files-clause-open
 returns-in-Ok-rows_in_files-clause-open g c clean ours = c.in-Ok-rows_in_files.ensures.taken.is_open (clean, ours)
+
+pub returns-in-Ok-rows_in_files-clause-rests : goal.returns-in-Ok-rows_in_files-clause-rests
+returns-in-Ok-rows_in_files-clause-rests g c clean ours = c.in-Ok-rows_in_files.ensures.taken.rests (clean, ours)
+
+pub returns-in-Ok-rows_in_files-clause-fresh : goal.returns-in-Ok-rows_in_files-clause-fresh
+returns-in-Ok-rows_in_files-clause-fresh g c = c.in-Ok-rows_in_files.ensures.taken.fresh
 
 pub returns-in-Ok-rows_in_files-clause-given : goal.returns-in-Ok-rows_in_files-clause-given
 returns-in-Ok-rows_in_files-clause-given g c = c.in-Ok-rows_in_files.ensures.taken.agrees
@@ -51,7 +58,7 @@ pub returns-in-Err-rows_in_files-clause-refuses : goal.returns-in-Err-rows_in_fi
 returns-in-Err-rows_in_files-clause-refuses g c =
     let was = c.in-Ok.conn in
     let now = c.in-Err-rows_in_files.conn in
-    let why = c.in-Err-rows_in_files.ensures.refused in
+    let why = refused_as_rows over_files c.args.given c.in-Err-rows_in_files.fault was now c.in-Err-rows_in_files.ensures.refused in
     record {
       was = was;
       opened = λ clean. c.in-Ok.ensures.opened (omega (arith, clean, why.clean));

@@ -6,13 +6,19 @@ use Rattle.acceptor_store.proofs.rows_at_path.SqliteRows+FileStore+FileFrom+T.op
 
 pub returns-in-Ok-clause-open : goal.returns-in-Ok-clause-open
 returns-in-Ok-clause-open g c =
-    IfOk-weaker c.rows_or_fault.result _ _ (λ s is clean ours. is.is_open (clean, ours)) c.rows_or_fault.ensures
+    IfOk-weaker c.rows_or_fault.result _ _ (λ s is clean ours. is.is_open (clean, ours)) c.rows_or_fault.ensures.taken
+
+pub returns-in-Ok-clause-rests : goal.returns-in-Ok-clause-rests
+returns-in-Ok-clause-rests g c = IfOk-weaker c.rows_or_fault.result _ _ (λ s is clean ours. is.rests (clean, ours)) c.rows_or_fault.ensures.taken
+
+pub returns-in-Ok-clause-fresh : goal.returns-in-Ok-clause-fresh
+returns-in-Ok-clause-fresh g c = IfOk-weaker c.rows_or_fault.result _ _ (λ s is. is.fresh) c.rows_or_fault.ensures.taken
 
 pub returns-in-Ok-clause-given : goal.returns-in-Ok-clause-given
-returns-in-Ok-clause-given g c = IfOk-weaker c.rows_or_fault.result _ _ (λ s is. is.agrees) c.rows_or_fault.ensures
+returns-in-Ok-clause-given g c = IfOk-weaker c.rows_or_fault.result _ _ (λ s is. is.agrees) c.rows_or_fault.ensures.taken
 
 pub returns-in-Ok-clause-unstopped : goal.returns-in-Ok-clause-unstopped
-returns-in-Ok-clause-unstopped g c = IfOk-weaker c.rows_or_fault.result _ _ (λ s is. is.unstopped) c.rows_or_fault.ensures
+returns-in-Ok-clause-unstopped g c = IfOk-weaker c.rows_or_fault.result _ _ (λ s is. is.unstopped) c.rows_or_fault.ensures.taken
 
 pub returns-in-Ok-clause-made : goal.returns-in-Ok-clause-made
 returns-in-Ok-clause-made g c =
@@ -23,7 +29,7 @@ returns-in-Ok-clause-made g c =
       found = λ clean. c.in-Ok.ensures.found (omega (arith, clean, is.clean));
       ours = is.ours;
     })
-    c.rows_or_fault.ensures
+    c.rows_or_fault.ensures.taken
 
 pub returns-in-Ok-clause-rows : goal.returns-in-Ok-clause-rows
 returns-in-Ok-clause-rows g c =
@@ -42,4 +48,4 @@ returns-in-Ok-clause-rows g c =
       station = is.stored (clean, ours);
       fresh = is.fresh;
     })
-    c.rows_or_fault.ensures
+    c.rows_or_fault.ensures.taken

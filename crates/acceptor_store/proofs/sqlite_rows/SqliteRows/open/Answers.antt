@@ -2,7 +2,8 @@ use Rattle.std.proofs.Common.{rules, ◌≡◌, false, IsTrue}
 use Rattle.sqlite.specs.Held.{state}
 use Rattle.row_table.specs.Tables.{layout_schema}
 use Rattle.row_columns.specs.Layouts.{layout_of}
-use Rattle.acceptor_store.proofs.StandLemmas.{taken_stands}
+use Rattle.acceptor_store.proofs.StandLemmas.{IsSettled, taken_stands}
+use Rattle.acceptor_store.proofs.RestLemmas.{rests}
 use Rattle.acceptor_store.proofs.sqlite_rows.SqliteRows.open.Goals as goal
 
 pub invariant_of-result : goal.invariant_of-result
@@ -26,3 +27,17 @@ pub returns-in-Err-take_up-clause-unchanged : goal.returns-in-Err-take_up-clause
 returns-in-Err-take_up-clause-unchanged g c clean layout laid opened =
     let free : IsTrue c.is_autocommit.result = search rules in
     (c.take_up.ensures.kept clean layout laid (c.is_autocommit.ensures.settled free) opened).same
+
+pub returns-in-Ok-take_up-clause-rests : goal.returns-in-Ok-take_up-clause-rests
+returns-in-Ok-take_up-clause-rests g c kept =
+    let old = c.args.conn in
+    let new = c.take_up.new.conn in
+    let layout = layout_of c.in-Ok-take_up.taken.0 in
+    let tables : (state g.S.Store old).now.schema ≡ layout_schema layout = search rules in
+    let free : IsTrue c.is_autocommit.result = search rules in
+    let alone : old.in_transaction ≡ false = search rules in
+    let law : IsSettled (state g.S.Store new) = λ db. g.met.S.Store.settled new.store db in
+    let stands =
+    taken_stands g.S.Store old new layout c.in-Ok-take_up.taken.1 tables c.schema.ensures.live (λ clean. c.in-Ok-take_up.ensures.holds clean layout tables)
+    (λ clean. c.in-Ok-take_up.ensures.serves clean layout tables alone (c.is_autocommit.ensures.settled free)) (λ clean. c.in-Ok-take_up.ensures.unchanged clean layout tables) in
+    rests g.S.Store _ law stands kept (c.in-Ok-take_up.ensures.unchanged kept.0 layout tables).0.is_open

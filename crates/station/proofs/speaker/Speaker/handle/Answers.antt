@@ -26,6 +26,16 @@ invariant_of-self-else-matches c =
     c.handle-answer.result c.handle-answer.ensures.ok c.handle-answer.ensures.refused in
     elim c.match-matches.branch [ in-Err-OutOfMemory w ↦ search rules | in_default w ↦ speaks (λ is. search rules) | in_default-2 w ↦ speaks (λ is. search rules) ]
 
+-- the marks that its invariant has
+marks_of : (c : goal.Else-matches) → (marks : List Mark) × StandsFor c.args.self.now.core marks
+marks_of c = subst (λ (s : Speaking). (marks : List Mark) × StandsFor s.core marks) c.self.view_is (c.self.invariant.marks, c.self.invariant.stands_for)
+
+pub returns-then-matches-clause-stands : goal.returns-then-matches-clause-stands
+returns-then-matches-clause-stands c = subst (λ (s : Speaking). (marks : List Mark) × StandsFor s.core marks) c.self.view_is (c.self.invariant.marks, c.self.invariant.stands_for)
+
+pub returns-else-matches-clause-stands : goal.returns-else-matches-clause-stands
+returns-else-matches-clause-stands c = marks_of c
+
 pub returns-then-matches-clause-memory : goal.returns-then-matches-clause-memory
 returns-then-matches-clause-memory c =
     subst

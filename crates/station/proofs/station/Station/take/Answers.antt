@@ -2,12 +2,13 @@
 use Rattle.std.proofs.Common.{rules, refl, sym, ◌∙◌}
 use Rattle.node_core.specs.Turns.{event_value}
 use Rattle.station.specs.Stations.{sight}
+use Rattle.station.proofs.Refused.{not_released, not_open}
 use Rattle.station.proofs.Taking.{Taking, handed_on, stopped_at, wanted}
 use Rattle.station.proofs.station.Station.take.Goals.{then-is_err, else-is_err}
 use Rattle.station.proofs.station.Station.take.Goals as goal
 
 pub returns-in-Ok-handle-clause-takes : goal.returns-in-Ok-handle-clause-takes
-returns-in-Ok-handle-clause-takes g c = λ kept marks stands free.
+returns-in-Ok-handle-clause-takes g c = λ kept marks stands.
     let x = sight g.R.Rows in
     let l = c.in-Ok-handle.ensures.ok marks stands in
     elim c.if-is_err.branch [
@@ -53,9 +54,27 @@ returns-in-Ok-handle-clause-takes g c = λ kept marks stands free.
     ]
 
 pub returns-clause-takes : goal.returns-clause-takes
-returns-clause-takes g c = λ kept marks stands free.
+returns-clause-takes g c = λ kept marks stands.
     let x = sight g.R.Rows in
     let here : g.R.Rows.kept c.get.new.self = rw c.stop-in-Err-OutOfMemory.ensures.stopped at kept in
     wanted x c.args.event c.args.self.now c.stop-in-Err-OutOfMemory.new.self marks c.get.new.self c.handle.new.self c.in-Ok.row c.args.number c.stop-in-Err-OutOfMemory.result
     c.stop-in-Err-OutOfMemory.ensures.same c.handle.ensures.seat c.stop-in-Err-OutOfMemory.ensures.fixed c.stop-in-Err-OutOfMemory.ensures.stopped c.stop-in-Err-OutOfMemory.ensures.stands
     (search rules) c.requires.number (search rules) (c.in-Err-OutOfMemory.ensures.memory c.in-Err-OutOfMemory.field-0-is marks stands)
+
+pub returns-in-Err-AlreadyReleased-clause-late : goal.returns-in-Err-AlreadyReleased-clause-late
+returns-in-Err-AlreadyReleased-clause-late g c =
+    let own = c.handle.ensures.stands in
+    absurd (not_released c.args.event c.args.self.now.speaker.core c.handle.new.self.core c.in-Ok.row own.0 own.1 (c.requires.free own.0 own.1) (rw c.in-Err-AlreadyReleased.field-0-is at c.in-Err-AlreadyReleased.ensures.refused))
+
+pub returns-in-Err-AlreadyReleased-clause-takes : goal.returns-in-Err-AlreadyReleased-clause-takes
+returns-in-Err-AlreadyReleased-clause-takes g c = λ kept marks stands.
+    not_released c.args.event c.args.self.now.speaker.core c.handle.new.self.core c.in-Ok.row marks stands (c.requires.free marks stands) (rw c.in-Err-AlreadyReleased.field-0-is at c.in-Err-AlreadyReleased.ensures.refused)
+
+pub returns-in-Err-AlreadyOpen-clause-late : goal.returns-in-Err-AlreadyOpen-clause-late
+returns-in-Err-AlreadyOpen-clause-late g c =
+    let own = c.handle.ensures.stands in
+    absurd (not_open c.args.event c.args.self.now.speaker.core c.handle.new.self.core c.in-Ok.row own.0 own.1 (c.requires.free own.0 own.1) (rw c.in-Err-AlreadyOpen.field-0-is at c.in-Err-AlreadyOpen.ensures.refused))
+
+pub returns-in-Err-AlreadyOpen-clause-takes : goal.returns-in-Err-AlreadyOpen-clause-takes
+returns-in-Err-AlreadyOpen-clause-takes g c = λ kept marks stands.
+    not_open c.args.event c.args.self.now.speaker.core c.handle.new.self.core c.in-Ok.row marks stands (c.requires.free marks stands) (rw c.in-Err-AlreadyOpen.field-0-is at c.in-Err-AlreadyOpen.ensures.refused)

@@ -1,0 +1,19 @@
+//! The law that joins rows in files to a day. The function does nothing but cite the laws that it rests on.
+
+ghost use Rattle.database_days.specs.Starting.{StartsHandOver};
+ghost use Rattle.station.specs.Stations.{sight};
+
+use acceptor_store::{SqliteRows, laws};
+use saved_rows::Rows;
+use sqlite::FileStore;
+use sqlite_disk::Disk;
+
+/// However a process ended, the next start finds of its rows in files what a day allows. `D` are the disks before, `E` those
+/// of the next start.
+pub fn starts_hand_over<D: Disk + Drop, E: Disk + Drop>()
+    ensures { StartsHandOver D D.Disk E E.Disk (sight ⟦<SqliteRows<FileStore<D>> as Rows>⟧) }
+{
+    laws::what_is_left_is_found::<D, E>();
+    laws::a_crash_at_rest_is_a_restart::<D, E, (), (), ()>();
+    laws::an_upgrade_outlives_crashes::<D, E>();
+}

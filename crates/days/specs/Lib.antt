@@ -1,0 +1,4 @@
+pub mod Happening
+pub mod Handing
+pub mod Days
+pub mod Examples

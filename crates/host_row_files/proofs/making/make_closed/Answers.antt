@@ -1,0 +1,20 @@
+use Rattle.std.specs.Prelude.{refl}
+use Rattle.std.proofs.lemmas.Result.{on_ok_weaker}
+use Rattle.host_row_files.proofs.making.make_closed.Goals as goal
+
+pub returns-in-Ok : goal.returns-in-Ok
+returns-in-Ok c =
+    on_ok_weaker c.close_database.result
+    (λ closed. (
+      c.in-Ok.rows,
+      record {
+        its_own = c.in-Ok.ensures.made;
+        blank = c.in-Ok.ensures.blank;
+        identity = c.in-Ok.ensures.identity;
+        version = c.in-Ok.ensures.version;
+        goes = c.in-Ok.ensures.unstopped;
+        closed = closed;
+        wary = refl;
+      },
+    ))
+    c.close_database.ensures

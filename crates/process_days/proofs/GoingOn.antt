@@ -1,0 +1,148 @@
+-- The logs of processes, one event after the other, are a day.
+use Rattle.std.proofs.Common.{◌≡◌, ◌≢◌, ◌⊎◌, ℕ, inl, inr, refl, sym, ap, subst, List, [], ◌∷◌, Bool, true, false}
+use Rattle.std.specs.Prelude.{◌==◌, ◌||◌, if◌then◌else◌, Result, Ok, Err}
+use Rattle.std.proofs.lemmas.Bool.{eqb-true, eqb-false, eq-eqb}
+use Rattle.protocol.specs.Ballots.{IsMember}
+use Rattle.protocol.specs.Refusals.{Call}
+use Rattle.protocol.specs.Circuit.{with_at}
+use Rattle.saved_rows.specs.declared.rows.Rows.{Ghosts}
+use Rattle.station.specs.declared.answer.Answer.{Answer}
+use Rattle.station.specs.declared.station.Station.{Station}
+use Rattle.station.specs.Steps.{tears, IsStep}
+use Rattle.refusals.specs.declared.refusal.StepRefusal.{StepRefusal}
+use Rattle.protocol.proofs.Places.{with_at-same}
+use Rattle.exchange.specs.Events.{Event, asked, took, Takes}
+use Rattle.days.specs.Happening.{In_call, Happened, did, Came}
+use Rattle.days.specs.Handing.{Plants, Member, runs, over, after_call}
+use Rattle.days.specs.Days.{Day, answers, refuses, DaysAgree}
+use Rattle.process_days.specs.Telling.{Order, log_of, day_after, IsInTurn, HasLog, IsLeftWith, LogsMakeDays, LogsAgree}
+
+-- what is changed at one place stays elsewhere
+with_at-other : {A : Type 0} (f : ℕ → A) (m : ℕ) (x : A) (k : ℕ) → k ≢ m → with_at f m x k ≡ f k
+with_at-other f m x k far = go (k == m) refl
+  where
+    go : (b : Bool) → (k == m) ≡ b → with_at f m x k ≡ f k
+    go true e = absurd (far (eqb-true k m e))
+    go false e = rw e refl
+
+log_here : (k : ℕ) (e : Event) (rest : Order) → log_of k ((k, e) ∷ rest) ≡ e ∷ log_of k rest
+log_here k e rest = ap (λ (b : Bool). if b then e ∷ log_of k rest else log_of k rest) (eq-eqb k k refl)
+
+log_elsewhere : (m k : ℕ) (e : Event) (rest : Order) → (k == m) ≡ false → log_of m ((k, e) ∷ rest) ≡ log_of m rest
+log_elsewhere m k e rest far = ap (λ (b : Bool). if b then e ∷ log_of m rest else log_of m rest) far
+
+no_more : {A : Type 0} {x : A} {xs : List A} → x ∷ xs ≡ [] → ⊥
+no_more e = cc
+
+module _ {R : Type 0} (g : Ghosts R) where
+  -- rows that are kept at the end of a log were kept before it
+  was_kept : (s last : Station R) (log : List Event) → Takes g s last log → g.kept last.rows → g.kept s.rows
+  was_kept s last [] it kept = subst (λ (t : Station R). g.kept t.rows) it kept
+  was_kept s last (asked moment ∷ rest) it kept = was_kept s last rest it kept
+  was_kept s last (took call answer ∷ rest) it kept = it.1.was_kept (was_kept it.0 last rest it.2 kept)
+
+  -- a process that is over tells nothing more, or goes on with a station that has stopped
+  abbrev Goes : Member R → Station R → List Event → Type 0
+  Goes (runs s) last log = g.kept last.rows × Takes g s last log
+  Goes (over ending s) last log = ((t : Station R) × (t.stopped ≡ true) × Takes g t last log) ⊎ (log ≡ [])
+
+  from_log : (u : Member R) (last : Station R) (log : List Event) → HasLog g u last log → Goes u last log
+  from_log (runs s) last log it = it
+  from_log (over ending s) last log it = inr it
+
+  left_so : (u : Member R) (last : Station R) → Goes u last [] → IsLeftWith u last
+  left_so (runs s) last it = it.1
+  left_so (over ending s) last it = tt
+
+  -- the clock was asked
+  clock_asked : (u : Member R) (last : Station R) (moment : ℕ) (log : List Event) → Goes u last (asked moment ∷ log) → Goes u last log
+  clock_asked (runs s) last moment log it = it
+  clock_asked (over ending s) last moment log (inl it) = inl it
+  clock_asked (over ending s) last moment log (inr none) = absurd (no_more none)
+
+  refused_on :
+      (b : Bool) (call : Call) (old mid last : Station R) (log : List Event) → mid.stopped ≡ (b || old.stopped) → g.kept last.rows → Takes g mid last log
+      → Goes (if b then over (In_call call) old else runs mid) last log
+  refused_on true call old mid last log stops kept it = inl (mid, stops, it)
+  refused_on false call old mid last log stops kept it = (kept, it)
+
+  -- a call was answered
+  called : (call : Call) (answer : Result Answer StepRefusal) (old mid last : Station R) (log : List Event) → IsStep g call old mid answer → g.kept last.rows → Takes g mid last log → Goes (after_call call answer old mid) last log
+  called call (Ok a) old mid last log step kept it = (kept, it)
+  called call (Err r) old mid last log step kept it = refused_on (tears r) call old mid last log step.stops kept it
+
+  module _ (p : Plants) (last : ℕ → Station R) where
+    abbrev GoOn : (ℕ → Member R) → Order → Type 0
+    GoOn at order = (m : ℕ) → IsMember p.count m → Goes (at m) (last m) (log_of m order)
+
+    abbrev Ends : List Happened → Type 0
+    Ends day = (now : ℕ → Member R) × Day g p day now × ((m : ℕ) → IsMember p.count m → IsLeftWith (now m) (last m))
+
+    -- where one member's process went on, and the others' stayed
+    others_stay :
+        (at : ℕ → Member R) (k : ℕ) (e : Event) (rest : Order) (u : Member R) → GoOn at ((k, e) ∷ rest) → Goes u (last k) (log_of k rest) → GoOn (with_at at k u) rest
+    others_stay at k e rest u all here m member = go (m == k) refl
+      where
+        go : (b : Bool) → (m == k) ≡ b → Goes (with_at at k u m) (last m) (log_of m rest)
+        go true same =
+            let is : m ≡ k = eqb-true m k same in
+            subst (λ (j : ℕ). Goes (with_at at k u j) (last j) (log_of j rest)) (sym is) (subst (λ (v : Member R). Goes v (last k) (log_of k rest)) (sym (with_at-same at k u)) here)
+        go false apart =
+            let far : m ≢ k = eqb-false m k apart in
+            let turned : (k == m) ≡ false = differs k m (λ is. far (sym is)) in
+            subst (λ (v : Member R). Goes v (last m) (log_of m rest)) (sym (with_at-other at k u m far))
+            (subst (λ (l : List Event). Goes (at m) (last m) l) (log_elsewhere m k e rest turned) (all m member))
+          where
+            differs : (i j : ℕ) → i ≢ j → (i == j) ≡ false
+            differs i j ne = by (i == j) refl
+              where
+                by : (b : Bool) → (i == j) ≡ b → (i == j) ≡ false
+                by true is = absurd (ne (eqb-true i j is))
+                by false is = is
+
+    all_stay : (at : ℕ → Member R) (k : ℕ) (e : Event) (rest : Order) → GoOn at ((k, e) ∷ rest) → Goes (at k) (last k) (log_of k rest) → GoOn at rest
+    all_stay at k e rest all here m member = go (k == m) refl
+      where
+        go : (b : Bool) → (k == m) ≡ b → Goes (at m) (last m) (log_of m rest)
+        go true same = subst (λ (j : ℕ). Goes (at j) (last j) (log_of j rest)) (eqb-true k m same) here
+        go false apart = subst (λ (l : List Event). Goes (at m) (last m) l) (log_elsewhere m k e rest apart) (all m member)
+
+    -- the day goes on by a call of this member's process
+    by_call :
+        (day : List Happened) (at : ℕ → Member R) (k : ℕ) (call : Call) (answer : Result Answer StepRefusal) (rest : Order) → Day g p day at → IsMember p.count k → Came day k call
+        → GoOn at ((k, took call answer) ∷ rest) → (u : Member R) → at k ≡ u → Goes u (last k) (took call answer ∷ log_of k rest)
+        → (next : ℕ → Member R) × Day g p (did k call answer ∷ day) next × GoOn next rest
+    by_call day at k call answer rest d member came all (runs s) is it =
+        let all_taken : Takes g s (last k) (took call answer ∷ log_of k rest) = it.1 in
+        let mid : Station R = all_taken.0 in
+        let u : Member R = after_call call answer s mid in (
+          with_at at k u,
+          answers d k call s mid answer member is came (was_kept mid (last k) (log_of k rest) all_taken.2 it.0) all_taken.1,
+          others_stay at k (took call answer) rest u all (called call answer s mid (last k) (log_of k rest) all_taken.1 it.0 all_taken.2),
+        )
+    by_call day at k call answer rest d member came all (over ending s) is (inr none) = absurd (no_more none)
+    by_call day at k call answer rest d member came all (over ending s) is (inl it) =
+        let step = it.2.1 in
+        let stopped = step.stopped it.1 in
+        let here : Goes (over ending s) (last k) (log_of k rest) = inl (it.0, it.1, subst (λ (t : Station R). Takes g t (last k) (log_of k rest)) stopped.1 it.2.2) in (
+          at,
+          subst (λ (r : Result Answer StepRefusal). Day g p (did k call r ∷ day) at) (sym stopped.0) (refuses d k call ending s member is),
+          all_stay at k (took call answer) rest all (subst (λ (v : Member R). Goes v (last k) (log_of k rest)) (sym is) here),
+        )
+
+    log_first : (at : ℕ → Member R) (k : ℕ) (e : Event) (rest : Order) → IsMember p.count k → GoOn at ((k, e) ∷ rest) → Goes (at k) (last k) (e ∷ log_of k rest)
+    log_first at k e rest member all = subst (λ (l : List Event). Goes (at k) (last k) l) (log_here k e rest) (all k member)
+
+    goes : (order : Order) (day : List Happened) (at : ℕ → Member R) → Day g p day at → GoOn at order → IsInTurn p.count day order → Ends (day_after day order)
+    goes [] day at d all turn = (at, d, λ m member. left_so (at m) (last m) (all m member))
+    goes ((k, asked moment) ∷ rest) day at d all turn =
+        goes rest day at d (all_stay at k (asked moment) rest all (clock_asked (at k) (last k) moment (log_of k rest) (log_first at k (asked moment) rest turn.0 all))) turn.2
+    goes ((k, took call answer) ∷ rest) day at d all turn =
+        let next = by_call day at k call answer rest d turn.0 turn.1 all (at k) refl (log_first at k (took call answer) rest turn.0 all) in
+        goes rest (did k call answer ∷ day) next.0 next.1 next.2 turn.2
+
+pub make_days : {R : Type 0} (g : Ghosts R) → LogsMakeDays g
+make_days g p day at order last d all turn = goes g p last order day at d (λ m member. from_log g (at m) (last m) (log_of m order) (all m member)) turn
+
+pub agree : {R : Type 0} (g : Ghosts R) → DaysAgree g → LogsAgree g
+agree g days p day at order last d all turn = let made = make_days g p day at order last d all turn in days p (day_after day order) made.0 made.1

@@ -1,0 +1,3 @@
+mod GoingOn
+mod Names
+mod Filed

@@ -1,0 +1,6 @@
+-- From the agreement of each day.
+use Rattle.process_days.proofs.GoingOn.{agree}
+use Rattle.process_days.proofs.laws.processes_agree.Goals as goal
+
+pub returns : goal.returns
+returns g c = agree g.R.Rows c.days_agree.ensures

@@ -1,0 +1,47 @@
+-- What a person sees of it: the files of the releases.
+use Rattle.std.specs.Prelude.{◌≡◌, ◌++◌, ℕ, List, [], Option, Some, None, codes, flat_map}
+use Rattle.protocol.specs.Lists.{IsAmong}
+use Rattle.saved_rows.specs.declared.rows.Rows.{Ghosts}
+use Rattle.station.specs.declared.answer.Release.{Release}
+use Rattle.station.specs.Readiness.{IsNumber}
+use Rattle.folders.specs.Written.{File}
+use Rattle.folders.specs.Keeping.{KeepsFront}
+use Rattle.plant_files.specs.Filing.{name_of, release_files}
+use Rattle.run_command.specs.Filing.{filing}
+use Rattle.days.specs.Happening.{Happened, WasReleased}
+use Rattle.days.specs.Handing.{Plants, Member}
+use Rattle.days.specs.Days.{Day}
+use Rattle.process_days.specs.Telling.{Order, log_of, day_after}
+
+-- it is a file of what this member released in the day
+abbrev pub IsFiled : List Happened → ℕ → File → Type 0
+IsFiled day m f = (r : Release) × WasReleased day m r × IsAmong (release_files r) f
+
+-- the file is called so, as `12.tape`
+abbrev pub IsCalled : ℕ → List ℕ → File → Type 0
+IsCalled n kind f = f.name ≡ name_of n kind
+
+-- the files of what was released in the day agree
+pub record FilesAgree (day : List Happened) : Type 0 where
+  -- two files `12.tape`, of one plant or of two, are the same bytes
+  pub tapes :
+      (j k n : ℕ) (f h : File) → IsNumber n → IsFiled day j f → IsFiled day k h → IsCalled n (codes ".tape") f → IsCalled n (codes ".tape") h → f.bytes ≡ h.bytes
+  -- where one plant has a file `12.tape` none has a file `12.void`
+  pub voids :
+      (j k n : ℕ) (f h : File) → IsNumber n → IsFiled day j f → IsFiled day k h → IsCalled n (codes ".tape") f → IsCalled n (codes ".void") h → ⊥
+
+-- they do in each day of a circuit's processes
+abbrev pub DaysFilesAgree : {R : Type 0} → Ghosts R → Type 0
+DaysFilesAgree {R = R} g = (p : Plants) (day : List Happened) (at : ℕ → Member R) → Day g p day at → FilesAgree day
+
+-- a folder that tells has this file since, among those that were written there after these
+abbrev pub IsWritten : Option (List File) → Option (List File) → File → Type 0
+IsWritten None after f = ⊥
+IsWritten (Some old) None f = ⊥
+IsWritten (Some old) (Some new) f = (more : List File) × (new ≡ old ++ more) × IsAmong more f
+
+-- a file that a process wrote among the releases of its plant, as `run_station` promises (its field `front`), is one of what its member released in the day
+abbrev pub WrittenIsFiled : Type 0
+WrittenIsFiled =
+    (day : List Happened) (order : Order) (m : ℕ) (before after : Option (List File)) (f : File)
+    → KeepsFront before after [] (flat_map filing (log_of m order)) → IsWritten before after f → IsFiled (day_after day order) m f

@@ -1,0 +1,67 @@
+-- The logs of a circuit's processes, taken together in one order: that they make a day.
+use Rattle.std.specs.Prelude.{◌≡◌, ◌==◌, if◌then◌else◌, ℕ, List, [], ◌∷◌}
+use Rattle.protocol.specs.Ballots.{IsMember}
+use Rattle.saved_rows.specs.declared.rows.Rows.{Ghosts}
+use Rattle.station.specs.declared.station.Station.{Station}
+use Rattle.exchange.specs.Events.{Event, asked, took, Takes}
+use Rattle.days.specs.Happening.{Happened, did, Came}
+use Rattle.days.specs.Handing.{Plants, Member, runs, over}
+use Rattle.days.specs.Days.{Day, IsDayAgreed, OfferedFirst}
+
+-- the events of all processes in one order, the earliest first, each with the member whose process it is of
+abbrev pub Order : Type 0
+Order = List (ℕ × Event)
+
+-- the log of one member's process: its events, in that order
+abbrev pub log_of : ℕ → Order → List Event
+log_of m [] = []
+log_of m (x ∷ rest) = if x.0 == m then x.1 ∷ log_of m rest else log_of m rest
+
+-- the day after an event of a member's process: where the clock was asked, nothing happened
+abbrev pub day_with : ℕ → Event → List Happened → List Happened
+day_with m (asked moment) day = day
+day_with m (took call answer) day = did m call answer ∷ day
+
+-- the day after all these events
+abbrev pub day_after : List Happened → Order → List Happened
+day_after day [] = day
+day_after day (x ∷ rest) = day_after (day_with x.0 x.1 day) rest
+
+-- the datagram that an event takes in was handed out to this member before, in the day
+abbrev pub CameWith : List Happened → ℕ → Event → Type 0
+CameWith day m (asked moment) = Unit {0}
+CameWith day m (took call answer) = Came day m call
+
+-- each event is of a member, and what it takes in was handed out before it
+abbrev pub IsInTurn : ℕ → List Happened → Order → Type 0
+IsInTurn count day [] = Unit {0}
+IsInTurn count day (x ∷ rest) = IsMember count x.0 × CameWith day x.0 x.1 × IsInTurn count (day_with x.0 x.1 day) rest
+
+-- a process has this log and leaves its station so, over rows that are kept, as `serve_run` and `run_station` promise of theirs (their field `steps`);
+-- where a member's process is over, its log is empty
+abbrev pub HasLog : {R : Type 0} → Ghosts R → Member R → Station R → List Event → Type 0
+HasLog g (runs s) last log = g.kept last.rows × Takes g s last log
+HasLog g (over ending s) last log = log ≡ []
+
+-- each member's process has its log of this order, and leaves its station so
+abbrev pub HaveLogs : {R : Type 0} → Ghosts R → ℕ → (ℕ → Member R) → (ℕ → Station R) → Order → Type 0
+HaveLogs g count at last order = (m : ℕ) → IsMember count m → HasLog g (at m) (last m) (log_of m order)
+
+-- a member whose process still runs has the station that its process left
+abbrev pub IsLeftWith : {R : Type 0} → Member R → Station R → Type 0
+IsLeftWith (runs s) last = last ≡ s
+IsLeftWith (over ending s) last = Unit {0}
+
+-- the processes of a day go on, each as its log says, in any one order in which what they take in was handed out before: that is a day again
+abbrev pub LogsMakeDays : {R : Type 0} → Ghosts R → Type 0
+LogsMakeDays {R = R} g =
+    (p : Plants) (day : List Happened) (at : ℕ → Member R) (order : Order) (last : ℕ → Station R)
+    → Day g p day at → HaveLogs g p.count at last order → IsInTurn p.count day order
+    → (now : ℕ → Member R) × Day g p (day_after day order) now × ((m : ℕ) → IsMember p.count m → IsLeftWith (now m) (last m))
+
+-- so what they release agrees, with all that was released before in the day
+abbrev pub LogsAgree : {R : Type 0} → Ghosts R → Type 0
+LogsAgree {R = R} g =
+    (p : Plants) (day : List Happened) (at : ℕ → Member R) (order : Order) (last : ℕ → Station R)
+    → Day g p day at → HaveLogs g p.count at last order → IsInTurn p.count day order
+    → IsDayAgreed p (day_after day order) × OfferedFirst (day_after day order)

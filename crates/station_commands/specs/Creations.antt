@@ -1,0 +1,24 @@
+-- What `create` makes and writes.
+use Rattle.std.specs.Prelude.{ℕ, List, ◌++◌, Option, codes, decimal}
+use Rattle.std.specs.Io.KnownBytes.{Appends}
+use Rattle.tape_frames.specs.declared.version.Version.{Version}
+use Rattle.tape_frames.specs.declared.version.Version.TheVariants.{One, Two}
+use Rattle.saved_rows.specs.declared.identity.Identity.{Identity}
+
+-- the layout that rows of this version are made in
+abbrev pub layout_number : Version → ℕ
+layout_number One = 1
+layout_number Two = 2
+
+-- the line that says which file was made, for which station, in which layout
+abbrev pub made_line : List ℕ → Identity → Version → List ℕ
+made_line path i version =
+    codes "made " ++ (path ++ (codes ": station " ++ (decimal i.member ++ (codes " of " ++ (decimal i.members
+    ++ (codes " circuit " ++ (decimal i.circuit ++ (codes " layout " ++ (decimal (layout_number version) ++ codes "\n")))))))))
+
+-- a row file was made at a path for a station in this version, and that was written
+pub record IsCreated {F : Type 0} (leaves : F → List ℕ → Identity → Version → Type 0) (files : F) (version : Version) (old new : Option (List ℕ)) : Type 0 where
+  pub path : List ℕ
+  pub station : Identity
+  pub made : leaves files path station version
+  pub wrote : Appends old new (made_line path station version)
