@@ -12,8 +12,9 @@ and each story stands in all folders `releases`, or 10 s after the last offer le
     lacks      how many stories each plant lacks at the end
     took       from the first `N began B` to the last galley anywhere
     alone      the work alone, on the same disk right after the run: the same row saves, and the same files written and synced, by
-               as many processes at once as there are plants; and how many times that the burst took
-    elsewhere  a story that is laid at another plant in the middle of the burst: from its own `N began B` to its last galley
+               as many processes at once as there are plants, the median of three; and how many times that the burst took
+    elsewhere  a story that is laid at another plant in the middle of the burst: from its own `N began B` to its last galley, at the
+               plants that do not stand still (a line that this bench reads late makes it some milliseconds too short)
     processor  time of all plants together
 
 Cases (all where none is named):
@@ -26,7 +27,10 @@ Cases (all where none is named):
     slow                 1,000 at one of three, the third plant's syncs five times slower
     halt                 1,000 at one of three, the third stands still for 2 s (SIGSTOP)
     rivals               two plants offer the same 1,000 numbers with other stories
-    flood                200 at one of three while a stranger sends as fast as it can, and one member's socket repeats nonsense
+    against              two plants offer the same numbers with other stories, 40 numbers a second for a minute
+    old-layout           16 tapes of 5,005 frames, which layout 1 can't carry, and 200 stories behind them, at plants of layout 1
+    flood                200 at one of three while a stranger sends to all as fast as it can
+    member-flood         200 at one of two while the third member's address sends nonsense, short and long, as fast as it can
 
 With --loss the plants stand in namespaces, over the switch of net.py, and each datagram is lost with that chance (root is needed).
 With --etcd, where etcd and etcdctl are installed: how long 1,000 puts take that are watched on three nodes on the same disk.
@@ -55,6 +59,8 @@ SETTLES = 10
 LAST = 400
 PAGE = 4096 + 24
 PROBE = 900_000
+# How many tapes stand at the head that the plants' layout can't carry.
+TOO_LONG = 16
 
 
 class Case:
@@ -62,11 +68,18 @@ class Case:
 
     def __init__(self, members, count, lines=1, spread=False, probes=4, trouble=None):
         self.members, self.count, self.lines, self.spread, self.probes, self.trouble = members, count, lines, spread, probes, trouble
+        self.layout = '1' if trouble == 'old-layout' else '2'
+        # How many numbers are laid a second; all at once where nothing is said.
+        self.pace = 40 if trouble == 'against' else None
+        # The plants that are up: one whose address floods is none.
+        self.up = members - 1 if trouble == 'member-flood' else members
 
     def offers(self):
         """Each story as its plant, its number and its frames."""
-        if self.trouble == 'rivals':
+        if self.trouble in ('rivals', 'against'):
             return [(member, number, LINES[member - 1]) for number in range(1, self.count + 1) for member in (1, 2)]
+        if self.trouble == 'old-layout':
+            return [(1, number, LINES[0]) for number in range(1 + TOO_LONG, self.count + TOO_LONG + 1)]
         plants = range(1, self.members + 1) if self.spread else (1,)
         return [(plants[number % len(plants)], number, LINES[0] * self.lines) for number in range(1, self.count + 1)]
 
@@ -84,7 +97,10 @@ CASES = {
     'slow': Case(3, 1000, trouble='slow'),
     'halt': Case(3, 1000, trouble='halt'),
     'rivals': Case(3, 1000, probes=0, trouble='rivals'),
+    'against': Case(3, 2400, probes=0, trouble='against'),
+    'old-layout': Case(3, 200, trouble='old-layout'),
     'flood': Case(3, 200, trouble='flood'),
+    'member-flood': Case(3, 200, trouble='member-flood'),
 }
 SLOW = """
 #define _GNU_SOURCE
@@ -105,6 +121,46 @@ static int slowed(const char *name, int file) {
 int fsync(int file) { return slowed("fsync", file); }
 int fdatasync(int file) { return slowed("fdatasync", file); }
 """
+FLOOD = """
+#define _GNU_SOURCE
+#include <arpa/inet.h>
+#include <stdlib.h>
+#include <string.h>
+#include <sys/socket.h>
+#include <unistd.h>
+/* Sends from one port of 127.0.0.1 to others, as fast as it can: flood SECONDS FROM LENGTH TO.. Prints how many it sent. */
+#include <stdio.h>
+#include <time.h>
+int main(int count, char **words) {
+    static char bytes[12000];
+    struct mmsghdr batch[64];
+    struct sockaddr_in own = {.sin_family = AF_INET, .sin_port = htons(atoi(words[2])), .sin_addr = {htonl(0x7f000001)}};
+    struct sockaddr_in to[64];
+    struct iovec piece = {bytes, atoi(words[3])};
+    int file = socket(AF_INET, SOCK_DGRAM, 0), each, sent;
+    long long all = 0;
+    time_t end = time(0) + atoi(words[1]);
+    if (bind(file, (struct sockaddr *)&own, sizeof own)) return 1;
+    memset(bytes, 'n', sizeof bytes);
+    memset(batch, 0, sizeof batch);
+    for (each = 0; each < 64; each++) {
+        to[each] = own;
+        to[each].sin_port = htons(atoi(words[4 + each % (count - 4)]));
+        batch[each].msg_hdr.msg_name = &to[each];
+        batch[each].msg_hdr.msg_namelen = sizeof own;
+        batch[each].msg_hdr.msg_iov = &piece;
+        batch[each].msg_hdr.msg_iovlen = 1;
+    }
+    while (time(0) < end && getppid() != 1) {
+        sent = sendmmsg(file, batch, 64, 0);
+        all += sent > 0 ? sent : 0;
+    }
+    printf("%lld\\n", all);
+    return 0;
+}
+"""
+# How long a flood lasts.
+FLOODS = 20
 
 
 def free_ports(count):
@@ -120,7 +176,7 @@ def free_ports(count):
 class Plant:
     """A plant in a folder of its own, with the moments of what it tells."""
 
-    def __init__(self, program, folder, member, addresses, preload, words):
+    def __init__(self, program, folder, member, addresses, preload, words, layout):
         self.member, self.port, self.home = member, addresses[member - 1][1], os.path.join(folder, f'plant{member}')
         self.offers, self.releases = os.path.join(self.home, 'offers'), os.path.join(self.home, 'releases')
         for each in (self.offers, self.releases):
@@ -132,7 +188,7 @@ class Plant:
             config.write(f'circuit = 7\nmember = {member}\ntable = "codes.toml"\nwidths = "widths.toml"\nrows = "station.db"\n'
                          f'[folders]\noffers = "offers"\nreleases = "releases"\n{stations}')
         env = dict(os.environ, LD_PRELOAD=preload) if preload else None
-        self.process = subprocess.Popen([*words, program, 'run', 'station.toml', '--create', '--layout', '2'], cwd=self.home, env=env,
+        self.process = subprocess.Popen([*words, program, 'run', 'station.toml', '--create', '--layout', layout], cwd=self.home, env=env,
                                         stdout=subprocess.DEVNULL, stderr=subprocess.PIPE)
         self.ballots, self.given_up, self.began, self.other = 0, set(), {}, []
         self.reader = threading.Thread(target=self.read, daemon=True)
@@ -156,8 +212,10 @@ class Plant:
             file.write(frames)
         os.rename(part, os.path.join(self.offers, f'{number}.tape'))
 
-    def waiting(self):
-        return sum(name.endswith('.tape') and not name.startswith('.') for name in os.listdir(self.offers))
+    def waiting(self, first=1):
+        """How many tapes wait among the offers, of those from a number on."""
+        names = (name for name in os.listdir(self.offers) if name.endswith('.tape') and not name.startswith('.'))
+        return sum(int(name[:-len('.tape')]) >= first for name in names)
 
     def released(self):
         return {int(name[:-len('.galley')]) for name in os.listdir(self.releases) if name.endswith('.galley')}
@@ -228,7 +286,7 @@ def save_alone(folder, place, count, frames, moves):
     os.close(room)
 
 
-def alone(folder, case):
+def alone_once(folder, case):
     """How long the work alone takes: each plant's saves and files, all plants at once; the names are synced where offers leave."""
     moves = case.members if case.spread else 1
     runs = [multiprocessing.Process(target=save_alone, args=(folder, place, case.count, LINES[0] * case.lines, moves if place == 0 or case.spread else 10 ** 9))
@@ -241,26 +299,24 @@ def alone(folder, case):
     return time.monotonic() - begun
 
 
+def alone(folder, case):
+    """The median of three times, since one alone swings by a factor of two."""
+    return statistics.median(alone_once(tempfile.mkdtemp(dir=folder), case) for _ in range(3))
+
+
 class Flood:
-    """A stranger that sends as fast as it can, and nonsense from a socket beside a member's."""
+    """Nonsense that is sent to plants as fast as one process can, for some seconds: short datagrams, or short and long ones by turns."""
 
-    def __init__(self, plants):
-        self.over, self.sent = False, 0
-        self.ports = [plant.port for plant in plants]
-        self.thread = threading.Thread(target=self.send, daemon=True)
-        self.thread.start()
-
-    def send(self):
-        own = socket.socket(socket.AF_INET, socket.SOCK_DGRAM)
-        while not self.over:
-            for port in self.ports:
-                own.sendto(b'nonsense', ('127.0.0.1', port))
-                self.sent += 1
+    def __init__(self, folder, plants, port):
+        flood = os.path.join(folder, 'flood')
+        subprocess.run(['cc', '-O2', '-x', 'c', '-', '-o', flood], input=FLOOD.encode(), check=True)
+        words = [flood, str(FLOODS), str(port), '8' if port == 0 else '600', *(str(plant.port) for plant in plants)]
+        self.process, self.begun = subprocess.Popen(words, stdout=subprocess.PIPE, text=True), time.monotonic()
 
     def end(self):
-        self.over = True
-        self.thread.join()
-        return self.sent
+        """How many were sent a second."""
+        sent = int(self.process.communicate()[0])
+        return sent // FLOODS
 
 
 def trouble(case, plants):
@@ -289,25 +345,34 @@ def run(program, case, folder, preload, net):
     addresses = [('127.0.0.1', port) for port in free_ports(case.members)]
     if net:
         addresses = [(net.address(member), 7000) for member in range(1, case.members + 1)]
-    plants = [Plant(program, folder, member, addresses, preload if case.trouble == 'slow' and member == 3 else None, net.words(member) if net else [])
-              for member in range(1, case.members + 1)]
+    plants = [Plant(program, folder, member, addresses, preload if case.trouble == 'slow' and member == 3 else None,
+                    net.words(member) if net else [], case.layout)
+              for member in range(1, case.up + 1)]
     try:
         time.sleep(1.5)
         offers, probes = case.offers(), []
         before = handed(plants)
-        flood = Flood(plants) if case.trouble == 'flood' else None
-        for member, number, frames in offers:
-            plants[member - 1].lay(number, frames)
+        flood = None
+        if case.trouble in ('flood', 'member-flood'):
+            flood = Flood(folder, plants, addresses[2][1] if case.trouble == 'member-flood' else 0)
+        if case.trouble == 'old-layout':
+            for number in range(1, TOO_LONG + 1):
+                plants[0].lay(number, LINES[0] * 715)
         begun = time.monotonic()
+        for place, (member, number, frames) in enumerate(offers):
+            plants[member - 1].lay(number, frames)
+            if case.pace and place % (2 * case.pace) == 0:
+                time.sleep(max(0, begun + place / (2 * case.pace) - time.monotonic()))
         prober = threading.Thread(target=probe, args=(case, plants, probes))
         prober.start()
         left = None
         wanted = {number for _, number, _ in offers}
+        least = min(wanted)
         while time.monotonic() - begun < LAST:
             time.sleep(0.1 if case.count < 2000 else 0.5)
             if any(plant.process.poll() is not None for plant in plants):
                 sys.exit(f'a plant ended: {[plant.other for plant in plants]}')
-            if prober.is_alive() or any(plant.waiting() for plant in plants):
+            if prober.is_alive() or any(plant.waiting(least) for plant in plants):
                 continue
             left = left or time.monotonic()
             if all(plant.released() >= wanted | set(probes) for plant in plants) or time.monotonic() - left > SETTLES:
@@ -320,7 +385,8 @@ def run(program, case, folder, preload, net):
         galleys = [plant.galley_at(number) for plant in plants for number in wanted - set(probes)]
         elsewhere = []
         for number in probes:
-            ends = [plant.galley_at(number) for plant in plants]
+            # A plant that stands still is not asked when it has the story.
+            ends = [plant.galley_at(number) for plant in plants if case.trouble != 'halt' or plant.member < 3]
             if all(ends) and number in plants[1].began:
                 elsewhere.append(1000 * (max(ends) - plants[1].began[number]))
         told = {
@@ -329,7 +395,7 @@ def run(program, case, folder, preload, net):
             'dropped': dropped(plants),
             'handed': handed(plants) - before,
             'lacks': [len(wanted - plant.released()) for plant in plants],
-            'stay': sum(plant.waiting() for plant in plants),
+            'stay': sum(plant.waiting(least) for plant in plants),
             'took': max(each for each in galleys if each) - first if first and any(galleys) else float('nan'),
             'elsewhere': elsewhere,
             'processor': sum(plant.processor() for plant in plants),
@@ -388,6 +454,17 @@ def etcd(folder):
             each.wait()
 
 
+def measured(program, case, folder, loss):
+    """One burst in a folder, and how long the work alone takes there."""
+    preload = None
+    if case.trouble == 'slow':
+        preload = os.path.join(folder, 'slow.so')
+        subprocess.run(['cc', '-shared', '-fPIC', '-O2', '-x', 'c', '-', '-o', preload, '-ldl'], input=SLOW.encode(), check=True)
+    with Net(case.members, loss) if loss else contextlib.nullcontext() as net:
+        told = run(program, case, folder, preload, net)
+    return told, alone(folder, case)
+
+
 def line_of(name, told, floor):
     elsewhere = told['elsewhere']
     parts = [f'{name:14}', f'ballots {told["ballots"]:5.2f} given up {told["gave up"]}', f'dropped {told["dropped"]} of {told["handed"]}',
@@ -414,23 +491,15 @@ def main():
     # Fifteen plants and their watches hold some hundred files.
     resource.setrlimit(resource.RLIMIT_NOFILE, (4096, resource.getrlimit(resource.RLIMIT_NOFILE)[1]))
     all_elsewhere = {}
-    for name in asked.cases or CASES:
-        for _ in range(asked.runs):
-            folder = tempfile.mkdtemp(dir=os.getcwd())
-            try:
-                preload = None
-                if CASES[name].trouble == 'slow':
-                    preload = os.path.join(folder, 'slow.so')
-                    subprocess.run(['cc', '-shared', '-fPIC', '-O2', '-x', 'c', '-', '-o', preload, '-ldl'], input=SLOW.encode(), check=True)
-                with Net(CASES[name].members, asked.loss) if asked.loss else contextlib.nullcontext() as net:
-                    told = run(program, CASES[name], folder, preload, net)
-                floor = alone(folder, CASES[name])
+    # All is removed at the end: a file system that has just removed files takes longer to make new ones.
+    with tempfile.TemporaryDirectory(dir=os.getcwd()) as room:
+        for name in asked.cases or CASES:
+            for _ in range(asked.runs):
+                told, floor = measured(program, CASES[name], tempfile.mkdtemp(dir=room), asked.loss)
                 print(line_of(name, told, floor), flush=True)
                 all_elsewhere.setdefault(name, []).extend(told['elsewhere'])
-            finally:
-                shutil.rmtree(folder, ignore_errors=True)
-        if asked.runs > 1 and all_elsewhere[name]:
-            print(f'{name:14} | elsewhere, median of {len(all_elsewhere[name])}: {statistics.median(all_elsewhere[name]):.0f} ms', flush=True)
+            if asked.runs > 1 and all_elsewhere[name]:
+                print(f'{name:14} | elsewhere, median of {len(all_elsewhere[name])}: {statistics.median(all_elsewhere[name]):.0f} ms', flush=True)
     if asked.etcd:
         with tempfile.TemporaryDirectory(dir=os.getcwd()) as folder:
             etcd(folder)

@@ -66,7 +66,7 @@ class Plant:
         status, said = self.process.wait(), self.said()
         if status == 3 and 'start without --create' in said:
             self.takes_create = False
-        elif status == 3 and 'start with --create' in said:
+        elif status == 3 and 'no such file' in said:
             self.takes_create = True
         elif status != -signal.SIGKILL:
             raise Wrong(f'run {self.runs} of plant {self.member} ended with status {status}: {said!r}')

@@ -447,8 +447,7 @@ def store_cases(sweep):
     alone, two = 'station 1 of 1 circuit 7\n', 'station 1 of 2 circuit 7\n'
     voted, withdrawn = f'12 1.1 1.1 {STORY}\n', '12 1.1 1.1 void\n'
     none = (
-        "store: refused\nno such file: it is made by --create, at a station's first start alone\n",
-        'store: refused\nnothing was made in it yet: start with --create\n',
+        'store: refused\nno such file: look for it and its log; only a station that never ran is made, by circuitd create\n',
     )
     return [
         Case('rows', ['rows', 'made.db'], out=text),
@@ -457,6 +456,7 @@ def store_cases(sweep):
         Case('rows of layout 2', ['rows', 'over.db'], out=text),
         Case('serve, a search', ['serve', 'own.toml', '--turns', '1', '--seek', '12'], out=RELEASE, begins='alone.db',
              left=(alone + voted, alone + f'12 2.1 2.1 {STORY}\n')),
+        Case('create', ['create', 'own.toml'], out='made own.db: station 1 of 1 circuit 7 layout 2\n', left=(*none, alone)),
         Case('serve, made, an offer', ['serve', 'own.toml', '--turns', '1', *offer], out=RELEASE,
              left=(*none, alone, alone + voted)),
         Case('serve, made, a withdrawal', ['serve', 'own.toml', '--turns', '1', '--create', '--withdraw', '12'],
