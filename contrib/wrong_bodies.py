@@ -29,6 +29,7 @@ import shutil
 import subprocess
 import sys
 import tempfile
+from collections import Counter
 from concurrent.futures import ThreadPoolExecutor
 
 TOP = os.path.dirname(os.path.dirname(os.path.abspath(__file__)))
@@ -164,6 +165,7 @@ class Trial:
     """A copy of a crate with what stands below it, in which its wrong bodies are tried."""
 
     def __init__(self, crate, room):
+        self.batches = 0
         self.crate, self.home, self.kept = crate, os.path.join(room, 'crates', crate), os.path.join(room, 'kept')
         lines = lines_of_crates()
         names = below(lines, crate, []) + [crate]
@@ -202,12 +204,12 @@ class Trial:
 
     def tried(self, edits):
         """What is told of each edit, batch by batch."""
-        told, left, batches = {}, list(edits), 0
+        told, left = {}, list(edits)
         while left:
             batch, texts, left = self.batch(left, told)
             if not batch:
                 continue
-            batches += 1
+            self.batches += 1
             said = self.check(texts)
             if not any(line.startswith('logic=') for line in said):
                 left = self.unread(batch, said, told) + left
@@ -218,7 +220,6 @@ class Trial:
                     told[edit] = verdict
                 else:
                     edit.function, left = None, left + [edit]
-        print(f'{self.crate}: {len(edits)} wrong bodies in {batches} checks', flush=True)
         return told
 
     def batch(self, left, told):
@@ -286,17 +287,24 @@ def lines_in(crate):
     return sum(read(os.path.join(folder, name)).count('\n') for folder, _, names in sources for name in names)
 
 
-def tried_in(crate):
-    """What is told of each wrong body of a crate."""
+def counted(verdicts):
+    """How many there are of each verdict, as a text."""
+    return ', '.join(f'{count} {verdict}' for verdict, count in sorted(Counter(verdicts).items()))
+
+
+def tried_in(crate, tells_all):
+    """What is told of each wrong body of a crate. It is printed when the crate is done, so that a run that is cut off shows what it did."""
     edits = edits_of(crate)
     if not edits:
         return []
     with tempfile.TemporaryDirectory(prefix='wrong-bodies-') as room:
         trial = Trial(crate, room)
-        if not trial.is_proved():
-            return [(edit, ('BAD', f'{crate} itself is not proved')) for edit in edits]
-        told = trial.tried(edits)
-    return [(edit, told[edit]) for edit in edits]
+        told = trial.tried(edits) if trial.is_proved() else {edit: ('BAD', f'{crate} itself is not proved') for edit in edits}
+    verdicts = [told[edit][0] for edit in edits]
+    lines = [f'{crate}: {len(edits)} wrong bodies in {trial.batches} checks: {counted(verdicts)}']
+    lines += [f'{told[edit][0]} {edit.name}: {told[edit][1].strip()[:240]}' for edit in edits if told[edit][0] != 'refused' or tells_all]
+    print('\n'.join(lines), flush=True)
+    return verdicts
 
 
 def main():
@@ -308,16 +316,10 @@ def main():
     # The largest first, so that no lane is left with one at the end.
     names = sorted(asked.crates or lines_of_crates(), key=lines_in, reverse=True)
     with ThreadPoolExecutor(asked.jobs) as pool:
-        told = [each for of_crate in pool.map(tried_in, names) for each in of_crate]
-    counts = {}
-    for edit, (verdict, why) in told:
-        counts[verdict] = counts.get(verdict, 0) + 1
-        if verdict != 'refused' or asked.all:
-            print(f'{verdict} {edit.name}: {why.strip()[:240]}')
+        verdicts = [each for of_crate in pool.map(lambda name: tried_in(name, asked.all), names) for each in of_crate]
     used = resource.getrusage(resource.RUSAGE_CHILDREN)
-    print(f'{len(told)} wrong bodies: ' + ', '.join(f'{count} {verdict}' for verdict, count in sorted(counts.items()))
-          + f'; {(used.ru_utime + used.ru_stime) / 60:.1f} minutes of processor time')
-    return 0 if set(counts) <= {'refused'} else 1
+    print(f'{len(verdicts)} wrong bodies: {counted(verdicts)}; {(used.ru_utime + used.ru_stime) / 60:.1f} minutes of processor time')
+    return 0 if set(verdicts) <= {'refused'} else 1
 
 
 sys.exit(main())
