@@ -36,7 +36,7 @@ TOP = os.path.dirname(os.path.dirname(os.path.abspath(__file__)))
 HEAD = re.compile(r'^( *)(?:pub(?:\([a-z]+\))? )?(?:const )?(?:unsafe )?fn (\w+)')
 IMPL = re.compile(r'^impl\b(?:<.*?>)? ?(?:(?:\w+::)*(\w+)(?:<.*>)? for )?(?:&(?:mut )?)?(?:\w+::)*(\w+)')
 # What a check says of a goal that is false, of one that was not reached, and of a name that an edit took from a proof file.
-STRONG = re.compile(r'allow values at which|may be false: the known facts|types? (?:first )?differ|but this has type')
+STRONG = re.compile(r'allow values at which|may be false: the known facts|and the goal fails, at|types? (?:first )?differ|but this has type')
 WEAK = re.compile(r'did not prove `|it is not proved that|does not hold|no proof of `')
 NAME = re.compile(r'that can be named from here|has no field|which was not admitted|has no `|is not in scope')
 PLACE = re.compile(r'^(?:note: )?(?:\./)?((?:src|specs|proofs)/\S+?):(\d+):\d+: ')
@@ -200,7 +200,7 @@ class Trial:
         said = self.check({})
         shutil.rmtree(self.kept, ignore_errors=True)
         linked(os.path.join(self.home, 'out', 'incremental'), self.kept)
-        return any(line.startswith('logic=proved') for line in said)
+        return ends_proved(said)
 
     def tried(self, edits):
         """What is told of each edit, batch by batch."""
@@ -257,6 +257,12 @@ class Trial:
         return rest
 
 
+def ends_proved(said):
+    """Whether the crate that a check was for is proved: what it says last, since it may prove a library below first."""
+    ends = [line for line in said if line.startswith('logic=')]
+    return bool(ends) and ends[-1].startswith('logic=proved')
+
+
 def judged(function, said):
     """What a check says of one function of a batch; nothing where it has to be tried again."""
     own = [line for line in said if function.is_at(line)]
@@ -267,7 +273,7 @@ def judged(function, said):
 
 def judged_alone(said):
     """What a check says of a crate with one edit in it."""
-    if any(line.startswith('logic=proved') for line in said):
+    if ends_proved(said):
         return ('PROVED', 'the crate is proved')
     return judged_lines(said) or ('NAME', next((line for line in said if ': error' in line), said[-1]))
 
