@@ -1,10 +1,8 @@
 //! Saved rows in files of the host, each a database.
 
-ghost use Rattle.std.specs.Prelude.{◌≡◌, Some, IsTrue};
 ghost use Rattle.saved_rows.specs.Identity.{IsIdentity};
 ghost use Rattle.tape_frames.specs.Entries.{version_of};
 ghost use Rattle.acceptor_store.specs.Files.{WasClosed};
-ghost use Rattle.acceptor_store.specs.Sqlite.{rows_version};
 ghost use Rattle.host_row_files.specs.Taking.{AreTaken, HasMade, HasUpgraded};
 
 use crate::causes::refused_by;
@@ -14,7 +12,7 @@ use crate::making::make_at;
 use acceptor_store::SqliteRows;
 use command_ends::End;
 use row_files::{RefusedRows, RowFiles};
-use saved_rows::{Identity, Rows, RowsFault};
+use saved_rows::Identity;
 use sqlite::{FileFrom, FileStore, Wary};
 use sqlite_disk::Disk;
 use std::io::Write;
@@ -24,13 +22,6 @@ use tape_frames::Version;
 /// promise broken.
 type Database = SqliteRows<FileStore<FileFrom<Wary>>>;
 
-/// Whether rows are those of this version.
-fn are_at<R: Rows>(rows: &R, version: Version) -> bool
-    ensures { IsTrue result → R.version rows.now ≡ version_of version }
-{
-    rows.version() == version
-}
-
 /// The files of the host.
 #[derive(Clone, Copy)]
 pub struct HostFiles;
@@ -39,8 +30,6 @@ impl RowFiles for HostFiles {
     type Rows = Database;
 
     ghost leaves = { λ _ _ i version. HasMade ⟦<FileFrom<Wary> as Disk>⟧ i (version_of version) };
-
-    ghost makes = { λ _ _ i version rows. HasMade ⟦<FileFrom<Wary> as Disk>⟧ i (version_of version) × AreTaken (Some i) rows × (rows_version rows ≡ version_of version) };
 
     ghost takes_up = { λ _ _ given rows. AreTaken given rows };
 
@@ -56,23 +45,6 @@ impl RowFiles for HostFiles {
         version: Version,
     ) -> Result<(), RefusedRows> {
         make_at(rt, path, identity, version)
-    }
-
-    fn create(
-        &self,
-        rt: &HostRuntime,
-        path: &str,
-        identity: Identity,
-        version: Version,
-    ) -> Result<Database, RefusedRows> {
-        make_at(rt, path, identity, version)?;
-        let rows = self.open(rt, path, Some(identity))?;
-        // A file that another put there in between may be in another layout.
-        if are_at(&rows, version) {
-            Ok(rows)
-        } else {
-            Err(RefusedRows::by(RowsFault::WrongSchema))
-        }
     }
 
     fn open(

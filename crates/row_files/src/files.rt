@@ -22,9 +22,6 @@ pub trait RowFiles {
     // A file was made whole for this station, in this version, and given the name at this path.
     ghost leaves: { Self → List ℕ → IdentityValue → VersionValue → Type 0 };
 
-    // So was one at a path, and these rows were taken up from it.
-    ghost makes: { Self → List ℕ → IdentityValue → VersionValue → Self.Rows → Type 0 };
-
     // The rows in the file at a path were taken up as those of this station, or whosever they are where none was given.
     ghost takes_up: { Self → List ℕ → Option IdentityValue → Self.Rows → Type 0 };
 
@@ -48,21 +45,6 @@ pub trait RowFiles {
     ) -> Result<(), RefusedRows>
         requires { IsIdentity identity }
         ensures { OnOk result (leaves self.now path.now identity version) };
-
-    /// Makes the row file of this station at a path, and takes up the rows in it.
-    ///
-    /// It is refused as [`RowFiles::make`] and [`RowFiles::open`] are; and with `WrongSchema`, where the file at the path is in
-    /// another layout by then.
-    fn create(
-        &self,
-        rt: &HostRuntime,
-        path: &str,
-        identity: Identity,
-        version: Version,
-    ) -> Result<Self::Rows, RefusedRows>
-        requires { IsIdentity identity }
-        ensures made { IfOk result (makes self.now path.now identity version) }
-        ensures open { IfOk result (λ rows. Self.Rows.kept rows → Self.Rows.is_open rows) };
 
     /// Takes up the rows in the file at a path: those of this station, or whosever they are where none is given.
     ///

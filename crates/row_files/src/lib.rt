@@ -3,10 +3,12 @@
 
 mod causes;
 mod closing;
+mod creating;
 mod files;
 mod found;
 
 pub use causes::{RefusedRows, RowsCause};
 pub use closing::close_rows;
+pub use creating::create_rows;
 pub use files::RowFiles;
 pub use found::{FoundFile, FoundLog, HEAD_LEN, file_of, making_refusal, opening_refusal};

@@ -3,6 +3,7 @@
 ghost use Rattle.std.specs.Prelude.{◌≡◌, IfOk, OnOk, option_map, string_bytes};
 ghost use Rattle.configuration.specs.Reading.{file_of};
 ghost use Rattle.configuration.specs.Stations.{IsCircuit};
+ghost use Rattle.row_files.specs.Creating.{AreMade};
 ghost use Rattle.saved_rows.specs.Identity.{IsIdentity};
 ghost use Rattle.station_start.specs.Starts.{identity_of, IsStationOf, IsTableAt, AreWidthsAt, IsOffer, AreRowsOf, AreRowsAt, IsWireOf};
 
@@ -11,7 +12,7 @@ use crate::host::Host;
 use code_table::CodeTable;
 use command_ends::{End, Fault};
 use configuration::Config;
-use row_files::{RefusedRows, RowFiles};
+use row_files::{RefusedRows, RowFiles, create_rows};
 use saved_rows::{Identity, Rows};
 use station::Station;
 use std::alloc::Global;
@@ -51,11 +52,12 @@ fn rows_of<F: RowFiles>(
     making: Option<Version>,
 ) -> Result<F::Rows, RefusedRows>
     requires { IsIdentity identity }
-    ensures rows { IfOk result (AreRowsOf making (F.makes row_files.now path.now) (F.takes_up row_files.now path.now) identity) }
+    ensures rows { IfOk result (AreRowsOf making (AreMade F.leaves F.takes_up F.Rows.version row_files.now path.now)
+        (F.takes_up row_files.now path.now) identity) }
     ensures open { IfOk result (λ rows. F.Rows.kept rows → F.Rows.is_open rows) }
 {
     match making {
-        Some(version) => row_files.create(rt, path, identity, version),
+        Some(version) => create_rows(rt, row_files, path, identity, version),
         None => row_files.open(rt, path, Some(identity)),
     }
 }
@@ -168,8 +170,8 @@ pub fn start<H: Host, F: RowFiles, E: Write>(
     ensures table { IfOk result (λ s. IsTableAt (H.text host.now) (string_bytes config.table) s.station.table) }
     ensures widths { IfOk result (λ s. AreWidthsAt (H.text host.now) (string_bytes config.widths) s.station.widths) }
     ensures offer { IfOk result (λ s. IsOffer (H.text host.now) (option_map (λ o. (o.0, o.1.now)) offer.entry) s.offer) }
-    ensures rows { IfOk result (λ s. AreRowsAt F.makes F.takes_up row_files.now (string_bytes config.rows) making
-        (identity_of (file_of config)) s.station.rows) }
+    ensures rows { IfOk result (λ s. AreRowsAt (AreMade F.leaves F.takes_up F.Rows.version) F.takes_up row_files.now
+        (string_bytes config.rows) making (identity_of (file_of config)) s.station.rows) }
     ensures open { IfOk result (λ s. F.Rows.kept s.station.rows → F.Rows.is_open s.station.rows) }
     ensures version { IfOk result (λ s. s.station.speaker.wire ≡ F.Rows.version s.station.rows) }
     ensures wire { IfOk result (λ s. IsWireOf H.is_bound (file_of config) s.wire) }

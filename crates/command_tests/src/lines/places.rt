@@ -30,8 +30,6 @@ impl RowFiles for NoRows {
     // Nothing is said of what is made, and none are taken up.
     ghost leaves = { λ _ _ _ _. Unit {0} };
 
-    ghost makes = { λ _ _ _ _ _. Unit {0} };
-
     ghost takes_up = { λ _ _ _ _. Unit {0} };
 
     ghost upgrades = { λ _ _. Unit {0} };
@@ -51,17 +49,6 @@ impl RowFiles for NoRows {
             ("made.db", Version::Two) => Err(RefusedRows::by(RowsFault::Damaged { number: 2 })),
             _ => Err(refused(RowsFault::Store, RowsCause::DiskFull)),
         }
-    }
-
-    fn create(
-        &self,
-        rt: &HostRuntime,
-        path: &str,
-        identity: Identity,
-        version: Version,
-    ) -> Result<MemoryRows, RefusedRows> {
-        self.make(rt, path, identity, version)?;
-        self.open(rt, path, Some(identity))
     }
 
     fn open(

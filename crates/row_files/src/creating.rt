@@ -1,0 +1,43 @@
+//! Rows whose file is made, and taken up at once.
+
+ghost use Rattle.std.specs.Prelude.{◌≡◌, IfOk, IsTrue};
+ghost use Rattle.saved_rows.specs.Identity.{IsIdentity};
+ghost use Rattle.tape_frames.specs.Entries.{version_of};
+ghost use Rattle.row_files.specs.Creating.{AreMade};
+
+use crate::causes::RefusedRows;
+use crate::files::RowFiles;
+use saved_rows::{Identity, Rows, RowsFault};
+use tape_frames::Version;
+
+/// The rows, where they are of this version. A file that another put there in between may be in another layout.
+fn of_version<R: Rows>(rows: R, version: Version) -> Result<R, RefusedRows>
+    ensures rows { IfOk result (λ taken. taken ≡ rows) }
+    ensures version { IfOk result (λ taken. R.version taken ≡ version_of version) }
+{
+    if rows.version() == version {
+        Ok(rows)
+    } else {
+        Err(RefusedRows::by(RowsFault::WrongSchema))
+    }
+}
+
+/// Makes the row file of this station at a path, and takes up the rows in it.
+///
+/// It is refused as [`RowFiles::make`] and [`RowFiles::open`] are; and with `WrongSchema`, where the file at the path is in
+/// another layout by then.
+pub fn create_rows<F: RowFiles>(
+    rt: &HostRuntime,
+    row_files: &F,
+    path: &str,
+    identity: Identity,
+    version: Version,
+) -> Result<F::Rows, RefusedRows>
+    requires { IsIdentity identity }
+    ensures made { IfOk result (AreMade F.leaves F.takes_up F.Rows.version row_files.now path.now identity version) }
+    ensures open { IfOk result (λ rows. F.Rows.kept rows → F.Rows.is_open rows) }
+{
+    row_files.make(rt, path, identity, version)?;
+    let rows = row_files.open(rt, path, Some(identity))?;
+    of_version(rows, version)
+}
