@@ -8,6 +8,7 @@ use Rattle.station.specs.declared.station.Station.{Station}
 use Rattle.station.specs.Steps.{IsStep, stopped_after}
 use Rattle.wire.specs.Passing.{Passed, Passes}
 use Rattle.exchange.specs.Events.{coming}
+use Rattle.exchange.specs.Layouts.{IsNewerIn}
 use Rattle.exchange.specs.Said.{said_in}
 use Rattle.exchange.specs.declared.station_steps.Outcome.{Outcome}
 use Rattle.exchange.specs.declared.station_steps.Outcome.TheVariants.{Nothing, Failed, Done, Refused}
@@ -24,10 +25,12 @@ pub record Rests {R N : Type 0} (passed : N → Option (List Passed)) (old new :
   pub same : new ≡ old
   pub passes : Passes (passed was) (passed is) []
 
--- one datagram at most came, and was taken in by one step at this moment; where that was done, this is what its head says
+-- one datagram at most came, and was taken in by one step at this moment; where that was done, this is what its head says, and where it
+-- was refused, which member sent it in a layout that the station does not read
 abbrev pub IsTakenIn : {R N : Type 0} → Ghosts R → (N → Option (List Passed)) → ℕ → Station R → Station R → N → N → Outcome → Type 0
 IsTakenIn g passed now old new was is Nothing = Rests passed old new was is
 IsTakenIn g passed now old new was is Failed = Rests passed old new was is
 IsTakenIn g passed now old new was is (Done answer said) =
     (bytes : List ℕ) × Drives g passed (Receiving bytes now) old new was is (Ok answer) × (said ≡ said_in bytes)
-IsTakenIn g passed now old new was is (Refused refusal) = (bytes : List ℕ) × Drives g passed (Receiving bytes now) old new was is (Err refusal)
+IsTakenIn g passed now old new was is (Refused refusal newer) =
+    (bytes : List ℕ) × Drives g passed (Receiving bytes now) old new was is (Err refusal) × IsNewerIn refusal bytes newer

@@ -1,3 +1,4 @@
 pub mod Events
 pub mod Driving
 pub mod Said
+pub mod Layouts

@@ -1,11 +1,15 @@
 //! What a station on a wire is driven by: it takes in what comes, sends what it hands out, and passes over what does not stop it.
 #![tactic(auto)]
 
+mod layouts;
+mod room;
 mod said;
 mod sending;
 mod station_steps;
 mod strangers;
 
+pub use layouts::NewerLayouts;
+pub use room::Intake;
 pub use said::Said;
-pub use station_steps::{BUFFER, Outcome, pass_over, send_answer, take_datagram};
+pub use station_steps::{Outcome, pass_over, send_answer, take_datagram};
 pub use strangers::{tell_lost, tell_strangers};

@@ -7,16 +7,15 @@ ghost use Rattle.exchange.specs.Driving.{IsTakenIn};
 ghost use Rattle.exchange.specs.Events.{sending};
 ghost use Rattle.command_ends.specs.Ends.{end_of, end_of_step};
 
+use crate::layouts::newer_in;
 use crate::said::{Said, said_in};
 use crate::sending::send_all;
+use ballots::Member;
 use command_ends::Fault;
 use saved_rows::Rows;
 use station::{Answer, Station, StepRefusal};
 use std::io::Write;
 use wire::{Arrival, Wire};
-
-/// The room for one datagram. The longest that is a packet has a byte less, so one that was cut is none.
-pub const BUFFER: usize = 12_314;
 
 /// What came of waiting for a datagram.
 #[derive(Drop)]
@@ -26,9 +25,15 @@ pub enum Outcome {
     /// The network failed.
     Failed,
     /// One came, and the station took it in; what its head says.
-    Done { answer: Answer, said: Option<Said> },
-    /// One came, and the station refused it.
-    Refused(StepRefusal),
+    Done {
+        answer: Answer,
+        said: Option<Said>,
+    },
+    /// One came, and the station refused it; which member sent it, where it is of layout 2 and the station reads layout 1 alone.
+    Refused {
+        refusal: StepRefusal,
+        newer: Option<Member>,
+    },
 }
 
 /// Takes in what comes, one datagram at most, at a moment in milliseconds. What the station hands out is not sent yet.
@@ -51,7 +56,10 @@ pub fn take_datagram<R: Rows, N: Wire>(
             answer,
             said: said_in(&buffer[..length]),
         },
-        Err(refusal) => Outcome::Refused(refusal),
+        Err(refusal) => Outcome::Refused {
+            refusal,
+            newer: newer_in(refusal, &buffer[..length]),
+        },
     }
 }
 

@@ -12,7 +12,7 @@ use crate::look::{look, read_at};
 use crate::offer_book::{Deed, OfferBook};
 use crate::telling::Reason;
 use command_ends::Fault;
-use exchange::{Outcome, pass_over, send_answer, take_datagram, tell_lost, tell_strangers};
+use exchange::{Intake, Outcome, pass_over, send_answer, take_datagram, tell_lost, tell_strangers};
 use folders::{Folders, NamedFile};
 use pace::Work;
 use plant_files::{ask, is_of_offer, keep_any};
@@ -54,22 +54,23 @@ fn take_in<R: Rows, N: Wire, F: Folders, E: Write>(
     waits: &mut Vec<NamedFile>,
     book: &mut OfferBook,
     now: u64,
-    buffer: &mut [u8],
+    intake: &mut Intake,
     err: &mut E,
 ) -> Result<(), Fault<'static>>
     ensures was_kept { R.kept station.new.rows → R.kept station.old.rows }
     ensures runs { RunsUpTo result R.Rows N.passed F.written station.old station.new wire.old wire.new folders.old folders.new waits.old.items waits.new.items }
 {
-    match take_datagram(station, wire, now, buffer) {
+    match take_datagram(station, wire, now, &mut intake.room) {
         Outcome::Nothing => Ok(()),
         Outcome::Failed => Err(Fault::Socket("receive failed")),
         Outcome::Done { answer, said } => {
             book.hear(said, now);
             hand_on(station, &answer, wire, folders, waits, book, now, err)
         }
-        Outcome::Refused(refusal) => {
+        Outcome::Refused { refusal, newer } => {
             book.hear(None, now);
             book.hear_refusal(refusal, now, err);
+            intake.newer.tell(newer, now, err);
             pass_over(refusal)
         }
     }
@@ -188,7 +189,7 @@ pub(crate) fn turn<R: Rows, N: Wire, F: Folders, E: Write>(
     waits: &mut Vec<NamedFile>,
     book: &mut OfferBook,
     now: u64,
-    buffer: &mut [u8],
+    intake: &mut Intake,
     err: &mut E,
 ) -> Result<(), Fault<'static>>
     ensures was_kept { R.kept station.new.rows → R.kept station.old.rows }
@@ -201,7 +202,7 @@ pub(crate) fn turn<R: Rows, N: Wire, F: Folders, E: Write>(
             Ok(())
         }
         Work::TakeIn | Work::Wait => {
-            take_in(station, wire, folders, waits, book, now, buffer, err)
+            take_in(station, wire, folders, waits, book, now, intake, err)
         }
         Work::Due => see_to_due(station, wire, folders, waits, book, now, err),
         Work::Deed { .. } => do_deed(station, wire, folders, waits, book, now, err),

@@ -7,7 +7,7 @@ ghost use Rattle.run_command.specs.Running.{RunsUpTo, RunsAfresh};
 use crate::offer_book::OfferBook;
 use crate::steps::turn;
 use command_ends::{End, Fault};
-use exchange::BUFFER;
+use exchange::Intake;
 use folders::{Folders, NamedFile, STOP};
 use saved_rows::Rows;
 use station::{Station, StepRefusal};
@@ -22,14 +22,14 @@ fn timed_turn<R: Rows, N: Wire, F: Folders, E: Write>(
     folders: &mut F,
     waits: &mut Vec<NamedFile>,
     book: &mut OfferBook,
-    buffer: &mut [u8],
+    intake: &mut Intake,
     err: &mut E,
 ) -> Result<(), Fault<'static>>
     ensures was_kept { R.kept station.new.rows → R.kept station.old.rows }
     ensures runs { RunsUpTo result R.Rows N.passed F.written station.old station.new wire.old wire.new folders.old folders.new waits.old.items waits.new.items }
 {
     let now = wire.now();
-    turn(station, wire, folders, waits, book, now, buffer, err)
+    turn(station, wire, folders, waits, book, now, intake, err)
 }
 
 /// The turns of a station, one after the other, until the run ends.
@@ -39,14 +39,14 @@ fn take_turns<R: Rows, N: Wire, F: Folders, E: Write>(
     folders: &mut F,
     waits: &mut Vec<NamedFile>,
     book: &mut OfferBook,
-    buffer: &mut [u8],
+    intake: &mut Intake,
     err: &mut E,
 ) -> Result<(), Fault<'static>>
     ensures was_kept { R.kept station.new.rows → R.kept station.old.rows }
     ensures runs { RunsUpTo result R.Rows N.passed F.written station.old station.new wire.old wire.new folders.old folders.new waits.old.items waits.new.items }
 {
     for _ in 0..u64::MAX {
-        timed_turn(station, wire, folders, waits, book, buffer, err)?;
+        timed_turn(station, wire, folders, waits, book, intake, err)?;
         if book.is_over {
             return Ok(());
         }
@@ -62,7 +62,7 @@ fn start<R: Rows, N: Wire, F: Folders, E: Write>(
     folders: &mut F,
     waits: &mut Vec<NamedFile>,
     quiet: bool,
-    buffer: &mut [u8],
+    intake: &mut Intake,
     err: &mut E,
 ) -> Result<(), Fault<'static>>
     ensures was_kept { R.kept station.new.rows → R.kept station.old.rows }
@@ -70,12 +70,12 @@ fn start<R: Rows, N: Wire, F: Folders, E: Write>(
 {
     let _ = folders.remove(alloc, STOP);
     let mut book = OfferBook::new(alloc, quiet);
-    take_turns(station, wire, folders, waits, &mut book, buffer, err)
+    take_turns(station, wire, folders, waits, &mut book, intake, err)
 }
 
 /// Runs a station over the folders of its plant, until a file `stop` lies among the offers, or the station stops, the network
 /// fails, or there is no memory for the files of a release; `err` has the fault. A file `stop` that lies there at the start is
-/// taken away. The buffer for what comes is made before the first turn.
+/// taken away. The room for what comes is made before the first turn.
 ///
 /// What the station hands out is sent, what it releases is written among the releases, or waits to be where the folder does
 /// not take it. What lies among the offers is taken up once it is whole, and leaves them once its number is released, or
@@ -95,7 +95,7 @@ pub fn run_station<R: Rows, N: Wire, F: Folders, E: Write>(
     if station.stopped() {
         return Fault::of_step(StepRefusal::Stopped).tell(err);
     }
-    let Ok(mut buffer) = vec![in alloc; 0u8; BUFFER] else {
+    let Ok(mut intake) = Intake::new(alloc) else {
         return Fault::OutOfMemory.tell(err);
     };
     let mut waits = Vec::new(alloc);
@@ -106,7 +106,7 @@ pub fn run_station<R: Rows, N: Wire, F: Folders, E: Write>(
         folders,
         &mut waits,
         quiet,
-        &mut buffer,
+        &mut intake,
         err,
     ) {
         Ok(()) => End::Done,

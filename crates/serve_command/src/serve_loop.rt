@@ -6,7 +6,7 @@ ghost use Rattle.command_ends.specs.declared.end.End.TheVariants.{Done};
 
 use crate::handing_on::hand_on;
 use command_ends::{End, Fault};
-use exchange::{BUFFER, Outcome, pass_over, take_datagram, tell_strangers};
+use exchange::{Intake, Outcome, pass_over, take_datagram, tell_strangers};
 use saved_rows::Rows;
 use station::{Station, StepRefusal};
 use std::alloc::Global;
@@ -14,24 +14,27 @@ use std::io::Write;
 use tape_frames::Tape;
 use wire::Wire;
 
-/// Takes in what comes, one datagram at most. One that the station refuses is passed over.
+/// Takes in what comes, one datagram at most. One that the station refuses is passed over; where that is for its layout, it is told.
 fn take_in<R: Rows, N: Wire, W: Write, E: Write>(
     alloc: Global,
     station: &mut Station<R>,
     wire: &mut N,
     now: u64,
-    buffer: &mut [u8],
+    intake: &mut Intake,
     out: &mut W,
     err: &mut E,
 ) -> Result<(), Fault<'static>>
     ensures was_kept { R.kept station.new.rows → R.kept station.old.rows }
     ensures serves { ServesUpTo (IsTakingIn now) result R.Rows N.passed W.contents station.old station.new wire.old wire.new out.old out.new }
 {
-    match take_datagram(station, wire, now, buffer) {
+    match take_datagram(station, wire, now, &mut intake.room) {
         Outcome::Nothing => Ok(()),
         Outcome::Failed => Err(Fault::Socket("receive failed")),
         Outcome::Done { answer, said: _ } => hand_on(alloc, &answer, wire, out, err),
-        Outcome::Refused(refusal) => pass_over(refusal),
+        Outcome::Refused { refusal, newer } => {
+            intake.newer.tell(newer, now, err);
+            pass_over(refusal)
+        }
     }
 }
 
@@ -60,7 +63,7 @@ fn turn<R: Rows, N: Wire, W: Write, E: Write>(
     station: &mut Station<R>,
     wire: &mut N,
     now: u64,
-    buffer: &mut [u8],
+    intake: &mut Intake,
     out: &mut W,
     err: &mut E,
 ) -> Result<(), Fault<'static>>
@@ -68,7 +71,7 @@ fn turn<R: Rows, N: Wire, W: Write, E: Write>(
     ensures serves { ServesUpTo (IsTurn now) result R.Rows N.passed W.contents station.old station.new wire.old wire.new out.old out.new }
     ensures goes_on { OnOk result (station.new.stopped ≡ false) }
 {
-    take_in(alloc, station, wire, now, buffer, out, err)?;
+    take_in(alloc, station, wire, now, intake, out, err)?;
     tell_strangers(wire, now, err);
     see_to_due(alloc, station, wire, now, out, err)
 }
@@ -76,14 +79,15 @@ fn turn<R: Rows, N: Wire, W: Write, E: Write>(
 /// One turn of a station at a moment in milliseconds: it takes in one datagram at most, and then sees to what is due.
 ///
 /// What the station hands out is sent, and a release is written. A datagram that it refuses is passed over, a datagram that can't be
-/// sent is lost and told, and so are, once a second at most, those of strangers. The turn ends otherwise than by `Done` where the wire
-/// fails to receive, the station stops, or the output can't be written; `err` has the fault.
+/// sent is lost and told, and so are, once a second at most, those of strangers. One of a layout that the station does not read is told
+/// once a minute at most. The turn ends otherwise than by `Done` where the wire fails to receive, the station stops, or the output
+/// can't be written; `err` has the fault.
 pub fn serve_turn<R: Rows, N: Wire, W: Write, E: Write>(
     alloc: Global,
     station: &mut Station<R>,
     wire: &mut N,
     now: u64,
-    buffer: &mut [u8],
+    intake: &mut Intake,
     out: &mut W,
     err: &mut E,
 ) -> End
@@ -91,7 +95,7 @@ pub fn serve_turn<R: Rows, N: Wire, W: Write, E: Write>(
     ensures serves { ServesBy (IsTurn now) result R.Rows N.passed W.contents station.old station.new wire.old wire.new out.old out.new }
     ensures goes_on { result ≡ Done → station.new.stopped ≡ false }
 {
-    match turn(alloc, station, wire, now, buffer, out, err) {
+    match turn(alloc, station, wire, now, intake, out, err) {
         Ok(()) => End::Done,
         Err(fault) => fault.tell(err),
     }
@@ -102,7 +106,7 @@ fn timed_turn<R: Rows, N: Wire, W: Write, E: Write>(
     alloc: Global,
     station: &mut Station<R>,
     wire: &mut N,
-    buffer: &mut [u8],
+    intake: &mut Intake,
     out: &mut W,
     err: &mut E,
 ) -> End
@@ -110,7 +114,7 @@ fn timed_turn<R: Rows, N: Wire, W: Write, E: Write>(
     ensures serves { ServesBy (AtClock IsTurn) result R.Rows N.passed W.contents station.old station.new wire.old wire.new out.old out.new }
 {
     let now = wire.now();
-    serve_turn(alloc, station, wire, now, buffer, out, err)
+    serve_turn(alloc, station, wire, now, intake, out, err)
 }
 
 /// Offers a tape for a number, where there is one to offer.
@@ -220,7 +224,7 @@ fn take_turns<R: Rows, N: Wire, W: Write, E: Write>(
     station: &mut Station<R>,
     wire: &mut N,
     turns: u32,
-    buffer: &mut [u8],
+    intake: &mut Intake,
     out: &mut W,
     err: &mut E,
 ) -> End
@@ -228,7 +232,7 @@ fn take_turns<R: Rows, N: Wire, W: Write, E: Write>(
     ensures serves { ServesBy (AreTurns turns) result R.Rows N.passed W.contents station.old station.new wire.old wire.new out.old out.new }
 {
     for _ in 0..turns {
-        let end = timed_turn(alloc, station, wire, buffer, out, err);
+        let end = timed_turn(alloc, station, wire, intake, out, err);
         if end != End::Done {
             return end;
         }
@@ -237,7 +241,7 @@ fn take_turns<R: Rows, N: Wire, W: Write, E: Write>(
 }
 
 /// Serves a station: the offer, then the withdrawal, then the search, if given, and then so many turns, up to the first
-/// that does not end well. The buffer for what comes is made before all of them.
+/// that does not end well. The room for what comes is made before all of them.
 ///
 /// An offer, a withdrawal or a search that the station refuses ends it, and so does that it has stopped; `err` has the
 /// word. A station at version 1 refuses each withdrawal.
@@ -259,11 +263,11 @@ pub fn serve_run<R: Rows, N: Wire, W: Write, E: Write>(
     if station.stopped() {
         return Fault::of_step(StepRefusal::Stopped).tell(err);
     }
-    let Ok(mut buffer) = vec![in alloc; 0u8; BUFFER] else {
+    let Ok(mut intake) = Intake::new(alloc) else {
         return Fault::OutOfMemory.tell(err);
     };
     match ask(alloc, station, wire, offer, withdraw, seek, out, err) {
-        Ok(()) => take_turns(alloc, station, wire, turns, &mut buffer, out, err),
+        Ok(()) => take_turns(alloc, station, wire, turns, &mut intake, out, err),
         Err(fault) => fault.tell(err),
     }
 }

@@ -1,6 +1,7 @@
 //! `run`: what a station that stays up does with what lies among the offers of its plant, and with what it releases.
 
 mod bursts;
+mod layouts;
 mod memory;
 mod offering;
 mod plant;

@@ -2,6 +2,7 @@
 
 mod agreeing;
 mod failing;
+mod layouts;
 mod longest;
 mod plant;
 mod printing;

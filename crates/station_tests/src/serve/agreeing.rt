@@ -3,6 +3,7 @@
 use crate::serve::plant::{OFFER, Plant, RELEASE, Run};
 use ballots::Member;
 use command_ends::End;
+use exchange::Intake;
 use saved_rows::MemoryRows;
 use std::alloc::Global;
 use wire::{Address, UdpWire};
@@ -52,9 +53,9 @@ fn three_posts<'a>(rt: &'a HostRuntime) -> Option<Vec<Post<'a>>> {
 }
 
 /// Whether each took a turn that ended well.
-fn take_a_turn<'a>(posts: &mut [Post<'a>], buffer: &mut [u8]) -> bool {
+fn take_a_turn<'a>(posts: &mut [Post<'a>], intake: &mut Intake) -> bool {
     for post in posts.iter_mut() {
-        if post.turn(buffer) != End::Done {
+        if post.turn(intake) != End::Done {
             return false;
         }
     }
@@ -69,9 +70,9 @@ fn all_have_printed<'a>(posts: &[Post<'a>], out: &str) -> bool {
 
 /// Whether each turn ended well, up to the one after which all have printed this, or 300.
 fn all_come_to<'a>(alloc: Global, posts: &mut [Post<'a>], out: &str) -> Option<bool> {
-    let mut buffer = vec![in alloc; 0u8; 12_314].ok()?;
+    let mut intake = Intake::new(alloc).ok()?;
     for _ in 0..300 {
-        if !take_a_turn(posts, &mut buffer) {
+        if !take_a_turn(posts, &mut intake) {
             return Some(false);
         }
         if all_have_printed(posts, out) {

@@ -3,6 +3,7 @@
 use crate::given::{Given, frames_of};
 use crate::stations::station_over;
 use command_ends::End;
+use exchange::Intake;
 use saved_rows::Rows;
 use serve_command::{serve_run, serve_turn};
 use station::Station;
@@ -128,14 +129,14 @@ impl<R: Rows, N: Wire + Drop> Plant<R, N> {
     }
 
     /// How one more turn ends. What it prints comes after what was printed before.
-    pub fn turn(&mut self, buffer: &mut [u8]) -> End {
+    pub fn turn(&mut self, intake: &mut Intake) -> End {
         let now = self.wire.now();
         serve_turn(
             self.alloc,
             &mut self.station,
             &mut self.wire,
             now,
-            buffer,
+            intake,
             &mut self.out,
             &mut self.err,
         )

@@ -9,4 +9,8 @@ returns-in-Ok-clause-takes g c = (
 )
 
 pub returns-in-Err-clause-takes : goal.returns-in-Err-clause-takes
-returns-in-Err-clause-takes g c = (_, record { step = λ kept. c.in-Err.ensures; passes = c.in-Datagram.ensures.passes; stops = c.in-Err.ensures.stops })
+returns-in-Err-clause-takes g c = (
+  _,
+  record { step = λ kept. c.in-Err.ensures; passes = c.in-Datagram.ensures.passes; stops = c.in-Err.ensures.stops },
+  c.newer_in.ensures,
+)
