@@ -3,7 +3,7 @@
 ghost use Rattle.std.specs.Prelude.{◌≡◌, ◌≤◌, ◌↔◌, false, IsTrue, IsSome, IfSome, Some, None};
 ghost use Rattle.tape_frames.specs.Entries.{lent_entry};
 ghost use Rattle.folders.specs.Offers.{IsMet, IsPlaceOf};
-ghost use Rattle.folders.specs.Pausing.{put_off_at};
+ghost use Rattle.folders.specs.Pausing.{put_off_at, wait_at};
 
 use crate::folders::{Place, Stamp};
 use crate::pauses::{FIRST_PAUSE, has_passed, next_pause};
@@ -109,5 +109,13 @@ impl Asked {
         self.due = Some(now.saturating_add(self.pause));
         self.pause = next_pause(self.pause);
         self.ballot = None;
+    }
+
+    /// Asks again a second after this moment, in milliseconds, as often as another file of its number is found under way. Its pause does
+    /// not grow: a search that goes on for ever beside a tape of the same number would else keep the tape from being offered.
+    pub fn wait(&mut self, now: u64)
+        ensures { self.new ≡ wait_at now self.old }
+    {
+        self.due = Some(now.saturating_add(FIRST_PAUSE));
     }
 }

@@ -532,6 +532,13 @@ impl OfferBook {
         }
     }
 
+    /// The station is asked again for the file at a place when the other file of its number may have come to an end.
+    pub(crate) fn wait(&mut self, place: usize, now: u64) {
+        if let Some(asked) = self.asked.get_mut(place) {
+            asked.wait(now);
+        }
+    }
+
     /// Refuses the file at a place.
     pub(crate) fn refuse_at<F: Folders, E: Write>(
         &mut self,

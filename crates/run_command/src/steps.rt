@@ -98,8 +98,8 @@ fn see_to_due<R: Rows, N: Wire, F: Folders, E: Write>(
     }
 }
 
-/// What becomes of a file for which the station did not take the step: its number is settled already, or it waits, or it is no
-/// offer.
+/// What becomes of a file for which the station did not take the step: its number is settled already, another file of its
+/// number is under way, it waits, or it is no offer.
 fn take_refusal<F: Folders, E: Write>(
     folders: &mut F,
     book: &mut OfferBook,
@@ -112,6 +112,7 @@ fn take_refusal<F: Folders, E: Write>(
 {
     match refusal {
         StepRefusal::AlreadyReleased => book.settle_late(folders, place, now, err),
+        StepRefusal::AlreadyOpen => book.wait(place, now),
         _ if is_of_offer(refusal) => {
             book.refuse_at(folders, place, Reason::Step(refusal), now, err);
         }
