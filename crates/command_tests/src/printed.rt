@@ -6,5 +6,6 @@ mod failing;
 mod inputs;
 mod paths;
 mod rehearsing;
+mod running;
 mod scripts;
 mod writers;

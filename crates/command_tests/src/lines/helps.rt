@@ -1,8 +1,7 @@
 //! The help of the program and of each command.
 
-use super::splitting::words_of;
-use command_ends::End;
-use command_line::parse;
+use super::asking::{Wanted, comes_to};
+use std::alloc::Global;
 
 /// The lines that ask for a help, and the help.
 const HELPS: &str = "\
@@ -220,23 +219,13 @@ The lines of this script print what each member did and what it sent:
    #3 promise 2>1 12 1.1
 ";
 
-/// Whether a line ends as usage, with this help on the output.
-fn is_help(rt: &HostRuntime, line: &str, help: &str) -> Option<bool> {
-    let alloc = rt.alloc();
-    let words = words_of(alloc, line)?;
-    let mut out = Vec::new(alloc);
-    let mut err = Vec::new(alloc);
-    let ended = matches!(parse(alloc, &words, &mut out, &mut err), Err(End::Usage));
-    Some(ended && err.is_empty() && out.as_slice() == help.as_bytes())
-}
-
 /// Whether a row, of lines and the help that each of them asks for, is right.
-fn is_row(rt: &HostRuntime, row: &str) -> Option<bool> {
+fn is_row(alloc: Global, row: &str) -> Option<bool> {
     let (lines, help) = row.split_once('\n')?;
     Some(
         lines
             .split(", ")
-            .all(|line| is_help(rt, line, help) == Some(true)),
+            .all(|line| comes_to(alloc, line, Wanted::Help(help))),
     )
 }
 
@@ -244,7 +233,7 @@ fn is_row(rt: &HostRuntime, row: &str) -> Option<bool> {
 fn lines_that_ask_for_help(rt: HostRuntime) {
     let rows = HELPS;
     for row in rows.split("% ").skip(1) {
-        assert!(rt; is_row(&rt, row) == Some(true), "{row}");
+        assert!(rt; is_row(rt.alloc(), row) == Some(true), "{row}");
     }
     assert!(rt; rows.split("% ").count() == 11);
 }

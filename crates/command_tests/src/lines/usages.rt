@@ -1,8 +1,7 @@
 //! Command lines that are usage, each with what is said of it.
 
-use super::splitting::words_of;
-use command_ends::End;
-use command_line::parse;
+use super::asking::{Wanted, comes_to};
+use std::alloc::Global;
 
 /// Lines that ask for nothing, each with what is told of it between the word `error` and the hint at the help: the mistake,
 /// and the usage of the command, if it is told.
@@ -168,35 +167,17 @@ unexpected argument '--turns' found
 Usage: circuitd run <CONFIG>
 ";
 
-/// How each of them ends.
-const HINT: &[u8] = b"\nFor more information, try '--help'.\n";
-
-/// The mistake and the usage in what is told.
-fn told_of(err: &[u8]) -> Option<&[u8]> {
-    err.strip_prefix(b"error: ")?.strip_suffix(HINT)
-}
-
-/// Whether a line ends as usage, with this on the output of faults.
-fn is_usage(rt: &HostRuntime, line: &str, told: &str) -> Option<bool> {
-    let alloc = rt.alloc();
-    let words = words_of(alloc, line)?;
-    let mut out = Vec::new(alloc);
-    let mut err = Vec::new(alloc);
-    let ended = matches!(parse(alloc, &words, &mut out, &mut err), Err(End::Usage));
-    Some(ended && out.is_empty() && told_of(&err) == Some(told.as_bytes()))
-}
-
 /// Whether a row, a line and what is told of it, is right.
-fn is_row(rt: &HostRuntime, row: &str) -> Option<bool> {
+fn is_row(alloc: Global, row: &str) -> Option<bool> {
     let (line, told) = row.split_once('\n')?;
-    is_usage(rt, line, told)
+    Some(comes_to(alloc, line, Wanted::Mistake(told)))
 }
 
 #[test]
 fn lines_that_are_usage(rt: HostRuntime) {
     let rows = USAGES;
     for row in rows.split("$ ").skip(1) {
-        assert!(rt; is_row(&rt, row) == Some(true), "{row}");
+        assert!(rt; is_row(rt.alloc(), row) == Some(true), "{row}");
     }
     assert!(rt; rows.split("$ ").count() == 43);
 }

@@ -1,12 +1,9 @@
 //! What `answer` tells to whole inputs, and readers and writers that fail.
 
-use super::failing::{Broken, Slow};
-use answer_command::answer;
-use ballots::Member;
+use super::failing::{Input, Slow};
+use super::running::{Command, Ending, comes_to, fills};
 use command_ends::End;
 use std::alloc::Global;
-use std::io;
-use std::io::{Read, Write};
 use tape_frames::Version;
 
 /// A Prepare of 1.1 for number 12, and the Promise that reports no vote.
@@ -58,53 +55,20 @@ refused wrong-circuit\n\
 refused not-for-me\n\
 refused not-a-request\n";
 
-/// How member 2 of circuit 7, in this version, ends over what this reads.
-pub fn ended_of_two<R: Read, W: Write>(
-    alloc: Global,
-    wire: Version,
-    input: &mut R,
-    out: &mut W,
-    err: &mut Vec<u8>,
-) -> Option<End> {
-    let me = Member::new(2)?;
-    Some(answer(alloc, 7, me, wire, input, out, err))
+/// Whether member 2 of circuit 7 answers this input by this text in this version.
+fn tells(alloc: Global, wire: Version, input: &[u8], text: &str) -> bool {
+    let wanted = Ending {
+        end: End::Done,
+        out: text,
+        err: "",
+    };
+    comes_to(alloc, Command::Answer(wire, Input::whole(input)), &wanted)
 }
 
-/// Whether member 2 of circuit 7, in this version, ends so over what this reads, and tells this text and this fault.
-fn ends_in<R: Read>(
-    alloc: Global,
-    wire: Version,
-    input: &mut R,
-    end: End,
-    out: &str,
-    err: &str,
-) -> bool {
-    let mut told = Vec::new(alloc);
-    let mut faults = Vec::new(alloc);
-    let ended = ended_of_two(alloc, wire, input, &mut told, &mut faults);
-    ended == Some(end) && told.as_slice() == out.as_bytes() && faults.as_slice() == err.as_bytes()
-}
-
-/// Whether it ends so in version 1.
-fn ends<R: Read>(alloc: Global, input: &mut R, end: End, out: &str, err: &str) -> bool {
-    ends_in(alloc, Version::One, input, end, out, err)
-}
-
-/// Whether it answers this input by this text in version 1.
-fn tells(alloc: Global, input: &str, text: &str) -> bool {
-    ends(alloc, &mut input.as_bytes(), End::Done, text, "")
-}
-
-/// Whether it answers this input by this text in version 2.
-fn tells_in_two(alloc: Global, input: &str, text: &str) -> bool {
-    ends_in(
-        alloc,
-        Version::Two,
-        &mut input.as_bytes(),
-        End::Done,
-        text,
-        "",
-    )
+/// Whether it ends so over what this reads, in version 1, with nothing answered but this fault told.
+fn ends(alloc: Global, input: Input<'_>, end: End, err: &str) -> bool {
+    let wanted = Ending { end, out: "", err };
+    comes_to(alloc, Command::Answer(Version::One, input), &wanted)
 }
 
 /// Inputs, and what is told of them.
@@ -133,7 +97,10 @@ const INPUTS: &[(&str, &str)] = &[
 #[test]
 fn answers(rt: HostRuntime) {
     for (input, text) in INPUTS {
-        assert!(rt; tells(rt.alloc(), input, text), "{input}");
+        assert!(rt;
+            tells(rt.alloc(), Version::One, input.as_bytes(), text),
+            "{input}"
+        );
     }
 }
 
@@ -202,7 +169,10 @@ const INPUTS_IN_TWO: &[(&str, &str)] = &[
 #[test]
 fn answers_in_version_two(rt: HostRuntime) {
     for (input, text) in INPUTS_IN_TWO {
-        assert!(rt; tells_in_two(rt.alloc(), input, text), "{input}");
+        assert!(rt;
+            tells(rt.alloc(), Version::Two, input.as_bytes(), text),
+            "{input}"
+        );
     }
 }
 
@@ -216,8 +186,7 @@ fn refuses_front(alloc: Global, length: usize) -> bool {
     } else {
         "refused short\n"
     };
-    let mut input = front;
-    ends(alloc, &mut input, End::Done, word, "")
+    tells(alloc, Version::One, front, word)
 }
 
 #[test]
@@ -230,14 +199,14 @@ fn each_front_of_a_line(rt: HostRuntime) {
 /// Whether a writer with room for so many bytes gets that front of the text, and the command ends by this with this
 /// fault.
 fn is_front(alloc: Global, room: usize, end: End, err: &str) -> bool {
-    let mut out = Slow::new(alloc, room);
-    let mut faults = Vec::new(alloc);
-    let input = &mut FIVE.as_bytes();
-    let ended = ended_of_two(alloc, Version::One, input, &mut out, &mut faults);
-    ended == Some(end)
-        && faults.as_slice() == err.as_bytes()
-        && TOLD.as_bytes().starts_with(&out.taken)
-        && out.taken.len() == room.min(TOLD.len())
+    let wanted = Ending {
+        end,
+        out: TOLD,
+        err,
+    };
+    let input = Input::whole(FIVE.as_bytes());
+    let command = Command::Answer(Version::One, input);
+    fills(alloc, command, Slow::new(alloc, room), &wanted)
 }
 
 #[test]
@@ -253,13 +222,16 @@ fn a_writer_that_stops(rt: HostRuntime) {
 
 #[test]
 fn a_reader_that_fails(rt: HostRuntime) {
-    let mut broken = Broken { given: false };
-    assert!(rt; ends(rt.alloc(), &mut broken, End::Input, "", "cannot read -\n"));
+    let broken = Input::broken(b"5");
+    assert!(rt; ends(rt.alloc(), broken, End::Input, "cannot read -\n"));
 }
 
 /// Whether an input of so many spaces ends so, with nothing told but this fault.
-fn blanks_end(alloc: Global, count: u64, end: End, err: &str) -> bool {
-    ends(alloc, &mut io::repeat(b' ').take(count), end, "", err)
+fn blanks_end(alloc: Global, count: usize, end: End, err: &str) -> bool {
+    match vec![in alloc; b' '; count] {
+        Ok(blanks) => ends(alloc, Input::whole(&blanks), end, err),
+        Err(_) => false,
+    }
 }
 
 #[test]

@@ -1,46 +1,39 @@
 //! The texts of galleys and faults, of the whole command.
 
-use super::paths;
-use check_command::check;
+use super::failing::Input;
+use super::running::{Command, Ending, comes_to};
 use command_ends::End;
 use fixtures::{CODES, FLOOD, HARVEST, LIGATURE, OVERSET, WIDTHS};
 use std::alloc::Global;
-use std::io::Read;
 
-/// Whether `check` of these files ends so, and prints this text and this fault.
-fn ends<R: Read>(
-    alloc: Global,
-    files: (&str, &str),
-    tape: &mut R,
-    listing: bool,
-    end: End,
-    out: &str,
-    err: &str,
-) -> bool {
-    let (mut table, mut widths) = (files.0.as_bytes(), files.1.as_bytes());
-    let mut printed = Vec::new(alloc);
-    let mut told = Vec::new(alloc);
-    let ended = check(
-        alloc,
-        &paths::OF_TAPE,
-        &mut table,
-        &mut widths,
-        tape,
-        listing,
-        &mut printed,
-        &mut told,
+/// `check` of these files and this tape.
+fn check_of<'a>(files: (&'a str, &'a str), tape: &'a [u8], listing: bool) -> Command<'a> {
+    let inputs = (
+        Input::whole(files.0.as_bytes()),
+        Input::whole(files.1.as_bytes()),
+        Input::whole(tape),
     );
-    ended == end && printed.as_slice() == out.as_bytes() && told.as_slice() == err.as_bytes()
+    Command::Check(inputs, listing)
 }
 
 /// Whether this tape sets as this text.
-fn sets(alloc: Global, mut tape: &[u8], out: &str) -> bool {
-    ends(alloc, (CODES, WIDTHS), &mut tape, false, End::Done, out, "")
+fn sets(alloc: Global, tape: &[u8], out: &str) -> bool {
+    let wanted = Ending {
+        end: End::Done,
+        out,
+        err: "",
+    };
+    comes_to(alloc, check_of((CODES, WIDTHS), tape, false), &wanted)
 }
 
 /// Whether these files have this fault, and nothing is printed.
-fn fails(alloc: Global, files: (&str, &str), mut tape: &[u8], err: &str) -> bool {
-    ends(alloc, files, &mut tape, false, End::Input, "", err)
+fn fails(alloc: Global, files: (&str, &str), tape: &[u8], err: &str) -> bool {
+    let wanted = Ending {
+        end: End::Input,
+        out: "",
+        err,
+    };
+    comes_to(alloc, check_of(files, tape, false), &wanted)
 }
 
 /// Whether it is so where these widths have this in place of that.
@@ -156,16 +149,27 @@ fn faults_of_changed_widths(rt: HostRuntime) {
     assert!(rt; faulty);
 }
 
-/// Whether `check` of this tape with a listing ends so, and prints this text and this fault.
-fn lists(alloc: Global, mut tape: &[u8], end: End, out: &str, err: &str) -> bool {
-    ends(alloc, (CODES, WIDTHS), &mut tape, true, end, out, err)
+/// Whether `check` of this tape with a listing ends so.
+fn lists(alloc: Global, tape: &[u8], wanted: &Ending<'_>) -> bool {
+    comes_to(alloc, check_of((CODES, WIDTHS), tape, true), wanted)
 }
+
+/// The listing of a tape that sets, and of one that does not.
+const LISTED: Ending<'static> = Ending {
+    end: End::Done,
+    out: "o.o... 5\n.o.... 2\nooo... 7\n..o... 4\no..... 1\noo.o.. 11\n..o... 4\n\
+0001 C 10 11 B\n0002 R 22 0 A\n",
+    err: "",
+};
+
+const UNFINISHED: Ending<'static> = Ending {
+    end: End::Input,
+    out: "o..... 1\n",
+    err: "fault: unfinished at 1 line 1\n",
+};
 
 #[test]
 fn a_listing_of_holes(rt: HostRuntime) {
-    let text = "o.o... 5\n.o.... 2\nooo... 7\n..o... 4\no..... 1\noo.o.. 11\n..o... 4\n\
-0001 C 10 11 B\n0002 R 22 0 A\n";
-    assert!(rt; lists(rt.alloc(), HARVEST, End::Done, text, ""));
-    let fault = "fault: unfinished at 1 line 1\n";
-    assert!(rt; lists(rt.alloc(), &[1], End::Input, "o..... 1\n", fault));
+    assert!(rt; lists(rt.alloc(), HARVEST, &LISTED));
+    assert!(rt; lists(rt.alloc(), &[1], &UNFINISHED));
 }

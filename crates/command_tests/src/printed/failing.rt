@@ -64,19 +64,34 @@ impl Write for Slow {
     }
 }
 
-/// A reader that gives a byte and then fails.
-#[derive(Drop)]
-pub struct Broken {
-    pub given: bool,
+/// A reader of these bytes, which fails at their end where it breaks.
+#[derive(Clone, Copy)]
+pub struct Input<'a> {
+    rest: &'a [u8],
+    breaks: bool,
 }
 
-impl Read for Broken {
+impl<'a> Input<'a> {
+    pub fn whole(bytes: &'a [u8]) -> Input<'a> {
+        Input {
+            rest: bytes,
+            breaks: false,
+        }
+    }
+
+    pub fn broken(bytes: &'a [u8]) -> Input<'a> {
+        Input {
+            rest: bytes,
+            breaks: true,
+        }
+    }
+}
+
+impl<'a> Read for Input<'a> {
     fn read(&mut self, buf: &mut [u8]) -> io::Result<usize> {
-        if self.given || buf.is_empty() {
+        if self.breaks && self.rest.is_empty() {
             return Err(io::Error::from(ErrorKind::Other));
         }
-        self.given = true;
-        buf[0] = b'5';
-        Ok(1)
+        self.rest.read(buf)
     }
 }

@@ -1,13 +1,10 @@
 //! The three inputs of `check` and of `rehearse`: which is read first, which can't be read, and which is too long.
 
-use super::paths;
-use check_command::check;
+use super::failing::Input;
+use super::running::{Command, Ending, comes_to};
 use command_ends::End;
 use fixtures::{CODES, WIDTHS};
-use rehearse_command::rehearse;
 use std::alloc::Global;
-use std::io;
-use std::io::{ErrorKind, Read};
 
 /// What an input has.
 #[derive(Clone, Copy)]
@@ -39,30 +36,13 @@ impl Source {
             Broken => Some(Vec::new(alloc)),
         }
     }
-}
 
-/// A reader of these bytes, which fails at their end where they are those of what can't be read.
-#[derive(Drop)]
-struct Input<'a> {
-    rest: &'a [u8],
-    breaks: bool,
-}
-
-impl<'a> Input<'a> {
-    fn new(source: Source, bytes: &'a [u8]) -> Input<'a> {
-        Input {
-            rest: bytes,
-            breaks: matches!(source, Broken),
+    /// A reader of its bytes, which are these.
+    fn reader(self, bytes: &[u8]) -> Input<'_> {
+        match self {
+            Broken => Input::broken(bytes),
+            _ => Input::whole(bytes),
         }
-    }
-}
-
-impl<'a> Read for Input<'a> {
-    fn read(&mut self, buf: &mut [u8]) -> io::Result<usize> {
-        if self.breaks {
-            return Err(io::Error::from(ErrorKind::Other));
-        }
-        self.rest.read(buf)
     }
 }
 
@@ -113,70 +93,40 @@ fn bytes_of(alloc: Global, sources: Sources) -> Option<(Vec<u8>, Vec<u8>, Vec<u8
     Some((first, second, third))
 }
 
-/// What was told, where a command ended by an input and printed nothing.
-fn told_of_input(end: End, out: Vec<u8>, err: Vec<u8>) -> Option<Vec<u8>> {
-    (end == End::Input && out.is_empty()).then_some(err)
-}
-
-/// What `check` tells of these inputs, where it ends by an input and prints nothing.
-fn fault_of_check(alloc: Global, sources: Sources) -> Option<Vec<u8>> {
-    let (table, widths, tape) = bytes_of(alloc, sources)?;
-    let mut out = Vec::new(alloc);
-    let mut err = Vec::new(alloc);
-    let end = check(
-        alloc,
-        &paths::OF_TAPE,
-        &mut Input::new(sources.0, &table),
-        &mut Input::new(sources.1, &widths),
-        &mut Input::new(sources.2, &tape),
-        false,
-        &mut out,
-        &mut err,
-    );
-    told_of_input(end, out, err)
-}
-
-/// What `rehearse` tells of these inputs, where it ends by an input and prints nothing.
-fn fault_of_rehearse(alloc: Global, sources: Sources) -> Option<Vec<u8>> {
-    let (table, widths, script) = bytes_of(alloc, sources)?;
-    let mut out = Vec::new(alloc);
-    let mut err = Vec::new(alloc);
-    let end = rehearse(
-        alloc,
-        &paths::OF_SCRIPT,
-        &mut Input::new(sources.0, &table),
-        &mut Input::new(sources.1, &widths),
-        &mut Input::new(sources.2, &script),
-        &mut out,
-        &mut err,
-    );
-    told_of_input(end, out, err)
-}
-
 /// A command over three inputs.
 #[derive(Clone, Copy)]
-enum Command {
+enum Which {
     Check,
     Rehearse,
 }
 
 /// Whether a command ends by an input, prints nothing and tells this fault.
-fn tells(alloc: Global, command: Command, sources: Sources, text: &str) -> bool {
-    let told = match command {
-        Command::Check => fault_of_check(alloc, sources),
-        Command::Rehearse => fault_of_rehearse(alloc, sources),
+fn tells(alloc: Global, which: Which, sources: Sources, text: &str) -> bool {
+    let Some((table, widths, last)) = bytes_of(alloc, sources) else {
+        return false;
     };
-    match told {
-        Some(told) => told.as_slice() == text.as_bytes(),
-        None => false,
-    }
+    let inputs = (
+        sources.0.reader(&table),
+        sources.1.reader(&widths),
+        sources.2.reader(&last),
+    );
+    let command = match which {
+        Which::Check => Command::Check(inputs, false),
+        Which::Rehearse => Command::Rehearse(inputs),
+    };
+    let wanted = Ending {
+        end: End::Input,
+        out: "",
+        err: text,
+    };
+    comes_to(alloc, command, &wanted)
 }
 
 /// How many of the inputs of both, from the first, have their faults in this command.
-fn told_of_both(alloc: Global, command: Command) -> usize {
+fn told_of_both(alloc: Global, which: Which) -> usize {
     let cases = BOTH;
     for (place, (sources, text)) in cases.iter().enumerate() {
-        if !tells(alloc, command, *sources, text) {
+        if !tells(alloc, which, *sources, text) {
             return place;
         }
     }
@@ -185,18 +135,18 @@ fn told_of_both(alloc: Global, command: Command) -> usize {
 
 #[test]
 fn inputs_of_check(rt: HostRuntime) {
-    assert!(rt; told_of_both(rt.alloc(), Command::Check) == 10);
+    assert!(rt; told_of_both(rt.alloc(), Which::Check) == 10);
     for (sources, text) in TAPES {
-        assert!(rt; tells(rt.alloc(), Command::Check, *sources, text), "{text}");
+        assert!(rt; tells(rt.alloc(), Which::Check, *sources, text), "{text}");
     }
 }
 
 #[test]
 fn inputs_of_rehearse(rt: HostRuntime) {
-    assert!(rt; told_of_both(rt.alloc(), Command::Rehearse) == 10);
+    assert!(rt; told_of_both(rt.alloc(), Which::Rehearse) == 10);
     for (sources, text) in SCRIPTS {
         assert!(rt;
-            tells(rt.alloc(), Command::Rehearse, *sources, text),
+            tells(rt.alloc(), Which::Rehearse, *sources, text),
             "{text}"
         );
     }

@@ -1,44 +1,44 @@
 //! Rehearsals: whole printed texts.
 
-use super::paths;
+use super::failing::Input;
+use super::running::{Command, Ending, comes_to};
 use command_ends::End;
 use fixtures::{CODES, WIDTHS};
-use rehearse_command::rehearse;
 use std::alloc::Global;
-use std::io::Read;
 
-/// Whether a rehearsal of what this reads ends so, and prints this text and this fault.
-pub fn ends_over<R: Read>(
+/// Whether a rehearsal of what this reads, with these widths, ends so.
+pub fn ends_over<'a>(
     alloc: Global,
-    widths: &str,
-    script: &mut R,
-    end: End,
-    out: &str,
-    err: &str,
+    widths: &'a str,
+    script: Input<'a>,
+    wanted: &Ending<'_>,
 ) -> bool {
-    let (mut table, mut widths) = (CODES.as_bytes(), widths.as_bytes());
-    let mut printed = Vec::new(alloc);
-    let mut told = Vec::new(alloc);
-    let ended = rehearse(
-        alloc,
-        &paths::OF_SCRIPT,
-        &mut table,
-        &mut widths,
+    let inputs = (
+        Input::whole(CODES.as_bytes()),
+        Input::whole(widths.as_bytes()),
         script,
-        &mut printed,
-        &mut told,
     );
-    ended == end && printed.as_slice() == out.as_bytes() && told.as_slice() == err.as_bytes()
+    comes_to(alloc, Command::Rehearse(inputs), wanted)
 }
 
 /// Whether this script prints this text and no fault.
 pub fn prints(alloc: Global, script: &str, out: &str) -> bool {
-    ends_over(alloc, WIDTHS, &mut script.as_bytes(), End::Done, out, "")
+    let wanted = Ending {
+        end: End::Done,
+        out,
+        err: "",
+    };
+    ends_over(alloc, WIDTHS, Input::whole(script.as_bytes()), &wanted)
 }
 
 /// Whether this script prints this text, and then this fault of an input.
 pub fn fails(alloc: Global, script: &str, out: &str, err: &str) -> bool {
-    ends_over(alloc, WIDTHS, &mut script.as_bytes(), End::Input, out, err)
+    let wanted = Ending {
+        end: End::Input,
+        out,
+        err,
+    };
+    ends_over(alloc, WIDTHS, Input::whole(script.as_bytes()), &wanted)
 }
 
 /// What each story is about, a script, and what it prints; a second script prints the same.

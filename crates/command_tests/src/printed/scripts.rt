@@ -1,12 +1,11 @@
 //! Scripts that are faulty, as long as they may be, or can't be read: every fault with its line.
 
-use super::failing::Broken;
+use super::failing::Input;
 use super::rehearsing::{ends_over, fails, prints};
+use super::running::Ending;
 use command_ends::End;
 use fixtures::WIDTHS;
 use std::alloc::Global;
-use std::io;
-use std::io::Read;
 
 /// What a line of a script is refused for.
 #[derive(Clone, Copy)]
@@ -207,16 +206,18 @@ fn long_tapes(rt: HostRuntime) {
     assert!(rt; is_no_tape(alloc, 1, 16_385) && is_no_tape(alloc, 2, 16_385));
 }
 
+/// Whether a script of this reader, with these widths, ends so, with nothing printed and this fault.
+fn ends<'a>(alloc: Global, (widths, script): (&'a str, Input<'a>), end: End, err: &str) -> bool {
+    let wanted = Ending { end, out: "", err };
+    ends_over(alloc, widths, script, &wanted)
+}
+
 /// Whether a script of so many blanks ends so, with nothing printed and this fault.
-fn blanks_end(alloc: Global, count: u64, end: End, fault: &str) -> bool {
-    ends_over(
-        alloc,
-        WIDTHS,
-        &mut io::repeat(b' ').take(count),
-        end,
-        "",
-        fault,
-    )
+fn blanks_end(alloc: Global, count: usize, end: End, fault: &str) -> bool {
+    match vec![in alloc; b' '; count] {
+        Ok(blanks) => ends(alloc, (WIDTHS, Input::whole(&blanks)), end, fault),
+        Err(_) => false,
+    }
 }
 
 #[test]
@@ -227,23 +228,14 @@ fn scripts_of_the_greatest_length(rt: HostRuntime) {
 
 #[test]
 fn a_script_that_cannot_be_read(rt: HostRuntime) {
-    let mut broken = Broken { given: false };
+    let broken = Input::broken(b"5");
     let fault = "cannot read story.script\n";
-    assert!(rt; ends_over(rt.alloc(), WIDTHS, &mut broken, End::Input, "", fault));
+    assert!(rt; ends(rt.alloc(), (WIDTHS, broken), End::Input, fault));
 }
 
 #[test]
 fn the_table_is_taken_before_the_script(rt: HostRuntime) {
-    let mut broken = Broken { given: true };
+    let broken = Input::broken(b"");
     let fault = "widths: out of range measure\n";
-    assert!(rt;
-        ends_over(
-            rt.alloc(),
-            "measure = 0",
-            &mut broken,
-            End::Input,
-            "",
-            fault
-        )
-    );
+    assert!(rt; ends(rt.alloc(), ("measure = 0", broken), End::Input, fault));
 }

@@ -1,12 +1,9 @@
 //! Writers that stop, are interrupted or hand nothing on: the command ends by that, with a front written.
 
-use super::answering::ended_of_two;
-use super::failing::Slow;
-use super::paths;
-use check_command::check;
+use super::failing::{Input, Slow};
+use super::running::{Command, Ending, fills};
 use command_ends::End;
 use fixtures::{CODES, HARVEST, WIDTHS};
-use rehearse_command::rehearse;
 use std::alloc::Global;
 use streams::put_all;
 use tape_frames::Version;
@@ -52,110 +49,59 @@ const ANSWERED: &str = "544e0102000702010000000c000000010100\n\
 
 /// A command: whether `check` prints its listing, the script that is rehearsed.
 #[derive(Clone, Copy)]
-enum Command {
+enum Work {
     Check(bool),
     Rehearse(&'static str),
     Answer,
 }
 
-fn run_check(alloc: Global, listing: bool, out: &mut Slow, err: &mut Vec<u8>) -> End {
-    let (mut table, mut widths, mut tape) = (CODES.as_bytes(), WIDTHS.as_bytes(), HARVEST);
-    check(
-        alloc,
-        &paths::OF_TAPE,
-        &mut table,
-        &mut widths,
-        &mut tape,
-        listing,
-        out,
-        err,
-    )
-}
-
-fn run_rehearse(alloc: Global, script: &str, out: &mut Slow, err: &mut Vec<u8>) -> End {
-    let (mut table, mut widths, mut script) = (
-        CODES.as_bytes(),
-        WIDTHS.as_bytes(),
-        script.as_bytes(),
-    );
-    rehearse(
-        alloc,
-        &paths::OF_SCRIPT,
-        &mut table,
-        &mut widths,
-        &mut script,
-        out,
-        err,
-    )
-}
-
-/// How a command over this writer ends.
-fn run(alloc: Global, command: Command, out: &mut Slow, err: &mut Vec<u8>) -> Option<End> {
-    match command {
-        Command::Check(listing) => Some(run_check(alloc, listing, out, err)),
-        Command::Rehearse(script) => Some(run_rehearse(alloc, script, out, err)),
-        Command::Answer => ended_of_two(alloc, Version::One, &mut ASKED.as_bytes(), out, err),
+/// A command with its inputs, which are those of the examples.
+fn command_of(work: Work) -> Command<'static> {
+    let table = Input::whole(CODES.as_bytes());
+    let widths = Input::whole(WIDTHS.as_bytes());
+    match work {
+        Work::Check(listing) => Command::Check((table, widths, Input::whole(HARVEST)), listing),
+        Work::Rehearse(script) => {
+            Command::Rehearse((table, widths, Input::whole(script.as_bytes())))
+        }
+        Work::Answer => Command::Answer(Version::One, Input::whole(ASKED.as_bytes())),
     }
-}
-
-/// How a command ends, and what it tells.
-type Ending = (End, &'static str);
-
-const DONE: Ending = (End::Done, "");
-
-const CANNOT_WRITE: Ending = (End::Input, "cannot write\n");
-
-/// Whether a command over this writer ends so, with so many bytes of its text written.
-fn ends(
-    alloc: Global,
-    command: Command,
-    text: &str,
-    mut out: Slow,
-    many: usize,
-    ending: Ending,
-) -> bool {
-    let mut err = Vec::new(alloc);
-    let end = run(alloc, command, &mut out, &mut err);
-    end == Some(ending.0)
-        && err.as_slice() == ending.1.as_bytes()
-        && out.taken.len() == many
-        && text.as_bytes().starts_with(&out.taken)
 }
 
 /// The place of the first writer over which a command does not end as it has to: two with room for the whole text, of
 /// which the second hands nothing on, and those with less room, which take nothing more or are interrupted.
-fn first_wrong(alloc: Global, command: Command, text: &str) -> Option<usize> {
-    let all = text.len();
-    if !ends(alloc, command, text, Slow::new(alloc, all), all, DONE)
-        || !ends(
-            alloc,
-            command,
-            text,
-            Slow::kept_back(alloc),
-            all,
-            CANNOT_WRITE,
-        )
+fn first_wrong(alloc: Global, work: Work, text: &str) -> Option<usize> {
+    let (all, command) = (text.len(), command_of(work));
+    let done = Ending {
+        end: End::Done,
+        out: text,
+        err: "",
+    };
+    let cannot_write = Ending {
+        end: End::Input,
+        out: text,
+        err: "cannot write\n",
+    };
+    if !fills(alloc, command, Slow::new(alloc, all), &done)
+        || !fills(alloc, command, Slow::kept_back(alloc), &cannot_write)
     {
         return Some(all);
     }
-    (0..all).find(|room| {
-        let stops = Slow::new(alloc, *room);
-        !ends(alloc, command, text, stops, *room, CANNOT_WRITE)
-    })
+    (0..all).find(|room| !fills(alloc, command, Slow::new(alloc, *room), &cannot_write))
 }
 
-const COMMANDS: &[(Command, &str)] = &[
-    (Command::Check(false), CHECKED),
-    (Command::Check(true), LISTED),
-    (Command::Rehearse(SEARCH), SEARCHED),
-    (Command::Rehearse(OFFER), RELEASED),
-    (Command::Rehearse(WITHDRAWAL), WITHDRAWN),
-    (Command::Answer, ANSWERED),
+const WORKS: &[(Work, &str)] = &[
+    (Work::Check(false), CHECKED),
+    (Work::Check(true), LISTED),
+    (Work::Rehearse(SEARCH), SEARCHED),
+    (Work::Rehearse(OFFER), RELEASED),
+    (Work::Rehearse(WITHDRAWAL), WITHDRAWN),
+    (Work::Answer, ANSWERED),
 ];
 
 #[test]
 fn writers_that_fail(rt: HostRuntime) {
-    for (command, text) in COMMANDS {
-        assert!(rt; first_wrong(rt.alloc(), *command, text) == None, "{text}");
+    for (work, text) in WORKS {
+        assert!(rt; first_wrong(rt.alloc(), *work, text) == None, "{text}");
     }
 }

@@ -1,0 +1,92 @@
+//! What a line asks for, in the hands of one function: in it alone the words of a line are looked at.
+
+use super::splitting::words_of;
+use command_ends::End;
+use command_line::{Asked, Plan, parse};
+use std::alloc::Global;
+use tape_frames::Version;
+
+/// What a line has to come to.
+#[derive(Clone, Copy)]
+pub enum Wanted<'a> {
+    /// It is usage, and this help is printed.
+    Help(&'a str),
+    /// It is usage, with this told between the word `error` and the hint at the help.
+    Mistake(&'a str),
+    /// It asks for the version, which is not printed yet.
+    Version,
+    /// It asks to serve by this plan.
+    Plan(Plan<'a>),
+    /// It asks to answer for circuit 7 in this version.
+    Answer(Version),
+    /// It asks to make the row file of `station.toml` in this version's layout.
+    Create(Version),
+    /// It asks to run the station of `station.toml`, with rows that are made in this layout, if they are, and to tell faults alone
+    /// or not.
+    Run(Option<Version>, bool),
+}
+
+/// Whether two plans are the same.
+fn is_same(plan: &Plan<'_>, wanted: &Plan<'_>) -> bool {
+    let config = plan.config == wanted.config;
+    let number = plan.number == wanted.number;
+    let tape = plan.tape == wanted.tape;
+    let withdraw = plan.withdraw == wanted.withdraw;
+    let seek = plan.seek == wanted.seek;
+    let runs = plan.turns == wanted.turns;
+    let makes = plan.create == wanted.create && plan.layout == wanted.layout;
+    config && runs && makes && number && tape && withdraw && seek
+}
+
+/// Whether a line that is told so asks for what is wanted.
+fn is_asked(asked: &Result<Asked<'_>, End>, wanted: &Wanted<'_>) -> bool {
+    match (asked, wanted) {
+        (Err(end), Wanted::Help(_) | Wanted::Mistake(_)) => *end == End::Usage,
+        (Ok(Asked::Version), Wanted::Version) => true,
+        (Ok(Asked::Serve(plan)), Wanted::Plan(wanted)) => is_same(plan, wanted),
+        (Ok(Asked::Answer { circuit, wire, .. }), Wanted::Answer(wanted)) => {
+            *circuit == 7 && *wire == *wanted
+        }
+        (Ok(Asked::Create { config, layout }), Wanted::Create(wanted)) => {
+            *config == "station.toml" && *layout == *wanted
+        }
+        (
+            Ok(
+                Asked::Run {
+                    config,
+                    create,
+                    quiet,
+                },
+            ),
+            Wanted::Run(made, faults_alone),
+        ) => *config == "station.toml" && *create == *made && *quiet == *faults_alone,
+        _ => false,
+    }
+}
+
+/// How each mistake ends.
+const HINT: &[u8] = b"\nFor more information, try '--help'.\n";
+
+/// The mistake and the usage in what is told.
+fn told_of(err: &[u8]) -> Option<&[u8]> {
+    err.strip_prefix(b"error: ")?.strip_suffix(HINT)
+}
+
+/// Whether what is printed and what is told of a line is what is wanted.
+fn is_said(out: &[u8], err: &[u8], wanted: &Wanted<'_>) -> bool {
+    match wanted {
+        Wanted::Help(text) => out == text.as_bytes() && err.is_empty(),
+        Wanted::Mistake(text) => out.is_empty() && told_of(err) == Some(text.as_bytes()),
+        _ => out.is_empty() && err.is_empty(),
+    }
+}
+
+/// Whether a line comes to this.
+pub fn comes_to(alloc: Global, line: &str, wanted: Wanted<'_>) -> bool {
+    let Some(words) = words_of(alloc, line) else {
+        return false;
+    };
+    let mut out = Vec::new(alloc);
+    let mut err = Vec::new(alloc);
+    is_asked(&parse(alloc, &words, &mut out, &mut err), &wanted) && is_said(&out, &err, &wanted)
+}

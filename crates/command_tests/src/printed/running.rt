@@ -1,0 +1,100 @@
+//! `answer`, `check` and `rehearse` over the inputs and writers of the tests: here alone they are called.
+
+use super::failing::{Input, Slow};
+use super::paths;
+use answer_command::answer;
+use ballots::Member;
+use check_command::check;
+use command_ends::End;
+use rehearse_command::rehearse;
+use std::alloc::Global;
+use tape_frames::Version;
+
+/// The table, the widths, and the tape or the script.
+pub type Inputs<'a> = (Input<'a>, Input<'a>, Input<'a>);
+
+/// A command, with its inputs.
+#[derive(Clone, Copy)]
+pub enum Command<'a> {
+    /// `check`, with its listing or without.
+    Check(Inputs<'a>, bool),
+    Rehearse(Inputs<'a>),
+    /// `answer` for member 2 of circuit 7, in this version.
+    Answer(Version, Input<'a>),
+}
+
+/// How a command has to end, what it has to print, and what it has to tell.
+#[derive(Clone, Copy)]
+pub struct Ending<'a> {
+    pub end: End,
+    pub out: &'a str,
+    pub err: &'a str,
+}
+
+fn end_of_check(
+    alloc: Global,
+    inputs: Inputs<'_>,
+    listing: bool,
+    out: &mut Slow,
+    err: &mut Vec<u8>,
+) -> End {
+    let (mut table, mut widths, mut tape) = inputs;
+    check(
+        alloc,
+        &paths::OF_TAPE,
+        &mut table,
+        &mut widths,
+        &mut tape,
+        listing,
+        out,
+        err,
+    )
+}
+
+fn end_of_rehearse(alloc: Global, inputs: Inputs<'_>, out: &mut Slow, err: &mut Vec<u8>) -> End {
+    let (mut table, mut widths, mut script) = inputs;
+    rehearse(
+        alloc,
+        &paths::OF_SCRIPT,
+        &mut table,
+        &mut widths,
+        &mut script,
+        out,
+        err,
+    )
+}
+
+fn end_of_answer(
+    alloc: Global,
+    (wire, given): (Version, Input<'_>),
+    out: &mut Slow,
+    err: &mut Vec<u8>,
+) -> Option<End> {
+    let mut input = given;
+    Some(answer(alloc, 7, Member::new(2)?, wire, &mut input, out, err))
+}
+
+/// How a command over this writer ends.
+fn end_of(alloc: Global, command: Command<'_>, out: &mut Slow, err: &mut Vec<u8>) -> Option<End> {
+    match command {
+        Command::Check(inputs, listing) => Some(end_of_check(alloc, inputs, listing, out, err)),
+        Command::Rehearse(inputs) => Some(end_of_rehearse(alloc, inputs, out, err)),
+        Command::Answer(wire, input) => end_of_answer(alloc, (wire, input), out, err),
+    }
+}
+
+/// Whether a command over this writer ends so, with as much of its text written as the writer has room for.
+pub fn fills(alloc: Global, command: Command<'_>, mut out: Slow, wanted: &Ending<'_>) -> bool {
+    let many = out.room.min(wanted.out.len());
+    let mut err = Vec::new(alloc);
+    let end = end_of(alloc, command, &mut out, &mut err);
+    end == Some(wanted.end)
+        && err.as_slice() == wanted.err.as_bytes()
+        && out.taken.len() == many
+        && wanted.out.as_bytes().starts_with(&out.taken)
+}
+
+/// Whether a command over a writer that takes all ends so, and prints this text and no more.
+pub fn comes_to(alloc: Global, command: Command<'_>, wanted: &Ending<'_>) -> bool {
+    fills(alloc, command, Slow::new(alloc, usize::MAX), wanted)
+}
