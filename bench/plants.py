@@ -32,7 +32,9 @@ STORIES = {
     '05020704010b04': '0001 C 10 11 B\n0002 R 22 0 A\n',
     '01010101010104': '0001 J 0 0 a a a a a a\n',
 }
-PLACES = ('', 'sent', 'lost', 'refused')
+PLACES = ('', '.circuitd', 'sent', 'lost', 'refused')
+# those of a file that waits: at its name, on its way from there, or both, where a kill came between two calls
+WAITING = ([''], ['.circuitd'], ['', '.circuitd'])
 
 
 class Plant:
@@ -85,6 +87,8 @@ class Plant:
 
     def place_of(self, name):
         found = [place for place in PLACES if os.path.exists(self.path('offers', place, name))]
+        if found in WAITING:
+            return ''
         if len(found) != 1:
             raise Wrong(f'{name} of plant {self.member} lies in {found}')
         return found[0]

@@ -23,6 +23,11 @@ ip = "127.0.0.1"
 port = {port}
 """
 
+FOLDERS = """[folders]
+offers = "{offers}"
+releases = "{releases}"
+[[station]]"""
+
 GALLEY = '0001 J 0 0 a b _4 a _4 b\n'
 RELEASE = 'release 12 01020301030204\n' + GALLEY
 HEAD = 'station 1 of 1 circuit 7\n'
@@ -64,6 +69,16 @@ class Stage:
     def configure(self, name, rows):
         """Puts the configuration of a station alone there, over this row file."""
         self.write(name, STATION.format(rows=rows, port=self.port).encode())
+
+    def plant(self, name, rows, offers='offers', releases='releases'):
+        """The same with folders, which are made, and with its row file, which is made at layout 2."""
+        for folder in (offers, releases):
+            os.makedirs(self.path(folder), exist_ok=True)
+        text = STATION.format(rows=rows, port=self.port)
+        folders = FOLDERS.format(offers=offers, releases=releases)
+        self.write(name, text.replace('[[station]]', folders).encode())
+        if not os.path.exists(self.path(rows)):
+            self.run(f'create {name}')
 
     def write(self, name, data):
         """Puts a file there."""

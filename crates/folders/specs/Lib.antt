@@ -1,5 +1,9 @@
+pub mod FaultWords
 pub mod Keeping
+pub mod Leaving
+pub mod LogNames
 pub mod Offers
+pub mod OwnNames
 pub mod Pausing
 pub mod Watching
 pub mod Written

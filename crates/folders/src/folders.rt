@@ -34,6 +34,19 @@ pub struct Listing {
     pub names: Vec<String>,
     /// How many there are besides whose names are not UTF-8.
     pub skipped: usize,
+    /// What befell the folders since the last look.
+    pub news: Vec<News>,
+}
+
+/// What befell a folder.
+#[derive(Clone, Copy, PartialEq, Eq)]
+pub enum News {
+    /// Another folder stands in place of the offers.
+    OtherOffers,
+    /// Another folder stands in place of the releases.
+    OtherReleases,
+    /// A release was written once more, since another file had come to stand under its name.
+    WrittenAnew,
 }
 
 /// The folders of a plant. A call that fails leaves a file as it was, or not there.
@@ -45,11 +58,12 @@ pub trait Folders {
     fn names(&mut self, alloc: Global) -> Result<Listing, FolderFault>
         ensures { written self.new ≡ written self.old };
 
-    /// The stamp of a file among the offers. A folder is no file.
+    /// The stamp of a file among the offers. A folder is not there, as a file `stop` that is older than the start is not; what is neither a
+    /// file nor a folder is `NoFile`.
     fn stamp(&mut self, alloc: Global, name: &str) -> Result<Stamp, FolderFault>
         ensures { written self.new ≡ written self.old };
 
-    /// What a file among the offers holds, where that is at most so many bytes; else `TooLong`.
+    /// What a file among the offers holds, where that is at most so many bytes; else `TooLong`. Where it is changed meanwhile, `Changed`.
     fn read(&mut self, alloc: Global, name: &str, most: usize) -> Result<Vec<u8>, FolderFault>
         ensures most { IfOk result (λ v. length v.items ≤ most) }
         ensures same { written self.new ≡ written self.old };
@@ -69,11 +83,12 @@ pub trait Folders {
     fn note(&mut self, alloc: Global, to: Place, name: &str, text: &str) -> Result<(), FolderFault>
         ensures { written self.new ≡ written self.old };
 
-    /// Moves a file of the offers to a place, under the same name; what lies there already is not written over.
+    /// Moves a file of the offers to a place, under the same name or with a number behind it; what lies there already is not written
+    /// over. Where it is not the file whose stamp was given last, it stays, and is `Changed`.
     fn set_aside(&mut self, alloc: Global, name: &str, to: Place) -> Result<(), FolderFault>
         ensures { written self.new ≡ written self.old };
 
-    /// Takes a file of the offers away.
+    /// Takes a file of the offers away that lay there before the start; a newer one stays.
     fn remove(&mut self, alloc: Global, name: &str) -> Result<(), FolderFault>
         ensures { written self.new ≡ written self.old };
 }

@@ -135,7 +135,11 @@ impl Folders for MemoryFolders {
                 return Err(FolderFault::OutOfMemory);
             }
         }
-        Ok(Listing { names, skipped: 0 })
+        Ok(Listing {
+            names,
+            skipped: 0,
+            news: Vec::new(alloc),
+        })
     }
 
     fn stamp(&mut self, _alloc: Global, name: &str) -> Result<Stamp, FolderFault> {
@@ -157,7 +161,7 @@ impl Folders for MemoryFolders {
 
     fn put(&mut self, alloc: Global, name: &str, bytes: &[u8]) -> Result<(), FolderFault> {
         if self.is_full {
-            return Err(FolderFault::CannotWrite);
+            return Err(FolderFault::Full);
         }
         let named = NamedFile::of(alloc, name, bytes)?;
         match self.filed.push(named) {

@@ -13,6 +13,7 @@ impl Folders for NoFolders {
         Ok(Listing {
             names: Vec::new(alloc),
             skipped: 0,
+            news: Vec::new(alloc),
         })
     }
 

@@ -3,6 +3,7 @@
 ghost use Rattle.std.specs.Prelude.{◌≤◌, ◌<◌, ◌+◌, ◌↔◌, IsTrue, IfSome, MatchOption, length};
 ghost use Rattle.folders.specs.Watching.{IsUnchanged, IsNamed, NoneIsNamed, IsFirstNamed};
 
+use crate::fault::FolderFault;
 use crate::folders::Stamp;
 use crate::pauses::{STILL, has_passed};
 
@@ -15,6 +16,8 @@ pub struct Watched {
     pub stamp: Stamp,
     /// Since when it was found so at each look, in milliseconds.
     pub since: u64,
+    /// Why it was not taken up or moved, as it was told last.
+    pub told: Option<FolderFault>,
 }
 
 impl Watched {

@@ -5,6 +5,7 @@ ghost use Rattle.tape_frames.specs.Entries.{lent_entry};
 ghost use Rattle.folders.specs.Offers.{IsMet, IsPlaceOf};
 ghost use Rattle.folders.specs.Pausing.{put_off_at, wait_at};
 
+use crate::fault::FolderFault;
 use crate::folders::{Place, Stamp};
 use crate::pauses::{FIRST_PAUSE, has_passed, next_pause};
 use ballots::{Ballot, Number};
@@ -38,6 +39,8 @@ pub struct Asked {
     pub pause: u64,
     /// Whether the file has left the offers.
     pub is_settled: bool,
+    /// Why it was not moved, as it was told last.
+    pub told: Option<FolderFault>,
 }
 
 /// Whether the entry that stands under a number is the one that was asked for.
@@ -68,6 +71,7 @@ impl Asked {
         ensures settled { result.is_settled ≡ false }
         ensures ballot { result.ballot ≡ None }
         ensures pause { result.pause ≡ 1000 }
+        ensures told { result.told ≡ None }
         ensures file { (result.name ≡ name) × (result.number ≡ number) × (result.wish ≡ wish) × (result.stamp ≡ stamp) }
     {
         Asked {
@@ -79,6 +83,7 @@ impl Asked {
             due: Some(now),
             pause: FIRST_PAUSE,
             is_settled: false,
+            told: None,
         }
     }
 

@@ -1,7 +1,16 @@
 //! The folders of a plant, of the host. What they hold is not known to a contract.
 #![tactic(auto)]
 
+mod copies;
+mod guard;
 mod host;
+mod looks;
+mod maker;
+mod moving;
+mod offers;
 mod part;
+mod places;
+mod releases;
 
 pub use host::HostFolders;
+pub use places::{Misplaced, PlantPaths, why_misplaced};

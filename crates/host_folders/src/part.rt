@@ -1,57 +1,123 @@
-//! Files that are written under another name until they are whole.
+//! Files that are written under a name of their own until they are whole.
 
-use std::fs::{File, OpenFile};
+use crate::looks::{id_of, stamp_of, stands_at, within};
+use crate::maker::Maker;
+use folders::{FileId, FolderFault, is_own_name};
+use std::fs::File;
 use std::io::{Seek, Write};
-use std::rt::Files;
 use std::{fs, io};
 
 /// What a file that is made ahead holds until it is filled: a page of the disk.
 const ROOM: [u8; 4096] = [0; 4096];
 
-/// A file under another name than it is to have.
+/// A file under a name of its own.
 #[derive(Drop)]
-pub(crate) struct Part<R: Files> {
+pub(crate) struct Part {
     path: String,
-    file: R::File,
+    file: File,
+    id: FileId,
 }
 
-impl<R: Files> Part<R> {
-    /// Makes an empty file at this path, in place of one that is there.
-    pub(crate) fn make(files: &R, path: String) -> io::Result<Part<R>> {
-        let file = File::create(files, path.as_str())?;
-        Ok(Part { path, file })
+impl Part {
+    /// Makes an empty file in a folder, under a name that nothing has.
+    pub(crate) fn make(maker: &mut Maker<'_>, folder: &str) -> Result<Part, FolderFault> {
+        let name = maker.next_name()?;
+        let path = within(maker.alloc(), folder, &name)?;
+        let file = File::create_new(maker.rt, path.as_str())?;
+        let id = id_of(&file.metadata()?);
+        Ok(Part { path, file, id })
     }
 
-    /// The same, ahead of what it is to hold: it has its room on the disk already, so that whoever fills it waits for less.
-    pub(crate) fn make_ahead(files: &R, path: String) -> io::Result<Part<R>> {
-        let mut part = Part::make(files, path)?;
-        part.file.write_all(&ROOM)?;
-        part.file.sync_all()?;
-        part.file.rewind()?;
-        Ok(part)
+    /// The same, with bytes in it.
+    pub(crate) fn filled(
+        maker: &mut Maker<'_>,
+        folder: &str,
+        bytes: &[u8],
+    ) -> Result<Part, FolderFault> {
+        Part::make(maker, folder)?.fill(maker.rt, bytes)
     }
 
-    /// Writes bytes into it, all that it then holds, and does not wait for the disk.
-    pub(crate) fn fill(&mut self, bytes: &[u8]) -> io::Result<()> {
-        self.file.write_all(bytes)?;
-        self.file.set_len(bytes.len() as u64)
+    /// The same, with room on the disk ahead of what it is to hold, so that whoever fills it waits for less.
+    pub(crate) fn roomy(maker: &mut Maker<'_>, folder: &str) -> Result<Part, FolderFault> {
+        let mut part = Part::make(maker, folder)?;
+        match part.make_room() {
+            Ok(()) => Ok(part),
+            Err(fault) => {
+                part.discard(maker.rt);
+                Err(fault)
+            }
+        }
     }
 
-    /// Waits until the disk has what it holds, and gives it its own name.
-    pub(crate) fn finish(&self, files: &R, path: &str) -> io::Result<()> {
+    fn make_room(&mut self) -> Result<(), FolderFault> {
+        self.file.write_all(&ROOM)?;
         self.file.sync_all()?;
-        fs::rename(files, self.path.as_str(), path)
+        self.file.rewind()?;
+        Ok(())
+    }
+
+    /// When it was touched last, in seconds and nanoseconds since 1970 by the clock of its folder.
+    pub(crate) fn touched(&self) -> Result<(i64, i64), FolderFault> {
+        Ok(stamp_of(&self.file.metadata()?).touched)
+    }
+
+    fn write(&mut self, bytes: &[u8]) -> Result<(), FolderFault> {
+        self.file.write_all(bytes)?;
+        self.file.set_len(bytes.len() as u64)?;
+        Ok(())
+    }
+
+    /// Writes bytes into it, all that it then holds, and does not wait for the disk. Where that fails it is taken away.
+    pub(crate) fn fill(mut self, rt: &HostRuntime, bytes: &[u8]) -> Result<Part, FolderFault> {
+        match self.write(bytes) {
+            Ok(()) => Ok(self),
+            Err(fault) => {
+                self.discard(rt);
+                Err(fault)
+            }
+        }
+    }
+
+    /// Waits until the disk has what it holds, and gives it its name.
+    fn rename(&self, rt: &HostRuntime, path: &str) -> Result<(), FolderFault> {
+        self.file.sync_all()?;
+        if !stands_at(rt, &self.path, self.id) {
+            return Err(FolderFault::Changed);
+        }
+        fs::rename(rt, self.path.as_str(), path)?;
+        if stands_at(rt, path, self.id) {
+            Ok(())
+        } else {
+            Err(FolderFault::Changed)
+        }
+    }
+
+    /// Gives it its name once the disk has what it holds, or takes it away. It is seen to be the very file that was filled before and
+    /// after: where another stands under either name, `Changed`. For the host renames by path, and the folder may be another by now.
+    pub(crate) fn name_as(self, rt: &HostRuntime, path: &str) -> Result<(), FolderFault> {
+        let named = self.rename(rt, path);
+        if named.is_err() {
+            self.discard(rt);
+        }
+        named
+    }
+
+    /// Takes it away, where it has its own name still.
+    pub(crate) fn discard(self, rt: &HostRuntime) {
+        if stands_at(rt, &self.path, self.id) {
+            let _ = fs::remove_file(rt, self.path.as_str());
+        }
     }
 }
 
-/// Writes a file at a path, waits until the disk has it, and gives it its own name.
-pub(crate) fn write_whole<R: Files>(
-    files: &R,
-    part: String,
-    path: &str,
-    bytes: &[u8],
-) -> io::Result<()> {
-    let mut part = Part::make(files, part)?;
-    part.fill(bytes)?;
-    part.finish(files, path)
+/// Takes away what starts before left in a folder under names of their own.
+pub(crate) fn clear_parts(rt: &HostRuntime, folder: &str) -> io::Result<()> {
+    for entry in fs::read_dir(rt, folder)? {
+        if let Ok(entry) = entry {
+            if is_own_name(entry.file_name()) {
+                let _ = fs::remove_file(rt, entry.path());
+            }
+        }
+    }
+    Ok(())
 }

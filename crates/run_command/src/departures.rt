@@ -6,7 +6,7 @@ ghost use Rattle.tape_frames.specs.Entries.{lent_entry};
 ghost use Rattle.command_ends.specs.EntryText.{entry_text};
 ghost use Rattle.command_ends.specs.ReleaseText.{plain_line};
 
-use crate::telling::{Event, Reason, tell, tell_folder, tell_refused};
+use crate::telling::{Event, Reason, tell, tell_file};
 use command_ends::entry_text;
 use folders::{Asked, FolderFault, Folders, Place, place_of};
 use std::alloc::{AllocError, Global};
@@ -103,15 +103,25 @@ pub(crate) fn settle<F: Folders, E: Write>(
             asked.is_settled = true;
             tell(quiet, event, err);
         }
-        Err(_) => {
+        // Another file by now, to be taken up anew.
+        Err(FolderFault::Missing | FolderFault::Changed) => asked.is_settled = true,
+        Err(fault) => {
             asked.put_off(now);
-            tell_folder("cannot move", asked.name.as_str(), err);
+            tell_file(
+                alloc,
+                "cannot move",
+                asked.name.as_str(),
+                fault,
+                asked.told,
+                err,
+            );
+            asked.told = Some(fault);
         }
     }
 }
 
 /// Moves a file that is no offer, with the reason beside it.
-fn move_refused<F: Folders>(
+pub(crate) fn refuse<F: Folders>(
     alloc: Global,
     folders: &mut F,
     name: &str,
@@ -121,27 +131,4 @@ fn move_refused<F: Folders>(
 {
     let text = format!(in alloc; "{reason}\n")?;
     move_with(alloc, folders, name, Place::Refused, &text)
-}
-
-/// Refuses a file that is no offer; whether it was moved.
-pub(crate) fn refuse<F: Folders, E: Write>(
-    alloc: Global,
-    folders: &mut F,
-    name: &str,
-    reason: Reason,
-    quiet: bool,
-    err: &mut E,
-) -> bool
-    ensures { F.written folders.new ≡ F.written folders.old }
-{
-    match move_refused(alloc, folders, name, reason) {
-        Ok(()) => {
-            tell_refused(quiet, name, reason, err);
-            true
-        }
-        Err(_) => {
-            tell_folder("cannot move", name, err);
-            false
-        }
-    }
 }

@@ -3,9 +3,8 @@
 ghost use Rattle.std.specs.Prelude.{◌≡◌, []};
 ghost use Rattle.folders.specs.Keeping.{Keeps};
 
-use crate::departures::refuse;
 use crate::offer_book::OfferBook;
-use crate::telling::{Reason, tell_folder};
+use crate::telling::{Reason, tell_news};
 use ballots::Number;
 use folders::{
     Asked, FolderFault, Folders, Kind, NamedFile, Request, STOP, Stamp, Watched, Wish, has_stop,
@@ -71,7 +70,7 @@ fn read_still<F: Folders>(
     if folders.stamp(alloc, name)? == stamp {
         Ok(wish)
     } else {
-        Err(FolderFault::CannotRead)
+        Err(FolderFault::Changed)
     }
 }
 
@@ -116,22 +115,10 @@ fn take_up<F: Folders, E: Write>(
 {
     match read_asked(book.alloc, folders, &file, now) {
         Ok(Ok(asked)) => book.add(asked),
-        Ok(Err(reason)) => {
-            if !refuse(
-                book.alloc,
-                folders,
-                file.name.as_str(),
-                reason,
-                book.quiet,
-                err,
-            ) {
-                book.watch_later(file, now);
-            }
-        }
-        Err(_) => {
-            tell_folder("cannot read", file.name.as_str(), err);
-            book.watch_later(file, now);
-        }
+        Ok(Err(reason)) => book.refuse_watched(folders, file, reason, now, err),
+        // Gone, or another file by now, to be found anew.
+        Err(FolderFault::Missing | FolderFault::Changed) => {}
+        Err(fault) => book.watch_later("cannot read", file, fault, now, err),
     }
 }
 
@@ -159,22 +146,36 @@ pub(crate) fn read_at<F: Folders, E: Write>(
     }
 }
 
-/// Looks at a file that was not taken up yet.
-fn watch<F: Folders>(folders: &mut F, book: &mut OfferBook, name: &str, now: u64)
+/// Looks at a file that was not taken up yet. What is no plain file is told.
+fn watch<F: Folders, E: Write>(
+    folders: &mut F,
+    book: &mut OfferBook,
+    name: &str,
+    now: u64,
+    err: &mut E,
+)
     ensures { F.written folders.new ≡ F.written folders.old }
 {
-    if let Ok(stamp) = folders.stamp(book.alloc, name) {
-        book.see(name, stamp, now);
+    match folders.stamp(book.alloc, name) {
+        Ok(stamp) => book.see(name, stamp, now),
+        Err(FolderFault::Missing) => {}
+        Err(fault) => book.note_other(name, fault, err),
     }
 }
 
 /// Looks at each file that was not taken up yet.
-fn watch_all<F: Folders>(folders: &mut F, book: &mut OfferBook, names: &[String], now: u64)
+fn watch_all<F: Folders, E: Write>(
+    folders: &mut F,
+    book: &mut OfferBook,
+    names: &[String],
+    now: u64,
+    err: &mut E,
+)
     ensures { F.written folders.new ≡ F.written folders.old }
 {
     for name in names {
         if !is_left(name.as_str()) && !book.has_asked(name.as_str()) {
-            watch(folders, book, name.as_str(), now);
+            watch(folders, book, name.as_str(), now, err);
         }
     }
 }
@@ -191,14 +192,15 @@ fn see_offers<F: Folders, E: Write>(
     match folders.names(book.alloc) {
         Ok(mut listing) => {
             listing.names.sort_unstable();
-            book.note_reading(true, listing.skipped, err);
+            tell_news(listing.news.as_slice(), err);
+            book.note_read(listing.skipped, err);
             book.forget(listing.names.as_slice());
-            watch_all(folders, book, listing.names.as_slice(), now);
+            watch_all(folders, book, listing.names.as_slice(), now, err);
             // A folder of that name is left alone, as other folders are.
             has_stop(listing.names.as_slice()) && folders.stamp(book.alloc, STOP).is_ok()
         }
-        Err(_) => {
-            book.note_reading(false, 0, err);
+        Err(fault) => {
+            book.note_unread(fault, err);
             false
         }
     }

@@ -5,12 +5,14 @@ ghost use Rattle.folders.specs.Keeping.{Keeps};
 
 use crate::departures::{refuse, settle};
 use crate::pacing::Pacing;
-use crate::telling::{Event, Reason, tell, tell_folder, tell_wrong_circuit};
+use crate::telling::{
+    Event, Reason, tell, tell_fault, tell_file, tell_folders, tell_refused, tell_wrong_circuit,
+};
 use ballots::Number;
 use exchange::Said;
 use folders::{
-    Asked, Folders, LAST_PAUSE, NamedFile, Stamp, TELL, Watched, Wish, has_passed, index_of,
-    write_waiting,
+    Asked, FolderFault, Folders, LAST_PAUSE, NamedFile, Stamp, TELL, Watched, Wish, has_passed,
+    index_of, write_waiting,
 };
 use node_core::Note;
 use pace::{Deeds, Work};
@@ -18,6 +20,7 @@ use saved_rows::Rows;
 use station::{Answer, Release, Station, StepRefusal};
 use std::alloc::{AllocError, Global};
 use std::io::Write;
+use std::mem;
 use tape_frames::{Entry, EntryRef};
 
 /// A number that was released since the start, and its entry.
@@ -45,11 +48,13 @@ pub(crate) struct OfferBook {
     next_watched: usize,
     /// The place at which the next name of a look is watched, if all names are watched in the order of the look.
     next_seen: usize,
-    /// Whether it was told that the folder of offers, or that of releases, does not serve, since it did.
-    is_unread: bool,
-    is_unwritten: bool,
-    /// How many names among the offers are passed over.
+    /// Why the folder of offers, or that of releases, does not serve, as it was told.
+    unread: Option<FolderFault>,
+    unwritten: Option<FolderFault>,
+    /// How many names among the offers are passed over, and in order those of what is no plain file, at this look and at the last.
     skipped: usize,
+    others: Vec<String>,
+    others_before: Vec<String>,
     /// When it was told last that a station speaks for another circuit.
     strayed: Option<u64>,
 }
@@ -249,9 +254,11 @@ impl OfferBook {
             next_asked: 0,
             next_watched: 0,
             next_seen: 0,
-            is_unread: false,
-            is_unwritten: false,
+            unread: None,
+            unwritten: None,
             skipped: 0,
+            others: Vec::new(alloc),
+            others_before: Vec::new(alloc),
             strayed: None,
         }
     }
@@ -289,16 +296,30 @@ impl OfferBook {
         }
     }
 
-    /// The folder of offers can be read, or can't, and it has so many names that are passed over: a change of either is told.
-    pub(crate) fn note_reading<E: Write>(&mut self, is_read: bool, skipped: usize, err: &mut E) {
-        if !is_read && !self.is_unread {
-            tell_folder("cannot read", "offers", err);
-        }
+    /// The folder of offers can't be read: that is told once, until it can, or for another reason.
+    pub(crate) fn note_unread<E: Write>(&mut self, fault: FolderFault, err: &mut E) {
+        tell_fault("cannot read offers", fault, self.unread, err);
+        self.unread = Some(fault);
+    }
+
+    /// The folder of offers can be read, and so many names are passed over: that they are more is told.
+    pub(crate) fn note_read<E: Write>(&mut self, skipped: usize, err: &mut E) {
+        self.unread = None;
         if skipped > self.skipped {
-            tell_folder("cannot read", "a name that is not UTF-8", err);
+            tell_folders("cannot read a name that is not UTF-8", err);
         }
-        self.is_unread = !is_read;
         self.skipped = skipped;
+        self.others_before = mem::replace(&mut self.others, Vec::new(self.alloc));
+    }
+
+    /// What stands under a name, the next in order, is passed over: that is told where it was not at the last look.
+    pub(crate) fn note_other<E: Write>(&mut self, name: &str, fault: FolderFault, err: &mut E) {
+        if !has_name(&self.others_before, name) {
+            tell_file(self.alloc, "cannot read", name, fault, None, err);
+        }
+        if let Ok(name) = String::from_str(self.alloc, name) {
+            let _ = self.others.push(name);
+        }
     }
 
     /// Forgets the files that do not lie among the offers, whose names are these in order, or were settled. What there is to do with
@@ -322,10 +343,39 @@ impl OfferBook {
         let _ = self.asked.push(asked);
     }
 
-    /// Watches a file again that can't be taken up or moved now.
-    pub(crate) fn watch_later(&mut self, file: Watched, now: u64) {
-        let since = now.saturating_add(LAST_PAUSE);
-        let _ = self.watched.push(Watched { since, ..file });
+    /// Watches a file again that can't be taken up or moved now, which is told.
+    pub(crate) fn watch_later<E: Write>(
+        &mut self,
+        what: &str,
+        file: Watched,
+        fault: FolderFault,
+        now: u64,
+        err: &mut E,
+    ) {
+        tell_file(self.alloc, what, file.name.as_str(), fault, file.told, err);
+        let _ = self.watched.push(Watched {
+            since: now.saturating_add(LAST_PAUSE),
+            told: Some(fault),
+            ..file
+        });
+    }
+
+    /// Refuses a file that was watched.
+    pub(crate) fn refuse_watched<F: Folders, E: Write>(
+        &mut self,
+        folders: &mut F,
+        file: Watched,
+        reason: Reason,
+        now: u64,
+        err: &mut E,
+    )
+        ensures { F.written folders.new ≡ F.written folders.old }
+    {
+        match refuse(self.alloc, folders, file.name.as_str(), reason) {
+            Ok(()) => tell_refused(self.alloc, self.quiet, file.name.as_str(), reason, err),
+            Err(FolderFault::Missing | FolderFault::Changed) => {}
+            Err(fault) => self.watch_later("cannot move", file, fault, now, err),
+        }
     }
 
     /// The place of a name among those that are watched.
@@ -347,6 +397,7 @@ impl OfferBook {
             if file.stamp != stamp {
                 file.stamp = stamp;
                 file.since = now;
+                file.told = None;
             }
         }
     }
@@ -378,6 +429,7 @@ impl OfferBook {
                 name,
                 stamp,
                 since: now,
+                told: None,
             };
             let _ = self.watched.insert(place, file);
             self.next_seen = place.saturating_add(1);
@@ -393,11 +445,13 @@ impl OfferBook {
     )
         ensures { Keeps (F.written folders.old) (F.written folders.new) waits.old.items waits.new.items [] }
     {
-        let is_written = write_waiting(self.alloc, folders, waits).is_ok();
-        if !is_written && !self.is_unwritten {
-            tell_folder("cannot write", "releases", err);
+        match write_waiting(self.alloc, folders, waits) {
+            Ok(()) => self.unwritten = None,
+            Err(fault) => {
+                tell_fault("cannot write releases", fault, self.unwritten, err);
+                self.unwritten = Some(fault);
+            }
         }
-        self.is_unwritten = !is_written;
     }
 
     /// Tells what became of the ballots of files.
@@ -429,9 +483,9 @@ impl OfferBook {
         let number = release.number.get();
         tell(self.quiet, Event::Released { number }, err);
         if remember(self.alloc, &mut self.released, release).is_err() {
-            tell_folder("no memory for", "releases", err);
+            tell_folders("no memory for releases", err);
         }
-        if self.is_unwritten {
+        if self.unwritten.is_some() {
             put_off_all(&mut self.asked, release.number, now);
             return;
         }
@@ -483,7 +537,7 @@ impl OfferBook {
         let Some(asked) = self.asked.get_mut(place) else {
             return;
         };
-        if self.is_unwritten {
+        if self.unwritten.is_some() {
             asked.put_off(now);
             return;
         }
@@ -553,17 +607,24 @@ impl OfferBook {
         let Some(asked) = self.asked.get_mut(place) else {
             return;
         };
-        if refuse(
-            self.alloc,
-            folders,
-            asked.name.as_str(),
-            reason,
-            self.quiet,
-            err,
-        ) {
-            asked.is_settled = true;
-        } else {
-            asked.put_off(now);
+        match refuse(self.alloc, folders, asked.name.as_str(), reason) {
+            Ok(()) => {
+                asked.is_settled = true;
+                tell_refused(self.alloc, self.quiet, asked.name.as_str(), reason, err);
+            }
+            Err(FolderFault::Missing | FolderFault::Changed) => asked.is_settled = true,
+            Err(fault) => {
+                asked.put_off(now);
+                tell_file(
+                    self.alloc,
+                    "cannot move",
+                    asked.name.as_str(),
+                    fault,
+                    asked.told,
+                    err,
+                );
+                asked.told = Some(fault);
+            }
         }
     }
 

@@ -5,7 +5,9 @@ ghost use Rattle.run_command.specs.Words.{ballot_text, event_text};
 
 use ballots::Ballot;
 use command_ends::{Fault, RefusalText};
+use folders::{FolderFault, News, shown_name};
 use station::StepRefusal;
+use std::alloc::Global;
 use std::fmt;
 use std::io::Write;
 use tape_frames::TapeFault;
@@ -91,8 +93,17 @@ pub(crate) fn tell<E: Write>(quiet: bool, event: Event, err: &mut E) {
 }
 
 /// Writes why a file is no offer.
-pub(crate) fn tell_refused<E: Write>(quiet: bool, name: &str, reason: Reason, err: &mut E) {
-    if !quiet {
+pub(crate) fn tell_refused<E: Write>(
+    alloc: Global,
+    quiet: bool,
+    name: &str,
+    reason: Reason,
+    err: &mut E,
+) {
+    if quiet {
+        return;
+    }
+    if let Ok(name) = shown_name(alloc, name) {
         let _ = writeln!(err, "refused {name}: {reason}");
     }
 }
@@ -102,7 +113,52 @@ pub(crate) fn tell_wrong_circuit<E: Write>(err: &mut E) {
     let _ = Fault::of_step(StepRefusal::WrongCircuit).tell(err);
 }
 
-/// Writes that a folder does not serve, and for what.
-pub(crate) fn tell_folder<E: Write>(what: &str, name: &str, err: &mut E) {
-    let _ = writeln!(err, "folders: {what} {name}");
+/// Writes what there is to tell of the folders.
+pub(crate) fn tell_folders<E: Write>(what: &str, err: &mut E) {
+    let _ = writeln!(err, "folders: {what}");
+}
+
+/// Writes that a folder does not serve, unless it is the fault that was told last.
+pub(crate) fn tell_fault<E: Write>(
+    what: &str,
+    fault: FolderFault,
+    told: Option<FolderFault>,
+    err: &mut E,
+) {
+    if told != Some(fault) {
+        let _ = writeln!(err, "folders: {what}: {fault}");
+    }
+}
+
+/// Writes that a folder does not serve for a file, unless it is the fault that was told of it last.
+pub(crate) fn tell_file<E: Write>(
+    alloc: Global,
+    what: &str,
+    name: &str,
+    fault: FolderFault,
+    told: Option<FolderFault>,
+    err: &mut E,
+) {
+    if told == Some(fault) {
+        return;
+    }
+    if let Ok(name) = shown_name(alloc, name) {
+        let _ = writeln!(err, "folders: {what} {name}: {fault}");
+    }
+}
+
+/// What befell a folder.
+fn news_text(news: News) -> &'static str {
+    match news {
+        News::OtherOffers => "offers is another folder now",
+        News::OtherReleases => "releases is another folder now",
+        News::WrittenAnew => "a release was written anew",
+    }
+}
+
+/// Writes what befell the folders.
+pub(crate) fn tell_news<E: Write>(news: &[News], err: &mut E) {
+    for each in news {
+        tell_folders(news_text(*each), err);
+    }
 }

@@ -6,9 +6,10 @@ ghost use Rattle.run_command.specs.Running.{RunsUpTo, RunsAfresh};
 
 use crate::offer_book::OfferBook;
 use crate::steps::turn;
+use crate::telling::tell_fault;
 use command_ends::{End, Fault};
 use exchange::Intake;
-use folders::{Folders, NamedFile, STOP};
+use folders::{FolderFault, Folders, NamedFile, STOP};
 use saved_rows::Rows;
 use station::{Station, StepRefusal};
 use std::alloc::Global;
@@ -54,6 +55,16 @@ fn take_turns<R: Rows, N: Wire, F: Folders, E: Write>(
     Ok(())
 }
 
+/// Takes away a file that ended the run before; one that can't be is told, and passed over.
+fn remove_stop<F: Folders, E: Write>(alloc: Global, folders: &mut F, err: &mut E)
+    ensures { F.written folders.new ≡ F.written folders.old }
+{
+    match folders.remove(alloc, STOP) {
+        Ok(()) | Err(FolderFault::Missing | FolderFault::NoFile) => {}
+        Err(fault) => tell_fault("cannot remove stop", fault, None, err),
+    }
+}
+
 /// The same, once a file that ended the run before is taken away.
 fn start<R: Rows, N: Wire, F: Folders, E: Write>(
     alloc: Global,
@@ -68,7 +79,7 @@ fn start<R: Rows, N: Wire, F: Folders, E: Write>(
     ensures was_kept { R.kept station.new.rows → R.kept station.old.rows }
     ensures runs { RunsUpTo result R.Rows N.passed F.written station.old station.new wire.old wire.new folders.old folders.new waits.old.items waits.new.items }
 {
-    let _ = folders.remove(alloc, STOP);
+    remove_stop(alloc, folders, err);
     let mut book = OfferBook::new(alloc, quiet);
     take_turns(station, wire, folders, waits, &mut book, intake, err)
 }

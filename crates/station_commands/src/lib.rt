@@ -3,6 +3,7 @@
 
 mod create_start;
 mod plan;
+mod plant_start;
 mod run_start;
 mod serve_start;
 

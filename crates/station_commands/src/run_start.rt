@@ -2,8 +2,9 @@
 
 ghost use Rattle.configuration.specs.Stations.{IsCircuit};
 
+use crate::plant_start::open_plant;
 use command_ends::End;
-use configuration::{Config, Folders, read_config};
+use configuration::{Config, read_config};
 use folders::NoFolders;
 use host_folders::HostFolders;
 use row_files::{RowFiles, close_rows};
@@ -15,20 +16,17 @@ use std::io::Write;
 use tape_frames::Version;
 use wire::Wire;
 
-/// Runs a station over the folders at these paths; one that has none only votes.
+/// Runs a station over these folders; one that has none only votes.
 fn run_over<R: Rows, N: Wire, E: Write>(
     rt: &HostRuntime,
     station: &mut Station<R>,
     wire: &mut N,
-    paths: Option<Folders>,
+    folders: Option<HostFolders<'_>>,
     quiet: bool,
     err: &mut E,
 ) -> End {
-    match paths {
-        Some(Folders { offers, releases }) => {
-            let mut folders = HostFolders::new(rt, offers, releases);
-            run_station(rt.alloc(), station, wire, &mut folders, quiet, err)
-        }
+    match folders {
+        Some(mut folders) => run_station(rt.alloc(), station, wire, &mut folders, quiet, err),
         None => run_station(rt.alloc(), station, wire, &mut NoFolders, quiet, err),
     }
 }
@@ -38,7 +36,7 @@ fn run_from<F: RowFiles, E: Write>(
     rt: &HostRuntime,
     making: Option<Version>,
     config: Config,
-    paths: Option<Folders>,
+    folders: Option<HostFolders<'_>>,
     quiet: bool,
     row_files: &F,
     err: &mut E,
@@ -54,15 +52,15 @@ fn run_from<F: RowFiles, E: Write>(
         Ok(started) => started,
         Err(end) => return end,
     };
-    let end = run_over(rt, &mut station, &mut wire, paths, quiet, err);
+    let end = run_over(rt, &mut station, &mut wire, folders, quiet, err);
     close_rows(row_files, station.into_rows(), end, err)
 }
 
 /// Runs the station of the configuration at a path until it is stopped, with its rows saved in one of the files, made in a
 /// version first where one is given. Where `quiet` is set faults alone are told.
 ///
-/// What it starts from is looked for in this order, and the first fault ends it: the configuration, the code table, the
-/// widths, the saved rows, the socket. After a good end the rows are closed.
+/// What it starts from is looked for in this order, and the first fault ends it: the configuration, where its files and folders lie and
+/// who works with these, the code table, the widths, the saved rows, the socket. After a good end the rows are closed.
 pub fn run<F: RowFiles, E: Write>(
     rt: &HostRuntime,
     config: &str,
@@ -72,12 +70,15 @@ pub fn run<F: RowFiles, E: Write>(
     err: &mut E,
 ) -> End {
     let host = ThisHost { rt };
-    let mut input = host.open(config);
-    match read_config(rt.alloc(), &mut input, config, err) {
-        Ok(mut config) => {
-            let paths = config.folders.take();
-            run_from(rt, making, config, paths, quiet, row_files, err)
-        }
+    let path = config;
+    let mut input = host.open(path);
+    let mut config = match read_config(rt.alloc(), &mut input, path, err) {
+        Ok(config) => config,
+        Err(end) => return end,
+    };
+    let paths = config.folders.take();
+    match open_plant(rt, path, &config, paths, err) {
+        Ok(folders) => run_from(rt, making, config, folders, quiet, row_files, err),
         Err(end) => end,
     }
 }

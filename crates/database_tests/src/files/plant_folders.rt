@@ -1,7 +1,7 @@
 //! The folders of a plant, of the host: what is written among the releases, and what leaves the offers.
 
-use folders::{FolderFault, Folders, Place};
-use host_folders::HostFolders;
+use folders::{FolderFault, Folders, PASSAGE, Place};
+use host_folders::{HostFolders, Misplaced, PlantPaths, why_misplaced};
 use std::fs;
 
 const FOLDER: &str = "circuitd_folders";
@@ -9,6 +9,8 @@ const FOLDER: &str = "circuitd_folders";
 const OFFERS: &str = "circuitd_folders/offers";
 
 const RELEASES: &str = "circuitd_folders/releases";
+
+const OLD_RELEASES: &str = "circuitd_folders/old";
 
 const OFFER: &str = "circuitd_folders/offers/12.tape";
 
@@ -48,81 +50,38 @@ impl Paper {
 /// The name of a tape.
 const TAPE: &str = "12.tape";
 
-/// What a file that is made ahead holds.
-const PAGE: &[u8] = &[0; 4096];
-
-/// What is prepared, what is then put, in order, what stands among the releases in the end, and how many files stand there besides,
-/// under other names: where no look came before, and where one did, at which two files are made ahead.
+/// What is put, in order, what stands among the releases in the end, and how many files stand there besides, under other names, where a
+/// look came before, at which two files are made ahead.
 #[derive(Clone, Copy)]
 struct Release {
-    prepared: &'static [Paper],
     put: &'static [Paper],
     stands: &'static [Paper],
     left: usize,
-    left_after_look: usize,
 }
 
-/// A tape and its galley are put, and nothing is prepared.
-const UNPREPARED: Release = Release {
-    prepared: &[],
-    put: TAPE_AND_GALLEY,
-    stands: TAPE_AND_GALLEY,
-    left: 0,
-    left_after_look: 2,
-};
-
-const TAPE_AND_GALLEY: &[Paper] = &[Paper::Tape, Paper::Galley];
-
-const ALL_THREE: &[Paper] = &[Paper::Tape, Paper::Galley, Paper::Next];
-
 const RELEASES_IN_TURN: &[Release] = &[
-    UNPREPARED,
-    // What is put was prepared, in this order.
     Release {
-        prepared: TAPE_AND_GALLEY,
-        left_after_look: 0,
-        ..UNPREPARED
-    },
-    // In another order.
-    Release {
-        prepared: &[Paper::Galley, Paper::Tape],
-        ..UNPREPARED
-    },
-    // Other bytes were prepared under the name.
-    Release {
-        prepared: &[Paper::Other, Paper::Galley],
-        ..UNPREPARED
-    },
-    // More is prepared than is begun, and more than is put.
-    Release {
-        prepared: ALL_THREE,
-        put: ALL_THREE,
-        stands: ALL_THREE,
+        put: &[Paper::Tape, Paper::Galley],
+        stands: &[Paper::Tape, Paper::Galley],
         left: 0,
-        left_after_look: 0,
     },
+    // More than lie ready.
     Release {
-        prepared: TAPE_AND_GALLEY,
-        put: &[Paper::Tape],
-        stands: &[Paper::Tape],
-        left: 1,
-        left_after_look: 1,
+        put: &[Paper::Tape, Paper::Galley, Paper::Next],
+        stands: &[Paper::Tape, Paper::Galley, Paper::Next],
+        left: 0,
     },
     // One is long.
     Release {
-        prepared: &[Paper::Long],
         put: &[Paper::Long],
         stands: &[Paper::Long],
-        left: 0,
-        left_after_look: 1,
+        left: 1,
     },
     // A file stands in place of the one before it.
     Release {
-        prepared: &[Paper::Tape],
         put: &[Paper::Tape, Paper::Other],
         stands: &[Paper::Other],
         left: 0,
-        left_after_look: 1,
     },
 ];
 
@@ -132,10 +91,11 @@ fn lay_out(rt: &HostRuntime) -> bool {
     fs::create_dir_all(rt, OFFERS).is_ok() && fs::create_dir_all(rt, RELEASES).is_ok()
 }
 
-fn folders_of(rt: &HostRuntime) -> Option<HostFolders<'_, HostRuntime>> {
+/// The folders, if nobody else works with them.
+fn folders_of(rt: &HostRuntime) -> Option<HostFolders<'_>> {
     let offers = String::from_str(rt.alloc(), OFFERS).ok()?;
     let releases = String::from_str(rt.alloc(), RELEASES).ok()?;
-    Some(HostFolders::new(rt, offers, releases))
+    HostFolders::open(rt, offers, releases).ok()
 }
 
 /// Whether a file of this path holds these bytes.
@@ -162,12 +122,12 @@ fn count(rt: &HostRuntime, folder: &str) -> usize {
     }
 }
 
-/// Whether folders take what is prepared and what is put.
-fn is_taken<F: Folders>(rt: &HostRuntime, folders: &mut F, release: &Release) -> bool {
-    for paper in release.prepared {
+/// Whether folders take what is put, each told of before.
+fn are_put<F: Folders>(rt: &HostRuntime, folders: &mut F, papers: &[Paper]) -> bool {
+    for paper in papers {
         folders.prepare(rt.alloc(), paper.name(), paper.bytes());
     }
-    for paper in release.put {
+    for paper in papers {
         if folders
             .put(rt.alloc(), paper.name(), paper.bytes())
             .is_err()
@@ -178,55 +138,89 @@ fn is_taken<F: Folders>(rt: &HostRuntime, folders: &mut F, release: &Release) ->
     true
 }
 
-/// The same with a look before it or without, and whether what has to stands there in the end.
-fn is_released<F: Folders>(
-    rt: &HostRuntime,
-    folders: &mut F,
-    release: &Release,
-    with_look: bool,
-) -> bool {
-    let left = if with_look {
-        release.left_after_look
-    } else {
-        release.left
-    };
-    (!with_look || folders.names(rt.alloc()).is_ok())
-        && is_taken(rt, folders, release)
-        && release.stands.iter().all(|paper| stands(rt, *paper))
-        && count(rt, RELEASES).saturating_sub(release.stands.len()) == left
-}
-
-/// Whether a look makes the files ahead, whatever a killed plant left there: a page that says nothing.
-fn makes_files_ahead<F: Folders>(rt: &HostRuntime, folders: &mut F) -> bool {
+/// Whether what is put stands there in the end, after a look, and no more is left under other names.
+fn is_released<F: Folders>(rt: &HostRuntime, folders: &mut F, release: &Release) -> bool {
     folders.names(rt.alloc()).is_ok()
-        && holds(rt, "circuitd_folders/releases/.1.part", PAGE)
-        && holds(rt, "circuitd_folders/releases/.2.part", PAGE)
+        && are_put(rt, folders, release.put)
+        && release.stands.iter().all(|paper| stands(rt, *paper))
+        && count(rt, RELEASES).saturating_sub(release.stands.len()) == release.left
 }
 
-/// Whether folders move an offer of these bytes to those that were sent.
-fn is_sent<F: Folders>(rt: &HostRuntime, folders: &mut F, bytes: &[u8]) -> bool {
+/// Copies the files of the folder of releases to another, which then takes its place.
+fn replace_releases(rt: &HostRuntime) -> bool {
+    if fs::rename(rt, RELEASES, OLD_RELEASES).is_err() || fs::create_dir(rt, RELEASES).is_err() {
+        return false;
+    }
+    let Ok(entries) = fs::read_dir(rt, OLD_RELEASES) else {
+        return false;
+    };
+    for entry in entries {
+        let Ok(entry) = entry else {
+            return false;
+        };
+        let name = entry.file_name();
+        match format!(in rt.alloc(); "{RELEASES}/{name}") {
+            Ok(path) if fs::copy(rt, entry.path(), path.as_str()).is_ok() => {}
+            _ => return false,
+        }
+    }
+    true
+}
+
+/// Whether a release is the file that was written where the folder is replaced by a copy of itself after a look, and nothing of the copy's is
+/// left under another name.
+fn is_the_file_written<F: Folders>(rt: &HostRuntime, folders: &mut F) -> bool {
+    folders.names(rt.alloc()).is_ok()
+        && count(rt, RELEASES) == 2
+        && replace_releases(rt)
+        && are_put(rt, folders, &[Paper::Tape, Paper::Galley])
+        && stands(rt, Paper::Tape)
+        && stands(rt, Paper::Galley)
+        && count(rt, RELEASES) == 2
+}
+
+/// Whether an offer of these bytes is moved, with a text beside it.
+fn is_moved<F: Folders>(rt: &HostRuntime, folders: &mut F, bytes: &[u8], text: &str) -> bool {
     fs::write(rt, OFFER, bytes).is_ok()
-        && folders.set_aside(rt.alloc(), TAPE, Place::Sent).is_ok()
+        && folders.stamp(rt.alloc(), TAPE).is_ok()
+        && folders
+            .note(rt.alloc(), Place::Lost, "12.tape.txt", text)
+            .is_ok()
+        && folders.set_aside(rt.alloc(), TAPE, Place::Lost).is_ok()
         && matches!(fs::exists(rt, OFFER), Ok(false))
 }
 
-/// Whether they write a text beside what was lost.
-fn is_noted<F: Folders>(rt: &HostRuntime, folders: &mut F, text: &str) -> bool {
-    folders
-        .note(rt.alloc(), Place::Lost, "12.tape.txt", text)
-        .is_ok()
+/// Whether an offer that was replaced after a look stays where it is.
+fn stays_where_replaced<F: Folders>(rt: &HostRuntime, folders: &mut F) -> bool {
+    fs::write(rt, OFFER, b"seen").is_ok()
+        && folders.stamp(rt.alloc(), TAPE).is_ok()
+        && fs::remove_file(rt, OFFER).is_ok()
+        && fs::write(rt, OFFER, b"another").is_ok()
+        && matches!(
+            folders.set_aside(rt.alloc(), TAPE, Place::Sent),
+            Err(FolderFault::Changed)
+        )
+        && holds(rt, OFFER, b"another")
 }
 
 /// Whether nothing that was set aside is written over, and a text that stands there already is not written again.
 fn keeps_all<F: Folders>(rt: &HostRuntime, folders: &mut F) -> bool {
-    is_sent(rt, folders, b"one")
-        && is_sent(rt, folders, b"two")
-        && is_noted(rt, folders, "lost\n")
-        && is_noted(rt, folders, "lost\n")
-        && is_noted(rt, folders, "lost again\n")
+    is_moved(rt, folders, b"one", "lost\n")
+        && is_moved(rt, folders, b"two", "lost\n")
+        && is_moved(rt, folders, b"three", "lost again\n")
+        && holds(rt, "circuitd_folders/offers/lost/12.tape", b"one")
+        && holds(rt, "circuitd_folders/offers/lost/12.tape.2", b"two")
+        && holds(rt, "circuitd_folders/offers/lost/12.tape.3", b"three")
+        && holds(rt, "circuitd_folders/offers/lost/12.tape.txt", b"lost\n")
+        && holds(
+            rt,
+            "circuitd_folders/offers/lost/12.tape.txt.2",
+            b"lost again\n",
+        )
+        && count(rt, "circuitd_folders/offers/lost") == 5
 }
 
-/// Whether a file is read whole or not at all, and its length is told.
+/// Whether a file is read whole or not at all, and its length is told; and what is no file is not there.
 fn is_read<F: Folders>(rt: &HostRuntime, folders: &mut F) -> bool {
     if fs::write(rt, OFFER, b"three").is_err() {
         return false;
@@ -240,50 +234,40 @@ fn is_read<F: Folders>(rt: &HostRuntime, folders: &mut F) -> bool {
         folders.read(rt.alloc(), "13.tape", 4),
         Err(FolderFault::Missing)
     );
+    let folder = matches!(folders.stamp(rt.alloc(), "lost"), Err(FolderFault::Missing));
     let length = match folders.stamp(rt.alloc(), TAPE) {
         Ok(stamp) => stamp.length,
         Err(_) => 0,
     };
-    whole && short && none && length == 5
-}
-
-/// Both of new folders, and what stands there then.
-fn is_worked_with<F: Folders>(rt: &HostRuntime, folders: &mut F) -> bool {
-    lay_out(rt)
-        && keeps_all(rt, folders)
-        && holds(rt, "circuitd_folders/offers/sent/12.tape", b"one")
-        && holds(rt, "circuitd_folders/offers/sent/12.tape.2", b"two")
-        && holds(rt, "circuitd_folders/offers/lost/12.tape.txt", b"lost\n")
-        && holds(
-            rt,
-            "circuitd_folders/offers/lost/12.tape.txt.2",
-            b"lost again\n",
-        )
-        && count(rt, "circuitd_folders/offers/lost") == 2
-        && is_read(rt, folders)
+    whole && short && none && folder && length == 5
 }
 
 /// What is done with folders.
 #[derive(Clone, Copy)]
 enum Task<'a> {
-    /// A release is put, after a look or without one.
-    Release(&'a Release, bool),
-    /// They are looked at.
-    Look,
-    /// Offers are read and set aside.
+    /// A release is put, after a look.
+    Release(&'a Release),
+    /// The folder of releases is replaced by a copy of itself.
+    Replaced,
+    /// Offers are set aside, and read.
     Offers,
+    /// Nothing.
+    Nothing,
 }
 
 /// Whether it goes as it has to with these folders.
 fn goes<F: Folders>(rt: &HostRuntime, folders: &mut F, task: Task<'_>) -> bool {
     match task {
-        Task::Release(release, with_look) => is_released(rt, folders, release, with_look),
-        Task::Look => makes_files_ahead(rt, folders),
-        Task::Offers => is_worked_with(rt, folders),
+        Task::Release(release) => is_released(rt, folders, release),
+        Task::Replaced => is_the_file_written(rt, folders),
+        Task::Offers => {
+            keeps_all(rt, folders) && stays_where_replaced(rt, folders) && is_read(rt, folders)
+        }
+        Task::Nothing => true,
     }
 }
 
-/// Whether it does with new folders of the host: here alone they have their whole type.
+/// Whether it does with the folders of the host: here alone they have their whole type.
 fn goes_on_host(rt: &HostRuntime, task: Task<'_>) -> bool {
     match folders_of(rt) {
         Some(mut folders) => goes(rt, &mut folders, task),
@@ -291,13 +275,97 @@ fn goes_on_host(rt: &HostRuntime, task: Task<'_>) -> bool {
     }
 }
 
+/// Whether they are refused to another as long as they are held.
+fn are_held_alone(rt: &HostRuntime) -> bool {
+    match folders_of(rt) {
+        Some(_folders) => folders_of(rt).is_none(),
+        None => false,
+    }
+}
+
 /// The place of the first of the releases that is not as it has to be; nothing where there is none.
-fn first_amiss(rt: &HostRuntime, with_look: bool) -> Option<usize> {
+fn first_amiss(rt: &HostRuntime) -> Option<usize> {
     for (place, release) in RELEASES_IN_TURN.iter().enumerate() {
-        let goes = lay_out(rt)
-            && goes_on_host(rt, Task::Release(release, with_look))
-            && goes_on_host(rt, Task::Look);
-        if !goes {
+        if !(lay_out(rt) && goes_on_host(rt, Task::Release(release))) {
+            return Some(place);
+        }
+    }
+    None
+}
+
+/// Whether a start settles what starts before left: an offer on its way gets its name again, and what was not whole is gone.
+fn settles_leftovers(rt: &HostRuntime) -> bool {
+    let Ok(passage) = format!(in rt.alloc(); "{OFFERS}/{PASSAGE}") else {
+        return false;
+    };
+    let Ok(way) = format!(in rt.alloc(); "{passage}/12.tape") else {
+        return false;
+    };
+    lay_out(rt)
+        && fs::create_dir(rt, passage.as_str()).is_ok()
+        && fs::write(rt, way.as_str(), b"on its way").is_ok()
+        && fs::write(rt, "circuitd_folders/releases/.1.part", b"").is_ok()
+        && fs::write(rt, "circuitd_folders/releases/.circuitd-1-2-3.part", b"").is_ok()
+        && goes_on_host(rt, Task::Nothing)
+        && holds(rt, OFFER, b"on its way")
+        && count(rt, OFFERS) == 1
+        && count(rt, RELEASES) == 0
+}
+
+/// A station's files at these paths.
+const PLANT: PlantPaths<'static> = PlantPaths {
+    configuration: "circuitd_folders/station.toml",
+    table: "circuitd_folders/codes.toml",
+    widths: "widths.toml",
+    rows: "circuitd_folders/station.db",
+    offers: OFFERS,
+    releases: RELEASES,
+};
+
+/// Where files and folders lie, and why the plant is not run there.
+const PLANTS: &[(PlantPaths<'static>, Option<Misplaced>)] = &[
+    (PLANT, None),
+    (
+        PlantPaths {
+            rows: "circuitd_folders/offers/station.db",
+            ..PLANT
+        },
+        Some(Misplaced::Holds("the row file")),
+    ),
+    (
+        PlantPaths {
+            offers: ".",
+            ..PLANT
+        },
+        Some(Misplaced::Holds("the widths")),
+    ),
+    (
+        PlantPaths {
+            releases: "circuitd_folders/releases/../offers",
+            ..PLANT
+        },
+        Some(Misplaced::OneFolder),
+    ),
+    (
+        PlantPaths {
+            releases: "circuitd_folders/offers/lost",
+            ..PLANT
+        },
+        Some(Misplaced::IsPlace("lost")),
+    ),
+    (
+        PlantPaths {
+            releases: "circuitd_folders/none",
+            ..PLANT
+        },
+        None,
+    ),
+];
+
+/// The place of the first of the plants that is judged otherwise; nothing where there is none.
+fn first_misjudged(rt: &HostRuntime) -> Option<usize> {
+    for (place, (plant, reason)) in PLANTS.iter().enumerate() {
+        if why_misplaced(rt, plant) != *reason {
             return Some(place);
         }
     }
@@ -305,9 +373,12 @@ fn first_amiss(rt: &HostRuntime, with_look: bool) -> Option<usize> {
 }
 
 #[test]
-fn releases_of_the_host(rt: HostRuntime) {
-    assert_eq!(rt; first_amiss(&rt, false), None);
-    assert_eq!(rt; first_amiss(&rt, true), None);
-    assert!(rt; goes_on_host(&rt, Task::Offers));
+fn folders_of_the_host(rt: HostRuntime) {
+    assert_eq!(rt; first_amiss(&rt), None);
+    assert!(rt; lay_out(&rt) && goes_on_host(&rt, Task::Replaced));
+    assert!(rt; lay_out(&rt) && goes_on_host(&rt, Task::Offers));
+    assert_eq!(rt; first_misjudged(&rt), None);
+    assert!(rt; are_held_alone(&rt));
+    assert!(rt; settles_leftovers(&rt));
     assert!(rt; fs::remove_dir_all(&rt, FOLDER).is_ok());
 }

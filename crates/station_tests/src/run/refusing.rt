@@ -4,7 +4,8 @@ use crate::run::plant::{RUN, Run, Saved, is_true};
 use crate::run::stage::Act;
 use crate::run::stage::Held::{BadFrame, Flood, Nothing, Overset, TooLong};
 use crate::run::stage::Name::{
-    DottedTape, GreatSeek, PartTape, Stop, StoryTape, Tape12, Tape13, Tape14, Withdraw14, ZeroTape,
+    DottedTape, GreatSeek, PartTape, Stop, StoryTape, Tape12, Tape13, Tape14, TwoLines, Withdraw14,
+    ZeroTape,
 };
 use crate::run::stage::What::Laid;
 use tape_frames::Version;
@@ -24,6 +25,13 @@ const REFUSED: &[Run] = &[
 refused 012.tape\nrefused 1000000.seek\nrefused story.tape\nrefused 012.tape.txt: no number\n\
 refused 1000000.seek.txt: no number\nrefused story.tape.txt: no number\n",
         err: "refused 012.tape: no number\nrefused 1000000.seek: no number\nrefused story.tape: no number\n",
+        ..RUN
+    },
+    // A name that would forge a line of the log.
+    Run {
+        acts: &[Act(1, Laid(TwoLines, Flood)), Act(9, Laid(Stop, Nothing))],
+        folders: "refused 12 lost\n13.tape\nrefused 12 lost\n13.tape.txt: no number\n",
+        err: "refused 12 lost\\n13.tape: no number\n",
         ..RUN
     },
     Run {

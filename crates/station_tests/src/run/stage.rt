@@ -17,6 +17,8 @@ pub enum Name {
     ZeroTape,
     StoryTape,
     GreatSeek,
+    /// A name that would end a line of the log.
+    TwoLines,
     /// Names of what is still being handed over.
     DottedTape,
     PartTape,
@@ -33,6 +35,7 @@ fn text_of(name: Name) -> &'static str {
         Name::ZeroTape => "012.tape",
         Name::StoryTape => "story.tape",
         Name::GreatSeek => "1000000.seek",
+        Name::TwoLines => "12 lost\n13.tape",
         Name::DottedTape => ".13.tape",
         Name::PartTape => "13.tape.part",
     }
@@ -82,6 +85,10 @@ pub enum What {
     Full(bool),
     /// Nothing can be set aside, or it can again.
     Stuck(bool),
+    /// The offers can't be listed, or they can again.
+    Unread(bool),
+    /// A fifo lies among the offers, or no longer.
+    Fifo(bool),
 }
 
 /// What happens before a look at the folders, counted from 1.
@@ -95,6 +102,8 @@ pub struct Stage {
     pub acts: &'static [Act],
     pub looks: usize,
     pub is_stuck: bool,
+    pub is_unread: bool,
+    pub has_fifo: bool,
 }
 
 impl Stage {
@@ -104,6 +113,8 @@ impl Stage {
             acts,
             looks: 0,
             is_stuck: false,
+            is_unread: false,
+            has_fifo: false,
         }
     }
 
@@ -132,6 +143,14 @@ impl Stage {
                 self.is_stuck = is_stuck;
                 Ok(())
             }
+            What::Unread(is_unread) => {
+                self.is_unread = is_unread;
+                Ok(())
+            }
+            What::Fifo(has_fifo) => {
+                self.has_fifo = has_fifo;
+                Ok(())
+            }
         }
     }
 
@@ -148,13 +167,29 @@ impl Stage {
     }
 }
 
+/// The name of a fifo among the offers.
+const FIFO: &str = "a\nfifo";
+
 impl Folders for Stage {
     fn names(&mut self, alloc: Global) -> Result<Listing, FolderFault> {
         self.pass(alloc)?;
-        self.folders.names(alloc)
+        if self.is_unread {
+            return Err(FolderFault::NotAllowed);
+        }
+        let mut listing = self.folders.names(alloc)?;
+        if self.has_fifo {
+            let name = String::from_str(alloc, FIFO)?;
+            if listing.names.push(name).is_err() {
+                return Err(FolderFault::OutOfMemory);
+            }
+        }
+        Ok(listing)
     }
 
     fn stamp(&mut self, alloc: Global, name: &str) -> Result<Stamp, FolderFault> {
+        if name == FIFO {
+            return Err(FolderFault::NoFile);
+        }
         self.folders.stamp(alloc, name)
     }
 
@@ -178,7 +213,7 @@ impl Folders for Stage {
 
     fn set_aside(&mut self, alloc: Global, name: &str, to: Place) -> Result<(), FolderFault> {
         if self.is_stuck {
-            return Err(FolderFault::CannotWrite);
+            return Err(FolderFault::NotAllowed);
         }
         self.folders.set_aside(alloc, name, to)
     }

@@ -4,7 +4,7 @@ use crate::run::plant::{RUN, Run, is_true};
 use crate::run::stage::Act;
 use crate::run::stage::Held::{Flood, Ligature, Nothing, Start};
 use crate::run::stage::Name::{Seek12, Stop, Tape12};
-use crate::run::stage::What::{Full, Laid, Stuck};
+use crate::run::stage::What::{Fifo, Full, Laid, Stuck, Unread};
 use command_ends::End;
 
 /// A file that grows is not taken before it stood still for a second.
@@ -47,7 +47,7 @@ const FULL_DISK: &[Run] = &[
             Act(1, Laid(Tape12, Flood)),
             Act(20, Laid(Stop, Nothing)),
         ],
-        err: "folders: cannot write releases\n12 released\n",
+        err: "folders: cannot write releases: the disk is full\n12 released\n",
         ..RUN
     },
     Run {
@@ -58,7 +58,7 @@ const FULL_DISK: &[Run] = &[
             Act(20, Laid(Stop, Nothing)),
         ],
         folders: "wrote 12.tape 7\nwrote 12.galley 25\nsent 12.tape\n",
-        err: "folders: cannot write releases\n12 released\n12 sent\n",
+        err: "folders: cannot write releases: the disk is full\n12 released\n12 sent\n",
         ..RUN
     },
 ];
@@ -79,13 +79,36 @@ const MOVED_LATER: Run = Run {
         Act(20, Laid(Stop, Nothing)),
     ],
     folders: "wrote 12.tape 7\nwrote 12.galley 25\nsent 12.tape\n",
-    err: "12 released\nfolders: cannot move 12.tape\n12 sent\n",
+    err: "12 released\nfolders: cannot move 12.tape: it is not allowed\n12 sent\n",
     ..RUN
 };
 
 #[test]
 fn moved_later(rt: HostRuntime) {
     assert!(rt; is_true(rt.alloc(), &MOVED_LATER));
+}
+
+/// Offers that can't be listed are told once, and again when they could be meanwhile; and so is what is no plain file.
+const TOLD_ONCE: Run = Run {
+    acts: &[
+        Act(2, Unread(true)),
+        Act(5, Unread(false)),
+        Act(7, Unread(true)),
+        Act(9, Unread(false)),
+        Act(11, Fifo(true)),
+        Act(14, Fifo(false)),
+        Act(16, Fifo(true)),
+        Act(20, Laid(Stop, Nothing)),
+    ],
+    err: "\
+folders: cannot read offers: it is not allowed\nfolders: cannot read offers: it is not allowed\n\
+folders: cannot read a\\nfifo: it is no plain file\nfolders: cannot read a\\nfifo: it is no plain file\n",
+    ..RUN
+};
+
+#[test]
+fn told_once(rt: HostRuntime) {
+    assert!(rt; is_true(rt.alloc(), &TOLD_ONCE));
 }
 
 /// A file that was written anew once it was taken up is no longer the one that was: it is taken up again, and loses the number.
@@ -98,7 +121,7 @@ const WRITTEN_ANEW: Run = Run {
         Act(40, Laid(Stop, Nothing)),
     ],
     folders: "wrote 12.tape 7\nwrote 12.galley 25\nlost 12.tape\nlost 12.tape.txt: release 12 01020301030204\n",
-    err: "folders: cannot write releases\n12 released\n12 lost\n",
+    err: "folders: cannot write releases: the disk is full\n12 released\n12 lost\n",
     ..RUN
 };
 

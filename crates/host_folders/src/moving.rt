@@ -1,0 +1,136 @@
+//! Files that leave the offers: through a passage of their own, where each is judged by what it is.
+
+use crate::copies::{free_path, write_text};
+use crate::looks::{Seen, id_at, plain_file, within};
+use crate::maker::Maker;
+use crate::part::clear_parts;
+use folders::{FolderFault, PASSAGE, PLACES, Place, Return, return_of};
+use std::fs;
+use std::io::ErrorKind;
+
+/// What is told beside a file whose name was taken while it was on its way.
+const NAME_TAKEN: &str = "another file came to stand under its name\n";
+
+/// The folder of a place, which is made where it is not there.
+pub(crate) fn make_place(rt: &HostRuntime, offers: &str, to: Place) -> Result<String, FolderFault> {
+    let folder = within(rt.alloc(), offers, to.folder())?;
+    fs::create_dir_all(rt, folder.as_str())?;
+    Ok(folder)
+}
+
+/// Takes a file from its name into the passage, and answers its path there.
+fn take_away(maker: &mut Maker<'_>, offers: &str, name: &str) -> Result<String, FolderFault> {
+    let passage = within(maker.alloc(), offers, PASSAGE)?;
+    fs::create_dir_all(maker.rt, passage.as_str())?;
+    let own = within(maker.alloc(), &passage, name)?;
+    if id_at(maker.rt, &own)?.is_some() {
+        put_back(maker, offers, &own, name)?;
+        return Err(FolderFault::Changed);
+    }
+    let from = within(maker.alloc(), offers, name)?;
+    fs::rename(maker.rt, from.as_str(), own.as_str())?;
+    Ok(own)
+}
+
+/// Refuses what is not the file that was seen.
+fn test_file(rt: &HostRuntime, own: &str, seen: &Seen) -> Result<(), FolderFault> {
+    match plain_file(rt, own) {
+        Ok(now) if seen.is_still(&now) => Ok(()),
+        Ok(_) | Err(FolderFault::NoFile | FolderFault::Missing) => Err(FolderFault::Changed),
+        Err(fault) => Err(fault),
+    }
+}
+
+/// Puts what lies in the passage into the folder of a place.
+fn put_aside(
+    rt: &HostRuntime,
+    offers: &str,
+    own: &str,
+    name: &str,
+    to: Place,
+) -> Result<(), FolderFault> {
+    let folder = make_place(rt, offers, to)?;
+    let path = free_path(rt, &folder, name, None)?;
+    fs::rename(rt, own, path.as_str())?;
+    Ok(())
+}
+
+/// Gives what lies in the passage its name again, where nothing has come to stand there.
+fn give_back(rt: &HostRuntime, own: &str, home: &str) -> Result<(), FolderFault> {
+    match fs::hard_link(rt, own, home) {
+        Ok(()) => fs::remove_file(rt, own)?,
+        Err(error) if error.kind() == ErrorKind::AlreadyExists => return Err(FolderFault::Changed),
+        // A folder, or a disk without links.
+        Err(_) => {
+            if id_at(rt, home)?.is_some() {
+                return Err(FolderFault::Changed);
+            }
+            fs::rename(rt, own, home)?;
+        }
+    }
+    Ok(())
+}
+
+/// Puts what lies in the passage back to its name among the offers, or where another stands there, to what is refused.
+fn put_back(maker: &mut Maker<'_>, offers: &str, own: &str, name: &str) -> Result<(), FolderFault> {
+    let home = within(maker.alloc(), offers, name)?;
+    let Some(file) = id_at(maker.rt, own)? else {
+        return Ok(());
+    };
+    match return_of(file, id_at(maker.rt, &home)?) {
+        Return::Back => give_back(maker.rt, own, &home),
+        Return::Stands => Ok(fs::remove_file(maker.rt, own)?),
+        Return::Refused => {
+            let folder = make_place(maker.rt, offers, Place::Refused)?;
+            let text = format!(in maker.alloc(); "{name}.txt")?;
+            write_text(maker, &folder, &text, NAME_TAKEN)?;
+            let path = free_path(maker.rt, &folder, name, None)?;
+            Ok(fs::rename(maker.rt, own, path.as_str())?)
+        }
+    }
+}
+
+/// Moves a file of the offers to a place. It is taken from its name first, and judged then: what is not the file that was seen is put
+/// back.
+pub(crate) fn set_aside(
+    maker: &mut Maker<'_>,
+    offers: &str,
+    name: &str,
+    seen: &Seen,
+    to: Place,
+) -> Result<(), FolderFault> {
+    let own = take_away(maker, offers, name)?;
+    let put = match test_file(maker.rt, &own, seen) {
+        Ok(()) => put_aside(maker.rt, offers, &own, name, to),
+        Err(fault) => Err(fault),
+    };
+    if put.is_err() {
+        put_back(maker, offers, &own, name)?;
+    }
+    put
+}
+
+/// Puts back what lies in the passage: what was on its way as a process ended.
+fn clear_passage(maker: &mut Maker<'_>, offers: &str) -> Result<(), FolderFault> {
+    let passage = within(maker.alloc(), offers, PASSAGE)?;
+    for entry in fs::read_dir(maker.rt, passage.as_str())? {
+        if let Ok(entry) = entry {
+            let own = within(maker.alloc(), &passage, entry.file_name())?;
+            // One that can't be put back now stays for the next start.
+            let _ = put_back(maker, offers, &own, entry.file_name());
+        }
+    }
+    fs::remove_dir(maker.rt, passage.as_str())?;
+    Ok(())
+}
+
+/// Settles what starts before left among the offers and where these are set aside.
+pub(crate) fn clear_offers(maker: &mut Maker<'_>, offers: &str) -> Result<(), FolderFault> {
+    let _ = clear_passage(maker, offers);
+    let _ = clear_parts(maker.rt, offers);
+    for place in PLACES {
+        let folder = within(maker.alloc(), offers, place.folder())?;
+        let _ = clear_parts(maker.rt, &folder);
+    }
+    Ok(())
+}

@@ -1,0 +1,12 @@
+//! What the host gives a process: its standard streams, and the limit of its files.
+#![tactic(auto)]
+
+mod descriptors;
+mod limits;
+mod patience;
+mod told;
+
+pub use descriptors::fill_descriptors;
+pub use limits::file_limit;
+pub use patience::Patience;
+pub use told::Told;

@@ -1,0 +1,58 @@
+//! Whether a plant can be run where it lies, and its folders, which are held from then on.
+
+use command_ends::End;
+use configuration::{Config, Folders};
+use host_folders::{HostFolders, Misplaced, PlantPaths, why_misplaced};
+use host_process::file_limit;
+use std::io::Write;
+
+/// Tells why a plant is not run where it lies.
+fn refuse<E: Write>(reason: Misplaced, err: &mut E) -> End {
+    let _ = writeln!(err, "folders: {reason}");
+    End::Input
+}
+
+/// The folders at these paths, held.
+fn open_folders<'r, E: Write>(
+    rt: &'r HostRuntime,
+    folders: Folders,
+    err: &mut E,
+) -> Result<HostFolders<'r>, End> {
+    let Folders { offers, releases } = folders;
+    match HostFolders::open(rt, offers, releases) {
+        Ok(folders) => Ok(folders),
+        Err(reason) => Err(refuse(reason, err)),
+    }
+}
+
+/// The folders of the plant whose configuration was read from a path, if it has some. They are held from then on, until they are let go.
+///
+/// It is refused, and that is told, where files of this process may not grow, where a file of the station lies among its offers, where both
+/// folders are one or one is a place of the other, and where another process works with one.
+pub(crate) fn open_plant<'r, E: Write>(
+    rt: &'r HostRuntime,
+    path: &str,
+    config: &Config,
+    folders: Option<Folders>,
+    err: &mut E,
+) -> Result<Option<HostFolders<'r>>, End> {
+    if let Some(limit) = file_limit() {
+        let _ = writeln!(err, "limit: no file may have more than {limit} bytes");
+        return Err(End::Input);
+    }
+    let Some(folders) = folders else {
+        return Ok(None);
+    };
+    let paths = PlantPaths {
+        configuration: path,
+        table: &config.table,
+        widths: &config.widths,
+        rows: &config.rows,
+        offers: &folders.offers,
+        releases: &folders.releases,
+    };
+    if let Some(reason) = why_misplaced(rt, &paths) {
+        return Err(refuse(reason, err));
+    }
+    Ok(Some(open_folders(rt, folders, err)?))
+}
