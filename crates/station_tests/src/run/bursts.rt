@@ -1,8 +1,8 @@
 //! Many files at once, and much traffic: nothing is lost, few are under way, and a look comes whatever waits.
 
 use crate::run::plant::{RUN, Run, station_of};
-use crate::run::stage::Held::Nothing;
-use crate::run::stage::Name::Stop;
+use crate::run::stage::Held::{Flood, Nothing};
+use crate::run::stage::Name::{Seek12, Stop, Tape12};
 use crate::run::stage::What::{Burst, Laid};
 use crate::run::stage::{Act, Stage};
 use crate::run::wires::{Flooded, Threesome, Ticking};
@@ -48,20 +48,40 @@ fn count(lines: &str) -> Option<Told> {
     Some(told)
 }
 
-/// A run of one of three stations at which forty stories are laid: what it tells, and how many the others released. The others take in
-/// one datagram each in so many turns.
-fn burst(alloc: Global, slowness: u32) -> Option<(Told, (usize, usize))> {
+/// What came of a run of one of three stations.
+struct Came {
+    end: End,
+    err: Vec<u8>,
+    /// How many files were written among the releases.
+    filed: usize,
+    /// How many numbers each of the others released.
+    others: (usize, usize),
+}
+
+/// A run of one of three stations at which this is laid. The others take in one datagram each in so many turns.
+fn three(alloc: Global, acts: &[Act], slowness: u32) -> Option<Came> {
     let run = Run { members: 3, ..RUN };
     let mut station = station_of(alloc, &run)?;
     let mut wire = Threesome::new(alloc, slowness)?;
-    let mut stage = Stage::new(alloc, FORTY);
+    let mut stage = Stage::new(alloc, acts);
     let mut err = Vec::new(alloc);
     let end = run_station(alloc, &mut station, &mut wire, &mut stage, false, &mut err);
-    if end != End::Done || stage.folders.filed().len() != 80 {
+    Some(Came {
+        end,
+        err,
+        filed: stage.folders.filed().len(),
+        others: wire.released()?,
+    })
+}
+
+/// The same of forty stories: what is told, and how many the others released.
+fn burst(alloc: Global, slowness: u32) -> Option<(Told, (usize, usize))> {
+    let came = three(alloc, FORTY, slowness)?;
+    if came.end != End::Done || came.filed != 80 {
         return None;
     }
-    let told = count(str::from_utf8(&err).ok()?)?;
-    Some((told, wire.released()?))
+    let told = count(str::from_utf8(&came.err).ok()?)?;
+    Some((told, came.others))
 }
 
 /// Each story takes one ballot, and is out at each of the three.
@@ -76,6 +96,26 @@ fn none_is_lost(rt: HostRuntime) {
 fn slow_members_are_waited_for(rt: HostRuntime) {
     let (told, others) = burst(rt.alloc(), 8).unwrap_or((NONE, (0, 0)));
     assert!(rt; told.most_open == 8 && told.released == 40 && others == (40, 40));
+}
+
+/// A search for number 12 and a tape of it, laid at once.
+const BOTH: &[Act] = &[
+    Act(1, Laid(Seek12, Nothing)),
+    Act(1, Laid(Tape12, Flood)),
+    Act(40, Laid(Stop, Nothing)),
+];
+
+/// Whether the tape is out at each of the three.
+fn is_out(alloc: Global) -> bool {
+    match three(alloc, BOTH, 1) {
+        Some(came) => came.filed == 2 && came.others == (1, 1),
+        None => false,
+    }
+}
+
+#[test]
+fn a_search_keeps_no_tape_waiting(rt: HostRuntime) {
+    assert!(rt; is_out(rt.alloc()));
 }
 
 /// Nothing was told.
