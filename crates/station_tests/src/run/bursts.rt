@@ -59,7 +59,7 @@ struct Came {
 }
 
 /// A run of one of three stations at which this is laid. The others take in one datagram each in so many turns.
-fn three(alloc: Global, acts: &[Act], slowness: u32) -> Option<Came> {
+fn three(alloc: Global, acts: &'static [Act], slowness: u32) -> Option<Came> {
     let run = Run { members: 3, ..RUN };
     let mut station = station_of(alloc, &run)?;
     let mut wire = Threesome::new(alloc, slowness)?;
