@@ -49,6 +49,7 @@ fn count(lines: &str) -> Option<Told> {
 }
 
 /// What came of a run of one of three stations.
+#[derive(Drop)]
 struct Came {
     end: End,
     err: Vec<u8>,

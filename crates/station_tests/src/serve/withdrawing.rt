@@ -108,7 +108,7 @@ const AGREED_LOG: &str = "\
 3 544e0204000701030000000c00000001010000
 ";
 
-/// A station at version 1 passes over a promise in version 2.
+/// A station at version 1 passes over a promise in version 2, and says so.
 const PASSED_OVER: Story = Story {
     members: 3,
     version: Version::One,
@@ -117,6 +117,7 @@ const PASSED_OVER: Story = Story {
         Run {
             coming: &[b"544e0202000702010000000c000000010100"],
             sent: 2,
+            err: "bad-version from member 2: its rows are of layout 2, these of layout 1\n",
             ..TURN
         },
     ],
