@@ -14,15 +14,21 @@ releases = "releases{member}"
 {stations}"""
 
 
+STORIES = 300
+# Ballots a number at most. On a machine that is busy with other work a ballot may be begun again.
+BALLOTS = 1.3
+
+
 def three(at):
-    """Three plants that are up."""
+    """Three plants that are up, each with a log."""
     ports = [stage.free_port() for _ in range(3)]
     stations = ''.join(f'[[station]]\nmember = {member}\nip = "127.0.0.1"\nport = {port}\n' for member, port in enumerate(ports, 1))
     for member, port in enumerate(ports, 1):
         at.write(f'plant{member}.toml', CONFIG.format(member=member, stations=stations).encode())
         os.mkdir(at.path(f'offers{member}'))
         os.mkdir(at.path(f'releases{member}'))
-        at.start(f'run plant{member}.toml --create --layout 2')
+        with open(at.path(f'log{member}'), 'wb') as log:
+            at.start(f'run plant{member}.toml --create --layout 2', stderr=log)
     for at.port in ports:
         stage.within(10, at.serves, 'each plant is up')
 
@@ -43,4 +49,27 @@ def a_search_beside_its_tape(at):
     stage.within(10, lambda: sorted(os.listdir(at.path('offers2/sent'))) == ['12.seek', '12.tape'], 'both were sent')
 
 
-PLAYS = [a_search_beside_its_tape]
+def burst(at, members):
+    """Stories that are laid at these plants all at once: each plant has all of them, and they took few ballots."""
+    three(at)
+    tape = at.read('flood.tape')
+    for number in range(1, STORIES + 1):
+        lay(at, members[number % len(members)], f'{number}.tape', tape)
+    wanted = {f'{number}.{kind}' for number in range(1, STORIES + 1) for kind in ('tape', 'galley')}
+    for member in (1, 2, 3):
+        stage.within(120, lambda: wanted <= set(os.listdir(at.path(f'releases{member}'))), f'plant {member} has each story')
+    ballots = sum(line.split()[1:2] == [b'began'] for member in (1, 2, 3) for line in at.read(f'log{member}').splitlines())
+    stage.wants(STORIES <= ballots <= BALLOTS * STORIES, f'{ballots} ballots for {STORIES} stories')
+
+
+def a_burst_at_one_plant(at):
+    """No plant lacks a story of many that are laid at one of three at once."""
+    burst(at, (2,))
+
+
+def a_burst_at_each_plant(at):
+    """Nor of many that are laid at all three."""
+    burst(at, (1, 2, 3))
+
+
+PLAYS = [a_search_beside_its_tape, a_burst_at_one_plant, a_burst_at_each_plant]
