@@ -10,6 +10,10 @@ mod given;
 #[cfg(test)]
 mod notes;
 #[cfg(test)]
+mod offers_shelf;
+#[cfg(test)]
+mod offers_stories;
+#[cfg(test)]
 mod played_day;
 #[cfg(test)]
 mod run;

@@ -1,0 +1,7 @@
+use Rattle.std.proofs.Common.{refl}
+use Rattle.offers.proofs.Turning.{in_turn_via}
+use Rattle.offers.proofs.book.Book.next.Goals as goal
+
+pub returns-in-None-clause-turn : goal.returns-in-None-clause-turn
+returns-in-None-clause-turn c =
+    in_turn_via c.args.self.now c.move_if.new.self c.args.allowed c.behind_moves.result c.in-None.ensures.same (c.in-None.ensures.none refl) c.behind_moves.ensures.turn

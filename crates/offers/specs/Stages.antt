@@ -1,0 +1,125 @@
+-- What news of a file makes of what is known of it.
+use Rattle.std.specs.Prelude.{ℕ, ◌+◌, ◌-◌, ◌*◌, ◌^◌, ◌==◌, min, true, false, List, map, Option, Some, None, Result, Ok, Err, if◌then◌else◌}
+use Rattle.folders.specs.declared.names.Kind.TheVariants.{Tape, Withdraw, Seek}
+use Rattle.folders.specs.declared.names.Request.{Request}
+use Rattle.folders.specs.declared.wishes.Wish.{Wish}
+use Rattle.offers.specs.declared.offer.Offer.{Offer}
+use Rattle.offers.specs.declared.stage.Landing.{Landing}
+use Rattle.offers.specs.declared.stage.Landing.TheVariants.{Ended, Busy, Barred, Released}
+use Rattle.offers.specs.declared.stage.News.{News}
+use Rattle.offers.specs.declared.stage.News.TheVariants as news
+use Rattle.offers.specs.declared.stage.Reason.{Reason}
+use Rattle.offers.specs.declared.stage.Stage.{Stage}
+use Rattle.offers.specs.declared.stage.Stage.TheVariants.{Watched, Waiting, UnderWay, Refused, Gone}
+use Rattle.offers.specs.Order.{rank}
+
+-- so much later, or the last moment that there is
+abbrev pub later : ℕ → ℕ → ℕ
+later now pause = min (now + pause) (2 ^ 64 - 1)
+
+-- twice as long a pause, and a minute at most
+abbrev pub longer : ℕ → ℕ
+longer pause = min (2 * pause) 60_000
+
+-- a file that was changed is read once it stays as it is for a second, and it is kept in mind whether it was under way as it was changed
+abbrev pub anew : ℕ → Stage → Stage
+anew now (Watched at replaced) = Watched (later now 1000) replaced
+anew now (Waiting wish at pause) = Watched (later now 1000) false
+anew now (UnderWay wish pause) = Watched (later now 1000) true
+anew now (Refused reason at pause) = Watched (later now 1000) false
+anew now Gone = Watched (later now 1000) false
+
+-- once more after its pause; a file that could not be read, after a minute
+abbrev pub put_off : ℕ → Stage → Stage
+put_off now (Watched at replaced) = Watched (later now 60_000) replaced
+put_off now (Waiting wish at pause) = Waiting wish (later now pause) (longer pause)
+put_off now (UnderWay wish pause) = UnderWay wish pause
+put_off now (Refused reason at pause) = Refused reason (later now pause) (longer pause)
+put_off now Gone = Gone
+
+-- what is known of a file of a number once this became of the number: it changes what is known of the file that was under way, and where
+-- the number was released also of the others that were read, which leave the offers at once; one that waited keeps its moment, and so is
+-- asked for before the one that was under way
+abbrev pub landed : Landing → ℕ → Stage → Stage
+landed Ended now (Watched at replaced) = Watched at replaced
+landed Ended now (Waiting wish at pause) = Waiting wish at pause
+landed Ended now (UnderWay wish pause) = Waiting wish (later now pause) (longer pause)
+landed Ended now (Refused reason at pause) = Refused reason at pause
+landed Ended now Gone = Gone
+landed Busy now (Watched at replaced) = Watched at replaced
+landed Busy now (Waiting wish at pause) = Waiting wish at pause
+landed Busy now (UnderWay wish pause) = Waiting wish (later now 1000) pause
+landed Busy now (Refused reason at pause) = Refused reason at pause
+landed Busy now Gone = Gone
+landed (Barred why) now (Watched at replaced) = Watched at replaced
+landed (Barred why) now (Waiting wish at pause) = Waiting wish at pause
+landed (Barred why) now (UnderWay wish pause) = Refused why 0 1000
+landed (Barred why) now (Refused reason at pause) = Refused reason at pause
+landed (Barred why) now Gone = Gone
+landed Released now (Watched at replaced) = Watched at replaced
+landed Released now (Waiting wish at pause) = Waiting wish 0 1000
+landed Released now (UnderWay wish pause) = Waiting wish 0 1000
+landed Released now (Refused reason at pause) = Refused reason at pause
+landed Released now Gone = Gone
+
+-- what is known of a file after some news: what was read of it counts only where it was watched, and the station is asked only where it
+-- waits
+abbrev pub after : News → ℕ → Stage → Stage
+after (news.Read wish) now (Watched at replaced) = Waiting wish at 1000
+after (news.Read wish) now (Waiting own at pause) = Waiting own at pause
+after (news.Read wish) now (UnderWay own pause) = UnderWay own pause
+after (news.Read wish) now (Refused reason at pause) = Refused reason at pause
+after (news.Read wish) now Gone = Gone
+after (news.NoOffer why) now (Watched at replaced) = Refused why 0 1000
+after (news.NoOffer why) now (Waiting own at pause) = Waiting own at pause
+after (news.NoOffer why) now (UnderWay own pause) = UnderWay own pause
+after (news.NoOffer why) now (Refused reason at pause) = Refused reason at pause
+after (news.NoOffer why) now Gone = Gone
+after news.Asked now (Watched at replaced) = Watched at replaced
+after news.Asked now (Waiting wish at pause) = UnderWay wish pause
+after news.Asked now (UnderWay wish pause) = UnderWay wish pause
+after news.Asked now (Refused reason at pause) = Refused reason at pause
+after news.Asked now Gone = Gone
+after news.PutOff now stage = put_off now stage
+after news.Moved now stage = Gone
+after (news.Landed landing) now stage = landed landing now stage
+
+-- a file, changed so where it stands at this place
+abbrev pub change_at : ℕ → (Stage → Stage) → Offer → Offer
+change_at k g o = if rank o.request == k then record o { stage = g o.stage } else o
+
+-- the files, the one at this place changed so and no other
+abbrev pub changed : ℕ → (Stage → Stage) → List Offer → List Offer
+changed k g offers = map (change_at k g) offers
+
+-- the files of a number
+abbrev pub tape_of : ℕ → Request
+tape_of n = record { number = n; kind = Tape }
+
+abbrev pub withdrawal_of : ℕ → Request
+withdrawal_of n = record { number = n; kind = Withdraw }
+
+abbrev pub search_of : ℕ → Request
+search_of n = record { number = n; kind = Seek }
+
+-- the files of a number changed so and no others
+abbrev pub all_changed : ℕ → (Stage → Stage) → List Offer → List Offer
+all_changed n g offers = changed (rank (search_of n)) g (changed (rank (withdrawal_of n)) g (changed (rank (tape_of n)) g offers))
+
+-- what a file asks for, where it was read and is an offer
+abbrev pub wish_of : Stage → Option Wish
+wish_of (Watched at replaced) = None
+wish_of (Waiting wish at pause) = Some wish
+wish_of (UnderWay wish pause) = Some wish
+wish_of (Refused reason at pause) = None
+wish_of Gone = None
+
+-- the same of the file that there is
+abbrev pub wish_at : Option Offer → Option Wish
+wish_at None = None
+wish_at (Some o) = wish_of o.stage
+
+-- what there is to tell of a file that was read
+abbrev pub news_of : Result Wish Reason → News
+news_of (Ok wish) = news.Read wish
+news_of (Err reason) = news.NoOffer reason

@@ -1,0 +1,106 @@
+//! What came of what was done with a file, and of what the station was asked.
+
+ghost use Rattle.std.specs.Prelude.{◌≡◌, OnOk, OnErr, true};
+ghost use Rattle.offers.specs.Order.{rank};
+ghost use Rattle.offers.specs.Stages.{after, changed, news_of};
+ghost use Rattle.offers.specs.Rules.{is_under_way};
+ghost use Rattle.offers.specs.Answers.{landed_in, Releases};
+
+use crate::book::Book;
+use crate::edits::{tell, tell_all};
+use crate::stage::{Landing, News, Reason};
+use crate::under_way::is_under_way;
+use ballots::Number;
+use folders::{Request, Wish};
+use std::alloc::AllocError;
+use tape_frames::Entry;
+
+/// What there is to tell of a file that was read.
+fn news_of(wish: Result<Wish, Reason>) -> News
+    ensures { result ≡ news_of wish }
+{
+    match wish {
+        Ok(wish) => News::Read(wish),
+        Err(reason) => News::NoOffer(reason),
+    }
+}
+
+impl Book {
+    /// A file was read, and asks for this, or is no offer.
+    pub fn was_read(&mut self, request: Request, wish: Result<Wish, Reason>)
+        ensures { self.new ≡ record self.old { files = changed (rank request) (after (news_of wish) 0) self.old.files; asks = true } }
+    {
+        self.asks = true;
+        tell(&mut self.offers, request, news_of(wish), 0);
+    }
+
+    /// A file could not be read, or moved, at a moment.
+    pub fn could_not(&mut self, request: Request, now: u64)
+        ensures { self.new ≡ record self.old { files = changed (rank request) (after News.PutOff now) self.old.files; asks = true } }
+    {
+        self.asks = true;
+        tell(&mut self.offers, request, News::PutOff, now);
+    }
+
+    /// A file was moved: it is no longer among the offers.
+    pub fn moved(&mut self, request: Request)
+        ensures { self.new ≡ record self.old { files = changed (rank request) (after News.Moved 0) self.old.files; asks = true } }
+    {
+        self.asks = true;
+        tell(&mut self.offers, request, News::Moved, 0);
+    }
+
+    /// This became of a number, at a moment: it is no longer under way. Whether it was.
+    fn land(&mut self, number: Number, landing: Landing, now: u64) -> bool
+        ensures news { result ≡ is_under_way number self.old.window }
+        ensures same { self.new ≡ landed_in number landing now self.old }
+    {
+        let was_under_way = is_under_way(self.window.numbers(), number);
+        self.asks = true;
+        self.window.leave(number);
+        tell_all(&mut self.offers, number, landing, now);
+        was_under_way
+    }
+
+    /// What the station was asked for a number came to nothing, at a moment: its ballots came to no end, or a majority knows of nothing, or
+    /// the station does not take it now. Its file is put off, by a second the first time and twice as long each time, a minute at most.
+    /// Whether the number was under way: only then is there something to tell.
+    pub fn ended(&mut self, number: Number, now: u64) -> bool
+        ensures news { result ≡ is_under_way number self.old.window }
+        ensures same { self.new ≡ landed_in number Landing.Ended now self.old }
+    {
+        self.land(number, Landing::Ended, now)
+    }
+
+    /// The station has a number open already, which it was asked for at a moment: its file is asked for again a second later, and its
+    /// pause does not grow. Whether the number was under way.
+    pub fn busy(&mut self, number: Number, now: u64) -> bool
+        ensures news { result ≡ is_under_way number self.old.window }
+        ensures same { self.new ≡ landed_in number Landing.Busy now self.old }
+    {
+        self.land(number, Landing::Busy, now)
+    }
+
+    /// The station does not take what it was asked for a number, and never will: its file is no offer. Whether the number was under way.
+    pub fn barred(&mut self, number: Number, reason: Reason) -> bool
+        ensures news { result ≡ is_under_way number self.old.window }
+        ensures same { self.new ≡ landed_in number (Landing.Barred reason) 0 self.old }
+    {
+        self.land(number, Landing::Barred { reason }, 0)
+    }
+
+    /// This entry was released under a number, at a moment: the files of it that were read leave the offers. Where there is no memory to
+    /// keep the entry in mind, what the station was asked for it is put off, as if it had come to nothing.
+    pub fn released(&mut self, number: Number, entry: Entry, now: u64) -> Result<(), AllocError>
+        ensures ok { OnOk result (Releases number entry self.old self.new) }
+        ensures err { OnErr result (self.new ≡ landed_in number Landing.Ended now self.old) }
+    {
+        self.asks = true;
+        if self.released.insert(number.get(), entry).is_err() {
+            self.ended(number, now);
+            return Err(AllocError);
+        }
+        self.land(number, Landing::Released, 0);
+        Ok(())
+    }
+}

@@ -1,0 +1,353 @@
+//! Which deed comes next.
+
+ghost use Rattle.std.specs.Prelude.{◌≡◌, ◌≤◌, ◌<◌, ◌+◌, ◌-◌, ◌↔◌, Some, None, IsTrue, if◌then◌else◌, IfSome, length, is_some, min, true, slice_index_or};
+ghost use Rattle.offers.specs.declared.offer.Offer.{Offer};
+ghost use Rattle.offers.specs.Rules.{MayDo, ask_moment_of};
+ghost use Rattle.offers.specs.Stages.{after, changed, tape_of, withdrawal_of, search_of};
+ghost use Rattle.offers.specs.Order.{rank, Rises};
+ghost use Rattle.pace.specs.UnderWay.{with_one};
+ghost use Rattle.offers.specs.Left.{NoMoves, NoOthers, NoAsks, IsSoonest, MatchSoonest, sooner, HasLeft};
+ghost use Rattle.offers.specs.Turns.{IsMove, IsOtherDeed, IsAskOf, NoMovesLeft, IsAskOrOther, IsEarly, IsStill, IsBehindMoves, IsInTurn, Rests, RestsButMoves, Advances, AdvancesOther, row_after, window_after, files_after};
+
+use crate::book::{Book, MOST_IN_A_ROW};
+use crate::deed::{Allowed, Deed};
+use crate::edits::{index_of, request_of, tell};
+use crate::offer::Offer;
+use crate::order::rank;
+use crate::rules::{ask_moment, leaving, other};
+use crate::stage::News;
+use crate::under_way::is_under_way;
+use ballots::Number;
+use folders::{Kind, Request};
+use pace::Window;
+
+/// The first of the files so far, with its moment, and one more, if it has one: the sooner of the two.
+fn sooner(first: Option<(usize, u64)>, index: usize, moment: Option<u64>) -> Option<(usize, u64)>
+    ensures { result ≡ sooner first index moment }
+{
+    match (first, moment) {
+        (Some((_, at)), Some(own)) => if own < at { Some((index, own)) } else { first },
+        (None, Some(own)) => Some((index, own)),
+        (_, None) => first,
+    }
+}
+
+/// Where a file is asked for, counts one more that was in a row, as far as that matters.
+fn count_if(row: &mut usize, is_asked: bool)
+    ensures { row.new ≡ (if is_asked then min (row.old + 1) 8 else row.old) }
+{
+    if is_asked {
+        *row = row.saturating_add(1).min(MOST_IN_A_ROW);
+    }
+}
+
+/// Asks for a file, or does nothing.
+fn ask_if(is_asked: bool, request: &Request) -> Option<Deed>
+    ensures { result ≡ (if is_asked then Some (Deed.Ask request.now) else None) }
+{
+    if is_asked {
+        let request = *request;
+        Some(Deed::Ask { request })
+    } else {
+        None
+    }
+}
+
+/// What a file asks for is under way from now on, where there is room for its number; whether there is.
+fn take_off(window: &mut Window, offers: &mut Vec<Offer>, request: &Request) -> bool
+    requires { Rises offers.old.items }
+    ensures room { IsTrue result ↔ (length window.old < 16) }
+    ensures window { window.new ≡ with_one result request.now.number window.old }
+    ensures files { offers.new.items ≡ (if result then changed (rank request.now) (after News.Asked 0) offers.old.items else offers.old.items) }
+    ensures rises { Rises offers.new.items }
+{
+    let found = window.add(request.number);
+    if found {
+        tell(offers, *request, News::Asked, 0);
+    }
+    found
+}
+
+impl Book {
+    /// How the file at an index leaves the offers that was released under its number, if its moment has come.
+    fn move_at(&self, index: usize) -> Option<Deed>
+        requires { index < length self.now.files }
+        ensures some { IfSome result (MayDo self.now) }
+        ensures kind { IfSome result IsMove }
+        ensures none { result ≡ None → NoMoves self.now index (index + 1) }
+    {
+        leaving(&self.offers[index], &self.released, self.looked)
+    }
+
+    /// The first file of those that are left that leaves the offers.
+    fn first_move(&self) -> Option<(usize, Deed)>
+        ensures within { IfSome result (λ p. (self.now.moves ≤ p.0) × (p.0 < length self.now.files)) }
+        ensures before { IfSome result (λ p. NoMoves self.now self.now.moves p.0) }
+        ensures rules { IfSome result (λ p. MayDo self.now p.1) }
+        ensures kind { IfSome result (λ p. IsMove p.1) }
+        ensures none { result ≡ None → NoMoves self.now self.now.moves (length self.now.files) }
+    {
+        for index in self.moves..self.offers.len() {
+            if let Some(deed) = self.move_at(index) {
+                return Some((index, deed));
+            }
+        }
+        None
+    }
+
+    /// The same, and the work goes on behind it.
+    fn next_move(&mut self) -> Option<Deed>
+        ensures rules { IfSome result (MayDo self.old) }
+        ensures kind { IfSome result IsMove }
+        ensures passed { NoMoves self.old self.old.moves (self.new.moves - 1) }
+        ensures forward { IfSome result (λ _. self.old.moves < self.new.moves) }
+        ensures none { result ≡ None → NoMoves self.old self.old.moves (length self.old.files) }
+        ensures done { result ≡ None → length self.old.files ≤ self.new.moves }
+        ensures same { self.new ≡ record self.old { moves = self.new.moves } }
+    {
+        match self.first_move() {
+            Some((index, deed)) => {
+                self.moves = index + 1;
+                Some(deed)
+            }
+            None => {
+                self.moves = self.offers.len();
+                None
+            }
+        }
+    }
+
+    /// The same, where it is allowed.
+    fn move_if(&mut self, moves: bool) -> Option<Deed>
+        ensures rules { IfSome result (MayDo self.old) }
+        ensures kind { IfSome result IsMove }
+        ensures allowed { IfSome result (λ _. moves ≡ true) }
+        ensures passed { NoMoves self.old self.old.moves (self.new.moves - 1) }
+        ensures forward { IfSome result (λ _. self.old.moves < self.new.moves) }
+        ensures none { result ≡ None → NoMovesLeft self.old moves }
+        ensures done { result ≡ None → moves ≡ true → length self.old.files ≤ self.new.moves }
+        ensures same { self.new ≡ record self.old { moves = self.new.moves } }
+    {
+        if moves { self.next_move() } else { None }
+    }
+
+    /// Whether the file at an index is read or refused now.
+    fn other_at(&self, index: usize) -> Option<Deed>
+        requires { index < length self.now.files }
+        ensures some { IfSome result (MayDo self.now) }
+        ensures kind { IfSome result IsOtherDeed }
+        ensures none { result ≡ None → NoOthers self.now index (index + 1) }
+    {
+        let offer = &self.offers[index];
+        let flies = is_under_way(self.window.numbers(), offer.request.number);
+        other(offer, flies, self.looked)
+    }
+
+    /// The first file of those that are left that is read or refused.
+    fn first_other(&self) -> Option<(usize, Deed)>
+        ensures within { IfSome result (λ p. (self.now.others ≤ p.0) × (p.0 < length self.now.files)) }
+        ensures before { IfSome result (λ p. NoOthers self.now self.now.others p.0) }
+        ensures rules { IfSome result (λ p. MayDo self.now p.1) }
+        ensures kind { IfSome result (λ p. IsOtherDeed p.1) }
+        ensures none { result ≡ None → NoOthers self.now self.now.others (length self.now.files) }
+    {
+        for index in self.others..self.offers.len() {
+            if let Some(deed) = self.other_at(index) {
+                return Some((index, deed));
+            }
+        }
+        None
+    }
+
+    /// The same, and the work goes on behind it.
+    fn next_other(&mut self) -> Option<Deed>
+        ensures rules { IfSome result (MayDo self.old) }
+        ensures kind { IfSome result IsOtherDeed }
+        ensures passed { NoOthers self.old self.old.others (self.new.others - 1) }
+        ensures forward { IfSome result (λ _. self.old.others < self.new.others) }
+        ensures within { IfSome result (λ _. self.new.others ≤ length self.old.files) }
+        ensures none { result ≡ None → NoOthers self.old self.old.others (length self.old.files) }
+        ensures done { result ≡ None → self.new.others ≡ length self.old.files }
+        ensures same { self.new ≡ record self.old { others = self.new.others; row = row_after result self.old.row } }
+    {
+        match self.first_other() {
+            Some((index, deed)) => {
+                self.others = index + 1;
+                self.row = 0;
+                Some(deed)
+            }
+            None => {
+                self.others = self.offers.len();
+                None
+            }
+        }
+    }
+
+    /// The moment since which the station may be asked for the file at an index.
+    fn moment_at(&self, index: usize) -> Option<u64>
+        requires { index < length self.now.files }
+        ensures { (d : Offer) → result ≡ ask_moment_of self.now (slice_index_or self.now.files index d) }
+    {
+        let offer = &self.offers[index];
+        let flies = is_under_way(self.window.numbers(), offer.request.number);
+        ask_moment(offer, &self.released, flies, self.looked)
+    }
+
+    /// The file for which the station may be asked whose moment came first, with that moment.
+    fn soonest(&self) -> Option<(usize, u64)>
+        ensures { MatchSoonest self.now (length self.now.files) result }
+    {
+        let mut first = None;
+        for index in 0..self.offers.len() {
+            first = sooner(first, index, self.moment_at(index));
+        }
+        first
+    }
+
+    /// The same, where it is left to see for which the station may be asked.
+    fn first_ask(&self) -> Option<usize>
+        ensures within { IfSome result (λ index. index < length self.now.files) }
+        ensures some { IfSome result (λ index. IsSoonest self.now index) }
+        ensures none { result ≡ None → NoAsks self.now }
+        ensures asks { IfSome result (λ _. self.now.asks ≡ true) }
+    {
+        if !self.asks {
+            return None;
+        }
+        match self.soonest() {
+            Some((index, _)) => Some(index),
+            None => None,
+        }
+    }
+
+    /// What the file at an index asks for.
+    fn request_at(&self, index: usize) -> Request
+        requires { index < length self.now.files }
+        ensures { (d : Offer) → (slice_index_or self.now.files index d).request ≡ result }
+    {
+        self.offers[index].request
+    }
+
+    /// Asks for the file at an index, which asks for this, where there is room in the window: it is under way from now on. It is left to see for which others
+    /// the station may be asked.
+    fn ask_at(&mut self, index: usize, request: Request) -> Option<Deed>
+        requires within { index < length self.old.files }
+        requires request { (d : Offer) → (slice_index_or self.old.files index d).request ≡ request }
+        requires soonest { IsSoonest self.old index }
+        requires left { self.old.asks ≡ true }
+        ensures rules { IfSome result (MayDo self.old) }
+        ensures kind { IfSome result (IsAskOf self.old index) }
+        ensures none { result ≡ None → 16 ≤ length self.old.window }
+        ensures same { self.new ≡ record self.old { asks = self.new.asks; row = row_after result self.old.row; window = window_after result self.old.window; files = files_after result self.old.files } }
+        ensures asks { self.new.asks ≡ true }
+    {
+        let found = take_off(&mut self.window, &mut self.offers, &request);
+        count_if(&mut self.row, found);
+        ask_if(found, &request)
+    }
+
+    /// Asks for the file whose moment came first, where that is allowed and there is room; where there is none, another is read or
+    /// refused.
+    fn ask_or_other(&mut self, asks: bool) -> Option<Deed>
+        ensures rules { IfSome result (MayDo self.old) }
+        ensures turn { IsAskOrOther self.old asks result }
+        ensures still { result ≡ None → IsStill self.old self.new asks }
+        ensures passed { NoOthers self.old self.old.others (self.new.others - 1) }
+        ensures forward { IfSome result (AdvancesOther self.old self.new) }
+        ensures same { self.new ≡ record self.old { others = self.new.others; asks = self.new.asks; row = row_after result self.old.row; window = window_after result self.old.window; files = files_after result self.old.files } }
+    {
+        match self.first_ask() {
+            Some(index) => {
+                let request = self.request_at(index);
+                if asks {
+                    self.ask_at(index, request)
+                } else {
+                    None
+                }
+            }
+            None => {
+                self.asks = false;
+                self.next_other()
+            }
+        }
+    }
+
+    /// What is read or refused next, where eight files were asked for in a row.
+    fn overdue(&mut self) -> Option<Deed>
+        ensures rules { IfSome result (MayDo self.old) }
+        ensures kind { IfSome result IsOtherDeed }
+        ensures row { IfSome result (λ _. 8 ≤ self.old.row) }
+        ensures early { result ≡ None → IsEarly self.old self.new }
+        ensures passed { NoOthers self.old self.old.others (self.new.others - 1) }
+        ensures forward { IfSome result (λ _. self.old.others < self.new.others) }
+        ensures within { IfSome result (λ _. self.new.others ≤ length self.old.files) }
+        ensures same { self.new ≡ record self.old { others = self.new.others; row = row_after result self.old.row } }
+    {
+        if self.row >= MOST_IN_A_ROW {
+            self.next_other()
+        } else {
+            None
+        }
+    }
+
+    /// What comes behind the moves.
+    fn behind_moves(&mut self, asks: bool) -> Option<Deed>
+        ensures rules { IfSome result (MayDo self.old) }
+        ensures turn { IsBehindMoves self.old asks result }
+        ensures rests { result ≡ None → RestsButMoves self.new asks }
+        ensures passed { NoOthers self.old self.old.others (self.new.others - 1) }
+        ensures forward { IfSome result (AdvancesOther self.old self.new) }
+        ensures same { self.new ≡ record self.old { others = self.new.others; asks = self.new.asks; row = row_after result self.old.row; window = window_after result self.old.window; files = files_after result self.old.files } }
+    {
+        match self.overdue() {
+            Some(deed) => Some(deed),
+            None => self.ask_or_other(asks),
+        }
+    }
+
+    /// What is to be done next, of what is allowed, if anything is left since the last look: first, files are moved whose numbers were
+    /// released; then the station is asked for files, for the one first whose moment came first; then files are read, or refused, but one
+    /// of these after eight that were asked for. A file that is asked for is under way, until it is told what became of its number.
+    pub fn next(&mut self, allowed: Allowed) -> Option<Deed>
+        ensures rules { IfSome result (MayDo self.old) }
+        ensures turn { IsInTurn self.old allowed result }
+        ensures rests { result ≡ None → Rests self.new allowed }
+        ensures moves { NoMoves self.old self.old.moves (self.new.moves - 1) }
+        ensures others { NoOthers self.old self.old.others (self.new.others - 1) }
+        ensures forward { IfSome result (Advances self.old self.new) }
+        ensures same { self.new ≡ record self.old { moves = self.new.moves; others = self.new.others; asks = self.new.asks; row = row_after result self.old.row; window = window_after result self.old.window; files = files_after result self.old.files } }
+    {
+        match self.move_if(allowed.moves) {
+            Some(deed) => Some(deed),
+            None => self.behind_moves(allowed.asks),
+        }
+    }
+
+    /// How the file that asks for this leaves the offers that was released under its number, if its moment has come.
+    fn leaving_of(&self, request: Request) -> Option<Deed>
+        ensures rules { IfSome result (MayDo self.now) }
+        ensures none { result ≡ None → HasLeft self.now request }
+    {
+        match index_of(self.offers.as_slice(), rank(request)) {
+            Some(index) => self.move_at(index),
+            None => None,
+        }
+    }
+
+    /// How a file of a number leaves the offers: once the number is released, and what was released is written, each of them that was
+    /// read does, one after the other.
+    pub fn leaving(&self, number: Number) -> Option<Deed>
+        ensures rules { IfSome result (MayDo self.now) }
+        ensures none { result ≡ None → HasLeft self.now (tape_of number) × HasLeft self.now (withdrawal_of number) × HasLeft self.now (search_of number) }
+    {
+        let tape = self.leaving_of(request_of(number, Kind::Tape));
+        if tape.is_some() {
+            return tape;
+        }
+        let withdrawal = self.leaving_of(request_of(number, Kind::Withdraw));
+        if withdrawal.is_some() {
+            return withdrawal;
+        }
+        self.leaving_of(request_of(number, Kind::Seek))
+    }
+}

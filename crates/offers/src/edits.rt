@@ -1,0 +1,87 @@
+//! News of one file among the offers, and of all files of a number.
+
+ghost use Rattle.std.specs.Prelude.{◌≡◌, ◌<◌, ℕ, MatchOption, None, length};
+ghost use Rattle.std.specs.Ordering.{nat_cmp};
+ghost use Rattle.offers.specs.Order.{rank, file_at, Rises, IsPlaceOf};
+ghost use Rattle.offers.specs.Stages.{after, changed, all_changed};
+
+use crate::offer::Offer;
+use crate::order::rank;
+use crate::stage::{Landing, News, Stage};
+use ballots::Number;
+use folders::{Kind, Request};
+use std::cmp::Ordering;
+use std::mem;
+
+/// How a file stands to a place.
+fn compare(offer: &Offer, place: u32) -> Ordering
+    ensures { result ≡ nat_cmp (rank offer.now.request) place }
+{
+    rank(offer.request).cmp(&place)
+}
+
+/// Where the file of a place stands among files in order.
+pub(crate) fn index_of(offers: &[Offer], place: u32) -> Option<usize>
+    requires { Rises offers.now }
+    ensures { MatchOption result (file_at offers.now place ≡ None) (IsPlaceOf offers.now place) }
+{
+    match offers.binary_search_by(|offer| compare(offer, place)) {
+        Ok(index) => Some(index),
+        Err(_) => None,
+    }
+}
+
+/// Takes in some news of the file at an index.
+fn tell_at(offers: &mut Vec<Offer>, index: usize, news: News, now: u64)
+    requires rises { Rises offers.old.items }
+    requires within { index < length offers.old.items }
+    ensures { (place : ℕ) → IsPlaceOf offers.old.items place index → offers.new.items ≡ changed place (after news now) offers.old.items }
+{
+    let offer = &mut offers[index];
+    let stage = mem::replace(&mut offer.stage, Stage::Gone);
+    offer.stage = stage.after(news, now);
+}
+
+/// Takes in some news of a file, if it is there.
+pub(crate) fn tell(offers: &mut Vec<Offer>, request: Request, news: News, now: u64)
+    requires { Rises offers.old.items }
+    ensures news { offers.new.items ≡ changed (rank request) (after news now) offers.old.items }
+    ensures rises { Rises offers.new.items }
+{
+    if let Some(index) = index_of(offers.as_slice(), rank(request)) {
+        tell_at(offers, index, news, now);
+    }
+}
+
+/// Takes in what became of a number, of each file of it that is there.
+pub(crate) fn tell_all(offers: &mut Vec<Offer>, number: Number, landing: Landing, now: u64)
+    requires { Rises offers.old.items }
+    ensures news { offers.new.items ≡ all_changed number (after (News.Landed landing) now) offers.old.items }
+    ensures rises { Rises offers.new.items }
+{
+    tell(
+        offers,
+        request_of(number, Kind::Tape),
+        News::Landed(landing),
+        now,
+    );
+    tell(
+        offers,
+        request_of(number, Kind::Withdraw),
+        News::Landed(landing),
+        now,
+    );
+    tell(
+        offers,
+        request_of(number, Kind::Seek),
+        News::Landed(landing),
+        now,
+    );
+}
+
+/// What a file of a number and a kind asks for.
+pub(crate) fn request_of(number: Number, kind: Kind) -> Request
+    ensures { result ≡ record { number = number; kind = kind } }
+{
+    Request { number, kind }
+}

@@ -1,0 +1,227 @@
+//! A book of offers beside the files that lie among the offers: what happens, and what is to be done then.
+
+use ballots::Number;
+use folders::{Kind, Place, Request, Stamp, Wish};
+use offers::{Allowed, Book, Deed, Found, Reason};
+use std::alloc::Global;
+use tape_frames::{Entry, Tape, TapeFault};
+
+/// What is to be done with a file.
+#[derive(Clone, Copy, PartialEq, Eq)]
+pub enum Told {
+    Nothing,
+    Read,
+    /// It is read, and was replaced while it was under way.
+    ReadAnew,
+    Ask,
+    Sent,
+    Lost,
+    Refuse,
+}
+
+/// One thing that happens, or that has to be so. Moments are in milliseconds.
+#[derive(Clone, Copy)]
+pub enum Event {
+    /// A file of this number and kind is laid, behind the others.
+    Lay(u32, Kind),
+    /// The file at this place is written anew: it has this length.
+    Change(usize, u64),
+    /// The last file is taken away.
+    Take,
+    /// A look, at this moment.
+    Look(u64),
+    /// The next deed is this one, with a file of this number, or 0; files may be moved, and asked for.
+    Next(Told, u32),
+    /// The same, where no file may be moved.
+    Unmoved(Told, u32),
+    /// The same, where none may be asked for.
+    Unasked(Told, u32),
+    /// The file of this number is moved once the number was released: to this place, or not.
+    Leaving(Told, u32),
+    /// The file was read: a tape holds one story, the same each time, and a withdrawal and a search are what they are.
+    Holds(u32, Kind),
+    /// The file was read, and holds no tape.
+    HoldsNone(u32, Kind),
+    /// It could not be read or moved, at this moment.
+    CouldNot(u32, Kind, u64),
+    /// It was moved.
+    Moved(u32, Kind),
+    /// What was asked for the number came to nothing, at this moment; whether it was under way.
+    Ended(u32, u64, bool),
+    /// The station has it open already, at this moment.
+    Busy(u32, u64),
+    /// The station never takes it.
+    Barred(u32),
+    /// The number was withdrawn.
+    Withdrawn(u32),
+    /// The story was released under it.
+    Story(u32),
+    /// So many numbers are under way.
+    UnderWay(usize),
+}
+
+/// A book, and what lies among the offers.
+#[derive(Drop)]
+struct Shelf {
+    alloc: Global,
+    book: Book,
+    found: Vec<Found>,
+}
+
+fn request(number: u32, kind: Kind) -> Option<Request> {
+    let number = Number::new(number)?;
+    Some(Request { number, kind })
+}
+
+/// A deed in a word, and its number.
+fn word_of(deed: Option<Deed>) -> (Told, u32) {
+    match deed {
+        None => (Told::Nothing, 0),
+        Some(
+            Deed::Read {
+                request,
+                replaced,
+                ..
+            },
+        ) => {
+            let told = if replaced { Told::ReadAnew } else { Told::Read };
+            (told, request.number.get())
+        }
+        Some(Deed::Ask { request }) => (Told::Ask, request.number.get()),
+        Some(Deed::Move { request, to, .. }) => {
+            let told = if to == Place::Sent {
+                Told::Sent
+            } else {
+                Told::Lost
+            };
+            (told, request.number.get())
+        }
+        Some(Deed::Refuse { request, .. }) => (Told::Refuse, request.number.get()),
+    }
+}
+
+/// The story that each tape holds.
+fn story(alloc: Global) -> Option<Entry> {
+    let tape = Tape::from_bytes(alloc, &[1, 2, 3]).ok()?;
+    Some(Entry::Tape(tape))
+}
+
+impl Shelf {
+    fn lay(&mut self, number: u32, kind: Kind) -> Option<bool> {
+        let request = request(number, kind)?;
+        let stamp = Stamp {
+            length: 0,
+            changed: (0, 0),
+            touched: (0, 0),
+        };
+        Some(self.found.push(Found { request, stamp }).is_ok())
+    }
+
+    fn change(&mut self, place: usize, length: u64) -> Option<bool> {
+        self.found.get_mut(place)?.stamp.length = length;
+        Some(true)
+    }
+
+    fn next(&mut self, moves: bool, asks: bool, wanted: (Told, u32)) -> bool {
+        word_of(self.book.next(Allowed { moves, asks })) == wanted
+    }
+
+    fn leaving(&self, number: u32, wanted: Told) -> Option<bool> {
+        let leaving = word_of(self.book.leaving(Number::new(number)?));
+        Some(leaving.0 == wanted)
+    }
+
+    fn holds(&mut self, number: u32, kind: Kind) -> Option<bool> {
+        let request = request(number, kind)?;
+        let wish = match kind {
+            Kind::Tape => Wish::Offered(story(self.alloc)?),
+            Kind::Withdraw => Wish::Offered(Entry::Void),
+            Kind::Seek => Wish::Sought,
+        };
+        self.book.was_read(request, Ok(wish));
+        Some(true)
+    }
+
+    fn holds_none(&mut self, number: u32, kind: Kind) -> Option<bool> {
+        self.book.was_read(request(number, kind)?, Err(Reason::Tape(TapeFault::Empty)));
+        Some(true)
+    }
+
+    fn could_not(&mut self, number: u32, kind: Kind, now: u64) -> Option<bool> {
+        self.book.could_not(request(number, kind)?, now);
+        Some(true)
+    }
+
+    fn moved(&mut self, number: u32, kind: Kind) -> Option<bool> {
+        self.book.moved(request(number, kind)?);
+        Some(true)
+    }
+
+    fn ended(&mut self, number: u32, now: u64, was: bool) -> Option<bool> {
+        Some(self.book.ended(Number::new(number)?, now) == was)
+    }
+
+    fn busy(&mut self, number: u32, now: u64) -> Option<bool> {
+        Some(self.book.busy(Number::new(number)?, now))
+    }
+
+    fn barred(&mut self, number: u32) -> Option<bool> {
+        let reason = Reason::Tape(TapeFault::Empty);
+        Some(self.book.barred(Number::new(number)?, reason))
+    }
+
+    fn released(&mut self, number: u32, entry: Entry) -> Option<bool> {
+        let number = Number::new(number)?;
+        Some(self.book.released(number, entry, 0).is_ok())
+    }
+
+    /// What the station or the folders tell.
+    fn hears(&mut self, event: Event) -> Option<bool> {
+        match event {
+            Event::Holds(number, kind) => self.holds(number, kind),
+            Event::HoldsNone(number, kind) => self.holds_none(number, kind),
+            Event::CouldNot(number, kind, now) => self.could_not(number, kind, now),
+            Event::Moved(number, kind) => self.moved(number, kind),
+            Event::Ended(number, now, was) => self.ended(number, now, was),
+            Event::Busy(number, now) => self.busy(number, now),
+            Event::Barred(number) => self.barred(number),
+            Event::Withdrawn(number) => self.released(number, Entry::Void),
+            Event::Story(number) => {
+                let entry = story(self.alloc)?;
+                self.released(number, entry)
+            }
+            _ => None,
+        }
+    }
+
+    /// Whether what has to be is, once this has happened.
+    fn takes(&mut self, event: Event) -> Option<bool> {
+        match event {
+            Event::Lay(number, kind) => self.lay(number, kind),
+            Event::Change(place, length) => self.change(place, length),
+            Event::Take => Some(self.found.pop().is_some()),
+            Event::Look(now) => Some(self.book.see(&self.found, now).is_ok()),
+            Event::Next(told, number) => Some(self.next(true, true, (told, number))),
+            Event::Unmoved(told, number) => Some(self.next(false, true, (told, number))),
+            Event::Unasked(told, number) => Some(self.next(true, false, (told, number))),
+            Event::Leaving(told, number) => self.leaving(number, told),
+            Event::UnderWay(many) => Some(self.book.under_way() == many),
+            _ => self.hears(event),
+        }
+    }
+}
+
+/// The place of the first event of a story after which something is not as it has to be; how many events there are where there is none.
+pub fn first_fault(alloc: Global, story: &[Event]) -> usize {
+    let mut shelf = Shelf {
+        alloc,
+        book: Book::new(alloc),
+        found: Vec::new(alloc),
+    };
+    for (place, event) in story.iter().enumerate() {
+        if shelf.takes(*event) != Some(true) {
+            return place;
+        }
+    }
+    story.len()
+}
