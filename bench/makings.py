@@ -121,11 +121,11 @@ def kill_some(makings, most, span):
 class Disk:
     """An ext4 in a file, mounted in a folder."""
 
-    def __init__(self, folder):
+    def __init__(self, folder, megabytes=32):
         self.image, self.place = os.path.join(folder, 'disk.img'), os.path.join(folder, 'disk')
         os.mkdir(self.place)
         with open(self.image, 'wb') as image:
-            image.truncate(32 << 20)
+            image.truncate(megabytes << 20)
         quietly('mkfs.ext4', '-q', self.image)
         self.mount()
 

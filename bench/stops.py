@@ -8,8 +8,8 @@ that were built of them, and those that were not are proved and built there firs
 over them with modules of the crate `database_tests`; it is tried as it is, and not proved again (`rt try`), which takes
 some 20 minutes of one core. The interpreter, which `rt try` runs first, gives it up: what is printed is the native run's.
 
-The works: the tables are made; two rows are saved; the rows go over to layout 2; a station of one is offered a tape; a run of `serve` is offered it. Of
-each, first the log and then the database's file fails at its first call, at its second, and so on, until a run comes to
+The works: the tables are made; two rows are saved; the rows go over to layout 2; a station of one is offered a tape; a run of `serve` is offered it; a life
+of a row file begins, two rows are saved in it, and it ends. Of each, first the log and then the database's file fails at its first call, at its second, and so on, until a run comes to
 its end. After each stop the disks lose what was not synced, are opened again, and the rows are taken up: they are not
 there or empty, after a stop in `create`; all as they were, in the one layout or in the other, after one in an upgrade; else
 those that were acknowledged, and at most the one that was asked for; and a new
@@ -30,7 +30,7 @@ MODULES = {
     "stops": ("disks", "runs", "saves", "stations", "works"),
 }
 # The libraries that they name.
-NAMES = "ballots tape_frames saved_rows acceptor_store code_table widths station wire command_ends serve_command sqlite sqlite_disk fixtures"
+NAMES = "ballots tape_frames saved_rows acceptor_store code_table widths station wire command_ends serve_command row_files row_life sqlite sqlite_disk fixtures"
 SECONDS = 7200
 
 

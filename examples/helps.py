@@ -13,7 +13,7 @@ import tempfile
 import time
 
 EXAMPLES = os.path.dirname(os.path.abspath(__file__))
-COMMANDS = ["answer", "check", "draw", "rows", "upgrade", "serve", "run", "rehearse"]
+COMMANDS = ["answer", "check", "draw", "punch", "spell", "fit", "rows", "upgrade", "serve", "run", "rehearse"]
 # the rows that the help of `rows` lists, as the stock library saves them
 TABLES = """
 CREATE TABLE station (one INTEGER PRIMARY KEY CHECK (one = 1),

@@ -8,29 +8,32 @@ import os
 import re
 import sys
 
-# the constants of the tests, and the files that they are copies of
+# the constants of the tests by their source, and the files that they are copies of
 COPIES = {
-    "CODES": "codes.toml",
-    "WIDTHS": "widths.toml",
-    "FLOOD": "flood.tape",
-    "HARVEST": "harvest.tape",
-    "OVERSET": "overset.tape",
+    ("fixtures/src/files", "CODES"): "codes.toml",
+    ("fixtures/src/files", "WIDTHS"): "widths.toml",
+    ("fixtures/src/tapes", "FLOOD"): "flood.tape",
+    ("fixtures/src/tapes", "HARVEST"): "harvest.tape",
+    ("fixtures/src/tapes", "OVERSET"): "overset.tape",
+    ("setting_tests/src/texts/wire", "CODES"): "wire/codes.toml",
+    ("setting_tests/src/texts/wire", "WIDTHS"): "wire/widths.toml",
+    ("setting_tests/src/texts/wire", "RIVER"): "wire/river.txt",
 }
 
 constants = {}
-for source in ["files", "tapes"]:
-    with open(f"../crates/fixtures/src/{source}.rt", encoding="utf-8", newline="") as file:
+for source in sorted({source for source, _ in COPIES}):
+    with open(f"../crates/{source}.rt", encoding="utf-8", newline="") as file:
         text = file.read()
-    for name, raw in re.findall(r'pub const (\w+): &str = r#"(.*?)"#;', text, re.DOTALL):
-        constants[name] = raw.encode()
+    for name, raw in re.findall(r'pub const (\w+): &str =\s+r#"(.*?)"#;', text, re.DOTALL):
+        constants[source, name] = raw.encode()
     for name, frames in re.findall(r"pub const (\w+): &\[u8\] = &\[([0-9, \n]*)\];", text):
-        constants[name] = bytes(int(frame) for frame in frames.split(",") if frame.strip())
+        constants[source, name] = bytes(int(frame) for frame in frames.split(",") if frame.strip())
 
 differing = []
-for name, path in COPIES.items():
+for (source, name), path in COPIES.items():
     with open(path, "rb") as file:
         example = file.read()
-    constant = constants.get(name, b"")
+    constant = constants.get((source, name), b"")
     if constant != example:
         shared = os.path.commonprefix([constant, example])
         line = shared.count(b"\n") + 1
@@ -83,6 +86,7 @@ def differing_in(page, work):
     for name in os.listdir("."):
         if name.endswith((".toml", ".tape", ".script")):
             shutil.copy(name, os.path.join(work, "examples"))
+    shutil.copytree("wire", os.path.join(work, "examples", "wire"))
     shutil.copytree("../docs", os.path.join(work, "docs"))
     os.makedirs(os.path.join(work, "crates/circuitd/out"))
     os.symlink(sys.argv[1], os.path.join(work, "crates/circuitd/out/circuitd"))

@@ -6,7 +6,8 @@ import time
 
 import old_rows
 import stage
-from stage import BEING_MADE, HEAD, LOG_ALONE, MADE, MISSING, NO_DATABASE, NOT_OPENED, RELEASE, UNMADE
+from stage import IN_USE as HELD
+from stage import BEING_MADE, HEAD, LOG_ALONE, MADE, MISSING, NO_DATABASE, NOT_OPENED, OTHER_LOG, RELEASE, UNMADE, WITHOUT_LOG
 
 NEW = 'made station1.db: station 1 of 1 circuit 7 layout 2\n'
 SAVED = HEAD + '12 1.1 1.1 01020301030204\n'
@@ -28,22 +29,35 @@ TABLE = {
     'foreign': (NO_DATABASE, NO_DATABASE, NO_DATABASE),
     'half made': (UNMADE, UNMADE, {CREATE: MADE, FIRST: MADE, PLAIN: UNMADE, ROWS: UNMADE, UPGRADE: UNMADE}),
     'of 0.2.0': (UNMADE, UNMADE, {CREATE: MADE, FIRST: MADE, PLAIN: '', ROWS: SAVED, UPGRADE: 'layout 2\n'}),
-    'made': ({CREATE: MADE, FIRST: MADE, PLAIN: '', ROWS: HEAD, UPGRADE: 'layout 2\n'},) * 2
+    'made': ({CREATE: MADE, FIRST: MADE, PLAIN: WITHOUT_LOG, ROWS: WITHOUT_LOG, UPGRADE: WITHOUT_LOG},) * 2
             + ({CREATE: MADE, FIRST: MADE, PLAIN: '', ROWS: SAVED, UPGRADE: 'layout 2\n'},),
 }
+
+# The four bytes of a file's mark, and what their first says.
+MARK, AT_REST, IN_USE = slice(60, 64), 0xc0, 0xc1
+
+
+def pair_at(at, name='station1.db'):
+    """A row file and its log."""
+    return at.read(name), at.read(name + '-wal')
+
+
+def killed_in_life(at, number, tape, config='one.toml'):
+    """Starts a station that offers a tape, and kills it as it has released the number: the row stands in the log alone."""
+    with open(at.path('printed'), 'wb') as printed:
+        serving = at.start(f'serve {config} --turns 1000000 --number {number} --tape {tape}', stdout=printed)
+    released = f'release {number} '.encode()
+    stage.within(10, lambda: at.read('printed').startswith(released) and at.read('printed').endswith(b'\n'), f'{number} is released')
+    serving.send_signal(signal.SIGKILL)
+    serving.wait()
 
 
 def killed_rows(at):
     """The row file of a station that was killed as it had released number 12, and its log: the row stands in the log alone."""
     at.ends(CREATE, 0, NEW)
-    with open(at.path('printed'), 'wb') as printed:
-        serving = at.start('serve one.toml --turns 1000000 --number 12 --tape flood.tape', stdout=printed)
-    stage.within(10, lambda: at.read('printed') == RELEASE.encode(), 'number 12 is released')
-    serving.send_signal(signal.SIGKILL)
-    serving.wait()
-    pair = at.read('station1.db'), at.read('station1.db-wal')
-    os.remove(at.path('station1.db'))
-    os.remove(at.path('station1.db-wal'))
+    killed_in_life(at, 12, 'flood.tape')
+    pair = pair_at(at)
+    lay(at, None, None)
     return pair
 
 
@@ -64,8 +78,7 @@ def comes(at, cell, words, wanted):
     status, out, err = at.run(words)
     if wanted.startswith('store: '):
         stage.wants((status, out, err) == (3, '', wanted), f'{cell}: {words} ended with {status}, {out!r}, {err!r}')
-        opened = wanted == UNMADE and cell[1] == 'own'
-        stage.wants(opened or at.seen() == before, f'{cell}: {words} was refused, and has changed something')
+        stage.wants(at.seen() == before, f'{cell}: {words} was refused, and has changed something')
         return
     stage.wants((status, out, err) == (0, wanted, ''), f'{cell}: {words} ended with {status}, {out!r}, {err!r}')
     saved = SAVED if wanted == SAVED or cell in (('of 0.2.0', 'own'), ('made', 'own')) else HEAD
@@ -91,6 +104,146 @@ def each_file_beside_each_log(at):
                 comes(at, (name, log), words, comes_to)
                 cells += 1
     stage.wants(cells == 105, f'{cells} cells')
+
+
+def saved(at, *numbers):
+    """What `rows` prints of these numbers, each with the tape that was offered for it."""
+    tapes = {12: 'flood.tape', 13: 'harvest.tape', 14: 'flood.tape'}
+    return HEAD + ''.join(f'{number} 1.1 1.1 {at.read(tapes[number]).hex()}\n' for number in numbers)
+
+
+def three_lives(at):
+    """The pairs that three lives of a station leave, each killed as it had released one number more."""
+    at.ends(CREATE, 0, NEW)
+    pairs = []
+    for number, tape in ((12, 'flood.tape'), (13, 'harvest.tape'), (14, 'flood.tape')):
+        killed_in_life(at, number, tape)
+        pairs.append(pair_at(at))
+    lay(at, None, None)
+    return pairs
+
+
+def neighbours_log(at):
+    """The log of another station, which released another tape under number 12 and was killed."""
+    at.write('eight.toml', at.read('one.toml').replace(b'circuit = 7', b'circuit = 8').replace(b'station1.db', b'eight.db'))
+    at.ends('create eight.toml', 0, 'made eight.db: station 1 of 1 circuit 8 layout 2\n')
+    killed_in_life(at, 12, 'harvest.tape', 'eight.toml')
+    log = at.read('eight.db-wal')
+    for name in ('eight.toml', 'eight.db', 'eight.db-wal'):
+        os.remove(at.path(name))
+    return log
+
+
+def taken(at, words, listed):
+    """A pair is taken, with all that it had."""
+    at.ends(words, 0, {PLAIN: '', ROWS: listed, UPGRADE: 'layout 2\n'}[words])
+    stage.wants(at.read('station1.db')[60] == AT_REST, f'{words} has not left it at rest')
+    at.ends(ROWS, 0, listed)
+
+
+def refused(at, words, told):
+    """A pair is refused, and stays as it was."""
+    before = at.seen()
+    at.ends(words, 3, '', told)
+    stage.wants(at.seen() == before, f'{words} was refused, and has changed something')
+
+
+def each_mark_beside_each_log(at):
+    """A file that was never marked, one at rest and one in use, beside each log: a log that is missing, or of another time, or that
+    was cut off within its first frame, is noticed."""
+    (_, older), (file, own), (_, newer) = three_lives(at)
+    other = neighbours_log(at)
+    stage.wants(file[60] == IN_USE, 'it is not in use')
+    lay(at, file, own)
+    at.ends(ROWS, 0, saved(at, 12, 13))
+    resting, rest_log = pair_at(at)
+    stage.wants(resting[60] == AT_REST, 'it is not at rest')
+    unmarked = file[:60] + bytes(4) + file[64:]
+    first, both, all_three = (saved(at, *numbers) for numbers in ((12,), (12, 13), (12, 13, 14)))
+    # Of a file without a mark nothing is known: beside a log of another station it shows what that has saved, as it always did.
+    others = HEAD + f'12 1.1 1.1 {at.read("harvest.tape").hex()}\n'
+    cells = {
+        'unmarked': (unmarked, {
+            'none': (None, first), 'empty': (b'', first), 'its header': (own[:32], first), 'cut': (own[:41], first),
+            'own': (own, both), 'older': (older, first), 'newer': (newer, all_three), 'another': (other, others)}),
+        'at rest': (resting, {
+            'none': (None, both), 'empty': (b'', both), 'its header': (rest_log[:32], both), 'cut': (own[:41], both),
+            'own': (rest_log, both), 'older': (older, OTHER_LOG), 'newer': (newer, OTHER_LOG), 'another': (other, OTHER_LOG)}),
+        'in use': (file, {
+            'none': (None, WITHOUT_LOG), 'empty': (b'', WITHOUT_LOG), 'its header': (own[:32], OTHER_LOG), 'cut': (own[:41], OTHER_LOG),
+            'own': (own, both), 'older': (older, OTHER_LOG), 'newer': (newer, OTHER_LOG), 'another': (other, OTHER_LOG)}),
+    }
+    tried = 0
+    for file, logs in cells.values():
+        for log, comes_to in logs.values():
+            for words in COMMANDS:
+                lay(at, file, log)
+                if words in (CREATE, FIRST):
+                    refused(at, words, MADE)
+                elif comes_to.startswith('store: '):
+                    refused(at, words, comes_to)
+                else:
+                    taken(at, words, comes_to)
+                tried += 1
+    stage.wants(tried == 120, f'{tried} cells')
+
+
+def a_copy_without_its_log(at):
+    """A copy of the file alone is taken after a good end, and is refused in a life and after a kill."""
+    at.ends(CREATE, 0, NEW)
+    at.configure('copy.toml', 'copy.db')
+    at.write('copy.db', at.read('station1.db'))
+    at.ends('rows copy.db', 0, HEAD)
+    killed_in_life(at, 12, 'flood.tape')
+    os.remove(at.path('copy.db-wal'))
+    at.write('copy.db', at.read('station1.db'))
+    for words in ('rows copy.db', 'upgrade copy.db', 'serve copy.toml --turns 1'):
+        refused(at, words, WITHOUT_LOG)
+    at.ends('serve one.toml --turns 1', 0)
+    at.write('copy.db', at.read('station1.db'))
+    at.ends('rows copy.db', 0, SAVED)
+
+
+def starts_at_once(at):
+    """Of several starts at once each comes to its end or is told that another has the file, and what was released is kept."""
+    at.ends(CREATE, 0, NEW)
+    released = set()
+    for first in range(20, 60, 8):
+        starts = []
+        for number in range(first, first + 8):
+            with open(at.path(f'printed{number}'), 'wb') as printed, open(at.path(f'told{number}'), 'wb') as told:
+                words = f'serve one.toml --turns 1 --number {number} --tape flood.tape'
+                starts.append((number, at.start(words, stdout=printed, stderr=told)))
+        for number, start in starts:
+            status, told = start.wait(30), at.read(f'told{number}').decode()
+            stage.wants((status, told) in ((0, ''), (3, HELD), (4, 'socket: cannot bind\n')), f'{number} ended with {status}, {told!r}')
+            if at.read(f'printed{number}').startswith(b'release '):
+                released.add(number)
+    stage.wants(released, 'nothing was released')
+    status, listed, _ = at.run(ROWS)
+    found = {int(line.split()[0]) for line in listed.splitlines()[1:]}
+    stage.wants(status == 0 and released <= found, f'{ROWS}: {status}, {sorted(released - found)} are lost')
+    stage.wants(at.read('station1.db')[60] == AT_REST, 'it is not at rest')
+
+
+def a_database_of_another_program(at):
+    """A database without these tables is refused, and its user version stays, whatever it is."""
+    try:
+        import sqlite3
+    except ImportError as error:
+        raise stage.Skipped('no sqlite3 in this Python') from error
+    for version in (0, 1, 7, 20251127):
+        if os.path.exists(at.path('other.db')):
+            os.remove(at.path('other.db'))
+        other = sqlite3.connect(at.path('other.db'))
+        other.execute('CREATE TABLE note (id INTEGER PRIMARY KEY, title TEXT)')
+        other.execute(f'PRAGMA user_version = {version}')
+        other.commit()
+        other.close()
+        held = at.read('other.db')
+        at.ends('rows other.db', 3, '', UNMADE)
+        at.ends('upgrade other.db', 3, '', UNMADE)
+        stage.wants(at.read('other.db') == held, f'the database of version {version} has changed')
 
 
 def other_files(at):
@@ -239,6 +392,7 @@ def a_kill(at):
 
 
 PLAYS = [
-    each_file_beside_each_log, other_files, a_link_to_rows, a_log_that_is_none, permission_refused, a_making_under_way,
-    makings_at_once, killed_makings, a_file_of_two_names, a_kill,
+    each_file_beside_each_log, each_mark_beside_each_log, a_copy_without_its_log, starts_at_once, a_database_of_another_program,
+    other_files, a_link_to_rows, a_log_that_is_none, permission_refused, a_making_under_way, makings_at_once, killed_makings, a_file_of_two_names,
+    a_kill,
 ]

@@ -24,6 +24,24 @@ pub enum Asked<'a> {
         paths: TapePaths<'a>,
         page: Page,
     },
+    /// To punch the text at a path, with the ligatures that are named, as a tape for which this version has room.
+    Punch {
+        table: &'a str,
+        text: &'a str,
+        ligatures: Option<&'a str>,
+        room: Version,
+    },
+    /// To spell the tape at a path, and where `plain` is set as a reader reads it.
+    Spell {
+        table: &'a str,
+        tape: &'a str,
+        plain: bool,
+    },
+    /// To tell of each line how it fits, of a tape, or where `text` is set of a text.
+    Fit {
+        paths: TapePaths<'a>,
+        text: bool,
+    },
     /// To list the saved rows in the file at a path.
     Rows {
         path: &'a str,

@@ -11,6 +11,9 @@ const VERSION: &str = "0.3.0";
 /// The versions of packets and the layouts of saved rows, as `--wire` and `--layout` name them.
 const VERSIONS: &[&str] = &["1", "2"];
 
+/// How many frames a tape may have in layouts 1 and 2, as `--most` names them.
+const MOSTS: &[&str] = &["4096", "16384"];
+
 /// What a value has to be.
 #[derive(Clone, Copy)]
 enum Value {
@@ -18,6 +21,7 @@ enum Value {
     Circuit,
     Member,
     Version,
+    Most,
     Turns,
     Number,
 }
@@ -87,7 +91,7 @@ const WIDTHS: Given = Given {
 const TAPE: Given = Given {
     name: "TAPE",
     shape: Shape::Word(Value::Text),
-    help: "The tape, one frame per byte",
+    help: "The tape, one frame per byte; - is standard input",
 };
 
 const DB: Given = Given {
@@ -186,6 +190,100 @@ const DRAW: Form = Form {
             name: "html",
             shape: Shape::Flag,
             help: "Write a page in HTML, with the drawing, the fault in words and the galley",
+        },
+    ],
+};
+
+const PUNCH_EXAMPLE: &str = "\
+Example: a line of text, and what the linecaster will cast of its tape. The text is written as docs/NOTATION.md says:
+a letter is the matrix of that name, a blank is a spaceband, and a line end is the elevate code.
+
+  $ echo 'a b a b' | circuitd punch codes.toml - > line.tape
+  $ circuitd check codes.toml widths.toml line.tape
+  0001 J 0 0 a _3 b _3 a _2 b
+
+What the table has no frame for is told with its place:
+
+  $ echo 'a?' | circuitd punch codes.toml -
+  text: no code for \"?\" at line 1 column 2";
+
+const PUNCH: Form = Form {
+    name: "punch",
+    about: "Punches a text by a code table: writes its tape, one frame per byte",
+    example: PUNCH_EXAMPLE,
+    given: &[
+        TABLE,
+        Given {
+            name: "TEXT",
+            shape: Shape::Word(Value::Text),
+            help: "The text, as examples/wire/river.txt; - is standard input",
+        },
+        Given {
+            name: "ligatures",
+            shape: Shape::Choice(Choice {
+                shown: "NAMES",
+                value: Value::Text,
+                absence: Absence::Empty,
+                goes_with: None,
+            }),
+            help: "Letters that are one matrix where they stand outside braces, as fi,fl,ffi: the longest first",
+        },
+        Given {
+            name: "most",
+            shape: Shape::Choice(Choice {
+                shown: "N",
+                value: Value::Most,
+                absence: Absence::Default("16384"),
+                goes_with: None,
+            }),
+            help: "How many frames the tape may have: 4096 for a circuit of layout 1",
+        },
+    ],
+};
+
+const SPELL_EXAMPLE: &str = "\
+Example: the text of a tape, which is punched as that tape again, frame for frame:
+
+  $ circuitd spell codes.toml harvest.tape
+  B{@quadcenter}
+  A{@quadright}";
+
+const SPELL: Form = Form {
+    name: "spell",
+    about: "Spells a tape by a code table: writes the text of which it is punched",
+    example: SPELL_EXAMPLE,
+    given: &[
+        TABLE,
+        TAPE,
+        Given {
+            name: "plain",
+            shape: Shape::Flag,
+            help: "Write what a reader reads: letters, blanks and line ends alone",
+        },
+    ],
+};
+
+const FIT_EXAMPLE: &str = "\
+Example: how each line fits, whatever is wrong with the others: its slug, or why it has none, and its least and
+greatest width.
+
+  $ circuitd fit codes.toml widths.toml overset.tape
+  line  slug  verdict        least .. most of 30
+     1        overset 1         31 .. 39   ab ab a
+  1 of 1 lines do not set";
+
+const FIT: Form = Form {
+    name: "fit",
+    about: "Tells of each line of a tape how it fits, whatever is wrong with the others",
+    example: FIT_EXAMPLE,
+    given: &[
+        TABLE,
+        WIDTHS,
+        TAPE,
+        Given {
+            name: "text",
+            shape: Shape::Flag,
+            help: "The third file is a text, which is punched first",
         },
     ],
 };
@@ -411,14 +509,21 @@ const REHEARSE: Form = Form {
     ],
 };
 
-/// The commands, in the order in which the help lists them: those over tapes, and those over stations.
-const FORMS: &[Form] = &[
-    ANSWER, CHECK, DRAW, ROWS, UPGRADE, CREATION, SERVE, RUN, REHEARSE,
-];
+/// The commands over tapes, in the order in which the help lists them.
+const TAPE_FORMS: &[Form] = &[ANSWER, CHECK, DRAW, PUNCH, SPELL, FIT];
 
-/// The commands. This function alone names the table, since each that names it is proved with all of its texts.
-fn forms() -> &'static [Form<'static>] {
-    FORMS
+/// Those over stations, behind them.
+const STATION_FORMS: &[Form] = &[ROWS, UPGRADE, CREATION, SERVE, RUN, REHEARSE];
+
+/// The commands over tapes. This function alone names the table, since each that names it is proved with all of its texts; all
+/// commands in one table are more than the prover takes at once.
+fn tape_forms() -> &'static [Form<'static>] {
+    TAPE_FORMS
+}
+
+/// Those over stations, the same way.
+fn station_forms() -> &'static [Form<'static>] {
+    STATION_FORMS
 }
 
 /// How `clap` tests a value.
@@ -428,6 +533,7 @@ fn parser_of<'a>(value: Value) -> ValueParser<'a> {
         Value::Circuit => clap::value_parser!(u16),
         Value::Member => clap::value_parser!(u8).range(1..=i64::from(Member::LAST)),
         Value::Version => ValueParser::Names(VERSIONS),
+        Value::Most => ValueParser::Names(MOSTS),
         Value::Turns => clap::value_parser!(u32).range(1..=1_000_000),
         Value::Number => clap::value_parser!(u32),
     }
@@ -477,22 +583,39 @@ fn command_of<'a>(alloc: Global, form: Form<'a>) -> Result<Command<'a>, AllocErr
     Ok(command)
 }
 
-/// Whether the first word behind the program's name is this name, or that of no command.
-fn is_needed(name: &str, first: &str) -> bool {
-    name == first || !forms().iter().any(|form| form.name == first)
+/// Whether one of these commands has this name.
+fn is_among(forms: &[Form<'_>], name: &str) -> bool {
+    forms.iter().any(|form| form.name == name)
 }
 
-/// The grammar of a line whose first word, behind the program's own name, is this one: of the command that it names alone, since
-/// what is said of a command hangs on no other; of all commands for any other word.
-pub(crate) fn grammar<'a>(alloc: Global, first: &str) -> Result<Command<'a>, AllocError> {
-    let mut program = Command::new(alloc, "circuitd")
-        .version(VERSION)
-        .about("A wire circuit whose numbers never mean two stories")
-        .subcommand_required(true);
-    for form in forms() {
+/// Whether the first word behind the program's name is this name, or that of no command.
+fn is_needed(name: &str, first: &str) -> bool {
+    name == first || !(is_among(tape_forms(), first) || is_among(station_forms(), first))
+}
+
+/// The program with those of these commands that are needed.
+fn with_forms<'a>(
+    alloc: Global,
+    program: Command<'a>,
+    forms: &'a [Form<'a>],
+    first: &str,
+) -> Result<Command<'a>, AllocError> {
+    let mut program = program;
+    for form in forms {
         if is_needed(form.name, first) {
             program = program.subcommand(command_of(alloc, *form)?)?;
         }
     }
     Ok(program)
+}
+
+/// The grammar of a line whose first word, behind the program's own name, is this one: of the command that it names alone, since
+/// what is said of a command hangs on no other; of all commands for any other word.
+pub(crate) fn grammar<'a>(alloc: Global, first: &str) -> Result<Command<'a>, AllocError> {
+    let program = Command::new(alloc, "circuitd")
+        .version(VERSION)
+        .about("A wire circuit whose numbers never mean two stories")
+        .subcommand_required(true);
+    let program = with_forms(alloc, program, tape_forms(), first)?;
+    with_forms(alloc, program, station_forms(), first)
 }

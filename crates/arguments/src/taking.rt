@@ -57,6 +57,35 @@ fn draw_of<'a>(matches: &ArgMatches<'a>) -> Option<Asked<'a>> {
     Some(Asked::Draw { paths, page })
 }
 
+fn punch_of<'a>(matches: &ArgMatches<'a>) -> Option<Asked<'a>> {
+    let table = matches.get_str("TABLE")?;
+    let text = matches.get_str("TEXT")?;
+    let ligatures = matches.get_str("ligatures");
+    let room = match matches.get_str("most")? {
+        "4096" => Version::One,
+        _ => Version::Two,
+    };
+    Some(Asked::Punch {
+        table,
+        text,
+        ligatures,
+        room,
+    })
+}
+
+fn spell_of<'a>(matches: &ArgMatches<'a>) -> Option<Asked<'a>> {
+    let table = matches.get_str("TABLE")?;
+    let tape = matches.get_str("TAPE")?;
+    let plain = matches.get_flag("plain");
+    Some(Asked::Spell { table, tape, plain })
+}
+
+fn fit_of<'a>(matches: &ArgMatches<'a>) -> Option<Asked<'a>> {
+    let paths = tape_paths_of(matches)?;
+    let text = matches.get_flag("text");
+    Some(Asked::Fit { paths, text })
+}
+
 fn rows_of<'a>(matches: &ArgMatches<'a>) -> Option<Asked<'a>> {
     let path = matches.get_str("DB")?;
     Some(Asked::Rows { path })
@@ -114,6 +143,9 @@ fn asked_of<'a>(matches: &ArgMatches<'a>) -> Option<Asked<'a>> {
         "answer" => answer_of(given),
         "check" => check_of(given),
         "draw" => draw_of(given),
+        "punch" => punch_of(given),
+        "spell" => spell_of(given),
+        "fit" => fit_of(given),
         "rows" => rows_of(given),
         "upgrade" => upgrade_of(given),
         "create" => create_of(given),

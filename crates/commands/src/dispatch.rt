@@ -9,11 +9,14 @@ ghost use Rattle.command_ends.specs.declared.end.End.TheVariants.{Done};
 ghost use Rattle.arguments.specs.declared.asked.Asked.TheVariants.{Answer, Create, Upgrade};
 ghost use Rattle.station_commands.specs.Creations.{IsCreated};
 
+use crate::editing::{run_fit, run_punch, run_spell};
+use crate::story::Story;
 use answer_command::answer;
 use check_command::check;
 use command_ends::{End, ScriptPaths, TapePaths};
 use command_line::{Asked, print_version};
 use draw_command::draw;
+use editor_commands::StoryPaths;
 use opened_files::Opened;
 use rehearse_command::rehearse;
 use row_files::RowFiles;
@@ -22,16 +25,17 @@ use std::io::{Read, Write};
 use tape_drawing::Page;
 
 /// Checks the tape at its path by the table and the widths at theirs.
-fn run_check<W: Write, E: Write>(
+fn run_check<R: Read, W: Write, E: Write>(
     rt: &HostRuntime,
     paths: &TapePaths<'_>,
     listing: bool,
+    input: &mut R,
     out: &mut W,
     err: &mut E,
 ) -> End {
     let mut table = Opened::at(rt, paths.table);
     let mut widths = Opened::at(rt, paths.widths);
-    let mut tape = Opened::at(rt, paths.tape);
+    let mut tape = Story::at(rt, paths.tape, input);
     check(
         rt.alloc(),
         paths,
@@ -45,16 +49,17 @@ fn run_check<W: Write, E: Write>(
 }
 
 /// Draws the tape at its path by the table and the widths at theirs.
-fn run_draw<W: Write, E: Write>(
+fn run_draw<R: Read, W: Write, E: Write>(
     rt: &HostRuntime,
     paths: &TapePaths<'_>,
     page: Page,
+    input: &mut R,
     out: &mut W,
     err: &mut E,
 ) -> End {
     let mut table = Opened::at(rt, paths.table);
     let mut widths = Opened::at(rt, paths.widths);
-    let mut tape = Opened::at(rt, paths.tape);
+    let mut tape = Story::at(rt, paths.tape, input);
     draw(
         rt.alloc(),
         paths,
@@ -88,8 +93,8 @@ fn run_rehearse<W: Write, E: Write>(
     )
 }
 
-/// Runs the command that was asked for: what it is given on a pipe is read from `input`, what it prints goes to `out`,
-/// and its fault to `err`. A path that can't be opened is told in the place in which the file would be read.
+/// Runs the command that was asked for: what it is given on a pipe is read from `input`, also a tape or a text whose path
+/// is `-`; what it prints goes to `out`, and its fault to `err`. A path that can't be opened is told in the place in which the file would be read.
 pub fn carry_out<F: RowFiles, R: Read, W: Write, E: Write>(
     rt: &HostRuntime,
     asked: &Asked<'_>,
@@ -110,8 +115,28 @@ pub fn carry_out<F: RowFiles, R: Read, W: Write, E: Write>(
         Asked::Answer { circuit, me, wire } => {
             answer(rt.alloc(), *circuit, *me, *wire, input, out, err)
         }
-        Asked::Check { paths, listing } => run_check(rt, paths, *listing, out, err),
-        Asked::Draw { paths, page } => run_draw(rt, paths, *page, out, err),
+        Asked::Check { paths, listing } => run_check(rt, paths, *listing, input, out, err),
+        Asked::Draw { paths, page } => run_draw(rt, paths, *page, input, out, err),
+        Asked::Punch {
+            table,
+            text,
+            ligatures,
+            room,
+        } => {
+            let paths = StoryPaths {
+                table: *table,
+                story: *text,
+            };
+            run_punch(rt, &paths, *ligatures, *room, input, out, err)
+        }
+        Asked::Spell { table, tape, plain } => {
+            let paths = StoryPaths {
+                table: *table,
+                story: *tape,
+            };
+            run_spell(rt, &paths, *plain, input, out, err)
+        }
+        Asked::Fit { paths, text } => run_fit(rt, paths, *text, input, out, err),
         Asked::Rows { path } => row_files.list(rt, *path, out, err),
         Asked::Upgrade { path } => row_files.upgrade(rt, *path, out, err),
         Asked::Create { config, layout } => create(rt, *config, *layout, row_files, out, err),

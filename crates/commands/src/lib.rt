@@ -3,5 +3,7 @@
 #![tactic(auto)]
 
 mod dispatch;
+mod editing;
+mod story;
 
 pub use dispatch::carry_out;

@@ -1,11 +1,10 @@
 -- Where a file of the offers goes, and under what name.
-use Rattle.std.specs.Prelude.{◌≡◌, ℕ, Bool, List, ◌++◌, ◌==◌, ◌&&◌, nat_le, if◌then◌else◌, Option, Some, None, codes, decimal}
-use Rattle.folders.specs.declared.folders.Place.{Place}
-use Rattle.folders.specs.declared.folders.Place.TheVariants as places
-use Rattle.folders.specs.declared.folders.Stamp.{Stamp}
+use Rattle.std.specs.Prelude.{ℕ, Bool, List, ◌++◌, ◌==◌, ◌&&◌, nat_le, if◌then◌else◌, Option, Some, None, codes, decimal}
+use Rattle.folders.specs.declared.leaving.Place.{Place}
+use Rattle.folders.specs.declared.leaving.Place.TheVariants as places
 use Rattle.folders.specs.declared.leaving.Return.{Return}
 use Rattle.folders.specs.declared.leaving.Return.TheVariants as returns
-use Rattle.folders.specs.declared.leaving.FileId.{FileId}
+use Rattle.folders.specs.declared.stamp.FileId.{FileId}
 
 -- the folder of a place, within the offers
 abbrev pub folder_name : Place → List ℕ
@@ -17,6 +16,10 @@ folder_name places.Refused = codes "refused"
 abbrev pub copy_name : List ℕ → ℕ → List ℕ
 copy_name name number = if nat_le number 1 then name else name ++ (codes "." ++ decimal number)
 
+-- the text beside a file has `.txt` behind the file's name
+abbrev pub text_name : List ℕ → List ℕ
+text_name name = name ++ codes ".txt"
+
 -- two files are one
 abbrev pub is_one : FileId → FileId → Bool
 is_one a b = (a.device == b.device) && (a.inode == b.inode)
@@ -25,9 +28,3 @@ is_one a b = (a.device == b.device) && (a.inode == b.inode)
 abbrev pub return_of : FileId → Option FileId → Return
 return_of own None = returns.Back
 return_of own (Some standing) = if is_one standing own then returns.Stands else returns.Refused
-
--- a file of the same length, and with the same moment of change of what it holds
-pub record IsAsRead (before now : Stamp) : Type 0 where
-  pub length : before.length ≡ now.length
-  pub changed : before.changed.0 ≡ now.changed.0
-  pub changed_within : before.changed.1 ≡ now.changed.1

@@ -1,9 +1,12 @@
+pub mod Acting
+pub mod Doings
 pub mod FaultWords
-pub mod Keeping
 pub mod Leaving
 pub mod LogNames
 pub mod Offers
 pub mod OwnNames
 pub mod Pausing
+pub mod Stamps
+pub mod Standing
 pub mod Watching
 pub mod Written

@@ -3,8 +3,8 @@ use Rattle.std.specs.Prelude.{◌≡◌, ◌≤◌, ◌++◌, ◌⊎◌, ℕ, Li
 use Rattle.protocol.specs.Entries.{Entry}
 use Rattle.protocol.specs.Limits.{last_number}
 use Rattle.tape_frames.specs.Entries.{owned_entry}
-use Rattle.folders.specs.declared.folders.Place.{Place}
-use Rattle.folders.specs.declared.folders.Place.TheVariants.{Sent, Lost, Refused}
+use Rattle.folders.specs.declared.leaving.Place.{Place}
+use Rattle.folders.specs.declared.leaving.Place.TheVariants.{Sent, Lost, Refused}
 use Rattle.folders.specs.declared.names.Kind.{Kind}
 use Rattle.folders.specs.declared.names.Kind.TheVariants as kinds
 use Rattle.folders.specs.declared.wishes.Wish.{Wish}

@@ -1,37 +1,20 @@
 //! Files that wait to be written among the releases.
 
-ghost use Rattle.std.specs.Prelude.{◌≡◌, ◌-◌, [], length, OnOk, OnErr};
-ghost use Rattle.folders.specs.Keeping.{Keeps};
+ghost use Rattle.std.specs.Prelude.{◌≡◌, ◌≤◌, [], drop, length, OnOk, OnErr};
+ghost use Rattle.folders.specs.Doings.{WritesSome};
 
 use crate::fault::FolderFault;
-use crate::folders::Folders;
+use crate::folders::{Folders, Unwritten};
 use crate::named_file::NamedFile;
 use std::alloc::Global;
 
-/// Writes the first of the files that wait. One that the folder refuses goes on waiting.
-fn write_first<F: Folders>(
-    alloc: Global,
-    folders: &mut F,
-    waits: &mut Vec<NamedFile>,
-) -> Result<(), FolderFault>
-    ensures keeps { Keeps (F.written folders.old) (F.written folders.new) waits.old.items waits.new.items [] }
-    ensures shorter { OnOk result (length waits.new.items ≡ length waits.old.items - 1) }
-    ensures left { OnErr result (¬ (waits.new.items ≡ [])) }
+/// Takes so many files away, the first of those that wait.
+fn drop_first(waits: &mut Vec<NamedFile>, count: usize)
+    requires { count ≤ length waits.old.items }
+    ensures { waits.new.items ≡ drop count waits.old.items }
 {
-    match waits.first() {
-        Some(named) => folders.put(alloc, named.name(), named.bytes())?,
-        None => return Ok(()),
-    }
-    let _ = waits.remove(0);
-    Ok(())
-}
-
-/// Tells the folder which files are to be written.
-fn prepare_all<F: Folders>(alloc: Global, folders: &mut F, waits: &[NamedFile])
-    ensures { F.written folders.new ≡ F.written folders.old }
-{
-    for named in waits {
-        folders.prepare(alloc, named.name(), named.bytes());
+    for place in 0..count {
+        let _ = waits.remove(0);
     }
 }
 
@@ -42,13 +25,18 @@ pub fn write_waiting<F: Folders>(
     folders: &mut F,
     waits: &mut Vec<NamedFile>,
 ) -> Result<(), FolderFault>
-    ensures keeps { Keeps (F.written folders.old) (F.written folders.new) waits.old.items waits.new.items [] }
+    ensures writes { WritesSome (F.doings folders.old) (F.doings folders.new) waits.old.items waits.new.items }
     ensures all { OnOk result (waits.new.items ≡ []) }
     ensures left { OnErr result (¬ (waits.new.items ≡ [])) }
 {
-    prepare_all(alloc, folders, waits);
-    for place in 0..waits.len() {
-        write_first(alloc, folders, waits)?;
+    match folders.put_all(alloc, waits.as_slice()) {
+        Ok(()) => {
+            waits.clear();
+            Ok(())
+        }
+        Err(Unwritten { written, fault }) => {
+            drop_first(waits, written);
+            Err(fault)
+        }
     }
-    Ok(())
 }

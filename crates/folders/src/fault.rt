@@ -22,7 +22,7 @@ pub enum FolderFault {
     NoFile,
     /// What stands there is no folder.
     NoFolder,
-    /// It is longer than asked for.
+    /// It is longer than a file may be.
     TooLong,
     /// Another file stands there than was seen, or the file was changed.
     Changed,
@@ -74,9 +74,8 @@ impl From<io::Error> for FolderFault {
         match error.kind() {
             ErrorKind::NotFound | ErrorKind::NotADirectory => FolderFault::Missing,
             ErrorKind::PermissionDenied | ErrorKind::ReadOnlyFilesystem => FolderFault::NotAllowed,
-            ErrorKind::StorageFull | ErrorKind::QuotaExceeded | ErrorKind::FileTooLarge => {
-                FolderFault::Full
-            }
+            ErrorKind::StorageFull | ErrorKind::QuotaExceeded => FolderFault::Full,
+            ErrorKind::FileTooLarge => FolderFault::TooLong,
             ErrorKind::InvalidFilename => FolderFault::NameTooLong,
             ErrorKind::OutOfMemory => FolderFault::OutOfMemory,
             _ => FolderFault::Failed,

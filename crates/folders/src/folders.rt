@@ -1,41 +1,26 @@
 //! What a station asks of its folders.
 
-ghost use Rattle.std.specs.Prelude.{◌≡◌, ◌≤◌, List, [], ◌∷◌, Option, None, OnOk, OnErr, IfOk, length};
-ghost use Rattle.folders.specs.Written.{File, Writes};
+ghost use Rattle.std.specs.Prelude.{◌≡◌, ◌≤◌, ◌<◌, List, [], ◌∷◌, Option, None, OnOk, OnErr, IfOk, IfErr, IfSome, IfNone, length, map, take};
+ghost use Rattle.folders.specs.Doings.{Doing, saw_file, read_file, wrote_file, moved_file, removed_file, Does, MayDo};
 
 use crate::fault::FolderFault;
+use crate::leaving::Leaving;
+use crate::named_file::NamedFile;
+use crate::stamp::Stamp;
 use std::alloc::Global;
 
-/// Where a file of the offers is put once it is settled.
-#[derive(Clone, Copy, PartialEq, Eq)]
-pub enum Place {
-    /// What it asked for is what stands under its number.
-    Sent,
-    /// Something else stands there.
-    Lost,
-    /// It is no offer.
-    Refused,
-}
-
-/// What tells a file that is still being written from one that is whole: its length, and when it was last changed.
-#[derive(Clone, Copy, PartialEq, Eq)]
-pub struct Stamp {
-    pub length: u64,
-    /// Of the last change of what it holds, in seconds and nanoseconds since 1970. A copy may set it back.
-    pub changed: (i64, i64),
-    /// Of the last change of what it holds or of what is told about it, its name and the moment above among that.
-    pub touched: (i64, i64),
-}
-
-/// The files among the offers.
+/// A plain file among the offers.
 #[derive(Drop)]
-pub struct Listing {
-    /// Their names, in no order.
-    pub names: Vec<String>,
-    /// How many there are besides whose names are not UTF-8.
-    pub skipped: usize,
-    /// What befell the folders since the last look.
-    pub news: Vec<News>,
+pub struct Found {
+    pub name: String,
+    pub stamp: Stamp,
+}
+
+/// Something among the offers that is passed over, and why.
+#[derive(Drop)]
+pub struct PassedOver {
+    pub name: String,
+    pub fault: FolderFault,
 }
 
 /// What befell a folder.
@@ -49,46 +34,85 @@ pub enum News {
     WrittenAnew,
 }
 
+/// What lies among the offers.
+#[derive(Drop)]
+pub struct Listing {
+    /// The plain files, in no order.
+    pub files: Vec<Found>,
+    /// What is neither a plain file nor a folder, or can't be looked at, in no order.
+    pub others: Vec<PassedOver>,
+    /// How many there are besides whose names are not UTF-8.
+    pub skipped: usize,
+    /// What befell the folders since the last look.
+    pub news: Vec<News>,
+}
+
+impl Listing {
+    /// Nothing lies there.
+    pub fn new(alloc: Global) -> Listing {
+        Listing {
+            files: Vec::new(alloc),
+            others: Vec::new(alloc),
+            skipped: 0,
+            news: Vec::new(alloc),
+        }
+    }
+}
+
+/// Files that were not all written.
+#[derive(Clone, Copy)]
+pub struct Unwritten {
+    /// How many of them were, the first in their order.
+    pub written: usize,
+    /// Why the next was not.
+    pub fault: FolderFault,
+}
+
 /// The folders of a plant. A call that fails leaves a file as it was, or not there.
 pub trait Folders {
-    // The files that were written among the releases, in order, where that is known.
-    ghost written: { Self → Option (List File) } = { λ _. None };
+    // What was done with them, in order, where that is known: which files of the offers were found and read, and which left them, and what
+    // was written among the releases.
+    ghost doings: { Self → Option (List Doing) } = { λ _. None };
 
-    /// The files among the offers.
-    fn names(&mut self, alloc: Global) -> Result<Listing, FolderFault>
-        ensures { written self.new ≡ written self.old };
+    /// What lies among the offers. A file `stop` that is older than the start does not.
+    fn list(&mut self, alloc: Global) -> Result<Listing, FolderFault>
+        ensures { doings self.new ≡ doings self.old };
 
-    /// The stamp of a file among the offers. A folder is not there, as a file `stop` that is older than the start is not; what is neither a
-    /// file nor a folder is `NoFile`.
-    fn stamp(&mut self, alloc: Global, name: &str) -> Result<Stamp, FolderFault>
-        ensures { written self.new ≡ written self.old };
+    /// What the file of this name and stamp among the offers holds; `None` where that is more than so many bytes, which are not read then.
+    /// Where another file stands there, or it was changed before it was read to its end, `Changed`.
+    fn read(
+        &mut self,
+        alloc: Global,
+        name: &str,
+        stamp: Stamp,
+        most: usize,
+    ) -> Result<Option<Vec<u8>>, FolderFault>
+        ensures most { IfOk result (λ held. IfSome held (λ v. length v.items ≤ most)) }
+        ensures whole { IfOk result (λ held. IfSome held (λ v. Does (doings self.old) (doings self.new) (saw_file name.now ∷ read_file (record { name = name.now; bytes = v.items }) ∷ []))) }
+        ensures longer { IfOk result (λ held. IfNone held (Does (doings self.old) (doings self.new) (saw_file name.now ∷ []))) }
+        ensures err { OnErr result (MayDo (doings self.old) (doings self.new) (saw_file name.now)) };
 
-    /// What a file among the offers holds, where that is at most so many bytes; else `TooLong`. Where it is changed meanwhile, `Changed`.
-    fn read(&mut self, alloc: Global, name: &str, most: usize) -> Result<Vec<u8>, FolderFault>
-        ensures most { IfOk result (λ v. length v.items ≤ most) }
-        ensures same { written self.new ≡ written self.old };
+    /// Writes these files among the releases, in order: each whole, in place of one of its name that is there, or not at all, and none
+    /// behind one that is not written.
+    fn put_all(&mut self, alloc: Global, files: &[NamedFile]) -> Result<(), Unwritten>
+        ensures ok { OnOk result (Does (doings self.old) (doings self.new) (map wrote_file files.now)) }
+        ensures err { IfErr result (λ u. Does (doings self.old) (doings self.new) (map wrote_file (take u.written files.now))) }
+        ensures fewer { IfErr result (λ u. u.written < length files.now) };
 
-    /// Tells that a file of this name is to be written among the releases next, after those that were told of before: what of it
-    /// waits for no disk may be done now, under another name.
-    fn prepare(&mut self, _alloc: Global, _name: &str, _bytes: &[u8])
-        ensures { written self.new ≡ written self.old }
-    {}
+    /// Moves a file of the offers to a place, under the same name or with a number behind it, once the text that is to lie beside it is
+    /// written; what lies there already is not written over. Where it is not the file of this stamp, it stays, and is `Changed`. Where it
+    /// fails otherwise the file may have been moved all the same.
+    fn set_aside(
+        &mut self,
+        alloc: Global,
+        leaving: Leaving<'_>,
+        beside: Option<&str>,
+    ) -> Result<(), FolderFault>
+        ensures ok { OnOk result (Does (doings self.old) (doings self.new) (moved_file leaving.entry.name.now leaving.entry.to ∷ [])) }
+        ensures err { OnErr result (MayDo (doings self.old) (doings self.new) (moved_file leaving.entry.name.now leaving.entry.to)) };
 
-    /// Writes a file of this name among the releases: whole, in place of one that is there, or not at all.
-    fn put(&mut self, alloc: Global, name: &str, bytes: &[u8]) -> Result<(), FolderFault>
-        ensures ok { OnOk result (Writes (written self.old) (written self.new) (record { name = name.now; bytes = bytes.now } ∷ [])) }
-        ensures err { OnErr result (written self.new ≡ written self.old) };
-
-    /// Writes a text beside the files that are set aside at a place; what lies there already is not written over.
-    fn note(&mut self, alloc: Global, to: Place, name: &str, text: &str) -> Result<(), FolderFault>
-        ensures { written self.new ≡ written self.old };
-
-    /// Moves a file of the offers to a place, under the same name or with a number behind it; what lies there already is not written
-    /// over. Where it is not the file whose stamp was given last, it stays, and is `Changed`.
-    fn set_aside(&mut self, alloc: Global, name: &str, to: Place) -> Result<(), FolderFault>
-        ensures { written self.new ≡ written self.old };
-
-    /// Takes a file of the offers away that lay there before the start; a newer one stays.
+    /// Takes a file of the offers away that lay there before the start; a newer one stays. Where it fails the file may be gone all the same.
     fn remove(&mut self, alloc: Global, name: &str) -> Result<(), FolderFault>
-        ensures { written self.new ≡ written self.old };
+        ensures ok { OnOk result (Does (doings self.old) (doings self.new) (removed_file name.now ∷ [])) }
+        ensures err { OnErr result (MayDo (doings self.old) (doings self.new) (removed_file name.now)) };
 }

@@ -1,10 +1,15 @@
 //! Folders in memory, for tests.
 
-ghost use Rattle.std.specs.Prelude.{◌≡◌};
+ghost use Rattle.std.specs.Prelude.{◌≡◌, ◌++◌, ◌∷◌, [], OnOk, OnErr};
+ghost use Rattle.folders.specs.Acting.{acts_of, act_of};
+ghost use Rattle.folders.specs.Doings.{wrote_file};
 
+use crate::acts::Act;
 use crate::fault::FolderFault;
-use crate::folders::{Folders, Listing, Place, Stamp};
+use crate::folders::{Folders, Found, Listing, Unwritten};
+use crate::leaving::{Leaving, Place, text_name};
 use crate::named_file::NamedFile;
+use crate::stamp::{FileId, Stamp, is_unchanged};
 use std::alloc::{AllocError, Global};
 
 /// A file among the offers.
@@ -15,12 +20,18 @@ struct Offer {
     changed: i64,
 }
 
-/// A file that left the offers.
-#[derive(Drop)]
-pub struct Moved {
-    pub name: String,
-    /// Where it was put; `None` where it was taken away.
-    pub to: Option<Place>,
+impl Offer {
+    fn stamp(&self) -> Stamp {
+        Stamp {
+            file: FileId {
+                device: 0,
+                inode: 0,
+            },
+            length: self.bytes.len() as u64,
+            changed: (self.changed, 0),
+            touched: (self.changed, 0),
+        }
+    }
 }
 
 /// A text that was written beside a file that was set aside.
@@ -35,9 +46,9 @@ pub struct Noted {
 #[derive(Drop)]
 pub struct MemoryFolders {
     offers: Vec<Offer>,
-    filed: Vec<NamedFile>,
-    moved: Vec<Moved>,
     noted: Vec<Noted>,
+    /// What was done, in order.
+    acts: Vec<Act>,
     is_full: bool,
 }
 
@@ -46,9 +57,8 @@ impl MemoryFolders {
     pub fn new(alloc: Global) -> MemoryFolders {
         MemoryFolders {
             offers: Vec::new(alloc),
-            filed: Vec::new(alloc),
-            moved: Vec::new(alloc),
             noted: Vec::new(alloc),
+            acts: Vec::new(alloc),
             is_full: false,
         }
     }
@@ -58,19 +68,16 @@ impl MemoryFolders {
         self.is_full = is_full;
     }
 
-    /// What was written among the releases, in order.
-    pub fn filed(&self) -> &[NamedFile] {
-        &self.filed
-    }
-
-    /// What left the offers, in order.
-    pub fn moved(&self) -> &[Moved] {
-        &self.moved
-    }
-
     /// What was written beside files that were set aside, in order.
     pub fn noted(&self) -> &[Noted] {
         &self.noted
+    }
+
+    /// What was done since the start, in order.
+    pub fn acts(&self) -> &[Act]
+        ensures { result.now ≡ self.now.acts.items }
+    {
+        &self.acts
     }
 
     /// Lays a file among the offers, or writes it anew.
@@ -92,7 +99,7 @@ impl MemoryFolders {
     }
 
     fn drop_offer(&mut self, name: &str)
-        ensures { self.new.filed ≡ self.old.filed }
+        ensures { self.new.acts ≡ self.old.acts }
     {
         self.offers.retain(|offer| offer.name.as_str() != name);
     }
@@ -101,85 +108,59 @@ impl MemoryFolders {
         self.offers.iter().find(|offer| offer.name.as_str() == name)
     }
 
-    /// Keeps that a file left the offers.
-    fn leave(&mut self, alloc: Global, name: &str, to: Option<Place>) -> Result<(), FolderFault>
-        ensures { self.new.filed ≡ self.old.filed }
+    /// The file of this name and stamp among the offers.
+    fn offer_as(&self, name: &str, stamp: Stamp) -> Result<&Offer, FolderFault> {
+        let offer = self.offer_of(name).ok_or(FolderFault::Missing)?;
+        if is_unchanged(stamp, offer.stamp()) {
+            Ok(offer)
+        } else {
+            Err(FolderFault::Changed)
+        }
+    }
+
+    /// Keeps what was done behind what was done before.
+    fn keep(&mut self, act: Act) -> Result<(), FolderFault>
+        ensures ok { OnOk result (acts_of self.new.acts.items ≡ acts_of self.old.acts.items ++ act_of act ∷ []) }
+        ensures err { OnErr result (self.new.acts.items ≡ self.old.acts.items) }
+    {
+        if let Err(_) = self.acts.push(act) {
+            return Err(FolderFault::OutOfMemory);
+        }
+        Ok(())
+    }
+
+    /// Lets a file leave the offers. Where there is no memory to tell it, it stays.
+    fn leave(&mut self, name: &str, act: Act) -> Result<(), FolderFault>
+        ensures ok { OnOk result (acts_of self.new.acts.items ≡ acts_of self.old.acts.items ++ act_of act ∷ []) }
+        ensures err { OnErr result (self.new.acts.items ≡ self.old.acts.items) }
     {
         if self.offer_of(name).is_none() {
             return Err(FolderFault::Missing);
         }
-        let moved = Moved {
-            name: String::from_str(alloc, name)?,
-            to,
-        };
-        match self.moved.push(moved) {
-            Ok(()) => {
-                self.drop_offer(name);
-                Ok(())
-            }
-            Err(_) => Err(FolderFault::OutOfMemory),
-        }
-    }
-}
-
-impl Folders for MemoryFolders {
-    ghost use Rattle.std.specs.Prelude.{Some};
-
-    ghost written = { λ m. Some m.filed.items };
-
-    fn names(&mut self, alloc: Global) -> Result<Listing, FolderFault> {
-        let mut names = Vec::new(alloc);
-        for offer in &self.offers {
-            let name = offer.name.clone()?;
-            if names.push(name).is_err() {
-                return Err(FolderFault::OutOfMemory);
-            }
-        }
-        Ok(Listing {
-            names,
-            skipped: 0,
-            news: Vec::new(alloc),
-        })
+        self.keep(act)?;
+        self.drop_offer(name);
+        Ok(())
     }
 
-    fn stamp(&mut self, _alloc: Global, name: &str) -> Result<Stamp, FolderFault> {
-        let offer = self.offer_of(name).ok_or(FolderFault::Missing)?;
-        Ok(Stamp {
-            length: offer.bytes.len() as u64,
-            changed: (offer.changed, 0),
-            touched: (offer.changed, 0),
-        })
-    }
-
-    fn read(&mut self, alloc: Global, name: &str, most: usize) -> Result<Vec<u8>, FolderFault> {
-        let offer = self.offer_of(name).ok_or(FolderFault::Missing)?;
-        if offer.bytes.len() > most {
-            return Err(FolderFault::TooLong);
-        }
-        Ok(Vec::from_slice(alloc, &offer.bytes)?)
-    }
-
-    fn put(&mut self, alloc: Global, name: &str, bytes: &[u8]) -> Result<(), FolderFault> {
+    /// Writes one file among the releases.
+    fn put(&mut self, alloc: Global, named: &NamedFile) -> Result<(), FolderFault>
+        ensures ok { OnOk result (acts_of self.new.acts.items ≡ acts_of self.old.acts.items ++ wrote_file named.now ∷ []) }
+        ensures err { OnErr result (self.new.acts.items ≡ self.old.acts.items) }
+    {
         if self.is_full {
             return Err(FolderFault::Full);
         }
-        let named = NamedFile::of(alloc, name, bytes)?;
-        match self.filed.push(named) {
-            Ok(()) => Ok(()),
-            Err(_) => Err(FolderFault::OutOfMemory),
-        }
+        let named = NamedFile::of(alloc, named.name(), named.bytes())?;
+        self.keep(Act::Wrote(named))
     }
 
-    fn note(
-        &mut self,
-        alloc: Global,
-        to: Place,
-        name: &str,
-        text: &str,
-    ) -> Result<(), FolderFault> {
+    /// Keeps the text that is written beside a file.
+    fn note(&mut self, alloc: Global, leaving: Leaving<'_>, text: &str) -> Result<(), FolderFault>
+        ensures { self.new.acts ≡ self.old.acts }
+    {
         let noted = Noted {
-            to,
-            name: String::from_str(alloc, name)?,
+            to: leaving.to,
+            name: text_name(alloc, leaving.name)?,
             text: String::from_str(alloc, text)?,
         };
         match self.noted.push(noted) {
@@ -187,12 +168,69 @@ impl Folders for MemoryFolders {
             Err(_) => Err(FolderFault::OutOfMemory),
         }
     }
+}
 
-    fn set_aside(&mut self, alloc: Global, name: &str, to: Place) -> Result<(), FolderFault> {
-        self.leave(alloc, name, Some(to))
+impl Folders for MemoryFolders {
+    ghost use Rattle.std.specs.Prelude.{Some};
+    ghost use Rattle.folders.specs.Acting.{acts_of};
+
+    ghost doings = { λ m. Some (acts_of m.acts.items) };
+
+    fn list(&mut self, alloc: Global) -> Result<Listing, FolderFault> {
+        let mut listing = Listing::new(alloc);
+        for offer in &self.offers {
+            let name = offer.name.clone()?;
+            let stamp = offer.stamp();
+            if listing.files.push(Found { name, stamp }).is_err() {
+                return Err(FolderFault::OutOfMemory);
+            }
+        }
+        Ok(listing)
+    }
+
+    fn read(
+        &mut self,
+        alloc: Global,
+        name: &str,
+        stamp: Stamp,
+        most: usize,
+    ) -> Result<Option<Vec<u8>>, FolderFault> {
+        let bytes = Vec::from_slice(alloc, &self.offer_as(name, stamp)?.bytes)?;
+        let seen = String::from_str(alloc, name)?;
+        let named = NamedFile::of(alloc, name, &bytes)?;
+        self.keep(Act::Saw(seen))?;
+        if bytes.len() > most {
+            return Ok(None);
+        }
+        self.keep(Act::Read(named))?;
+        Ok(Some(bytes))
+    }
+
+    fn put_all(&mut self, alloc: Global, files: &[NamedFile]) -> Result<(), Unwritten> {
+        for (written, named) in files.iter().enumerate() {
+            if let Err(fault) = self.put(alloc, named) {
+                return Err(Unwritten { written, fault });
+            }
+        }
+        Ok(())
+    }
+
+    fn set_aside(
+        &mut self,
+        alloc: Global,
+        leaving: Leaving<'_>,
+        beside: Option<&str>,
+    ) -> Result<(), FolderFault> {
+        self.offer_as(leaving.name, leaving.stamp)?;
+        let name = String::from_str(alloc, leaving.name)?;
+        if let Some(text) = beside {
+            self.note(alloc, leaving, text)?;
+        }
+        self.leave(leaving.name, Act::SetAside(name, leaving.to))
     }
 
     fn remove(&mut self, alloc: Global, name: &str) -> Result<(), FolderFault> {
-        self.leave(alloc, name, None)
+        let own = String::from_str(alloc, name)?;
+        self.leave(name, Act::TakenAway(own))
     }
 }

@@ -5,6 +5,7 @@ ghost use Rattle.std.specs.List.{All, Any};
 ghost use Rattle.protocol.specs.Limits.{last_number};
 ghost use Rattle.folders.specs.Offers.{kind_word, IsNameOf, NamesNoneOf, NamesNone, IsStop, BeginsWithDot, EndsWithPart, IsLeft};
 
+use crate::folders::Found;
 use ballots::Number;
 use std::alloc::{AllocError, Global};
 
@@ -56,13 +57,13 @@ fn is_stop(name: &str) -> bool
     name == STOP
 }
 
-/// Whether the file that ends a run is among those of these names.
-pub fn has_stop(names: &[String]) -> bool
-    ensures one { IsTrue result → Any (λ name. IsStop (string_bytes name)) names.now }
-    ensures else_none { result ≡ false → All (λ name. ¬ IsStop (string_bytes name)) names.now }
+/// Whether the file that ends a run is among these.
+pub fn has_stop(files: &[Found]) -> bool
+    ensures one { IsTrue result → Any (λ (file : _). IsStop (string_bytes file.name)) files.now }
+    ensures else_none { result ≡ false → All (λ (file : _). ¬ IsStop (string_bytes file.name)) files.now }
 {
-    for name in names {
-        if is_stop(name.as_str()) {
+    for file in files {
+        if is_stop(file.name.as_str()) {
             return true;
         }
     }

@@ -1,7 +1,10 @@
 //! No folders.
 
 use crate::fault::FolderFault;
-use crate::folders::{Folders, Listing, Place, Stamp};
+use crate::folders::{Folders, Listing, Unwritten};
+use crate::leaving::Leaving;
+use crate::named_file::NamedFile;
+use crate::stamp::Stamp;
 use std::alloc::Global;
 
 /// The folders of a plant that has none: nothing lies among the offers, and what is written goes nowhere.
@@ -9,37 +12,30 @@ use std::alloc::Global;
 pub struct NoFolders;
 
 impl Folders for NoFolders {
-    fn names(&mut self, alloc: Global) -> Result<Listing, FolderFault> {
-        Ok(Listing {
-            names: Vec::new(alloc),
-            skipped: 0,
-            news: Vec::new(alloc),
-        })
+    fn list(&mut self, alloc: Global) -> Result<Listing, FolderFault> {
+        Ok(Listing::new(alloc))
     }
 
-    fn stamp(&mut self, _alloc: Global, _name: &str) -> Result<Stamp, FolderFault> {
-        Err(FolderFault::Missing)
-    }
-
-    fn read(&mut self, _alloc: Global, _name: &str, _most: usize) -> Result<Vec<u8>, FolderFault> {
-        Err(FolderFault::Missing)
-    }
-
-    fn put(&mut self, _alloc: Global, _name: &str, _bytes: &[u8]) -> Result<(), FolderFault> {
-        Ok(())
-    }
-
-    fn note(
+    fn read(
         &mut self,
         _alloc: Global,
-        _to: Place,
         _name: &str,
-        _text: &str,
-    ) -> Result<(), FolderFault> {
+        _stamp: Stamp,
+        _most: usize,
+    ) -> Result<Option<Vec<u8>>, FolderFault> {
+        Err(FolderFault::Missing)
+    }
+
+    fn put_all(&mut self, _alloc: Global, _files: &[NamedFile]) -> Result<(), Unwritten> {
         Ok(())
     }
 
-    fn set_aside(&mut self, _alloc: Global, _name: &str, _to: Place) -> Result<(), FolderFault> {
+    fn set_aside(
+        &mut self,
+        _alloc: Global,
+        _leaving: Leaving<'_>,
+        _beside: Option<&str>,
+    ) -> Result<(), FolderFault> {
         Err(FolderFault::Missing)
     }
 

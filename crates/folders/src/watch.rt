@@ -1,11 +1,11 @@
 //! Files that are watched until they stay as they are.
 
 ghost use Rattle.std.specs.Prelude.{◌≤◌, ◌<◌, ◌+◌, ◌↔◌, IsTrue, IfSome, MatchOption, length};
-ghost use Rattle.folders.specs.Watching.{IsUnchanged, IsNamed, NoneIsNamed, IsFirstNamed};
+ghost use Rattle.folders.specs.Watching.{IsNamed, NoneIsNamed, IsFirstNamed};
 
 use crate::fault::FolderFault;
-use crate::folders::Stamp;
 use crate::pauses::{STILL, has_passed};
+use crate::stamp::Stamp;
 
 /// A file among the offers that was not taken up yet.
 #[derive(Drop)]
@@ -21,33 +21,12 @@ pub struct Watched {
 }
 
 impl Watched {
-    /// Whether it was found as it is for so long, at a moment in milliseconds, that it is worth another look: a second.
+    /// Whether it was found as it is for so long, at a moment in milliseconds, that it is taken for whole: a second.
     pub fn is_ripe(&self, now: u64) -> bool
         ensures { IsTrue result ↔ (self.now.since + 1000 ≤ now) }
     {
         has_passed(self.since, STILL, now)
     }
-}
-
-/// Whether two stamps are one.
-fn is_unchanged(before: Stamp, stamp: Stamp) -> bool
-    ensures { IsTrue result ↔ IsUnchanged before stamp }
-{
-    before.length == stamp.length
-        && before.changed.0 == stamp.changed.0
-        && before.changed.1 == stamp.changed.1
-        && before.touched.0 == stamp.touched.0
-        && before.touched.1 == stamp.touched.1
-}
-
-/// Whether a file that was found so before, since a moment in milliseconds, and is found so now, is taken for whole: it stayed as it is
-/// for a second.
-pub fn is_whole(before: Stamp, since: u64, stamp: Stamp, now: u64) -> bool
-    ensures same { IsTrue result → IsUnchanged before stamp }
-    ensures still { IsTrue result → since + 1000 ≤ now }
-    ensures else_not { IsUnchanged before stamp → since + 1000 ≤ now → IsTrue result }
-{
-    is_unchanged(before, stamp) && has_passed(since, STILL, now)
 }
 
 /// Whether the file has this name.

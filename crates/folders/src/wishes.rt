@@ -6,8 +6,9 @@ ghost use Rattle.folders.specs.Offers.{IsMet, IsPlaceOf};
 ghost use Rattle.folders.specs.Pausing.{put_off_at, wait_at};
 
 use crate::fault::FolderFault;
-use crate::folders::{Place, Stamp};
+use crate::leaving::Place;
 use crate::pauses::{FIRST_PAUSE, has_passed, next_pause};
+use crate::stamp::Stamp;
 use ballots::{Ballot, Number};
 use tape_frames::{Entry, EntryRef};
 

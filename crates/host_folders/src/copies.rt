@@ -3,7 +3,7 @@
 use crate::looks::{id_at, plain_file, within};
 use crate::maker::Maker;
 use crate::part::Part;
-use folders::{FolderFault, copy_name, next_try};
+use folders::{FolderFault, copy_name, next_try, text_name};
 use std::fs::File;
 use std::io;
 use std::io::Read;
@@ -14,7 +14,7 @@ const TRIES: u32 = 160;
 /// Whether the plain file at a path holds this text, and no more.
 fn holds(rt: &HostRuntime, path: &str, text: &str) -> io::Result<bool> {
     match plain_file(rt, path) {
-        Ok(seen) if seen.stamp.length == text.len() as u64 => {}
+        Ok(stamp) if stamp.length == text.len() as u64 => {}
         _ => return Ok(false),
     }
     let mut bytes = Vec::new(rt.alloc());
@@ -61,14 +61,15 @@ pub(crate) fn free_path(
     Ok(within(rt.alloc(), folder, &copy)?)
 }
 
-/// Writes a text under a name in a folder, unless one that says the same lies there.
-pub(crate) fn write_text(
+/// Writes a text for beside a file of this name in a folder, unless one that says the same lies there.
+pub(crate) fn write_beside(
     maker: &mut Maker<'_>,
     folder: &str,
     name: &str,
     text: &str,
 ) -> Result<(), FolderFault> {
-    let path = free_path(maker.rt, folder, name, Some(text))?;
+    let name = text_name(maker.alloc(), name)?;
+    let path = free_path(maker.rt, folder, &name, Some(text))?;
     if id_at(maker.rt, &path)?.is_some() {
         return Ok(());
     }

@@ -1,12 +1,11 @@
 //! What a station asks of two folders of the host, call by call.
 
-use crate::copies::write_text;
 use crate::maker::Maker;
-use crate::moving::{make_place, set_aside};
+use crate::moving::set_aside;
 use crate::offers::Offers;
 use crate::places::Misplaced;
 use crate::releases::Releases;
-use folders::{FolderFault, Folders, Listing, News, Place, Stamp};
+use folders::{FolderFault, Folders, Leaving, Listing, NamedFile, News, Stamp, Unwritten};
 use std::alloc::Global;
 use std::mem;
 
@@ -62,48 +61,37 @@ impl<'a> HostFolders<'a> {
 }
 
 impl<'a> Folders for HostFolders<'a> {
-    fn names(&mut self, alloc: Global) -> Result<Listing, FolderFault> {
+    fn list(&mut self, alloc: Global) -> Result<Listing, FolderFault> {
         self.ready_releases();
         self.check_offers()?;
-        self.offers.test_search(self.maker.rt)?;
         let mut listing = self.offers.list(self.maker.rt)?;
         listing.news = mem::replace(&mut self.releases.news, Vec::new(alloc));
         Ok(listing)
     }
 
-    fn stamp(&mut self, _alloc: Global, name: &str) -> Result<Stamp, FolderFault> {
-        self.offers.stamp(self.maker.rt, name)
-    }
-
-    fn read(&mut self, _alloc: Global, name: &str, most: usize) -> Result<Vec<u8>, FolderFault> {
-        self.offers.read(self.maker.rt, name, most)
-    }
-
-    fn prepare(&mut self, _alloc: Global, name: &str, bytes: &[u8]) {
-        self.releases.prepare(&mut self.maker, name, bytes);
-    }
-
-    fn put(&mut self, _alloc: Global, name: &str, bytes: &[u8]) -> Result<(), FolderFault> {
-        self.releases.put(&mut self.maker, name, bytes)
-    }
-
-    fn note(
+    fn read(
         &mut self,
         _alloc: Global,
-        to: Place,
         name: &str,
-        text: &str,
-    ) -> Result<(), FolderFault> {
-        self.check_offers()?;
-        let folder = make_place(self.maker.rt, self.offers.path(), to)?;
-        write_text(&mut self.maker, &folder, name, text)
+        stamp: Stamp,
+        most: usize,
+    ) -> Result<Option<Vec<u8>>, FolderFault> {
+        self.offers.read(self.maker.rt, name, stamp, most)
     }
 
-    fn set_aside(&mut self, _alloc: Global, name: &str, to: Place) -> Result<(), FolderFault> {
+    fn put_all(&mut self, _alloc: Global, files: &[NamedFile]) -> Result<(), Unwritten> {
+        self.releases.put_all(&mut self.maker, files)
+    }
+
+    fn set_aside(
+        &mut self,
+        _alloc: Global,
+        leaving: Leaving<'_>,
+        beside: Option<&str>,
+    ) -> Result<(), FolderFault> {
         self.releases.settle_names()?;
         self.check_offers()?;
-        let seen = self.offers.last_look(self.maker.rt, name)?;
-        set_aside(&mut self.maker, self.offers.path(), name, &seen, to)
+        set_aside(&mut self.maker, self.offers.path(), leaving, beside)
     }
 
     fn remove(&mut self, _alloc: Global, name: &str) -> Result<(), FolderFault> {

@@ -1,6 +1,6 @@
 //! What stands at a path, by looks that open nothing.
 
-use folders::{FileId, FolderFault, Stamp, is_as_read};
+use folders::{FileId, FolderFault, Stamp, is_unchanged};
 use std::alloc::{AllocError, Global};
 use std::fs::Metadata;
 use std::io::ErrorKind;
@@ -20,9 +20,10 @@ pub(crate) fn id_of(data: &Metadata) -> FileId {
     }
 }
 
-/// In which state it is.
+/// Which file it is, and in which state.
 pub(crate) fn stamp_of(data: &Metadata) -> Stamp {
     Stamp {
+        file: id_of(data),
         length: data.len(),
         changed: (data.mtime(), data.mtime_nsec()),
         touched: (data.ctime(), data.ctime_nsec()),
@@ -40,42 +41,35 @@ pub(crate) fn id_at(rt: &HostRuntime, path: &str) -> io::Result<Option<FileId>> 
 
 /// Whether this very file stands at a path.
 pub(crate) fn stands_at(rt: &HostRuntime, path: &str, file: FileId) -> bool {
-    match id_at(rt, path) {
-        Ok(Some(found)) => found == file,
-        _ => false,
-    }
+    matches!(id_at(rt, path), Ok(Some(found)) if found == file)
 }
 
-/// A plain file as it was seen: which, and in which state.
-#[derive(Clone, Copy, PartialEq, Eq)]
-pub(crate) struct Seen {
-    pub(crate) file: FileId,
-    pub(crate) stamp: Stamp,
-}
-
-impl Seen {
-    pub(crate) fn of(data: &Metadata) -> Seen {
-        Seen {
-            file: id_of(data),
-            stamp: stamp_of(data),
-        }
-    }
-
-    /// Whether this is the file, as it was, whatever its name.
-    pub(crate) fn is_still(&self, now: &Seen) -> bool {
-        self.file == now.file && is_as_read(self.stamp, now.stamp)
-    }
-}
-
-/// The plain file at a path. A folder is not there.
-pub(crate) fn plain_file(rt: &HostRuntime, path: &str) -> Result<Seen, FolderFault> {
+/// The stamp of the plain file at a path. A folder is not there.
+pub(crate) fn plain_file(rt: &HostRuntime, path: &str) -> Result<Stamp, FolderFault> {
     let data = fs::symlink_metadata(rt, path)?;
     if data.is_file() {
-        Ok(Seen::of(&data))
+        Ok(stamp_of(&data))
     } else if data.is_dir() {
         Err(FolderFault::Missing)
     } else {
         Err(FolderFault::NoFile)
+    }
+}
+
+/// The same of a path where a plain file was found before.
+pub(crate) fn found_again(rt: &HostRuntime, path: &str) -> Result<Stamp, FolderFault> {
+    match plain_file(rt, path) {
+        Err(FolderFault::NoFile) => Err(FolderFault::Changed),
+        found => found,
+    }
+}
+
+/// Refuses a file that is not as it was found.
+pub(crate) fn test_same(found: Stamp, now: Stamp) -> Result<(), FolderFault> {
+    if is_unchanged(found, now) {
+        Ok(())
+    } else {
+        Err(FolderFault::Changed)
     }
 }
 

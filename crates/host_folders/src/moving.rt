@@ -1,10 +1,10 @@
 //! Files that leave the offers: through a passage of their own, where each is judged by what it is.
 
-use crate::copies::{free_path, write_text};
-use crate::looks::{Seen, id_at, plain_file, within};
+use crate::copies::{free_path, write_beside};
+use crate::looks::{found_again, id_at, test_same, within};
 use crate::maker::Maker;
 use crate::part::clear_parts;
-use folders::{FolderFault, PASSAGE, PLACES, Place, Return, return_of};
+use folders::{FolderFault, Leaving, PASSAGE, PLACES, Place, Return, is_as_read, return_of};
 use std::fs;
 use std::io::ErrorKind;
 
@@ -12,7 +12,7 @@ use std::io::ErrorKind;
 const NAME_TAKEN: &str = "another file came to stand under its name\n";
 
 /// The folder of a place, which is made where it is not there.
-pub(crate) fn make_place(rt: &HostRuntime, offers: &str, to: Place) -> Result<String, FolderFault> {
+fn make_place(rt: &HostRuntime, offers: &str, to: Place) -> Result<String, FolderFault> {
     let folder = within(rt.alloc(), offers, to.folder())?;
     fs::create_dir_all(rt, folder.as_str())?;
     Ok(folder)
@@ -30,29 +30,6 @@ fn take_away(maker: &mut Maker<'_>, offers: &str, name: &str) -> Result<String, 
     let from = within(maker.alloc(), offers, name)?;
     fs::rename(maker.rt, from.as_str(), own.as_str())?;
     Ok(own)
-}
-
-/// Refuses what is not the file that was seen.
-fn test_file(rt: &HostRuntime, own: &str, seen: &Seen) -> Result<(), FolderFault> {
-    match plain_file(rt, own) {
-        Ok(now) if seen.is_still(&now) => Ok(()),
-        Ok(_) | Err(FolderFault::NoFile | FolderFault::Missing) => Err(FolderFault::Changed),
-        Err(fault) => Err(fault),
-    }
-}
-
-/// Puts what lies in the passage into the folder of a place.
-fn put_aside(
-    rt: &HostRuntime,
-    offers: &str,
-    own: &str,
-    name: &str,
-    to: Place,
-) -> Result<(), FolderFault> {
-    let folder = make_place(rt, offers, to)?;
-    let path = free_path(rt, &folder, name, None)?;
-    fs::rename(rt, own, path.as_str())?;
-    Ok(())
 }
 
 /// Gives what lies in the passage its name again, where nothing has come to stand there.
@@ -82,30 +59,45 @@ fn put_back(maker: &mut Maker<'_>, offers: &str, own: &str, name: &str) -> Resul
         Return::Stands => Ok(fs::remove_file(maker.rt, own)?),
         Return::Refused => {
             let folder = make_place(maker.rt, offers, Place::Refused)?;
-            let text = format!(in maker.alloc(); "{name}.txt")?;
-            write_text(maker, &folder, &text, NAME_TAKEN)?;
+            write_beside(maker, &folder, name, NAME_TAKEN)?;
             let path = free_path(maker.rt, &folder, name, None)?;
             Ok(fs::rename(maker.rt, own, path.as_str())?)
         }
     }
 }
 
-/// Moves a file of the offers to a place. It is taken from its name first, and judged then: what is not the file that was seen is put
-/// back.
+/// Puts what lies in the passage into a folder, where it is the file that was found.
+fn put_aside(
+    rt: &HostRuntime,
+    own: &str,
+    folder: &str,
+    leaving: Leaving<'_>,
+) -> Result<(), FolderFault> {
+    if !is_as_read(leaving.stamp, found_again(rt, own)?) {
+        return Err(FolderFault::Changed);
+    }
+    let path = free_path(rt, folder, leaving.name, None)?;
+    Ok(fs::rename(rt, own, path.as_str())?)
+}
+
+/// Moves a file of the offers to a place, once the text beside it is written. It is taken from its name first, and judged then: what is
+/// not the file that was found is put back.
 pub(crate) fn set_aside(
     maker: &mut Maker<'_>,
     offers: &str,
-    name: &str,
-    seen: &Seen,
-    to: Place,
+    leaving: Leaving<'_>,
+    beside: Option<&str>,
 ) -> Result<(), FolderFault> {
-    let own = take_away(maker, offers, name)?;
-    let put = match test_file(maker.rt, &own, seen) {
-        Ok(()) => put_aside(maker.rt, offers, &own, name, to),
-        Err(fault) => Err(fault),
-    };
+    let home = within(maker.alloc(), offers, leaving.name)?;
+    test_same(leaving.stamp, found_again(maker.rt, &home)?)?;
+    let folder = make_place(maker.rt, offers, leaving.to)?;
+    if let Some(text) = beside {
+        write_beside(maker, &folder, leaving.name, text)?;
+    }
+    let own = take_away(maker, offers, leaving.name)?;
+    let put = put_aside(maker.rt, &own, &folder, leaving);
     if put.is_err() {
-        put_back(maker, offers, &own, name)?;
+        put_back(maker, offers, &own, leaving.name)?;
     }
     put
 }

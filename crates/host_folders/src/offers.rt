@@ -1,23 +1,16 @@
 //! The folder of offers: what lies there, and what it holds.
 
-ghost use Rattle.std.specs.Prelude.{◌≤◌, IfOk, length};
+ghost use Rattle.std.specs.Prelude.{◌≡◌, ◌≤◌, IfOk, IfSome, length};
 
 use crate::guard::{Guard, Guarded};
-use crate::looks::{Seen, plain_file, within};
+use crate::looks::{found_again, plain_file, stamp_of, test_same, within};
 use crate::maker::Maker;
 use crate::moving::clear_offers;
 use crate::part::Part;
-use folders::{FolderFault, Listing, STOP, Stamp, is_since, nanos_of};
+use folders::{FolderFault, Found, Listing, PassedOver, STOP, Stamp, is_since, nanos_of};
 use std::fs;
 use std::fs::File;
 use std::io::{ErrorKind, Read};
-
-/// A file by its name, as it was seen.
-#[derive(Drop)]
-struct Looked {
-    name: String,
-    seen: Seen,
-}
 
 /// The folder of offers.
 #[derive(Drop)]
@@ -25,8 +18,6 @@ pub(crate) struct Offers {
     guarded: Guarded,
     /// The start, in nanoseconds since 1970 by the clock of the folder, or of the host where the folder told none.
     start: u64,
-    /// The file whose stamp was told last.
-    looked: Option<Looked>,
 }
 
 /// The moment of the clock of a folder, in nanoseconds since 1970: that of a file that is made there.
@@ -37,22 +28,17 @@ fn clock_of(maker: &mut Maker<'_>, folder: &str) -> Result<u64, FolderFault> {
     Ok(nanos_of(touched?))
 }
 
-/// What the plain file that was seen at a path holds, one byte more than so many at most. It is seen to be the one that was looked at,
-/// and to stay as it is.
-fn read_front(
-    rt: &HostRuntime,
-    path: &str,
-    seen: Seen,
-    most: usize,
-) -> Result<Vec<u8>, FolderFault> {
+/// What the plain file of this stamp at a path holds. It is seen to be the one that was found, and to stay as it is.
+fn read_whole(rt: &HostRuntime, path: &str, stamp: Stamp) -> Result<Vec<u8>, FolderFault>
+    ensures { IfOk result (λ v. length v.items ≡ stamp.length) }
+{
     let file = File::open(rt, path)?;
-    if Seen::of(&file.metadata()?) != seen {
-        return Err(FolderFault::Changed);
-    }
+    test_same(stamp, stamp_of(&file.metadata()?))?;
     let mut bytes = Vec::new(rt.alloc());
-    let mut front = (&file).take((most as u64).saturating_add(1));
+    let mut front = (&file).take(stamp.length);
     front.read_to_end(&mut bytes)?;
-    if Seen::of(&file.metadata()?) == seen {
+    test_same(stamp, stamp_of(&file.metadata()?))?;
+    if bytes.len() as u64 == stamp.length {
         Ok(bytes)
     } else {
         Err(FolderFault::Changed)
@@ -64,7 +50,6 @@ impl Offers {
         Offers {
             guarded: Guarded::new(path),
             start,
-            looked: None,
         }
     }
 
@@ -94,96 +79,68 @@ impl Offers {
         is_since(nanos_of(stamp.touched), self.start)
     }
 
-    /// Lists the names of what lies there. A name that is not UTF-8 fails alone.
+    /// Looks at what stands under a name, and lists it. A folder is not listed, nor a file `stop` that is older than the start.
+    fn see(&self, rt: &HostRuntime, name: &str, listing: &mut Listing) -> Result<(), FolderFault> {
+        let path = within(rt.alloc(), self.guarded.path(), name)?;
+        let own = String::from_str(rt.alloc(), name)?;
+        let listed = match plain_file(rt, &path) {
+            Ok(stamp) if name == STOP && !self.is_new(stamp) => true,
+            Ok(stamp) => listing.files.push(Found { name: own, stamp }).is_ok(),
+            Err(FolderFault::Missing) => true,
+            Err(fault) => listing.others.push(PassedOver { name: own, fault }).is_ok(),
+        };
+        if listed {
+            Ok(())
+        } else {
+            Err(FolderFault::OutOfMemory)
+        }
+    }
+
+    /// Lists what lies there. A name that is not UTF-8 fails alone; a folder that may be listed and not searched fails whole.
     pub(crate) fn list(&self, rt: &HostRuntime) -> Result<Listing, FolderFault> {
         let path = self.guarded.path();
-        let mut names = Vec::new(rt.alloc());
-        let mut skipped: usize = 0;
+        fs::symlink_metadata(rt, within(rt.alloc(), path, ".")?.as_str())?;
+        let mut listing = Listing::new(rt.alloc());
         for entry in fs::read_dir(rt, path)? {
             match entry {
-                Ok(entry) => {
-                    if names
-                        .push(String::from_str(rt.alloc(), entry.file_name())?)
-                        .is_err()
-                    {
-                        return Err(FolderFault::OutOfMemory);
-                    }
-                }
+                Ok(entry) => self.see(rt, entry.file_name(), &mut listing)?,
                 Err(error) if error.kind() == ErrorKind::InvalidFilename => {
-                    skipped = skipped.saturating_add(1);
+                    listing.skipped = listing.skipped.saturating_add(1);
                 }
                 Err(error) => return Err(FolderFault::from(error)),
             }
         }
-        Ok(Listing {
-            names,
-            skipped,
-            news: Vec::new(rt.alloc()),
-        })
+        Ok(listing)
     }
 
-    /// Whether what lies there can be looked at, and not only listed.
-    pub(crate) fn test_search(&self, rt: &HostRuntime) -> Result<(), FolderFault> {
-        let inside = within(rt.alloc(), self.guarded.path(), ".")?;
-        fs::symlink_metadata(rt, inside.as_str())?;
-        Ok(())
-    }
-
-    /// The plain file of this name. A file `stop` that is older than the start is not there.
-    fn look(&self, rt: &HostRuntime, name: &str) -> Result<Seen, FolderFault> {
-        let path = within(rt.alloc(), self.guarded.path(), name)?;
-        let seen = plain_file(rt, &path)?;
-        if name == STOP && !self.is_new(seen.stamp) {
-            return Err(FolderFault::Missing);
-        }
-        Ok(seen)
-    }
-
-    /// The stamp of the plain file of this name, which is kept in mind until the next one is told.
-    pub(crate) fn stamp(&mut self, rt: &HostRuntime, name: &str) -> Result<Stamp, FolderFault> {
-        let seen = self.look(rt, name)?;
-        let name = String::from_str(rt.alloc(), name)?;
-        self.looked = Some(Looked { name, seen });
-        Ok(seen.stamp)
-    }
-
-    /// The file of this name as it was when its stamp was told, if that was the last one; else as it is.
-    pub(crate) fn last_look(&self, rt: &HostRuntime, name: &str) -> Result<Seen, FolderFault> {
-        match &self.looked {
-            Some(looked) if looked.name.as_str() == name => Ok(looked.seen),
-            _ => self.look(rt, name),
-        }
-    }
-
-    /// What a file holds, where that is at most so many bytes.
+    /// What the file of this name and stamp holds; `None` where that is more than so many bytes. That one is not opened, nor is an empty one.
     pub(crate) fn read(
         &self,
         rt: &HostRuntime,
         name: &str,
+        stamp: Stamp,
         most: usize,
-    ) -> Result<Vec<u8>, FolderFault>
-        ensures { IfOk result (λ v. length v.items ≤ most) }
+    ) -> Result<Option<Vec<u8>>, FolderFault>
+        ensures { IfOk result (λ held. IfSome held (λ v. length v.items ≤ most)) }
     {
-        let seen = self.look(rt, name)?;
         let path = within(rt.alloc(), self.guarded.path(), name)?;
-        let bytes = read_front(rt, &path, seen, most)?;
-        if bytes.len() <= most {
-            Ok(bytes)
-        } else {
-            Err(FolderFault::TooLong)
+        test_same(stamp, found_again(rt, &path)?)?;
+        if stamp.length > most as u64 {
+            return Ok(None);
         }
+        if stamp.length == 0 {
+            return Ok(Some(Vec::new(rt.alloc())));
+        }
+        Ok(Some(read_whole(rt, &path, stamp)?))
     }
 
     /// Takes a plain file away that is older than the start. What can't be looked at is not there.
     pub(crate) fn remove(&self, rt: &HostRuntime, name: &str) -> Result<(), FolderFault> {
         let path = within(rt.alloc(), self.guarded.path(), name)?;
-        let Ok(seen) = plain_file(rt, &path) else {
-            return Err(FolderFault::Missing);
-        };
-        if self.is_new(seen.stamp) {
-            return Ok(());
+        match plain_file(rt, &path) {
+            Ok(stamp) if self.is_new(stamp) => Ok(()),
+            Ok(_) => Ok(fs::remove_file(rt, path.as_str())?),
+            Err(_) => Err(FolderFault::Missing),
         }
-        fs::remove_file(rt, path.as_str())?;
-        Ok(())
     }
 }

@@ -1,24 +1,20 @@
 //! The folder of releases: files that are made ahead, begun, and get their names.
 
+ghost use Rattle.std.specs.Prelude.{◌<◌, IfErr, length};
+
 use crate::guard::{Guard, Guarded};
 use crate::looks::within;
 use crate::maker::Maker;
 use crate::part::{Part, clear_parts};
-use folders::{FolderFault, NamedFile, News};
+use folders::{FolderFault, NamedFile, News, Unwritten};
 use std::alloc::Global;
+use std::collections::VecDeque;
 
 /// How many files are made ahead, and how many are filled before the disk has the first: those of one release.
 const MOST_BEGUN: usize = 2;
 
 /// How often a file is written where another comes to stand under its name.
 const TRIES: u32 = 3;
-
-/// A file that was filled, and has no name yet.
-#[derive(Drop)]
-struct Begun {
-    named: NamedFile,
-    part: Part,
-}
 
 /// The folder of releases.
 ///
@@ -32,9 +28,6 @@ pub(crate) struct Releases {
     /// Files that were made ahead, at a look, and have their room on the disk: to make one and to find room for it takes as long as
     /// a wait for a fast disk.
     spares: Vec<Part>,
-    /// The files that get their names next, in their order. To write all of them before the first wait for the disk takes less than
-    /// to write one after the other: the disk then has them together.
-    begun: Vec<Begun>,
     pub(crate) news: Vec<News>,
 }
 
@@ -44,7 +37,6 @@ impl Releases {
             guarded: Guarded::new(path),
             has_new_names: false,
             spares: Vec::new(alloc),
-            begun: Vec::new(alloc),
             news: Vec::new(alloc),
         }
     }
@@ -92,46 +84,21 @@ impl Releases {
         }
     }
 
-    fn begin(
-        &mut self,
-        maker: &mut Maker<'_>,
-        name: &str,
-        bytes: &[u8],
-    ) -> Result<(), FolderFault> {
-        let named = NamedFile::of(maker.alloc(), name, bytes)?;
-        let part = self.fill_one(maker, bytes)?;
-        let _ = self.begun.push(Begun { named, part });
-        Ok(())
-    }
-
-    /// Fills a file that is to be written next.
-    pub(crate) fn prepare(&mut self, maker: &mut Maker<'_>, name: &str, bytes: &[u8]) {
-        if self.begun.len() < MOST_BEGUN && self.check(maker.rt).is_ok() {
+    /// The first of these files, filled, in their order. To write all of them before the first wait for the disk takes less than to write
+    /// one after the other: the disk then has them together.
+    fn begin(&mut self, maker: &mut Maker<'_>, files: &[NamedFile]) -> VecDeque<Part> {
+        let mut begun = VecDeque::new(maker.alloc());
+        if self.check(maker.rt).is_err() {
+            return begun;
+        }
+        for named in files.iter().take(MOST_BEGUN) {
             // One that can't be begun is written whole in its turn, or refused then.
-            let _ = self.begin(maker, name, bytes);
+            let Ok(part) = self.fill_one(maker, named.bytes()) else {
+                return begun;
+            };
+            let _ = begun.push_back(part);
         }
-    }
-
-    /// Takes away what was begun.
-    fn give_up(&mut self, rt: &HostRuntime) {
-        for _ in 0..MOST_BEGUN {
-            if let Some(begun) = self.begun.pop() {
-                begun.part.discard(rt);
-            }
-        }
-    }
-
-    /// The file that was begun first, where it has this name and holds these bytes; else all that was begun is taken away.
-    fn take_begun(&mut self, rt: &HostRuntime, name: &str, bytes: &[u8]) -> Option<Part> {
-        if self.begun.is_empty() {
-            return None;
-        }
-        if self.begun[0].named.name() == name && self.begun[0].named.bytes() == bytes {
-            let Begun { named: _, part } = self.begun.remove(0);
-            return Some(part);
-        }
-        self.give_up(rt);
-        None
+        begun
     }
 
     /// Writes a file whole, and again where another comes to stand under its name.
@@ -153,39 +120,48 @@ impl Releases {
         Err(FolderFault::Changed)
     }
 
-    /// Writes a file, by the one that was begun where there is one.
-    fn write(
+    /// Writes a file, by the one that was begun for it where there is one.
+    fn put(
         &mut self,
         maker: &mut Maker<'_>,
-        name: &str,
-        bytes: &[u8],
+        named: &NamedFile,
+        begun: Option<Part>,
     ) -> Result<(), FolderFault> {
         self.check(maker.rt)?;
         self.has_new_names = true;
-        let path = within(maker.alloc(), self.guarded.path(), name)?;
-        let Some(part) = self.take_begun(maker.rt, name, bytes) else {
-            return self.write_whole(maker, &path, bytes);
+        let path = within(maker.alloc(), self.guarded.path(), named.name())?;
+        let Some(part) = begun else {
+            return self.write_whole(maker, &path, named.bytes());
         };
         match part.name_as(maker.rt, &path) {
             Err(FolderFault::Changed) => {
                 let _ = self.news.push(News::WrittenAnew);
-                self.write_whole(maker, &path, bytes)
+                self.write_whole(maker, &path, named.bytes())
             }
             done => done,
         }
     }
 
-    /// Writes a file of this name: whole, in place of one that is there, or not at all. Where it fails, what was begun is taken away.
-    pub(crate) fn put(
+    /// Writes these files, in order, up to the first that is not written: of those that were begun behind it nothing stays.
+    pub(crate) fn put_all(
         &mut self,
         maker: &mut Maker<'_>,
-        name: &str,
-        bytes: &[u8],
-    ) -> Result<(), FolderFault> {
-        let written = self.write(maker, name, bytes);
-        if written.is_err() {
-            self.give_up(maker.rt);
+        files: &[NamedFile],
+    ) -> Result<(), Unwritten>
+        ensures { IfErr result (λ u. u.written < length files.now) }
+    {
+        let mut begun = VecDeque::new(maker.alloc());
+        for (written, named) in files.iter().enumerate() {
+            if begun.is_empty() {
+                begun = self.begin(maker, &files[written..]);
+            }
+            if let Err(fault) = self.put(maker, named, begun.pop_front()) {
+                for part in begun {
+                    part.discard(maker.rt);
+                }
+                return Err(Unwritten { written, fault });
+            }
         }
-        written
+        Ok(())
     }
 }

@@ -13,6 +13,7 @@ use crate::causes::refused_by;
 use acceptor_store::SqliteRows;
 use command_ends::End;
 use row_files::RefusedRows;
+use row_life::end_life;
 use rows_command::{print_rows, upgrade_rows};
 use sqlite::{Alter, FileStore};
 use sqlite_disk::Disk;
@@ -47,14 +48,19 @@ fn carried_out<S: Alter + Drop, W: Write, E: Write>(
     if end == End::Done { Ok(rows) } else { Err(end) }
 }
 
-/// Closes a database, and its files; also where that is refused these are let go, as they are.
+/// Closes a database, and its files, and marks the one that has all as at rest; also where that is refused the files are let go, as
+/// they are.
 pub(crate) fn close_database<D: Disk + Drop>(
     rows: SqliteRows<FileStore<D>>,
 ) -> Result<(), RefusedRows>
     ensures { OnOk result (WasClosed rows) }
 {
     match rows.close() {
-        Ok(_) => Ok(()),
+        Ok(files) => {
+            let mut files = files;
+            end_life(&mut files)?;
+            Ok(())
+        }
         Err((fault, store)) => {
             let _files = store.close();
             Err(refused_by(fault))

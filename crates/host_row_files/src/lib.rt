@@ -4,6 +4,7 @@
 mod causes;
 mod database;
 mod host_files;
+mod life;
 mod look;
 mod making;
 

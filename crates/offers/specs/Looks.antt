@@ -1,7 +1,7 @@
 -- What a look makes of the book.
 use Rattle.std.specs.Prelude.{ℕ, ◌==◌, ◌&&◌, Bool, false, List, map, Option, Some, None, if◌then◌else◌}
 use Rattle.std.specs.Ordering.{int_eq}
-use Rattle.folders.specs.declared.folders.Stamp.{Stamp}
+use Rattle.folders.specs.declared.stamp.Stamp.{Stamp}
 use Rattle.offers.specs.declared.offer.Found.{Found}
 use Rattle.offers.specs.declared.offer.Offer.{Offer}
 use Rattle.offers.specs.declared.stage.Stage.{Stage}
@@ -9,10 +9,10 @@ use Rattle.offers.specs.declared.stage.Stage.TheVariants.{Watched}
 use Rattle.offers.specs.Order.{rank, file_at, rising}
 use Rattle.offers.specs.Stages.{later, anew}
 
--- the same length, and the same moments of change, of what the file holds and of what is told about it
+-- the same file and length, and the same moments of change, of what the file holds and of what is told about it
 abbrev pub is_same_stamp : Stamp → Stamp → Bool
 is_same_stamp a b =
-    (a.length == b.length) && int_eq a.changed.0 b.changed.0 && int_eq a.changed.1 b.changed.1 && int_eq a.touched.0 b.touched.0 && int_eq a.touched.1 b.touched.1
+    (a.file.device == b.file.device) && (a.file.inode == b.file.inode) && (a.length == b.length) && int_eq a.changed.0 b.changed.0 && int_eq a.changed.1 b.changed.1 && int_eq a.touched.0 b.touched.0 && int_eq a.touched.1 b.touched.1
 
 -- since which look a file that is found now was found as it is, where this was known of it
 abbrev pub since_after : Option Offer → ℕ → Found → ℕ

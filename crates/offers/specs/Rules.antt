@@ -4,8 +4,8 @@ use Rattle.std.specs.List.{Any, AllPairs, list_any}
 use Rattle.std.specs.Ordering.{nat_cmp}
 use Rattle.std.specs.BTreeMap.{is_at}
 use Rattle.std.specs.Map.{lookup}
-use Rattle.folders.specs.declared.folders.Place.{Place}
-use Rattle.folders.specs.declared.folders.Stamp.{Stamp}
+use Rattle.folders.specs.declared.leaving.Place.{Place}
+use Rattle.folders.specs.declared.stamp.Stamp.{Stamp}
 use Rattle.folders.specs.declared.names.Request.{Request}
 use Rattle.folders.specs.declared.wishes.Wish.{Wish}
 use Rattle.folders.specs.Offers.{IsPlaceOf}

@@ -32,7 +32,9 @@ pub struct Offer {
 pub(crate) fn is_same_stamp(before: Stamp, stamp: Stamp) -> bool
     ensures { result ≡ is_same_stamp before stamp }
 {
-    before.length == stamp.length
+    before.file.device == stamp.file.device
+        && before.file.inode == stamp.file.inode
+        && before.length == stamp.length
         && before.changed.0 == stamp.changed.0
         && before.changed.1 == stamp.changed.1
         && before.touched.0 == stamp.touched.0

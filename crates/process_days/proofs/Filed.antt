@@ -2,6 +2,7 @@
 use Rattle.std.proofs.Common.{◌≡◌, ◌++◌, ◌∙◌, ◌⊎◌, ℕ, inl, inr, List, [], ◌∷◌, Option, Some, None, Result, Ok, Err, refl, sym, ap, subst, arith, get_or}
 use Rattle.std.specs.Prelude.{codes, flat_map, ◌==◌, Bool, true, false, if◌then◌else◌}
 use Rattle.std.proofs.lemmas.Bool.{eqb-true}
+use Rattle.std.proofs.lemmas.List.{append_cancel_left}
 use Rattle.protocol.specs.Lists.{IsAmong}
 use Rattle.protocol.specs.Entries.{Entry, Void, Taped}
 use Rattle.protocol.specs.Refusals.{Call}
@@ -13,10 +14,14 @@ use Rattle.refusals.specs.declared.refusal.StepRefusal.{StepRefusal}
 use Rattle.station.specs.declared.answer.Answer.{Answer}
 use Rattle.station.specs.declared.answer.Release.{Release}
 use Rattle.station.specs.Readiness.{slugs_of, IsNumber}
+use Rattle.folders.specs.Doings.{Doing, saw_file, read_file, wrote_file, moved_file, removed_file}
 use Rattle.folders.specs.Written.{File}
 use Rattle.plant_files.specs.Filing.{entry_files, files_of, release_files}
 use Rattle.exchange.specs.Events.{Event, asked, took}
 use Rattle.run_command.specs.Filing.{filing}
+use Rattle.run_command.specs.Story.{stepped, events_of, doings_of, files_of_story}
+use Rattle.run_command.specs.Story.{Happened as Run}
+use Rattle.run_command.specs.Story.{did as done}
 use Rattle.days.specs.Happening.{Happened, did, WasReleased}
 use Rattle.days.specs.Days.{DaysAgree}
 use Rattle.process_days.specs.Telling.{Order, log_of, day_with, day_after}
@@ -97,14 +102,20 @@ files_agree g days p day at d =
           not_both f.bytes (sym one.is ∙ same ∙ two.is);
     }
 
--- what a list begins with, where another goes on behind it
-same_rest : (old new more rest files : List File) → new ≡ old ++ more → new ++ rest ≡ old ++ files → more ++ rest ≡ files
-same_rest [] new more rest files is e = ap (λ (l : List File). l ++ rest) (sym is) ∙ e
-same_rest (x ∷ old) [] more rest files is e = absurd cc
-same_rest (x ∷ old) (y ∷ new) more rest files is e =
-    let tails : new ≡ old ++ more = cc in
-    let ends : new ++ rest ≡ old ++ files = cc in
-    same_rest old new more rest files tails ends
+-- what was written in a story
+written_in : (story : List Run) (f : File) → IsAmong (doings_of story) (wrote_file f) → IsAmong (files_of_story story) f
+written_in [] f i = absurd i
+written_in (stepped e ∷ story) f i = written_in story f i
+written_in (done (saw_file name) ∷ story) f (inl e) = absurd cc
+written_in (done (saw_file name) ∷ story) f (inr i) = written_in story f i
+written_in (done (read_file g) ∷ story) f (inl e) = absurd cc
+written_in (done (read_file g) ∷ story) f (inr i) = written_in story f i
+written_in (done (wrote_file g) ∷ story) f (inl e) = inl cc
+written_in (done (wrote_file g) ∷ story) f (inr i) = inr (written_in story f i)
+written_in (done (moved_file name to) ∷ story) f (inl e) = absurd cc
+written_in (done (moved_file name to) ∷ story) f (inr i) = written_in story f i
+written_in (done (removed_file name) ∷ story) f (inl e) = absurd cc
+written_in (done (removed_file name) ∷ story) f (inr i) = written_in story f i
 
 among_front : {A : Type 0} (xs ys : List A) (x : A) → IsAmong xs x → IsAmong (xs ++ ys) x
 among_front [] ys x i = absurd i
@@ -154,9 +165,11 @@ filed [] day m f i = absurd i
 filed ((k, e) ∷ rest) day m f i = filed_either k e rest day m f (k == m) refl (λ j. filed rest (day_with k e day) m f j) i
 
 pub written_is_filed : WrittenIsFiled
-written_is_filed day order m None after f keeps written = absurd written
-written_is_filed day order m (Some old) None f keeps written = absurd written
-written_is_filed day order m (Some old) (Some new) f keeps written =
-    let files = flat_map filing (log_of m order) in
-    let all : written.0 ++ keeps.0 ≡ files = same_rest old new written.0 keeps.0 files written.1 keeps.1 in
-    filed order day m f (subst (λ (l : List File). IsAmong l f) all (among_front written.0 keeps.0 f written.2))
+written_is_filed day order m story None after f is does front written = absurd written
+written_is_filed day order m story (Some old) None f is does front written = absurd written
+written_is_filed day order m story (Some old) (Some new) f is does front written =
+    let same : written.0 ≡ doings_of story = append_cancel_left old written.0 (doings_of story) (sym written.1 ∙ does) in
+    let i : IsAmong (files_of_story story) f = written_in story f (subst (λ (l : List Doing). IsAmong l (wrote_file f)) same written.2) in
+    let j : IsAmong (flat_map filing (events_of story)) f =
+    subst (λ (l : List File). IsAmong l f) (sym front.1) (among_front (files_of_story story) front.0 f i) in
+    filed order day m f (subst (λ (l : List Event). IsAmong (flat_map filing l) f) is j)

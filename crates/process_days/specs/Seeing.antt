@@ -1,13 +1,16 @@
 -- What a person sees of it: the files of the releases.
-use Rattle.std.specs.Prelude.{◌≡◌, ◌++◌, ℕ, List, [], Option, Some, None, codes, flat_map}
+use Rattle.std.specs.Prelude.{◌≡◌, ◌++◌, ℕ, List, Option, Some, None, codes, flat_map}
 use Rattle.protocol.specs.Lists.{IsAmong}
 use Rattle.saved_rows.specs.declared.rows.Rows.{Ghosts}
 use Rattle.station.specs.declared.answer.Release.{Release}
 use Rattle.station.specs.Readiness.{IsNumber}
 use Rattle.folders.specs.Written.{File}
-use Rattle.folders.specs.Keeping.{KeepsFront}
+use Rattle.folders.specs.Doings.{Doing, Does, wrote_file}
 use Rattle.plant_files.specs.Filing.{name_of, release_files}
 use Rattle.run_command.specs.Filing.{filing}
+use Rattle.run_command.specs.Running.{WritesFront}
+use Rattle.run_command.specs.Story.{events_of, doings_of}
+use Rattle.run_command.specs.Story.{Happened as Run}
 use Rattle.days.specs.Happening.{Happened, WasReleased}
 use Rattle.days.specs.Handing.{Plants, Member}
 use Rattle.days.specs.Days.{Day}
@@ -34,14 +37,16 @@ pub record FilesAgree (day : List Happened) : Type 0 where
 abbrev pub DaysFilesAgree : {R : Type 0} → Ghosts R → Type 0
 DaysFilesAgree {R = R} g = (p : Plants) (day : List Happened) (at : ℕ → Member R) → Day g p day at → FilesAgree day
 
--- a folder that tells has this file since, among those that were written there after these
-abbrev pub IsWritten : Option (List File) → Option (List File) → File → Type 0
+-- folders that tell have this file among the releases since, among what was done with them after this
+abbrev pub IsWritten : Option (List Doing) → Option (List Doing) → File → Type 0
 IsWritten None after f = ⊥
 IsWritten (Some old) None f = ⊥
-IsWritten (Some old) (Some new) f = (more : List File) × (new ≡ old ++ more) × IsAmong more f
+IsWritten (Some old) (Some new) f = (more : List Doing) × (new ≡ old ++ more) × IsAmong more (wrote_file f)
 
--- a file that a process wrote among the releases of its plant, as `run_station` promises (its field `front`), is one of what its member released in the day
+-- a file that a process wrote among the releases of its plant, as `run_station` promises of its story (its fields `does` and `front`), is
+-- one of what its member released in the day
 abbrev pub WrittenIsFiled : Type 0
 WrittenIsFiled =
-    (day : List Happened) (order : Order) (m : ℕ) (before after : Option (List File)) (f : File)
-    → KeepsFront before after [] (flat_map filing (log_of m order)) → IsWritten before after f → IsFiled (day_after day order) m f
+    (day : List Happened) (order : Order) (m : ℕ) (story : List Run) (before after : Option (List Doing)) (f : File)
+    → events_of story ≡ log_of m order → Does before after (doings_of story) → WritesFront (flat_map filing (events_of story)) story
+    → IsWritten before after f → IsFiled (day_after day order) m f

@@ -7,6 +7,8 @@ use Rattle.row_files.specs.declared.causes.RowsCause.TheVariants as causes
 abbrev pub cause_text : RowsCause → List ℕ
 cause_text causes.Missing = codes "no such file: look for it and its log; only a station that never ran is made, by circuitd create"
 cause_text causes.LogAlone = codes "its log is here and the file is not: find the file, and put the two together"
+cause_text causes.WithoutLog = codes "its log is missing: find it, and put the two together"
+cause_text causes.OtherLog = codes "its log is of another time: find the one that lay beside it, and put the two together"
 cause_text causes.BeingMade = codes "another process is making it"
 cause_text causes.InUse = codes "another process has it open"
 cause_text causes.Unmade = codes "no station is in it: find its log, and put the two together; if the station never ran, move it away"

@@ -19,6 +19,10 @@ pub enum RowsCause {
     Missing,
     /// There is no such file, and its log lies there.
     LogAlone,
+    /// It is in use by its header, and there is no log.
+    WithoutLog,
+    /// The log beside it is of another time, or of another file.
+    OtherLog,
     /// Another process is making it.
     BeingMade,
     /// Another process has it open.
@@ -50,6 +54,10 @@ impl RowsCause {
             }
             RowsCause::LogAlone => {
                 "its log is here and the file is not: find the file, and put the two together"
+            }
+            RowsCause::WithoutLog => { "its log is missing: find it, and put the two together" }
+            RowsCause::OtherLog => {
+                "its log is of another time: find the one that lay beside it, and put the two together"
             }
             RowsCause::BeingMade => "another process is making it",
             RowsCause::InUse => "another process has it open",

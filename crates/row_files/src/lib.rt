@@ -11,4 +11,7 @@ pub use causes::{RefusedRows, RowsCause};
 pub use closing::close_rows;
 pub use creating::create_rows;
 pub use files::RowFiles;
-pub use found::{FoundFile, FoundLog, HEAD_LEN, file_of, making_refusal, opening_refusal};
+pub use found::{
+    AT_REST, FoundFile, FoundLog, HEAD_LEN, IN_USE, MARK_AT, Mark, file_of, making_refusal,
+    opening_refusal,
+};

@@ -1,1 +1,4 @@
+pub mod Looking
+pub mod Minds
 pub mod Run
+pub mod Story

@@ -5,28 +5,15 @@ ghost use Rattle.std.specs.Prelude.{◌≡◌, [], IfOk, string_bytes};
 ghost use Rattle.tape_frames.specs.Entries.{lent_entry};
 ghost use Rattle.command_ends.specs.EntryText.{entry_text};
 ghost use Rattle.command_ends.specs.ReleaseText.{plain_line};
+ghost use Rattle.folders.specs.Doings.{moved_file, MayDo};
+ghost use Rattle.run_command.specs.Working.{IsSame, Leaves, Looks, SettlesOne};
 
-use crate::telling::{Event, Reason, tell, tell_file};
+use crate::telling::{Event, Reason, tell, tell_file, tell_refused};
 use command_ends::entry_text;
-use folders::{Asked, FolderFault, Folders, Place, place_of};
+use folders::{Asked, FolderFault, Folders, Leaving, Place, Stamp, place_of};
 use std::alloc::{AllocError, Global};
 use std::io::Write;
 use tape_frames::EntryRef;
-
-/// Moves a file of the offers to a place, with a text beside it.
-fn move_with<F: Folders>(
-    alloc: Global,
-    folders: &mut F,
-    name: &str,
-    to: Place,
-    text: &str,
-) -> Result<(), FolderFault>
-    ensures { F.written folders.new ≡ F.written folders.old }
-{
-    let beside = format!(in alloc; "{name}.txt")?;
-    folders.note(alloc, to, &beside, text)?;
-    folders.set_aside(alloc, name, to)
-}
 
 /// The text beside a file that was lost: what stands under its number.
 fn standing_text(alloc: Global, number: u32, entry: &EntryRef<'_>) -> Result<String, AllocError>
@@ -36,18 +23,29 @@ fn standing_text(alloc: Global, number: u32, entry: &EntryRef<'_>) -> Result<Str
     format!(in alloc; "release {number} {text}\n")
 }
 
+/// The file that was taken up, as it leaves for a place.
+fn leaving_of(asked: &Asked, to: Place) -> Leaving<'_>
+    ensures name { result.name.now ≡ string_bytes asked.now.name }
+    ensures to { result.to ≡ to }
+{
+    Leaving {
+        name: asked.name.as_str(),
+        stamp: asked.stamp,
+        to,
+    }
+}
+
 /// Moves a file that was lost, with the entry that stands under its number beside it.
 fn lose<F: Folders>(
     alloc: Global,
     folders: &mut F,
-    name: &str,
-    number: u32,
+    asked: &Asked,
     entry: &EntryRef<'_>,
 ) -> Result<(), FolderFault>
-    ensures { F.written folders.new ≡ F.written folders.old }
+    ensures { MayDo (F.doings folders.old) (F.doings folders.new) (moved_file (string_bytes asked.now.name) Place.Lost) }
 {
-    let text = standing_text(alloc, number, entry)?;
-    move_with(alloc, folders, name, Place::Lost, &text)
+    let text = standing_text(alloc, asked.number.get(), entry)?;
+    folders.set_aside(alloc, leaving_of(asked, Place::Lost), Some(text.as_str()))
 }
 
 /// Moves a file to the place that it has where this entry stands under its number, and answers what there is to tell.
@@ -57,29 +55,35 @@ fn file_away<F: Folders>(
     asked: &Asked,
     entry: &EntryRef<'_>,
 ) -> Result<Event, FolderFault>
-    ensures { F.written folders.new ≡ F.written folders.old }
+    ensures { Leaves (F.doings folders.old) (F.doings folders.new) (λ name. name ≡ string_bytes asked.now.name) }
 {
     let number = asked.number.get();
     match place_of(&asked.wish, entry) {
         Place::Lost => {
-            lose(alloc, folders, asked.name.as_str(), number, entry)?;
+            lose(alloc, folders, asked, entry)?;
             Ok(Event::Lost { number })
         }
         place => {
-            folders.set_aside(alloc, asked.name.as_str(), place)?;
+            folders.set_aside(alloc, leaving_of(asked, place), None)?;
             Ok(Event::Sent { number })
         }
     }
 }
 
-/// Whether the file that was taken up still lies there as it was read.
-fn is_there<F: Folders>(alloc: Global, folders: &mut F, asked: &Asked) -> bool
-    ensures { F.written folders.new ≡ F.written folders.old }
+/// Puts a file off that can't be moved now, which is told.
+fn put_off_move<E: Write>(
+    alloc: Global,
+    asked: &mut Asked,
+    fault: FolderFault,
+    now: u64,
+    err: &mut E,
+)
+    ensures { IsSame asked.old asked.new }
 {
-    match folders.stamp(alloc, asked.name.as_str()) {
-        Ok(stamp) => stamp == asked.stamp,
-        Err(_) => false,
-    }
+    asked.put_off(now);
+    let name = asked.name.as_str();
+    tell_file(alloc, "cannot move", name, fault, asked.told, err);
+    asked.told = Some(fault);
 }
 
 /// Settles a file whose number has this entry. One that was changed since is left, to be taken up anew.
@@ -92,12 +96,8 @@ pub(crate) fn settle<F: Folders, E: Write>(
     quiet: bool,
     err: &mut E,
 )
-    ensures { F.written folders.new ≡ F.written folders.old }
+    ensures { SettlesOne (F.doings folders.old) (F.doings folders.new) asked.old.number asked.old asked.new }
 {
-    if !is_there(alloc, folders, asked) {
-        asked.is_settled = true;
-        return;
-    }
     match file_away(alloc, folders, asked, entry) {
         Ok(event) => {
             asked.is_settled = true;
@@ -105,30 +105,47 @@ pub(crate) fn settle<F: Folders, E: Write>(
         }
         // Another file by now, to be taken up anew.
         Err(FolderFault::Missing | FolderFault::Changed) => asked.is_settled = true,
-        Err(fault) => {
-            asked.put_off(now);
-            tell_file(
-                alloc,
-                "cannot move",
-                asked.name.as_str(),
-                fault,
-                asked.told,
-                err,
-            );
-            asked.told = Some(fault);
-        }
+        Err(fault) => put_off_move(alloc, asked, fault, now, err),
     }
 }
 
-/// Moves a file that is no offer, with the reason beside it.
+/// Moves the file of this name and stamp, which is no offer, with the reason beside it.
 pub(crate) fn refuse<F: Folders>(
     alloc: Global,
     folders: &mut F,
     name: &str,
+    stamp: Stamp,
     reason: Reason,
 ) -> Result<(), FolderFault>
-    ensures { F.written folders.new ≡ F.written folders.old }
+    ensures { MayDo (F.doings folders.old) (F.doings folders.new) (moved_file name.now Place.Refused) }
 {
     let text = format!(in alloc; "{reason}\n")?;
-    move_with(alloc, folders, name, Place::Refused, &text)
+    let leaving = Leaving {
+        name,
+        stamp,
+        to: Place::Refused,
+    };
+    folders.set_aside(alloc, leaving, Some(text.as_str()))
+}
+
+/// Refuses a file that was taken up.
+pub(crate) fn refuse_asked<F: Folders, E: Write>(
+    alloc: Global,
+    folders: &mut F,
+    asked: &mut Asked,
+    reason: Reason,
+    now: u64,
+    quiet: bool,
+    err: &mut E,
+)
+    ensures { Looks (F.doings folders.old) (F.doings folders.new) (λ doings. IsSame asked.old asked.new) }
+{
+    match refuse(alloc, folders, asked.name.as_str(), asked.stamp, reason) {
+        Ok(()) => {
+            asked.is_settled = true;
+            tell_refused(alloc, quiet, asked.name.as_str(), reason, err);
+        }
+        Err(FolderFault::Missing | FolderFault::Changed) => asked.is_settled = true,
+        Err(fault) => put_off_move(alloc, asked, fault, now, err),
+    }
 }

@@ -1,14 +1,17 @@
 //! A look at the folders: what lies among the offers; and what is taken up of it, one file after the other.
 
-ghost use Rattle.std.specs.Prelude.{◌≡◌, []};
-ghost use Rattle.folders.specs.Keeping.{Keeps};
+ghost use Rattle.std.specs.Prelude.{◌≡◌, OnOk, string_bytes};
+ghost use Rattle.protocol.specs.Lists.{IsAmong};
+ghost use Rattle.folders.specs.Doings.{read_file, saw_file};
+ghost use Rattle.run_command.specs.Minding.{mind_of, WasTaken};
+ghost use Rattle.run_command.specs.Working.{Follows, IfRead, LaySo, Looks, TakesUp, WritesAndLooks};
 
 use crate::offer_book::OfferBook;
 use crate::telling::{Reason, tell_news};
 use ballots::Number;
 use folders::{
-    Asked, FolderFault, Folders, Kind, NamedFile, Request, STOP, Stamp, Watched, Wish, has_stop,
-    is_left, is_whole, named,
+    Asked, FolderFault, Folders, Found, Kind, Listing, NamedFile, Request, Stamp, Watched, Wish,
+    has_stop, is_left, named,
 };
 use saved_rows::Rows;
 use station::Station;
@@ -23,54 +26,54 @@ fn read_tape<F: Folders>(
     name: &str,
     stamp: Stamp,
 ) -> Result<Result<Tape, TapeFault>, FolderFault>
-    ensures { F.written folders.new ≡ F.written folders.old }
+    ensures { Looks (F.doings folders.old) (F.doings folders.new) (λ doings. IfRead result (λ tape. IsAmong doings (read_file (record { name = name.now; bytes = tape })))) }
 {
-    match folders.read(alloc, name, MAX_FRAMES) {
-        Ok(bytes) => Ok(Tape::from_vec(alloc, bytes)),
-        Err(FolderFault::TooLong) => {
+    match folders.read(alloc, name, stamp, MAX_FRAMES)? {
+        Some(bytes) => Ok(Tape::from_vec(alloc, bytes)),
+        None => {
             let len = usize::try_from(stamp.length).unwrap_or(usize::MAX);
             Ok(Err(TapeFault::TooLong { len }))
         }
-        Err(fault) => Err(fault),
     }
 }
 
-/// What a file of this stamp asks for, or why it is no offer. Where there is no memory for its tape, it can't be read now.
+/// Sees to it that a file of this name and stamp lies there, whatever it holds.
+fn find<F: Folders>(
+    alloc: Global,
+    folders: &mut F,
+    name: &str,
+    stamp: Stamp,
+) -> Result<(), FolderFault>
+    ensures { Looks (F.doings folders.old) (F.doings folders.new) (λ doings. OnOk result (IsAmong doings (saw_file name.now))) }
+{
+    let _ = folders.read(alloc, name, stamp, 0)?;
+    Ok(())
+}
+
+/// What a file of this name and stamp asks for, or why it is no offer. Where there is no memory for its tape, it can't be read now.
 fn read_wish<F: Folders>(
     alloc: Global,
     folders: &mut F,
     name: &str,
-    kind: Kind,
+    request: &Request,
     stamp: Stamp,
 ) -> Result<Result<Wish, Reason>, FolderFault>
-    ensures { F.written folders.new ≡ F.written folders.old }
+    ensures { Looks (F.doings folders.old) (F.doings folders.new) (λ doings. IfRead result (λ wish. LaySo doings request.now.kind request.now.number name.now wish)) }
 {
-    match kind {
-        Kind::Withdraw => Ok(Ok(Wish::Offered(Entry::Void))),
-        Kind::Seek => Ok(Ok(Wish::Sought)),
+    match request.kind {
+        Kind::Withdraw => {
+            find(alloc, folders, name, stamp)?;
+            Ok(Ok(Wish::Offered(Entry::Void)))
+        }
+        Kind::Seek => {
+            find(alloc, folders, name, stamp)?;
+            Ok(Ok(Wish::Sought))
+        }
         Kind::Tape => match read_tape(alloc, folders, name, stamp)? {
             Ok(tape) => Ok(Ok(Wish::Offered(Entry::Tape(tape)))),
             Err(TapeFault::OutOfMemory) => Err(FolderFault::OutOfMemory),
             Err(fault) => Ok(Err(Reason::Tape(fault))),
         },
-    }
-}
-
-/// The same, where the file is still as it was once it is read.
-fn read_still<F: Folders>(
-    alloc: Global,
-    folders: &mut F,
-    name: &str,
-    kind: Kind,
-    stamp: Stamp,
-) -> Result<Result<Wish, Reason>, FolderFault>
-    ensures { F.written folders.new ≡ F.written folders.old }
-{
-    let wish = read_wish(alloc, folders, name, kind, stamp)?;
-    if folders.stamp(alloc, name)? == stamp {
-        Ok(wish)
-    } else {
-        Err(FolderFault::Changed)
     }
 }
 
@@ -81,13 +84,13 @@ fn read_asked<F: Folders>(
     file: &Watched,
     now: u64,
 ) -> Result<Result<Asked, Reason>, FolderFault>
-    ensures { F.written folders.new ≡ F.written folders.old }
+    ensures { Looks (F.doings folders.old) (F.doings folders.new) (λ doings. IfRead result (λ asked. WasTaken doings asked)) }
 {
-    let Some(Request { number, kind }) = named(alloc, file.name.as_str())? else {
+    let Some(request) = named(alloc, file.name.as_str())? else {
         return Ok(Err(Reason::Name));
     };
-    match read_still(alloc, folders, file.name.as_str(), kind, file.stamp)? {
-        Ok(wish) => asked_of(file, number, wish, now),
+    match read_wish(alloc, folders, file.name.as_str(), &request, file.stamp)? {
+        Ok(wish) => asked_of(file, request.number, wish, now),
         Err(reason) => Ok(Err(reason)),
     }
 }
@@ -98,21 +101,26 @@ fn asked_of(
     number: Number,
     wish: Wish,
     now: u64,
-) -> Result<Result<Asked, Reason>, FolderFault> {
+) -> Result<Result<Asked, Reason>, FolderFault>
+    ensures { IfRead result (λ asked. (string_bytes asked.name ≡ string_bytes file.now.name) × (asked.number ≡ number) × (asked.wish ≡ wish)) }
+{
     let name = file.name.clone()?;
     Ok(Ok(Asked::new(name, number, wish, file.stamp, now)))
 }
 
-/// Takes up a file that is whole, or refuses it. One that can't be read, or moved, is watched again.
-fn take_up<F: Folders, E: Write>(
+/// Reads the file at a place of those that are watched, and takes it up or refuses it. One that can't be read, or moved, is watched again.
+pub(crate) fn read_at<F: Folders, E: Write>(
     folders: &mut F,
     book: &mut OfferBook,
-    file: Watched,
+    place: usize,
     now: u64,
     err: &mut E,
 )
-    ensures { F.written folders.new ≡ F.written folders.old }
+    ensures { Looks (F.doings folders.old) (F.doings folders.new) (TakesUp (mind_of book.old) (mind_of book.new)) }
 {
+    let Some(file) = book.take_watched(place) else {
+        return;
+    };
     match read_asked(book.alloc, folders, &file, now) {
         Ok(Ok(asked)) => book.add(asked),
         Ok(Err(reason)) => book.refuse_watched(folders, file, reason, now, err),
@@ -122,62 +130,37 @@ fn take_up<F: Folders, E: Write>(
     }
 }
 
-/// Reads the file at a place of those that are watched, and takes it up or refuses it. One that was changed meanwhile is watched anew;
-/// one that is gone is forgotten.
-pub(crate) fn read_at<F: Folders, E: Write>(
-    folders: &mut F,
-    book: &mut OfferBook,
-    place: usize,
-    now: u64,
-    err: &mut E,
-)
-    ensures { F.written folders.new ≡ F.written folders.old }
+/// Looks at a file, unless it is left alone or was taken up.
+fn watch(book: &mut OfferBook, found: &Found, now: u64)
+    ensures { mind_of book.new ≡ mind_of book.old }
 {
-    let Some(file) = book.take_watched(place) else {
-        return;
-    };
-    let Ok(stamp) = folders.stamp(book.alloc, file.name.as_str()) else {
-        return;
-    };
-    if is_whole(file.stamp, file.since, stamp, now) {
-        take_up(folders, book, file, now, err);
-    } else {
-        book.watch_anew(file, stamp, now);
-    }
-}
-
-/// Looks at a file that was not taken up yet. What is no plain file is told.
-fn watch<F: Folders, E: Write>(
-    folders: &mut F,
-    book: &mut OfferBook,
-    name: &str,
-    now: u64,
-    err: &mut E,
-)
-    ensures { F.written folders.new ≡ F.written folders.old }
-{
-    match folders.stamp(book.alloc, name) {
-        Ok(stamp) => book.see(name, stamp, now),
-        Err(FolderFault::Missing) => {}
-        Err(fault) => book.note_other(name, fault, err),
+    let name = found.name.as_str();
+    if !is_left(name) && !book.has_asked(name) {
+        book.see(name, found.stamp, now);
     }
 }
 
 /// Looks at each file that was not taken up yet.
-fn watch_all<F: Folders, E: Write>(
-    folders: &mut F,
-    book: &mut OfferBook,
-    names: &[String],
-    now: u64,
-    err: &mut E,
-)
-    ensures { F.written folders.new ≡ F.written folders.old }
+fn watch_all(book: &mut OfferBook, files: &[Found], now: u64)
+    ensures { mind_of book.new ≡ mind_of book.old }
 {
-    for name in names {
-        if !is_left(name.as_str()) && !book.has_asked(name.as_str()) {
-            watch(folders, book, name.as_str(), now, err);
-        }
+    for found in files {
+        watch(book, found, now);
     }
+}
+
+/// Takes in what was found among the offers; whether the file that ends the run was.
+fn take_listing<E: Write>(book: &mut OfferBook, mut listing: Listing, now: u64, err: &mut E) -> bool
+    ensures { Follows (mind_of book.old) (mind_of book.new) }
+{
+    listing
+        .files
+        .sort_unstable_by(|a, b| a.name.as_str().cmp(b.name.as_str()));
+    tell_news(listing.news.as_slice(), err);
+    book.note_read(listing.skipped, listing.others, err);
+    book.forget(listing.files.as_slice());
+    watch_all(book, listing.files.as_slice(), now);
+    has_stop(listing.files.as_slice())
 }
 
 /// Looks at what lies among the offers; whether the file that ends the run does.
@@ -187,18 +170,10 @@ fn see_offers<F: Folders, E: Write>(
     now: u64,
     err: &mut E,
 ) -> bool
-    ensures { F.written folders.new ≡ F.written folders.old }
+    ensures { Looks (F.doings folders.old) (F.doings folders.new) (TakesUp (mind_of book.old) (mind_of book.new)) }
 {
-    match folders.names(book.alloc) {
-        Ok(mut listing) => {
-            listing.names.sort_unstable();
-            tell_news(listing.news.as_slice(), err);
-            book.note_read(listing.skipped, err);
-            book.forget(listing.names.as_slice());
-            watch_all(folders, book, listing.names.as_slice(), now, err);
-            // A folder of that name is left alone, as other folders are.
-            has_stop(listing.names.as_slice()) && folders.stamp(book.alloc, STOP).is_ok()
-        }
+    match folders.list(book.alloc) {
+        Ok(listing) => take_listing(book, listing, now, err),
         Err(fault) => {
             book.note_unread(fault, err);
             false
@@ -216,7 +191,7 @@ pub(crate) fn look<R: Rows, F: Folders, E: Write>(
     now: u64,
     err: &mut E,
 )
-    ensures { Keeps (F.written folders.old) (F.written folders.new) waits.old.items waits.new.items [] }
+    ensures { WritesAndLooks (F.doings folders.old) (F.doings folders.new) waits.old.items waits.new.items (mind_of book.old) (mind_of book.new) }
 {
     book.pacing.sweep(station);
     book.write(folders, waits, err);

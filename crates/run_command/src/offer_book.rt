@@ -1,9 +1,13 @@
 //! What a run keeps in mind beside its station: the files among the offers, and what was told.
 
-ghost use Rattle.std.specs.Prelude.{◌≡◌, ◌≤◌, [], length};
-ghost use Rattle.folders.specs.Keeping.{Keeps};
+ghost use Rattle.std.specs.Prelude.{◌≡◌, ◌≤◌, [], false, List, IfSome, length};
+ghost use Rattle.std.specs.List.{Contains};
+ghost use Rattle.folders.specs.Doings.{Doing};
+ghost use Rattle.run_command.specs.Minding.{mind_of, KeepsRelease, WasTaken, WereTaken};
+ghost use Rattle.run_command.specs.Story.{IsReleasedIn};
+ghost use Rattle.run_command.specs.Working.{Always, Closes, Follows, IsSame, Looks, Releases, Settles, SettlesOne, StayTaken, TakesUp, WritesOut};
 
-use crate::departures::{refuse, settle};
+use crate::departures::{refuse, refuse_asked, settle};
 use crate::pacing::Pacing;
 use crate::telling::{
     Event, Reason, tell, tell_fault, tell_file, tell_folders, tell_refused, tell_wrong_circuit,
@@ -11,8 +15,8 @@ use crate::telling::{
 use ballots::Number;
 use exchange::Said;
 use folders::{
-    Asked, FolderFault, Folders, LAST_PAUSE, NamedFile, Stamp, TELL, Watched, Wish, has_passed,
-    index_of, write_waiting,
+    Asked, FolderFault, Folders, Found, LAST_PAUSE, NamedFile, PassedOver, Stamp, TELL, Watched,
+    Wish, has_passed, index_of, is_left, write_waiting,
 };
 use node_core::Note;
 use pace::{Deeds, Work};
@@ -20,7 +24,6 @@ use saved_rows::Rows;
 use station::{Answer, Release, Station, StepRefusal};
 use std::alloc::{AllocError, Global};
 use std::io::Write;
-use std::mem;
 use tape_frames::{Entry, EntryRef};
 
 /// A number that was released since the start, and its entry.
@@ -51,10 +54,9 @@ pub(crate) struct OfferBook {
     /// Why the folder of offers, or that of releases, does not serve, as it was told.
     unread: Option<FolderFault>,
     unwritten: Option<FolderFault>,
-    /// How many names among the offers are passed over, and in order those of what is no plain file, at this look and at the last.
+    /// How many names among the offers were passed over at the last look, and in order of their names what else was.
     skipped: usize,
-    others: Vec<String>,
-    others_before: Vec<String>,
+    others: Vec<PassedOver>,
     /// When it was told last that a station speaks for another circuit.
     strayed: Option<u64>,
 }
@@ -78,7 +80,9 @@ fn follow_one<R: Rows, E: Write>(
     now: u64,
     quiet: bool,
     err: &mut E,
-) {
+)
+    ensures { IsSame asked.old asked.new }
+{
     if asked.is_settled || asked.due.is_some() {
         return;
     }
@@ -102,7 +106,9 @@ fn follow_all<R: Rows, E: Write>(
     now: u64,
     quiet: bool,
     err: &mut E,
-) {
+)
+    ensures { StayTaken asked.old.items asked.new.items }
+{
     for place in 0..asked.len() {
         if let Some(each) = asked.get_mut(place) {
             follow_one(station, each, note, now, quiet, err);
@@ -111,7 +117,9 @@ fn follow_all<R: Rows, E: Write>(
 }
 
 /// Puts a file off whose ballots came to no end, or found nothing.
-fn close<E: Write>(asked: &mut Asked, note: &Note, now: u64, quiet: bool, err: &mut E) {
+fn close<E: Write>(asked: &mut Asked, note: &Note, now: u64, quiet: bool, err: &mut E)
+    ensures { IsSame asked.old asked.new }
+{
     let number = asked.number.get();
     match note {
         Note::GaveUp { ballot } => {
@@ -128,7 +136,9 @@ fn close<E: Write>(asked: &mut Asked, note: &Note, now: u64, quiet: bool, err: &
 }
 
 /// Keeps a release in mind behind the others.
-fn remember(alloc: Global, released: &mut Vec<Known>, release: &Release) -> Result<(), AllocError> {
+fn remember(alloc: Global, released: &mut Vec<Known>, release: &Release) -> Result<(), AllocError>
+    ensures { KeepsRelease release.now released.old.items released.new.items }
+{
     let known = Known {
         number: release.number,
         entry: release.entry.lend().copy(alloc)?,
@@ -139,13 +149,29 @@ fn remember(alloc: Global, released: &mut Vec<Known>, release: &Release) -> Resu
     }
 }
 
+/// The release of a number, if it is known.
+fn known_of(released: &[Known], number: Number) -> Option<&Known>
+    ensures { IfSome result (λ known. Contains released.now known.now × (known.now.number ≡ number)) }
+{
+    released.iter().find(|known| known.number == number)
+}
+
+/// Puts a file off that is of a number.
+fn put_off_one(asked: &mut Asked, number: Number, now: u64)
+    ensures { IsSame asked.old asked.new }
+{
+    if asked.number == number {
+        asked.put_off(now);
+    }
+}
+
 /// Puts each file of a number off.
-fn put_off_all(asked: &mut Vec<Asked>, number: Number, now: u64) {
+fn put_off_all(asked: &mut Vec<Asked>, number: Number, now: u64)
+    ensures { StayTaken asked.old.items asked.new.items }
+{
     for place in 0..asked.len() {
         if let Some(each) = asked.get_mut(place) {
-            if each.number == number {
-                each.put_off(now);
-            }
+            put_off_one(each, number, now);
         }
     }
 }
@@ -161,7 +187,7 @@ fn settle_one<F: Folders, E: Write>(
     quiet: bool,
     err: &mut E,
 )
-    ensures { F.written folders.new ≡ F.written folders.old }
+    ensures { SettlesOne (F.doings folders.old) (F.doings folders.new) number asked.old asked.new }
 {
     if asked.number == number && !asked.is_settled {
         settle(alloc, folders, asked, entry, now, quiet, err);
@@ -179,7 +205,7 @@ fn settle_all<F: Folders, E: Write>(
     quiet: bool,
     err: &mut E,
 )
-    ensures { F.written folders.new ≡ F.written folders.old }
+    ensures { Settles (F.doings folders.old) (F.doings folders.new) number asked.old.items asked.new.items }
 {
     for place in 0..asked.len() {
         if let Some(each) = asked.get_mut(place) {
@@ -188,11 +214,36 @@ fn settle_all<F: Folders, E: Write>(
     }
 }
 
-/// Whether a name is among these, which are in order.
-fn has_name(names: &[String], name: &str) -> bool {
-    names
-        .binary_search_by(|each| each.as_str().cmp(name))
+/// Whether a file of this name is among these, which are in order of their names.
+fn has_file(files: &[Found], name: &str) -> bool {
+    files
+        .binary_search_by(|each| each.name.as_str().cmp(name))
         .is_ok()
+}
+
+/// Why what has this name was passed over, if it is among these, which are in order of their names.
+fn fault_of(others: &[PassedOver], name: &str) -> Option<FolderFault> {
+    let place = others
+        .binary_search_by(|each| each.name.as_str().cmp(name))
+        .ok()?;
+    Some(others.get(place)?.fault)
+}
+
+/// Tells what is passed over, unless it was so at the last look, or is left alone.
+fn tell_others<E: Write>(alloc: Global, others: &[PassedOver], before: &[PassedOver], err: &mut E) {
+    for each in others {
+        let name = each.name.as_str();
+        if !is_left(name) {
+            tell_file(
+                alloc,
+                "cannot read",
+                name,
+                each.fault,
+                fault_of(before, name),
+                err,
+            );
+        }
+    }
 }
 
 /// The first place from one on of a file for which the station is to be asked, or how many there are.
@@ -242,7 +293,9 @@ fn is_of_ballot(note: &Note) -> bool {
 
 impl OfferBook {
     /// Nothing is known yet.
-    pub(crate) fn new(alloc: Global, quiet: bool) -> OfferBook {
+    pub(crate) fn new(alloc: Global, quiet: bool) -> OfferBook
+        ensures { mind_of result ≡ record { asked = []; released = []; unwritten = false } }
+    {
         OfferBook {
             alloc,
             quiet,
@@ -258,14 +311,15 @@ impl OfferBook {
             unwritten: None,
             skipped: 0,
             others: Vec::new(alloc),
-            others_before: Vec::new(alloc),
             strayed: None,
         }
     }
 
     /// What is to be done with a file at this moment. One that was read is asked for before the next is read, so that few are kept in
     /// memory.
-    pub(crate) fn deed(&mut self, now: u64) -> Deed {
+    pub(crate) fn deed(&mut self, now: u64) -> Deed
+        ensures { mind_of self.new ≡ mind_of self.old }
+    {
         self.next_asked = next_due(self.asked.as_slice(), self.next_asked, now);
         if self.next_asked < self.asked.len() {
             return Deed::Ask(self.next_asked);
@@ -279,7 +333,9 @@ impl OfferBook {
     }
 
     /// The work that comes next at this moment, where a datagram waits in memory or none does.
-    pub(crate) fn next_work(&mut self, waits: bool, now: u64) -> Work {
+    pub(crate) fn next_work(&mut self, waits: bool, now: u64) -> Work
+        ensures { mind_of self.new ≡ mind_of self.old }
+    {
         let deeds = match self.deed(now) {
             Deed::Nothing => Deeds::Nothing,
             Deed::Ask(_) => Deeds::Asks,
@@ -289,7 +345,9 @@ impl OfferBook {
     }
 
     /// A datagram was taken in, or passed over; this is what its head says, if the station took it.
-    pub(crate) fn hear(&mut self, said: Option<Said>, now: u64) {
+    pub(crate) fn hear(&mut self, said: Option<Said>, now: u64)
+        ensures { mind_of self.new ≡ mind_of self.old }
+    {
         self.pacing.took_in();
         if let Some(said) = said {
             self.pacing.hear(said, now);
@@ -297,40 +355,43 @@ impl OfferBook {
     }
 
     /// The folder of offers can't be read: that is told once, until it can, or for another reason.
-    pub(crate) fn note_unread<E: Write>(&mut self, fault: FolderFault, err: &mut E) {
+    pub(crate) fn note_unread<E: Write>(&mut self, fault: FolderFault, err: &mut E)
+        ensures { mind_of self.new ≡ mind_of self.old }
+    {
         tell_fault("cannot read offers", fault, self.unread, err);
         self.unread = Some(fault);
     }
 
-    /// The folder of offers can be read, and so many names are passed over: that they are more is told.
-    pub(crate) fn note_read<E: Write>(&mut self, skipped: usize, err: &mut E) {
-        self.unread = None;
+    /// The folder of offers can be read, and so many names are passed over, and these others: what is new of it is told.
+    pub(crate) fn note_read<E: Write>(
+        &mut self,
+        skipped: usize,
+        mut others: Vec<PassedOver>,
+        err: &mut E,
+    )
+        ensures { mind_of self.new ≡ mind_of self.old }
+    {
+        others.sort_unstable_by(|a, b| a.name.as_str().cmp(b.name.as_str()));
+        tell_others(self.alloc, others.as_slice(), self.others.as_slice(), err);
         if skipped > self.skipped {
             tell_folders("cannot read a name that is not UTF-8", err);
         }
+        self.unread = None;
         self.skipped = skipped;
-        self.others_before = mem::replace(&mut self.others, Vec::new(self.alloc));
+        self.others = others;
     }
 
-    /// What stands under a name, the next in order, is passed over: that is told where it was not at the last look.
-    pub(crate) fn note_other<E: Write>(&mut self, name: &str, fault: FolderFault, err: &mut E) {
-        if !has_name(&self.others_before, name) {
-            tell_file(self.alloc, "cannot read", name, fault, None, err);
-        }
-        if let Ok(name) = String::from_str(self.alloc, name) {
-            let _ = self.others.push(name);
-        }
-    }
-
-    /// Forgets the files that do not lie among the offers, whose names are these in order, or were settled. What there is to do with
-    /// the others is sought anew.
-    pub(crate) fn forget(&mut self, names: &[String]) {
+    /// Forgets the files that are not among these, which are in order of their names, or were settled. What there is to do with the
+    /// others is sought anew.
+    pub(crate) fn forget(&mut self, files: &[Found])
+        ensures { Follows (mind_of self.old) (mind_of self.new) }
+    {
         self.next_asked = 0;
         self.next_watched = 0;
         self.next_seen = 0;
         self.watched
-            .retain(|file| has_name(names, file.name.as_str()));
-        self.asked.retain(|asked| !asked.is_settled && has_name(names, asked.name.as_str()));
+            .retain(|file| has_file(files, file.name.as_str()));
+        self.asked.retain(|asked| !asked.is_settled && has_file(files, asked.name.as_str()));
     }
 
     /// Whether a file of this name was taken up.
@@ -339,7 +400,11 @@ impl OfferBook {
     }
 
     /// Takes a file up. Where there is no memory for it, it is found again at the next look.
-    pub(crate) fn add(&mut self, asked: Asked) {
+    pub(crate) fn add(&mut self, asked: Asked)
+        ensures taken { (shown : List Doing) → WereTaken shown self.old.asked.items → WasTaken shown asked → WereTaken shown self.new.asked.items }
+        ensures released { self.new.released ≡ self.old.released }
+        ensures unwritten { self.new.unwritten ≡ self.old.unwritten }
+    {
         let _ = self.asked.push(asked);
     }
 
@@ -351,7 +416,9 @@ impl OfferBook {
         fault: FolderFault,
         now: u64,
         err: &mut E,
-    ) {
+    )
+        ensures { mind_of self.new ≡ mind_of self.old }
+    {
         tell_file(self.alloc, what, file.name.as_str(), fault, file.told, err);
         let _ = self.watched.push(Watched {
             since: now.saturating_add(LAST_PAUSE),
@@ -369,9 +436,9 @@ impl OfferBook {
         now: u64,
         err: &mut E,
     )
-        ensures { F.written folders.new ≡ F.written folders.old }
+        ensures { Looks (F.doings folders.old) (F.doings folders.new) (TakesUp (mind_of self.old) (mind_of self.new)) }
     {
-        match refuse(self.alloc, folders, file.name.as_str(), reason) {
+        match refuse(self.alloc, folders, file.name.as_str(), file.stamp, reason) {
             Ok(()) => tell_refused(self.alloc, self.quiet, file.name.as_str(), reason, err),
             Err(FolderFault::Missing | FolderFault::Changed) => {}
             Err(fault) => self.watch_later("cannot move", file, fault, now, err),
@@ -387,7 +454,9 @@ impl OfferBook {
     }
 
     /// A file of this name is found with this stamp, and was not taken up yet: it is watched until it stays as it is.
-    pub(crate) fn see(&mut self, name: &str, stamp: Stamp, now: u64) {
+    pub(crate) fn see(&mut self, name: &str, stamp: Stamp, now: u64)
+        ensures { mind_of self.new ≡ mind_of self.old }
+    {
         let Some(place) = self.place_of(name) else {
             self.watch(name, stamp, now);
             return;
@@ -403,7 +472,9 @@ impl OfferBook {
     }
 
     /// The file at a place of those that are watched; it is watched no longer.
-    pub(crate) fn take_watched(&mut self, place: usize) -> Option<Watched> {
+    pub(crate) fn take_watched(&mut self, place: usize) -> Option<Watched>
+        ensures { mind_of self.new ≡ mind_of self.old }
+    {
         if place < self.watched.len() {
             Some(self.watched.remove(place))
         } else {
@@ -411,18 +482,11 @@ impl OfferBook {
         }
     }
 
-    /// Watches a file again that was changed, with the stamp that it has now.
-    pub(crate) fn watch_anew(&mut self, file: Watched, stamp: Stamp, now: u64) {
-        let _ = self.watched.push(Watched {
-            stamp,
-            since: now,
-            ..file
-        });
-    }
-
     /// Watches a file from now on, at its place in the order of the look. Where there is no memory for it, it is found again at the next
     /// look.
-    fn watch(&mut self, name: &str, stamp: Stamp, now: u64) {
+    fn watch(&mut self, name: &str, stamp: Stamp, now: u64)
+        ensures { mind_of self.new ≡ mind_of self.old }
+    {
         if let Ok(name) = String::from_str(self.alloc, name) {
             let place = self.next_seen.min(self.watched.len());
             let file = Watched {
@@ -443,7 +507,7 @@ impl OfferBook {
         waits: &mut Vec<NamedFile>,
         err: &mut E,
     )
-        ensures { Keeps (F.written folders.old) (F.written folders.new) waits.old.items waits.new.items [] }
+        ensures { WritesOut (F.doings folders.old) (F.doings folders.new) waits.old.items waits.new.items (mind_of self.old) (mind_of self.new) }
     {
         match write_waiting(self.alloc, folders, waits) {
             Ok(()) => self.unwritten = None,
@@ -461,12 +525,23 @@ impl OfferBook {
         note: &Note,
         now: u64,
         err: &mut E,
-    ) {
+    )
+        ensures { Follows (mind_of self.old) (mind_of self.new) }
+    {
         if !is_of_ballot(note) {
             return;
         }
         let quiet = self.quiet;
         follow_all(station, &mut self.asked, note, now, quiet, err);
+    }
+
+    /// A step that closed a ballot may have let numbers leave the window.
+    fn sweep<R: Rows>(&mut self, station: &Station<R>, note: &Note)
+        ensures { mind_of self.new ≡ mind_of self.old }
+    {
+        if is_of_close(note) {
+            self.pacing.sweep(station);
+        }
     }
 
     /// Tells a release, keeps it in mind, and settles the files of its number. They stay where files wait to be written among the
@@ -478,7 +553,7 @@ impl OfferBook {
         now: u64,
         err: &mut E,
     )
-        ensures { F.written folders.new ≡ F.written folders.old }
+        ensures { Closes (λ log. IsReleasedIn log release.now) (F.doings folders.old) (F.doings folders.new) (mind_of self.old) (mind_of self.new) }
     {
         let number = release.number.get();
         tell(self.quiet, Event::Released { number }, err);
@@ -512,12 +587,10 @@ impl OfferBook {
         now: u64,
         err: &mut E,
     )
-        ensures { F.written folders.new ≡ F.written folders.old }
+        ensures { Closes (Releases answer.now.release) (F.doings folders.old) (F.doings folders.new) (mind_of self.old) (mind_of self.new) }
     {
         self.follow(station, &answer.note, now, err);
-        if is_of_close(&answer.note) {
-            self.pacing.sweep(station);
-        }
+        self.sweep(station, &answer.note);
         if let Some(release) = &answer.release {
             self.pacing.leave(release.number);
             self.take_release(folders, release, now, err);
@@ -532,7 +605,7 @@ impl OfferBook {
         now: u64,
         err: &mut E,
     )
-        ensures { F.written folders.new ≡ F.written folders.old }
+        ensures { Closes Always (F.doings folders.old) (F.doings folders.new) (mind_of self.old) (mind_of self.new) }
     {
         let Some(asked) = self.asked.get_mut(place) else {
             return;
@@ -542,7 +615,7 @@ impl OfferBook {
             return;
         }
         let number = asked.number;
-        match self.released.iter().find(|known| known.number == number) {
+        match known_of(&self.released, number) {
             Some(known) => {
                 settle(
                     self.alloc,
@@ -559,7 +632,9 @@ impl OfferBook {
     }
 
     /// The file at a place, if the station is to be asked for it now.
-    pub(crate) fn due_at(&self, place: usize, now: u64) -> Option<&Asked> {
+    pub(crate) fn due_at(&self, place: usize, now: u64) -> Option<&Asked>
+        ensures { IfSome result (λ asked. Contains self.now.asked.items asked.now) }
+    {
         match self.asked.get(place) {
             Some(asked) if asked.is_due(now) => Some(asked),
             _ => None,
@@ -567,7 +642,9 @@ impl OfferBook {
     }
 
     /// The station took up the file at a place: where it began a ballot for it, the file is under way.
-    pub(crate) fn set_out<R: Rows>(&mut self, station: &Station<R>, place: usize, now: u64) {
+    pub(crate) fn set_out<R: Rows>(&mut self, station: &Station<R>, place: usize, now: u64)
+        ensures { Follows (mind_of self.old) (mind_of self.new) }
+    {
         let Some(asked) = self.asked.get_mut(place) else {
             return;
         };
@@ -580,14 +657,18 @@ impl OfferBook {
     }
 
     /// The station is asked again for the file at a place.
-    pub(crate) fn put_off(&mut self, place: usize, now: u64) {
+    pub(crate) fn put_off(&mut self, place: usize, now: u64)
+        ensures { Follows (mind_of self.old) (mind_of self.new) }
+    {
         if let Some(asked) = self.asked.get_mut(place) {
             asked.put_off(now);
         }
     }
 
     /// The station is asked again for the file at a place when the other file of its number may have come to an end.
-    pub(crate) fn wait(&mut self, place: usize, now: u64) {
+    pub(crate) fn wait(&mut self, place: usize, now: u64)
+        ensures { Follows (mind_of self.old) (mind_of self.new) }
+    {
         if let Some(asked) = self.asked.get_mut(place) {
             asked.wait(now);
         }
@@ -602,34 +683,18 @@ impl OfferBook {
         now: u64,
         err: &mut E,
     )
-        ensures { F.written folders.new ≡ F.written folders.old }
+        ensures { Closes Always (F.doings folders.old) (F.doings folders.new) (mind_of self.old) (mind_of self.new) }
     {
         let Some(asked) = self.asked.get_mut(place) else {
             return;
         };
-        match refuse(self.alloc, folders, asked.name.as_str(), reason) {
-            Ok(()) => {
-                asked.is_settled = true;
-                tell_refused(self.alloc, self.quiet, asked.name.as_str(), reason, err);
-            }
-            Err(FolderFault::Missing | FolderFault::Changed) => asked.is_settled = true,
-            Err(fault) => {
-                asked.put_off(now);
-                tell_file(
-                    self.alloc,
-                    "cannot move",
-                    asked.name.as_str(),
-                    fault,
-                    asked.told,
-                    err,
-                );
-                asked.told = Some(fault);
-            }
-        }
+        refuse_asked(self.alloc, folders, asked, reason, now, self.quiet, err);
     }
 
     /// Tells that a station speaks for another circuit, once in a while.
-    pub(crate) fn hear_refusal<E: Write>(&mut self, refusal: StepRefusal, now: u64, err: &mut E) {
+    pub(crate) fn hear_refusal<E: Write>(&mut self, refusal: StepRefusal, now: u64, err: &mut E)
+        ensures { mind_of self.new ≡ mind_of self.old }
+    {
         if refusal != StepRefusal::WrongCircuit {
             return;
         }

@@ -1,12 +1,11 @@
 //! The steps of a run: what its station takes in, sees to and is asked, and what comes of each.
 
-ghost use Rattle.std.specs.Prelude.{◌≡◌, [], OnOk, OnErr, IfErr};
+ghost use Rattle.std.specs.Prelude.{◌≡◌, [], IfErr};
 ghost use Rattle.command_ends.specs.declared.fault.Fault.TheVariants.{OutOfMemory};
 ghost use Rattle.wire.specs.Passing.{Passes};
-ghost use Rattle.exchange.specs.Events.{sending};
-ghost use Rattle.plant_files.specs.Filing.{files_of};
-ghost use Rattle.folders.specs.Keeping.{Keeps};
-ghost use Rattle.run_command.specs.Running.{RunsUpTo};
+ghost use Rattle.exchange.specs.Events.{ended, sending};
+ghost use Rattle.run_command.specs.Minding.{mind_of};
+ghost use Rattle.run_command.specs.Working.{Always, Closes, HandsOn, WorksUpTo};
 
 use crate::look::{look, read_at};
 use crate::offer_book::{Deed, OfferBook};
@@ -33,8 +32,7 @@ fn hand_on<R: Rows, N: Wire, F: Folders, E: Write>(
     err: &mut E,
 ) -> Result<(), Fault<'static>>
     ensures sends { Passes (N.passed wire.old) (N.passed wire.new) (sending answer.now.out.items) }
-    ensures ok { OnOk result (Keeps (F.written folders.old) (F.written folders.new) waits.old.items waits.new.items (files_of answer.now.release)) }
-    ensures err { OnErr result (F.written folders.new ≡ F.written folders.old) }
+    ensures hands { HandsOn F.doings answer.now folders.old folders.new waits.old.items waits.new.items (mind_of book.old) (mind_of book.new) (ended result) }
     ensures fault { IfErr result (λ fault. fault ≡ OutOfMemory) }
 {
     send_answer(answer, wire, err);
@@ -58,7 +56,7 @@ fn take_in<R: Rows, N: Wire, F: Folders, E: Write>(
     err: &mut E,
 ) -> Result<(), Fault<'static>>
     ensures was_kept { R.kept station.new.rows → R.kept station.old.rows }
-    ensures runs { RunsUpTo result R.Rows N.passed F.written station.old station.new wire.old wire.new folders.old folders.new waits.old.items waits.new.items }
+    ensures works { WorksUpTo result R.Rows N.passed F.doings station.old station.new wire.old wire.new folders.old folders.new waits.old.items waits.new.items book.old book.new }
 {
     match take_datagram(station, wire, now, &mut intake.room) {
         Outcome::Nothing => Ok(()),
@@ -87,7 +85,7 @@ fn see_to_due<R: Rows, N: Wire, F: Folders, E: Write>(
     err: &mut E,
 ) -> Result<(), Fault<'static>>
     ensures was_kept { R.kept station.new.rows → R.kept station.old.rows }
-    ensures runs { RunsUpTo result R.Rows N.passed F.written station.old station.new wire.old wire.new folders.old folders.new waits.old.items waits.new.items }
+    ensures works { WorksUpTo result R.Rows N.passed F.doings station.old station.new wire.old wire.new folders.old folders.new waits.old.items waits.new.items book.old book.new }
 {
     match station.due(now) {
         Ok(answer) => {
@@ -108,7 +106,7 @@ fn take_refusal<F: Folders, E: Write>(
     now: u64,
     err: &mut E,
 )
-    ensures { F.written folders.new ≡ F.written folders.old }
+    ensures { Closes Always (F.doings folders.old) (F.doings folders.new) (mind_of book.old) (mind_of book.new) }
 {
     match refusal {
         StepRefusal::AlreadyReleased => book.settle_late(folders, place, now, err),
@@ -132,7 +130,7 @@ fn ask_at<R: Rows, N: Wire, F: Folders, E: Write>(
     err: &mut E,
 ) -> Result<(), Fault<'static>>
     ensures was_kept { R.kept station.new.rows → R.kept station.old.rows }
-    ensures runs { RunsUpTo result R.Rows N.passed F.written station.old station.new wire.old wire.new folders.old folders.new waits.old.items waits.new.items }
+    ensures works { WorksUpTo result R.Rows N.passed F.doings station.old station.new wire.old wire.new folders.old folders.new waits.old.items waits.new.items book.old book.new }
 {
     let Some(asked) = book.due_at(place, now) else {
         return Ok(());
@@ -160,7 +158,7 @@ fn do_deed<R: Rows, N: Wire, F: Folders, E: Write>(
     err: &mut E,
 ) -> Result<(), Fault<'static>>
     ensures was_kept { R.kept station.new.rows → R.kept station.old.rows }
-    ensures runs { RunsUpTo result R.Rows N.passed F.written station.old station.new wire.old wire.new folders.old folders.new waits.old.items waits.new.items }
+    ensures works { WorksUpTo result R.Rows N.passed F.doings station.old station.new wire.old wire.new folders.old folders.new waits.old.items waits.new.items book.old book.new }
 {
     match book.deed(now) {
         Deed::Ask(place) => ask_at(station, wire, folders, waits, book, place, now, err),
@@ -194,7 +192,7 @@ pub(crate) fn turn<R: Rows, N: Wire, F: Folders, E: Write>(
     err: &mut E,
 ) -> Result<(), Fault<'static>>
     ensures was_kept { R.kept station.new.rows → R.kept station.old.rows }
-    ensures runs { RunsUpTo result R.Rows N.passed F.written station.old station.new wire.old wire.new folders.old folders.new waits.old.items waits.new.items }
+    ensures works { WorksUpTo result R.Rows N.passed F.doings station.old station.new wire.old wire.new folders.old folders.new waits.old.items waits.new.items book.old book.new }
 {
     let is_waiting = find(wire, now, err);
     match book.next_work(is_waiting, now) {

@@ -1,8 +1,11 @@
 //! The command `run`: the turns of a station that stays up, until a file says that it ends.
 
-ghost use Rattle.std.specs.Prelude.{◌≡◌, false};
+ghost use Rattle.std.specs.Prelude.{◌≡◌, false, codes};
 ghost use Rattle.command_ends.specs.declared.end.End.TheVariants.{Done};
-ghost use Rattle.run_command.specs.Running.{RunsUpTo, RunsAfresh};
+ghost use Rattle.exchange.specs.Events.{ended};
+ghost use Rattle.folders.specs.Doings.{removed_file, MayDo};
+ghost use Rattle.run_command.specs.Running.{RunsUpTo};
+ghost use Rattle.run_command.specs.Working.{WorksUpTo};
 
 use crate::offer_book::OfferBook;
 use crate::steps::turn;
@@ -27,7 +30,7 @@ fn timed_turn<R: Rows, N: Wire, F: Folders, E: Write>(
     err: &mut E,
 ) -> Result<(), Fault<'static>>
     ensures was_kept { R.kept station.new.rows → R.kept station.old.rows }
-    ensures runs { RunsUpTo result R.Rows N.passed F.written station.old station.new wire.old wire.new folders.old folders.new waits.old.items waits.new.items }
+    ensures works { WorksUpTo result R.Rows N.passed F.doings station.old station.new wire.old wire.new folders.old folders.new waits.old.items waits.new.items book.old book.new }
 {
     let now = wire.now();
     turn(station, wire, folders, waits, book, now, intake, err)
@@ -44,7 +47,7 @@ fn take_turns<R: Rows, N: Wire, F: Folders, E: Write>(
     err: &mut E,
 ) -> Result<(), Fault<'static>>
     ensures was_kept { R.kept station.new.rows → R.kept station.old.rows }
-    ensures runs { RunsUpTo result R.Rows N.passed F.written station.old station.new wire.old wire.new folders.old folders.new waits.old.items waits.new.items }
+    ensures works { WorksUpTo result R.Rows N.passed F.doings station.old station.new wire.old wire.new folders.old folders.new waits.old.items waits.new.items book.old book.new }
 {
     for _ in 0..u64::MAX {
         timed_turn(station, wire, folders, waits, book, intake, err)?;
@@ -57,7 +60,7 @@ fn take_turns<R: Rows, N: Wire, F: Folders, E: Write>(
 
 /// Takes away a file that ended the run before; one that can't be is told, and passed over.
 fn remove_stop<F: Folders, E: Write>(alloc: Global, folders: &mut F, err: &mut E)
-    ensures { F.written folders.new ≡ F.written folders.old }
+    ensures { MayDo (F.doings folders.old) (F.doings folders.new) (removed_file (codes "stop")) }
 {
     match folders.remove(alloc, STOP) {
         Ok(()) | Err(FolderFault::Missing | FolderFault::NoFile) => {}
@@ -65,23 +68,23 @@ fn remove_stop<F: Folders, E: Write>(alloc: Global, folders: &mut F, err: &mut E
     }
 }
 
-/// The same, once a file that ended the run before is taken away.
+/// The same from the start on, once a file that ended the run before is taken away: nothing waits, and nothing is kept in mind.
 fn start<R: Rows, N: Wire, F: Folders, E: Write>(
     alloc: Global,
     station: &mut Station<R>,
     wire: &mut N,
     folders: &mut F,
-    waits: &mut Vec<NamedFile>,
     quiet: bool,
     intake: &mut Intake,
     err: &mut E,
 ) -> Result<(), Fault<'static>>
     ensures was_kept { R.kept station.new.rows → R.kept station.old.rows }
-    ensures runs { RunsUpTo result R.Rows N.passed F.written station.old station.new wire.old wire.new folders.old folders.new waits.old.items waits.new.items }
+    ensures runs { RunsUpTo (ended result) R.Rows N.passed F.doings station.old station.new wire.old wire.new folders.old folders.new }
 {
     remove_stop(alloc, folders, err);
+    let mut waits = Vec::new(alloc);
     let mut book = OfferBook::new(alloc, quiet);
-    take_turns(station, wire, folders, waits, &mut book, intake, err)
+    take_turns(station, wire, folders, &mut waits, &mut book, intake, err)
 }
 
 /// Runs a station over the folders of its plant, until a file `stop` lies among the offers, or the station stops, the network
@@ -100,7 +103,7 @@ pub fn run_station<R: Rows, N: Wire, F: Folders, E: Write>(
     err: &mut E,
 ) -> End
     ensures was_kept { R.kept station.new.rows → R.kept station.old.rows }
-    ensures runs { RunsAfresh result R.Rows N.passed F.written station.old station.new wire.old wire.new folders.old folders.new }
+    ensures runs { RunsUpTo result R.Rows N.passed F.doings station.old station.new wire.old wire.new folders.old folders.new }
     ensures goes_on { result ≡ Done → station.new.stopped ≡ false }
 {
     if station.stopped() {
@@ -109,17 +112,7 @@ pub fn run_station<R: Rows, N: Wire, F: Folders, E: Write>(
     let Ok(mut intake) = Intake::new(alloc) else {
         return Fault::OutOfMemory.tell(err);
     };
-    let mut waits = Vec::new(alloc);
-    match start(
-        alloc,
-        station,
-        wire,
-        folders,
-        &mut waits,
-        quiet,
-        &mut intake,
-        err,
-    ) {
+    match start(alloc, station, wire, folders, quiet, &mut intake, err) {
         Ok(()) => End::Done,
         Err(fault) => fault.tell(err),
     }

@@ -1,4 +1,4 @@
-//! The tests of tapes and packets, of typesetting and of drawings, and of readers and writers that fail.
+//! The tests of tapes and packets, of typesetting, of texts and of drawings, and of readers and writers that fail.
 #![tactic(auto)]
 
 #[cfg(test)]
@@ -15,3 +15,5 @@ mod inputs;
 mod lines;
 #[cfg(test)]
 mod tapes;
+#[cfg(test)]
+mod texts;

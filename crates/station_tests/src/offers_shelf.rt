@@ -1,7 +1,7 @@
 //! A book of offers beside the files that lie among the offers: what happens, and what is to be done then.
 
 use ballots::Number;
-use folders::{Kind, Place, Request, Stamp, Wish};
+use folders::{FileId, Kind, Place, Request, Stamp, Wish};
 use offers::{Allowed, Book, Deed, Found, Reason};
 use std::alloc::Global;
 use tape_frames::{Entry, Tape, TapeFault};
@@ -109,7 +109,12 @@ fn story(alloc: Global) -> Option<Entry> {
 impl Shelf {
     fn lay(&mut self, number: u32, kind: Kind) -> Option<bool> {
         let request = request(number, kind)?;
+        let file = FileId {
+            device: 0,
+            inode: 0,
+        };
         let stamp = Stamp {
+            file,
             length: 0,
             changed: (0, 0),
             touched: (0, 0),

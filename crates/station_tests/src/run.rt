@@ -4,6 +4,7 @@ mod bursts;
 mod layouts;
 mod memory;
 mod offering;
+mod order;
 mod plant;
 mod refusing;
 mod stage;

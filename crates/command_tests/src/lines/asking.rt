@@ -19,6 +19,8 @@ pub enum Wanted<'a> {
     Plan(Plan<'a>),
     /// It asks to answer for circuit 7 in this version.
     Answer(Version),
+    /// It asks to punch `story.txt` by `codes.toml`, with these ligatures, as a tape for which this version has room.
+    Punch(Option<&'a str>, Version),
     /// It asks to make the row file of `station.toml` in this version's layout.
     Create(Version),
     /// It asks to run the station of `station.toml`, with rows that are made in this layout, if they are, and to tell faults alone
@@ -46,6 +48,22 @@ fn is_asked(asked: &Result<Asked<'_>, End>, wanted: &Wanted<'_>) -> bool {
         (Ok(Asked::Serve(plan)), Wanted::Plan(wanted)) => is_same(plan, wanted),
         (Ok(Asked::Answer { circuit, wire, .. }), Wanted::Answer(wanted)) => {
             *circuit == 7 && *wire == *wanted
+        }
+        (
+            Ok(
+                Asked::Punch {
+                    table,
+                    text,
+                    ligatures,
+                    room,
+                },
+            ),
+            Wanted::Punch(named, version),
+        ) => {
+            *table == "codes.toml"
+                && *text == "story.txt"
+                && *ligatures == *named
+                && *room == *version
         }
         (Ok(Asked::Create { config, layout }), Wanted::Create(wanted)) => {
             *config == "station.toml" && *layout == *wanted

@@ -14,6 +14,9 @@ Commands:
   answer    Answers requests as one acceptor: a datagram in hex per line in, its reply per line out
   check     Sets a tape by a code table and a width file, and writes its galley: one line per slug
   draw      Draws a tape as an SVG document: its holes, what each frame means, and its slugs to scale
+  punch     Punches a text by a code table: writes its tape, one frame per byte
+  spell     Spells a tape by a code table: writes the text of which it is punched
+  fit       Tells of each line of a tape how it fits, whatever is wrong with the others
   rows      Lists what a station saved: per number its promise, its vote and the frames of that, in hex
   upgrade   Takes what a station saved over to layout 2: it speaks version 2 then, and a number may be withdrawn
   create    Makes the row file of a station that never ran: what it promises and votes for is saved there
@@ -50,7 +53,7 @@ Usage: circuitd check [OPTIONS] <TABLE> <WIDTHS> <TAPE>
 Arguments:
   <TABLE>   The code table, as examples/codes.toml
   <WIDTHS>  The width file, as examples/widths.toml
-  <TAPE>    The tape, one frame per byte
+  <TAPE>    The tape, one frame per byte; - is standard input
 
 Options:
       --holes  First write one line per frame: its holes, and the frame in decimal
@@ -74,7 +77,7 @@ Usage: circuitd draw [OPTIONS] <TABLE> <WIDTHS> <TAPE>
 Arguments:
   <TABLE>   The code table, as examples/codes.toml
   <WIDTHS>  The width file, as examples/widths.toml
-  <TAPE>    The tape, one frame per byte
+  <TAPE>    The tape, one frame per byte; - is standard input
 
 Options:
       --html  Write a page in HTML, with the drawing, the fault in words and the galley
@@ -88,6 +91,70 @@ A tape that does not set is drawn as far as it sets, with a mark at its fault, w
 
   $ circuitd draw codes.toml widths.toml overset.tape > overset.svg
   fault: overset 1 at 7 line 1
+% circuitd punch --help
+Punches a text by a code table: writes its tape, one frame per byte
+
+Usage: circuitd punch [OPTIONS] <TABLE> <TEXT>
+
+Arguments:
+  <TABLE>  The code table, as examples/codes.toml
+  <TEXT>   The text, as examples/wire/river.txt; - is standard input
+
+Options:
+      --ligatures <NAMES>  Letters that are one matrix where they stand outside braces, as fi,fl,ffi: the longest first
+      --most <N>           How many frames the tape may have: 4096 for a circuit of layout 1 [default: 16384] [possible values: 4096, 16384]
+  -h, --help               Print help
+
+Example: a line of text, and what the linecaster will cast of its tape. The text is written as docs/NOTATION.md says:
+a letter is the matrix of that name, a blank is a spaceband, and a line end is the elevate code.
+
+  $ echo 'a b a b' | circuitd punch codes.toml - > line.tape
+  $ circuitd check codes.toml widths.toml line.tape
+  0001 J 0 0 a _3 b _3 a _2 b
+
+What the table has no frame for is told with its place:
+
+  $ echo 'a?' | circuitd punch codes.toml -
+  text: no code for \"?\" at line 1 column 2
+% circuitd spell --help
+Spells a tape by a code table: writes the text of which it is punched
+
+Usage: circuitd spell [OPTIONS] <TABLE> <TAPE>
+
+Arguments:
+  <TABLE>  The code table, as examples/codes.toml
+  <TAPE>   The tape, one frame per byte; - is standard input
+
+Options:
+      --plain  Write what a reader reads: letters, blanks and line ends alone
+  -h, --help   Print help
+
+Example: the text of a tape, which is punched as that tape again, frame for frame:
+
+  $ circuitd spell codes.toml harvest.tape
+  B{@quadcenter}
+  A{@quadright}
+% circuitd fit --help
+Tells of each line of a tape how it fits, whatever is wrong with the others
+
+Usage: circuitd fit [OPTIONS] <TABLE> <WIDTHS> <TAPE>
+
+Arguments:
+  <TABLE>   The code table, as examples/codes.toml
+  <WIDTHS>  The width file, as examples/widths.toml
+  <TAPE>    The tape, one frame per byte; - is standard input
+
+Options:
+      --text  The third file is a text, which is punched first
+  -h, --help  Print help
+
+Example: how each line fits, whatever is wrong with the others: its slug, or why it has none, and its least and
+greatest width.
+
+  $ circuitd fit codes.toml widths.toml overset.tape
+  line  slug  verdict        least .. most of 30
+     1        overset 1         31 .. 39   ab ab a
+  1 of 1 lines do not set
 % circuitd help rows, circuitd rows --help
 Lists what a station saved: per number its promise, its vote and the frames of that, in hex
 
@@ -235,5 +302,5 @@ fn lines_that_ask_for_help(rt: HostRuntime) {
     for row in rows.split("% ").skip(1) {
         assert!(rt; is_row(rt.alloc(), row) == Some(true), "{row}");
     }
-    assert!(rt; rows.split("% ").count() == 11);
+    assert!(rt; rows.split("% ").count() == 14);
 }

@@ -135,6 +135,34 @@ $ circuitd check --holes circuitd_words/codes.toml circuitd_words/widths.toml ci
 $ circuitd draw --html circuitd_words/codes.toml circuitd_words/widths.toml circuitd_words/none.tape
 ! cannot read circuitd_words/none.tape
 = input
+$ circuitd punch circuitd_words/codes.toml -
+< a b/
+! text: no code for \"/\" at line 1 column 4
+= input
+$ circuitd punch circuitd_words/codes.toml - --ligatures fi,ab
+< abfi{}
+! text: no code for \"ab\" at line 1 column 1
+= input
+$ circuitd punch circuitd_words/none.toml circuitd_words/none.txt --ligatures fi,{
+! usage: --ligatures takes names of matrices without a brace, as fi,fl,ffi
+= usage
+$ circuitd spell circuitd_words/codes.toml circuitd_words/flood.tape
+> ab a b
+= done
+$ circuitd spell --plain circuitd_words/codes.toml circuitd_words/none.tape
+! cannot read circuitd_words/none.tape
+= input
+$ circuitd fit circuitd_words/codes.toml circuitd_words/widths.toml circuitd_words/flood.tape
+> line  slug  verdict        least .. most of 30
+>    1     1  J 4               26 .. 34   ab a b
+> 0 of 1 lines do not set
+= done
+$ circuitd fit --text circuitd_words/codes.toml circuitd_words/widths.toml -
+< ab ab a
+> line  slug  verdict        least .. most of 30
+>    1        overset 1         31 .. 39   ab ab a
+> 1 of 1 lines do not set
+= input
 $ circuitd rehearse circuitd_words/codes.toml circuitd_words/widths.toml circuitd_words/story.script
 > 2 began 1.2
 >  #1 prepare 2>1 12 1.2
@@ -192,6 +220,9 @@ const TOO_LONG: &str = "\
 circuitd check circuitd_words/blanks circuitd_words/widths.toml circuitd_words/flood.tape
 circuitd check circuitd_words/codes.toml circuitd_words/blanks circuitd_words/flood.tape
 circuitd check circuitd_words/codes.toml circuitd_words/widths.toml circuitd_words/blanks --holes
+circuitd punch circuitd_words/blanks circuitd_words/flood.tape
+circuitd punch circuitd_words/codes.toml circuitd_words/blanks
+circuitd fit circuitd_words/codes.toml circuitd_words/blanks circuitd_words/flood.tape
 circuitd rehearse circuitd_words/blanks circuitd_words/widths.toml circuitd_words/story.script
 circuitd rehearse circuitd_words/codes.toml circuitd_words/blanks circuitd_words/story.script
 circuitd rehearse circuitd_words/codes.toml circuitd_words/widths.toml circuitd_words/blanks
@@ -319,11 +350,11 @@ fn words_in_their_places(rt: HostRuntime) {
     for run in runs.split("$ ").skip(1) {
         assert!(rt; goes(&rt, run) == Some(true), "{run}");
     }
-    assert!(rt; runs.split("$ ").count() == 21);
+    assert!(rt; runs.split("$ ").count() == 28);
     let lines = TOO_LONG;
     for line in lines.lines() {
         assert!(rt; is_too_long(&rt, line) == Some(true), "{line}");
     }
-    assert!(rt; lines.lines().count() == 10);
+    assert!(rt; lines.lines().count() == 13);
     assert!(rt; fs::remove_dir_all(&rt, FOLDER).is_ok());
 }

@@ -73,6 +73,31 @@ fn versions_of_answer(rt: HostRuntime) {
     }
 }
 
+/// Lines that ask to punch `story.txt` by `codes.toml`, the ligatures that they name, and the version whose room the tape has.
+const PUNCHES: &[(&str, Option<&str>, Version)] = &[
+    ("circuitd punch codes.toml story.txt", None, Version::Two),
+    (
+        "circuitd punch codes.toml story.txt --most 4096",
+        None,
+        Version::One,
+    ),
+    (
+        "circuitd punch --ligatures fi,fl,ffi --most=16384 codes.toml story.txt",
+        Some("fi,fl,ffi"),
+        Version::Two,
+    ),
+];
+
+#[test]
+fn options_of_punch(rt: HostRuntime) {
+    for (line, ligatures, room) in PUNCHES {
+        assert!(rt;
+            comes_to(rt.alloc(), line, Wanted::Punch(*ligatures, *room)),
+            "{line}"
+        );
+    }
+}
+
 /// Lines that ask to make the row file of `station.toml`, and the version whose layout it is made in.
 const CREATIONS: &[(&str, Version)] = &[
     ("circuitd create station.toml", Version::Two),

@@ -8,7 +8,7 @@ use std::alloc::Global;
 const USAGES: &str = "\
 $ circuitd
 'circuitd' requires a subcommand but one was not provided
-  [subcommands: answer, check, draw, rows, upgrade, create, serve, run, rehearse, help]
+  [subcommands: answer, check, draw, punch, spell, fit, rows, upgrade, create, serve, run, rehearse, help]
 
 Usage: circuitd <COMMAND>
 $ circuitd sing
@@ -47,6 +47,9 @@ invalid value '02' for '--wire <V>'
 $ circuitd answer 7 2 --wire
 a value is required for '--wire <V>' but none was supplied
   [possible values: 1, 2]
+$ circuitd punch codes.toml story.txt --most 5000
+invalid value '5000' for '--most <N>'
+  [possible values: 4096, 16384]
 $ circuitd check codes.toml widths.toml
 the following required arguments were not provided:
   <TAPE>
@@ -179,5 +182,5 @@ fn lines_that_are_usage(rt: HostRuntime) {
     for row in rows.split("$ ").skip(1) {
         assert!(rt; is_row(rt.alloc(), row) == Some(true), "{row}");
     }
-    assert!(rt; rows.split("$ ").count() == 43);
+    assert!(rt; rows.split("$ ").count() == 44);
 }

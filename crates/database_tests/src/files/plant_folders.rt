@@ -1,7 +1,8 @@
 //! The folders of a plant, of the host: what is written among the releases, and what leaves the offers.
 
-use folders::{FolderFault, Folders, PASSAGE, Place};
+use folders::{FolderFault, Folders, Leaving, NamedFile, PASSAGE, Place, Stamp};
 use host_folders::{HostFolders, Misplaced, PlantPaths, why_misplaced};
+use std::alloc::Global;
 use std::fs;
 
 const FOLDER: &str = "circuitd_folders";
@@ -71,6 +72,18 @@ const RELEASES_IN_TURN: &[Release] = &[
         stands: &[Paper::Tape, Paper::Galley, Paper::Next],
         left: 0,
     },
+    // More than are begun together, twice.
+    Release {
+        put: &[
+            Paper::Tape,
+            Paper::Galley,
+            Paper::Next,
+            Paper::Long,
+            Paper::Other,
+        ],
+        stands: &[Paper::Galley, Paper::Next, Paper::Long, Paper::Other],
+        left: 0,
+    },
     // One is long.
     Release {
         put: &[Paper::Long],
@@ -122,25 +135,27 @@ fn count(rt: &HostRuntime, folder: &str) -> usize {
     }
 }
 
-/// Whether folders take what is put, each told of before.
+/// These papers as files.
+fn files_of(alloc: Global, papers: &[Paper]) -> Option<Vec<NamedFile>> {
+    let mut files = Vec::new(alloc);
+    for paper in papers {
+        let file = NamedFile::of(alloc, paper.name(), paper.bytes()).ok()?;
+        files.push(file).ok()?;
+    }
+    Some(files)
+}
+
+/// Whether folders take what is put.
 fn are_put<F: Folders>(rt: &HostRuntime, folders: &mut F, papers: &[Paper]) -> bool {
-    for paper in papers {
-        folders.prepare(rt.alloc(), paper.name(), paper.bytes());
+    match files_of(rt.alloc(), papers) {
+        Some(files) => folders.put_all(rt.alloc(), files.as_slice()).is_ok(),
+        None => false,
     }
-    for paper in papers {
-        if folders
-            .put(rt.alloc(), paper.name(), paper.bytes())
-            .is_err()
-        {
-            return false;
-        }
-    }
-    true
 }
 
 /// Whether what is put stands there in the end, after a look, and no more is left under other names.
 fn is_released<F: Folders>(rt: &HostRuntime, folders: &mut F, release: &Release) -> bool {
-    folders.names(rt.alloc()).is_ok()
+    folders.list(rt.alloc()).is_ok()
         && are_put(rt, folders, release.put)
         && release.stands.iter().all(|paper| stands(rt, *paper))
         && count(rt, RELEASES).saturating_sub(release.stands.len()) == release.left
@@ -170,7 +185,7 @@ fn replace_releases(rt: &HostRuntime) -> bool {
 /// Whether a release is the file that was written where the folder is replaced by a copy of itself after a look, and nothing of the copy's is
 /// left under another name.
 fn is_the_file_written<F: Folders>(rt: &HostRuntime, folders: &mut F) -> bool {
-    folders.names(rt.alloc()).is_ok()
+    folders.list(rt.alloc()).is_ok()
         && count(rt, RELEASES) == 2
         && replace_releases(rt)
         && are_put(rt, folders, &[Paper::Tape, Paper::Galley])
@@ -179,28 +194,57 @@ fn is_the_file_written<F: Folders>(rt: &HostRuntime, folders: &mut F) -> bool {
         && count(rt, RELEASES) == 2
 }
 
+/// The stamp of the offer, where it alone is listed: folders are not.
+fn listed<F: Folders>(rt: &HostRuntime, folders: &mut F) -> Option<Stamp> {
+    let listing = folders.list(rt.alloc()).ok()?;
+    let found = listing.files.first()?;
+    let is_alone = listing.files.len() == 1 && listing.others.is_empty();
+    (is_alone && found.name.as_str() == TAPE).then_some(found.stamp)
+}
+
+/// The stamp of the offer, once it holds these bytes.
+fn laid<F: Folders>(rt: &HostRuntime, folders: &mut F, bytes: &[u8]) -> Option<Stamp> {
+    fs::write(rt, OFFER, bytes).ok()?;
+    listed(rt, folders)
+}
+
+/// The offer, as it leaves for those that were lost.
+fn lost(stamp: Stamp) -> Leaving<'static> {
+    Leaving {
+        name: TAPE,
+        stamp,
+        to: Place::Lost,
+    }
+}
+
 /// Whether an offer of these bytes is moved, with a text beside it.
 fn is_moved<F: Folders>(rt: &HostRuntime, folders: &mut F, bytes: &[u8], text: &str) -> bool {
-    fs::write(rt, OFFER, bytes).is_ok()
-        && folders.stamp(rt.alloc(), TAPE).is_ok()
-        && folders
-            .note(rt.alloc(), Place::Lost, "12.tape.txt", text)
-            .is_ok()
-        && folders.set_aside(rt.alloc(), TAPE, Place::Lost).is_ok()
+    let Some(stamp) = laid(rt, folders, bytes) else {
+        return false;
+    };
+    folders
+        .set_aside(rt.alloc(), lost(stamp), Some(text))
+        .is_ok()
         && matches!(fs::exists(rt, OFFER), Ok(false))
 }
 
-/// Whether an offer that was replaced after a look stays where it is.
+/// Whether an offer that was replaced after a look stays where it is, and has no text beside it.
 fn stays_where_replaced<F: Folders>(rt: &HostRuntime, folders: &mut F) -> bool {
-    fs::write(rt, OFFER, b"seen").is_ok()
-        && folders.stamp(rt.alloc(), TAPE).is_ok()
-        && fs::remove_file(rt, OFFER).is_ok()
+    let Some(stamp) = laid(rt, folders, b"seen") else {
+        return false;
+    };
+    fs::remove_file(rt, OFFER).is_ok()
         && fs::write(rt, OFFER, b"another").is_ok()
         && matches!(
-            folders.set_aside(rt.alloc(), TAPE, Place::Sent),
+            folders.set_aside(rt.alloc(), lost(stamp), Some("replaced\n")),
+            Err(FolderFault::Changed)
+        )
+        && matches!(
+            folders.read(rt.alloc(), TAPE, stamp, 9),
             Err(FolderFault::Changed)
         )
         && holds(rt, OFFER, b"another")
+        && count(rt, "circuitd_folders/offers/lost") == 5
 }
 
 /// Whether nothing that was set aside is written over, and a text that stands there already is not written again.
@@ -220,26 +264,28 @@ fn keeps_all<F: Folders>(rt: &HostRuntime, folders: &mut F) -> bool {
         && count(rt, "circuitd_folders/offers/lost") == 5
 }
 
-/// Whether a file is read whole or not at all, and its length is told; and what is no file is not there.
+/// Whether the file of this stamp holds these bytes, where that is at most so many; nothing where it is not read.
+fn reads<F: Folders>(rt: &HostRuntime, folders: &mut F, stamp: Stamp, most: usize) -> Option<bool> {
+    let held = folders.read(rt.alloc(), TAPE, stamp, most).ok()?;
+    Some(held?.as_slice() == b"three".as_slice())
+}
+
+/// Whether a file is read whole or not at all, and what is longer than asked for is there all the same; and what is not there is not read.
 fn is_read<F: Folders>(rt: &HostRuntime, folders: &mut F) -> bool {
-    if fs::write(rt, OFFER, b"three").is_err() {
+    let Some(stamp) = laid(rt, folders, b"three") else {
         return false;
-    }
-    let whole = match folders.read(rt.alloc(), TAPE, 5) {
-        Ok(bytes) => bytes.as_slice() == b"three".as_slice(),
-        Err(_) => false,
     };
-    let short = matches!(folders.read(rt.alloc(), TAPE, 4), Err(FolderFault::TooLong));
-    let none = matches!(
-        folders.read(rt.alloc(), "13.tape", 4),
-        Err(FolderFault::Missing)
-    );
-    let folder = matches!(folders.stamp(rt.alloc(), "lost"), Err(FolderFault::Missing));
-    let length = match folders.stamp(rt.alloc(), TAPE) {
-        Ok(stamp) => stamp.length,
-        Err(_) => 0,
-    };
-    whole && short && none && folder && length == 5
+    reads(rt, folders, stamp, 5) == Some(true)
+        && matches!(folders.read(rt.alloc(), TAPE, stamp, 4), Ok(None))
+        && matches!(
+            folders.read(rt.alloc(), "13.tape", stamp, 9),
+            Err(FolderFault::Missing)
+        )
+        && matches!(
+            folders.read(rt.alloc(), "lost", stamp, 9),
+            Err(FolderFault::Missing)
+        )
+        && stamp.length == 5
 }
 
 /// What is done with folders.

@@ -2,7 +2,10 @@
 
 use crate::rows::identities::ALONE;
 use crate::rows::samples::{Choice, PROMISED, Sample, VOTED};
-use crate::stops::disks::{Database, Disks, Left, Side, Stored, close, opened, reopened};
+use crate::stops::disks::{
+    Database, Disks, Left, Side, Stored, close, ended, opened, opened_in_life, reopened, stopping,
+    taken,
+};
 use crate::stops::saves::{Numbered, are_there, goes_over, puts};
 use crate::stops::stations::{offered, served, sought};
 use acceptor_store::{SqliteRows, into_files};
@@ -25,10 +28,23 @@ pub enum Work {
     Offer,
     /// A run of `serve` is offered it.
     Serve,
+    /// A life of the file begins over two rows that were saved, two more are saved in it, and it ends.
+    Live,
 }
 
 /// Rows under 12 and 3, in the order in which they are saved.
 const SAVES: &[Numbered] = &[(12, VOTED), (3, PROMISED)];
+
+/// Rows that are saved in a life after those.
+const MORE: &[Numbered] = &[(14, VOTED), (15, PROMISED)];
+
+/// All four.
+const LIVED: &[Numbered] = &[(12, VOTED), (3, PROMISED), (14, VOTED), (15, PROMISED)];
+
+/// The rows that a work saves one after the other.
+fn saves_of(work: Work) -> &'static [Numbered] {
+    if work == Work::Live { MORE } else { SAVES }
+}
 
 /// The version at which the rows are made for a work.
 fn version_for(work: Work) -> Version {
@@ -54,6 +70,12 @@ struct Told {
     refused: bool,
 }
 
+/// Nothing was asked for yet.
+const NOTHING: Told = Told {
+    saved: 0,
+    refused: false,
+};
+
 /// What was told, where the one save was acknowledged or refused.
 fn one(is_saved: bool) -> Told {
     if is_saved {
@@ -70,8 +92,8 @@ fn one(is_saved: bool) -> Told {
 }
 
 /// Saves the rows one after the other, up to the first that is refused.
-fn put_all<R: Rows>(alloc: Global, rows: &mut R) -> Option<Told> {
-    for (saved, sample) in SAVES.iter().enumerate() {
+fn put_all<R: Rows>(alloc: Global, rows: &mut R, samples: &[Numbered]) -> Option<Told> {
+    for (saved, sample) in samples.iter().enumerate() {
         if !puts(alloc, rows, sample)? {
             return Some(Told {
                 saved,
@@ -80,14 +102,14 @@ fn put_all<R: Rows>(alloc: Global, rows: &mut R) -> Option<Told> {
         }
     }
     Some(Told {
-        saved: SAVES.len(),
+        saved: samples.len(),
         refused: false,
     })
 }
 
 /// Saves the rows, and takes them over where the work wants that and none was refused.
 fn put_over<R: Rows>(alloc: Global, rows: &mut R, work: Work) -> Option<Told> {
-    let told = put_all(alloc, rows)?;
+    let told = put_all(alloc, rows, saves_of(work))?;
     if told.refused || work != Work::Upgrade {
         return Some(told);
     }
@@ -104,16 +126,8 @@ fn put<R: Rows>(alloc: Global, mut rows: R, work: Work) -> Option<(R, Told)> {
 /// The rows after the work, and what was told of it.
 fn done<R: Rows>(alloc: Global, rows: R, work: Work) -> Option<(R, Told)> {
     let (rows, is_saved) = match work {
-        Work::Create(_) => {
-            return Some((
-                rows,
-                Told {
-                    saved: 0,
-                    refused: false,
-                },
-            ));
-        }
-        Work::Put(_) | Work::Upgrade => return put(alloc, rows, work),
+        Work::Create(_) => return Some((rows, NOTHING)),
+        Work::Put(_) | Work::Upgrade | Work::Live => return put(alloc, rows, work),
         Work::Offer => offered(alloc, rows, FLOOD)?,
         Work::Serve => served(alloc, rows, FLOOD)?,
     };
@@ -152,6 +166,12 @@ fn is_kept<R: Stored>(alloc: Global, mut rows: R, told: Told) -> bool {
     sought(alloc, rows, FLOOD, LIGATURE) == Some(is_saved)
 }
 
+/// Whether the list has the rows that were saved before a life, and then those of it.
+fn has_lived<R: Stored>(rows: &mut R, told: Told) -> bool {
+    let saved = told.saved.saturating_add(SAVES.len());
+    is_listed(rows, LIVED, Told { saved, ..told })
+}
+
 /// Whether the rows are those that a work may have left.
 fn is_left<R: Stored>(alloc: Global, mut rows: R, work: Work, told: Told) -> bool {
     if !is_at(rows.version(), work, told) {
@@ -161,6 +181,7 @@ fn is_left<R: Stored>(alloc: Global, mut rows: R, work: Work, told: Told) -> boo
         Work::Create(_) => is_listed(&mut rows, &[], told),
         Work::Put(_) | Work::Upgrade => is_listed(&mut rows, SAVES, told),
         Work::Offer | Work::Serve => is_kept(alloc, rows, told),
+        Work::Live => has_lived(&mut rows, told),
     }
 }
 
@@ -233,8 +254,8 @@ fn refused<S: Alter + Drop>(fault: RowsFault, conn: Connection<S>, task: Task) -
 /// What comes of a task with a database.
 fn in_database<S: Alter + Drop>(alloc: Global, conn: Connection<S>, task: Task) -> Taken<S> {
     let rows = match task {
+        Task::Do(Work::Live) | Task::Find(_) => SqliteRows::open(alloc, conn, Some(ALONE)),
         Task::Do(work) => SqliteRows::create(alloc, conn, ALONE, version_for(work)),
-        Task::Find(_) => SqliteRows::open(alloc, conn, Some(ALONE)),
     };
     match rows {
         Ok(rows) => over(alloc, rows, task),
@@ -269,6 +290,49 @@ fn worked(alloc: Global, side: Side, calls: u64, work: Work) -> Came {
     }
 }
 
+/// The disks of rows that were saved, which are at rest.
+fn at_rest(alloc: Global) -> Option<Disks> {
+    match worked(alloc, Side::Log, u64::MAX, Work::Put(Version::One)) {
+        Came::Ended(left, _) => {
+            let Left { disks, closed } = ended(left);
+            closed.then_some(disks)
+        }
+        _ => None,
+    }
+}
+
+/// What comes of a life over rows that were saved, whose disk stops after so many calls.
+fn lived(alloc: Global, side: Side, calls: u64) -> Option<Came> {
+    let disks = stopping(alloc, &at_rest(alloc)?, side, calls)?;
+    match opened_in_life(alloc, disks) {
+        Ok(conn) => match over_disks(alloc, conn, Task::Do(Work::Live)) {
+            Came::Ended(left, told) => Some(Came::Ended(ended(left), told)),
+            came => Some(came),
+        },
+        Err(disks) => Some(Came::Unmade(disks)),
+    }
+}
+
+/// Whether the next start takes the disks after a crash, and what is found in the life that it begins is as it may be.
+fn lives_on(alloc: Global, disks: Disks, told: Told) -> Option<bool> {
+    let conn = opened_in_life(alloc, taken(disks)?).ok()?;
+    let found = over_disks(alloc, conn, Task::Find(Expected::Left(Work::Live, told)));
+    Some(matches!(found, Came::Found(true)))
+}
+
+/// Where a life stopped whose disk stops after so many calls; nothing where the next start does not take what it left, or something
+/// else is found after it than may be.
+fn life_stop_at(alloc: Global, side: Side, calls: u64) -> Option<Stop> {
+    match lived(alloc, side, calls)? {
+        Came::Ended(left, told) => {
+            let Left { disks, closed } = left;
+            lives_on(alloc, disks, told)?.then_some(stop_in(told, closed))
+        }
+        Came::Unmade(disks) => lives_on(alloc, disks, NOTHING)?.then_some(Stop::Making),
+        Came::Found(_) | Came::Strange => None,
+    }
+}
+
 /// Whether what is found on the disks after a crash is as it may be.
 fn is_found(alloc: Global, disks: Disks, expected: Expected) -> bool {
     match reopened(alloc, disks) {
@@ -293,22 +357,30 @@ pub enum Stop {
     Nowhere,
 }
 
-/// Where a run stopped that made its rows, if what it left is found after a crash.
-fn stop_of(alloc: Global, left: Left, work: Work, told: Told) -> Option<Stop> {
-    let Left { disks, closed } = left;
-    let stop = if told.refused {
+/// Where a run stopped of which this was told, and which was closed or not.
+fn stop_in(told: Told, closed: bool) -> Stop {
+    if told.refused {
         Stop::Working
     } else if closed {
         Stop::Nowhere
     } else {
         Stop::Closing
-    };
+    }
+}
+
+/// Where a run stopped that made its rows, if what it left is found after a crash.
+fn stop_of(alloc: Global, left: Left, work: Work, told: Told) -> Option<Stop> {
+    let Left { disks, closed } = left;
+    let stop = stop_in(told, closed);
     is_found(alloc, disks, Expected::Left(work, told)).then_some(stop)
 }
 
 /// Where a run stopped in which this disk stops after so many calls; nothing where something else is found after it than
 /// may be.
 pub fn stop_at(alloc: Global, side: Side, calls: u64, work: Work) -> Option<Stop> {
+    if work == Work::Live {
+        return life_stop_at(alloc, side, calls);
+    }
     match worked(alloc, side, calls, work) {
         Came::Ended(left, told) => stop_of(alloc, left, work, told),
         Came::Unmade(disks) => {

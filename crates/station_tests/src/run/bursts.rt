@@ -1,6 +1,6 @@
 //! Many files at once, and much traffic: nothing is lost, few are under way, and a look comes whatever waits.
 
-use crate::run::plant::{RUN, Run, station_of};
+use crate::run::plant::{RUN, Run, count_filed, station_of};
 use crate::run::stage::Held::{Flood, Nothing};
 use crate::run::stage::Name::{Seek12, Stop, Tape12};
 use crate::run::stage::What::{Burst, Laid};
@@ -70,7 +70,7 @@ fn three(alloc: Global, acts: &'static [Act], slowness: u32) -> Option<Came> {
     Some(Came {
         end,
         err,
-        filed: stage.folders.filed().len(),
+        filed: count_filed(&stage.folders),
         others: wire.released()?,
     })
 }

@@ -1,10 +1,10 @@
 //! Stories, withdrawals and searches among the offers, and where they are put.
 
 use crate::run::plant::{RUN, Run, Saved, is_true};
-use crate::run::stage::Act;
 use crate::run::stage::Held::{Flood, Harvest, Nothing, Why};
 use crate::run::stage::Name::{Seek12, Stop, Tape12, Withdraw14};
-use crate::run::stage::What::Laid;
+use crate::run::stage::What::{Laid, LaidAt};
+use crate::run::stage::{Act, Call};
 
 /// An offer is released and sent; quietly, too.
 const LOUD: Run = Run {
@@ -57,6 +57,36 @@ lost 12.tape.txt: release 12 01020301030204\n",
 #[test]
 fn lost(rt: HostRuntime) {
     for (place, run) in LOST.iter().enumerate() {
+        assert!(rt; is_true(rt.alloc(), run), "{place}");
+    }
+}
+
+/// A story that is written anew just before it is read, or moved, is neither: it is found anew, and then as it is.
+const CHANGED: &[Run] = &[
+    Run {
+        acts: &[
+            Act(1, Laid(Tape12, Harvest)),
+            Act(1, LaidAt(Call::Read, Tape12, Flood)),
+            Act(20, Laid(Stop, Nothing)),
+        ],
+        ..LOUD
+    },
+    Run {
+        acts: &[
+            Act(1, Laid(Tape12, Flood)),
+            Act(1, LaidAt(Call::SetAside, Tape12, Harvest)),
+            Act(20, Laid(Stop, Nothing)),
+        ],
+        folders: "\
+wrote 12.tape 7\nwrote 12.galley 25\nlost 12.tape\nlost 12.tape.txt: release 12 01020301030204\n",
+        err: "12 released\n12 lost\n",
+        ..RUN
+    },
+];
+
+#[test]
+fn changed(rt: HostRuntime) {
+    for (place, run) in CHANGED.iter().enumerate() {
         assert!(rt; is_true(rt.alloc(), run), "{place}");
     }
 }

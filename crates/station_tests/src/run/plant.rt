@@ -6,7 +6,7 @@ use crate::stations::{ballot, rows_with, station_over};
 use ballots::{Number, Row, Vote};
 use command_ends::End;
 use fixtures::FLOOD;
-use folders::{MemoryFolders, Place};
+use folders::{Act as Doing, MemoryFolders, Place};
 use run_command::run_station;
 use saved_rows::{MemoryRows, Rows};
 use station::Station;
@@ -78,28 +78,57 @@ pub fn station_of(alloc: Global, run: &Run) -> Option<Station<MemoryRows>> {
     station_over(alloc, 1, run.members, rows_of(alloc, run)?)
 }
 
-fn place_word(to: Option<Place>) -> &'static str {
+pub fn place_word(to: Place) -> &'static str {
     match to {
-        Some(Place::Sent) => "sent",
-        Some(Place::Lost) => "lost",
-        Some(Place::Refused) => "refused",
-        None => "gone",
+        Place::Sent => "sent",
+        Place::Lost => "lost",
+        Place::Refused => "refused",
     }
+}
+
+/// How many files were written among the releases.
+pub fn count_filed(folders: &MemoryFolders) -> usize {
+    let mut count: usize = 0;
+    for act in folders.acts() {
+        if let Doing::Wrote(_) = act {
+            count = count.saturating_add(1);
+        }
+    }
+    count
+}
+
+/// Writes a line for a file that was written among the releases; whether there was memory for it.
+fn write_filed(act: &Doing, text: &mut Vec<u8>) -> bool {
+    match act {
+        Doing::Wrote(named) => {
+            let (name, count) = (named.name(), named.bytes().len());
+            writeln!(text, "wrote {name} {count}").is_ok()
+        }
+        _ => true,
+    }
+}
+
+/// The same for a file that left the offers.
+fn write_moved(act: &Doing, text: &mut Vec<u8>) -> bool {
+    let (place, name) = match act {
+        Doing::SetAside(name, to) => (place_word(*to), name.as_str()),
+        Doing::TakenAway(name) => ("gone", name.as_str()),
+        _ => return true,
+    };
+    writeln!(text, "{place} {name}").is_ok()
 }
 
 /// Writes what folders hold; whether there was memory for it.
 fn write_folders(folders: &MemoryFolders, text: &mut Vec<u8>) -> bool {
     let mut is_whole = true;
-    for named in folders.filed() {
-        let (name, count) = (named.name(), named.bytes().len());
-        is_whole &= writeln!(text, "wrote {name} {count}").is_ok();
+    for act in folders.acts() {
+        is_whole &= write_filed(act, text);
     }
-    for moved in folders.moved() {
-        let (place, name) = (place_word(moved.to), moved.name.as_str());
-        is_whole &= writeln!(text, "{place} {name}").is_ok();
+    for act in folders.acts() {
+        is_whole &= write_moved(act, text);
     }
     for noted in folders.noted() {
-        let (place, name) = (place_word(Some(noted.to)), noted.name.as_str());
+        let (place, name) = (place_word(noted.to), noted.name.as_str());
         let line = noted.text.as_str();
         is_whole &= write!(text, "{place} {name}: {line}").is_ok();
     }

@@ -1,7 +1,9 @@
 //! Folders in memory in which something happens at some look.
 
 use fixtures::{FLOOD, HARVEST, LIGATURE, OVERSET};
-use folders::{FolderFault, Folders, Listing, MemoryFolders, Place, Stamp};
+use folders::{
+    FolderFault, Folders, Leaving, Listing, MemoryFolders, NamedFile, PassedOver, Stamp, Unwritten,
+};
 use std::alloc::{AllocError, Global};
 
 /// The name of a file among the offers.
@@ -74,11 +76,20 @@ fn bytes_of(held: Held) -> &'static [u8] {
     }
 }
 
+/// A call of the folders.
+#[derive(Clone, Copy, PartialEq, Eq)]
+pub enum Call {
+    Read,
+    SetAside,
+}
+
 /// What happens to the folders.
 #[derive(Clone, Copy)]
 pub enum What {
     /// A file is laid among the offers, or written anew.
     Laid(Name, Held),
+    /// The same, just before the next such call.
+    LaidAt(Call, Name, Held),
     /// The flood story is laid among the offers for each of so many numbers, from 1 on.
     Burst(u32),
     /// The folder of releases is full, or no longer.
@@ -101,6 +112,8 @@ pub struct Stage {
     pub folders: MemoryFolders,
     pub acts: &'static [Act],
     pub looks: usize,
+    /// What is laid before the next of which calls.
+    pub next: Option<(Call, Name, Held)>,
     pub is_stuck: bool,
     pub is_unread: bool,
     pub has_fifo: bool,
@@ -112,6 +125,7 @@ impl Stage {
             folders: MemoryFolders::new(alloc),
             acts,
             looks: 0,
+            next: None,
             is_stuck: false,
             is_unread: false,
             has_fifo: false,
@@ -127,13 +141,32 @@ impl Stage {
         Ok(())
     }
 
+    fn lay(&mut self, alloc: Global, name: Name, held: Held) -> Result<(), AllocError> {
+        let changed = i64::try_from(self.looks).unwrap_or(i64::MAX);
+        self.folders
+            .lay(alloc, text_of(name), bytes_of(held), changed)
+    }
+
+    /// Lays what is laid before this call.
+    fn lay_before(&mut self, alloc: Global, call: Call) -> Result<(), AllocError> {
+        let laid = self.next;
+        let Some((next, name, held)) = laid else {
+            return Ok(());
+        };
+        if next != call {
+            return Ok(());
+        }
+        self.next = None;
+        self.lay(alloc, name, held)
+    }
+
     fn act(&mut self, alloc: Global, what: What) -> Result<(), AllocError> {
         match what {
             What::Burst(last) => self.lay_all(alloc, last),
-            What::Laid(name, held) => {
-                let changed = i64::try_from(self.looks).unwrap_or(i64::MAX);
-                self.folders
-                    .lay(alloc, text_of(name), bytes_of(held), changed)
+            What::Laid(name, held) => self.lay(alloc, name, held),
+            What::LaidAt(call, name, held) => {
+                self.next = Some((call, name, held));
+                Ok(())
             }
             What::Full(is_full) => {
                 self.folders.set_full(is_full);
@@ -171,51 +204,50 @@ impl Stage {
 const FIFO: &str = "a\nfifo";
 
 impl Folders for Stage {
-    fn names(&mut self, alloc: Global) -> Result<Listing, FolderFault> {
+    fn list(&mut self, alloc: Global) -> Result<Listing, FolderFault> {
         self.pass(alloc)?;
         if self.is_unread {
             return Err(FolderFault::NotAllowed);
         }
-        let mut listing = self.folders.names(alloc)?;
+        let mut listing = self.folders.list(alloc)?;
         if self.has_fifo {
-            let name = String::from_str(alloc, FIFO)?;
-            if listing.names.push(name).is_err() {
+            let fifo = PassedOver {
+                name: String::from_str(alloc, FIFO)?,
+                fault: FolderFault::NoFile,
+            };
+            if listing.others.push(fifo).is_err() {
                 return Err(FolderFault::OutOfMemory);
             }
         }
         Ok(listing)
     }
 
-    fn stamp(&mut self, alloc: Global, name: &str) -> Result<Stamp, FolderFault> {
-        if name == FIFO {
-            return Err(FolderFault::NoFile);
-        }
-        self.folders.stamp(alloc, name)
-    }
-
-    fn read(&mut self, alloc: Global, name: &str, most: usize) -> Result<Vec<u8>, FolderFault> {
-        self.folders.read(alloc, name, most)
-    }
-
-    fn put(&mut self, alloc: Global, name: &str, bytes: &[u8]) -> Result<(), FolderFault> {
-        self.folders.put(alloc, name, bytes)
-    }
-
-    fn note(
+    fn read(
         &mut self,
         alloc: Global,
-        to: Place,
         name: &str,
-        text: &str,
-    ) -> Result<(), FolderFault> {
-        self.folders.note(alloc, to, name, text)
+        stamp: Stamp,
+        most: usize,
+    ) -> Result<Option<Vec<u8>>, FolderFault> {
+        self.lay_before(alloc, Call::Read)?;
+        self.folders.read(alloc, name, stamp, most)
     }
 
-    fn set_aside(&mut self, alloc: Global, name: &str, to: Place) -> Result<(), FolderFault> {
+    fn put_all(&mut self, alloc: Global, files: &[NamedFile]) -> Result<(), Unwritten> {
+        self.folders.put_all(alloc, files)
+    }
+
+    fn set_aside(
+        &mut self,
+        alloc: Global,
+        leaving: Leaving<'_>,
+        beside: Option<&str>,
+    ) -> Result<(), FolderFault> {
         if self.is_stuck {
             return Err(FolderFault::NotAllowed);
         }
-        self.folders.set_aside(alloc, name, to)
+        self.lay_before(alloc, Call::SetAside)?;
+        self.folders.set_aside(alloc, leaving, beside)
     }
 
     fn remove(&mut self, alloc: Global, name: &str) -> Result<(), FolderFault> {

@@ -4,5 +4,5 @@ use Rattle.std.specs.List.{All}
 use Rattle.folders.specs.Offers.{IsStop}
 use Rattle.folders.proofs.names.has_stop.Given as goal
 
-abbrev pub invariant-loop-name : goal.invariant-loop-name
-invariant-loop-name l = All (λ name. ¬ IsStop (string_bytes name)) (take l.name-index l.names)
+abbrev pub invariant-loop-file : goal.invariant-loop-file
+invariant-loop-file l = All (λ file. ¬ IsStop (string_bytes file.name)) (take l.file-index l.files)

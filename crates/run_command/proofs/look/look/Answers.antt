@@ -1,9 +1,11 @@
--- What waited was written, and the rest is looking.
-use Rattle.std.proofs.Common.{[], subst, sym, Option, List}
-use Rattle.folders.specs.Written.{File}
-use Rattle.folders.specs.Keeping.{Keeps}
+-- What waited was written, and then the offers were looked at.
+use Rattle.run_command.specs.Minding.{mind_of}
 use Rattle.run_command.proofs.look.look.Goals as goal
 
 pub returns : goal.returns
-returns g c =
-    subst (λ (a : Option (List File)). Keeps (g.F.Folders.written c.args.folders.now) a c.args.waits.now.items c.write.new.waits.items []) (sym c.see_offers-book.ensures) c.write.ensures
+returns g c = record {
+  mid = g.F.Folders.doings c.write.new.folders;
+  mind = mind_of c.write.new.self;
+  writes = c.write.ensures;
+  looks = c.see_offers-book.ensures;
+}

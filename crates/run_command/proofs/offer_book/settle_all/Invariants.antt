@@ -1,6 +1,6 @@
--- Nothing was written.
-use Rattle.std.proofs.Common.{◌≡◌}
+-- The files that were settled so far.
+use Rattle.run_command.specs.Working.{Settles}
 use Rattle.run_command.proofs.offer_book.settle_all.Given as goal
 
 abbrev pub invariant-loop-place : goal.invariant-loop-place
-invariant-loop-place g l = g.F.Folders.written l.folders ≡ g.F.Folders.written l.initial.folders
+invariant-loop-place g l = Settles (g.F.Folders.doings l.initial.folders) (g.F.Folders.doings l.folders) l.number l.initial.asked.items l.asked.items

@@ -1,12 +1,15 @@
 -- The turns so far.
 use Rattle.command_ends.specs.declared.end.End.TheVariants.{Done}
-use Rattle.run_command.specs.Running.{Runs, known, plant}
+use Rattle.run_command.specs.Minding.{mind_of}
+use Rattle.run_command.specs.Running.{known}
+use Rattle.run_command.specs.Working.{Works, state}
 use Rattle.run_command.proofs.turns.take_turns.Given as goal
 
 abbrev pub invariant-loop : goal.invariant-loop
 invariant-loop g l = record {
   was_kept : g.R.Rows.kept l.station.rows → g.R.Rows.kept l.initial.station.rows;
-  runs :
-      Runs (known g.R.Rows g.N.Wire.passed g.F.Folders.written)
-      (plant l.initial.station l.initial.wire l.initial.folders l.initial.waits.items) (plant l.station l.wire l.folders l.waits.items) Done;
+  works :
+      Works (known g.R.Rows g.N.Wire.passed g.F.Folders.doings)
+      (state l.initial.station l.initial.wire l.initial.folders l.initial.waits.items (mind_of l.initial.book))
+      (state l.station l.wire l.folders l.waits.items (mind_of l.book)) Done;
 }

@@ -1,0 +1,102 @@
+//! The commands for editors, run over the files that their words name.
+
+use crate::story::Story;
+use code_table::Name;
+use command_ends::{End, Fault, TapePaths};
+use editor_commands::{Form, Given, StoryPaths, fit, punch, spell};
+use opened_files::Opened;
+use std::alloc::Global;
+use std::io::{Read, Write};
+use tape_frames::Version;
+use text_words::{LigatureError, ligatures_of};
+
+/// What is told where a ligature can be none.
+const NO_LIGATURE: &str =
+    "usage: --ligatures takes names of matrices without a brace, as fi,fl,ffi";
+
+/// The ligatures that are named, if any are.
+fn ligatures_by(alloc: Global, names: Option<&str>) -> Result<Vec<Name>, LigatureError> {
+    match names {
+        Some(names) => ligatures_of(alloc, names),
+        None => Ok(Vec::new(alloc)),
+    }
+}
+
+/// Tells why there are no ligatures, and gives the end.
+fn tell_ligatures<E: Write>(error: LigatureError, err: &mut E) -> End {
+    match error {
+        LigatureError::OutOfMemory => Fault::OutOfMemory.tell(err),
+        LigatureError::NoName => {
+            let _ = writeln!(err, "{NO_LIGATURE}");
+            End::Usage
+        }
+    }
+}
+
+/// Punches the text at its path, with the ligatures that are named, by the table at its. The names are looked at first.
+pub fn run_punch<R: Read, W: Write, E: Write>(
+    rt: &HostRuntime,
+    paths: &StoryPaths<'_>,
+    ligatures: Option<&str>,
+    room: Version,
+    input: &mut R,
+    out: &mut W,
+    err: &mut E,
+) -> End {
+    let ligatures = match ligatures_by(rt.alloc(), ligatures) {
+        Ok(ligatures) => ligatures,
+        Err(error) => return tell_ligatures(error, err),
+    };
+    let mut table = Opened::at(rt, paths.table);
+    let mut text = Story::at(rt, paths.story, input);
+    punch(
+        rt.alloc(),
+        paths,
+        &mut table,
+        &mut text,
+        &ligatures,
+        room,
+        out,
+        err,
+    )
+}
+
+/// Spells the tape at its path by the table at its.
+pub fn run_spell<R: Read, W: Write, E: Write>(
+    rt: &HostRuntime,
+    paths: &StoryPaths<'_>,
+    plain: bool,
+    input: &mut R,
+    out: &mut W,
+    err: &mut E,
+) -> End {
+    let form = if plain { Form::Plain } else { Form::Punchable };
+    let mut table = Opened::at(rt, paths.table);
+    let mut tape = Story::at(rt, paths.story, input);
+    spell(rt.alloc(), paths, &mut table, &mut tape, form, out, err)
+}
+
+/// Tells how each line fits of the story at its path, by the table and the widths at theirs.
+pub fn run_fit<R: Read, W: Write, E: Write>(
+    rt: &HostRuntime,
+    paths: &TapePaths<'_>,
+    text: bool,
+    input: &mut R,
+    out: &mut W,
+    err: &mut E,
+) -> End {
+    let given = if text { Given::Text } else { Given::Tape };
+    let mut table = Opened::at(rt, paths.table);
+    let mut widths = Opened::at(rt, paths.widths);
+    let mut story = Story::at(rt, paths.tape, input);
+    fit(
+        rt.alloc(),
+        paths,
+        &mut table,
+        &mut widths,
+        &mut story,
+        given,
+        out,
+        err,
+    )
+}

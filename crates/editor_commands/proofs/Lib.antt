@@ -1,0 +1,4 @@
+pub mod Ends
+pub mod Bands
+pub mod Rows
+pub mod FitEnds

@@ -1,0 +1,7 @@
+use Rattle.std.proofs.Common.{◌≡◌, take}
+use Rattle.slug_reader.specs.Positions.{first}
+use Rattle.line_check.specs.Slugs.{band_width}
+use Rattle.editor_commands.proofs.verdict_words.first_band.Given as goal
+
+abbrev pub invariant-loop-sort : goal.invariant-loop-sort
+invariant-loop-sort l = l.found ≡ first band_width (take l.sort-index l.sorts)

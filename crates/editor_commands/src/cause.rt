@@ -1,0 +1,75 @@
+//! Why a command for editors did not end well.
+
+ghost use Rattle.std.specs.Prelude.{◌≡◌};
+ghost use Rattle.command_ends.specs.declared.end.End.TheVariants.{Done};
+ghost use Rattle.editor_commands.specs.Ends.{end_in};
+
+use command_ends::{End, Fault};
+use std::fmt;
+use std::io::Write;
+use text_words::Place;
+
+/// Why a command for editors did not end well.
+#[derive(Drop)]
+pub enum EditorFault<'a> {
+    /// What any command tells in the same words.
+    Other(Fault<'a>),
+    /// No frame means this piece of the text, which stands at this place.
+    NoCode { piece: String, place: Place },
+    /// A brace is not closed.
+    NoEnd(Place),
+    /// The tape would be longer than one may be.
+    TooLong(Place),
+    /// A text has no word.
+    EmptyText,
+    /// This byte of a tape is above 63, and none before it is.
+    NoFrame { at: usize, byte: u8 },
+}
+
+impl<'a> fmt::Display for EditorFault<'a> {
+    fn fmt<W: fmt::Write>(&self, f: &mut fmt::Formatter<W>) -> fmt::Result {
+        let (what, place) = match self {
+            EditorFault::Other(fault) => return write!(f, "{fault}"),
+            EditorFault::EmptyText => return f.write_str("text: empty"),
+            EditorFault::NoFrame { at, byte } => {
+                return write!(
+                    f,
+                    "tape: bad frame at {at}\nbyte {byte} is no frame: circuitd punch makes a tape of a text"
+                );
+            }
+            EditorFault::NoCode { piece, place } => {
+                let (line, column) = (place.line, place.column);
+                return write!(
+                    f,
+                    "text: no code for {piece} at line {line} column {column}"
+                );
+            }
+            EditorFault::NoEnd(place) => ("no end of a word", place),
+            EditorFault::TooLong(place) => ("too long", place),
+        };
+        let (line, column) = (place.line, place.column);
+        write!(f, "text: {what} at line {line} column {column}")
+    }
+}
+
+impl<'a> EditorFault<'a> {
+    /// How a command ends by this fault.
+    pub fn end(&self) -> End
+        ensures end { result ≡ end_in self.now }
+        ensures fails { ¬ (result ≡ Done) }
+    {
+        match self {
+            EditorFault::Other(fault) => fault.end(),
+            _ => End::Input,
+        }
+    }
+
+    /// Writes the text, and gives the end. That the writer fails is ignored.
+    pub fn tell<E: Write>(&self, err: &mut E) -> End
+        ensures end { result ≡ end_in self.now }
+        ensures fails { ¬ (result ≡ Done) }
+    {
+        let _ = writeln!(err, "{self}");
+        self.end()
+    }
+}

@@ -1,0 +1,130 @@
+//! The texts and tapes of editors: read, and told where they are none.
+
+ghost use Rattle.std.specs.Prelude.{◌≡◌, ◌≤◌, length, IfOk, IfErr, IfSome};
+ghost use Rattle.code_table.specs.Tables.{mean};
+ghost use Rattle.tape_frames.specs.Frames.{IsTape};
+ghost use Rattle.text_tape.specs.Punching.{most_in, IsPunched};
+ghost use Rattle.command_ends.specs.Ends.{IsOfInput};
+ghost use Rattle.editor_commands.specs.Ends.{end_in};
+
+use crate::cause::EditorFault;
+use code_table::{CodeTable, Name};
+use command_ends::{Fault, read_text};
+use std::alloc::{AllocError, Global};
+use std::io::Read;
+use std::str;
+use tape_frames::{Tape, TapeFault, Version};
+use text_tape::{PunchCause, PunchError, PunchFault, punch};
+use text_words::Place;
+
+/// The most bytes of a piece that are told. A name of a matrix has 8 and two braces, so no more is read of what has no code.
+const TOLD: usize = 20;
+
+/// The bytes of a text from a place on, as many as there are of so many.
+fn bytes_at(text: &[u8], at: usize, len: usize) -> &[u8] {
+    let (_, rest) = text.split_at(at.min(text.len()));
+    let (piece, _) = rest.split_at(len.min(rest.len()));
+    piece
+}
+
+/// A piece of a text as it is told: in quotes where it prints, else its byte by its number.
+fn piece_text(alloc: Global, piece: &[u8]) -> Result<String, AllocError> {
+    match piece {
+        [byte] if *byte < 33 || *byte > 126 => format!(in alloc; "byte {byte}"),
+        _ => {
+            let shown = str::from_utf8(bytes_at(piece, 0, TOLD)).unwrap_or("");
+            let more = if piece.len() > TOLD { ".." } else { "" };
+            format!(in alloc; "\"{shown}{more}\"")
+        }
+    }
+}
+
+/// The first fault of a text, as it is told.
+fn text_fault<'a>(alloc: Global, text: &[u8], fault: PunchFault) -> EditorFault<'a>
+    ensures { IsOfInput (end_in result) }
+{
+    let place = Place {
+        line: fault.line,
+        column: fault.column,
+    };
+    match fault.cause {
+        PunchCause::NoEnd => EditorFault::NoEnd(place),
+        PunchCause::TooLong => EditorFault::TooLong(place),
+        PunchCause::NoCode { len } => match piece_text(alloc, bytes_at(text, fault.at, len)) {
+            Ok(piece) => EditorFault::NoCode { piece, place },
+            Err(_) => EditorFault::Other(Fault::OutOfMemory),
+        },
+    }
+}
+
+/// The frames of a text with these ligatures.
+pub fn punched<'a>(
+    alloc: Global,
+    table: &CodeTable,
+    ligatures: &[Name],
+    text: &[u8],
+    room: Version,
+) -> Result<Vec<u8>, EditorFault<'a>>
+    ensures punched { IfOk result (λ tape. IsPunched ligatures.now (mean table.now) text.now tape.items) }
+    ensures tape { IfOk result (λ tape. IsTape tape.items × (length tape.items ≤ most_in room)) }
+    ensures err { IfErr result (λ e. IsOfInput (end_in e)) }
+{
+    match punch(alloc, table, ligatures, text, room) {
+        Ok(tape) => Ok(tape),
+        Err(PunchError::Fault(fault)) => Err(text_fault(alloc, text, fault)),
+        Err(PunchError::Empty) => Err(EditorFault::EmptyText),
+        Err(PunchError::OutOfMemory) => Err(EditorFault::Other(Fault::OutOfMemory)),
+    }
+}
+
+/// The tape of bytes, one frame a byte.
+fn tape_of<'a>(alloc: Global, bytes: &[u8]) -> Result<Tape, EditorFault<'a>>
+    ensures ok { IfOk result (λ tape. tape ≡ bytes.now) }
+    ensures err { IfErr result (λ e. IsOfInput (end_in e)) }
+{
+    match Tape::from_bytes(alloc, bytes) {
+        Ok(tape) => Ok(tape),
+        Err(TapeFault::BadFrame { at }) => {
+            let byte = match bytes_at(bytes, at, 1) {
+                [byte] => *byte,
+                _ => 0,
+            };
+            Err(EditorFault::NoFrame { at, byte })
+        }
+        Err(fault) => Err(EditorFault::Other(Fault::of_tape(fault))),
+    }
+}
+
+/// Reads the tape of a text from the input at a path.
+pub fn read_punched<'a, R: Read>(
+    alloc: Global,
+    table: &CodeTable,
+    ligatures: &[Name],
+    input: &mut R,
+    path: &'a str,
+    room: Version,
+) -> Result<Vec<u8>, EditorFault<'a>>
+    ensures punched { IfOk result (λ tape. IfSome (R.remaining input.old) (λ xs. IsPunched ligatures.now (mean table.now) xs tape.items)) }
+    ensures tape { IfOk result (λ tape. IsTape tape.items × (length tape.items ≤ most_in room)) }
+    ensures err { IfErr result (λ e. IsOfInput (end_in e)) }
+{
+    match read_text(alloc, input, path) {
+        Ok(text) => punched(alloc, table, ligatures, &text, room),
+        Err(fault) => Err(EditorFault::Other(fault)),
+    }
+}
+
+/// Reads a tape from the input at a path, one frame a byte.
+pub fn read_tape<'a, R: Read>(
+    alloc: Global,
+    input: &mut R,
+    path: &'a str,
+) -> Result<Tape, EditorFault<'a>>
+    ensures ok { IfOk result (λ tape. IfSome (R.remaining input.old) (λ xs. tape ≡ xs)) }
+    ensures err { IfErr result (λ e. IsOfInput (end_in e)) }
+{
+    match read_text(alloc, input, path) {
+        Ok(bytes) => tape_of(alloc, &bytes),
+        Err(fault) => Err(EditorFault::Other(fault)),
+    }
+}

@@ -1,0 +1,17 @@
+//! The commands `punch`, `spell` and `fit`: a tape of a text, a text of a tape, and how each line of a tape fits.
+#![tactic(auto)]
+
+mod cause;
+mod fitting;
+mod inputs;
+mod outputs;
+mod punching;
+mod report;
+mod row;
+mod spelling;
+mod verdict_words;
+
+pub use cause::EditorFault;
+pub use fitting::{Given, fit};
+pub use punching::{StoryPaths, punch};
+pub use spelling::{Form, spell};

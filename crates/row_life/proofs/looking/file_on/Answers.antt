@@ -1,0 +1,8 @@
+use Rattle.std.proofs.Common.{◌∙◌, ap, rules}
+use Rattle.row_files.specs.Found.{file_of}
+use Rattle.row_life.proofs.LifeLemmas.{read_whole}
+use Rattle.row_life.proofs.looking.file_on.Goals as goal
+
+pub returns-clause-found : goal.returns-clause-found
+returns-clause-found g c clean =
+    c.file_of.ensures ∙ ap file_of (read_whole _ _ 108 (search rules) (c.in_ok-read_at.ensures.read clean (search rules)))

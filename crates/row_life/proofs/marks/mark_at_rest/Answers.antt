@@ -1,0 +1,8 @@
+use Rattle.std.proofs.Common.{rules}
+use Rattle.std.proofs.lemmas.Result.{on_ok_weaker}
+use Rattle.row_life.proofs.LifeLemmas.{rests}
+use Rattle.row_life.proofs.marks.mark_at_rest.Goals as goal
+
+pub returns-clause-marked : goal.returns-clause-marked
+returns-clause-marked g c =
+    on_ok_weaker c.sync.result (λ _. rw c.sync.ensures.seen (rests _ (c.in_ok-write_at.ensures.written (search rules)))) c.sync.ensures.durable

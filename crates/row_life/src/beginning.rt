@@ -1,0 +1,189 @@
+//! The beginning of a life, and its end. What is done to the files stands in an order in which each moment at which it may be cut
+//! off leaves a pair that the next start takes.
+
+ghost use Rattle.std.specs.Prelude.{◌≡◌, ◌≤◌, ℕ, Some, IsTrue, IfOk, OnOk};
+ghost use Rattle.row_files.specs.Found.{HoldsNoFrame};
+ghost use Rattle.row_files.specs.declared.found.FoundLog.TheVariants.{Blank};
+ghost use Rattle.sqlite_wal.specs.Reads.{IsClean, AreClean};
+ghost use Rattle.row_life.specs.Lives.{IsBegun, MayGoOn};
+ghost use Rattle.row_life.specs.Logs.{log_of};
+
+use crate::copying::copied;
+use crate::log_head::{LAST_NUMBER, LOG_HEAD_LEN, new_log};
+use crate::looking::{log_on, page_size_on, pair_on};
+use crate::marks::{mark_at_rest, mark_in_use};
+use row_files::{FoundFile, FoundLog, Mark, RefusedRows, RowsCause, opening_refusal};
+use sqlite_disk::{Disk, Files, is_no_room};
+use std::alloc::Global;
+use std::io;
+
+/// Files that are not as they were left.
+fn failed() -> RefusedRows {
+    RefusedRows::for_cause(RowsCause::DiskFailed)
+}
+
+/// A log that is to hold no frame by now.
+fn without_frame(log: FoundLog) -> Result<FoundLog, RefusedRows>
+    ensures { IfOk result HoldsNoFrame }
+{
+    match log {
+        FoundLog::Filled(_) => Err(failed()),
+        FoundLog::Nothing | FoundLog::Empty | FoundLog::Blank(_) => Ok(log),
+    }
+}
+
+/// Why a disk that did not take a write refuses rows.
+fn unwritten(error: io::Error) -> RefusedRows {
+    if is_no_room(&error) {
+        RefusedRows::for_cause(RowsCause::DiskFull)
+    } else {
+        failed()
+    }
+}
+
+/// A log of a new life, in place of one that holds nothing.
+fn renew<D: Disk>(log: &mut D, bytes: &[u8; LOG_HEAD_LEN]) -> io::Result<()>
+    requires usable { IsTrue (D.Disk.is_usable log.old) }
+    ensures renewed { OnOk result (D.Disk.seen log.new ≡ bytes.now) }
+    ensures clean { IsClean D.Disk log.new → IsClean D.Disk log.old }
+    ensures usable { OnOk result (IsTrue (D.Disk.is_usable log.new)) }
+{
+    log.write_at(0, bytes)?;
+    log.set_len(LOG_HEAD_LEN)?;
+    log.sync()
+}
+
+/// Begins the life of a number over files whose log held nothing: each step is on the disk before the next is taken.
+fn begin<D: Disk>(
+    files: &mut Files<D>,
+    held: FoundLog,
+    log: &[u8; LOG_HEAD_LEN],
+    number: u32,
+) -> io::Result<()>
+    requires log_usable { IsTrue (D.Disk.is_usable files.old.log) }
+    requires db_usable { IsTrue (D.Disk.is_usable files.old.db) }
+    requires copied { HoldsNoFrame held }
+    requires number { number ≤ 0xff_ffff }
+    requires numbered { log_of log.now ≡ Blank (Some number) }
+    ensures begun { OnOk result (IsBegun number (D.Disk.seen files.new.db) (D.Disk.seen files.new.log)) }
+    ensures log_clean { IsClean D.Disk files.new.log → IsClean D.Disk files.old.log }
+    ensures db_clean { IsClean D.Disk files.new.db → IsClean D.Disk files.old.db }
+{
+    mark_at_rest(&mut files.db, held)?;
+    renew(&mut files.log, log)?;
+    mark_in_use(&mut files.db, number)
+}
+
+/// The number of a life, by chance.
+fn number_by(chance: u64) -> u32
+    ensures { result ≤ 0xff_ffff }
+{
+    (chance % (LAST_NUMBER as u64) + 1) as u32
+}
+
+/// Begins a life by chance over files whose log is to hold nothing by now.
+fn begin_anew<D: Disk>(files: &mut Files<D>, chance: u64) -> Result<(), RefusedRows>
+    requires log_usable { IsTrue (D.Disk.is_usable files.old.log) }
+    requires db_usable { IsTrue (D.Disk.is_usable files.old.db) }
+    ensures begun { OnOk result ((number : ℕ) × IsBegun number (D.Disk.seen files.new.db) (D.Disk.seen files.new.log)) }
+    ensures log_clean { IsClean D.Disk files.new.log → IsClean D.Disk files.old.log }
+    ensures db_clean { IsClean D.Disk files.new.db → IsClean D.Disk files.old.db }
+{
+    let held = without_frame(log_on(&mut files.log)?)?;
+    let page_size = page_size_on(&mut files.db)?;
+    let number = number_by(chance);
+    let Some(log) = new_log(page_size, number, (chance / 0x1_0000_0000) as u32) else {
+        return Err(failed());
+    };
+    match begin(files, held, &log, number) {
+        Ok(()) => Ok(()),
+        Err(error) => Err(unwritten(error)),
+    }
+}
+
+/// Whether what the log holds has to be copied before a life can begin over a file that was marked; a pair that is none is refused.
+fn has_to_be_copied<D: Disk>(files: &mut Files<D>) -> Result<bool, RefusedRows>
+    requires log_usable { IsTrue (D.Disk.is_usable files.old.log) }
+    requires db_usable { IsTrue (D.Disk.is_usable files.old.db) }
+    ensures pair { OnOk result (IsClean D.Disk files.new.log → IsClean D.Disk files.new.db → MayGoOn (D.Disk.seen files.old.db) (D.Disk.seen files.old.log)) }
+    ensures log_clean { IsClean D.Disk files.new.log → IsClean D.Disk files.old.log }
+    ensures db_clean { IsClean D.Disk files.new.db → IsClean D.Disk files.old.db }
+    ensures log { IsTrue (D.Disk.is_usable files.new.log) }
+    ensures db { IsTrue (D.Disk.is_usable files.new.db) }
+{
+    let (file, log) = pair_on(files)?;
+    if let Some(cause) = opening_refusal(file, log) {
+        return Err(RefusedRows::for_cause(cause));
+    }
+    match (file, log) {
+        (FoundFile::Database(Mark::InUse(_)), FoundLog::Filled(_)) => Ok(true),
+        (FoundFile::Database(Mark::InUse(_) | Mark::AtRest), _) => Ok(false),
+        // Another process has put it there since it was looked at.
+        _ => Err(RefusedRows::for_cause(RowsCause::InUse)),
+    }
+}
+
+/// The files of which the log holds nothing: what it held stands in the row file by now.
+fn settled<D: Disk>(
+    alloc: Global,
+    files: Files<D>,
+    seed: u64,
+) -> (Files<D>, Result<(), RefusedRows>)
+    requires log { IsTrue (D.Disk.is_usable files.log) }
+    requires db { IsTrue (D.Disk.is_usable files.db) }
+    ensures pair { OnOk result.1 (AreClean D.Disk result.0.log result.0.db → MayGoOn (D.Disk.seen files.db) (D.Disk.seen files.log)) }
+{
+    let mut files = files;
+    match has_to_be_copied(&mut files) {
+        Ok(true) => copied(alloc, files, seed),
+        Ok(false) => (files, Ok(())),
+        Err(refused) => (files, Err(refused)),
+    }
+}
+
+/// Begins a life of a row file that was marked, and its log: what that holds is copied into the file, and the two have a number in
+/// common that no log before had. `chance` is to be random. The files come back.
+///
+/// `Store`, with its cause, where the file has another log, or the disk fails; `OutOfMemory`. Wherever it is cut off, the two are a
+/// pair, with all that was saved.
+pub fn begin_life<D: Disk>(
+    alloc: Global,
+    files: Files<D>,
+    chance: u64,
+) -> (Files<D>, Result<(), RefusedRows>)
+    requires log { IsTrue (D.Disk.is_usable files.log) }
+    requires db { IsTrue (D.Disk.is_usable files.db) }
+
+    // What is taken was at rest, or has the log of its life, where the disk tells no lie.
+    ensures pair { OnOk result.1 (AreClean D.Disk result.0.log result.0.db → MayGoOn (D.Disk.seen files.db) (D.Disk.seen files.log)) }
+    ensures begun { OnOk result.1 ((number : ℕ) × IsBegun number (D.Disk.seen result.0.db) (D.Disk.seen result.0.log)) }
+{
+    let (mut files, done) = settled(alloc, files, chance);
+    if let Err(refused) = done {
+        return (files, Err(refused));
+    }
+    if !files.may_be_used() {
+        return (files, Err(failed()));
+    }
+    let begun = begin_anew(&mut files, chance);
+    (files, begun)
+}
+
+/// Ends the life of a row file whose log was copied into it: it is at rest, and a copy of it alone has all.
+pub fn end_life<D: Disk>(files: &mut Files<D>) -> Result<(), RefusedRows> {
+    if !files.may_be_used() {
+        return Err(failed());
+    }
+    let (file, log) = pair_on(files)?;
+    match file {
+        FoundFile::Database(Mark::Unmarkable) => Ok(()),
+        FoundFile::Database(_) => {
+            let held = without_frame(log)?;
+            match mark_at_rest(&mut files.db, held) {
+                Ok(()) => Ok(()),
+                Err(error) => Err(unwritten(error)),
+            }
+        }
+        FoundFile::Nothing | FoundFile::Foreign | FoundFile::Bare => Err(failed()),
+    }
+}

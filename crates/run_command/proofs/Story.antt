@@ -1,0 +1,256 @@
+-- Stories, one behind the other, and what may happen in them.
+use Rattle.std.proofs.Common.{◌≡◌, ◌++◌, ◌∙◌, ◌⊎◌, ℕ, List, [], ◌∷◌, Option, Some, None, Ok, inl, inr, refl, sym, ap, subst, map}
+use Rattle.std.specs.Prelude.{flat_map, string_bytes}
+use Rattle.std.proofs.lemmas.List.Elements.{All-weaker}
+use Rattle.protocol.specs.Lists.{IsAmong}
+use Rattle.protocol.specs.Refusals.{Call}
+use Rattle.station.specs.declared.answer.Answer.{Answer}
+use Rattle.station.specs.declared.answer.Release.{Release}
+use Rattle.folders.specs.Doings.{Doing, saw_file, read_file, wrote_file, moved_file, removed_file, writing}
+use Rattle.folders.specs.Standing.{LayThere}
+use Rattle.folders.specs.Written.{File}
+use Rattle.folders.specs.declared.leaving.Place.TheVariants as places
+use Rattle.folders.specs.declared.names.Kind.{Kind}
+use Rattle.folders.specs.declared.names.Kind.TheVariants as kinds
+use Rattle.folders.specs.declared.wishes.Asked.{Asked}
+use Rattle.folders.specs.declared.wishes.Wish.{Wish}
+use Rattle.plant_files.specs.Filing.{files_of, release_files}
+use Rattle.exchange.specs.Events.{Event, took}
+use Rattle.run_command.specs.Filing.{filing}
+use Rattle.run_command.specs.Minding.{WasRead, WasTaken, WereTaken, HasRelease, HaveReleases, onto, IsOfRelease, IsLook, IsSettling, AreLooks, AreSettlings}
+use Rattle.run_command.specs.Story.{Happened, did, events_of, doings_of, files_of_story, IsReleasedIn, MayBeDone, IsInOrder}
+use Rattle.run_command.specs.Working.{Releases}
+use Rattle.run_command.specs.declared.offer_book.Known.{Known}
+
+-- lists
+
+pub among_front : {A : Type 0} (xs ys : List A) (x : A) → IsAmong xs x → IsAmong (xs ++ ys) x
+among_front [] ys x i = absurd i
+among_front (y ∷ xs) ys x (inl e) = inl e
+among_front (y ∷ xs) ys x (inr i) = inr (among_front xs ys x i)
+
+pub among_behind : {A : Type 0} (xs ys : List A) (x : A) → IsAmong ys x → IsAmong (xs ++ ys) x
+among_behind [] ys x i = i
+among_behind (y ∷ xs) ys x i = inr (among_behind xs ys x i)
+
+pub among_either : {A : Type 0} (xs ys : List A) (x : A) → IsAmong (xs ++ ys) x → IsAmong xs x ⊎ IsAmong ys x
+among_either [] ys x i = inr i
+among_either (y ∷ xs) ys x (inl e) = inl (inl e)
+among_either (y ∷ xs) ys x (inr i) = elim (among_either xs ys x i) [ inl k ↦ inl (inr k) | inr k ↦ inr k ]
+
+pub among_onto : {A : Type 0} (xs past : List A) (x : A) → IsAmong past x → IsAmong (onto xs past) x
+among_onto [] past x i = i
+among_onto (y ∷ xs) past x i = among_onto xs (y ∷ past) x (inr i)
+
+pub among_here : {A : Type 0} (xs past : List A) (x : A) → IsAmong xs x → IsAmong (onto xs past) x
+among_here [] past x i = absurd i
+among_here (y ∷ xs) past x (inl e) = among_onto xs (y ∷ past) x (inl e)
+among_here (y ∷ xs) past x (inr i) = among_here xs (y ∷ past) x i
+
+pub onto_then : {A : Type 0} (xs ys past : List A) → onto (xs ++ ys) past ≡ onto ys (onto xs past)
+onto_then [] ys past = refl
+onto_then (x ∷ xs) ys past = onto_then xs ys (x ∷ past)
+
+-- what was done leaves the events as they were, and stands in front of what was done before
+
+pub events_did : (ds : List Doing) (past : List Happened) → events_of (onto (map did ds) past) ≡ events_of past
+events_did [] past = refl
+events_did (d ∷ ds) past = events_did ds (did d ∷ past)
+
+pub doings_did : (ds : List Doing) (past : List Happened) → doings_of (onto (map did ds) past) ≡ onto ds (doings_of past)
+doings_did [] past = refl
+doings_did (d ∷ ds) past = doings_did ds (did d ∷ past)
+
+pub files_did : (ds : List Doing) (past : List Happened) (f : File) → IsAmong (files_of_story past) f → IsAmong (files_of_story (onto (map did ds) past)) f
+files_did [] past f i = i
+files_did (d ∷ ds) past f i = files_did ds (did d ∷ past) f (among_behind (writing d) (files_of_story past) f i)
+
+pub files_wrote : (fs : List File) (past : List Happened) (f : File) → IsAmong fs f → IsAmong (files_of_story (onto (map did (map wrote_file fs)) past)) f
+files_wrote [] past f i = absurd i
+files_wrote (g ∷ fs) past f (inl e) = files_did (map wrote_file fs) (did (wrote_file g) ∷ past) f (inl e)
+files_wrote (g ∷ fs) past f (inr i) = files_wrote fs (did (wrote_file g) ∷ past) f i
+
+-- a story of doings has these doings, these files and no events
+
+pub events_none : (ds : List Doing) → events_of (map did ds) ≡ []
+events_none [] = refl
+events_none (d ∷ ds) = events_none ds
+
+pub doings_all : (ds : List Doing) → doings_of (map did ds) ≡ ds
+doings_all [] = refl
+doings_all (d ∷ ds) = ap (λ (l : List Doing). d ∷ l) (doings_all ds)
+
+pub files_all : (ds : List Doing) → files_of_story (map did ds) ≡ flat_map writing ds
+files_all [] = refl
+files_all (d ∷ ds) = ap (λ (l : List File). writing d ++ l) (files_all ds)
+
+pub files_written : (fs : List File) → files_of_story (map did (map wrote_file fs)) ≡ fs
+files_written [] = refl
+files_written (f ∷ fs) = ap (λ (l : List File). f ∷ l) (files_written fs)
+
+-- what was read and what was released stays so
+
+lay_more : (ds shown : List Doing) (kind : Kind) (name bytes : List ℕ) → LayThere shown kind name bytes → LayThere (onto ds shown) kind name bytes
+lay_more ds shown kinds.Tape name bytes i = among_onto ds shown (read_file (record { name = name; bytes = bytes })) i
+lay_more ds shown kinds.Withdraw name bytes i = among_onto ds shown (saw_file name) i
+lay_more ds shown kinds.Seek name bytes i = among_onto ds shown (saw_file name) i
+
+-- so does what was read now
+lay_here : (ds shown : List Doing) (kind : Kind) (name bytes : List ℕ) → LayThere ds kind name bytes → LayThere (onto ds shown) kind name bytes
+lay_here ds shown kinds.Tape name bytes i = among_here ds shown (read_file (record { name = name; bytes = bytes })) i
+lay_here ds shown kinds.Withdraw name bytes i = among_here ds shown (saw_file name) i
+lay_here ds shown kinds.Seek name bytes i = among_here ds shown (saw_file name) i
+
+pub read_here : (ds shown : List Doing) (name : List ℕ) (n : ℕ) (wish : Wish) → WasRead ds name n wish → WasRead (onto ds shown) name n wish
+read_here ds shown name n wish r = record {
+  kind = r.kind;
+  bytes = r.bytes;
+  named = r.named;
+  lay_there = lay_here ds shown r.kind name r.bytes r.lay_there;
+  stands = r.stands;
+}
+
+pub read_more : (ds shown : List Doing) (name : List ℕ) (n : ℕ) (wish : Wish) → WasRead shown name n wish → WasRead (onto ds shown) name n wish
+read_more ds shown name n wish r = record {
+  kind = r.kind;
+  bytes = r.bytes;
+  named = r.named;
+  lay_there = lay_more ds shown r.kind name r.bytes r.lay_there;
+  stands = r.stands;
+}
+
+pub taken_more : (ds shown : List Doing) (asked : List Asked) → WereTaken shown asked → WereTaken (onto ds shown) asked
+taken_more ds shown asked all =
+    All-weaker (λ (a : Asked). WasTaken shown a) (λ (a : Asked). WasTaken (onto ds shown) a)
+    (λ a r. read_more ds shown (string_bytes a.name) a.number a.wish r) asked all
+
+release_more : (e : Event) (log : List Event) (n : ℕ) → HasRelease log n → HasRelease (e ∷ log) n
+release_more e log n h = record {
+  release = h.release;
+  released = record { call = h.released.call; answer = h.released.answer; among = inr h.released.among; releases = h.released.releases };
+  number = h.number;
+}
+
+pub releases_more : (e : Event) (log : List Event) (known : List Known) → HaveReleases log known → HaveReleases (e ∷ log) known
+releases_more e log known all =
+    All-weaker (λ (k : Known). HasRelease log k.number) (λ (k : Known). HasRelease (e ∷ log) k.number) (λ k h. release_more e log k.number h) known all
+
+-- what is released now
+pub releases_here : (call : Call) (answer : Answer) (log : List Event) (o : Option Release) → answer.release ≡ o → Releases o (took call (Ok answer) ∷ log)
+releases_here call answer log None e = tt
+releases_here call answer log (Some r) e = record { call = call; answer = answer; among = inl refl; releases = e }
+
+-- the files of a release are among those of what happened
+
+among_filing : (log : List Event) (e : Event) (f : File) → IsAmong log e → IsAmong (filing e) f → IsAmong (flat_map filing log) f
+among_filing [] e f i j = absurd i
+among_filing (x ∷ log) e f (inl same) j = among_front (filing x) (flat_map filing log) f (subst (λ (y : Event). IsAmong (filing y) f) same j)
+among_filing (x ∷ log) e f (inr i) j = among_behind (filing x) (flat_map filing log) f (among_filing log e f i j)
+
+of_release : (log : List Event) (r : Release) (f : File) → IsReleasedIn log r → IsAmong (release_files r) f → IsAmong (flat_map filing log) f
+of_release log r f it i =
+    among_filing log (took it.call (Ok it.answer)) f it.among (subst (λ (o : Option Release). IsAmong (files_of o) f) (sym it.releases) i)
+
+-- what happens is in order
+
+pub in_order_then : (xs ys past : List Happened) → IsInOrder past xs → IsInOrder (onto xs past) ys → IsInOrder past (xs ++ ys)
+in_order_then [] ys past p q = q
+in_order_then (x ∷ xs) ys past p q = (p.0, in_order_then xs ys (x ∷ past) p.1 q)
+
+may_look : (past : List Happened) (d : Doing) → IsLook d → MayBeDone past d
+may_look past (saw_file name) p = tt
+may_look past (read_file file) p = tt
+may_look past (wrote_file file) p = absurd p
+may_look past (moved_file name places.Sent) p = absurd p
+may_look past (moved_file name places.Lost) p = absurd p
+may_look past (moved_file name places.Refused) p = tt
+may_look past (removed_file name) p = p
+
+pub in_order_looks : (ds : List Doing) (past : List Happened) → AreLooks ds → IsInOrder past (map did ds)
+in_order_looks [] past p = tt
+in_order_looks (d ∷ ds) past p = (may_look past d p.0, in_order_looks ds (did d ∷ past) p.1)
+
+pub in_order_wrote :
+    (fs : List File) (past : List Happened) → ((f : File) → IsAmong fs f → IsAmong (flat_map filing (events_of past)) f)
+    → IsInOrder past (map did (map wrote_file fs))
+in_order_wrote [] past of = tt
+in_order_wrote (f ∷ fs) past of = (of f (inl refl), in_order_wrote fs (did (wrote_file f) ∷ past) (λ h i. of h (inr i)))
+
+-- all files of what was released are written
+abbrev AllWritten : List Happened → Type 0
+AllWritten past = (f : File) → IsAmong (flat_map filing (events_of past)) f → IsAmong (files_of_story past) f
+
+may_settle : (past : List Happened) (d : Doing) → AllWritten past → IsSettling (IsOfRelease (events_of past)) d → MayBeDone past d
+may_settle past (saw_file name) all p = tt
+may_settle past (read_file file) all p = tt
+may_settle past (wrote_file file) all p = absurd p
+may_settle past (moved_file name places.Sent) all p = record {
+  release = p.release;
+  kind = p.kind;
+  named = p.named;
+  released = p.released;
+  written = λ f i. all f (of_release (events_of past) p.release f p.released i);
+}
+may_settle past (moved_file name places.Lost) all p = record {
+  release = p.release;
+  kind = p.kind;
+  named = p.named;
+  released = p.released;
+  written = λ f i. all f (of_release (events_of past) p.release f p.released i);
+}
+may_settle past (moved_file name places.Refused) all p = tt
+may_settle past (removed_file name) all p = p
+
+pub in_order_settled : (ds : List Doing) (past : List Happened) → AllWritten past → AreSettlings (IsOfRelease (events_of past)) ds → IsInOrder past (map did ds)
+in_order_settled [] past all p = tt
+in_order_settled (d ∷ ds) past all p =
+    (may_settle past d all p.0, in_order_settled ds (did d ∷ past) (λ f i. among_behind (writing d) (files_of_story past) f (all f i)) p.1)
+
+-- doings, one after the other
+
+pub looks_then : (ds es : List Doing) → AreLooks ds → AreLooks es → AreLooks (ds ++ es)
+looks_then [] es p q = q
+looks_then (d ∷ ds) es p q = (p.0, looks_then ds es p.1 q)
+
+pub settlings_then : (P : List ℕ → Type 0) (ds es : List Doing) → AreSettlings P ds → AreSettlings P es → AreSettlings P (ds ++ es)
+settlings_then P [] es p q = q
+settlings_then P (d ∷ ds) es p q = (p.0, settlings_then P ds es p.1 q)
+
+silent_look : (d : Doing) → IsLook d → writing d ≡ []
+silent_look (saw_file name) p = refl
+silent_look (read_file file) p = refl
+silent_look (wrote_file file) p = absurd p
+silent_look (moved_file name to) p = refl
+silent_look (removed_file name) p = refl
+
+-- a look writes nothing
+pub silent_looks : (ds : List Doing) → AreLooks ds → flat_map writing ds ≡ []
+silent_looks [] p = refl
+silent_looks (d ∷ ds) p = ap (λ (l : List File). l ++ flat_map writing ds) (silent_look d p.0) ∙ silent_looks ds p.1
+
+settling_look : (P : List ℕ → Type 0) (d : Doing) → IsLook d → IsSettling P d
+settling_look P (saw_file name) p = tt
+settling_look P (read_file file) p = tt
+settling_look P (wrote_file file) p = absurd p
+settling_look P (moved_file name places.Sent) p = absurd p
+settling_look P (moved_file name places.Lost) p = absurd p
+settling_look P (moved_file name places.Refused) p = tt
+settling_look P (removed_file name) p = p
+
+-- a look settles nothing
+pub settlings_look : (P : List ℕ → Type 0) (ds : List Doing) → AreLooks ds → AreSettlings P ds
+settlings_look P [] p = tt
+settlings_look P (d ∷ ds) p = (settling_look P d p.0, settlings_look P ds p.1)
+
+settling_weaker : (P Q : List ℕ → Type 0) (d : Doing) → ((name : List ℕ) → P name → Q name) → IsSettling P d → IsSettling Q d
+settling_weaker P Q (saw_file name) w p = tt
+settling_weaker P Q (read_file file) w p = tt
+settling_weaker P Q (wrote_file file) w p = absurd p
+settling_weaker P Q (moved_file name places.Sent) w p = w name p
+settling_weaker P Q (moved_file name places.Lost) w p = w name p
+settling_weaker P Q (moved_file name places.Refused) w p = tt
+settling_weaker P Q (removed_file name) w p = p
+
+pub settlings_weaker : (P Q : List ℕ → Type 0) (ds : List Doing) → ((name : List ℕ) → P name → Q name) → AreSettlings P ds → AreSettlings Q ds
+settlings_weaker P Q [] w p = tt
+settlings_weaker P Q (d ∷ ds) w p = (settling_weaker P Q d w p.0, settlings_weaker P Q ds w p.1)

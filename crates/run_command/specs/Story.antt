@@ -1,0 +1,89 @@
+-- The story of a run: what happened in it, in order, and what may happen behind what happened before.
+use Rattle.std.specs.Prelude.{◌≡◌, ℕ, List, [], ◌∷◌, flat_map, Some, Ok}
+use Rattle.protocol.specs.Lists.{IsAmong}
+use Rattle.protocol.specs.Refusals.{Call, Offering, Seeking, Falling_due, Receiving}
+use Rattle.station.specs.declared.answer.Answer.{Answer}
+use Rattle.station.specs.declared.answer.Release.{Release}
+use Rattle.folders.specs.Doings.{Doing, saw_file, read_file, wrote_file, moved_file, removed_file, writing}
+use Rattle.folders.specs.Offers.{IsNameOf, IsStop}
+use Rattle.folders.specs.Standing.{WasLaid}
+use Rattle.folders.specs.Written.{File}
+use Rattle.folders.specs.declared.leaving.Place.TheVariants as places
+use Rattle.folders.specs.declared.names.Kind.{Kind}
+use Rattle.plant_files.specs.Filing.{release_files}
+use Rattle.exchange.specs.Events.{Event, asked, took}
+use Rattle.run_command.specs.Filing.{filing}
+
+-- the clock was asked or the station was called; or something was done with the folders
+pub data Happened : Type 0 where
+  stepped : (event : Event) → Happened
+  did : (doing : Doing) → Happened
+
+-- which events happened, in order
+abbrev pub event_in : Happened → List Event
+event_in (stepped event) = event ∷ []
+event_in (did doing) = []
+
+abbrev pub events_of : List Happened → List Event
+events_of story = flat_map event_in story
+
+-- what was done with the folders, in order
+abbrev pub doing_in : Happened → List Doing
+doing_in (stepped event) = []
+doing_in (did doing) = doing ∷ []
+
+abbrev pub doings_of : List Happened → List Doing
+doings_of story = flat_map doing_in story
+
+-- which files were written among the releases, in order
+abbrev pub file_in : Happened → List File
+file_in (stepped event) = []
+file_in (did doing) = writing doing
+
+abbrev pub files_of_story : List Happened → List File
+files_of_story story = flat_map file_in story
+
+-- the station released this in one of these events
+pub record IsReleasedIn (log : List Event) (r : Release) : Type 0 where
+  pub call : Call
+  pub answer : Answer
+  pub among : IsAmong log (took call (Ok answer))
+  pub releases : answer.release ≡ Some r
+
+-- a file of this name is of a number that the station released, and all files of that release were written before
+pub record IsBehindRelease (before : List Happened) (name : List ℕ) : Type 0 where
+  pub release : Release
+  pub kind : Kind
+  pub named : IsNameOf name release.number kind
+  pub released : IsReleasedIn (events_of before) release
+  pub written : (f : File) → IsAmong (release_files release) f → IsAmong (files_of_story before) f
+
+-- what may be done with the folders behind what happened before: only a file of what was released is written among the releases, a file
+-- leaves the offers for those that were sent or lost only behind all files of a release of its number, and nothing is taken away but the
+-- file that ends a run
+abbrev pub MayBeDone : List Happened → Doing → Type 0
+MayBeDone before (saw_file name) = Unit {0}
+MayBeDone before (read_file file) = Unit {0}
+MayBeDone before (wrote_file file) = IsAmong (flat_map filing (events_of before)) file
+MayBeDone before (moved_file name places.Sent) = IsBehindRelease before name
+MayBeDone before (moved_file name places.Lost) = IsBehindRelease before name
+MayBeDone before (moved_file name places.Refused) = Unit {0}
+MayBeDone before (removed_file name) = IsStop name
+
+-- an entry is offered only where a file that lay among the offers stands for it; a search, what is due and what comes need no file
+abbrev pub MayBeCalled : List Happened → Call → Type 0
+MayBeCalled before (Offering n entry now) = WasLaid (doings_of before) n entry
+MayBeCalled before (Seeking n now) = Unit {0}
+MayBeCalled before (Falling_due now) = Unit {0}
+MayBeCalled before (Receiving bytes now) = Unit {0}
+
+-- what may happen behind what happened before
+abbrev pub MayHappen : List Happened → Happened → Type 0
+MayHappen before (stepped (asked moment)) = Unit {0}
+MayHappen before (stepped (took call answer)) = MayBeCalled before call
+MayHappen before (did doing) = MayBeDone before doing
+
+-- each of these may happen behind those before it, of which the latest is told first
+abbrev pub IsInOrder : List Happened → List Happened → Type 0
+IsInOrder before [] = Unit {0}
+IsInOrder before (x ∷ story) = MayHappen before x × IsInOrder (x ∷ before) story

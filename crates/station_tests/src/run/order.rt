@@ -1,0 +1,64 @@
+//! In which order a run does what it does with its folders.
+
+use crate::run::plant::place_word;
+use crate::run::stage::Held::{Flood, Nothing};
+use crate::run::stage::Name::{Stop, Tape12};
+use crate::run::stage::What::Laid;
+use crate::run::stage::{Act as Happens, Stage};
+use crate::run::wires::Ticking;
+use crate::stations::{rows_with, station_over};
+use command_ends::End;
+use folders::Act;
+use run_command::run_station;
+use std::alloc::Global;
+use std::io::Write;
+use tape_frames::Version;
+
+/// Writes a line for something that was done, unless a file was found; whether there was memory for it.
+fn put_act(act: &Act, text: &mut Vec<u8>) -> bool {
+    let (word, name) = match act {
+        Act::Saw(_) => return true,
+        Act::Read(named) => ("read", named.name()),
+        Act::Wrote(named) => ("wrote", named.name()),
+        Act::SetAside(name, to) => (place_word(*to), name.as_str()),
+        Act::TakenAway(name) => ("gone", name.as_str()),
+    };
+    writeln!(text, "{word} {name}").is_ok()
+}
+
+/// What was done with the folders of a plant in a run of a circuit of one, in which a tape is laid there, and then `stop`.
+fn done(alloc: Global) -> Option<Vec<u8>> {
+    let rows = rows_with(alloc, Version::Two, None)?;
+    let mut station = station_over(alloc, 1, 1, rows)?;
+    let mut stage = Stage::new(
+        alloc,
+        &[
+            Happens(1, Laid(Tape12, Flood)),
+            Happens(20, Laid(Stop, Nothing)),
+        ],
+    );
+    let mut wire = Ticking {
+        moment: 0,
+        tick: 25,
+        until: 15_000,
+    };
+    let mut err = Vec::new(alloc);
+    if run_station(alloc, &mut station, &mut wire, &mut stage, true, &mut err) != End::Done {
+        return None;
+    }
+    let mut text = Vec::new(alloc);
+    for act in stage.folders.acts() {
+        if !put_act(act, &mut text) {
+            return None;
+        }
+    }
+    Some(text)
+}
+
+/// The tape leaves the offers behind both files of its release.
+const ORDER: &str = "read 12.tape\nwrote 12.tape\nwrote 12.galley\nsent 12.tape\n";
+
+#[test]
+fn order(rt: HostRuntime) {
+    assert!(rt; done(rt.alloc()).is_some_and(|text| text.as_slice() == ORDER.as_bytes()));
+}

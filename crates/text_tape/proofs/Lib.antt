@@ -1,0 +1,12 @@
+pub mod Lists
+pub mod Finding
+pub mod Looking
+pub mod Punched
+pub mod Keys
+pub mod Worded
+pub mod Pieced
+pub mod Spelled
+pub mod Read
+pub mod Said
+pub mod Unique
+pub mod Excluded

@@ -1,0 +1,9 @@
+use Rattle.std.proofs.Common.{arith}
+use Rattle.code_table.specs.Tables.{mean}
+use Rattle.text_tape.proofs.Spelled.{pair_is}
+use Rattle.text_tape.proofs.spelling.is_pair.Goals as goal
+
+pub returns : goal.returns
+returns c =
+    pair_is (mean c.args.codes.now) c.args.case c.args.next c.args.frames.now c.args.i c.is_worded.result (omega arith) c.requires.case c.requires.next
+    (rw (c.meaning.ensures.value, c.table.ensures) at c.is_worded.ensures)

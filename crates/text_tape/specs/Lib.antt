@@ -1,0 +1,6 @@
+pub mod Codes
+pub mod Keys
+pub mod Punching
+pub mod Spelling
+pub mod Plain
+pub mod Laws

@@ -1,0 +1,138 @@
+//! Tapes spelled as texts.
+
+ghost use Rattle.std.specs.Prelude.{◌≡◌, [], ◌++◌, ◌<◌, suc, length, IfOk, OnOk, option_copied};
+ghost use Rattle.tape_frames.specs.Frames.{AreFrames};
+ghost use Rattle.code_table.specs.Tables.{mean};
+ghost use Rattle.slug_reader.specs.Meanings.{case_at};
+ghost use Rattle.text_tape.specs.Punching.{IsPunched};
+ghost use Rattle.text_words.specs.Writing.{word_text};
+ghost use Rattle.text_tape.specs.Spelling.{is_turn_of, is_added, is_worded, is_pair, is_behind_unsaid, word_at, spelled};
+
+use crate::adding::{Added, frames_of};
+use crate::codes::selected_by;
+use crate::index::Codes;
+use code_table::{Case, CodeTable, Meaning};
+use std::alloc::{AllocError, Global};
+use tape_frames::Tape;
+use text_words::{has_word, put_frame, put_meaning};
+
+/// Whether both are this frame, or neither is one.
+fn is_turn_of(a: Option<u8>, b: Option<u8>) -> bool
+    ensures { result ≡ is_turn_of a b }
+{
+    match (a, b) {
+        (None, None) => true,
+        (Some(a), Some(b)) => a == b,
+        _ => false,
+    }
+}
+
+/// Whether what a word adds is this frame, behind this case code, if any.
+fn is_added(turn: Option<u8>, frame: u8, added: Option<Added>) -> bool
+    ensures { result ≡ is_added turn frame added }
+{
+    match added {
+        Some(added) => is_turn_of(turn, added.turn) && added.frame == frame,
+        None => false,
+    }
+}
+
+/// Whether punching a word for what a frame means gives that frame, behind this case code, if any.
+fn is_worded(
+    codes: &Codes<'_>,
+    case: Case,
+    meaning: Option<&Meaning>,
+    turn: Option<u8>,
+    frame: u8,
+) -> bool
+    ensures { result ≡ is_worded (mean codes.now) case (option_copied meaning.entry) turn frame }
+{
+    match meaning {
+        Some(meaning) => {
+            has_word(meaning) && is_added(turn, frame, frames_of(codes, case, meaning))
+        }
+        None => false,
+    }
+}
+
+/// Whether a word for what the next frame means gives the frame at this place, a case code, and the next.
+#[tactic(auto, unfolding(crate::specs::Spelling::is_pair, slug_reader::specs::Meanings::meaning_at))]
+fn is_pair(codes: &Codes<'_>, case: Case, next: Case, frames: &[u8], i: usize) -> bool
+    requires within { i < length frames.now }
+    requires case { case ≡ case_at (mean codes.now) frames.now i }
+    requires next { next ≡ case_at (mean codes.now) frames.now (suc i) }
+    ensures { result ≡ is_pair (mean codes.now) frames.now i }
+{
+    if i + 1 >= frames.len() {
+        return false;
+    }
+    let frame = frames[i + 1];
+    is_worded(
+        codes,
+        case,
+        codes.table().meaning(next, frame),
+        Some(frames[i]),
+        frame,
+    )
+}
+
+/// Writes the word of the frame at this place.
+#[tactic(auto, unfolding(crate::specs::Spelling::is_alone, slug_reader::specs::Meanings::meaning_at))]
+fn put_word(
+    codes: &Codes<'_>,
+    case: Case,
+    behind_unsaid: bool,
+    frames: &[u8],
+    i: usize,
+    text: &mut Vec<u8>,
+) -> Result<(), AllocError>
+    requires within { i < length frames.now }
+    requires small { AreFrames frames.now }
+    requires case { case ≡ case_at (mean codes.now) frames.now i }
+    requires behind { behind_unsaid ≡ is_behind_unsaid (mean codes.now) frames.now i }
+    ensures { OnOk result (text.new.items ≡ text.old.items ++ word_text (word_at (mean codes.now) frames.now i)) }
+{
+    let frame = frames[i];
+    match codes.table().meaning(case, frame) {
+        None => put_frame(text, frame),
+        Some(meaning) => {
+            if behind_unsaid || is_worded(codes, case, Some(meaning), None, frame) {
+                put_meaning(text, meaning)
+            } else {
+                put_frame(text, frame)
+            }
+        }
+    }
+}
+
+/// The text of a tape by these codes.
+fn text_of(alloc: Global, codes: &Codes<'_>, tape: &Tape) -> Result<Vec<u8>, AllocError>
+    ensures spelled { IfOk result (λ text. text.items ≡ spelled (mean codes.now) tape.now) }
+    ensures again { IfOk result (λ text. IsPunched [] (mean codes.now) text.items tape.now) }
+{
+    let mut text = Vec::new(alloc);
+    let mut case = Case::Unshift;
+    let mut behind_unsaid = false;
+    let frames = tape.frames();
+    for (i, frame) in frames.iter().enumerate() {
+        let next = selected_by(codes.table(), *frame).unwrap_or(case);
+        if !behind_unsaid && is_pair(codes, case, next, frames, i) {
+            behind_unsaid = true;
+        } else {
+            put_word(codes, case, behind_unsaid, frames, i, &mut text)?;
+            behind_unsaid = false;
+        }
+        case = next;
+    }
+    Ok(text)
+}
+
+/// The text of a tape, which is punched as that tape again: each frame as the word of what it means where punching that
+/// gives it, a case code unsaid where the word of the next frame gives both, and any other frame by its number.
+pub fn spell(alloc: Global, table: &CodeTable, tape: &Tape) -> Result<Vec<u8>, AllocError>
+    ensures spelled { IfOk result (λ text. text.items ≡ spelled (mean table.now) tape.now) }
+    ensures again { IfOk result (λ text. IsPunched [] (mean table.now) text.items tape.now) }
+{
+    let codes = Codes::new(alloc, table)?;
+    text_of(alloc, &codes, tape)
+}

@@ -1,0 +1,5 @@
+pub mod Words
+pub mod Ligatures
+pub mod Places
+pub mod Writing
+pub mod Laws
