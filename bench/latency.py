@@ -5,10 +5,10 @@
 
 Three plants `run` on 127.0.0.1 with no network between them but the machine's. 200 stories where no other count is given are
 laid into the first plant's folder, one after another, each once the one before it stands in all three folders `releases`; each
-takes more than a second, since a file is taken up after two looks. Told are the least and the median time from the line that
-says that the offer was taken up (`N began B`) to the last of the three files `N.tape`, and to the last of the three files
-`N.galley`; and how long the offer waited for the folder to be looked at. The bench sleeps until the system tells it of a line or
-of a name in a folder, so that it takes no processor from the stations.
+takes more than a second, since a file is taken up after two looks. Told are the least and the median time from the moment at which
+the plant opens the offer to read it to the last of the three files `N.tape`, and to the last of the three files `N.galley`; how
+long the offer waited until then; and the whole, from its rename to the last galley. The bench sleeps until the system tells it of
+a name in a folder, so that it takes no processor from the stations.
 
 Beside them the saves on that path: promise and vote at the offering station, promise and vote at one other, timed alone on the
 same disk. They are timed by two programs: by the stock SQLite library with the same durability (journal in a log, each commit
@@ -33,7 +33,8 @@ HERE = os.path.dirname(os.path.abspath(__file__))
 EXAMPLES = os.path.join(HERE, '..', 'examples')
 MEMBERS = (1, 2, 3)
 TAPE = bytes.fromhex('01020301030204')
-MOVED_TO = 0x80
+# What the system tells of a file in a folder: that it was opened, that it got its name.
+OPENED, MOVED_TO = 0x20, 0x80
 IN_A_ROW = 200
 # A page of the log of a database, with its head.
 PAGE = bytes(24 + 4096 + 8)
@@ -60,23 +61,22 @@ def start(program, folder, member, ports):
     with open(os.path.join(home, 'station.toml'), 'w') as config:
         config.write(f'circuit = 7\nmember = {member}\ntable = "codes.toml"\nwidths = "widths.toml"\nrows = "station.db"\n'
                      f'[folders]\noffers = "offers"\nreleases = "releases"\n{stations}')
-    process = subprocess.Popen([program, 'run', 'station.toml', '--create', '--layout', '2'], cwd=home, stdout=subprocess.DEVNULL, stderr=subprocess.PIPE)
-    os.set_blocking(process.stderr.fileno(), False)
+    process = subprocess.Popen([program, 'run', 'station.toml', '--create', '--layout', '2'], cwd=home, stdout=subprocess.DEVNULL, stderr=subprocess.DEVNULL)
     return home, process
 
 
 class Names:
-    """The names that files are given in folders, as the system tells them (inotify)."""
+    """The names of files in folders of which something is told, as the system tells it (inotify)."""
 
-    def __init__(self, folders):
+    def __init__(self, folders, what):
         libc = ctypes.CDLL(None, use_errno=True)
         self.file = libc.inotify_init1(os.O_NONBLOCK | os.O_CLOEXEC)
         for folder in folders:
-            if self.file < 0 or libc.inotify_add_watch(self.file, os.fsencode(folder), MOVED_TO) < 0:
+            if self.file < 0 or libc.inotify_add_watch(self.file, os.fsencode(folder), what) < 0:
                 raise OSError(ctypes.get_errno(), os.strerror(ctypes.get_errno()), folder)
 
     def taken(self):
-        """The names that were given since it was asked last."""
+        """Those of which it was told since it was asked last."""
         try:
             told = os.read(self.file, 65536)
         except BlockingIOError:
@@ -92,7 +92,8 @@ class Names:
 def story(plants, names, saves, number):
     """Lays a story down, and gives the moments: laid, taken up, the last of its tapes and the last of its galleys released; and how
     long saves as its own take alone, while it waits."""
-    home, process = plants[0]
+    home, _ = plants[0]
+    opened, given = names
     part, whole = (os.path.join(home, 'offers', name) for name in (f'.{number}.tape', f'{number}.tape'))
     with open(part, 'wb') as file:
         file.write(TAPE)
@@ -103,19 +104,18 @@ def story(plants, names, saves, number):
         time.sleep(0.4)
         alone.append(each.time())
     left = {f'{number}.tape': len(plants), f'{number}.galley': len(plants)}
-    moments, line = {}, b''
+    moments = {}
     while time.monotonic() < laid + 30:
-        select.select([process.stderr, names.file], [], [], 1)
+        select.select([opened.file, given.file], [], [], 1)
         now = time.monotonic()
-        line += process.stderr.read() or b''
-        if f'{number} began '.encode() in line:
-            moments.setdefault('began', now)
-        for name in names.taken():
+        if f'{number}.tape' in opened.taken():
+            moments.setdefault('read', now)
+        for name in given.taken():
             if name in left:
                 left[name] -= 1
                 moments[name] = now
         if not any(left.values()):
-            return laid, moments['began'], moments[f'{number}.tape'], moments[f'{number}.galley'], alone
+            return laid, moments['read'], moments[f'{number}.tape'], moments[f'{number}.galley'], alone
     sys.exit(f'number {number} was not released within 30 s')
 
 
@@ -177,7 +177,7 @@ def main():
     try:
         plants = [start(program, folder, member, ports) for member in MEMBERS]
         time.sleep(1)
-        names = Names([os.path.join(home, 'releases') for home, _ in plants])
+        names = Names([os.path.join(plants[0][0], 'offers')], OPENED), Names([os.path.join(home, 'releases') for home, _ in plants], MOVED_TO)
         saves = StockSaves(folder), BareSaves(folder, count + IN_A_ROW)
         moments = [story(plants, names, saves, number) for number in range(1, count + 1)]
         rows = [[each.time() for _ in range(IN_A_ROW)] for each in saves]
@@ -186,13 +186,14 @@ def main():
             process.kill()
             process.wait()
         shutil.rmtree(folder)
-    waits = [began - laid for laid, began, _, _, _ in moments]
-    tapes = [told - began for _, began, told, _, _ in moments]
-    galleys = [ended - began for _, began, _, ended, _ in moments]
+    waits = [read - laid for laid, read, _, _, _ in moments]
+    tapes = [told - read for _, read, told, _, _ in moments]
+    galleys = [ended - read for _, read, _, ended, _ in moments]
+    wholes = [ended - laid for laid, _, _, ended, _ in moments]
     alone = [list(took) for took in zip(*(took for _, _, _, _, took in moments))]
     saved = [('the saves by the stock library', alone[0]), ('in a row', rows[0]), ('the saves by bare calls', alone[1]), ('bare, in a row', rows[1])]
-    for what, took in (('taken up after', waits), ('from there to the last tape', tapes), ('to the last galley', galleys), *saved):
-        print(f'{what:32} least {1000 * min(took):7.2f} ms, median {1000 * statistics.median(took):7.2f} ms')
+    for what, took in (('taken up after', waits), ('from there to the last tape', tapes), ('to the last galley', galleys), ('from the rename to the last galley', wholes), *saved):
+        print(f'{what:34} least {1000 * min(took):7.2f} ms, median {1000 * statistics.median(took):7.2f} ms')
     for what, took in saved:
         over = [f'{statistics.median(path) / statistics.median(took):.2f} ({end})' for end, path in (('tape', tapes), ('galley', galleys))]
         print(f'medians over {what}: {", ".join(over)}')

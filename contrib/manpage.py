@@ -13,7 +13,7 @@ import sys
 
 def printed(program, *words):
     """What the program prints on these words."""
-    ran = subprocess.run([program, *words], stdout=subprocess.PIPE, encoding="utf-8", check=False)
+    ran = subprocess.run([program, *words], stdout=subprocess.PIPE, stderr=subprocess.DEVNULL, encoding="utf-8", check=False)
     return ran.stdout
 
 
@@ -94,4 +94,5 @@ def main():
     sys.stdout.write(page(program))
 
 
-main()
+if __name__ == "__main__":
+    main()

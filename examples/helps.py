@@ -13,7 +13,7 @@ import tempfile
 import time
 
 EXAMPLES = os.path.dirname(os.path.abspath(__file__))
-COMMANDS = ["answer", "check", "draw", "punch", "spell", "fit", "rows", "upgrade", "serve", "run", "rehearse"]
+COMMANDS = ["answer", "check", "draw", "chart", "punch", "spell", "fit", "rows", "upgrade", "check-config", "serve", "run", "rehearse", "import", "survey"]
 # the rows that the help of `rows` lists, as the stock library saves them
 TABLES = """
 CREATE TABLE station (one INTEGER PRIMARY KEY CHECK (one = 1),
@@ -74,7 +74,7 @@ def prepare(work, name, script):
         made = sqlite3.connect(f"{work}/station2.db")
         made.executescript(TABLES)
         made.close()
-    if name in ("serve", "run"):
+    if name in ("check-config", "serve", "run"):
         configure(work)
 
 

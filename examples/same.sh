@@ -84,7 +84,7 @@ def differing_in(page, work):
     """What the program prints otherwise than a page: its examples in their order, in one shell that starts where the page says."""
     os.makedirs(os.path.join(work, "examples"))
     for name in os.listdir("."):
-        if name.endswith((".toml", ".tape", ".script")):
+        if name.endswith((".toml", ".tape", ".script")) or name == "reel.py":
             shutil.copy(name, os.path.join(work, "examples"))
     shutil.copytree("wire", os.path.join(work, "examples", "wire"))
     shutil.copytree("../docs", os.path.join(work, "docs"))

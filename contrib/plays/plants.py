@@ -19,18 +19,30 @@ STORIES = 300
 BALLOTS = 1.3
 
 
-def three(at):
-    """Three plants that are up, each with a log."""
+def configure(at):
+    """Three plants that are not up yet, and the port of each."""
     ports = [stage.free_port() for _ in range(3)]
     stations = ''.join(f'[[station]]\nmember = {member}\nip = "127.0.0.1"\nport = {port}\n' for member, port in enumerate(ports, 1))
-    for member, port in enumerate(ports, 1):
+    for member in (1, 2, 3):
         at.write(f'plant{member}.toml', CONFIG.format(member=member, stations=stations).encode())
         os.mkdir(at.path(f'offers{member}'))
         os.mkdir(at.path(f'releases{member}'))
+    return ports
+
+
+def bring_up(at, ports, members):
+    """Starts these for the first time, each with a log, and waits until they are up."""
+    for member in members:
         with open(at.path(f'log{member}'), 'wb') as log:
             at.start(f'run plant{member}.toml --create --layout 2', stderr=log)
-    for at.port in ports:
+    for member in members:
+        at.port = ports[member - 1]
         stage.within(10, at.serves, 'each plant is up')
+
+
+def three(at):
+    """Three plants that are up, each with a log."""
+    bring_up(at, configure(at), (1, 2, 3))
 
 
 def lay(at, member, name, data):

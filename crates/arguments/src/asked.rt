@@ -24,6 +24,12 @@ pub enum Asked<'a> {
         paths: TapePaths<'a>,
         page: Page,
     },
+    /// To chart a code table with widths.
+    Chart {
+        table: &'a str,
+        widths: &'a str,
+        page: Page,
+    },
     /// To punch the text at a path, with the ligatures that are named, as a tape for which this version has room.
     Punch {
         table: &'a str,
@@ -66,12 +72,46 @@ pub enum Asked<'a> {
         /// Whether faults alone are told.
         quiet: bool,
     },
+    /// To tell what is found about the configuration at a path.
+    CheckConfig {
+        config: &'a str,
+    },
+    /// To end the station of the configuration at a path.
+    Stop {
+        config: &'a str,
+    },
     /// To rehearse a circuit by a script.
     Rehearse {
         paths: ScriptPaths<'a>,
     },
+    /// To make tapes of a reel.
+    Import(ReelPlan<'a>),
+    /// To survey how the frames of the tapes at some paths come in them.
+    Survey {
+        table: &'a str,
+        widths: &'a str,
+        tapes: &'a [String],
+    },
     /// To print which version of the program this is.
     Version,
+}
+
+/// What the command line of `import` asks for.
+#[derive(Clone, Copy)]
+pub struct ReelPlan<'a> {
+    /// The path of the reel.
+    pub path: &'a str,
+    /// Which level each bit of the mask holds, and the mask, as they are written.
+    pub levels: &'a str,
+    pub mask: &'a str,
+    /// Whether a clear bit is a hole.
+    pub inverted: bool,
+    /// How many blanks make a gap, at which the roll is cut, if it is.
+    pub split: Option<u32>,
+    /// Whether each tape is taken without its leader and its trailer.
+    pub trims: bool,
+    /// The path of the folder that the tapes are put into.
+    pub folder: &'a str,
 }
 
 /// What the command line of `serve` asks for.

@@ -24,6 +24,7 @@ enum Value {
     Most,
     Turns,
     Number,
+    Blanks,
 }
 
 /// What is so where an option is left out.
@@ -53,6 +54,8 @@ struct Choice<'a> {
 enum Shape<'a> {
     /// A value at its place, which can't be left out.
     Word(Value),
+    /// Texts at the end of the line, one or more.
+    Words,
     /// Its name alone.
     Flag,
     /// Its name with a value behind it.
@@ -173,7 +176,7 @@ Example: the holes of a tape and its slugs to scale, in a file that a browser sh
 
   $ circuitd draw codes.toml widths.toml flood.tape > flood.svg
 
-A tape that does not set is drawn as far as it sets, with a mark at its fault, which is told:
+A tape that does not set is drawn whole, each line with its fault, and the first fault is told:
 
   $ circuitd draw codes.toml widths.toml overset.tape > overset.svg
   fault: overset 1 at 7 line 1";
@@ -189,7 +192,27 @@ const DRAW: Form = Form {
         Given {
             name: "html",
             shape: Shape::Flag,
-            help: "Write a page in HTML, with the drawing, the fault in words and the galley",
+            help: "Write a page in HTML, with a heading and each line as a drawing of its own",
+        },
+    ],
+};
+
+const CHART_EXAMPLE: &str = "\
+Example: what all 64 combinations of a code table mean, and how wide that is, in a file that a browser shows:
+
+  $ circuitd chart codes.toml widths.toml > chart.svg";
+
+const CHART: Form = Form {
+    name: "chart",
+    about: "Draws a code table as a chart of all 64 combinations: holes, both meanings and widths",
+    example: CHART_EXAMPLE,
+    given: &[
+        TABLE,
+        WIDTHS,
+        Given {
+            name: "html",
+            shape: Shape::Flag,
+            help: "Write a page in HTML, with each combination as a drawing of its own",
         },
     ],
 };
@@ -470,6 +493,45 @@ const RUN: Form = Form {
     ],
 };
 
+const CONFIG_CHECK_EXAMPLE: &str = "\
+Example: what is found about the configuration of a plant, before its row file is made:
+
+  $ circuitd check-config station1.toml
+  station 1 at 127.0.0.1:7001 is this one, on this host
+  station 2 at 127.0.0.1:7002 is on this host too
+  station 3 at 127.0.0.1:7003 is on this host too
+  there is no station1.db yet: circuitd create makes it, for a station that never ran";
+
+const CONFIG_CHECK: Form = Form {
+    name: "check-config",
+    about: "Tells of a configuration what is at fault and what is odd, and which addresses are this host's; nothing is touched",
+    example: CONFIG_CHECK_EXAMPLE,
+    given: &[Given {
+        name: "CONFIG",
+        shape: Shape::Word(Value::Text),
+        help: "The station's configuration: its circuit, its member, its files and folders, and the addresses of all stations",
+    }],
+};
+
+const STOP_EXAMPLE: &str = "\
+Example: a station that `circuitd run station1.toml` runs ends, and its row file is closed:
+
+  $ circuitd stop station1.toml
+
+The file `stop` is laid among the offers that the configuration names. Where the station has not ended within
+30 seconds, that is told.";
+
+const STOP: Form = Form {
+    name: "stop",
+    about: "Ends the station that runs with this configuration, and waits until it has ended",
+    example: STOP_EXAMPLE,
+    given: &[Given {
+        name: "CONFIG",
+        shape: Shape::Word(Value::Text),
+        help: "The station's configuration, which names its folder of offers",
+    }],
+};
+
 const REHEARSE_EXAMPLE: &str = "\
 Example: the first of three members offers a story, and its first request comes to member 2.
 
@@ -509,11 +571,120 @@ const REHEARSE: Form = Form {
     ],
 };
 
+const IMPORT_EXAMPLE: &str = "\
+Example: a roll from a reader that has level 0 in its highest bit and sets the two lowest, cut where two blanks stand, without leaders:
+
+  $ mkdir tapes
+  $ printf '\\003\\203\\103\\003\\003\\377\\203' > roll.bin
+  $ circuitd import roll.bin --to tapes --mask 0xfc --levels 012345 --split 2 --trim
+  001.tape frames 2 from 1
+  002.tape frames 1 from 6
+  tapes: 2, frames in the reel: 7";
+
+const IMPORT: Form = Form {
+    name: "import",
+    about: "Makes tapes of a reel from a reader of real tape: 001.tape, 002.tape, .. in a folder",
+    example: IMPORT_EXAMPLE,
+    given: &[
+        Given {
+            name: "REEL",
+            shape: Shape::Word(Value::Text),
+            help: "What the reader gave, one frame per byte; - is standard input",
+        },
+        Given {
+            name: "to",
+            shape: Shape::Choice(Choice {
+                shown: "DIR",
+                value: Value::Text,
+                absence: Absence::Refused,
+                goes_with: None,
+            }),
+            help: "The folder that the tapes are put into, over no file that is there",
+        },
+        Given {
+            name: "mask",
+            shape: Shape::Choice(Choice {
+                shown: "BYTE",
+                value: Value::Text,
+                absence: Absence::Default("0x3f"),
+                goes_with: None,
+            }),
+            help: "Which six bits of a byte hold levels; the others are passed over",
+        },
+        Given {
+            name: "levels",
+            shape: Shape::Choice(Choice {
+                shown: "DIGITS",
+                value: Value::Text,
+                absence: Absence::Default("543210"),
+                goes_with: None,
+            }),
+            help: "Which level each bit of the mask holds, from its highest bit on",
+        },
+        Given {
+            name: "invert",
+            shape: Shape::Flag,
+            help: "A clear bit is a hole, and not a set one",
+        },
+        Given {
+            name: "split",
+            shape: Shape::Choice(Choice {
+                shown: "N",
+                value: Value::Blanks,
+                absence: Absence::Empty,
+                goes_with: None,
+            }),
+            help: "Cut the roll where so many blanks stand one behind the other, 1 to 1000000",
+        },
+        Given {
+            name: "trim",
+            shape: Shape::Flag,
+            help: "Take each tape without the blanks and rub-outs at its beginning and its end",
+        },
+    ],
+};
+
+const SURVEY_EXAMPLE: &str = "\
+Example: how the first frames come in a tape, and what stands around them.
+
+  $ circuitd survey codes.toml widths.toml flood.tape | head -4
+  frame  holes     times  lacks    unshift       shift
+      0  ......        0           @ignore       @ignore
+      1  o.....        2           a             A
+         flood.tape 0  [a]b a b{@elevate}";
+
+const SURVEY: Form = Form {
+    name: "survey",
+    about: "Tells of each of the 64 frames how often it comes in tapes, what it means or lacks, and where it comes first",
+    example: SURVEY_EXAMPLE,
+    given: &[
+        TABLE,
+        WIDTHS,
+        Given {
+            name: "TAPE",
+            shape: Shape::Words,
+            help: "The tapes, one frame per byte",
+        },
+    ],
+};
+
 /// The commands over tapes, in the order in which the help lists them.
-const TAPE_FORMS: &[Form] = &[ANSWER, CHECK, DRAW, PUNCH, SPELL, FIT];
+const TAPE_FORMS: &[Form] = &[ANSWER, CHECK, DRAW, CHART, PUNCH, SPELL, FIT];
 
 /// Those over stations, behind them.
-const STATION_FORMS: &[Form] = &[ROWS, UPGRADE, CREATION, SERVE, RUN, REHEARSE];
+const STATION_FORMS: &[Form] = &[
+    ROWS,
+    UPGRADE,
+    CREATION,
+    CONFIG_CHECK,
+    SERVE,
+    RUN,
+    STOP,
+    REHEARSE,
+];
+
+/// Those over reels of real tape, behind them.
+const REEL_FORMS: &[Form] = &[IMPORT, SURVEY];
 
 /// The commands over tapes. This function alone names the table, since each that names it is proved with all of its texts; all
 /// commands in one table are more than the prover takes at once.
@@ -526,6 +697,11 @@ fn station_forms() -> &'static [Form<'static>] {
     STATION_FORMS
 }
 
+/// Those over reels, the same way.
+fn reel_forms() -> &'static [Form<'static>] {
+    REEL_FORMS
+}
+
 /// How `clap` tests a value.
 fn parser_of<'a>(value: Value) -> ValueParser<'a> {
     match value {
@@ -536,6 +712,7 @@ fn parser_of<'a>(value: Value) -> ValueParser<'a> {
         Value::Most => ValueParser::Names(MOSTS),
         Value::Turns => clap::value_parser!(u32).range(1..=1_000_000),
         Value::Number => clap::value_parser!(u32),
+        Value::Blanks => clap::value_parser!(u32).range(1..=1_000_000),
     }
 }
 
@@ -568,6 +745,7 @@ fn arg_of<'a>(alloc: Global, given: Given<'a>) -> Result<Arg<'a>, AllocError> {
                 .action(ArgAction::Set)
                 .value_parser(parser_of(value)),
         ),
+        Shape::Words => Ok(arg.required(true).action(ArgAction::Append).num_args(1..)),
         Shape::Flag => Ok(arg.long(given.name).action(ArgAction::SetTrue)),
         Shape::Choice(choice) => choice_of(arg, given.name, choice),
     }
@@ -590,7 +768,10 @@ fn is_among(forms: &[Form<'_>], name: &str) -> bool {
 
 /// Whether the first word behind the program's name is this name, or that of no command.
 fn is_needed(name: &str, first: &str) -> bool {
-    name == first || !(is_among(tape_forms(), first) || is_among(station_forms(), first))
+    name == first
+        || !(is_among(tape_forms(), first)
+            || is_among(station_forms(), first)
+            || is_among(reel_forms(), first))
 }
 
 /// The program with those of these commands that are needed.
@@ -617,5 +798,6 @@ pub(crate) fn grammar<'a>(alloc: Global, first: &str) -> Result<Command<'a>, All
         .about("A wire circuit whose numbers never mean two stories")
         .subcommand_required(true);
     let program = with_forms(alloc, program, tape_forms(), first)?;
-    with_forms(alloc, program, station_forms(), first)
+    let program = with_forms(alloc, program, station_forms(), first)?;
+    with_forms(alloc, program, reel_forms(), first)
 }

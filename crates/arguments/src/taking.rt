@@ -1,6 +1,6 @@
 //! What the words of a call ask for.
 
-use crate::asked::{Asked, Plan};
+use crate::asked::{Asked, Plan, ReelPlan};
 use crate::grammar::grammar;
 use ballots::Member;
 use clap::{ArgMatches, Error};
@@ -47,14 +47,29 @@ fn check_of<'a>(matches: &ArgMatches<'a>) -> Option<Asked<'a>> {
     Some(Asked::Check { paths, listing })
 }
 
-fn draw_of<'a>(matches: &ArgMatches<'a>) -> Option<Asked<'a>> {
-    let paths = tape_paths_of(matches)?;
-    let page = if matches.get_flag("html") {
+fn page_of<'a>(matches: &ArgMatches<'a>) -> Page {
+    if matches.get_flag("html") {
         Page::Html
     } else {
         Page::Svg
-    };
+    }
+}
+
+fn draw_of<'a>(matches: &ArgMatches<'a>) -> Option<Asked<'a>> {
+    let paths = tape_paths_of(matches)?;
+    let page = page_of(matches);
     Some(Asked::Draw { paths, page })
+}
+
+fn chart_of<'a>(matches: &ArgMatches<'a>) -> Option<Asked<'a>> {
+    let table = matches.get_str("TABLE")?;
+    let widths = matches.get_str("WIDTHS")?;
+    let page = page_of(matches);
+    Some(Asked::Chart {
+        table,
+        widths,
+        page,
+    })
 }
 
 fn punch_of<'a>(matches: &ArgMatches<'a>) -> Option<Asked<'a>> {
@@ -102,6 +117,16 @@ fn create_of<'a>(matches: &ArgMatches<'a>) -> Option<Asked<'a>> {
     Some(Asked::Create { config, layout })
 }
 
+fn check_config_of<'a>(matches: &ArgMatches<'a>) -> Option<Asked<'a>> {
+    let config = matches.get_str("CONFIG")?;
+    Some(Asked::CheckConfig { config })
+}
+
+fn stop_of<'a>(matches: &ArgMatches<'a>) -> Option<Asked<'a>> {
+    let config = matches.get_str("CONFIG")?;
+    Some(Asked::Stop { config })
+}
+
 fn serve_of<'a>(matches: &ArgMatches<'a>) -> Option<Asked<'a>> {
     let plan = Plan {
         config: matches.get_str("CONFIG")?,
@@ -137,12 +162,44 @@ fn rehearse_of<'a>(matches: &ArgMatches<'a>) -> Option<Asked<'a>> {
     Some(Asked::Rehearse { paths })
 }
 
-fn asked_of<'a>(matches: &ArgMatches<'a>) -> Option<Asked<'a>> {
+fn import_of<'a>(matches: &ArgMatches<'a>) -> Option<Asked<'a>> {
+    let plan = ReelPlan {
+        path: matches.get_str("REEL")?,
+        levels: matches.get_str("levels")?,
+        mask: matches.get_str("mask")?,
+        inverted: matches.get_flag("invert"),
+        split: matches.get_one::<u32>("split"),
+        trims: matches.get_flag("trim"),
+        folder: matches.get_str("to")?,
+    };
+    Some(Asked::Import(plan))
+}
+
+/// The words at the end of a line, where they are these texts.
+fn last_words<'a>(words: &'a [String], texts: &[&str]) -> Option<&'a [String]> {
+    let (_, last) = words.split_at(words.len().saturating_sub(texts.len()));
+    let same = last
+        .iter()
+        .zip(texts.iter())
+        .all(|(word, text)| word.as_str() == *text);
+    same.then_some(last)
+}
+
+fn survey_of<'a>(words: &'a [String], matches: &ArgMatches<'a>) -> Option<Asked<'a>> {
+    Some(Asked::Survey {
+        table: matches.get_str("TABLE")?,
+        widths: matches.get_str("WIDTHS")?,
+        tapes: last_words(words, matches.get_strs("TAPE")?)?,
+    })
+}
+
+fn asked_of<'a>(words: &'a [String], matches: &ArgMatches<'a>) -> Option<Asked<'a>> {
     let (name, given) = matches.subcommand()?;
     match name {
         "answer" => answer_of(given),
         "check" => check_of(given),
         "draw" => draw_of(given),
+        "chart" => chart_of(given),
         "punch" => punch_of(given),
         "spell" => spell_of(given),
         "fit" => fit_of(given),
@@ -151,7 +208,11 @@ fn asked_of<'a>(matches: &ArgMatches<'a>) -> Option<Asked<'a>> {
         "create" => create_of(given),
         "serve" => serve_of(given),
         "run" => run_of(given),
+        "check-config" => check_config_of(given),
+        "stop" => stop_of(given),
         "rehearse" => rehearse_of(given),
+        "import" => import_of(given),
+        "survey" => survey_of(words, given),
         _ => None,
     }
 }
@@ -163,5 +224,5 @@ fn asked_of<'a>(matches: &ArgMatches<'a>) -> Option<Asked<'a>> {
 /// mistake among them, or that memory was refused.
 pub fn asked_by<'a>(alloc: Global, words: &'a [String]) -> Result<Option<Asked<'a>>, Error> {
     let matches = matches_of(alloc, words)?;
-    Ok(asked_of(&matches))
+    Ok(asked_of(words, &matches))
 }

@@ -10,14 +10,17 @@ ghost use Rattle.arguments.specs.declared.asked.Asked.TheVariants.{Answer, Creat
 ghost use Rattle.station_commands.specs.Creations.{IsCreated};
 
 use crate::editing::{run_fit, run_punch, run_spell};
+use crate::reels::{run_import, run_survey};
 use crate::story::Story;
 use answer_command::answer;
 use check_command::check;
 use command_ends::{End, ScriptPaths, TapePaths};
 use command_line::{Asked, print_version};
-use draw_command::draw;
+use draw_command::{SettingPaths, chart, draw};
 use editor_commands::StoryPaths;
 use opened_files::Opened;
+use plant_commands::{check_config, stop};
+use reel_commands::ChartPaths;
 use rehearse_command::rehearse;
 use row_files::RowFiles;
 use station_commands::{create, run, serve};
@@ -72,6 +75,19 @@ fn run_draw<R: Read, W: Write, E: Write>(
     )
 }
 
+/// Charts the table and the widths at their paths.
+fn run_chart<W: Write, E: Write>(
+    rt: &HostRuntime,
+    paths: &SettingPaths<'_>,
+    page: Page,
+    out: &mut W,
+    err: &mut E,
+) -> End {
+    let mut table = Opened::at(rt, paths.table);
+    let mut widths = Opened::at(rt, paths.widths);
+    chart(rt.alloc(), paths, &mut table, &mut widths, page, out, err)
+}
+
 /// Rehearses by the script at its path, and the table and the widths at theirs.
 fn run_rehearse<W: Write, E: Write>(
     rt: &HostRuntime,
@@ -117,6 +133,17 @@ pub fn carry_out<F: RowFiles, R: Read, W: Write, E: Write>(
         }
         Asked::Check { paths, listing } => run_check(rt, paths, *listing, input, out, err),
         Asked::Draw { paths, page } => run_draw(rt, paths, *page, input, out, err),
+        Asked::Chart {
+            table,
+            widths,
+            page,
+        } => {
+            let paths = SettingPaths {
+                table: *table,
+                widths: *widths,
+            };
+            run_chart(rt, &paths, *page, out, err)
+        }
         Asked::Punch {
             table,
             text,
@@ -146,7 +173,21 @@ pub fn carry_out<F: RowFiles, R: Read, W: Write, E: Write>(
             create,
             quiet,
         } => run(rt, *config, *create, *quiet, row_files, err),
+        Asked::CheckConfig { config } => check_config(rt, *config, out, err),
+        Asked::Stop { config } => stop(rt, *config, err),
         Asked::Rehearse { paths } => run_rehearse(rt, paths, out, err),
+        Asked::Import(plan) => run_import(rt, plan, input, out, err),
+        Asked::Survey {
+            table,
+            widths,
+            tapes,
+        } => {
+            let paths = ChartPaths {
+                table: *table,
+                widths: *widths,
+            };
+            run_survey(rt, &paths, *tapes, out, err)
+        }
         Asked::Version => print_version(out, err),
     }
 }

@@ -4,6 +4,8 @@
 
 mod dispatch;
 mod editing;
+mod reels;
 mod story;
+mod tapes;
 
 pub use dispatch::carry_out;

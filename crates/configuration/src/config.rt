@@ -43,7 +43,7 @@ pub struct Config {
 }
 
 /// The document of a text.
-fn document_of(alloc: Global, text: &str) -> Result<Table, ConfigFault>
+pub(crate) fn document_of(alloc: Global, text: &str) -> Result<Table, ConfigFault>
     ensures ok { IfOk result (λ document. parse_document text.now ≡ Some (table_view document)) }
     ensures err { IfErr result (λ fault. (fault ≡ OutOfMemory) ⊎ ((fault ≡ NotToml) × (parse_document text.now ≡ None))) }
 {

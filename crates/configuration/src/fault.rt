@@ -80,7 +80,7 @@ impl<T: Drop> From<AllocFailed<T>> for ConfigFault {
 
 impl ConfigFault {
     /// The fault as a command tells it.
-    pub(crate) fn told<'a>(self) -> Fault<'a>
+    pub fn told<'a>(self) -> Fault<'a>
         ensures end { end_of result ≡ end_of_config self }
         ensures cause { IsOfInput (end_of result) }
     {

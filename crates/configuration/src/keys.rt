@@ -95,7 +95,7 @@ pub(crate) fn member_at(file: &Table) -> Result<Member, ConfigFault>
 
 /// The text at the key.
 #[tactic(auto, unfolding(crate::specs::Keys::text_at))]
-fn text_at(file: &Table, key: ConfigKey) -> Result<&str, ConfigFault>
+pub(crate) fn text_at(file: &Table, key: ConfigKey) -> Result<&str, ConfigFault>
     ensures { Gives result (λ t. t.now) (text_at key (table_view file.now)) }
 {
     let value = value_at(file, key)?;

@@ -6,9 +6,11 @@ mod config;
 mod config_file;
 mod entry;
 mod fault;
+mod faults;
 mod keys;
 mod stations;
 
 pub use config::{Config, Folders};
 pub use config_file::read_config;
 pub use fault::{ConfigFault, ConfigKey};
+pub use faults::faults_of;

@@ -1,36 +1,43 @@
 //! The command `draw`: the drawing of a tape.
 
-ghost use Rattle.std.specs.Prelude.{◌≡◌, Ok, None, OnOk, IfOk, IfErr, IfSome, string_bytes};
+ghost use Rattle.std.specs.Prelude.{◌≡◌, Ok, None, OnOk, IfOk, IfErr, IfSome};
 ghost use Rattle.std.specs.Io.KnownBytes.{Appends};
 ghost use Rattle.toml.specs.Parse.{parse_document};
 ghost use Rattle.code_table.specs.Reading.{read_table};
 ghost use Rattle.code_table.specs.Tables.{mean};
 ghost use Rattle.widths.specs.Reading.{read_widths};
-ghost use Rattle.tape_drawing.specs.Document.{document_text};
-ghost use Rattle.draw_command.specs.Drawing.{fault_words, WasDrawnAs, WasDrawn, BreaksOffText, BreaksOffTape, BreaksOffDrawing, end_by, Draws, IfKnown};
+ghost use Rattle.tape_drawing.specs.Document.{called};
+ghost use Rattle.draw_command.specs.Drawing.{WasDrawnAs, WasDrawn, BreaksOffText, BreaksOffTape, BreaksOffDrawing, end_by, Draws, IfKnown};
 ghost use Rattle.command_ends.specs.Ends.{end_of, IsOfInput};
 ghost use Rattle.command_ends.specs.declared.end.End.TheVariants.{Done};
 
 use code_table::CodeTable;
-use command_ends::{CauseText, End, Fault, TapePaths, read_table, read_tape, read_widths};
+use command_ends::{End, Fault, TapePaths, read_table, read_tape, read_widths};
 use line_check::SetFault;
-use std::alloc::{AllocError, Global};
+use std::alloc::Global;
 use std::io::{Read, Write};
-use tape_drawing::{Casting, DrawFault, Page, cast, put_drawing};
-use tape_frames::Tape;
+use streams::put_all;
+use tape_drawing::{Names, Order, Page, draw_tape};
 use widths::Widths;
+
+/// Where the files lie by which a tape is set.
+#[derive(Clone, Copy)]
+pub struct SettingPaths<'a> {
+    pub table: &'a str,
+    pub widths: &'a str,
+}
 
 /// What a tape is set by.
 #[derive(Drop)]
-struct Setting {
-    table: CodeTable,
-    widths: Widths,
+pub(crate) struct Setting {
+    pub(crate) table: CodeTable,
+    pub(crate) widths: Widths,
 }
 
 /// Reads the code table, and then the widths.
-fn read_setting<'a, R: Read, S: Read>(
+pub(crate) fn read_setting<'a, R: Read, S: Read>(
     alloc: Global,
-    paths: &TapePaths<'a>,
+    paths: &SettingPaths<'a>,
     table: &mut R,
     widths: &mut S,
 ) -> Result<Setting, Fault<'a>>
@@ -43,37 +50,14 @@ fn read_setting<'a, R: Read, S: Read>(
     Ok(Setting { table, widths })
 }
 
-/// The words of a fault as `check` tells it; none where there is none.
-fn words_of(alloc: Global, fault: Option<SetFault>) -> Result<String, AllocError>
-    ensures { IfOk result (λ words. string_bytes words ≡ fault_words fault) }
+/// Writes a drawing, and hands it on.
+pub(crate) fn put_text<'a, W: Write>(text: &[u8], out: &mut W) -> Result<(), Fault<'a>>
+    ensures ok { OnOk result (Appends (W.contents out.old) (W.contents out.new) text.now) }
+    ensures err { IfErr result (λ e. BreaksOffText text.now (end_of e) (W.contents out.old) (W.contents out.new)) }
 {
-    match fault {
-        Some(fault) => {
-            let cause = CauseText(fault);
-            format!(in alloc; "fault: {cause}")
-        }
-        None => Ok(String::new(alloc)),
-    }
-}
-
-/// Writes the drawing of a tape and what was cast of it, and hands it on.
-fn put_casting<'a, W: Write>(
-    alloc: Global,
-    table: &CodeTable,
-    tape: &Tape,
-    casting: &Casting,
-    words: &str,
-    page: Page,
-    out: &mut W,
-) -> Result<(), Fault<'a>>
-    ensures ok { OnOk result (Appends (W.contents out.old) (W.contents out.new) (document_text page (mean table.now) tape.now casting.now words.now)) }
-    ensures err { IfErr result (λ e. BreaksOffText (document_text page (mean table.now) tape.now casting.now words.now)
-        (end_of e) (W.contents out.old) (W.contents out.new)) }
-{
-    match put_drawing(alloc, table, tape, casting, words, page, out) {
+    match put_all(out, text) {
         Ok(()) => {}
-        Err(DrawFault::CannotWrite) => return Err(Fault::CannotWrite),
-        Err(DrawFault::OutOfMemory) => return Err(Fault::OutOfMemory),
+        Err(_) => return Err(Fault::CannotWrite),
     }
     match out.flush() {
         Ok(()) => Ok(()),
@@ -81,27 +65,22 @@ fn put_casting<'a, W: Write>(
     }
 }
 
-/// Draws a tape, and answers its fault, if it has one.
+/// Draws a tape, and answers its first fault, if it has one.
 fn put_tape<'a, W: Write>(
     alloc: Global,
-    setting: &Setting,
-    tape: &Tape,
-    page: Page,
+    order: &Order<'_>,
     out: &mut W,
 ) -> Result<Option<SetFault>, Fault<'a>>
-    ensures ok { IfOk result (λ fault. WasDrawnAs (mean setting.now.table) setting.now.widths tape.now page fault (W.contents out.old) (W.contents out.new)) }
-    ensures err { IfErr result (λ e. BreaksOffTape (mean setting.now.table) setting.now.widths tape.now page
-        (end_of e) (W.contents out.old) (W.contents out.new)) }
+    ensures ok { IfOk result (λ fault. WasDrawnAs (called order.now.names.tape.now order.now.names.table.now order.now.names.widths.now)
+        (mean order.now.table.now) order.now.widths.now order.now.tape.now order.now.page fault (W.contents out.old) (W.contents out.new)) }
+    ensures err { IfErr result (λ e. BreaksOffTape (called order.now.names.tape.now order.now.names.table.now order.now.names.widths.now)
+        (mean order.now.table.now) order.now.widths.now order.now.tape.now order.now.page (end_of e) (W.contents out.old) (W.contents out.new)) }
 {
-    let Ok(casting) = cast(alloc, &setting.table, &setting.widths, tape) else {
+    let Ok(drawing) = draw_tape(alloc, order) else {
         return Err(Fault::OutOfMemory);
     };
-    let fault = casting.fault();
-    let Ok(words) = words_of(alloc, fault) else {
-        return Err(Fault::OutOfMemory);
-    };
-    put_casting(alloc, &setting.table, tape, &casting, &words, page, out)?;
-    Ok(fault)
+    put_text(&drawing.text, out)?;
+    Ok(drawing.fault)
 }
 
 /// The same, of the three files.
@@ -115,14 +94,29 @@ fn drawn<'a, R: Read, S: Read, T: Read, W: Write>(
     out: &mut W,
 ) -> Result<Option<SetFault>, Fault<'a>>
     ensures ok { IfOk result (λ fault. IfKnown (R.remaining table.old) (S.remaining widths.old) (T.remaining tape.old)
-        (λ ts ws xs. WasDrawn ts ws xs page fault (W.contents out.old) (W.contents out.new))) }
+        (λ ts ws xs. WasDrawn (called paths.now.tape.now paths.now.table.now paths.now.widths.now) ts ws xs page fault (W.contents out.old) (W.contents out.new))) }
     ensures err { IfErr result (λ e. IfKnown (R.remaining table.old) (S.remaining widths.old) (T.remaining tape.old)
-        (λ ts ws xs. BreaksOffDrawing ts ws xs page (end_of e) (W.contents out.old) (W.contents out.new))) }
+        (λ ts ws xs. BreaksOffDrawing (called paths.now.tape.now paths.now.table.now paths.now.widths.now) ts ws xs page (end_of e) (W.contents out.old) (W.contents out.new))) }
     ensures ends { IfErr result (λ e. IsOfInput (end_of e)) }
 {
-    let setting = read_setting(alloc, paths, table, widths)?;
+    let setting_paths = SettingPaths {
+        table: paths.table,
+        widths: paths.widths,
+    };
+    let setting = read_setting(alloc, &setting_paths, table, widths)?;
     let tape = read_tape(alloc, tape, paths.tape)?;
-    put_tape(alloc, &setting, &tape, page, out)
+    let order = Order {
+        table: &setting.table,
+        widths: &setting.widths,
+        tape: &tape,
+        names: Names {
+            tape: paths.tape,
+            table: paths.table,
+            widths: paths.widths,
+        },
+        page,
+    };
+    put_tape(alloc, &order, out)
 }
 
 /// How the command ends once a drawing is written, by the fault of its tape, if it has one.
@@ -138,7 +132,7 @@ fn end_by<E: Write>(fault: Option<SetFault>, err: &mut E) -> End
 /// Draws a tape by a code table and a width file, as a document in SVG or a page in HTML.
 ///
 /// The table is read and taken before the widths are read, and the widths before the tape. The first fault ends it. A
-/// tape that does not set is drawn as far as it sets, and then its fault ends the command. Nothing is written before all
+/// tape that does not set is drawn whole, and then its first fault ends the command. Nothing is written before all
 /// three are taken; where the output can't be written, it has a front of the drawing.
 #[tactic(auto, using(crate::proofs::Ends::whole, crate::proofs::Ends::broken))]
 pub fn draw<R: Read, S: Read, T: Read, W: Write, E: Write>(
@@ -152,9 +146,9 @@ pub fn draw<R: Read, S: Read, T: Read, W: Write, E: Write>(
     err: &mut E,
 ) -> End
     ensures done { result ≡ Done → IfKnown (R.remaining table.old) (S.remaining widths.old) (T.remaining tape.old)
-        (λ ts ws xs. WasDrawn ts ws xs page None (W.contents out.old) (W.contents out.new)) }
+        (λ ts ws xs. WasDrawn (called paths.now.tape.now paths.now.table.now paths.now.widths.now) ts ws xs page None (W.contents out.old) (W.contents out.new)) }
     ensures cause { IfKnown (R.remaining table.old) (S.remaining widths.old) (T.remaining tape.old)
-        (λ ts ws xs. Draws ts ws xs page result (W.contents out.old) (W.contents out.new)) }
+        (λ ts ws xs. Draws (called paths.now.tape.now paths.now.table.now paths.now.widths.now) ts ws xs page result (W.contents out.old) (W.contents out.new)) }
     ensures ends { IsOfInput result }
 {
     match drawn(alloc, paths, table, widths, tape, page, out) {

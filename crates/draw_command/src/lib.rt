@@ -1,6 +1,8 @@
-//! The command `draw`: the drawing of a tape by a code table and widths.
+//! The commands `draw` and `chart`: the drawing of a tape by a code table and widths, and the chart of the two.
 #![tactic(auto)]
 
+mod charting;
 mod drawing;
 
-pub use drawing::draw;
+pub use charting::chart;
+pub use drawing::{SettingPaths, draw};

@@ -11,6 +11,9 @@ mod offers;
 mod part;
 mod places;
 mod releases;
+mod stopping;
 
 pub use host::HostFolders;
+pub use looks::why_no_folder;
 pub use places::{Misplaced, PlantPaths, why_misplaced};
+pub use stopping::{await_end, lay_stop};

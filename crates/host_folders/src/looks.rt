@@ -82,3 +82,8 @@ pub(crate) fn folder_at(rt: &HostRuntime, path: &str) -> Result<FileId, FolderFa
         Err(FolderFault::NoFolder)
     }
 }
+
+/// Why no folder stands at a path, if none does; links are followed.
+pub fn why_no_folder(rt: &HostRuntime, path: &str) -> Option<FolderFault> {
+    folder_at(rt, path).err()
+}

@@ -47,7 +47,7 @@ module _ {R : Type 0} (g : Ghosts R) where
   Goes (over ending s) last log = ((t : Station R) × (t.stopped ≡ true) × Takes g t last log) ⊎ (log ≡ [])
 
   from_log : (u : Member R) (last : Station R) (log : List Event) → HasLog g u last log → Goes u last log
-  from_log (runs s) last log it = it
+  from_log (runs s) last log it = (it.0, it.1 it.0)
   from_log (over ending s) last log it = inr it
 
   left_so : (u : Member R) (last : Station R) → Goes u last [] → IsLeftWith u last

@@ -1,9 +1,13 @@
 -- The logs of a circuit's processes, taken together in one order: that they make a day.
-use Rattle.std.specs.Prelude.{◌≡◌, ◌==◌, if◌then◌else◌, ℕ, List, [], ◌∷◌}
+use Rattle.std.specs.Prelude.{◌≡◌, ◌==◌, if◌then◌else◌, ℕ, List, [], ◌∷◌, Option}
 use Rattle.protocol.specs.Ballots.{IsMember}
 use Rattle.saved_rows.specs.declared.rows.Rows.{Ghosts}
 use Rattle.station.specs.declared.station.Station.{Station}
-use Rattle.exchange.specs.Events.{Event, asked, took, Takes}
+use Rattle.wire.specs.Passing.{Passed}
+use Rattle.command_ends.specs.declared.end.End.{End}
+use Rattle.exchange.specs.Events.{Event, asked, took}
+use Rattle.driver.specs.declared.sink.Sink.{Ghosts as SinkGhosts}
+use Rattle.driver.specs.Driving.{Post, Driven, Stepped, known, fate_of}
 use Rattle.days.specs.Happening.{Happened, did, Came}
 use Rattle.days.specs.Handing.{Plants, Member, runs, over}
 use Rattle.days.specs.Days.{Day, IsDayAgreed, OfferedFirst}
@@ -37,11 +41,18 @@ abbrev pub IsInTurn : ℕ → List Happened → Order → Type 0
 IsInTurn count day [] = Unit {0}
 IsInTurn count day (x ∷ rest) = IsMember count x.0 × CameWith day x.0 x.1 × IsInTurn count (day_with x.0 x.1 day) rest
 
--- a process has this log and leaves its station so, over rows that are kept, as `serve_run` and `run_station` promise of theirs (their field `steps`);
--- where a member's process is over, its log is empty
+-- a process has this log and leaves its station so, over rows that are kept: it took the steps of the log and no others, as whatever is
+-- driven does; where a member's process is over, its log is empty
 abbrev pub HasLog : {R : Type 0} → Ghosts R → Member R → Station R → List Event → Type 0
-HasLog g (runs s) last log = g.kept last.rows × Takes g s last log
+HasLog g (runs s) last log = g.kept last.rows × Stepped g s last log
 HasLog g (over ending s) last log = log ≡ []
+
+-- a station that is driven by these events, on whichever wire and with whatever becomes of its releases, has this log, as a process that
+-- runs; so have those of `serve_run` and `run_station`
+abbrev pub DrivenHaveLogs : {R N S : Type 0} → Ghosts R → (N → Option (List Passed)) → SinkGhosts S → Type 0
+DrivenHaveLogs {R = R} {N = N} {S = S} g passed sink =
+    (old new : Post R N S) (end : End) (log : List Event) → Driven (known g passed (fate_of sink)) old new end log → g.kept new.station.rows
+    → HasLog g (runs old.station) new.station log
 
 -- each member's process has its log of this order, and leaves its station so
 abbrev pub HaveLogs : {R : Type 0} → Ghosts R → ℕ → (ℕ → Member R) → (ℕ → Station R) → Order → Type 0

@@ -1,11 +1,18 @@
 //! The laws that join the logs of processes to a day, and a day to the files of what it releases. The functions do nothing but
 //! cite the laws that they rest on.
 
-ghost use Rattle.process_days.specs.Telling.{LogsAgree, LogsMakeDays};
+ghost use Rattle.process_days.specs.Telling.{DrivenHaveLogs, LogsAgree, LogsMakeDays};
 ghost use Rattle.process_days.specs.Seeing.{DaysFilesAgree, WrittenIsFiled};
 
 use days::laws;
+use driver::Sink;
 use saved_rows::Rows;
+use wire::Wire;
+
+/// What drives a station tells of itself as a process does: its log is that of the steps that the station took.
+pub fn driven_have_logs<R: Rows, N: Wire, S: Sink>()
+    ensures { DrivenHaveLogs R.Rows N.passed S.Sink }
+{}
 
 /// Processes of `serve` and `run` that go on in a day, each as its own log says, make a day again, in any order in which what
 /// they take in was handed out before.

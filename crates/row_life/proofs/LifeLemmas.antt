@@ -1,10 +1,9 @@
 -- What a file has after the writes that begin a life.
-use Rattle.std.proofs.Common.{◌≡◌, ℕ, ◌+◌, ◌*◌, ◌<◌, ◌≤◌, List, length, get_or, ◌∷◌, [], refl, sym, ap, ◌∙◌, arith}
+use Rattle.std.proofs.Common.{◌≡◌, ℕ, ◌+◌, ◌*◌, ◌<◌, ◌≤◌, List, length, ◌∷◌, [], sym, ap, ◌∙◌, arith}
 use Rattle.std.specs.Prelude.{slice_index, take, min}
 use Rattle.std.proofs.lemmas.List.{same_lists, get_or_default, get_or-take, length-take}
 use Rattle.std.proofs.Math.Nat.{min_comm, min-le_right, min-eq_left}
 use Rattle.sqlite_disk.specs.Disk.{Holds, Torn, Cut}
-use Rattle.row_files.specs.Found.{life_number}
 use Rattle.row_life.specs.Lives.{IsAtRest, IsInUse}
 
 same_bytes : (file bytes : List ℕ) → ((i : ℕ) → i < length bytes → slice_index file i ≡ slice_index bytes i) → length file ≡ length bytes → file ≡ bytes

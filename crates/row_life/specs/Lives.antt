@@ -1,7 +1,9 @@
 -- A row file and its log as a life of them begins and ends.
-use Rattle.std.specs.Prelude.{◌≡◌, ◌<◌, ℕ, List, Some, length, slice_index, take}
-use Rattle.row_files.specs.Found.{life_number, file_of, MayBeOpened}
+use Rattle.std.specs.Prelude.{◌≡◌, ◌⊎◌, ◌<◌, ◌+◌, ◌*◌, ◌==◌, if◌then◌else◌, ℕ, List, Some, length, slice_index, take}
+use Rattle.row_files.specs.Found.{life_number, file_of, HoldsNoFrame, MayBeOpened}
 use Rattle.row_files.specs.declared.found.FoundFile.{FoundFile}
+use Rattle.row_files.specs.declared.found.FoundFile.TheVariants.{Database}
+use Rattle.row_files.specs.declared.found.Mark.TheVariants.{Unmarkable}
 use Rattle.row_files.specs.declared.found.FoundLog.{FoundLog}
 use Rattle.row_files.specs.declared.found.FoundLog.TheVariants.{Blank}
 use Rattle.row_life.specs.Logs.{log_of}
@@ -29,6 +31,16 @@ file_in file = file_of (take 108 file)
 -- what a log with these bytes is
 abbrev pub log_in : List ℕ → FoundLog
 log_in wal = log_of (take 56 wal)
+
+-- a life of this row file, whose log was this, has ended: the log held no frame, and the file, as it is now, is at rest; or the file can't be
+-- marked
+abbrev pub IsEnded : List ℕ → List ℕ → List ℕ → Type 0
+IsEnded was wal is = (file_in was ≡ Database Unmarkable) ⊎ (HoldsNoFrame (log_in wal) × IsAtRest is)
+
+-- how long the pages of a database's file are, as its header names it (SQLite's file format, 1.3.2)
+abbrev pub page_size_in : List ℕ → ℕ
+page_size_in file =
+    if slice_index file 16 * 0x100 + slice_index file 17 == 1 then 0x1_0000 else slice_index file 16 * 0x100 + slice_index file 17
 
 -- a row file and the log beside it, of which a life may begin: the file was at rest, or has the log of its last life
 abbrev pub MayGoOn : List ℕ → List ℕ → Type 0

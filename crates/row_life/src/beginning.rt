@@ -5,7 +5,7 @@ ghost use Rattle.std.specs.Prelude.{◌≡◌, ◌≤◌, ℕ, Some, IsTrue, IfO
 ghost use Rattle.row_files.specs.Found.{HoldsNoFrame};
 ghost use Rattle.row_files.specs.declared.found.FoundLog.TheVariants.{Blank};
 ghost use Rattle.sqlite_wal.specs.Reads.{IsClean, AreClean};
-ghost use Rattle.row_life.specs.Lives.{IsBegun, MayGoOn};
+ghost use Rattle.row_life.specs.Lives.{IsAtRest, IsBegun, IsEnded, MayGoOn};
 ghost use Rattle.row_life.specs.Logs.{log_of};
 
 use crate::copying::copied;
@@ -24,7 +24,8 @@ fn failed() -> RefusedRows {
 
 /// A log that is to hold no frame by now.
 fn without_frame(log: FoundLog) -> Result<FoundLog, RefusedRows>
-    ensures { IfOk result HoldsNoFrame }
+    ensures none { IfOk result HoldsNoFrame }
+    ensures same { IfOk result (λ held. held ≡ log) }
 {
     match log {
         FoundLog::Filled(_) => Err(failed()),
@@ -169,21 +170,36 @@ pub fn begin_life<D: Disk>(
     (files, begun)
 }
 
-/// Ends the life of a row file whose log was copied into it: it is at rest, and a copy of it alone has all.
-pub fn end_life<D: Disk>(files: &mut Files<D>) -> Result<(), RefusedRows> {
+/// Marks a row file as at rest whose log holds no frame; one whose log does is not as it was left.
+fn rest<D: Disk>(db: &mut D, log: FoundLog) -> Result<(), RefusedRows>
+    requires usable { IsTrue (D.Disk.is_usable db.old) }
+    ensures rests { OnOk result (HoldsNoFrame log × IsAtRest (D.Disk.seen db.new)) }
+    ensures clean { IsClean D.Disk db.new → IsClean D.Disk db.old }
+{
+    let held = without_frame(log)?;
+    match mark_at_rest(db, held) {
+        Ok(()) => Ok(()),
+        Err(error) => Err(unwritten(error)),
+    }
+}
+
+/// Ends the life of a row file whose log was copied into it: it is at rest, and a copy of it alone has all. A file that can't be marked
+/// stays as it is.
+///
+/// `Store`, with its cause, where the log holds a frame still, the file is no database, or the disk fails.
+pub fn end_life<D: Disk>(files: &mut Files<D>) -> Result<(), RefusedRows>
+    // The two are as they were found, where the disk tells no lie.
+    ensures ended { OnOk result (IsClean D.Disk files.new.log → IsClean D.Disk files.new.db → IsEnded (D.Disk.seen files.old.db) (D.Disk.seen files.old.log) (D.Disk.seen files.new.db)) }
+    ensures log_clean { IsClean D.Disk files.new.log → IsClean D.Disk files.old.log }
+    ensures db_clean { IsClean D.Disk files.new.db → IsClean D.Disk files.old.db }
+{
     if !files.may_be_used() {
         return Err(failed());
     }
     let (file, log) = pair_on(files)?;
     match file {
         FoundFile::Database(Mark::Unmarkable) => Ok(()),
-        FoundFile::Database(_) => {
-            let held = without_frame(log)?;
-            match mark_at_rest(&mut files.db, held) {
-                Ok(()) => Ok(()),
-                Err(error) => Err(unwritten(error)),
-            }
-        }
+        FoundFile::Database(_) => rest(&mut files.db, log),
         FoundFile::Nothing | FoundFile::Foreign | FoundFile::Bare => Err(failed()),
     }
 }

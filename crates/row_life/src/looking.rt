@@ -2,7 +2,7 @@
 
 ghost use Rattle.std.specs.Prelude.{◌≡◌, IsTrue, IfOk};
 ghost use Rattle.sqlite_wal.specs.Reads.{IsClean};
-ghost use Rattle.row_life.specs.Lives.{file_in, log_in};
+ghost use Rattle.row_life.specs.Lives.{file_in, log_in, page_size_in};
 
 use crate::log_head::{LOG_HEAD_LEN, log_of};
 use row_files::{FoundFile, FoundLog, HEAD_LEN, file_of};
@@ -24,6 +24,7 @@ pub fn file_on<D: Disk>(db: &mut D) -> io::Result<FoundFile>
 /// The size of its pages, as its header names it (SQLite's file format, 1.3.2).
 pub fn page_size_on<D: Disk>(db: &mut D) -> io::Result<u32>
     requires { IsTrue (D.Disk.is_usable db.old) }
+    ensures size { IfOk result (λ size. IsClean D.Disk db.new → size ≡ page_size_in (D.Disk.seen db.old)) }
     ensures clean { IsClean D.Disk db.new → IsClean D.Disk db.old }
     ensures usable { IsTrue (D.Disk.is_usable db.new) }
 {

@@ -1,7 +1,7 @@
 //! The command `serve`: the turns of a station over a wire.
 #![tactic(auto)]
 
-mod handing_on;
+mod printer;
 mod serve_loop;
 
 pub use serve_loop::{serve_run, serve_turn};

@@ -1,80 +1,20 @@
-//! The command `serve`: what a station takes in from the wire, and what it hands out.
+//! The command `serve`: what a station is asked, and its turns.
 
-ghost use Rattle.std.specs.Prelude.{◌≡◌, false, OnOk};
-ghost use Rattle.serve_command.specs.Serving.{ServesBy, ServesUpTo, IsTakingIn, IsSeeingToDue, IsTurn, IsOffer, IsWithdrawal, IsSearch, IsLaterAsking, IsAsking, AtClock, AreTurns, IsRun};
+ghost use Rattle.std.specs.Prelude.{◌≡◌, false};
+ghost use Rattle.driver.specs.Driving.{DroveUpTo, IsTurn};
+ghost use Rattle.serve_command.specs.Serving.{ServesBy, IsFree, IsOffer, IsWithdrawal, IsSearch, IsLaterAsking, IsAsking, AreTurns, IsRun};
 ghost use Rattle.command_ends.specs.declared.end.End.TheVariants.{Done};
 
-use crate::handing_on::hand_on;
+use crate::printer::Printer;
 use command_ends::{End, Fault};
-use exchange::{Intake, Outcome, pass_over, take_datagram, tell_strangers};
+use driver::{Call, Driver, Log, Sink};
+use exchange::Intake;
 use saved_rows::Rows;
 use station::{Station, StepRefusal};
 use std::alloc::Global;
 use std::io::Write;
 use tape_frames::Tape;
 use wire::Wire;
-
-/// Takes in what comes, one datagram at most. One that the station refuses is passed over; where that is for its layout, it is told.
-fn take_in<R: Rows, N: Wire, W: Write, E: Write>(
-    alloc: Global,
-    station: &mut Station<R>,
-    wire: &mut N,
-    now: u64,
-    intake: &mut Intake,
-    out: &mut W,
-    err: &mut E,
-) -> Result<(), Fault<'static>>
-    ensures was_kept { R.kept station.new.rows → R.kept station.old.rows }
-    ensures serves { ServesUpTo (IsTakingIn now) result R.Rows N.passed W.contents station.old station.new wire.old wire.new out.old out.new }
-{
-    match take_datagram(station, wire, now, &mut intake.room) {
-        Outcome::Nothing => Ok(()),
-        Outcome::Failed => Err(Fault::Socket("receive failed")),
-        Outcome::Done { answer, said: _ } => hand_on(alloc, &answer, wire, out, err),
-        Outcome::Refused { refusal, newer } => {
-            intake.newer.tell(newer, now, err);
-            pass_over(refusal)
-        }
-    }
-}
-
-/// Sees to what is due, one number at most.
-fn see_to_due<R: Rows, N: Wire, W: Write, E: Write>(
-    alloc: Global,
-    station: &mut Station<R>,
-    wire: &mut N,
-    now: u64,
-    out: &mut W,
-    err: &mut E,
-) -> Result<(), Fault<'static>>
-    ensures was_kept { R.kept station.new.rows → R.kept station.old.rows }
-    ensures serves { ServesUpTo (IsSeeingToDue now) result R.Rows N.passed W.contents station.old station.new wire.old wire.new out.old out.new }
-    ensures goes_on { OnOk result (station.new.stopped ≡ false) }
-{
-    match station.due(now) {
-        Ok(due) => hand_on(alloc, &due, wire, out, err),
-        Err(refusal) => pass_over(refusal),
-    }
-}
-
-/// One turn, up to its first fault. Strangers are told behind what came, so that no reply waits for it.
-fn turn<R: Rows, N: Wire, W: Write, E: Write>(
-    alloc: Global,
-    station: &mut Station<R>,
-    wire: &mut N,
-    now: u64,
-    intake: &mut Intake,
-    out: &mut W,
-    err: &mut E,
-) -> Result<(), Fault<'static>>
-    ensures was_kept { R.kept station.new.rows → R.kept station.old.rows }
-    ensures serves { ServesUpTo (IsTurn now) result R.Rows N.passed W.contents station.old station.new wire.old wire.new out.old out.new }
-    ensures goes_on { OnOk result (station.new.stopped ≡ false) }
-{
-    take_in(alloc, station, wire, now, intake, out, err)?;
-    tell_strangers(wire, now, err);
-    see_to_due(alloc, station, wire, now, out, err)
-}
 
 /// One turn of a station at a moment in milliseconds: it takes in one datagram at most, and then sees to what is due.
 ///
@@ -95,149 +35,149 @@ pub fn serve_turn<R: Rows, N: Wire, W: Write, E: Write>(
     ensures serves { ServesBy (IsTurn now) result R.Rows N.passed W.contents station.old station.new wire.old wire.new out.old out.new }
     ensures goes_on { result ≡ Done → station.new.stopped ≡ false }
 {
-    match turn(alloc, station, wire, now, intake, out, err) {
+    let printer = Printer { alloc, out };
+    let mut log = Log::new(err, false);
+    let mut driver = Driver::new(station, wire, printer, intake);
+    match driver.turn_at(now, &mut log) {
         Ok(()) => End::Done,
-        Err(fault) => fault.tell(err),
+        Err(fault) => fault.tell(log.err),
     }
 }
 
-/// The same, at the moment of the clock.
-fn timed_turn<R: Rows, N: Wire, W: Write, E: Write>(
-    alloc: Global,
-    station: &mut Station<R>,
-    wire: &mut N,
-    intake: &mut Intake,
-    out: &mut W,
-    err: &mut E,
-) -> End
-    ensures was_kept { R.kept station.new.rows → R.kept station.old.rows }
-    ensures serves { ServesBy (AtClock IsTurn) result R.Rows N.passed W.contents station.old station.new wire.old wire.new out.old out.new }
-{
-    let now = wire.now();
-    serve_turn(alloc, station, wire, now, intake, out, err)
+/// What a station is asked before its turns, as far as it is given.
+#[derive(Drop)]
+struct Asks {
+    /// It is offered this tape for this number.
+    offer: Option<(u32, Tape)>,
+    /// It is offered the withdrawal of this number.
+    withdraw: Option<u32>,
+    /// It seeks what was agreed on for this number.
+    seek: Option<u32>,
 }
 
 /// Offers a tape for a number, where there is one to offer.
-fn make_offer<R: Rows, N: Wire, W: Write, E: Write>(
-    alloc: Global,
-    station: &mut Station<R>,
-    wire: &mut N,
+fn make_offer<R: Rows, N: Wire, S: Sink, E: Write>(
+    driver: &mut Driver<'_, R, N, S>,
     offer: Option<(u32, Tape)>,
-    out: &mut W,
-    err: &mut E,
+    log: &mut Log<'_, E>,
 ) -> Result<(), Fault<'static>>
-    ensures was_kept { R.kept station.new.rows → R.kept station.old.rows }
-    ensures serves { ServesUpTo (IsOffer offer) result R.Rows N.passed W.contents station.old station.new wire.old wire.new out.old out.new }
+    requires free { IsFree S.may }
+    ensures station { driver.new.station.ghost_name ≡ driver.old.station.ghost_name }
+    ensures wire { driver.new.wire.ghost_name ≡ driver.old.wire.ghost_name }
+    ensures was_kept { R.kept driver.new.station.now.rows → R.kept driver.old.station.now.rows }
+    ensures drove { DroveUpTo (IsOffer offer) result R.Rows N.passed S.Sink driver.old driver.new }
 {
     let Some((number, tape)) = offer else {
         return Ok(());
     };
-    let now = wire.now();
-    match station.offer(number, &tape, now) {
-        Ok(answer) => hand_on(alloc, &answer, wire, out, err),
-        Err(refusal) => Err(Fault::of_step(refusal)),
-    }
+    let call = Call::Offer {
+        number,
+        tape: &tape,
+    };
+    driver.ask(call, log)
 }
 
 /// Offers the withdrawal of a number, where there is one to withdraw.
-fn make_withdrawal<R: Rows, N: Wire, W: Write, E: Write>(
-    alloc: Global,
-    station: &mut Station<R>,
-    wire: &mut N,
+fn make_withdrawal<R: Rows, N: Wire, S: Sink, E: Write>(
+    driver: &mut Driver<'_, R, N, S>,
     withdraw: Option<u32>,
-    out: &mut W,
-    err: &mut E,
+    log: &mut Log<'_, E>,
 ) -> Result<(), Fault<'static>>
-    ensures was_kept { R.kept station.new.rows → R.kept station.old.rows }
-    ensures serves { ServesUpTo (IsWithdrawal withdraw) result R.Rows N.passed W.contents station.old station.new wire.old wire.new out.old out.new }
+    requires free { IsFree S.may }
+    ensures station { driver.new.station.ghost_name ≡ driver.old.station.ghost_name }
+    ensures wire { driver.new.wire.ghost_name ≡ driver.old.wire.ghost_name }
+    ensures was_kept { R.kept driver.new.station.now.rows → R.kept driver.old.station.now.rows }
+    ensures drove { DroveUpTo (IsWithdrawal withdraw) result R.Rows N.passed S.Sink driver.old driver.new }
 {
-    let Some(number) = withdraw else {
-        return Ok(());
-    };
-    let now = wire.now();
-    match station.withdraw(number, now) {
-        Ok(answer) => hand_on(alloc, &answer, wire, out, err),
-        Err(refusal) => Err(Fault::of_step(refusal)),
+    match withdraw {
+        Some(number) => driver.ask(Call::Withdraw { number }, log),
+        None => Ok(()),
     }
 }
 
 /// Seeks what was agreed on for a number, where there is one to seek.
-fn make_search<R: Rows, N: Wire, W: Write, E: Write>(
-    alloc: Global,
-    station: &mut Station<R>,
-    wire: &mut N,
+fn make_search<R: Rows, N: Wire, S: Sink, E: Write>(
+    driver: &mut Driver<'_, R, N, S>,
     seek: Option<u32>,
-    out: &mut W,
-    err: &mut E,
+    log: &mut Log<'_, E>,
 ) -> Result<(), Fault<'static>>
-    ensures was_kept { R.kept station.new.rows → R.kept station.old.rows }
-    ensures serves { ServesUpTo (IsSearch seek) result R.Rows N.passed W.contents station.old station.new wire.old wire.new out.old out.new }
+    requires free { IsFree S.may }
+    ensures station { driver.new.station.ghost_name ≡ driver.old.station.ghost_name }
+    ensures wire { driver.new.wire.ghost_name ≡ driver.old.wire.ghost_name }
+    ensures was_kept { R.kept driver.new.station.now.rows → R.kept driver.old.station.now.rows }
+    ensures drove { DroveUpTo (IsSearch seek) result R.Rows N.passed S.Sink driver.old driver.new }
 {
-    let Some(number) = seek else {
-        return Ok(());
-    };
-    let now = wire.now();
-    match station.seek(number, now) {
-        Ok(answer) => hand_on(alloc, &answer, wire, out, err),
-        Err(refusal) => Err(Fault::of_step(refusal)),
+    match seek {
+        Some(number) => driver.ask(Call::Seek { number }, log),
+        None => Ok(()),
     }
 }
 
 /// Makes the withdrawal, and then the search.
-fn withdraw_and_seek<R: Rows, N: Wire, W: Write, E: Write>(
-    alloc: Global,
-    station: &mut Station<R>,
-    wire: &mut N,
+fn withdraw_and_seek<R: Rows, N: Wire, S: Sink, E: Write>(
+    driver: &mut Driver<'_, R, N, S>,
     withdraw: Option<u32>,
     seek: Option<u32>,
-    out: &mut W,
-    err: &mut E,
+    log: &mut Log<'_, E>,
 ) -> Result<(), Fault<'static>>
-    ensures was_kept { R.kept station.new.rows → R.kept station.old.rows }
-    ensures serves { ServesUpTo (IsLaterAsking withdraw seek) result R.Rows N.passed W.contents station.old station.new wire.old wire.new out.old out.new }
+    requires free { IsFree S.may }
+    ensures station { driver.new.station.ghost_name ≡ driver.old.station.ghost_name }
+    ensures wire { driver.new.wire.ghost_name ≡ driver.old.wire.ghost_name }
+    ensures was_kept { R.kept driver.new.station.now.rows → R.kept driver.old.station.now.rows }
+    ensures drove { DroveUpTo (IsLaterAsking withdraw seek) result R.Rows N.passed S.Sink driver.old driver.new }
 {
-    make_withdrawal(alloc, station, wire, withdraw, out, err)?;
-    make_search(alloc, station, wire, seek, out, err)
+    make_withdrawal(driver, withdraw, log)?;
+    make_search(driver, seek, log)
 }
 
 /// Makes the offer, then the withdrawal, and then the search.
-fn ask<R: Rows, N: Wire, W: Write, E: Write>(
-    alloc: Global,
-    station: &mut Station<R>,
-    wire: &mut N,
-    offer: Option<(u32, Tape)>,
-    withdraw: Option<u32>,
-    seek: Option<u32>,
-    out: &mut W,
-    err: &mut E,
+fn ask_all<R: Rows, N: Wire, S: Sink, E: Write>(
+    driver: &mut Driver<'_, R, N, S>,
+    asks: Asks,
+    log: &mut Log<'_, E>,
 ) -> Result<(), Fault<'static>>
-    ensures was_kept { R.kept station.new.rows → R.kept station.old.rows }
-    ensures serves { ServesUpTo (IsAsking offer withdraw seek) result R.Rows N.passed W.contents station.old station.new wire.old wire.new out.old out.new }
+    requires free { IsFree S.may }
+    ensures station { driver.new.station.ghost_name ≡ driver.old.station.ghost_name }
+    ensures wire { driver.new.wire.ghost_name ≡ driver.old.wire.ghost_name }
+    ensures was_kept { R.kept driver.new.station.now.rows → R.kept driver.old.station.now.rows }
+    ensures drove { DroveUpTo (IsAsking asks.offer asks.withdraw asks.seek) result R.Rows N.passed S.Sink driver.old driver.new }
 {
-    make_offer(alloc, station, wire, offer, out, err)?;
-    withdraw_and_seek(alloc, station, wire, withdraw, seek, out, err)
+    make_offer(driver, asks.offer, log)?;
+    withdraw_and_seek(driver, asks.withdraw, asks.seek, log)
 }
 
-/// The turns of a station, one after the other, up to the first that does not end well.
-fn take_turns<R: Rows, N: Wire, W: Write, E: Write>(
-    alloc: Global,
-    station: &mut Station<R>,
-    wire: &mut N,
+/// The turns of a station, one after the other, up to the first fault.
+fn take_turns<R: Rows, N: Wire, S: Sink, E: Write>(
+    driver: &mut Driver<'_, R, N, S>,
     turns: u32,
-    intake: &mut Intake,
-    out: &mut W,
-    err: &mut E,
-) -> End
-    ensures was_kept { R.kept station.new.rows → R.kept station.old.rows }
-    ensures serves { ServesBy (AreTurns turns) result R.Rows N.passed W.contents station.old station.new wire.old wire.new out.old out.new }
+    log: &mut Log<'_, E>,
+) -> Result<(), Fault<'static>>
+    ensures station { driver.new.station.ghost_name ≡ driver.old.station.ghost_name }
+    ensures wire { driver.new.wire.ghost_name ≡ driver.old.wire.ghost_name }
+    ensures was_kept { R.kept driver.new.station.now.rows → R.kept driver.old.station.now.rows }
+    ensures drove { DroveUpTo (AreTurns turns) result R.Rows N.passed S.Sink driver.old driver.new }
 {
     for _ in 0..turns {
-        let end = timed_turn(alloc, station, wire, intake, out, err);
-        if end != End::Done {
-            return end;
-        }
+        driver.turn(log)?;
     }
-    End::Done
+    Ok(())
+}
+
+/// What is asked, and then the turns.
+fn ask_and_turn<R: Rows, N: Wire, S: Sink, E: Write>(
+    driver: &mut Driver<'_, R, N, S>,
+    asks: Asks,
+    turns: u32,
+    log: &mut Log<'_, E>,
+) -> Result<(), Fault<'static>>
+    requires free { IsFree S.may }
+    ensures station { driver.new.station.ghost_name ≡ driver.old.station.ghost_name }
+    ensures wire { driver.new.wire.ghost_name ≡ driver.old.wire.ghost_name }
+    ensures was_kept { R.kept driver.new.station.now.rows → R.kept driver.old.station.now.rows }
+    ensures drove { DroveUpTo (IsRun asks.offer asks.withdraw asks.seek turns) result R.Rows N.passed S.Sink driver.old driver.new }
+{
+    ask_all(driver, asks, log)?;
+    take_turns(driver, turns, log)
 }
 
 /// Serves a station: the offer, then the withdrawal, then the search, if given, and then so many turns, up to the first
@@ -266,8 +206,16 @@ pub fn serve_run<R: Rows, N: Wire, W: Write, E: Write>(
     let Ok(mut intake) = Intake::new(alloc) else {
         return Fault::OutOfMemory.tell(err);
     };
-    match ask(alloc, station, wire, offer, withdraw, seek, out, err) {
-        Ok(()) => take_turns(alloc, station, wire, turns, &mut intake, out, err),
-        Err(fault) => fault.tell(err),
+    let asks = Asks {
+        offer,
+        withdraw,
+        seek,
+    };
+    let printer = Printer { alloc, out };
+    let mut log = Log::new(err, false);
+    let mut driver = Driver::new(station, wire, printer, &mut intake);
+    match ask_and_turn(&mut driver, asks, turns, &mut log) {
+        Ok(()) => End::Done,
+        Err(fault) => fault.tell(log.err),
     }
 }

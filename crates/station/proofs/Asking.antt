@@ -315,14 +315,15 @@ refused_number v n entry marks r h = subst (λ (o : Option Refusal). IsRefusal o
 -- nothing is due
 pub idled :
     {R : Type 0} (x : Sight R) (s : Station R) (marks : List Mark) (now : ℕ) (a : Answer)
-    → s.stopped ≡ false → next_due s.speaker.core.me now marks ≡ None → a.out.items ≡ [] → a.release ≡ None → a.note ≡ Idle → Steps x (refusals.Falling_due now) s s marks (Ok a)
-idled x s marks now a goes none out release note = inl (record {
+    → s.stopped ≡ false → next_due s.speaker.core.me now marks ≡ None → a.out.items ≡ [] → a.release ≡ None → a.note ≡ Idle → a.number ≡ None → Steps x (refusals.Falling_due now) s s marks (Ok a)
+idled x s marks now a goes none out release note number = inl (record {
   unrefused = last_refusal (setup_of s) s.stopped marks (refusals.Falling_due now) goes refl;
   no_event = ap (λ (o : Option ℕ). refusals.due_event o now) none;
   same = refl;
   out = out;
   release = release;
   note = ap note_value note;
+  number = number;
 })
 
 -- bytes that are not read

@@ -121,6 +121,7 @@ module _ {R : Type 0} (x : Sight R) (e : said.Event) (old : Station R) (marks : 
         out = subst (λ (v : Version). AllZip (Carries v) k.taken.out a.out.items) k.version (subst (λ (l : List Packet). AllZip (Carries (x.version mid)) l a.out.items) k.gives.out s.1);
         release = subst (λ (o : Option Entry). IsReleased old.table old.widths (said.number_of e) o a.release) k.gives.release s.2;
         note = ap note_value s.3 ∙ k.gives.note;
+        number = s.4;
       }
 
   balked : (o : Option Row) (fault : RowsFault) → IsRowAfter row k.taken.row o → RowBalked x (said.number_of e) o fault mid new → AtSave x e old marks new fault

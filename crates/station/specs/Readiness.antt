@@ -79,7 +79,7 @@ RowBalked x n (Some row) fault old new =
 abbrev pub Saves : {R : Type 0} → Sight R → Places → WidthFile → ℕ → Row → Turn → R → R → Result Answer StepRefusal → Type 0
 Saves x table widths n row turn old new (Ok a) =
     RowSaved x n turn.row old new × AllZip (Carries (x.version old)) (sent row turn) a.out.items
-    × IsReleased table widths n (option_map owned_entry turn.release) a.release × (a.note ≡ turn.note)
+    × IsReleased table widths n (option_map owned_entry turn.release) a.release × (a.note ≡ turn.note) × (a.number ≡ Some n)
 Saves x table widths n row turn old new (Err (Store fault)) = RowBalked x n turn.row fault old new
 Saves x table widths n row turn old new (Err OutOfMemory) = (new ≡ old) × ¬ HandsNothing turn
 Saves x table widths n row turn old new (Err _) = ⊥

@@ -60,6 +60,7 @@ pub record Done {R : Type 0} (x : Sight R) (e : Event) (old new : Station R) (ma
   pub out : AllZip (Carries old.speaker.wire) taken.out a.out.items
   pub release : IsReleased old.table old.widths (number_of e) taken.release a.release
   pub note : note_value a.note ≡ taken.note
+  pub number : a.number ≡ Some (number_of e)
 
 -- the save of the turn's row was refused with this fault
 pub record AtSave {R : Type 0} (x : Sight R) (e : Event) (old : Station R) (marks : List Mark) (rows : R) (fault : RowsFault) : Type 0 where
@@ -125,6 +126,7 @@ pub record Idles {R : Type 0} (old new : Station R) (marks : List Mark) (call : 
   pub out : a.out.items ≡ []
   pub release : a.release ≡ None
   pub note : note_value a.note ≡ Note_idle
+  pub number : a.number ≡ None
 
 -- the call is refused for its first reason, and the station stays
 abbrev pub Refuses : {R : Type 0} → Station R → Station R → List Mark → Call → StepRefusal → Type 0

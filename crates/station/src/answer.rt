@@ -18,10 +18,11 @@ pub struct Release {
     pub set: Result<Vec<Slug>, SetFault>,
 }
 
-/// What a step that was done hands out: the datagrams to send, at most 28, the release if there is one,
-/// and what the step did in a word.
+/// What a step that was done hands out: the number that it was about, none where nothing was due; the datagrams to send, at most 28;
+/// the release if there is one; and what the step did in a word.
 #[derive(Drop)]
 pub struct Answer {
+    pub number: Option<Number>,
     pub out: Vec<Datagram>,
     pub release: Option<Release>,
     pub note: Note,
@@ -30,11 +31,13 @@ pub struct Answer {
 impl Answer {
     /// The answer where nothing is due.
     pub(crate) fn idle(alloc: Global) -> Answer
+        ensures number { result.number ≡ None }
         ensures out { result.out.items ≡ [] }
         ensures release { result.release ≡ None }
         ensures note { result.note ≡ Note.Idle }
     {
         Answer {
+            number: None,
             out: Vec::new(alloc),
             release: None,
             note: Note::Idle,

@@ -137,6 +137,7 @@ pub(crate) fn save<R: Rows>(
         return Err(StepRefusal::Store(fault));
     }
     Ok(Answer {
+        number: Some(number),
         out,
         release,
         note: turn.note,

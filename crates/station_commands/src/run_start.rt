@@ -21,22 +21,23 @@ fn run_over<R: Rows, N: Wire, E: Write>(
     rt: &HostRuntime,
     station: &mut Station<R>,
     wire: &mut N,
-    folders: Option<HostFolders<'_>>,
+    folders: &mut Option<HostFolders<'_>>,
     quiet: bool,
     err: &mut E,
 ) -> End {
     match folders {
-        Some(mut folders) => run_station(rt.alloc(), station, wire, &mut folders, quiet, err),
+        Some(folders) => run_station(rt.alloc(), station, wire, folders, quiet, err),
         None => run_station(rt.alloc(), station, wire, &mut NoFolders, quiet, err),
     }
 }
 
-/// Starts the station of a configuration, and runs it over these folders; at a good end its rows are closed.
+/// Starts the station of a configuration, and runs it over these folders; at a good end its rows are closed. The folders are held until
+/// then, so that whoever finds them free finds the rows closed.
 fn run_from<F: RowFiles, E: Write>(
     rt: &HostRuntime,
     making: Option<Version>,
     config: Config,
-    folders: Option<HostFolders<'_>>,
+    mut folders: Option<HostFolders<'_>>,
     quiet: bool,
     row_files: &F,
     err: &mut E,
@@ -52,8 +53,10 @@ fn run_from<F: RowFiles, E: Write>(
         Ok(started) => started,
         Err(end) => return end,
     };
-    let end = run_over(rt, &mut station, &mut wire, folders, quiet, err);
-    close_rows(row_files, station.into_rows(), end, err)
+    let end = run_over(rt, &mut station, &mut wire, &mut folders, quiet, err);
+    let end = close_rows(row_files, station.into_rows(), end, err);
+    drop(folders);
+    end
 }
 
 /// Runs the station of the configuration at a path until it is stopped, with its rows saved in one of the files, made in a

@@ -1,6 +1,7 @@
 //! `serve`: what a station prints and sends and how a run ends, over wires of the tests and over sockets.
 
 mod agreeing;
+mod driven;
 mod failing;
 mod layouts;
 mod longest;

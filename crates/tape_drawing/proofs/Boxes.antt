@@ -1,22 +1,30 @@
 -- The boxes of a slug, side by side.
-use Rattle.std.proofs.Common.{◌≡◌, ℕ, ◌+◌, ◌-◌, ◌*◌, ◌≤◌, ◌/◌, Bool, true, false, cond, List, [], ◌∷◌, ◌++◌, refl, sym, subst, ap, ◌∙◌, arith}
-use Rattle.std.specs.Prelude.{filter_map, sum_by, ◌==◌, decimal}
+use Rattle.std.proofs.Common.{◌≡◌, ℕ, ◌+◌, ◌-◌, ◌*◌, ◌≤◌, ◌/◌, leb, ltb, length, None, Bool, true, false, cond, List, [], ◌∷◌, ◌++◌, refl, sym, subst, ap, ◌∙◌, arith}
+use Rattle.std.specs.Prelude.{filter_map, sum_by, ◌==◌}
 use Rattle.std.proofs.Math.Nat.{div-mul-le_self, zero-div, mul-div_cancel_left}
 use Rattle.std.proofs.lemmas.Bool.{eqb-true}
+use Rattle.std.proofs.lemmas.List.{append-nil}
 use Rattle.std.proofs.lemmas.List.Sums.{sum_by-cons}
 use Rattle.std.proofs.lemmas.Nat.{le-div}
 use Rattle.std.proofs.lemmas.List.Elements.{filter_map-append}
-use Rattle.slug_reader.specs.declared.item.Rail.TheVariants as rails
-use Rattle.line_check.specs.declared.sort.Sort.{Sort}
+use Rattle.widths.specs.Widths.{WidthFile}
+use Rattle.slug_reader.specs.declared.item.Rail.{Rail}
+use Rattle.slug_reader.specs.declared.item.Item.{Item}
+use Rattle.slug_reader.specs.declared.item.Item.TheVariants as items
+use Rattle.line_check.specs.declared.fault.Cause.{Cause}
+use Rattle.line_check.specs.declared.fault.Cause.TheVariants as causes
+use Rattle.line_check.specs.declared.fault.SetFault.{SetFault}
 use Rattle.line_check.specs.declared.sort.Sort.TheVariants as sorts
-use Rattle.line_check.specs.Slugs.{sort_width}
+use Rattle.line_check.specs.Slugs.{sort_width, fixed_width, fixed_of, is_band, bands_of, least_width, greatest_width}
 use Rattle.tape_drawing.specs.declared.elements.Look.{Look}
 use Rattle.tape_drawing.specs.declared.elements.Look.TheVariants as looks
-use Rattle.tape_drawing.specs.declared.labels.Room.{Room}
-use Rattle.tape_drawing.specs.Shapes.{Shape, Upright, Turned}
-use Rattle.tape_drawing.specs.Labels.{name_shapes}
-use Rattle.tape_drawing.specs.Slugs.{edge, stretch, box_shapes, blank_shapes, sort_shapes, sorts_shapes, room_in}
-use Rattle.tape_drawing.specs.Laws.{box_span, Tiles, BoxesAddUp}
+use Rattle.tape_drawing.specs.declared.layout.Stretch.{Stretch}
+use Rattle.tape_drawing.specs.declared.elements.Style.TheVariants as styles
+use Rattle.tape_drawing.specs.Shapes.{Shape, Words}
+use Rattle.tape_drawing.specs.Layout.{edge, across}
+use Rattle.tape_drawing.specs.Slugs.{stretch, look_in, box_shapes, blank_shapes, name_shapes, width_shapes, sort_shapes, item_shapes, item_width, laid, sorts_shapes, items_shapes, gap_shapes}
+use Rattle.tape_drawing.specs.Lines.{band_in, fault_words, unset_shapes}
+use Rattle.tape_drawing.specs.Laws.{box_span, Tiles, drawn_width, BoxesAddUp, FaultyAddUp}
 
 -- the boxes among elements
 abbrev pub spans : List Shape → List (ℕ × ℕ)
@@ -28,44 +36,56 @@ tiles_append a b c (x ∷ xs) ys p q = (p.0, tiles_append (a + x.1) b c xs ys p.
 
 pub edge_mono : (measure a b : ℕ) → 1 ≤ measure → a ≤ b → edge measure a ≤ edge measure b
 edge_mono measure a b some le =
-    let low = div-mul-le_self (a * 800) measure in
-    let fits = le-div (a * 800 / measure) (b * 800) measure (omega (arith, some)) (omega (arith, low, le)) in
+    let low = div-mul-le_self (a * 720) measure in
+    let fits = le-div (a * 720 / measure) (b * 720) measure (omega (arith, some)) (omega (arith, low, le)) in
     omega (arith, fits)
 
 reaches : (measure from width : ℕ) → 1 ≤ measure → edge measure from + (edge measure (from + width) - edge measure from) ≡ edge measure (from + width)
 reaches measure from width some = omega (arith, edge_mono measure from (from + width) some (omega arith))
 
-no_box_in_cond : (a b : Bool) (x1 y1 x2 y2 : ℕ) (name : List ℕ) → spans (cond a [] (cond b (Upright x1 y1 name ∷ []) (Turned x2 y2 name ∷ []))) ≡ []
-no_box_in_cond true b x1 y1 x2 y2 name = refl
-no_box_in_cond false true x1 y1 x2 y2 name = refl
-no_box_in_cond false false x1 y1 x2 y2 name = refl
+no_box_in_name_case : (b : Bool) (x y : Shape) → box_span x ≡ None → box_span y ≡ None → spans (cond b (x ∷ []) (y ∷ [])) ≡ []
+no_box_in_name_case true x y e f = rw e refl
+no_box_in_name_case false x y e f = rw f refl
 
-no_box_in_name : (room : Room) (name : List ℕ) → spans (name_shapes room name) ≡ []
-no_box_in_name room name = no_box_in_cond _ _ _ _ _ _ name
+no_box_in_name : (s : Stretch) (rail : Rail) (name : List ℕ) → spans (name_shapes s rail name) ≡ []
+no_box_in_name s rail name = no_box_in_name_case (leb 2 (length name)) _ _ refl refl
+
+no_box_in_width_case : (b : Bool) (x : Shape) → box_span x ≡ None → spans (cond b [] (x ∷ [])) ≡ []
+no_box_in_width_case true x e = refl
+no_box_in_width_case false x e = rw e refl
+
+no_box_in_width : (s : Stretch) → spans (width_shapes s) ≡ []
+no_box_in_width s = no_box_in_width_case (ltb (across s) 10) _ refl
 
 box_tiles : (measure top from width : ℕ) (look : Look) (more : List Shape) → 1 ≤ measure → spans more ≡ []
     → Tiles (edge measure from) (edge measure (from + width)) (spans (box_shapes look (stretch measure top from width) ++ more))
 box_tiles measure top from width look more some none =
     (refl, subst (λ ps. Tiles (edge measure from + (edge measure (from + width) - edge measure from)) (edge measure (from + width)) ps) (sym none) (reaches measure from width some))
 
-sort_tiles : (measure top from : ℕ) (sort : Sort) → 1 ≤ measure
-    → Tiles (edge measure from) (edge measure (from + sort_width sort)) (spans (sort_shapes sort (stretch measure top from (sort_width sort))))
-sort_tiles measure top from (sorts.Matrix name rail width) some =
-    box_tiles measure top from width looks.Matrix (name_shapes (room_in (stretch measure top from width) rail) name) some (no_box_in_name _ name)
-sort_tiles measure top from (sorts.Band width) some =
-    box_tiles measure top from width looks.Band (name_shapes (room_in (stretch measure top from width) rails.Lower) (decimal width)) some (no_box_in_name _ (decimal width))
-sort_tiles measure top from (sorts.Space width) some =
-    box_tiles measure top from width looks.Space (name_shapes (room_in (stretch measure top from width) rails.Lower) (decimal width)) some (no_box_in_name _ (decimal width))
+-- each piece is a box of its width, and nothing else that is one
+abbrev pub IsTiled : {A : Type 0} → (A → Stretch → List Shape) → (A → ℕ) → ℕ → ℕ → Type 0
+IsTiled {A} shapes width measure top =
+    (from : ℕ) (piece : A) → Tiles (edge measure from) (edge measure (from + width piece)) (spans (shapes piece (stretch measure top from (width piece))))
 
-sorts_tiles : (measure top from : ℕ) (items : List Sort) → 1 ≤ measure
-    → Tiles (edge measure from) (edge measure (from + sum_by sort_width items)) (spans (sorts_shapes measure top from items))
-sorts_tiles measure top from [] some = ap (edge measure) (omega arith)
-sorts_tiles measure top from (sort ∷ rest) some =
-    let next = from + sort_width sort in
-    let same : next + sum_by sort_width rest ≡ from + sum_by sort_width (sort ∷ rest) = omega (arith, sum_by-cons sort_width sort rest) in
-    rw (filter_map-append box_span (sort_shapes sort (stretch measure top from (sort_width sort))) (sorts_shapes measure top next rest))
-    (tiles_append (edge measure from) (edge measure next) (edge measure (from + sum_by sort_width (sort ∷ rest))) _ _
-    (sort_tiles measure top from sort some) (rw same at (sorts_tiles measure top next rest some)))
+sort_tiles : (measure top : ℕ) → 1 ≤ measure → IsTiled sort_shapes sort_width measure top
+sort_tiles measure top some from (sorts.Matrix name rail width) = box_tiles measure top from width (look_in (stretch measure top from width) looks.Matrix) (name_shapes (stretch measure top from width) rail name) some (no_box_in_name _ rail name)
+sort_tiles measure top some from (sorts.Band width) = box_tiles measure top from width (look_in (stretch measure top from width) looks.Band) (width_shapes (stretch measure top from width)) some (no_box_in_width _)
+sort_tiles measure top some from (sorts.Space width) = box_tiles measure top from width (look_in (stretch measure top from width) looks.Space) (width_shapes (stretch measure top from width)) some (no_box_in_width _)
+
+item_tiles : (measure top band : ℕ) → 1 ≤ measure → IsTiled item_shapes (item_width band) measure top
+item_tiles measure top band some from (items.Matrix name rail width) = box_tiles measure top from width (look_in (stretch measure top from width) looks.Matrix) (name_shapes (stretch measure top from width) rail name) some (no_box_in_name _ rail name)
+item_tiles measure top band some from items.Band = box_tiles measure top from band (look_in (stretch measure top from band) looks.Band) (width_shapes (stretch measure top from band)) some (no_box_in_width _)
+item_tiles measure top band some from (items.Space width) = box_tiles measure top from width (look_in (stretch measure top from width) looks.Space) (width_shapes (stretch measure top from width)) some (no_box_in_width _)
+
+laid_tiles : {A : Type 0} (shapes : A → Stretch → List Shape) (width : A → ℕ) (measure top from : ℕ) (pieces : List A) → IsTiled shapes width measure top
+    → Tiles (edge measure from) (edge measure (from + sum_by width pieces)) (spans (laid shapes width measure top from pieces))
+laid_tiles shapes width measure top from [] tiled = ap (edge measure) (omega arith)
+laid_tiles shapes width measure top from (piece ∷ rest) tiled =
+    let next = from + width piece in
+    let same : next + sum_by width rest ≡ from + sum_by width (piece ∷ rest) = omega (arith, sum_by-cons width piece rest) in
+    rw (filter_map-append box_span (shapes piece (stretch measure top from (width piece))) (laid shapes width measure top next rest))
+    (tiles_append (edge measure from) (edge measure next) (edge measure (from + sum_by width (piece ∷ rest))) _ _
+    (tiled from piece) (rw same at (laid_tiles shapes width measure top next rest tiled)))
 
 blank_case : (measure top from width : ℕ) (b : Bool) → (width == 0) ≡ b → 1 ≤ measure
     → Tiles (edge measure from) (edge measure (from + width)) (spans (cond b [] (box_shapes looks.Blank (stretch measure top from width))))
@@ -75,11 +95,11 @@ blank_case measure top from width false e some = (refl, reaches measure from wid
 blank_tiles : (measure top from width : ℕ) → 1 ≤ measure → Tiles (edge measure from) (edge measure (from + width)) (spans (blank_shapes (stretch measure top from width)))
 blank_tiles measure top from width some = blank_case measure top from width (width == 0) refl some
 
-left_edge : (measure : ℕ) → edge measure 0 ≡ 20
-left_edge measure = ap (λ n. 20 + n) (zero-div measure)
+left_edge : (measure : ℕ) → edge measure 0 ≡ 60
+left_edge measure = ap (λ n. 60 + n) (zero-div measure)
 
-right_edge : (measure : ℕ) → 1 ≤ measure → edge measure measure ≡ 820
-right_edge measure some = ap (λ n. 20 + n) (mul-div_cancel_left 800 (omega (arith, some)))
+right_edge : (measure : ℕ) → 1 ≤ measure → edge measure measure ≡ 780
+right_edge measure some = ap (λ n. 60 + n) (mul-div_cancel_left 720 (omega (arith, some)))
 
 tiles_between : (a c b d : ℕ) (xs : List (ℕ × ℕ)) → a ≡ c → b ≡ d → Tiles a b xs → Tiles c d xs
 tiles_between a c b d xs p q t = subst (λ n. Tiles c n xs) q (subst (λ n. Tiles n b xs) p t)
@@ -94,8 +114,58 @@ boxes_add_up measure top slug some full =
     let first = blank_shapes (stretch measure top 0 slug.left) in
     let pieces = sorts_shapes measure top before slug.items in
     let last = blank_shapes (stretch measure top behind slug.right) in
-    let left = tiles_between (edge measure 0) 20 (edge measure (0 + slug.left)) (edge measure before) (spans first) (left_edge measure) (ap (edge measure) ends) (blank_tiles measure top 0 slug.left some) in
-    let right = tiles_between (edge measure behind) (edge measure behind) (edge measure (behind + slug.right)) 820 (spans last) refl (ap (edge measure) whole ∙ right_edge measure some) (blank_tiles measure top behind slug.right some) in
-    let rest : Tiles (edge measure before) 820 (spans pieces ++ spans last) = tiles_append (edge measure before) (edge measure behind) 820 (spans pieces) (spans last) (sorts_tiles measure top before slug.items some) right in
+    let left = tiles_between (edge measure 0) 60 (edge measure (0 + slug.left)) (edge measure before) (spans first) (left_edge measure) (ap (edge measure) ends) (blank_tiles measure top 0 slug.left some) in
+    let right = tiles_between (edge measure behind) (edge measure behind) (edge measure (behind + slug.right)) 780 (spans last) refl (ap (edge measure) whole ∙ right_edge measure some) (blank_tiles measure top behind slug.right some) in
+    let rest : Tiles (edge measure before) 780 (spans pieces ++ spans last) = tiles_append (edge measure before) (edge measure behind) 780 (spans pieces) (spans last) (laid_tiles sort_shapes sort_width measure top before slug.items (sort_tiles measure top some)) right in
     let apart : spans (first ++ (pieces ++ last)) ≡ spans first ++ (spans pieces ++ spans last) = filter_map-append box_span first (pieces ++ last) ∙ ap (λ ps. spans first ++ ps) (filter_map-append box_span pieces last) in
-    subst (λ ps. Tiles 20 820 ps) (sym apart) (tiles_append 20 (edge measure before) 820 (spans first) (spans pieces ++ spans last) left rest)
+    subst (λ ps. Tiles 60 780 ps) (sym apart) (tiles_append 60 (edge measure before) 780 (spans first) (spans pieces ++ spans last) left rest)
+
+more_bands : (n band : ℕ) → (1 + n) * band ≡ band + n * band
+more_bands n band = grind arith
+
+none_more : (n band : ℕ) → (0 + n) * band ≡ n * band
+none_more n band = grind arith
+
+pub items_sum : (line : List Item) (band : ℕ) → sum_by (item_width band) line ≡ fixed_of line + bands_of line * band
+items_sum [] band = grind arith
+items_sum (items.Matrix name rail width ∷ rest) band =
+    omega (arith, items_sum rest band, none_more (bands_of rest) band, sum_by-cons (item_width band) (items.Matrix name rail width) rest, sum_by-cons fixed_width (items.Matrix name rail width) rest)
+items_sum (items.Band ∷ rest) band =
+    let count : bands_of (items.Band ∷ rest) ≡ 1 + bands_of rest = sum_by-cons (λ item. cond (is_band item) 1 0) items.Band rest in
+    let product : bands_of (items.Band ∷ rest) * band ≡ band + bands_of rest * band = ap (λ n. n * band) count ∙ more_bands (bands_of rest) band in
+    omega (arith, items_sum rest band, product, sum_by-cons (item_width band) items.Band rest, sum_by-cons fixed_width items.Band rest)
+items_sum (items.Space width ∷ rest) band =
+    omega (arith, items_sum rest band, none_more (bands_of rest) band, sum_by-cons (item_width band) (items.Space width) rest, sum_by-cons fixed_width (items.Space width) rest)
+
+no_box_in_gap_case : (b : Bool) (x : Shape) → box_span x ≡ None → spans (cond b [] (x ∷ [])) ≡ []
+no_box_in_gap_case true x e = refl
+no_box_in_gap_case false x e = rw e refl
+
+some_tile : (widths : WidthFile) (top band all : ℕ) (fault : SetFault) (line : List Item) → 1 ≤ widths.measure → band_in widths fault.cause ≡ band → sum_by (item_width band) line ≡ all
+    → Tiles 60 (edge widths.measure all) (spans (unset_shapes widths top fault line))
+some_tile widths top band all fault line some is e =
+    let here = band_in widths fault.cause in
+    let words : List Shape = Words styles.Behind 836 (top + 58) (fault_words fault) ∷ [] in
+    let pieces = items_shapes widths.measure top here line in
+    let gap = gap_shapes widths.measure top (sum_by (item_width here) line) in
+    let no_gap : spans gap ≡ [] = no_box_in_gap_case (leb widths.measure (sum_by (item_width here) line)) _ refl in
+    let filled : spans (pieces ++ gap) ≡ spans pieces = filter_map-append box_span pieces gap ∙ (ap (λ ps. spans pieces ++ ps) no_gap ∙ append-nil (spans pieces)) in
+    let whole : spans ((pieces ++ gap) ++ words) ≡ spans pieces = filter_map-append box_span (pieces ++ gap) words ∙ (append-nil (spans (pieces ++ gap)) ∙ filled) in
+    let reach : 0 + sum_by (item_width band) line ≡ all = omega (arith, e) in
+    let tiled : Tiles 60 (edge widths.measure all) (spans (items_shapes widths.measure top band line)) =
+    tiles_between (edge widths.measure 0) 60 (edge widths.measure (0 + sum_by (item_width band) line)) (edge widths.measure all) (spans (items_shapes widths.measure top band line)) (left_edge widths.measure) (ap (edge widths.measure) reach)
+    (laid_tiles item_shapes (item_width band) widths.measure top 0 line (item_tiles widths.measure top band some)) in
+    let all_tiles : Tiles 60 (edge widths.measure all) (spans pieces) = subst (λ b. Tiles 60 (edge widths.measure all) (spans (items_shapes widths.measure top b line))) (sym is) tiled in
+    subst (λ ps. Tiles 60 (edge widths.measure all) ps) (sym whole) all_tiles
+
+faulty_by : (widths : WidthFile) (top : ℕ) (fault : SetFault) (cause : Cause) (line : List Item) → fault.cause ≡ cause → 1 ≤ widths.measure
+    → Tiles 60 (edge widths.measure (drawn_width widths cause line)) (spans (unset_shapes widths top fault line))
+faulty_by widths top fault causes.UnknownCode line is some = some_tile widths top widths.band_min (least_width widths line) fault line some (rw is refl) (items_sum line widths.band_min)
+faulty_by widths top fault causes.NoWidth line is some = some_tile widths top widths.band_min (least_width widths line) fault line some (rw is refl) (items_sum line widths.band_min)
+faulty_by widths top fault causes.Unfinished line is some = some_tile widths top widths.band_min (least_width widths line) fault line some (rw is refl) (items_sum line widths.band_min)
+faulty_by widths top fault (causes.Overset over) line is some = some_tile widths top widths.band_min (least_width widths line) fault line some (rw is refl) (items_sum line widths.band_min)
+faulty_by widths top fault (causes.Loose under) line is some = some_tile widths top widths.band_max (greatest_width widths line) fault line some (rw is refl) (items_sum line widths.band_max)
+
+-- the boxes of a line that does not set lie side by side over its least or its greatest width
+pub faulty_add_up : FaultyAddUp
+faulty_add_up widths top fault line some = faulty_by widths top fault fault.cause line refl some

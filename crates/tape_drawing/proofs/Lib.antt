@@ -1,5 +1,6 @@
 pub mod Sequences
+pub mod Firsts
 pub mod Looking
+pub mod Placing
 pub mod Boxes
-pub mod Holes
-pub mod Casts
+pub mod Framing

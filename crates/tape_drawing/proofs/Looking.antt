@@ -1,13 +1,11 @@
 -- One frame more: what holds at a position, from what holds at the one before it.
-use Rattle.std.proofs.Common.{◌≡◌, ℕ, zero, suc, ◌+◌, ◌<◌, true, false, List, [], ◌∷◌, ◌++◌, length, Option, Some, None, refl, sym, ap, ◌∙◌, arith, add-one}
+use Rattle.std.proofs.Common.{◌≡◌, ℕ, zero, suc, ◌+◌, ◌<◌, List, [], ◌∷◌, ◌++◌, length, Option, Some, None, refl, sym, ap, ◌∙◌, arith, add-one}
 use Rattle.std.specs.Prelude.{unwrap_or}
 use Rattle.tape_frames.specs.Frames.{AreFrames}
 use Rattle.code_table.specs.declared.case.Case.{Case}
 use Rattle.code_table.specs.declared.case.Case.TheVariants as cases
 use Rattle.slug_reader.specs.Positions.{before, last, or_else}
-use Rattle.slug_reader.specs.Meanings.{Meanings, selected_by, frame_at, case_at, meaning_at, is_elevate}
-use Rattle.slug_reader.specs.Lines.{is_cut}
-use Rattle.tape_drawing.specs.Castings.{behind_cut, cast_length}
+use Rattle.slug_reader.specs.Meanings.{Meanings, selected_by, frame_at, case_at, meaning_at}
 
 or_else_assoc : {A : Type 0} (x y z : Option A) → or_else (or_else x y) z ≡ or_else x (or_else y z)
 or_else_assoc None y z = refl
@@ -35,22 +33,6 @@ case_more means tape i =
     rw (add-one, last_push (λ j. selected_by means (frame_at tape j)) (before i) i)
     (unwrap_or_else (selected_by means (frame_at tape i)) _ cases.Unshift)
 
-pub cast_start : (means : Meanings) (tape : List ℕ) → cast_length means tape 0 ≡ 0
-unfolding cast_length
-cast_start means tape = refl
-
-pub cast_more : (means : Meanings) (tape : List ℕ) (i : ℕ) → cast_length means tape (i + 1) ≡ unwrap_or (behind_cut means tape i) (cast_length means tape i)
-unfolding cast_length
-cast_more means tape i =
-    rw (add-one, last_push (behind_cut means tape) (before i) i)
-    (unwrap_or_else (behind_cut means tape i) _ 0)
-
-pub cast_cut : (means : Meanings) (tape : List ℕ) (i : ℕ) → is_cut means tape i ≡ true → cast_length means tape (i + 1) ≡ i + 1
-cast_cut means tape i e = cast_more means tape i ∙ rw (e, ← add-one) refl
-
-pub cast_kept : (means : Meanings) (tape : List ℕ) (i : ℕ) → is_cut means tape i ≡ false → cast_length means tape (i + 1) ≡ cast_length means tape i
-cast_kept means tape i e = cast_more means tape i ∙ rw e refl
-
 pub frame_small : (tape : List ℕ) → AreFrames tape → (i : ℕ) → i < length tape → frame_at tape i < 64
 frame_small [] small i lt = absurd (omega (arith, lt))
 frame_small (frame ∷ rest) small zero lt = small.0
@@ -60,8 +42,3 @@ frame_small (frame ∷ rest) small (suc i) lt = frame_small rest small.1 i (omeg
 pub meaning_is : (means : Meanings) (tape : List ℕ) (i : ℕ) (case : Case) → case ≡ case_at means tape i → means case (frame_at tape i) ≡ meaning_at means tape i
 unfolding meaning_at
 meaning_is means tape i case e = rw e refl
-
--- whether it is a cut
-pub cut_is : (means : Meanings) (tape : List ℕ) (i : ℕ) (case : Case) → case ≡ case_at means tape i → is_elevate (means case (frame_at tape i)) ≡ is_cut means tape i
-unfolding is_cut
-cut_is means tape i case e = ap is_elevate (meaning_is means tape i case e)

@@ -1,70 +1,143 @@
 -- The document of a drawing.
-use Rattle.std.specs.Prelude.{ℕ, ◌+◌, ◌*◌, ◌/◌, List, [], ◌++◌, length, Option, Some, None, codes}
+use Rattle.std.specs.Prelude.{◌≡◌, ℕ, ◌+◌, ◌-◌, List, [], ◌∷◌, ◌++◌, length, Option, Some, None, codes, decimal, nat_lt, ◌==◌, if◌then◌else◌}
+use Rattle.widths.specs.Widths.{WidthFile}
 use Rattle.slug_reader.specs.Meanings.{Meanings}
 use Rattle.line_check.specs.declared.fault.SetFault.{SetFault}
-use Rattle.line_check.specs.Galley.{galley_of}
-use Rattle.tape_drawing.specs.declared.document.Page.{Page}
-use Rattle.tape_drawing.specs.declared.document.Page.TheVariants as pages
-use Rattle.tape_drawing.specs.Shapes.{Shape, pair_text, escaped, text_of}
-use Rattle.tape_drawing.specs.Frames.{tape_shapes, fault_shapes}
-use Rattle.tape_drawing.specs.Slugs.{slugs_from}
-use Rattle.tape_drawing.specs.Castings.{Cast}
+use Rattle.line_fit.specs.declared.fitting.Fitting.{Fitting}
+use Rattle.line_fit.specs.Fitting.{Fits, first_told}
+use Rattle.tape_drawing.specs.declared.document.Counts.{Counts}
+use Rattle.tape_drawing.specs.declared.page.Page.{Page}
+use Rattle.tape_drawing.specs.declared.page.Page.TheVariants as pages
+use Rattle.tape_drawing.specs.declared.elements.Style.TheVariants as styles
+use Rattle.tape_drawing.specs.declared.layout.Spot.{Spot}
+use Rattle.tape_drawing.specs.Shapes.{Shape, Words, pair_text, count_text, escaped, text_of}
+use Rattle.tape_drawing.specs.Texts.{style_head, style_tail, svg_lead, svg_style_end, first_legend, second_legend, page_lead, page_style_end, page_legend, page_main}
+use Rattle.tape_drawing.specs.Layout.{type_size, after, first_spot}
+use Rattle.tape_drawing.specs.Lines.{rest_height, tape_shapes}
 
--- the line of the document below which the slugs stand: the rows have room for so many frames, and for one more
-abbrev pub slugs_top : ℕ → ℕ
-slugs_top frames = 280 * (frames / 40 + 1)
+-- what a tape, its table and its widths are called
+pub record Called : Type 0 where
+  pub tape : List ℕ
+  pub table : List ℕ
+  pub widths : List ℕ
 
--- the height of the document
-abbrev pub height_of : ℕ → ℕ → ℕ
-height_of frames slugs = slugs_top frames + 140 * slugs
+-- these names
+abbrev pub called : List ℕ → List ℕ → List ℕ → Called
+called tape table widths = record { tape = tape; table = table; widths = widths }
 
--- the mark of the fault, where there is one
-abbrev pub mark_shapes : Option SetFault → List ℕ → List Shape
-mark_shapes None words = []
-mark_shapes (Some fault) words = fault_shapes fault.at words
+-- the title: what is drawn, and what it is set by
+abbrev pub title_words : Called → List ℕ
+title_words called = called.tape ++ (codes ", set by " ++ (called.table ++ (codes " and " ++ called.widths)))
 
--- all that is drawn: the tape, the mark of its fault, and the slugs
-abbrev pub drawing_shapes : Meanings → List ℕ → Cast → List ℕ → List Shape
-drawing_shapes means tape c words = tape_shapes means tape ++ (mark_shapes c.fault words ++ slugs_from c.measure (slugs_top (length tape)) 0 c.slugs)
+-- one where there are frames behind the last cut
+abbrev pub rest_lines : ℕ → ℕ → ℕ
+rest_lines from frames = if nat_lt from frames then 1 else 0
 
--- behind the height of a document its title, the hatching, and how its elements look
-unfoldable pub style_text : List ℕ
-style_text = codes "'>\n<title>A tape and its slugs</title>\n<defs><pattern id='hatch' width='6' height='6' patternUnits='userSpaceOnUse'><path d='M0 6L6 0' stroke='black'/></pattern></defs>\n<style type='text/css'>\n@page { size: 840px 1120px; margin: 0; }\ntext { font-family: monospace; font-size: 12px; }\n.middle { text-anchor: middle; }\n.end { text-anchor: end; }\n.paper, .matrix { fill: white; stroke: black; }\n.hole { fill: black; }\n.feed { fill: white; stroke: black; }\n.band { fill: #dddddd; stroke: black; }\n.space { fill: white; stroke: black; stroke-dasharray: 3 3; }\n.blank { fill: url(#hatch); stroke: black; }\n.mark { fill: none; stroke: #cc0000; stroke-width: 4; }\n.fault { fill: #cc0000; font-weight: bold; }\n</style>\n"
+-- one where there is a fault behind it
+abbrev pub rest_faults : Option SetFault → ℕ
+rest_faults None = 0
+rest_faults (Some fault) = 1
 
--- the element of a document, as far as its height
-unfoldable pub svg_lead : List ℕ
-svg_lead = codes "<svg xmlns='http://www.w3.org/2000/svg' version='1.1' width='840' height='"
+-- what is counted of a tape of so many frames whose lines end here
+abbrev pub counted : ℕ → ℕ → Spot → Option SetFault → Counts
+counted measure frames end rest = record {
+  measure = measure;
+  frames = frames;
+  lines = end.number - 1 + rest_lines end.from frames;
+  slugs = end.slug - 1;
+  faults = end.faults + rest_faults rest;
+}
 
--- what begins a document of this height
-abbrev pub head_text : ℕ → List ℕ
-head_text height = pair_text svg_lead height (codes "' viewBox='0 0 840 ") height ++ style_text
+-- how it is told: of the tape, of its lines, and both
+unfoldable pub tape_counts : Counts → List ℕ
+tape_counts c = count_text (codes "measure ") c.measure ++ count_text (codes " | frames ") c.frames
 
--- the document in SVG
-abbrev pub svg_text : Meanings → List ℕ → Cast → List ℕ → List ℕ
-svg_text means tape c words = (head_text (height_of (length tape) (length c.slugs)) ++ text_of (drawing_shapes means tape c words)) ++ codes "</svg>\n"
+unfoldable pub line_counts : Counts → List ℕ
+line_counts c =
+    (count_text (codes " | lines ") c.lines ++ count_text (codes " | slugs ") c.slugs) ++ count_text (codes " | lines that do not set ") c.faults
 
--- what begins a page, as far as the words of its fault
-unfoldable pub page_head : List ℕ
-page_head = codes "<!DOCTYPE html>\n<html lang='en'>\n<head>\n<meta charset='utf-8'>\n<title>A tape and its slugs</title>\n<style>\nbody { width: 840px; margin: 0 auto; font-family: sans-serif; }\nh1, h2, p, pre { margin: 20px; }\npre { white-space: pre-wrap; }\nsvg { display: block; break-before: page; }\n</style>\n</head>\n<body>\n<h1>A tape and its slugs</h1>\n<p>"
+abbrev pub counted_words : Counts → List ℕ
+counted_words c = tape_counts c ++ line_counts c
 
--- the words of the fault, or that there is none
-abbrev pub told_words : Option SetFault → List ℕ → List ℕ
-told_words None words = codes "The tape sets."
-told_words (Some fault) words = words
+-- how far the drawing reaches down: behind the lines, and behind the frames after the last cut
+abbrev pub height_of : ℕ → Spot → ℕ
+height_of frames end = if nat_lt end.from frames then end.top + rest_height (frames - end.from) else end.top
 
--- what stands between the words of a fault and a galley
-unfoldable pub galley_lead : List ℕ
-galley_lead = codes "</p>\n<h2>Galley</h2>\n<pre>\n"
+-- how what is drawn looks, with type of this size
+unfoldable pub style_text : ℕ → List ℕ
+style_text size = style_head ++ (decimal size ++ style_tail)
 
--- the words of a fault and the galley, in a page
-abbrev pub told_text : Cast → List ℕ → List ℕ
-told_text c words = (page_head ++ escaped (told_words c.fault words)) ++ (galley_lead ++ (escaped (galley_of c.slugs) ++ codes "</pre>\n"))
+-- what begins a document of this height with this title
+unfoldable pub svg_open : ℕ → List ℕ → List ℕ
+svg_open height title =
+    pair_text svg_lead height (codes "' viewBox='0 0 840 ") height ++ (codes "'>\n<title>" ++ (escaped title ++ codes "</title>\n"))
 
--- the page in HTML: the words of the fault, the galley, and the drawing
-abbrev pub page_text : Meanings → List ℕ → Cast → List ℕ → List ℕ
-page_text means tape c words = (told_text c words ++ svg_text means tape c words) ++ codes "</body>\n</html>\n"
+-- how a document looks, and its ground
+unfoldable pub svg_styled : ℕ → List ℕ
+svg_styled size = style_text size ++ svg_style_end
 
--- what is written
-abbrev pub document_text : Page → Meanings → List ℕ → Cast → List ℕ → List ℕ
-document_text pages.Svg means tape c words = svg_text means tape c words
-document_text pages.Html means tape c words = page_text means tape c words
+-- how it looks, with type of this size
+unfoldable pub svg_style : ℕ → List ℕ
+svg_style size = codes "<style type='text/css'>\n" ++ svg_styled size
+
+-- the head of a document: its title, what is counted, and what the marks stand for
+abbrev pub head_shapes : List ℕ → List ℕ → List Shape
+head_shapes title counts =
+    Words styles.Heading 20 30 title ∷ Words styles.Head 20 50 counts ∷ Words styles.Head 20 70 first_legend ∷ Words styles.Head 20 86 second_legend ∷ []
+
+-- all of a document as far as its lines
+unfoldable pub svg_head : ℕ → List ℕ → List ℕ → ℕ → List ℕ
+svg_head height title counts size = svg_open height title ++ (svg_style size ++ text_of (head_shapes title counts))
+
+-- what leads to the first line that does not set, where there is one
+abbrev pub fault_link : ℕ → List ℕ
+fault_link faults = if faults == 0 then [] else codes "<p><a href='#fault'>The first line that does not set</a></p>\n"
+
+-- how a page looks, and what begins its heading
+unfoldable pub page_styled : ℕ → List ℕ
+page_styled size = style_text size ++ page_style_end
+
+-- the end of its title, and how it looks
+unfoldable pub page_look : ℕ → List ℕ
+page_look size = codes "</title>\n<style>\n" ++ page_styled size
+
+-- what begins a page, with its title
+unfoldable pub page_titled : List ℕ → List ℕ
+page_titled title = page_lead ++ escaped title
+
+-- what begins a page with this title, its type of this size
+unfoldable pub page_open : List ℕ → ℕ → List ℕ
+page_open title size = page_titled title ++ page_look size
+
+-- what a page tells before its drawings
+unfoldable pub page_told : List ℕ → List ℕ → ℕ → List ℕ
+page_told title counts faults =
+    (escaped title ++ (codes "</h1>\n<p>" ++ (escaped counts ++ codes "</p>\n"))) ++ (page_legend ++ (fault_link faults ++ page_main))
+
+-- all of a page as far as its lines
+unfoldable pub page_head : List ℕ → List ℕ → ℕ → ℕ → List ℕ
+page_head title counts size faults = page_open title size ++ page_told title counts faults
+
+-- a document of this height: what is told before its lines, and its lines, whose text is this
+abbrev pub page_text : Page → List ℕ → ℕ → List ℕ → List ℕ → ℕ → ℕ → List ℕ
+page_text pages.Svg lines height title counts size faults = svg_head height title counts size ++ (lines ++ codes "</svg>\n")
+page_text pages.Html lines height title counts size faults =
+    page_head title counts size faults ++ (lines ++ codes "</main>\n</body>\n</html>\n")
+
+-- the document of a tape whose lines end here, with what is counted
+abbrev pub text_with : Page → Meanings → WidthFile → List ℕ → Called → Fitting → Spot → Counts → List ℕ
+text_with page means widths tape called fitting end c =
+    page_text page (text_of (tape_shapes page means widths tape fitting)) (height_of (length tape) end) (title_words called) (counted_words c) (type_size widths) c.faults
+
+-- what is written of a tape whose lines fit so
+abbrev pub document_text : Page → Meanings → WidthFile → List ℕ → Called → Fitting → List ℕ
+document_text page means widths tape called fitting =
+    text_with page means widths tape called fitting (after first_spot fitting.lines.items)
+    (counted widths.measure (length tape) (after first_spot fitting.lines.items) fitting.rest)
+
+-- a text is the drawing of a tape, and this is the first fault for which it does not set
+pub record IsDrawing (page : Page) (means : Meanings) (widths : WidthFile) (tape : List ℕ) (called : Called) (text : List ℕ) (fault : Option SetFault) : Type 0 where
+  pub fitting : Fitting
+  pub fits : Fits means widths tape fitting
+  pub is_fault : fault ≡ first_told fitting
+  pub is_text : text ≡ document_text page means widths tape called fitting

@@ -1,62 +1,85 @@
 -- The laws of drawings.
-use Rattle.std.specs.Prelude.{◌≡◌, ◌≤◌, ℕ, ◌+◌, List, [], ◌∷◌, Option, Some, None, length, filter_map, flat_map, ◌==◌, if◌then◌else◌}
-use Rattle.tape_frames.specs.Holes.{holes_of}
+use Rattle.std.specs.Prelude.{◌≡◌, ◌≤◌, ℕ, ◌+◌, List, [], ◌∷◌, Option, Some, None, length, map, filter_map}
+use Rattle.widths.specs.Widths.{WidthFile}
 use Rattle.slug_reader.specs.Positions.{before}
-use Rattle.slug_reader.specs.Meanings.{Meanings, frame_at}
+use Rattle.slug_reader.specs.Meanings.{Meanings, frame_at, meaning_at}
+use Rattle.slug_reader.specs.declared.item.Item.{Item}
+use Rattle.code_table.specs.declared.meaning.Meaning.{Meaning}
+use Rattle.line_check.specs.declared.fault.Cause.{Cause}
+use Rattle.line_check.specs.declared.fault.Cause.TheVariants as causes
+use Rattle.line_check.specs.declared.fault.SetFault.{SetFault}
 use Rattle.line_check.specs.declared.slug.Slug.{Slug}
-use Rattle.tape_drawing.specs.Shapes.{Shape, Hole, Feed, Paper, Box, Mark, Upright, Turned, Caption, Remark}
-use Rattle.tape_drawing.specs.Frames.{corner_of, tape_shapes}
+use Rattle.line_check.specs.Slugs.{least_width, greatest_width}
+use Rattle.line_fit.specs.declared.fitting.Fitting.{Fitting}
+use Rattle.line_fit.specs.Fitting.{Fits}
+use Rattle.tape_drawing.specs.declared.page.Page.{Page}
+use Rattle.tape_drawing.specs.Shapes.{Shape, Paper, Frame, Box, Bar, Gap, Mark, Words, Fitted, Open, Close}
+use Rattle.tape_drawing.specs.Layout.{edge, IsFull}
 use Rattle.tape_drawing.specs.Slugs.{pieces_shapes}
-use Rattle.tape_drawing.specs.Castings.{IsFull}
+use Rattle.tape_drawing.specs.Lines.{unset_shapes, tape_shapes}
 
--- the place of a hole; the other elements are none
-abbrev pub hole_place : Shape → Option (ℕ × ℕ)
-hole_place (Hole x y) = Some (x, y)
-hole_place (Feed x y) = None
-hole_place (Paper x y width) = None
-hole_place (Box look x y width) = None
-hole_place (Mark x y) = None
-hole_place (Upright x y words) = None
-hole_place (Turned x y words) = None
-hole_place (Caption x y words) = None
-hole_place (Remark ends x y words) = None
+-- a frame as it is drawn: its position, its levels and what it means
+pub record Drawn : Type 0 where
+  pub at : ℕ
+  pub frame : ℕ
+  pub meaning : Option Meaning
 
--- where the six levels of a position are, the lowest first
-abbrev pub level_places : ℕ → List (ℕ × ℕ)
-level_places i =
-    ((corner_of i).x + 10, (corner_of i).y + 30) ∷ ((corner_of i).x + 10, (corner_of i).y + 50) ∷ ((corner_of i).x + 10, (corner_of i).y + 70)
-    ∷ ((corner_of i).x + 10, (corner_of i).y + 110) ∷ ((corner_of i).x + 10, (corner_of i).y + 130) ∷ ((corner_of i).x + 10, (corner_of i).y + 150) ∷ []
+-- what is drawn of a frame; the other elements are none
+abbrev pub frame_drawn : Shape → Option Drawn
+frame_drawn (Frame x y at frame meaning) = Some (record { at = at; frame = frame; meaning = meaning })
+frame_drawn (Paper x y frames) = None
+frame_drawn (Box look x y width) = None
+frame_drawn (Bar x y) = None
+frame_drawn (Gap x y width) = None
+frame_drawn (Mark x y) = None
+frame_drawn (Words style x y words) = None
+frame_drawn (Fitted style x y length words) = None
+frame_drawn (Open page number y height) = None
+frame_drawn (Close page) = None
 
--- the places at which a level is punched
-abbrev pub punched : List (ℕ × ℕ) → List ℕ → List (ℕ × ℕ)
-punched [] levels = []
-punched (place ∷ places) [] = []
-punched (place ∷ places) (level ∷ levels) = if level == 111 then place ∷ punched places levels else punched places levels
+-- the frame at a position of a tape, with its levels and what it means there
+abbrev pub drawn_at : Meanings → List ℕ → ℕ → Drawn
+drawn_at means tape i = record { at = i; frame = frame_at tape i; meaning = meaning_at means tape i }
 
--- the drawing of a tape has a hole exactly where a level of a frame is punched
-abbrev pub HolesArePunched : Type 0
-HolesArePunched =
-    (means : Meanings) (tape : List ℕ)
-    → filter_map hole_place (tape_shapes means tape) ≡ flat_map (λ i. punched (level_places i) (holes_of (frame_at tape i))) (before (length tape))
+-- each frame of a tape is drawn once, in its order
+abbrev pub FramesInOrder : Type 0
+FramesInOrder =
+    (page : Page) (means : Meanings) (widths : WidthFile) (tape : List ℕ) (fitting : Fitting) → Fits means widths tape fitting
+    → filter_map frame_drawn (tape_shapes page means widths tape fitting) ≡ map (drawn_at means tape) (before (length tape))
 
 -- the left edge and the width of a box; the other elements are none
 abbrev pub box_span : Shape → Option (ℕ × ℕ)
-box_span (Hole x y) = None
-box_span (Feed x y) = None
-box_span (Paper x y width) = None
 box_span (Box look x y width) = Some (x, width)
+box_span (Paper x y frames) = None
+box_span (Frame x y at frame meaning) = None
+box_span (Bar x y) = None
+box_span (Gap x y width) = None
 box_span (Mark x y) = None
-box_span (Upright x y words) = None
-box_span (Turned x y words) = None
-box_span (Caption x y words) = None
-box_span (Remark ends x y words) = None
+box_span (Words style x y words) = None
+box_span (Fitted style x y length words) = None
+box_span (Open page number y height) = None
+box_span (Close page) = None
 
 -- the spans lie side by side from one place to another
 abbrev pub Tiles : ℕ → ℕ → List (ℕ × ℕ) → Type 0
 Tiles from to [] = from ≡ to
 Tiles from to (span ∷ spans) = (span.0 ≡ from) × Tiles (from + span.1) to spans
 
--- the boxes of a slug add up to the measure: they lie side by side, from its left edge as far as the 800 units of the measure
+-- the boxes of a slug add up to the measure: they lie side by side, from its left edge as far as the 720 units of the measure
 abbrev pub BoxesAddUp : Type 0
 BoxesAddUp =
-    (measure : ℕ) (top : ℕ) (slug : Slug) → 1 ≤ measure → IsFull measure slug → Tiles 20 820 (filter_map box_span (pieces_shapes measure top slug))
+    (measure : ℕ) (top : ℕ) (slug : Slug) → 1 ≤ measure → IsFull measure slug → Tiles 60 780 (filter_map box_span (pieces_shapes measure top slug))
+
+-- the width of a line that does not set, as it is drawn: one that is loose at its greatest, else at its least
+abbrev pub drawn_width : WidthFile → Cause → List Item → ℕ
+drawn_width widths causes.UnknownCode line = least_width widths line
+drawn_width widths causes.NoWidth line = least_width widths line
+drawn_width widths causes.Unfinished line = least_width widths line
+drawn_width widths (causes.Overset over) line = least_width widths line
+drawn_width widths (causes.Loose under) line = greatest_width widths line
+
+-- the boxes of a line that does not set add up to that: they lie side by side, from the left edge of a slug as far as it reaches
+abbrev pub FaultyAddUp : Type 0
+FaultyAddUp =
+    (widths : WidthFile) (top : ℕ) (fault : SetFault) (line : List Item) → 1 ≤ widths.measure
+    → Tiles 60 (edge widths.measure (drawn_width widths fault.cause line)) (filter_map box_span (unset_shapes widths top fault line))

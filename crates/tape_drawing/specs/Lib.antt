@@ -1,7 +1,10 @@
+pub mod Meanings
+pub mod Styles
 pub mod Shapes
-pub mod Labels
+pub mod Layout
 pub mod Frames
 pub mod Slugs
-pub mod Castings
+pub mod Lines
+pub mod Texts
 pub mod Document
 pub mod Laws

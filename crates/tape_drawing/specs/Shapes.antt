@@ -1,23 +1,33 @@
 -- What is drawn, and its text. Places are whole user units, x to the right and y down.
-use Rattle.std.specs.Prelude.{ℕ, List, [], ◌∷◌, ◌++◌, Bool, true, false, codes, decimal, flat_map, ◌==◌, if◌then◌else◌}
+use Rattle.std.specs.Prelude.{ℕ, ◌+◌, ◌*◌, ◌-◌, List, [], ◌∷◌, ◌++◌, Option, codes, decimal, flat_map, length, nat_le, ◌==◌, if◌then◌else◌}
+use Rattle.tape_frames.specs.Holes.{hole_at}
+use Rattle.code_table.specs.declared.meaning.Meaning.{Meaning}
 use Rattle.tape_drawing.specs.declared.elements.Look.{Look}
 use Rattle.tape_drawing.specs.declared.elements.Look.TheVariants as looks
+use Rattle.tape_drawing.specs.declared.elements.Style.{Style}
+use Rattle.tape_drawing.specs.declared.page.Page.{Page}
+use Rattle.tape_drawing.specs.declared.page.Page.TheVariants as pages
+use Rattle.tape_drawing.specs.Meanings.{meaning_word, mark_style, mark_word}
+use Rattle.tape_drawing.specs.Styles.{style_lead}
 
--- an element of a drawing: a hole or a feed hole by its center; by its upper left corner the paper of a row of frames,
--- the box of a piece of a slug, or the mark of a faulty frame; and words: in the middle of a line, turned by a quarter
--- and running down, from a place on, and those of a fault, which begin or end at a place
+-- an element of a drawing. By their upper left corner: the paper of a row of so many frames, with its feed holes; the box of a
+-- piece of a line, the bar of a slug, the gap of a loose line, and the mark of a faulty frame. A frame stands by its column and
+-- the upper edge of its paper, with its position, its levels and what it means. Words stand by their foot, as wide as they are
+-- or fitted to a length. The elements of a line are between its opening, which has its number, its upper edge and its height,
+-- and its end
 pub data Shape : Type 0 where
-  Hole : (x : ℕ) → (y : ℕ) → Shape
-  Feed : (x : ℕ) → (y : ℕ) → Shape
-  Paper : (x : ℕ) → (y : ℕ) → (width : ℕ) → Shape
+  Paper : (x : ℕ) → (y : ℕ) → (frames : ℕ) → Shape
+  Frame : (x : ℕ) → (y : ℕ) → (at : ℕ) → (frame : ℕ) → (meaning : Option Meaning) → Shape
   Box : (look : Look) → (x : ℕ) → (y : ℕ) → (width : ℕ) → Shape
+  Bar : (x : ℕ) → (y : ℕ) → Shape
+  Gap : (x : ℕ) → (y : ℕ) → (width : ℕ) → Shape
   Mark : (x : ℕ) → (y : ℕ) → Shape
-  Upright : (x : ℕ) → (y : ℕ) → (words : List ℕ) → Shape
-  Turned : (x : ℕ) → (y : ℕ) → (words : List ℕ) → Shape
-  Caption : (x : ℕ) → (y : ℕ) → (words : List ℕ) → Shape
-  Remark : (ends : Bool) → (x : ℕ) → (y : ℕ) → (words : List ℕ) → Shape
+  Words : (style : Style) → (x : ℕ) → (y : ℕ) → (words : List ℕ) → Shape
+  Fitted : (style : Style) → (x : ℕ) → (y : ℕ) → (length : ℕ) → (words : List ℕ) → Shape
+  Open : (page : Page) → (number : ℕ) → (y : ℕ) → (height : ℕ) → Shape
+  Close : (page : Page) → Shape
 
--- a byte of words, or the reference for one that would read as markup
+-- a byte of words, or the reference for one that would read as markup; a byte that no document may hold is a question mark
 abbrev pub escape : ℕ → List ℕ
 escape byte =
     if byte == 38 then codes "&amp;" else
@@ -34,39 +44,107 @@ escaped words = flat_map escape words
 abbrev pub pair_text : List ℕ → ℕ → List ℕ → ℕ → List ℕ
 pair_text lead across between down = lead ++ (decimal across ++ (between ++ decimal down))
 
+-- a number behind what leads to it
+unfoldable pub count_text : List ℕ → ℕ → List ℕ
+count_text lead number = lead ++ decimal number
+
 -- words, and the end of their element
-abbrev pub words_text : List ℕ → List ℕ
-words_text words = codes "'>" ++ (escaped words ++ codes "</text>\n")
+abbrev pub words_end : List ℕ → List ℕ
+words_end words = escaped words ++ codes "</text>\n"
+
+-- the element of words of a style, as wide as they are
+unfoldable pub words_text : Style → ℕ → ℕ → List ℕ → List ℕ
+words_text style x y words = pair_text (style_lead style) x (codes "' y='") y ++ (codes "'>" ++ words_end words)
+
+-- the element of words of a style that are fitted to a length
+unfoldable pub fitted_text : Style → ℕ → ℕ → ℕ → List ℕ → List ℕ
+fitted_text style x y length words =
+    pair_text (style_lead style) x (codes "' y='") y
+    ++ (codes "' textLength='" ++ (decimal length ++ (codes "' lengthAdjust='spacingAndGlyphs'>" ++ words_end words)))
+
+-- a hole where the level is punched: a point that a round pen draws
+abbrev pub dot_text : ℕ → ℕ → ℕ → List ℕ
+dot_text level x y = if level == 111 then pair_text (codes "M") x (codes " ") y ++ codes "h0" else []
+
+-- three levels, one below the other
+abbrev pub dots_text : ℕ → ℕ → ℕ → ℕ → ℕ → List ℕ
+dots_text a b c x y = dot_text a x y ++ (dot_text b x (y + 8) ++ dot_text c x (y + 16))
+
+-- the holes of a frame: level 0, the lowest bit, on top, and room for the feed hole between levels 2 and 3
+unfoldable pub holes_text : ℕ → ℕ → ℕ → List ℕ
+holes_text frame x y =
+    dots_text (hole_at frame 1) (hole_at frame 2) (hole_at frame 4) x (y + 7)
+    ++ dots_text (hole_at frame 8) (hole_at frame 16) (hole_at frame 32) x (y + 35)
+
+-- what a frame means, in full, and the end of its title
+unfoldable pub title_end : List ℕ → List ℕ
+title_end word = escaped word ++ codes "</title><path d='"
+
+-- the position of a frame and what it means, in full, for who points at it
+unfoldable pub title_text : ℕ → List ℕ → List ℕ
+title_text at word = count_text (codes "<g><title>") at ++ (codes " " ++ title_end word)
+
+-- the mark below a frame, fitted to its column where it is long
+abbrev pub mark_text : Style → ℕ → ℕ → List ℕ → List ℕ
+mark_text style x y word = if nat_le 4 (length word) then fitted_text style x y 17 word else words_text style x y word
+
+-- a frame: its title, its holes, and below them its mark
+abbrev pub frame_text : ℕ → ℕ → ℕ → ℕ → Option Meaning → List ℕ
+frame_text x y at frame meaning =
+    (title_text at (meaning_word meaning) ++ (holes_text frame x y ++ codes "'/>"))
+    ++ (mark_text (mark_style meaning) x (y + 69) (mark_word meaning) ++ codes "</g>\n")
 
 -- the element of a box of this look
 abbrev pub box_lead : Look → List ℕ
-box_lead looks.Matrix = codes "<rect class='matrix' x='"
-box_lead looks.Band = codes "<rect class='band' x='"
-box_lead looks.Space = codes "<rect class='space' x='"
-box_lead looks.Blank = codes "<rect class='blank' x='"
+box_lead looks.Matrix = codes "<rect class='m' x='"
+box_lead looks.Band = codes "<rect class='b' x='"
+box_lead looks.Space = codes "<rect class='s' x='"
+box_lead looks.Blank = codes "<rect class='q' x='"
+box_lead looks.Over = codes "<rect class='v' x='"
 
--- the words of a fault begin or end at their place
-abbrev pub remark_lead : Bool → List ℕ
-remark_lead false = codes "<text class='fault' x='"
-remark_lead true = codes "<text class='fault end' x='"
+-- what begins a group with the number of a line
+unfoldable pub group_text : ℕ → List ℕ
+group_text number = count_text (codes "<g id='line") number ++ codes "'>\n"
 
--- the element of words that are turned by a quarter
-abbrev pub turn_text : ℕ → ℕ → List ℕ
-turn_text x y = pair_text (codes "<text transform='translate(") x (codes ",") y ++ codes ") rotate(90)"
+-- what begins a drawing with the number of a line, that reaches down from an upper edge
+unfoldable pub view_text : ℕ → ℕ → ℕ → List ℕ
+view_text number y height =
+    count_text (codes "<svg id='line") number ++ (pair_text (codes "' viewBox='0 ") y (codes " 840 ") height ++ codes "'>\n")
+
+-- the elements of a line are one group of a document, and one drawing of a page
+abbrev pub open_text : Page → ℕ → ℕ → ℕ → List ℕ
+open_text pages.Svg number y height = group_text number
+open_text pages.Html number y height = view_text number y height
+
+-- the end of a line
+abbrev pub close_text : Page → List ℕ
+close_text pages.Svg = codes "</g>\n"
+close_text pages.Html = codes "</svg>\n"
+
+-- the paper of so many frames
+unfoldable pub sheet_text : ℕ → ℕ → ℕ → List ℕ
+sheet_text x y frames =
+    pair_text (codes "<rect class='p' x='") x (codes "' y='") y ++ (pair_text (codes "' width='") (18 * frames) (codes "' height='") 58 ++ codes "'/>\n")
+
+-- their feed holes: a stroke whose dashes are points
+unfoldable pub feed_text : ℕ → ℕ → ℕ → List ℕ
+feed_text x y frames =
+    pair_text (codes "<path class='d' d='M") (x + 9) (codes " ") (y + 29) ++ (pair_text (codes "h") (18 * frames - 9) (codes "v") 0 ++ codes "'/>\n")
 
 -- the text of an element
-abbrev pub shape_text : Shape → List ℕ
-shape_text (Hole x y) = pair_text (codes "<circle class='hole' cx='") x (codes "' cy='") y ++ codes "' r='7'/>\n"
-shape_text (Feed x y) = pair_text (codes "<circle class='feed' cx='") x (codes "' cy='") y ++ codes "' r='3'/>\n"
-shape_text (Paper x y width) =
-    pair_text (codes "<rect class='paper' x='") x (codes "' y='") y ++ (pair_text (codes "' width='") width (codes "' height='") 140 ++ codes "'/>\n")
+unfoldable pub shape_text : Shape → List ℕ
+shape_text (Paper x y frames) = sheet_text x y frames ++ feed_text x y frames
+shape_text (Frame x y at frame meaning) = frame_text x y at frame meaning
 shape_text (Box look x y width) =
-    pair_text (box_lead look) x (codes "' y='") y ++ (pair_text (codes "' width='") width (codes "' height='") 100 ++ codes "'/>\n")
-shape_text (Mark x y) = pair_text (codes "<rect class='mark' x='") x (codes "' y='") y ++ codes "' width='20' height='148'/>\n"
-shape_text (Upright x y words) = pair_text (codes "<text class='middle' x='") x (codes "' y='") y ++ words_text words
-shape_text (Turned x y words) = turn_text x y ++ words_text words
-shape_text (Caption x y words) = pair_text (codes "<text x='") x (codes "' y='") y ++ words_text words
-shape_text (Remark ends x y words) = pair_text (remark_lead ends) x (codes "' y='") y ++ words_text words
+    pair_text (box_lead look) x (codes "' y='") y ++ (pair_text (codes "' width='") width (codes "' height='") 46 ++ codes "'/>\n")
+shape_text (Bar x y) = pair_text (codes "<rect class='k' x='") x (codes "' y='") y ++ codes "' width='720' height='46'/>\n"
+shape_text (Gap x y width) =
+    pair_text (codes "<rect class='a' x='") x (codes "' y='") y ++ (pair_text (codes "' width='") width (codes "' height='") 46 ++ codes "'/>\n")
+shape_text (Mark x y) = pair_text (codes "<rect class='f' x='") x (codes "' y='") y ++ codes "' width='18' height='74'/>\n"
+shape_text (Words style x y words) = words_text style x y words
+shape_text (Fitted style x y length words) = fitted_text style x y length words
+shape_text (Open page number y height) = open_text page number y height
+shape_text (Close page) = close_text page
 
 -- the text of elements, one after the other
 abbrev pub text_of : List Shape → List ℕ

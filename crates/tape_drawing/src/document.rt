@@ -1,311 +1,410 @@
 //! The document of a drawing.
 
-ghost use Rattle.std.specs.Prelude.{◌≡◌, ◌++◌, ◌≤◌, Err, ◌^◌, OnOk, OnErr, IfOk, IfErr, length, codes};
-ghost use Rattle.std.specs.Io.KnownBytes.{Appends};
+ghost use Rattle.std.specs.Prelude.{◌≡◌, ◌++◌, ◌≤◌, ◌^◌, OnOk, IfOk, length, codes, decimal};
+ghost use Rattle.tape_frames.specs.Frames.{IsTape};
 ghost use Rattle.code_table.specs.Tables.{mean};
-ghost use Rattle.line_check.specs.Galley.{galley_of};
-ghost use Rattle.streams.specs.Fronts.{AppendsFront};
+ghost use Rattle.line_fit.specs.Fitting.{Fits, first_told, fault_in};
+ghost use Rattle.line_check.specs.Laws.{AddsUp};
+ghost use Rattle.slug_reader.specs.Positions.{first, or_else};
 ghost use Rattle.tape_drawing.specs.Shapes.{text_of, escaped};
-ghost use Rattle.tape_drawing.specs.Slugs.{slugs_from};
-ghost use Rattle.tape_drawing.specs.Document.{slugs_top, height_of, mark_shapes, drawing_shapes, style_text, svg_lead, head_text, svg_text, page_head, told_words, galley_lead, told_text, page_text, document_text};
-ghost use Rattle.tape_drawing.specs.declared.document.DrawFault.TheVariants.{OutOfMemory};
+ghost use Rattle.tape_drawing.specs.Layout.{after, first_spot, IsWithin, AreLines};
+ghost use Rattle.tape_drawing.specs.Lines.{tape_shapes};
+ghost use Rattle.tape_drawing.specs.Document.{Called, called, title_words, rest_lines, rest_faults, counted, tape_counts, line_counts, counted_words, height_of, style_text, svg_open, svg_styled, svg_style, svg_head, head_shapes, fault_link, page_styled, page_look, page_titled, page_open, page_told, page_head, page_text, document_text, IsDrawing};
 
-use crate::casting::Casting;
-use crate::elements::add_pair;
+use crate::elements::{Place, Style, add_count, add_number, add_pair, add_words};
 use crate::escaping::add_escaped;
-use crate::frames::{add_fault, add_frames};
-use crate::slugs::add_slugs;
+use crate::layout::{Spot, after, type_size};
+use crate::lines::{Plan, add_tape, fault_in, rest_height};
+use crate::page::Page;
+use crate::texts::{
+    first_legend, page_lead, page_legend, page_main, page_style_end, second_legend, style_head,
+    style_tail, svg_lead, svg_style_end,
+};
 use code_table::CodeTable;
-use line_check::{SetFault, Slug, galley};
+use line_check::SetFault;
+use line_check::laws::adds_up;
+use line_fit::{Fitting, LineFit, fit};
 use std::alloc::{AllocError, Global};
-use std::io::Write;
-use streams::put_all;
 use tape_frames::Tape;
+use widths::Widths;
 
-/// What a drawing is written as.
-#[derive(Clone, Copy, PartialEq, Eq)]
-pub enum Page {
-    /// One document in SVG 1.1.
-    Svg,
-    /// A page in HTML with the same drawing, the fault in words and the galley as text.
-    Html,
+/// What a tape, its table and its widths are called.
+#[derive(Clone, Copy)]
+pub struct Names<'a> {
+    pub tape: &'a str,
+    pub table: &'a str,
+    pub widths: &'a str,
 }
 
-/// Why a drawing is not written.
-#[derive(Clone, Copy, PartialEq, Eq)]
-pub enum DrawFault {
-    /// The writer took less than all of it.
-    CannotWrite,
-    /// There was no memory for it.
-    OutOfMemory,
+/// What is to be drawn: a tape by a table and widths, with their names, and as what it is written.
+#[derive(Clone, Copy)]
+pub struct Order<'a> {
+    pub table: &'a CodeTable,
+    pub widths: &'a Widths,
+    pub tape: &'a Tape,
+    pub names: Names<'a>,
+    pub page: Page,
 }
 
-impl From<AllocError> for DrawFault {
-    ghost from_gives = { λ _ e. e ≡ OutOfMemory };
+/// The drawing of a tape.
+#[derive(Drop)]
+pub struct Drawing {
+    /// Its document.
+    pub text: Vec<u8>,
+    /// The first fault for which the tape does not set.
+    pub fault: Option<SetFault>,
+}
 
-    fn from(_e: AllocError) -> DrawFault {
-        DrawFault::OutOfMemory
+/// What the head counts.
+#[derive(Clone, Copy)]
+struct Counts {
+    measure: u64,
+    frames: u64,
+    lines: u64,
+    slugs: u64,
+    faults: u64,
+}
+
+/// What the head of a document shows.
+#[derive(Clone, Copy)]
+struct Heading<'a> {
+    title: &'a [u8],
+    counts: &'a [u8],
+    /// The size of the type.
+    size: u64,
+    height: u64,
+    faults: u64,
+}
+
+/// The title: what is drawn, and what it is set by.
+fn title_words(alloc: Global, names: &Names<'_>) -> Result<Vec<u8>, AllocError>
+    ensures { IfOk result (λ words. words.items ≡ title_words (called names.now.tape.now names.now.table.now names.now.widths.now)) }
+{
+    let mut words = Vec::new(alloc);
+    words.extend_from_slice(names.tape.as_bytes())?;
+    words.extend_from_slice(b", set by ")?;
+    words.extend_from_slice(names.table.as_bytes())?;
+    words.extend_from_slice(b" and ")?;
+    words.extend_from_slice(names.widths.as_bytes())?;
+    Ok(words)
+}
+
+/// One, where there are frames behind the last elevate code.
+fn rest_lines(from: u64, frames: u64) -> u64
+    ensures value { result ≡ rest_lines from frames }
+    ensures small { result ≤ 1 }
+{
+    if from < frames { 1 } else { 0 }
+}
+
+/// One, where there is a fault.
+fn rest_faults(fault: Option<SetFault>) -> u64
+    ensures value { result ≡ rest_faults fault }
+    ensures small { result ≤ 1 }
+{
+    match fault {
+        Some(_) => 1,
+        None => 0,
     }
 }
 
-/// What stands between the height of a document and its elements: its title, the hatching, and how its elements look.
+/// What is counted of a tape of so many frames whose lines end here.
+fn counted(measure: u16, frames: u64, end: Spot, rest: Option<SetFault>) -> Counts
+    requires { (1 ≤ end.number) × (end.number ≤ 2 ^ 40) × (1 ≤ end.slug) × (end.faults ≤ 2 ^ 40) }
+    ensures { result ≡ counted measure frames end rest }
+{
+    Counts {
+        measure: u64::from(measure),
+        frames,
+        lines: end.number - 1 + rest_lines(end.from, frames),
+        slugs: end.slug - 1,
+        faults: end.faults + rest_faults(rest),
+    }
+}
+
+/// Adds what is counted of the tape.
+#[tactic(auto, unfolding(crate::specs::Document::tape_counts))]
+fn add_tape_counts(words: &mut Vec<u8>, counts: Counts) -> Result<(), AllocError>
+    ensures { OnOk result (words.new.items ≡ words.old.items ++ tape_counts counts) }
+{
+    add_count(words, "measure ", counts.measure)?;
+    add_count(words, " | frames ", counts.frames)
+}
+
+/// Adds what is counted of its lines.
+#[tactic(auto, unfolding(crate::specs::Document::line_counts))]
+fn add_line_counts(words: &mut Vec<u8>, counts: Counts) -> Result<(), AllocError>
+    ensures { OnOk result (words.new.items ≡ words.old.items ++ line_counts counts) }
+{
+    add_count(words, " | lines ", counts.lines)?;
+    add_count(words, " | slugs ", counts.slugs)?;
+    add_count(words, " | lines that do not set ", counts.faults)
+}
+
+/// How it is told.
+fn counted_words(alloc: Global, counts: Counts) -> Result<Vec<u8>, AllocError>
+    ensures { IfOk result (λ words. words.items ≡ counted_words counts) }
+{
+    let mut words = Vec::new(alloc);
+    add_tape_counts(&mut words, counts)?;
+    add_line_counts(&mut words, counts)?;
+    Ok(words)
+}
+
+/// How far the drawing reaches down.
+fn height_of(frames: u64, end: Spot) -> u64
+    requires { (frames ≤ 2 ^ 30) × (end.top ≤ 2 ^ 40) }
+    ensures { result ≡ height_of frames end }
+{
+    if end.from < frames {
+        end.top + rest_height(frames - end.from)
+    } else {
+        end.top
+    }
+}
+
+/// Adds how what is drawn looks, with type of this size.
 #[tactic(auto, unfolding(crate::specs::Document::style_text))]
-fn style() -> &'static str
-    ensures { result.now ≡ style_text }
+fn add_style(text: &mut Vec<u8>, size: u64) -> Result<(), AllocError>
+    ensures { OnOk result (text.new.items ≡ text.old.items ++ style_text size) }
 {
-    "\
-'>\n\
-<title>A tape and its slugs</title>\n\
-<defs><pattern id='hatch' width='6' height='6' patternUnits='userSpaceOnUse'><path d='M0 6L6 0' stroke='black'/></pattern></defs>\n\
-<style type='text/css'>\n\
-@page { size: 840px 1120px; margin: 0; }\n\
-text { font-family: monospace; font-size: 12px; }\n\
-.middle { text-anchor: middle; }\n\
-.end { text-anchor: end; }\n\
-.paper, .matrix { fill: white; stroke: black; }\n\
-.hole { fill: black; }\n\
-.feed { fill: white; stroke: black; }\n\
-.band { fill: #dddddd; stroke: black; }\n\
-.space { fill: white; stroke: black; stroke-dasharray: 3 3; }\n\
-.blank { fill: url(#hatch); stroke: black; }\n\
-.mark { fill: none; stroke: #cc0000; stroke-width: 4; }\n\
-.fault { fill: #cc0000; font-weight: bold; }\n\
-</style>\n\
-"
+    text.extend_from_slice(style_head().as_bytes())?;
+    add_number(text, size)?;
+    text.extend_from_slice(style_tail().as_bytes())
 }
 
-/// What begins a page, as far as the words of its fault.
-#[tactic(auto, unfolding(crate::specs::Document::page_head))]
-fn page_head() -> &'static str
-    ensures { result.now ≡ page_head }
-{
-    "\
-<!DOCTYPE html>\n\
-<html lang='en'>\n\
-<head>\n\
-<meta charset='utf-8'>\n\
-<title>A tape and its slugs</title>\n\
-<style>\n\
-body { width: 840px; margin: 0 auto; font-family: sans-serif; }\n\
-h1, h2, p, pre { margin: 20px; }\n\
-pre { white-space: pre-wrap; }\n\
-svg { display: block; break-before: page; }\n\
-</style>\n\
-</head>\n\
-<body>\n\
-<h1>A tape and its slugs</h1>\n\
-<p>"
-}
-
-/// The element of a document, as far as its height.
-#[tactic(auto, unfolding(crate::specs::Document::svg_lead))]
-fn svg_lead() -> &'static str
-    ensures { result.now ≡ svg_lead }
-{
-    "<svg xmlns='http://www.w3.org/2000/svg' version='1.1' width='840' height='"
-}
-
-/// The line of the document below which the slugs stand.
-fn slugs_top(tape: &Tape) -> u64
-    ensures value { result ≡ slugs_top (length tape.now) }
-    ensures small { result ≤ 2 ^ 20 }
-{
-    let frames = tape.frames().len();
-    280 * (frames as u64 / 40 + 1)
-}
-
-/// The height of the document.
-fn height_of(tape: &Tape, casting: &Casting) -> u64
-    ensures { result ≡ height_of (length tape.now) (length casting.now.slugs) }
-{
-    let slugs = casting.slugs().len() as u64;
-    slugs_top(tape) + 140 * slugs
-}
-
-/// Adds the title, the hatching, and how the elements look.
-fn add_style(text: &mut Vec<u8>) -> Result<(), AllocError>
-    ensures { OnOk result (text.new.items ≡ text.old.items ++ style_text) }
-{
-    text.extend_from_slice(style().as_bytes())
-}
-
-/// Adds what begins a document of this height.
-fn add_head(text: &mut Vec<u8>, height: u64) -> Result<(), AllocError>
-    ensures { OnOk result (text.new.items ≡ text.old.items ++ head_text height) }
+/// Adds what begins a document of this height with this title.
+#[tactic(auto, unfolding(crate::specs::Document::svg_open))]
+fn add_svg_open(text: &mut Vec<u8>, height: u64, title: &[u8]) -> Result<(), AllocError>
+    ensures { OnOk result (text.new.items ≡ text.old.items ++ svg_open height title.now) }
 {
     add_pair(text, svg_lead(), height, "' viewBox='0 0 840 ", height)?;
-    add_style(text)
+    text.extend_from_slice(b"'>\n<title>")?;
+    add_escaped(text, title)?;
+    text.extend_from_slice(b"</title>\n")
 }
 
-/// Adds the slugs that were cast, below this line.
-fn add_cast(text: &mut Vec<u8>, casting: &Casting, top: u64) -> Result<(), AllocError>
-    requires { top ≤ 2 ^ 58 }
-    ensures { OnOk result (text.new.items ≡ text.old.items ++ text_of (slugs_from casting.now.measure top 0 casting.now.slugs)) }
+/// Adds how a document looks, and its ground.
+#[tactic(auto, unfolding(crate::specs::Document::svg_styled))]
+fn add_svg_styled(text: &mut Vec<u8>, size: u64) -> Result<(), AllocError>
+    ensures { OnOk result (text.new.items ≡ text.old.items ++ svg_styled size) }
 {
-    add_slugs(text, casting.measure(), top, casting.slugs())
+    add_style(text, size)?;
+    text.extend_from_slice(svg_style_end().as_bytes())
 }
 
-/// Adds the mark of a fault, if there is one.
-fn add_mark_of(text: &mut Vec<u8>, fault: Option<SetFault>, words: &str) -> Result<(), AllocError>
-    ensures { OnOk result (text.new.items ≡ text.old.items ++ text_of (mark_shapes fault words.now)) }
+/// Adds how a document looks, behind what begins its style.
+#[tactic(auto, unfolding(crate::specs::Document::svg_style))]
+fn add_svg_style(text: &mut Vec<u8>, size: u64) -> Result<(), AllocError>
+    ensures { OnOk result (text.new.items ≡ text.old.items ++ svg_style size) }
 {
-    match fault {
-        Some(fault) => add_fault(text, fault.at, words.as_bytes()),
-        None => Ok(()),
+    text.extend_from_slice(b"<style type='text/css'>\n")?;
+    add_svg_styled(text, size)
+}
+
+/// Adds the head of a document: its title, what is counted, and what the marks stand for.
+fn add_head(text: &mut Vec<u8>, title: &[u8], counts: &[u8]) -> Result<(), AllocError>
+    ensures { OnOk result (text.new.items ≡ text.old.items ++ text_of (head_shapes title.now counts.now)) }
+{
+    let legend = first_legend().as_bytes();
+    let others = second_legend().as_bytes();
+    add_words(text, Style::Heading, Place { x: 20, y: 30 }, title)?;
+    add_words(text, Style::Head, Place { x: 20, y: 50 }, counts)?;
+    add_words(text, Style::Head, Place { x: 20, y: 70 }, legend)?;
+    add_words(text, Style::Head, Place { x: 20, y: 86 }, others)
+}
+
+/// Adds a document in SVG as far as its lines.
+#[tactic(auto, unfolding(crate::specs::Document::svg_head))]
+fn add_svg_head(text: &mut Vec<u8>, heading: &Heading<'_>) -> Result<(), AllocError>
+    ensures { OnOk result (text.new.items ≡ text.old.items
+        ++ svg_head heading.now.height heading.now.title.now heading.now.counts.now heading.now.size) }
+{
+    add_svg_open(text, heading.height, heading.title)?;
+    add_svg_style(text, heading.size)?;
+    add_head(text, heading.title, heading.counts)
+}
+
+/// Adds what leads to the first line that does not set, where there is one.
+fn add_link(text: &mut Vec<u8>, faults: u64) -> Result<(), AllocError>
+    ensures { OnOk result (text.new.items ≡ text.old.items ++ fault_link faults) }
+{
+    if faults == 0 {
+        return Ok(());
     }
+    text.extend_from_slice(b"<p><a href='#fault'>The first line that does not set</a></p>\n")
 }
 
-/// Adds all that is drawn.
-#[tactic(auto, using(crate::proofs::Sequences::text_append))]
-fn add_drawing(
+/// Adds how a page looks, and what begins its heading.
+#[tactic(auto, unfolding(crate::specs::Document::page_styled))]
+fn add_page_styled(text: &mut Vec<u8>, size: u64) -> Result<(), AllocError>
+    ensures { OnOk result (text.new.items ≡ text.old.items ++ page_styled size) }
+{
+    add_style(text, size)?;
+    text.extend_from_slice(page_style_end().as_bytes())
+}
+
+/// Adds the end of the title of a page, and how it looks.
+#[tactic(auto, unfolding(crate::specs::Document::page_look))]
+fn add_page_look(text: &mut Vec<u8>, size: u64) -> Result<(), AllocError>
+    ensures { OnOk result (text.new.items ≡ text.old.items ++ page_look size) }
+{
+    text.extend_from_slice(b"</title>\n<style>\n")?;
+    add_page_styled(text, size)
+}
+
+/// Adds what begins a page, with its title.
+#[tactic(auto, unfolding(crate::specs::Document::page_titled))]
+fn add_page_title(text: &mut Vec<u8>, title: &[u8]) -> Result<(), AllocError>
+    ensures { OnOk result (text.new.items ≡ text.old.items ++ page_titled title.now) }
+{
+    text.extend_from_slice(page_lead().as_bytes())?;
+    add_escaped(text, title)
+}
+
+/// Adds what begins a page with this title, and how it looks.
+#[tactic(auto, unfolding(crate::specs::Document::page_open))]
+fn add_page_open(text: &mut Vec<u8>, title: &[u8], size: u64) -> Result<(), AllocError>
+    ensures { OnOk result (text.new.items ≡ text.old.items ++ page_open title.now size) }
+{
+    add_page_title(text, title)?;
+    add_page_look(text, size)
+}
+
+/// Adds the heading of a page, and what is counted.
+fn add_page_counts(text: &mut Vec<u8>, title: &[u8], counts: &[u8]) -> Result<(), AllocError>
+    ensures { OnOk result (text.new.items ≡ text.old.items
+        ++ (escaped title.now ++ (codes "</h1>\n<p>" ++ (escaped counts.now ++ codes "</p>\n")))) }
+{
+    add_escaped(text, title)?;
+    text.extend_from_slice(b"</h1>\n<p>")?;
+    add_escaped(text, counts)?;
+    text.extend_from_slice(b"</p>\n")
+}
+
+/// Adds what a page tells before its drawings.
+#[tactic(auto, unfolding(crate::specs::Document::page_told))]
+fn add_page_told(text: &mut Vec<u8>, heading: &Heading<'_>) -> Result<(), AllocError>
+    ensures { OnOk result (text.new.items ≡ text.old.items ++ page_told heading.now.title.now heading.now.counts.now heading.now.faults) }
+{
+    add_page_counts(text, heading.title, heading.counts)?;
+    text.extend_from_slice(page_legend().as_bytes())?;
+    add_link(text, heading.faults)?;
+    text.extend_from_slice(page_main().as_bytes())
+}
+
+/// Adds all of a page as far as its lines.
+#[tactic(auto, unfolding(crate::specs::Document::page_head))]
+fn add_page_head(text: &mut Vec<u8>, heading: &Heading<'_>) -> Result<(), AllocError>
+    ensures { OnOk result (text.new.items ≡ text.old.items
+        ++ page_head heading.now.title.now heading.now.counts.now heading.now.size heading.now.faults) }
+{
+    add_page_open(text, heading.title, heading.size)?;
+    add_page_told(text, heading)
+}
+
+/// Adds the document of a tape whose lines fit so.
+fn add_document(
     text: &mut Vec<u8>,
-    table: &CodeTable,
-    tape: &Tape,
-    casting: &Casting,
-    words: &str,
+    plan: &Plan<'_>,
+    fitting: &Fitting,
+    heading: &Heading<'_>,
 ) -> Result<(), AllocError>
-    ensures { OnOk result (text.new.items ≡ text.old.items ++ text_of (drawing_shapes (mean table.now) tape.now casting.now words.now)) }
+    requires tape { IsTape plan.now.tape.now }
+    requires lines { AreLines plan.now.widths.now.measure (length plan.now.tape.now) 0 fitting.now.lines.items }
+    ensures { OnOk result (text.new.items ≡ text.old.items
+        ++ page_text plan.now.page (text_of (tape_shapes plan.now.page (mean plan.now.table.now) plan.now.widths.now plan.now.tape.now fitting.now))
+        heading.now.height heading.now.title.now heading.now.counts.now heading.now.size heading.now.faults) }
 {
-    add_frames(text, table, tape)?;
-    add_mark_of(text, casting.fault(), words)?;
-    add_cast(text, casting, slugs_top(tape))
-}
-
-/// Adds the document in SVG.
-fn add_svg(
-    text: &mut Vec<u8>,
-    table: &CodeTable,
-    tape: &Tape,
-    casting: &Casting,
-    words: &str,
-) -> Result<(), AllocError>
-    ensures { OnOk result (text.new.items ≡ text.old.items ++ svg_text (mean table.now) tape.now casting.now words.now) }
-{
-    add_head(text, height_of(tape, casting))?;
-    add_drawing(text, table, tape, casting, words)?;
-    text.extend_from_slice(b"</svg>\n")
-}
-
-/// The text of a galley.
-fn galley_text(alloc: Global, slugs: &[Slug]) -> Result<Vec<u8>, DrawFault>
-    ensures ok { IfOk result (λ text. text.items ≡ galley_of slugs.now) }
-    ensures err { IfErr result (λ e. e ≡ OutOfMemory) }
-{
-    let mut text = Vec::new(alloc);
-    match galley(slugs, &mut text) {
-        Ok(()) => Ok(text),
-        Err(_) => Err(DrawFault::OutOfMemory),
-    }
-}
-
-/// The words of a fault, or that there is none.
-fn told_words<'a>(fault: Option<SetFault>, words: &'a str) -> &'a str
-    ensures { result.now ≡ told_words fault words.now }
-{
-    match fault {
-        Some(_) => words,
-        None => "The tape sets.",
-    }
-}
-
-/// Adds what begins a page, and the words of a fault.
-fn add_words_of(text: &mut Vec<u8>, fault: Option<SetFault>, words: &str) -> Result<(), AllocError>
-    ensures { OnOk result (text.new.items ≡ text.old.items ++ (page_head ++ escaped (told_words fault words.now))) }
-{
-    text.extend_from_slice(page_head().as_bytes())?;
-    add_escaped(text, told_words(fault, words).as_bytes())
-}
-
-/// What stands between the words of a fault and a galley.
-#[tactic(auto, unfolding(crate::specs::Document::galley_lead))]
-fn galley_lead() -> &'static str
-    ensures { result.now ≡ galley_lead }
-{
-    "</p>\n<h2>Galley</h2>\n<pre>\n"
-}
-
-/// Adds a galley, which is handed in as text.
-fn add_galley(text: &mut Vec<u8>, galley: &[u8]) -> Result<(), AllocError>
-    ensures { OnOk result (text.new.items ≡ text.old.items ++ (galley_lead ++ (escaped galley.now ++ codes "</pre>\n"))) }
-{
-    text.extend_from_slice(galley_lead().as_bytes())?;
-    add_escaped(text, galley)?;
-    text.extend_from_slice(b"</pre>\n")
-}
-
-/// Adds what a page has before the drawing.
-fn add_told(
-    text: &mut Vec<u8>,
-    casting: &Casting,
-    words: &str,
-    galley: &[u8],
-) -> Result<(), AllocError>
-    requires { galley.now ≡ galley_of casting.now.slugs }
-    ensures { OnOk result (text.new.items ≡ text.old.items ++ told_text casting.now words.now) }
-{
-    add_words_of(text, casting.fault(), words)?;
-    add_galley(text, galley)
-}
-
-/// Adds the page in HTML; the galley is handed in as text.
-fn add_page(
-    text: &mut Vec<u8>,
-    table: &CodeTable,
-    tape: &Tape,
-    casting: &Casting,
-    words: &str,
-    galley: &[u8],
-) -> Result<(), AllocError>
-    requires { galley.now ≡ galley_of casting.now.slugs }
-    ensures { OnOk result (text.new.items ≡ text.old.items ++ page_text (mean table.now) tape.now casting.now words.now) }
-{
-    add_told(text, casting, words, galley)?;
-    add_svg(text, table, tape, casting, words)?;
-    text.extend_from_slice(b"</body>\n</html>\n")
-}
-
-/// The text of a document.
-fn document_text(
-    alloc: Global,
-    table: &CodeTable,
-    tape: &Tape,
-    casting: &Casting,
-    words: &str,
-    page: Page,
-) -> Result<Vec<u8>, DrawFault>
-    ensures ok { IfOk result (λ text. text.items ≡ document_text page (mean table.now) tape.now casting.now words.now) }
-    ensures err { IfErr result (λ e. e ≡ OutOfMemory) }
-{
-    let mut text = Vec::new(alloc);
-    match page {
-        Page::Svg => add_svg(&mut text, table, tape, casting, words)?,
+    match plan.page {
+        Page::Svg => {
+            add_svg_head(text, heading)?;
+            add_tape(text, plan, fitting)?;
+            text.extend_from_slice(b"</svg>\n")
+        }
         Page::Html => {
-            let galley = galley_text(alloc, casting.slugs())?;
-            add_page(&mut text, table, tape, casting, words, &galley)?;
+            add_page_head(text, heading)?;
+            add_tape(text, plan, fitting)?;
+            text.extend_from_slice(b"</main>\n</body>\n</html>\n")
         }
     }
+}
+
+/// The first fault of lines.
+#[tactic(auto, using(crate::proofs::Firsts::first_found, crate::proofs::Firsts::first_none))]
+fn first_in(lines: &[LineFit]) -> Option<SetFault>
+    ensures { result ≡ first (λ fit. fault_in fit.verdict) lines.now }
+{
+    for line in lines {
+        match fault_in(&line.verdict) {
+            Some(fault) => return Some(fault),
+            None => {}
+        }
+    }
+    None
+}
+
+/// The first of two faults: the second where there is no first.
+fn told(first: Option<SetFault>, rest: Option<SetFault>) -> Option<SetFault>
+    ensures { result ≡ or_else first rest }
+{
+    match first {
+        Some(fault) => Some(fault),
+        None => rest,
+    }
+}
+
+/// The first fault that a fitting tells.
+fn first_told(fitting: &Fitting) -> Option<SetFault>
+    ensures { result ≡ first_told fitting.now }
+{
+    told(first_in(&fitting.lines), fitting.rest)
+}
+
+/// The document of a tape whose lines fit so.
+fn document_of(plan: &Plan<'_>, names: &Names<'_>, fitting: &Fitting) -> Result<Vec<u8>, AllocError>
+    requires tape { IsTape plan.now.tape.now }
+    requires lines { AreLines plan.now.widths.now.measure (length plan.now.tape.now) 0 fitting.now.lines.items }
+    ensures { IfOk result (λ text. text.items ≡ document_text plan.now.page (mean plan.now.table.now) plan.now.widths.now plan.now.tape.now
+        (called names.now.tape.now names.now.table.now names.now.widths.now) fitting.now) }
+{
+    let frames = plan.tape.len();
+    let measure = plan.widths.measure();
+    let end = after(&fitting.lines, u64::from(measure), frames);
+    let counts = counted(measure, frames as u64, end, fitting.rest);
+    let title = title_words(plan.alloc, names)?;
+    let words = counted_words(plan.alloc, counts)?;
+    let heading = Heading {
+        title: &title,
+        counts: &words,
+        size: type_size(plan.widths),
+        height: height_of(frames as u64, end),
+        faults: counts.faults,
+    };
+    let mut text = Vec::new(plan.alloc);
+    add_document(&mut text, plan, fitting, &heading)?;
     Ok(text)
 }
 
-/// Draws a tape and what was cast of it, with the words of its fault, if it has one.
+/// Draws a tape, whatever is wrong with it, and answers its document with the first fault for which it does not set.
 ///
-/// `OutOfMemory` comes before anything is written. Where the writer fails, it has a front of the document.
-pub fn put_drawing<W: Write>(
-    alloc: Global,
-    table: &CodeTable,
-    tape: &Tape,
-    casting: &Casting,
-    words: &str,
-    page: Page,
-    out: &mut W,
-) -> Result<(), DrawFault>
-    ensures ok { OnOk result (Appends (W.contents out.old) (W.contents out.new) (document_text page (mean table.now) tape.now casting.now words.now)) }
-    ensures err { OnErr result (AppendsFront (W.contents out.old) (W.contents out.new) (document_text page (mean table.now) tape.now casting.now words.now)) }
-    ensures memory { result ≡ Err OutOfMemory → out.new ≡ out.old }
+/// Each line is drawn, one that does not set as it would be cast.
+pub fn draw_tape(alloc: Global, order: &Order<'_>) -> Result<Drawing, AllocError>
+    ensures { IfOk result (λ d. IsDrawing order.now.page (mean order.now.table.now) order.now.widths.now order.now.tape.now
+        (called order.now.names.tape.now order.now.names.table.now order.now.names.widths.now) d.text.items d.fault) }
 {
-    let text = document_text(alloc, table, tape, casting, words, page)?;
-    match put_all(out, &text) {
-        Ok(()) => Ok(()),
-        Err(_) => Err(DrawFault::CannotWrite),
-    }
+    adds_up();
+    let fitting = fit(alloc, order.table, order.widths, order.tape)?;
+    let plan = Plan {
+        alloc,
+        page: order.page,
+        table: order.table,
+        widths: order.widths,
+        tape: order.tape.frames(),
+    };
+    let text = document_of(&plan, &order.names, &fitting)?;
+    Ok(Drawing {
+        text,
+        fault: first_told(&fitting),
+    })
 }

@@ -1,13 +1,15 @@
 //! The elements of a drawing, each added to its text.
 
-ghost use Rattle.std.specs.Prelude.{◌≡◌, ◌++◌, OnOk};
-ghost use Rattle.tape_drawing.specs.Shapes.{pair_text, words_text, box_lead, remark_lead, turn_text, shape_text, Hole, Feed, Paper, Box, Mark, Upright, Turned, Caption, Remark};
+ghost use Rattle.std.specs.Prelude.{◌≡◌, ◌≤◌, ◌<◌, ◌++◌, ◌^◌, OnOk, decimal, codes};
+ghost use Rattle.tape_drawing.specs.Styles.{style_lead};
+ghost use Rattle.tape_drawing.specs.Shapes.{pair_text, count_text, words_end, sheet_text, feed_text, box_lead, group_text, view_text, shape_text, Paper, Box, Bar, Gap, Mark, Words, Fitted, Open, Close};
 
 use crate::escaping::add_escaped;
+use crate::page::Page;
 use itoa::Buffer;
 use std::alloc::AllocError;
 
-/// How a piece of a slug is drawn.
+/// How a piece of a line is drawn.
 #[derive(Clone, Copy, PartialEq, Eq)]
 pub enum Look {
     /// A matrix.
@@ -16,8 +18,51 @@ pub enum Look {
     Band,
     /// A fixed space.
     Space,
-    /// The blank beside the pieces.
+    /// The blank beside the pieces of a quadded line.
     Blank,
+    /// What runs over the measure.
+    Over,
+}
+
+/// How words look.
+#[derive(Clone, Copy, PartialEq, Eq)]
+pub enum Style {
+    /// The name of a matrix, below its frame.
+    Letter,
+    /// The two letters of a function, there too.
+    Function,
+    /// The question mark of a frame that means nothing.
+    Unknown,
+    /// The position of a frame.
+    Position,
+    /// The number of a line.
+    Line,
+    /// That of one which does not set.
+    Faulty,
+    /// That of the first of these.
+    FirstFaulty,
+    /// The number of a slug and its kind.
+    Kind,
+    /// What is said of a line that is not drawn.
+    Note,
+    /// What is wrong with a line of which nothing is drawn.
+    Fault,
+    /// What is wrong with a line, at its right end.
+    Behind,
+    /// Type, of the lower rail.
+    Type,
+    /// Type of the upper rail.
+    Upper,
+    /// Type that runs over the measure.
+    Over,
+    /// The same of the upper rail.
+    UpperOver,
+    /// The width of a band or a space.
+    Width,
+    /// What is drawn, in the head.
+    Heading,
+    /// The other lines of the head.
+    Head,
 }
 
 /// Where an element stands: whole user units to the right and down.
@@ -25,6 +70,37 @@ pub enum Look {
 pub struct Place {
     pub x: u64,
     pub y: u64,
+}
+
+/// Where words stand that are fitted to a length.
+#[derive(Clone, Copy)]
+pub struct Room {
+    pub at: Place,
+    pub length: u64,
+}
+
+/// From where to where a line reaches down.
+#[derive(Clone, Copy)]
+pub struct Extent {
+    pub top: u64,
+    pub height: u64,
+}
+
+/// Adds a number.
+pub fn add_number(text: &mut Vec<u8>, number: u64) -> Result<(), AllocError>
+    ensures { OnOk result (text.new.items ≡ text.old.items ++ decimal number) }
+{
+    let mut digits = Buffer::new();
+    text.extend_from_slice(digits.format(number).as_bytes())
+}
+
+/// Adds a number behind what leads to it.
+#[tactic(auto, unfolding(crate::specs::Shapes::count_text))]
+pub fn add_count(text: &mut Vec<u8>, lead: &str, number: u64) -> Result<(), AllocError>
+    ensures { OnOk result (text.new.items ≡ text.old.items ++ count_text lead.now number) }
+{
+    text.extend_from_slice(lead.as_bytes())?;
+    add_number(text, number)
 }
 
 /// Adds two numbers, each behind the name of its attribute.
@@ -44,37 +120,45 @@ pub fn add_pair(
     text.extend_from_slice(digits.format(down).as_bytes())
 }
 
-/// Adds a hole by its center.
-pub fn add_hole(text: &mut Vec<u8>, at: Place) -> Result<(), AllocError>
-    ensures { OnOk result (text.new.items ≡ text.old.items ++ shape_text (Hole at.x at.y)) }
+/// Adds the paper of so many frames.
+#[tactic(auto, unfolding(crate::specs::Shapes::sheet_text))]
+fn add_sheet(text: &mut Vec<u8>, at: Place, frames: u64) -> Result<(), AllocError>
+    requires { frames ≤ 40 }
+    ensures { OnOk result (text.new.items ≡ text.old.items ++ sheet_text at.x at.y frames) }
 {
-    add_pair(text, "<circle class='hole' cx='", at.x, "' cy='", at.y)?;
-    text.extend_from_slice(b"' r='7'/>\n")
-}
-
-/// Adds a feed hole by its center.
-pub fn add_feed(text: &mut Vec<u8>, at: Place) -> Result<(), AllocError>
-    ensures { OnOk result (text.new.items ≡ text.old.items ++ shape_text (Feed at.x at.y)) }
-{
-    add_pair(text, "<circle class='feed' cx='", at.x, "' cy='", at.y)?;
-    text.extend_from_slice(b"' r='3'/>\n")
-}
-
-/// Adds the paper of a row of frames.
-pub fn add_paper(text: &mut Vec<u8>, at: Place, width: u64) -> Result<(), AllocError>
-    ensures { OnOk result (text.new.items ≡ text.old.items ++ shape_text (Paper at.x at.y width)) }
-{
-    add_pair(text, "<rect class='paper' x='", at.x, "' y='", at.y)?;
-    add_pair(text, "' width='", width, "' height='", 140)?;
+    add_pair(text, "<rect class='p' x='", at.x, "' y='", at.y)?;
+    add_pair(text, "' width='", 18 * frames, "' height='", 58)?;
     text.extend_from_slice(b"'/>\n")
 }
 
-/// Adds the heavy outline of a faulty frame.
+/// Adds their feed holes.
+#[tactic(auto, unfolding(crate::specs::Shapes::feed_text))]
+fn add_feed(text: &mut Vec<u8>, at: Place, frames: u64) -> Result<(), AllocError>
+    requires { (1 ≤ frames) × (frames ≤ 40) × (at.x ≤ 2 ^ 40) × (at.y ≤ 2 ^ 41) }
+    ensures { OnOk result (text.new.items ≡ text.old.items ++ feed_text at.x at.y frames) }
+{
+    add_pair(text, "<path class='d' d='M", at.x + 9, " ", at.y + 29)?;
+    add_pair(text, "h", 18 * frames - 9, "v", 0)?;
+    text.extend_from_slice(b"'/>\n")
+}
+
+/// Adds the paper of a row of so many frames, and its feed holes.
+#[tactic(auto, unfolding(crate::specs::Shapes::shape_text))]
+pub fn add_paper(text: &mut Vec<u8>, at: Place, frames: u64) -> Result<(), AllocError>
+    requires { (1 ≤ frames) × (frames ≤ 40) × (at.x ≤ 2 ^ 40) × (at.y ≤ 2 ^ 41) }
+    ensures { OnOk result (text.new.items ≡ text.old.items ++ shape_text (Paper at.x at.y frames)) }
+{
+    add_sheet(text, at, frames)?;
+    add_feed(text, at, frames)
+}
+
+/// Adds the outline of a faulty frame.
+#[tactic(auto, unfolding(crate::specs::Shapes::shape_text))]
 pub fn add_mark(text: &mut Vec<u8>, at: Place) -> Result<(), AllocError>
     ensures { OnOk result (text.new.items ≡ text.old.items ++ shape_text (Mark at.x at.y)) }
 {
-    add_pair(text, "<rect class='mark' x='", at.x, "' y='", at.y)?;
-    text.extend_from_slice(b"' width='20' height='148'/>\n")
+    add_pair(text, "<rect class='f' x='", at.x, "' y='", at.y)?;
+    text.extend_from_slice(b"' width='18' height='74'/>\n")
 }
 
 /// What begins the element of a box of this look.
@@ -82,78 +166,151 @@ fn box_lead(look: Look) -> &'static str
     ensures { result.now ≡ box_lead look }
 {
     match look {
-        Look::Matrix => "<rect class='matrix' x='",
-        Look::Band => "<rect class='band' x='",
-        Look::Space => "<rect class='space' x='",
-        Look::Blank => "<rect class='blank' x='",
+        Look::Matrix => "<rect class='m' x='",
+        Look::Band => "<rect class='b' x='",
+        Look::Space => "<rect class='s' x='",
+        Look::Blank => "<rect class='q' x='",
+        Look::Over => "<rect class='v' x='",
     }
 }
 
-/// Adds the box of a piece of a slug.
+/// Adds the box of a piece of a line.
+#[tactic(auto, unfolding(crate::specs::Shapes::shape_text))]
 pub fn add_box(text: &mut Vec<u8>, look: Look, at: Place, width: u64) -> Result<(), AllocError>
     ensures { OnOk result (text.new.items ≡ text.old.items ++ shape_text (Box look at.x at.y width)) }
 {
     add_pair(text, box_lead(look), at.x, "' y='", at.y)?;
-    add_pair(text, "' width='", width, "' height='", 100)?;
+    add_pair(text, "' width='", width, "' height='", 46)?;
     text.extend_from_slice(b"'/>\n")
 }
 
-/// Adds words, and ends their element.
-fn add_words(text: &mut Vec<u8>, words: &[u8]) -> Result<(), AllocError>
-    ensures { OnOk result (text.new.items ≡ text.old.items ++ words_text words.now) }
+/// Adds the bar of a slug, as wide as the measure.
+#[tactic(auto, unfolding(crate::specs::Shapes::shape_text))]
+pub fn add_bar(text: &mut Vec<u8>, at: Place) -> Result<(), AllocError>
+    ensures { OnOk result (text.new.items ≡ text.old.items ++ shape_text (Bar at.x at.y)) }
 {
-    text.extend_from_slice(b"'>")?;
+    add_pair(text, "<rect class='k' x='", at.x, "' y='", at.y)?;
+    text.extend_from_slice(b"' width='720' height='46'/>\n")
+}
+
+/// Adds the gap of a loose line.
+#[tactic(auto, unfolding(crate::specs::Shapes::shape_text))]
+pub fn add_gap(text: &mut Vec<u8>, at: Place, width: u64) -> Result<(), AllocError>
+    ensures { OnOk result (text.new.items ≡ text.old.items ++ shape_text (Gap at.x at.y width)) }
+{
+    add_pair(text, "<rect class='a' x='", at.x, "' y='", at.y)?;
+    add_pair(text, "' width='", width, "' height='", 46)?;
+    text.extend_from_slice(b"'/>\n")
+}
+
+/// What begins the element of words of this style.
+fn style_lead(style: Style) -> &'static str
+    ensures { result.now ≡ style_lead style }
+{
+    match style {
+        Style::Letter => "<text x='",
+        Style::Function => "<text class='c' x='",
+        Style::Unknown => "<text class='x' x='",
+        Style::Position => "<text class='n' x='",
+        Style::Line => "<text class='l' x='",
+        Style::Faulty => "<text class='l x' x='",
+        Style::FirstFaulty => "<text id='fault' class='l x' x='",
+        Style::Kind => "<text class='g' x='",
+        Style::Note => "<text class='o' x='",
+        Style::Fault => "<text class='o x' x='",
+        Style::Behind => "<text class='e x' x='",
+        Style::Type => "<text class='t' x='",
+        Style::Upper => "<text class='t u' x='",
+        Style::Over => "<text class='t x' x='",
+        Style::UpperOver => "<text class='t u x' x='",
+        Style::Width => "<text class='w' x='",
+        Style::Heading => "<text class='h' x='",
+        Style::Head => "<text class='i' x='",
+    }
+}
+
+/// Adds words, and ends their element.
+fn add_words_end(text: &mut Vec<u8>, words: &[u8]) -> Result<(), AllocError>
+    ensures { OnOk result (text.new.items ≡ text.old.items ++ words_end words.now) }
+{
     add_escaped(text, words)?;
     text.extend_from_slice(b"</text>\n")
 }
 
-/// Adds words whose middle is at a place.
-pub fn add_upright(text: &mut Vec<u8>, at: Place, words: &[u8]) -> Result<(), AllocError>
-    ensures { OnOk result (text.new.items ≡ text.old.items ++ shape_text (Upright at.x at.y words.now)) }
+/// Adds words at a place, as wide as they are.
+#[tactic(auto, unfolding(crate::specs::Shapes::shape_text, crate::specs::Shapes::words_text))]
+pub fn add_words(
+    text: &mut Vec<u8>,
+    style: Style,
+    at: Place,
+    words: &[u8],
+) -> Result<(), AllocError>
+    ensures { OnOk result (text.new.items ≡ text.old.items ++ shape_text (Words style at.x at.y words.now)) }
 {
-    add_pair(text, "<text class='middle' x='", at.x, "' y='", at.y)?;
-    add_words(text, words)
+    add_pair(text, style_lead(style), at.x, "' y='", at.y)?;
+    text.extend_from_slice(b"'>")?;
+    add_words_end(text, words)
 }
 
-/// Adds what begins words that are turned by a quarter.
-fn add_turn(text: &mut Vec<u8>, at: Place) -> Result<(), AllocError>
-    ensures { OnOk result (text.new.items ≡ text.old.items ++ turn_text at.x at.y) }
+/// Adds words at a place, fitted to a length.
+#[tactic(auto, unfolding(crate::specs::Shapes::shape_text, crate::specs::Shapes::fitted_text))]
+pub fn add_fitted(
+    text: &mut Vec<u8>,
+    style: Style,
+    room: Room,
+    words: &[u8],
+) -> Result<(), AllocError>
+    ensures { OnOk result (text.new.items ≡ text.old.items ++ shape_text (Fitted style room.at.x room.at.y room.length words.now)) }
 {
-    add_pair(text, "<text transform='translate(", at.x, ",", at.y)?;
-    text.extend_from_slice(b") rotate(90)")
+    add_pair(text, style_lead(style), room.at.x, "' y='", room.at.y)?;
+    text.extend_from_slice(b"' textLength='")?;
+    add_number(text, room.length)?;
+    text.extend_from_slice(b"' lengthAdjust='spacingAndGlyphs'>")?;
+    add_words_end(text, words)
 }
 
-/// Adds words that are turned by a quarter, and run down from a place.
-pub fn add_turned(text: &mut Vec<u8>, at: Place, words: &[u8]) -> Result<(), AllocError>
-    ensures { OnOk result (text.new.items ≡ text.old.items ++ shape_text (Turned at.x at.y words.now)) }
+/// Adds what begins a group with the number of a line.
+#[tactic(auto, unfolding(crate::specs::Shapes::group_text))]
+fn add_group(text: &mut Vec<u8>, number: u64) -> Result<(), AllocError>
+    ensures { OnOk result (text.new.items ≡ text.old.items ++ group_text number) }
 {
-    add_turn(text, at)?;
-    add_words(text, words)
+    add_count(text, "<g id='line", number)?;
+    text.extend_from_slice(b"'>\n")
 }
 
-/// Adds words that begin at a place.
-pub fn add_caption(text: &mut Vec<u8>, at: Place, words: &[u8]) -> Result<(), AllocError>
-    ensures { OnOk result (text.new.items ≡ text.old.items ++ shape_text (Caption at.x at.y words.now)) }
+/// Adds what begins a drawing with the number of a line.
+#[tactic(auto, unfolding(crate::specs::Shapes::view_text))]
+fn add_view(text: &mut Vec<u8>, number: u64, extent: Extent) -> Result<(), AllocError>
+    ensures { OnOk result (text.new.items ≡ text.old.items ++ view_text number extent.top extent.height) }
 {
-    add_pair(text, "<text x='", at.x, "' y='", at.y)?;
-    add_words(text, words)
+    add_count(text, "<svg id='line", number)?;
+    add_pair(text, "' viewBox='0 ", extent.top, " 840 ", extent.height)?;
+    text.extend_from_slice(b"'>\n")
 }
 
-/// What begins the words of a fault.
-fn remark_lead(ends: bool) -> &'static str
-    ensures { result.now ≡ remark_lead ends }
+/// Adds what begins the elements of a line: with its number, its upper edge and its height.
+#[tactic(auto, unfolding(crate::specs::Shapes::shape_text))]
+pub fn add_open(
+    text: &mut Vec<u8>,
+    page: Page,
+    number: u64,
+    extent: Extent,
+) -> Result<(), AllocError>
+    ensures { OnOk result (text.new.items ≡ text.old.items ++ shape_text (Open page number extent.top extent.height)) }
 {
-    if ends {
-        "<text class='fault end' x='"
-    } else {
-        "<text class='fault' x='"
+    match page {
+        Page::Svg => add_group(text, number),
+        Page::Html => add_view(text, number, extent),
     }
 }
 
-/// Adds the words of a fault, which begin at a place or, where `ends` is set, end there.
-pub fn add_remark(text: &mut Vec<u8>, ends: bool, at: Place, words: &[u8]) -> Result<(), AllocError>
-    ensures { OnOk result (text.new.items ≡ text.old.items ++ shape_text (Remark ends at.x at.y words.now)) }
+/// Adds what ends them.
+#[tactic(auto, unfolding(crate::specs::Shapes::shape_text))]
+pub fn add_close(text: &mut Vec<u8>, page: Page) -> Result<(), AllocError>
+    ensures { OnOk result (text.new.items ≡ text.old.items ++ shape_text (Close page)) }
 {
-    add_pair(text, remark_lead(ends), at.x, "' y='", at.y)?;
-    add_words(text, words)
+    match page {
+        Page::Svg => text.extend_from_slice(b"</g>\n"),
+        Page::Html => text.extend_from_slice(b"</svg>\n"),
+    }
 }

@@ -1,231 +1,250 @@
-//! The tape: rows of frames, each with its holes and what it means.
+//! The frames of a line: rows of them, each with its holes and what it means.
 
-ghost use Rattle.std.specs.Prelude.{◌≡◌, ◌++◌, ◌≤◌, ◌<◌, ◌^◌, OnOk, length};
+ghost use Rattle.std.specs.Prelude.{◌≡◌, ◌++◌, ◌+◌, ◌≤◌, ◌<◌, ◌^◌, OnOk, IfOk, length, codes, option_copied};
 ghost use Rattle.tape_frames.specs.Frames.{most_frames, AreFrames};
 ghost use Rattle.code_table.specs.Tables.{mean};
 ghost use Rattle.slug_reader.specs.Meanings.{case_at};
-ghost use Rattle.tape_drawing.specs.Shapes.{text_of};
-ghost use Rattle.tape_drawing.specs.Frames.{corner_of, level_shapes, three_shapes, lower_shapes, hole_shapes, column_shapes, paper_shapes, number_shapes, room_below, cell_shapes, frame_shapes, tape_shapes, fault_shapes};
+ghost use Rattle.tape_drawing.specs.Shapes.{text_of, shape_text, title_end, title_text, dot_text, dots_text, holes_text, mark_text, frame_text, Frame};
+ghost use Rattle.tape_drawing.specs.Frames.{paper_shapes, position_shapes, above_shapes, kth_frame, frame_shapes, strip_shapes};
 
-use crate::elements::{Place, add_feed, add_hole, add_mark, add_paper, add_remark, add_upright};
-use crate::labels::{Room, add_name};
-use crate::meanings::{meaning_word, next_case};
-use code_table::{Case, CodeTable};
+use crate::elements::{Place, Room, Style, add_count, add_fitted, add_pair, add_paper, add_words};
+use crate::escaping::add_escaped;
+use crate::layout::corner;
+use crate::meanings::{mark_style, mark_word, meaning_word, next_case};
+use code_table::{Case, CodeTable, Meaning};
 use itoa::Buffer;
 use std::alloc::AllocError;
-use tape_frames::{Tape, holes};
+use tape_frames::holes;
 
-/// How many frames stand in a row.
-const IN_ROW: usize = 40;
+/// The frames of a line, as they stand on its tape.
+#[derive(Clone, Copy)]
+pub struct Strip<'a> {
+    /// What says what they mean.
+    pub table: &'a CodeTable,
+    /// The frames of the whole tape.
+    pub tape: &'a [u8],
+    /// The position of the first.
+    pub from: usize,
+    /// How many they are.
+    pub frames: usize,
+    /// The upper edge of the line.
+    pub top: u64,
+}
 
-/// Where the column and the row of a frame begin.
-fn corner_of(at: u32) -> Place
-    ensures { result ≡ corner_of at }
+/// A frame at its position.
+#[derive(Clone, Copy)]
+struct Punched {
+    position: u64,
+    frame: u8,
+}
+
+/// Adds what a frame means in full, and ends its title.
+#[tactic(auto, unfolding(crate::specs::Shapes::title_end))]
+fn add_title_end(text: &mut Vec<u8>, word: &[u8]) -> Result<(), AllocError>
+    ensures { OnOk result (text.new.items ≡ text.old.items ++ title_end word.now) }
 {
-    let at = u64::from(at);
-    Place {
-        x: 20 + 20 * (at % 40),
-        y: 280 * (at / 40),
-    }
+    add_escaped(text, word)?;
+    text.extend_from_slice(b"</title><path d='")
+}
+
+/// Adds the position of a frame and what it means in full, as far as its holes.
+#[tactic(auto, unfolding(crate::specs::Shapes::title_text))]
+fn add_title(text: &mut Vec<u8>, at: u64, word: &[u8]) -> Result<(), AllocError>
+    ensures { OnOk result (text.new.items ≡ text.old.items ++ title_text at word.now) }
+{
+    add_count(text, "<g><title>", at)?;
+    text.extend_from_slice(b" ")?;
+    add_title_end(text, word)
 }
 
 /// Adds a hole where there is one.
-fn add_if_punched(text: &mut Vec<u8>, punched: u8, x: u64, y: u64) -> Result<(), AllocError>
-    ensures { OnOk result (text.new.items ≡ text.old.items ++ text_of (level_shapes punched x y)) }
+fn add_dot(text: &mut Vec<u8>, punched: u8, x: u64, y: u64) -> Result<(), AllocError>
+    ensures { OnOk result (text.new.items ≡ text.old.items ++ dot_text punched x y) }
 {
     if punched == b'o' {
-        add_hole(text, Place { x, y })
+        add_pair(text, "M", x, " ", y)?;
+        text.extend_from_slice(b"h0")
     } else {
         Ok(())
     }
 }
 
 /// Adds the holes of three levels that lie one below the other.
-#[tactic(auto, using(crate::proofs::Sequences::text_append))]
-fn add_levels(
-    text: &mut Vec<u8>,
-    first: u8,
-    second: u8,
-    third: u8,
-    at: Place,
-) -> Result<(), AllocError>
+fn add_dots(text: &mut Vec<u8>, levels: (u8, u8, u8), at: Place) -> Result<(), AllocError>
     requires { at.y ≤ 2 ^ 60 }
-    ensures { OnOk result (text.new.items ≡ text.old.items ++ text_of (three_shapes first second third at.x at.y)) }
+    ensures { OnOk result (text.new.items ≡ text.old.items ++ dots_text levels.0 levels.1 levels.2 at.x at.y) }
 {
-    add_if_punched(text, first, at.x, at.y)?;
-    add_if_punched(text, second, at.x, at.y + 20)?;
-    add_if_punched(text, third, at.x, at.y + 40)
+    add_dot(text, levels.0, at.x, at.y)?;
+    add_dot(text, levels.1, at.x, at.y + 8)?;
+    add_dot(text, levels.2, at.x, at.y + 16)
 }
 
-/// Adds a feed hole, and the holes of three levels below it.
-#[tactic(auto, using(crate::proofs::Sequences::text_append))]
-fn add_lower(
-    text: &mut Vec<u8>,
-    first: u8,
-    second: u8,
-    third: u8,
-    at: Place,
-) -> Result<(), AllocError>
-    requires { at.y ≤ 2 ^ 59 }
-    ensures { OnOk result (text.new.items ≡ text.old.items ++ text_of (lower_shapes first second third at.x at.y)) }
-{
-    add_feed(text, at)?;
-    let below = Place {
-        x: at.x,
-        y: at.y + 20,
-    };
-    add_levels(text, first, second, third, below)
-}
-
-/// Adds the holes of a frame, level 0 on top, and the feed hole between three levels and three.
-fn add_holes(text: &mut Vec<u8>, frame: u8, corner: Place) -> Result<(), AllocError>
-    requires { (frame < 64) × (corner.x ≤ 2 ^ 58) × (corner.y ≤ 2 ^ 58) }
-    ensures { OnOk result (text.new.items ≡ text.old.items ++ text_of (hole_shapes frame corner)) }
+/// Adds the holes of a frame, level 0 on top.
+#[tactic(auto, unfolding(crate::specs::Shapes::holes_text))]
+pub fn add_holes(text: &mut Vec<u8>, frame: u8, at: Place) -> Result<(), AllocError>
+    requires { (frame < 64) × (at.y ≤ 2 ^ 59) }
+    ensures { OnOk result (text.new.items ≡ text.old.items ++ holes_text frame at.x at.y) }
 {
     let Some(levels) = holes(frame) else {
         unreachable!()
     };
     let upper = Place {
-        x: corner.x + 10,
-        y: corner.y + 30,
+        x: at.x,
+        y: at.y + 7,
     };
-    let feed = Place {
-        x: corner.x + 10,
-        y: corner.y + 90,
+    let lower = Place {
+        x: at.x,
+        y: at.y + 35,
     };
-    add_levels(text, levels[0], levels[1], levels[2], upper)?;
-    add_lower(text, levels[3], levels[4], levels[5], feed)
+    add_dots(text, (levels[0], levels[1], levels[2]), upper)?;
+    add_dots(text, (levels[3], levels[4], levels[5]), lower)
 }
 
-/// Adds the paper of a row at its first frame.
-fn add_row(text: &mut Vec<u8>, at: usize, frames: usize, corner: Place) -> Result<(), AllocError>
-    requires { (at ≤ frames) × (corner.y ≤ 2 ^ 59) }
-    ensures { OnOk result (text.new.items ≡ text.old.items ++ text_of (paper_shapes at frames corner)) }
+/// Adds the mark below a frame, fitted to its column where it is long.
+#[tactic(auto, unfolding(crate::specs::Shapes::shape_text))]
+fn add_mark_word(text: &mut Vec<u8>, style: Style, at: Place, word: &[u8]) -> Result<(), AllocError>
+    ensures { OnOk result (text.new.items ≡ text.old.items ++ mark_text style at.x at.y word.now) }
 {
-    if at % IN_ROW != 0 {
+    if word.len() >= 4 {
+        add_fitted(text, style, Room { at, length: 17 }, word)
+    } else {
+        add_words(text, style, at, word)
+    }
+}
+
+/// Adds the title of a frame and its holes.
+fn add_punched(
+    text: &mut Vec<u8>,
+    punched: Punched,
+    word: &[u8],
+    at: Place,
+) -> Result<(), AllocError>
+    requires { (punched.frame < 64) × (at.y ≤ 2 ^ 58) }
+    ensures { OnOk result (text.new.items ≡ text.old.items ++ (title_text punched.position word.now ++ (holes_text punched.frame at.x at.y ++ codes "'/>"))) }
+{
+    add_title(text, punched.position, word)?;
+    add_holes(text, punched.frame, at)?;
+    text.extend_from_slice(b"'/>")
+}
+
+/// Adds a frame: its title, its holes, and below them its mark.
+#[tactic(auto, unfolding(crate::specs::Shapes::shape_text))]
+fn add_frame(
+    text: &mut Vec<u8>,
+    punched: Punched,
+    meaning: Option<&Meaning>,
+    at: Place,
+) -> Result<(), AllocError>
+    requires { (punched.frame < 64) × (at.y ≤ 2 ^ 58) }
+    ensures { OnOk result (text.new.items ≡ text.old.items ++ shape_text (Frame at.x at.y punched.position punched.frame (option_copied meaning.entry))) }
+{
+    add_punched(text, punched, meaning_word(meaning), at)?;
+    let below = Place {
+        x: at.x,
+        y: at.y + 69,
+    };
+    add_mark_word(text, mark_style(meaning), below, mark_word(meaning))?;
+    text.extend_from_slice(b"</g>\n")
+}
+
+/// Adds the paper of a row at its first frame: the k-th of a line of so many.
+fn add_row(text: &mut Vec<u8>, k: usize, frames: usize, at: Place) -> Result<(), AllocError>
+    requires { (k < frames) × (at.x ≤ 2 ^ 40) × (at.y ≤ 2 ^ 41) }
+    ensures { OnOk result (text.new.items ≡ text.old.items ++ text_of (paper_shapes k frames at)) }
+{
+    if k % 40 != 0 {
         return Ok(());
     }
-    let here = (frames - at).min(IN_ROW);
-    let at = Place {
-        x: corner.x,
-        y: corner.y + 20,
-    };
-    add_paper(text, at, 20 * here as u64)
+    add_paper(text, at, (frames - k).min(40) as u64)
 }
 
-/// Adds the number of every tenth frame.
-fn add_number(text: &mut Vec<u8>, at: usize, corner: Place) -> Result<(), AllocError>
-    requires { (corner.x ≤ 2 ^ 59) × (corner.y ≤ 2 ^ 59) }
-    ensures { OnOk result (text.new.items ≡ text.old.items ++ text_of (number_shapes at corner)) }
+/// Adds the position of every tenth frame.
+fn add_position(text: &mut Vec<u8>, position: usize, at: Place) -> Result<(), AllocError>
+    requires { (at.x ≤ 2 ^ 59) × (2 ≤ at.y) }
+    ensures { OnOk result (text.new.items ≡ text.old.items ++ text_of (position_shapes position at)) }
 {
-    if at % 10 != 0 {
+    if position % 10 != 0 {
         return Ok(());
     }
     let mut digits = Buffer::new();
     let place = Place {
-        x: corner.x + 10,
-        y: corner.y + 14,
+        x: at.x + 9,
+        y: at.y - 2,
     };
-    add_upright(text, place, digits.format(at).as_bytes())
+    add_words(
+        text,
+        Style::Position,
+        place,
+        digits.format(position).as_bytes(),
+    )
 }
 
-/// The room below a frame.
-fn room_below(corner: Place) -> Room
-    requires { corner.y ≤ 2 ^ 59 }
-    ensures { result ≡ room_below corner }
-{
-    Room {
-        x: corner.x,
-        width: 20,
-        foot: corner.y + 180,
-        top: corner.y + 170,
-    }
-}
-
-/// Adds the paper of a row at its first frame, and the number of every tenth frame.
+/// Adds what stands above the k-th frame of a line: the paper of its row, and its position.
 #[tactic(auto, using(crate::proofs::Sequences::text_append))]
-fn add_top(text: &mut Vec<u8>, at: usize, frames: usize, corner: Place) -> Result<(), AllocError>
-    requires { (at ≤ frames) × (corner.x ≤ 2 ^ 58) × (corner.y ≤ 2 ^ 58) }
-    ensures { OnOk result (text.new.items ≡ text.old.items ++ text_of (paper_shapes at frames corner ++ number_shapes at corner)) }
+fn add_above(text: &mut Vec<u8>, strip: &Strip<'_>, k: usize) -> Result<(), AllocError>
+    requires within { (k < strip.now.frames) × (strip.now.from + strip.now.frames ≤ most_frames) }
+    requires top { strip.now.top ≤ 2 ^ 40 }
+    ensures { OnOk result (text.new.items ≡ text.old.items ++ text_of (above_shapes strip.now.from strip.now.frames strip.now.top k)) }
 {
-    add_row(text, at, frames, corner)?;
-    add_number(text, at, corner)
+    let at = corner(strip.top, k as u64);
+    add_row(text, k, strip.frames, at)?;
+    add_position(text, strip.from + k, at)
 }
 
-/// Adds the holes of a frame, and a word in the room below it.
-#[tactic(auto, using(crate::proofs::Sequences::text_append))]
-fn add_column(text: &mut Vec<u8>, frame: u8, word: &[u8], corner: Place) -> Result<(), AllocError>
-    requires { (frame < 64) × (corner.x ≤ 65000) × (corner.y ≤ 2 ^ 58) }
-    ensures { OnOk result (text.new.items ≡ text.old.items ++ text_of (column_shapes frame word.now corner)) }
-{
-    add_holes(text, frame, corner)?;
-    add_name(text, room_below(corner), word)
-}
-
-/// Adds a frame of a tape of so many, with a word below it.
-#[tactic(auto, using(crate::proofs::Sequences::text_append))]
-fn add_frame(
+/// Adds the k-th frame of a line, where this case holds, alone.
+fn add_frame_alone(
     text: &mut Vec<u8>,
-    at: usize,
-    frames: usize,
-    frame: u8,
-    word: &[u8],
-) -> Result<(), AllocError>
-    requires { (at < frames) × (frames ≤ most_frames) × (frame < 64) }
-    ensures { OnOk result (text.new.items ≡ text.old.items ++ text_of (cell_shapes at frames frame word.now)) }
-{
-    let corner = corner_of(at as u32);
-    add_top(text, at, frames, corner)?;
-    add_column(text, frame, word, corner)
-}
-
-/// Adds the frame at a position, with what it means where this case holds.
-#[tactic(auto, using(crate::proofs::Looking::frame_small))]
-fn add_frame_at(
-    text: &mut Vec<u8>,
-    table: &CodeTable,
     case: Case,
-    frames: &[u8],
-    at: usize,
+    strip: &Strip<'_>,
+    k: usize,
 ) -> Result<(), AllocError>
-    requires within { (at < length frames.now) × (length frames.now ≤ most_frames) }
-    requires frames { AreFrames frames.now }
-    requires case { case ≡ case_at (mean table.now) frames.now at }
-    ensures { OnOk result (text.new.items ≡ text.old.items ++ text_of (frame_shapes (mean table.now) frames.now at)) }
+    requires within { (k < strip.now.frames) × (strip.now.from + strip.now.frames ≤ length strip.now.tape.now) × (length strip.now.tape.now ≤ most_frames) }
+    requires frames { AreFrames strip.now.tape.now }
+    requires top { strip.now.top ≤ 2 ^ 40 }
+    requires case { case ≡ case_at (mean strip.now.table.now) strip.now.tape.now (strip.now.from + k) }
+    ensures { OnOk result (text.new.items ≡ text.old.items ++ shape_text (kth_frame (mean strip.now.table.now) strip.now.tape.now strip.now.from strip.now.top k)) }
 {
-    let frame = frames[at];
-    let word = meaning_word(table.meaning(case, frame));
-    add_frame(text, at, frames.len(), frame, word)
+    let position = strip.from + k;
+    let punched = Punched {
+        position: position as u64,
+        frame: strip.tape[position],
+    };
+    let at = corner(strip.top, k as u64);
+    let middle = Place {
+        x: at.x + 9,
+        y: at.y,
+    };
+    let meaning = strip.table.meaning(case, punched.frame);
+    add_frame(text, punched, meaning, middle)
 }
 
-/// Adds the frames of a tape, from left to right in rows, each with what it means in the case that holds there.
-pub fn add_frames(text: &mut Vec<u8>, table: &CodeTable, tape: &Tape) -> Result<(), AllocError>
-    ensures { OnOk result (text.new.items ≡ text.old.items ++ text_of (tape_shapes (mean table.now) tape.now)) }
+/// Adds the k-th frame of a line, where this case holds.
+#[tactic(auto, using(crate::proofs::Sequences::text_append, crate::proofs::Sequences::text_one))]
+fn add_kth(text: &mut Vec<u8>, case: Case, strip: &Strip<'_>, k: usize) -> Result<(), AllocError>
+    requires within { (k < strip.now.frames) × (strip.now.from + strip.now.frames ≤ length strip.now.tape.now) × (length strip.now.tape.now ≤ most_frames) }
+    requires frames { AreFrames strip.now.tape.now }
+    requires top { strip.now.top ≤ 2 ^ 40 }
+    requires case { case ≡ case_at (mean strip.now.table.now) strip.now.tape.now (strip.now.from + k) }
+    ensures { OnOk result (text.new.items ≡ text.old.items ++ text_of (frame_shapes (mean strip.now.table.now) strip.now.tape.now strip.now.from strip.now.frames strip.now.top k)) }
 {
-    let frames = tape.frames();
-    let mut case = Case::Unshift;
-    for at in 0..frames.len() {
-        add_frame_at(text, table, case, frames, at)?;
-        case = next_case(table, case, frames[at]);
+    add_above(text, strip, k)?;
+    add_frame_alone(text, case, strip, k)
+}
+
+/// Adds the frames of a line, from left to right in rows, each with what it means in the case that holds there; and answers
+/// the case that holds behind them.
+pub fn add_strip(text: &mut Vec<u8>, case: Case, strip: &Strip<'_>) -> Result<Case, AllocError>
+    requires within { (strip.now.from + strip.now.frames ≤ length strip.now.tape.now) × (length strip.now.tape.now ≤ most_frames) }
+    requires frames { AreFrames strip.now.tape.now }
+    requires top { strip.now.top ≤ 2 ^ 40 }
+    requires case { case ≡ case_at (mean strip.now.table.now) strip.now.tape.now strip.now.from }
+    ensures text { OnOk result (text.new.items ≡ text.old.items ++ text_of (strip_shapes (mean strip.now.table.now) strip.now.tape.now strip.now.from strip.now.frames strip.now.top)) }
+    ensures case { IfOk result (λ behind. behind ≡ case_at (mean strip.now.table.now) strip.now.tape.now (strip.now.from + strip.now.frames)) }
+{
+    let mut case = case;
+    for k in 0..strip.frames {
+        add_kth(text, case, strip, k)?;
+        case = next_case(strip.table, case, strip.tape[strip.from + k]);
     }
-    Ok(())
-}
-
-/// Marks the frame at a position, or the end of the tape, with the words of its fault below it.
-#[tactic(auto, using(crate::proofs::Sequences::text_append))]
-pub fn add_fault(text: &mut Vec<u8>, at: u32, words: &[u8]) -> Result<(), AllocError>
-    ensures { OnOk result (text.new.items ≡ text.old.items ++ text_of (fault_shapes at words.now)) }
-{
-    let corner = corner_of(at);
-    let frame = Place {
-        x: corner.x,
-        y: corner.y + 16,
-    };
-    add_mark(text, frame)?;
-    let ends = at % 40 >= 20;
-    let place = Place {
-        x: if ends { corner.x + 20 } else { corner.x },
-        y: corner.y + 264,
-    };
-    add_remark(text, ends, place, words)
+    Ok(case)
 }

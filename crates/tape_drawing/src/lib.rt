@@ -1,15 +1,24 @@
-//! Drawings of tapes: the holes and the slugs of a tape to scale, as a document in SVG 1.1 or a page in HTML.
+//! Drawings of tapes: line by line its frames and to scale what they cast, as a document in SVG 1.1 or a page in HTML.
 #![tactic(auto)]
 
-mod casting;
 mod document;
 mod elements;
 mod escaping;
 mod frames;
-mod labels;
 pub mod laws;
+mod layout;
+mod lines;
 mod meanings;
+mod page;
 mod slugs;
+mod texts;
 
-pub use casting::{Casting, cast};
-pub use document::{DrawFault, Page, put_drawing};
+pub use document::{Drawing, Names, Order, draw_tape};
+pub use elements::{
+    Place, Room, Style, add_count, add_fitted, add_number, add_pair, add_paper, add_words,
+};
+pub use escaping::add_escaped;
+pub use frames::add_holes;
+pub use meanings::{mark_style, mark_word, meaning_word};
+pub use page::Page;
+pub use texts::{page_lead, svg_lead};

@@ -1,60 +1,83 @@
-//! The slugs: one below the other, each to the scale of its measure.
+//! What is cast of a line, to the scale of the measure: a slug, or the pieces of a line that does not set.
 
-ghost use Rattle.std.specs.Prelude.{◌≡◌, ◌++◌, ◌≤◌, ◌+◌, ◌^◌, OnOk, IfOk, sum_by, length, ◌∷◌, []};
-ghost use Rattle.std.specs.List.{AllByRecursion};
+ghost use Rattle.std.specs.Prelude.{◌≡◌, ◌++◌, ◌≤◌, ◌+◌, ◌*◌, ◌^◌, OnOk, IfOk, sum_by, length, ◌∷◌, []};
+ghost use Rattle.tape_frames.specs.Frames.{most_frames};
 ghost use Rattle.line_check.specs.Slugs.{sort_width};
 ghost use Rattle.line_check.specs.Galley.{kind_text};
 ghost use Rattle.tape_drawing.specs.Shapes.{text_of};
-ghost use Rattle.tape_drawing.specs.Slugs.{edge, across, box_shapes, blank_shapes, room_in, sort_shapes, AddsSorts, pieces_shapes, head_shapes, slug_shapes, slugs_from};
-ghost use Rattle.tape_drawing.specs.Castings.{IsFull};
+ghost use Rattle.tape_drawing.specs.Layout.{IsFull};
+ghost use Rattle.tape_drawing.specs.Slugs.{is_over, look_in, type_style, box_shapes, blank_shapes, name_shapes, width_shapes, sort_shapes, item_shapes, item_width, AddsSorts, AddsItems, pieces_shapes, gap_shapes, filled_shapes};
 
-use crate::elements::{Look, Place, add_box, add_caption};
-use crate::labels::{Room, add_name};
+use crate::elements::{Look, Place, Room, Style, add_bar, add_box, add_fitted, add_gap, add_words};
+use crate::layout::{Stretch, across, edge};
 use itoa::Buffer;
-use line_check::{Kind, Slug, Sort};
-use slug_reader::Rail;
+use line_check::{Slug, Sort};
+use slug_reader::{Item, Rail};
 use std::alloc::AllocError;
 
-/// A stretch of a slug in units, and the line of the document below which the slug stands.
+/// Where what is cast of a line is laid.
 #[derive(Clone, Copy)]
-pub struct Stretch {
-    pub measure: u16,
+pub struct Bed {
+    /// The measure, in units.
+    pub measure: u64,
+    /// The upper edge, in user units.
     pub top: u64,
-    pub from: u64,
-    pub width: u64,
 }
 
-/// The edge that lies so many units from the left of a slug, in user units: the measure is 800 of them wide.
-fn edge(measure: u16, units: u64) -> u64
-    requires { (1 ≤ measure) × (units ≤ 65535) }
-    ensures { result ≡ edge measure units }
+/// Whether a stretch runs over the measure.
+fn is_over(stretch: Stretch) -> bool
+    requires { (stretch.from ≤ 2 ^ 38) × (stretch.width ≤ 2 ^ 38) }
+    ensures { result ≡ is_over stretch }
 {
-    20 + units * 800 / u64::from(measure)
+    stretch.measure < stretch.from + stretch.width
 }
 
-/// How far the right edge of a stretch lies from its left edge.
-fn across(stretch: Stretch) -> u64
-    requires { (1 ≤ stretch.measure) × (stretch.from + stretch.width ≤ stretch.measure) × (stretch.top ≤ 2 ^ 59) }
-    ensures { result ≡ across stretch }
+/// How a piece looks, where it lies.
+fn look_in(stretch: Stretch, look: Look) -> Look
+    requires { (stretch.from ≤ 2 ^ 38) × (stretch.width ≤ 2 ^ 38) }
+    ensures { result ≡ look_in stretch look }
 {
-    edge(stretch.measure, stretch.from + stretch.width) - edge(stretch.measure, stretch.from)
+    if is_over(stretch) { Look::Over } else { look }
+}
+
+/// How type looks, where it lies: that of the upper rail is bold.
+fn type_style(stretch: Stretch, rail: Rail) -> Style
+    requires { (stretch.from ≤ 2 ^ 38) × (stretch.width ≤ 2 ^ 38) }
+    ensures { result ≡ type_style stretch rail }
+{
+    match rail {
+        Rail::Lower => {
+            if is_over(stretch) {
+                Style::Over
+            } else {
+                Style::Type
+            }
+        }
+        Rail::Upper => {
+            if is_over(stretch) {
+                Style::UpperOver
+            } else {
+                Style::Upper
+            }
+        }
+    }
 }
 
 /// Adds the box of a stretch.
 fn add_stretch(text: &mut Vec<u8>, look: Look, stretch: Stretch) -> Result<(), AllocError>
-    requires { (1 ≤ stretch.measure) × (stretch.from + stretch.width ≤ stretch.measure) × (stretch.top ≤ 2 ^ 59) }
+    requires { (1 ≤ stretch.measure) × (stretch.from ≤ 2 ^ 38) × (stretch.width ≤ 2 ^ 38) }
     ensures { OnOk result (text.new.items ≡ text.old.items ++ text_of (box_shapes look stretch)) }
 {
     let at = Place {
         x: edge(stretch.measure, stretch.from),
-        y: stretch.top + 20,
+        y: stretch.top,
     };
     add_box(text, look, at, across(stretch))
 }
 
 /// Adds the blank beside the pieces, if there is any.
 fn add_blank(text: &mut Vec<u8>, stretch: Stretch) -> Result<(), AllocError>
-    requires { (1 ≤ stretch.measure) × (stretch.from + stretch.width ≤ stretch.measure) × (stretch.top ≤ 2 ^ 59) }
+    requires { (1 ≤ stretch.measure) × (stretch.from ≤ 2 ^ 38) × (stretch.width ≤ 2 ^ 38) }
     ensures { OnOk result (text.new.items ≡ text.old.items ++ text_of (blank_shapes stretch)) }
 {
     if stretch.width == 0 {
@@ -63,57 +86,100 @@ fn add_blank(text: &mut Vec<u8>, stretch: Stretch) -> Result<(), AllocError>
     add_stretch(text, Look::Blank, stretch)
 }
 
-/// The room of a name in its box. On the upper rail it is raised.
-fn room_in(stretch: Stretch, rail: Rail) -> Room
-    requires { (1 ≤ stretch.measure) × (stretch.from + stretch.width ≤ stretch.measure) × (stretch.top ≤ 2 ^ 59) }
-    ensures { result ≡ room_in stretch rail }
+/// Adds the name of a matrix, in the middle of its box; one of more letters is fitted to it.
+fn add_name(text: &mut Vec<u8>, stretch: Stretch, rail: Rail, name: &[u8]) -> Result<(), AllocError>
+    requires { (1 ≤ stretch.measure) × (stretch.from ≤ 2 ^ 38) × (stretch.width ≤ 2 ^ 38) × (stretch.top ≤ 2 ^ 59) × (length name.now ≤ 8) }
+    ensures { OnOk result (text.new.items ≡ text.old.items ++ text_of (name_shapes stretch rail name.now)) }
 {
-    let hang = match rail {
-        Rail::Lower => 20,
-        Rail::Upper => 0,
+    let width = across(stretch);
+    let at = Place {
+        x: edge(stretch.measure, stretch.from) + width / 2,
+        y: stretch.top + 34,
     };
-    Room {
-        x: edge(stretch.measure, stretch.from),
-        width: across(stretch),
-        foot: stretch.top + 58 + hang,
-        top: stretch.top + 24 + hang,
+    let style = type_style(stretch, rail);
+    if name.len() >= 2 {
+        let length = width.min(22 * name.len() as u64);
+        add_fitted(text, style, Room { at, length }, name)
+    } else {
+        add_words(text, style, at, name)
     }
 }
 
-/// Adds what stands in a slug: a matrix with its name, a band or a space with its width in units.
+/// Adds the width of a band or a space in units, at the foot of its box, if there is room.
+fn add_width(text: &mut Vec<u8>, stretch: Stretch) -> Result<(), AllocError>
+    requires { (1 ≤ stretch.measure) × (stretch.from ≤ 2 ^ 38) × (stretch.width ≤ 2 ^ 38) × (stretch.top ≤ 2 ^ 59) }
+    ensures { OnOk result (text.new.items ≡ text.old.items ++ text_of (width_shapes stretch)) }
+{
+    let width = across(stretch);
+    if width < 10 {
+        return Ok(());
+    }
+    let mut digits = Buffer::new();
+    let at = Place {
+        x: edge(stretch.measure, stretch.from) + width / 2,
+        y: stretch.top + 43,
+    };
+    add_words(
+        text,
+        Style::Width,
+        at,
+        digits.format(stretch.width).as_bytes(),
+    )
+}
+
+/// Adds a matrix with its name.
 #[tactic(auto, using(crate::proofs::Sequences::text_append))]
+fn add_matrix(
+    text: &mut Vec<u8>,
+    stretch: Stretch,
+    rail: Rail,
+    name: &[u8],
+) -> Result<(), AllocError>
+    requires { (1 ≤ stretch.measure) × (stretch.from ≤ 2 ^ 38) × (stretch.width ≤ 2 ^ 38) × (stretch.top ≤ 2 ^ 59) × (length name.now ≤ 8) }
+    ensures { OnOk result (text.new.items ≡ text.old.items ++ text_of (box_shapes (look_in stretch Look.Matrix) stretch ++ name_shapes stretch rail name.now)) }
+{
+    add_stretch(text, look_in(stretch, Look::Matrix), stretch)?;
+    add_name(text, stretch, rail, name)
+}
+
+/// Adds a band or a space with its width.
+#[tactic(auto, using(crate::proofs::Sequences::text_append))]
+fn add_room(text: &mut Vec<u8>, stretch: Stretch, look: Look) -> Result<(), AllocError>
+    requires { (1 ≤ stretch.measure) × (stretch.from ≤ 2 ^ 38) × (stretch.width ≤ 2 ^ 38) × (stretch.top ≤ 2 ^ 59) }
+    ensures { OnOk result (text.new.items ≡ text.old.items ++ text_of (box_shapes (look_in stretch look) stretch ++ width_shapes stretch)) }
+{
+    add_stretch(text, look_in(stretch, look), stretch)?;
+    add_width(text, stretch)
+}
+
+/// Adds what stands in a slug.
 fn add_sort(text: &mut Vec<u8>, sort: &Sort, stretch: Stretch) -> Result<(), AllocError>
-    requires { (1 ≤ stretch.measure) × (stretch.from + stretch.width ≤ stretch.measure) × (stretch.top ≤ 2 ^ 59) }
+    requires { (1 ≤ stretch.measure) × (stretch.from ≤ 2 ^ 38) × (stretch.width ≤ 2 ^ 38) × (stretch.top ≤ 2 ^ 59) }
     ensures { OnOk result (text.new.items ≡ text.old.items ++ text_of (sort_shapes sort.now stretch)) }
 {
-    let mut digits = Buffer::new();
     match sort {
-        Sort::Matrix { name, rail, .. } => {
-            add_stretch(text, Look::Matrix, stretch)?;
-            add_name(text, room_in(stretch, *rail), name.as_bytes())
-        }
-        Sort::Band { width } => {
-            add_stretch(text, Look::Band, stretch)?;
-            add_name(
-                text,
-                room_in(stretch, Rail::Lower),
-                digits.format(*width).as_bytes(),
-            )
-        }
-        Sort::Space { width } => {
-            add_stretch(text, Look::Space, stretch)?;
-            add_name(
-                text,
-                room_in(stretch, Rail::Lower),
-                digits.format(*width).as_bytes(),
-            )
-        }
+        Sort::Matrix { name, rail, .. } => add_matrix(text, stretch, *rail, name.as_bytes()),
+        Sort::Band { .. } => add_room(text, stretch, Look::Band),
+        Sort::Space { .. } => add_room(text, stretch, Look::Space),
+    }
+}
+
+/// Adds what stands in a line that does not set.
+fn add_item(text: &mut Vec<u8>, item: &Item, stretch: Stretch) -> Result<(), AllocError>
+    requires { (1 ≤ stretch.measure) × (stretch.from ≤ 2 ^ 38) × (stretch.width ≤ 2 ^ 38) × (stretch.top ≤ 2 ^ 59) }
+    ensures { OnOk result (text.new.items ≡ text.old.items ++ text_of (item_shapes item.now stretch)) }
+{
+    match item {
+        Item::Matrix { name, rail, .. } => add_matrix(text, stretch, *rail, name.as_bytes()),
+        Item::Band => add_room(text, stretch, Look::Band),
+        Item::Space { .. } => add_room(text, stretch, Look::Space),
     }
 }
 
 /// The width of what stands in a slug, in units.
 fn width_of(sort: &Sort) -> u64
-    ensures { (result ≡ sort_width sort.now) × (result ≤ 65535) }
+    ensures value { result ≡ sort_width sort.now }
+    ensures small { result ≤ 65535 }
 {
     match sort {
         Sort::Matrix { width, .. } | Sort::Band { width } | Sort::Space { width } => {
@@ -122,23 +188,28 @@ fn width_of(sort: &Sort) -> u64
     }
 }
 
+/// The width of what stands in a line whose bands have this width.
+fn item_width(band: u16, item: &Item) -> u64
+    ensures value { result ≡ item_width band item.now }
+    ensures small { result ≤ 65535 }
+{
+    match item {
+        Item::Matrix { width, .. } | Item::Space { width } => u64::from(*width),
+        Item::Band => u64::from(band),
+    }
+}
+
 /// Adds what stands in a slug from so many units on, each piece from where the last ended, and answers where the last ends.
-fn add_sorts(
-    text: &mut Vec<u8>,
-    measure: u16,
-    top: u64,
-    left: u64,
-    sorts: &[Sort],
-) -> Result<u64, AllocError>
-    requires { (1 ≤ measure) × (left + sum_by sort_width sorts.now ≤ measure) × (top ≤ 2 ^ 59) }
-    ensures { IfOk result (λ to. AddsSorts measure top left sorts.now text.old.items text.new.items to) }
+fn add_sorts(text: &mut Vec<u8>, bed: Bed, left: u64, sorts: &[Sort]) -> Result<u64, AllocError>
+    requires { (1 ≤ bed.measure) × (left + sum_by sort_width sorts.now ≤ 65535) × (bed.top ≤ 2 ^ 59) }
+    ensures { IfOk result (λ to. AddsSorts bed.measure bed.top left sorts.now text.old.items text.new.items to) }
 {
     let mut from = left;
     for sort in sorts {
         let width = width_of(sort);
         let stretch = Stretch {
-            measure,
-            top,
+            measure: bed.measure,
+            top: bed.top,
             from,
             width,
         };
@@ -148,82 +219,72 @@ fn add_sorts(
     Ok(from)
 }
 
-/// The letter of a kind.
-fn kind_word(kind: Kind) -> &'static [u8]
-    ensures { result.now ≡ kind_text kind ∷ [] }
+/// Adds what stands in a line whose bands have this width, and answers where the last piece ends.
+fn add_items(text: &mut Vec<u8>, bed: Bed, band: u16, items: &[Item]) -> Result<u64, AllocError>
+    requires { (1 ≤ bed.measure) × (length items.now ≤ most_frames) × (bed.top ≤ 2 ^ 59) }
+    ensures { IfOk result (λ to. AddsItems bed.measure bed.top band items.now text.old.items text.new.items to) }
 {
-    match kind {
-        Kind::J => b"J",
-        Kind::L => b"L",
-        Kind::C => b"C",
-        Kind::R => b"R",
+    let mut from = 0;
+    for item in items {
+        let width = item_width(band, item);
+        let stretch = Stretch {
+            measure: bed.measure,
+            top: bed.top,
+            from,
+            width,
+        };
+        add_item(text, item, stretch)?;
+        from += width;
     }
+    Ok(from)
 }
 
-/// Adds the number of a slug and its kind.
+/// Adds a slug: its bar, the blank on its left, its pieces, and the blank on its right.
 #[tactic(auto, using(crate::proofs::Sequences::text_append))]
-fn add_head(text: &mut Vec<u8>, number: usize, slug: &Slug, top: u64) -> Result<(), AllocError>
-    requires { top ≤ 2 ^ 59 }
-    ensures { OnOk result (text.new.items ≡ text.old.items ++ text_of (head_shapes number top slug.now)) }
-{
-    let mut digits = Buffer::new();
-    let y = top + 14;
-    add_caption(text, Place { x: 20, y }, digits.format(number).as_bytes())?;
-    add_caption(text, Place { x: 60, y }, kind_word(slug.kind))
-}
-
-/// Adds the blank on the left of a slug, its pieces, and the blank on its right.
-#[tactic(auto, using(crate::proofs::Sequences::text_append))]
-fn add_pieces(text: &mut Vec<u8>, measure: u16, top: u64, slug: &Slug) -> Result<(), AllocError>
-    requires { (1 ≤ measure) × IsFull measure slug.now × (top ≤ 2 ^ 59) }
-    ensures { OnOk result (text.new.items ≡ text.old.items ++ text_of (pieces_shapes measure top slug.now)) }
+pub fn add_pieces(text: &mut Vec<u8>, bed: Bed, slug: &Slug) -> Result<(), AllocError>
+    requires { (1 ≤ bed.measure) × (bed.measure ≤ 65535) × IsFull bed.measure slug.now × (bed.top ≤ 2 ^ 59) }
+    ensures { OnOk result (text.new.items ≡ text.old.items ++ text_of (pieces_shapes bed.measure bed.top slug.now)) }
 {
     let left = u64::from(slug.left);
     let before = Stretch {
-        measure,
-        top,
+        measure: bed.measure,
+        top: bed.top,
         from: 0,
         width: left,
     };
+    add_bar(text, Place { x: 60, y: bed.top })?;
     add_blank(text, before)?;
-    let from = add_sorts(text, measure, top, left, slug.items.as_slice())?;
+    let from = add_sorts(text, bed, left, slug.items.as_slice())?;
     let after = Stretch {
-        measure,
-        top,
+        measure: bed.measure,
+        top: bed.top,
         from,
         width: u64::from(slug.right),
     };
     add_blank(text, after)
 }
 
-/// Adds a slug: its number and its kind, and below them its pieces.
-#[tactic(auto, using(crate::proofs::Sequences::text_append))]
-fn add_slug(
-    text: &mut Vec<u8>,
-    measure: u16,
-    top: u64,
-    number: usize,
-    slug: &Slug,
-) -> Result<(), AllocError>
-    requires { (1 ≤ measure) × IsFull measure slug.now × (top ≤ 2 ^ 59) }
-    ensures { OnOk result (text.new.items ≡ text.old.items ++ text_of (slug_shapes measure top number slug.now)) }
+/// Adds the gap between the end of a line and the measure, if there is one.
+fn add_gap_behind(text: &mut Vec<u8>, bed: Bed, end: u64) -> Result<(), AllocError>
+    requires { (1 ≤ bed.measure) × (bed.measure ≤ 65535) × (bed.top ≤ 2 ^ 59) }
+    ensures { OnOk result (text.new.items ≡ text.old.items ++ text_of (gap_shapes bed.measure bed.top end)) }
 {
-    add_head(text, number, slug, top)?;
-    add_pieces(text, measure, top, slug)
+    if bed.measure <= end {
+        return Ok(());
+    }
+    let at = Place {
+        x: edge(bed.measure, end),
+        y: bed.top,
+    };
+    add_gap(text, at, 780 - edge(bed.measure, end))
 }
 
-/// Adds slugs one below the other, with their numbers from 1 and their kinds.
-pub fn add_slugs(
-    text: &mut Vec<u8>,
-    measure: u16,
-    top: u64,
-    slugs: &[Slug],
-) -> Result<(), AllocError>
-    requires { (1 ≤ measure) × AllByRecursion (IsFull measure) slugs.now × (length slugs.now ≤ 16384) × (top ≤ 2 ^ 58) }
-    ensures { OnOk result (text.new.items ≡ text.old.items ++ text_of (slugs_from measure top 0 slugs.now)) }
+/// Adds what stands in a line whose bands have this width, and the gap behind it.
+#[tactic(auto, using(crate::proofs::Sequences::text_append))]
+pub fn add_filled(text: &mut Vec<u8>, bed: Bed, band: u16, items: &[Item]) -> Result<(), AllocError>
+    requires { (1 ≤ bed.measure) × (bed.measure ≤ 65535) × (length items.now ≤ most_frames) × (bed.top ≤ 2 ^ 59) }
+    ensures { OnOk result (text.new.items ≡ text.old.items ++ text_of (filled_shapes bed.measure bed.top band items.now)) }
 {
-    for (before, slug) in slugs.iter().enumerate() {
-        add_slug(text, measure, top + 140 * before as u64, before + 1, slug)?;
-    }
-    Ok(())
+    let end = add_items(text, bed, band, items)?;
+    add_gap_behind(text, bed, end)
 }

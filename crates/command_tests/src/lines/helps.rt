@@ -11,19 +11,24 @@ A wire circuit whose numbers never mean two stories
 Usage: circuitd <COMMAND>
 
 Commands:
-  answer    Answers requests as one acceptor: a datagram in hex per line in, its reply per line out
-  check     Sets a tape by a code table and a width file, and writes its galley: one line per slug
-  draw      Draws a tape as an SVG document: its holes, what each frame means, and its slugs to scale
-  punch     Punches a text by a code table: writes its tape, one frame per byte
-  spell     Spells a tape by a code table: writes the text of which it is punched
-  fit       Tells of each line of a tape how it fits, whatever is wrong with the others
-  rows      Lists what a station saved: per number its promise, its vote and the frames of that, in hex
-  upgrade   Takes what a station saved over to layout 2: it speaks version 2 then, and a number may be withdrawn
-  create    Makes the row file of a station that never ran: what it promises and votes for is saved there
-  serve     Runs this plant's station on the wire, and prints each story that the circuit has agreed on
-  run       Runs this plant's station until it is stopped: stories are offered and released as files
-  rehearse  Rehearses a whole circuit by a script: who offers, what is delivered when, who starts again
-  help      Print this message or the help of the given subcommand(s)
+  answer        Answers requests as one acceptor: a datagram in hex per line in, its reply per line out
+  check         Sets a tape by a code table and a width file, and writes its galley: one line per slug
+  draw          Draws a tape as an SVG document: its holes, what each frame means, and its slugs to scale
+  chart         Draws a code table as a chart of all 64 combinations: holes, both meanings and widths
+  punch         Punches a text by a code table: writes its tape, one frame per byte
+  spell         Spells a tape by a code table: writes the text of which it is punched
+  fit           Tells of each line of a tape how it fits, whatever is wrong with the others
+  rows          Lists what a station saved: per number its promise, its vote and the frames of that, in hex
+  upgrade       Takes what a station saved over to layout 2: it speaks version 2 then, and a number may be withdrawn
+  create        Makes the row file of a station that never ran: what it promises and votes for is saved there
+  check-config  Tells of a configuration what is at fault and what is odd, and which addresses are this host's; nothing is touched
+  serve         Runs this plant's station on the wire, and prints each story that the circuit has agreed on
+  run           Runs this plant's station until it is stopped: stories are offered and released as files
+  stop          Ends the station that runs with this configuration, and waits until it has ended
+  rehearse      Rehearses a whole circuit by a script: who offers, what is delivered when, who starts again
+  import        Makes tapes of a reel from a reader of real tape: 001.tape, 002.tape, .. in a folder
+  survey        Tells of each of the 64 frames how often it comes in tapes, what it means or lacks, and where it comes first
+  help          Print this message or the help of the given subcommand(s)
 
 Options:
   -h, --help     Print help
@@ -80,17 +85,33 @@ Arguments:
   <TAPE>    The tape, one frame per byte; - is standard input
 
 Options:
-      --html  Write a page in HTML, with the drawing, the fault in words and the galley
+      --html  Write a page in HTML, with a heading and each line as a drawing of its own
   -h, --help  Print help
 
 Example: the holes of a tape and its slugs to scale, in a file that a browser shows:
 
   $ circuitd draw codes.toml widths.toml flood.tape > flood.svg
 
-A tape that does not set is drawn as far as it sets, with a mark at its fault, which is told:
+A tape that does not set is drawn whole, each line with its fault, and the first fault is told:
 
   $ circuitd draw codes.toml widths.toml overset.tape > overset.svg
   fault: overset 1 at 7 line 1
+% circuitd chart --help
+Draws a code table as a chart of all 64 combinations: holes, both meanings and widths
+
+Usage: circuitd chart [OPTIONS] <TABLE> <WIDTHS>
+
+Arguments:
+  <TABLE>   The code table, as examples/codes.toml
+  <WIDTHS>  The width file, as examples/widths.toml
+
+Options:
+      --html  Write a page in HTML, with each combination as a drawing of its own
+  -h, --help  Print help
+
+Example: what all 64 combinations of a code table mean, and how wide that is, in a file that a browser shows:
+
+  $ circuitd chart codes.toml widths.toml > chart.svg
 % circuitd punch --help
 Punches a text by a code table: writes its tape, one frame per byte
 
@@ -205,6 +226,24 @@ Example: the row file of a station that never ran, for a circuit that is new:
 
 Where a file is there already, or its log, nothing is made: a station that starts over an empty row file has
 forgotten what it promised.
+% circuitd check-config --help
+Tells of a configuration what is at fault and what is odd, and which addresses are this host's; nothing is touched
+
+Usage: circuitd check-config <CONFIG>
+
+Arguments:
+  <CONFIG>  The station's configuration: its circuit, its member, its files and folders, and the addresses of all stations
+
+Options:
+  -h, --help  Print help
+
+Example: what is found about the configuration of a plant, before its row file is made:
+
+  $ circuitd check-config station1.toml
+  station 1 at 127.0.0.1:7001 is this one, on this host
+  station 2 at 127.0.0.1:7002 is on this host too
+  station 3 at 127.0.0.1:7003 is on this host too
+  there is no station1.db yet: circuitd create makes it, for a station that never ran
 % circuitd serve --help
 Runs this plant's station on the wire, and prints each story that the circuit has agreed on
 
@@ -257,6 +296,23 @@ Where the configuration names folders, the file `12.tape` among the offers is of
 `14.withdraw` withdraws number 14, and `13.seek` asks for number 13. What the circuit has agreed on is put
 among the releases: `12.tape` and `12.galley`, or `14.void`. The file `stop` among the offers ends the
 station, and is taken away at its next start.
+% circuitd stop --help
+Ends the station that runs with this configuration, and waits until it has ended
+
+Usage: circuitd stop <CONFIG>
+
+Arguments:
+  <CONFIG>  The station's configuration, which names its folder of offers
+
+Options:
+  -h, --help  Print help
+
+Example: a station that `circuitd run station1.toml` runs ends, and its row file is closed:
+
+  $ circuitd stop station1.toml
+
+The file `stop` is laid among the offers that the configuration names. Where the station has not ended within
+30 seconds, that is told.
 % circuitd rehearse --help
 Rehearses a whole circuit by a script: who offers, what is delivered when, who starts again
 
@@ -284,6 +340,51 @@ The lines of this script print what each member did and what it sent:
    #2 prepare 1>3 12 1.1
   2 promised 1.1
    #3 promise 2>1 12 1.1
+% circuitd import --help
+Makes tapes of a reel from a reader of real tape: 001.tape, 002.tape, .. in a folder
+
+Usage: circuitd import [OPTIONS] --to <DIR> <REEL>
+
+Arguments:
+  <REEL>  What the reader gave, one frame per byte; - is standard input
+
+Options:
+      --to <DIR>         The folder that the tapes are put into, over no file that is there
+      --mask <BYTE>      Which six bits of a byte hold levels; the others are passed over [default: 0x3f]
+      --levels <DIGITS>  Which level each bit of the mask holds, from its highest bit on [default: 543210]
+      --invert           A clear bit is a hole, and not a set one
+      --split <N>        Cut the roll where so many blanks stand one behind the other, 1 to 1000000
+      --trim             Take each tape without the blanks and rub-outs at its beginning and its end
+  -h, --help             Print help
+
+Example: a roll from a reader that has level 0 in its highest bit and sets the two lowest, cut where two blanks stand, without leaders:
+
+  $ mkdir tapes
+  $ printf '\\003\\203\\103\\003\\003\\377\\203' > roll.bin
+  $ circuitd import roll.bin --to tapes --mask 0xfc --levels 012345 --split 2 --trim
+  001.tape frames 2 from 1
+  002.tape frames 1 from 6
+  tapes: 2, frames in the reel: 7
+% circuitd survey -h
+Tells of each of the 64 frames how often it comes in tapes, what it means or lacks, and where it comes first
+
+Usage: circuitd survey <TABLE> <WIDTHS> <TAPE>...
+
+Arguments:
+  <TABLE>    The code table, as examples/codes.toml
+  <WIDTHS>   The width file, as examples/widths.toml
+  <TAPE>...  The tapes, one frame per byte
+
+Options:
+  -h, --help  Print help
+
+Example: how the first frames come in a tape, and what stands around them.
+
+  $ circuitd survey codes.toml widths.toml flood.tape | head -4
+  frame  holes     times  lacks    unshift       shift
+      0  ......        0           @ignore       @ignore
+      1  o.....        2           a             A
+         flood.tape 0  [a]b a b{@elevate}
 ";
 
 /// Whether a row, of lines and the help that each of them asks for, is right.
@@ -302,5 +403,5 @@ fn lines_that_ask_for_help(rt: HostRuntime) {
     for row in rows.split("% ").skip(1) {
         assert!(rt; is_row(rt.alloc(), row) == Some(true), "{row}");
     }
-    assert!(rt; rows.split("% ").count() == 14);
+    assert!(rt; rows.split("% ").count() == 19);
 }

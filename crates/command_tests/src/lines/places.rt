@@ -168,6 +168,88 @@ $ circuitd rehearse circuitd_words/codes.toml circuitd_words/widths.toml circuit
 >  #1 prepare 2>1 12 1.2
 >  #2 prepare 2>3 12 1.2
 = done
+$ circuitd survey circuitd_words/codes.toml circuitd_words/widths.toml circuitd_words/flood.tape
+> frame  holes     times  lacks    unshift       shift
+>     0  ......        0           @ignore       @ignore
+>     1  o.....        2           a             A
+>        circuitd_words/flood.tape 0  [a]b a b{@elevate}
+>        circuitd_words/flood.tape 3  ab [a] b{@elevate}
+>     2  .o....        2           b             B
+>        circuitd_words/flood.tape 1  a[b] a b{@elevate}
+>        circuitd_words/flood.tape 5  ab a [b]{@elevate}
+>     3  oo....        2           @spaceband    @spaceband
+>        circuitd_words/flood.tape 2  ab[ ]a b{@elevate}
+>        circuitd_words/flood.tape 4  ab a[ ]b{@elevate}
+>     4  ..o...        1           @elevate      @elevate
+>        circuitd_words/flood.tape 6  ab a b[{@elevate}]
+>     5  o.o...        0           @shift        @shift
+>     6  .oo...        0           @unshift      @unshift
+>     7  ooo...        0           @quadleft     @quadcenter
+>     8  ...o..        0           @upper        @upper
+>     9  o..o..        0           @lower        @lower
+>    10  .o.o..        0           @thin         @em
+>    11  oo.o..        0           fi            @quadright
+>    12  ..oo..        0  meaning  -             -
+>    13  o.oo..        0  meaning  -             -
+>    14  .ooo..        0  meaning  -             -
+>    15  oooo..        0  meaning  -             -
+>    16  ....o.        0  meaning  -             -
+>    17  o...o.        0  meaning  -             -
+>    18  .o..o.        0  meaning  -             -
+>    19  oo..o.        0  meaning  -             -
+>    20  ..o.o.        0  meaning  -             -
+>    21  o.o.o.        0  meaning  -             -
+>    22  .oo.o.        0  meaning  -             -
+>    23  ooo.o.        0  meaning  -             -
+>    24  ...oo.        0  meaning  -             -
+>    25  o..oo.        0  meaning  -             -
+>    26  .o.oo.        0  meaning  -             -
+>    27  oo.oo.        0  meaning  -             -
+>    28  ..ooo.        0  meaning  -             -
+>    29  o.ooo.        0  meaning  -             -
+>    30  .oooo.        0  meaning  -             -
+>    31  ooooo.        0  meaning  -             -
+>    32  .....o        0  meaning  -             -
+>    33  o....o        0  meaning  -             -
+>    34  .o...o        0  meaning  -             -
+>    35  oo...o        0  meaning  -             -
+>    36  ..o..o        0  meaning  -             -
+>    37  o.o..o        0  meaning  -             -
+>    38  .oo..o        0  meaning  -             -
+>    39  ooo..o        0  meaning  -             -
+>    40  ...o.o        0  meaning  -             -
+>    41  o..o.o        0  meaning  -             -
+>    42  .o.o.o        0  meaning  -             -
+>    43  oo.o.o        0  meaning  -             -
+>    44  ..oo.o        0  meaning  -             -
+>    45  o.oo.o        0  meaning  -             -
+>    46  .ooo.o        0  meaning  -             -
+>    47  oooo.o        0  meaning  -             -
+>    48  ....oo        0  meaning  -             -
+>    49  o...oo        0  meaning  -             -
+>    50  .o..oo        0  meaning  -             -
+>    51  oo..oo        0  meaning  -             -
+>    52  ..o.oo        0  meaning  -             -
+>    53  o.o.oo        0  meaning  -             -
+>    54  .oo.oo        0  meaning  -             -
+>    55  ooo.oo        0  meaning  -             -
+>    56  ...ooo        0  meaning  -             -
+>    57  o..ooo        0  meaning  -             -
+>    58  .o.ooo        0  meaning  -             -
+>    59  oo.ooo        0  meaning  -             -
+>    60  ..oooo        0  meaning  -             -
+>    61  o.oooo        0  meaning  -             -
+>    62  .ooooo        0  meaning  -             -
+>    63  oooooo        0           @ignore       @ignore
+> frames that come and lack something: 0
+= done
+$ circuitd import --to circuitd_words/none -
+< ab
+! no folder circuitd_words/none
+= input
+$ circuitd import --to circuitd_words/none --mask 0x1f -
+! usage: --mask takes a byte of which six bits are set, as 0x3f
+= usage
 $ circuitd rows station1.db
 > rows of station1.db
 ! listed
@@ -350,7 +432,7 @@ fn words_in_their_places(rt: HostRuntime) {
     for run in runs.split("$ ").skip(1) {
         assert!(rt; goes(&rt, run) == Some(true), "{run}");
     }
-    assert!(rt; runs.split("$ ").count() == 28);
+    assert!(rt; runs.split("$ ").count() == 31);
     let lines = TOO_LONG;
     for line in lines.lines() {
         assert!(rt; is_too_long(&rt, line) == Some(true), "{line}");

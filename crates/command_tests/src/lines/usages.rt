@@ -8,7 +8,7 @@ use std::alloc::Global;
 const USAGES: &str = "\
 $ circuitd
 'circuitd' requires a subcommand but one was not provided
-  [subcommands: answer, check, draw, punch, spell, fit, rows, upgrade, create, serve, run, rehearse, help]
+  [subcommands: answer, check, draw, chart, punch, spell, fit, rows, upgrade, create, check-config, serve, run, stop, rehearse, import, survey, help]
 
 Usage: circuitd <COMMAND>
 $ circuitd sing
@@ -84,6 +84,18 @@ the following required arguments were not provided:
   <SCRIPT>
 
 Usage: circuitd rehearse <TABLE> <WIDTHS> <SCRIPT>
+$ circuitd import roll.bin
+the following required arguments were not provided:
+  --to <DIR>
+
+Usage: circuitd import --to <DIR> <REEL>
+$ circuitd import roll.bin --to tapes --split 0
+invalid value '0' for '--split <N>': 0 is not in 1..=1000000
+$ circuitd survey codes.toml widths.toml
+the following required arguments were not provided:
+  <TAPE>...
+
+Usage: circuitd survey <TABLE> <WIDTHS> <TAPE>...
 $ circuitd serve
 the following required arguments were not provided:
   --turns <T>
@@ -182,5 +194,5 @@ fn lines_that_are_usage(rt: HostRuntime) {
     for row in rows.split("$ ").skip(1) {
         assert!(rt; is_row(rt.alloc(), row) == Some(true), "{row}");
     }
-    assert!(rt; rows.split("$ ").count() == 44);
+    assert!(rt; rows.split("$ ").count() == 47);
 }

@@ -1,6 +1,6 @@
 //! What `draw` writes, how it ends, and what it tells.
 
-use crate::drawings::documents::{FLOOD_SVG, NAMES_HTML, OVERSET_SVG, UNFINISHED_HTML};
+use crate::drawings::documents::{FLOOD_SVG, LOOSE_SVG, NAMES_HTML, OVERSET_SVG, UNFINISHED_HTML};
 use crate::failing::Narrow;
 use command_ends::{End, TapePaths};
 use draw_command::draw;
@@ -92,6 +92,23 @@ fn a_story_that_is_overset(rt: HostRuntime) {
 }
 
 #[test]
+fn a_story_that_is_loose(rt: HostRuntime) {
+    let files = (CODES, WIDTHS);
+    let err = "fault: loose 14 at 3 line 1\n";
+    assert!(rt;
+        draws(
+            rt.alloc(),
+            files,
+            &[1, 3, 1, 4],
+            Page::Svg,
+            End::Input,
+            LOOSE_SVG,
+            err
+        )
+    );
+}
+
+#[test]
 fn a_story_that_is_never_cut(rt: HostRuntime) {
     let files = (CODES, WIDTHS);
     let err = "fault: unfinished at 1 line 1\n";
@@ -157,7 +174,7 @@ fn longest(alloc: Global) -> usize {
 #[test]
 fn the_longest_tape(rt: HostRuntime) {
     let bytes = longest(rt.alloc());
-    assert!(rt; 4_000_000 < bytes && bytes < 8_000_000, "{bytes}");
+    assert!(rt; 2_000_000 < bytes && bytes < 4_000_000, "{bytes}");
 }
 
 /// How many of the first bytes of the drawing a writer with this room has, where the command ends by that.

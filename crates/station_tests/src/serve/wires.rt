@@ -17,6 +17,8 @@ pub enum Manner {
     Torn,
     /// Strangers send to it, whenever it is asked.
     Watched,
+    /// A tenth of a second goes by whenever its clock is asked.
+    Passing,
 }
 
 /// A wire to which these datagrams come, and then nothing. It keeps what it was asked to send.
@@ -96,6 +98,9 @@ impl Wire for Scripted {
     }
 
     fn now(&mut self) -> u64 {
+        if self.manner == Manner::Passing {
+            self.moment = self.moment.saturating_add(100);
+        }
         self.moment
     }
 

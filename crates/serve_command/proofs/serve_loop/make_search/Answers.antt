@@ -1,34 +1,20 @@
 -- A search is one step, at the moment of the clock.
 use Rattle.std.proofs.Common.{ℕ, Option, [], refl, sym, subst}
-use Rattle.protocol.specs.Refusals.{Seeking}
 use Rattle.command_ends.specs.declared.end.End.TheVariants as ends
-use Rattle.serve_command.specs.Serving.{known, post, AtClock, IsSeeking, IsSearch}
-use Rattle.exchange.proofs.Stretches.{ends_badly, Passes-nil}
-use Rattle.serve_command.proofs.Served.{nothing, handed, denied, clocked, of_form}
+use Rattle.exchange.specs.Events.{ended}
+use Rattle.exchange.proofs.Stretches.{Passes-nil}
+use Rattle.driver.specs.Driving.{known, fate_of, post_of}
+use Rattle.driver.proofs.Driven.{nothing, of_form}
+use Rattle.serve_command.specs.Serving.{IsSearch}
 use Rattle.serve_command.proofs.serve_loop.make_search.Goals as goal
 
-pub returns-in_default-clause-serves : goal.returns-in_default-clause-serves
-returns-in_default-clause-serves g c =
-    nothing (known g.R.Rows g.N.Wire.passed g.W.Write.contents) c.args.station.now c.args.wire.now c.args.wire.now c.args.out.now ends.Done (IsSearch c.args.seek)
-    (Passes-nil (g.N.Wire.passed c.args.wire.now)) (λ done. subst (λ (o : Option ℕ). IsSearch o []) (sym c.in_default.is) refl) refl
+pub returns-in-None-clause-drove : goal.returns-in-None-clause-drove
+returns-in-None-clause-drove g c =
+    let d = c.args.driver.now in
+    nothing (known g.R.Rows g.N.Wire.passed (fate_of g.S.Sink)) g.S.Sink.may g.met.S.Sink.fates d.station.now d.wire.now d.wire.now d.sink ends.Done (IsSearch c.args.seek)
+    (Passes-nil (g.N.Wire.passed d.wire.now)) (λ done. subst (λ (o : Option ℕ). IsSearch o []) (sym c.in-None.is) refl) refl
 
-pub returns-in-Ok-clause-serves : goal.returns-in-Ok-clause-serves
-returns-in-Ok-clause-serves g c =
-    let k = known g.R.Rows g.N.Wire.passed g.W.Write.contents in
-    let new = post c.seek.new.self c.hand_on.new.wire c.hand_on.new.out in
-    of_form k (post c.args.station.now c.args.wire.now c.args.out.now) new _ (AtClock (IsSeeking c.in-Some.number)) (IsSearch c.args.seek)
-    (λ log done form. subst (λ (o : Option ℕ). IsSearch o log) (sym c.in-Some.is) form)
-    (clocked k c.args.station.now c.args.wire.now c.now-now.new.self c.args.out.now new c.now-now.result _ (IsSeeking c.in-Some.number) c.now-now.ensures.passes
-    (handed k (Seeking c.in-Some.number c.now-now.result) c.in-Ok.answer (post c.args.station.now c.now-now.new.self c.args.out.now) new c.now-now.new.self c.hand_on.result (IsSeeking c.in-Some.number c.now-now.result)
-    (λ kept. c.in-Ok.ensures) (Passes-nil (g.N.Wire.passed c.now-now.new.self)) c.hand_on.ensures.sends c.hand_on.ensures.ok c.hand_on.ensures.err c.hand_on.ensures.fault
-    c.in-Ok.ensures.stops (_, refl)))
-
-pub returns-in-Err-clause-serves : goal.returns-in-Err-clause-serves
-returns-in-Err-clause-serves g c =
-    let k = known g.R.Rows g.N.Wire.passed g.W.Write.contents in
-    let new = post c.seek.new.self c.now-now.new.self c.args.out.now in
-    of_form k (post c.args.station.now c.args.wire.now c.args.out.now) new _ (AtClock (λ now log. Unit {0})) (IsSearch c.args.seek)
-    (λ log done form. absurd (ends_badly c.of_step.result done))
-    (clocked k c.args.station.now c.args.wire.now c.now-now.new.self c.args.out.now new c.now-now.result _ (λ now log. Unit {0}) c.now-now.ensures.passes
-    (denied k (Seeking c.in-Some.number c.now-now.result) c.in-Err.refusal c.args.station.now c.seek.new.self c.now-now.new.self c.args.out.now c.of_step.result (λ log. Unit {0})
-    (λ kept. c.in-Err.ensures) (Passes-nil (g.N.Wire.passed c.now-now.new.self)) c.in-Err.ensures.stops c.of_step.ensures))
+pub returns-in-Some-clause-drove : goal.returns-in-Some-clause-drove
+returns-in-Some-clause-drove g c =
+    of_form (known g.R.Rows g.N.Wire.passed (fate_of g.S.Sink)) (post_of c.args.driver.now) (post_of c.ask.new.self) (ended c.ask.result) _ (IsSearch c.args.seek)
+    (λ log done form. subst (λ (o : Option ℕ). IsSearch o log) (sym c.in-Some.is) form) c.ask.ensures.drove

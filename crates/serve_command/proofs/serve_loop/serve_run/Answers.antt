@@ -1,44 +1,37 @@
--- What was asked, and then the turns.
-use Rattle.std.proofs.Common.{rules, ◌≡◌, false, ◌∙◌, refl, inl}
-use Rattle.command_ends.specs.Ends.{end_of}
+-- What was asked and the turns, over the output behind the printer.
+use Rattle.std.proofs.Common.{rules, ◌≡◌, ◌∙◌, inl, refl}
 use Rattle.command_ends.specs.declared.end.End.TheVariants as ends
-use Rattle.serve_command.specs.Serving.{known, post, IsAsking, AreTurns, IsRun}
-use Rattle.serve_command.proofs.Served.{untouched, and_then, of_form, answered, stays}
+use Rattle.driver.specs.Driving.{known, post_of}
+use Rattle.driver.proofs.Driven.{answered, came_from, left_so, seen_from, untouched}
+use Rattle.serve_command.specs.Serving.{prints, IsRun}
+use Rattle.serve_command.specs.Printed.{printing_fates}
 use Rattle.serve_command.proofs.serve_loop.serve_run.Goals as goal
 
 pub returns-then-stopped-clause-serves : goal.returns-then-stopped-clause-serves
 returns-then-stopped-clause-serves g c =
-    untouched (known g.R.Rows g.N.Wire.passed g.W.Write.contents) c.args.station.now c.args.wire.now c.args.out.now ends.Input c.tell.result (IsRun c.args.offer c.args.withdraw c.args.seek c.args.turns)
+    untouched (known g.R.Rows g.N.Wire.passed (prints g.W.Write.contents)) _ (printing_fates g.W.Write.contents) c.args.station.now c.args.wire.now c.args.out.now ends.Input c.tell.result (IsRun c.args.offer c.args.withdraw c.args.seek c.args.turns)
     (c.tell.ensures.end ∙ c.of_step.ensures) c.tell.ensures.fails refl
 
 pub returns-in_default-clause-serves : goal.returns-in_default-clause-serves
 returns-in_default-clause-serves g c =
-    untouched (known g.R.Rows g.N.Wire.passed g.W.Write.contents) c.args.station.now c.args.wire.now c.args.out.now ends.Memory c.tell-in_default.result (IsRun c.args.offer c.args.withdraw c.args.seek c.args.turns)
+    untouched (known g.R.Rows g.N.Wire.passed (prints g.W.Write.contents)) _ (printing_fates g.W.Write.contents) c.args.station.now c.args.wire.now c.args.out.now ends.Memory c.tell-in_default.result (IsRun c.args.offer c.args.withdraw c.args.seek c.args.turns)
     c.tell-in_default.ensures.end c.tell-in_default.ensures.fails (inl refl)
 
-pub returns-in-Ok-ask-clause-serves : goal.returns-in-Ok-ask-clause-serves
-returns-in-Ok-ask-clause-serves g c =
-    and_then (known g.R.Rows g.N.Wire.passed g.W.Write.contents)
-    (post c.args.station.now c.args.wire.now c.args.out.now) (post c.ask.new.station c.ask.new.wire c.ask.new.out)
-    (post c.take_turns.new.station c.take_turns.new.wire c.take_turns.new.out) c.take_turns.result (IsAsking c.args.offer c.args.withdraw c.args.seek) (AreTurns c.args.turns)
-    c.take_turns.ensures.was_kept c.in-Ok-ask.ensures.serves c.take_turns.ensures.serves
-
-pub returns-in-Ok-ask-clause-goes_on : goal.returns-in-Ok-ask-clause-goes_on
-returns-in-Ok-ask-clause-goes_on g c = λ done.
-    let k = known g.R.Rows g.N.Wire.passed g.W.Write.contents in
-    let old = post c.args.station.now c.args.wire.now c.args.out.now in
-    let mid = post c.ask.new.station c.ask.new.wire c.ask.new.out in
-    let new = post c.take_turns.new.station c.take_turns.new.wire c.take_turns.new.out in
-    let going : c.args.station.now.stopped ≡ false = search rules in
-    stays k mid new c.take_turns.result (AreTurns c.args.turns) done c.take_turns.ensures.serves
-    ∙ stays k old mid ends.Done (IsAsking c.args.offer c.args.withdraw c.args.seek) refl c.in-Ok-ask.ensures.serves
-    ∙ going
+pub returns-in-Ok-ask_and_turn-clause-serves : goal.returns-in-Ok-ask_and_turn-clause-serves
+returns-in-Ok-ask_and_turn-clause-serves g c =
+    let last = c.ask_and_turn.new.driver in
+    let form = IsRun c.args.offer c.args.withdraw c.args.seek c.args.turns in
+    let came = came_from _ _ (post_of last) _ _ _ ends.Done form c.new-driver.ensures.is c.in-Ok-ask_and_turn.ensures.drove in
+    let same : last.sink.out.ghost_name ≡ _ = came.1.0 in
+    let seen = seen_from _ (prints g.W.Write.contents) _ (post_of last) _ _ _ ends.Done form c.args.out.now last.sink.out.now c.new-driver.ensures.is c.in-Ok-ask_and_turn.ensures.drove (λ log p. p.1) (λ log p. p.1) in
+    left_so _ _ last.station.now _ last.wire.now _ last.sink.out.now _ ends.Done form (search rules) (search rules) (search rules) seen
 
 pub returns-clause-serves : goal.returns-clause-serves
 returns-clause-serves g c =
-    let k = known g.R.Rows g.N.Wire.passed g.W.Write.contents in
-    let old = post c.args.station.now c.args.wire.now c.args.out.now in
-    let new = post c.ask.new.station c.ask.new.wire c.ask.new.out in
-    of_form k old new c.tell-in-Err.result (IsAsking c.args.offer c.args.withdraw c.args.seek) (IsRun c.args.offer c.args.withdraw c.args.seek c.args.turns)
-    (λ log done form. absurd (c.tell-in-Err.ensures.fails done))
-    (answered k old new (end_of c.in-Err.fault) c.tell-in-Err.result (IsAsking c.args.offer c.args.withdraw c.args.seek) c.tell-in-Err.ensures.end c.in-Err.ensures.serves)
+    let last = c.ask_and_turn.new.driver in
+    let form = IsRun c.args.offer c.args.withdraw c.args.seek c.args.turns in
+    let came = came_from _ _ (post_of last) _ _ _ _ form c.new-driver.ensures.is c.in-Err.ensures.drove in
+    let same : last.sink.out.ghost_name ≡ _ = came.1.0 in
+    let seen = seen_from _ (prints g.W.Write.contents) _ (post_of last) _ _ _ _ form c.args.out.now last.sink.out.now c.new-driver.ensures.is c.in-Err.ensures.drove (λ log p. p.1) (λ log p. p.1) in
+    let told = answered _ _ _ _ c.tell-in-Err.result form c.tell-in-Err.ensures.end seen in
+    left_so _ _ last.station.now _ last.wire.now _ last.sink.out.now _ c.tell-in-Err.result form (search rules) (search rules) (search rules) told

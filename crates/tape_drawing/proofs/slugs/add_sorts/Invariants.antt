@@ -8,5 +8,5 @@ use Rattle.tape_drawing.proofs.slugs.add_sorts.Given as goal
 abbrev pub invariant-loop-sort : goal.invariant-loop-sort
 invariant-loop-sort l = record {
   from : l.from ≡ l.left + sum_by sort_width (take l.sort-index l.sorts);
-  text : l.text.items ≡ l.initial.text.items ++ text_of (sorts_shapes l.measure l.top l.left (take l.sort-index l.sorts));
+  text : l.text.items ≡ l.initial.text.items ++ text_of (sorts_shapes l.bed.measure l.bed.top l.left (take l.sort-index l.sorts));
 }

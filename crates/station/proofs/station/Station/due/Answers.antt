@@ -18,7 +18,7 @@ returns-in-None g c =
     (λ goes. idle g.R.Rows call mid c.idle.result c.idle.ensures.out c.idle.ensures.release (λ marks stands.
     idled (sight g.R.Rows) mid marks c.args.now c.idle.result goes
     (due_at mid marks c.args.now c.core.result.now c.next_due.result c.core.ensures (c.next_due.ensures.value marks) stands ∙ c.in-None.is)
-    c.idle.ensures.out c.idle.ensures.release c.idle.ensures.note))
+    c.idle.ensures.out c.idle.ensures.release c.idle.ensures.note c.idle.ensures.number))
 
 pub returns-in-Some : goal.returns-in-Some
 returns-in-Some g c =

@@ -1,0 +1,4 @@
+pub mod Cells
+pub mod Texts
+pub mod Document
+pub mod Laws

@@ -1,0 +1,373 @@
+//! The cells of a chart: each combination with its holes and both its meanings.
+
+ghost use Rattle.std.specs.Prelude.{◌≡◌, ◌++◌, ◌<◌, ◌≤◌, OnOk, option_copied, option_map, flat_map, map, codes};
+ghost use Rattle.code_table.specs.Tables.{mean};
+ghost use Rattle.code_table.specs.declared.case.Case.TheVariants as cases;
+ghost use Rattle.code_chart.specs.Cells.{said, cell, chart};
+ghost use Rattle.code_chart.specs.Document.{corner, lead_text, units_text, between_text, lacking_text, span_text, shared_text, twin_text, name_text, nothing_text, told_text, said_text, card_lead, card_text, paper_text, number_text, group_text, view_text, open_text, close_text, title_text, ground_text, both_text, cell_at, cell_text, cells_text};
+
+use crate::said::{Span, Told, tell};
+use code_table::{Case, CodeTable, Meaning};
+use std::alloc::AllocError;
+use tape_drawing::{
+    Page, Place, Room, Style, add_count, add_escaped, add_fitted, add_holes, add_pair, add_paper,
+    add_words, mark_style, mark_word, meaning_word,
+};
+use widths::Widths;
+
+/// What the cells are made of.
+#[derive(Clone, Copy)]
+pub struct Sheet<'a> {
+    pub page: Page,
+    pub table: &'a CodeTable,
+    pub widths: &'a Widths,
+}
+
+/// The upper left corner of a cell.
+fn corner(frame: u8) -> Place
+    requires { frame < 64 }
+    ensures value { result ≡ corner frame }
+    ensures small { (result.x ≤ 1000) × (result.y ≤ 1000) }
+{
+    Place {
+        x: 20 + 100 * u64::from(frame % 8),
+        y: 120 + 84 * u64::from(frame / 8),
+    }
+}
+
+/// Adds what begins words of a class at a place.
+#[tactic(auto, unfolding(crate::specs::Document::lead_text))]
+fn add_lead(text: &mut Vec<u8>, lead: &str, at: Place) -> Result<(), AllocError>
+    ensures { OnOk result (text.new.items ≡ text.old.items ++ lead_text lead.now at) }
+{
+    add_pair(text, lead, at.x, "' y='", at.y)
+}
+
+/// Adds a width in units.
+#[tactic(auto, unfolding(crate::specs::Document::units_text))]
+fn add_units(text: &mut Vec<u8>, at: Place, units: u64) -> Result<(), AllocError>
+    ensures { OnOk result (text.new.items ≡ text.old.items ++ units_text at units) }
+{
+    add_lead(text, "<text class='w' x='", at)?;
+    add_count(text, "'>", units)?;
+    text.extend_from_slice(b"</text>\n")
+}
+
+/// Adds the least and the greatest width of a spaceband.
+#[tactic(auto, unfolding(crate::specs::Document::between_text))]
+fn add_between(text: &mut Vec<u8>, at: Place, least: u64, greatest: u64) -> Result<(), AllocError>
+    ensures { OnOk result (text.new.items ≡ text.old.items ++ between_text at least greatest) }
+{
+    add_lead(text, "<text class='w' x='", at)?;
+    add_pair(text, "'>", least, "-", greatest)?;
+    text.extend_from_slice(b"</text>\n")
+}
+
+/// Adds the mark of a matrix without a width.
+#[tactic(auto, unfolding(crate::specs::Document::lacking_text))]
+fn add_lacking(text: &mut Vec<u8>, at: Place) -> Result<(), AllocError>
+    ensures { OnOk result (text.new.items ≡ text.old.items ++ lacking_text at) }
+{
+    add_lead(text, "<text class='o x' x='", at)?;
+    text.extend_from_slice(b"'>no width</text>\n")
+}
+
+/// Adds how wide a meaning is, or that it lacks a width.
+fn add_span(text: &mut Vec<u8>, at: Place, span: Span) -> Result<(), AllocError>
+    requires { (at.x ≤ 1100) × (at.y ≤ 1100) }
+    ensures { OnOk result (text.new.items ≡ text.old.items ++ span_text at span) }
+{
+    let beside = Place {
+        x: at.x + 66,
+        y: at.y,
+    };
+    let below = Place {
+        x: at.x + 58,
+        y: at.y + 12,
+    };
+    match span {
+        Span::Nothing => Ok(()),
+        Span::Units(units) => add_units(text, beside, u64::from(units)),
+        Span::Between { least, greatest } => {
+            add_between(text, beside, u64::from(least), u64::from(greatest))
+        }
+        Span::Lacking => add_lacking(text, below),
+    }
+}
+
+/// Adds the mark of a meaning that another combination has too.
+#[tactic(auto, unfolding(crate::specs::Document::shared_text))]
+fn add_shared(text: &mut Vec<u8>, at: Place, other: u8) -> Result<(), AllocError>
+    ensures { OnOk result (text.new.items ≡ text.old.items ++ shared_text at other) }
+{
+    add_lead(text, "<text class='g' x='", at)?;
+    add_count(text, "'>= ", u64::from(other))?;
+    text.extend_from_slice(b"</text>\n")
+}
+
+/// The same, where there is one.
+fn add_twin(text: &mut Vec<u8>, at: Place, twin: Option<u8>) -> Result<(), AllocError>
+    requires { (at.x ≤ 1100) × (at.y ≤ 1100) }
+    ensures { OnOk result (text.new.items ≡ text.old.items ++ twin_text at twin) }
+{
+    let below = Place {
+        x: at.x + 30,
+        y: at.y + 12,
+    };
+    match twin {
+        Some(other) => add_shared(text, below, other),
+        None => Ok(()),
+    }
+}
+
+/// Adds the name of a matrix, or the letters of a function.
+fn add_name(text: &mut Vec<u8>, at: Place, meaning: &Meaning) -> Result<(), AllocError>
+    requires { (at.x ≤ 1100) × (at.y ≤ 1100) }
+    ensures { OnOk result (text.new.items ≡ text.old.items ++ name_text at meaning.now) }
+{
+    let word = mark_word(Some(meaning));
+    let style = mark_style(Some(meaning));
+    let middle = Place {
+        x: at.x + 46,
+        y: at.y,
+    };
+    if word.len() >= 4 {
+        let room = Room {
+            at: middle,
+            length: 34,
+        };
+        add_fitted(text, style, room, word)
+    } else {
+        add_words(text, style, middle, word)
+    }
+}
+
+/// Adds the mark of a combination without a meaning.
+#[tactic(auto, unfolding(crate::specs::Document::nothing_text))]
+fn add_nothing(text: &mut Vec<u8>, at: Place) -> Result<(), AllocError>
+    requires { (at.x ≤ 1100) × (at.y ≤ 1100) }
+    ensures { OnOk result (text.new.items ≡ text.old.items ++ nothing_text at) }
+{
+    let middle = Place {
+        x: at.x + 46,
+        y: at.y,
+    };
+    let below = Place {
+        x: at.x + 30,
+        y: at.y + 12,
+    };
+    add_words(text, Style::Unknown, middle, b"?")?;
+    add_words(text, Style::Fault, below, b"no meaning")
+}
+
+/// Adds what is told of a meaning.
+fn add_told(text: &mut Vec<u8>, at: Place, told: Told) -> Result<(), AllocError>
+    requires { (at.x ≤ 1100) × (at.y ≤ 1100) }
+    ensures { OnOk result (text.new.items ≡ text.old.items ++ told_text at told) }
+{
+    add_span(text, at, told.span)?;
+    add_twin(text, at, told.twin)
+}
+
+/// A combination and where what is said of it stands.
+#[derive(Clone, Copy)]
+struct Spot {
+    frame: u8,
+    at: Place,
+}
+
+/// Adds what is said of a meaning of a frame.
+fn add_said(
+    text: &mut Vec<u8>,
+    sheet: &Sheet<'_>,
+    spot: Spot,
+    meaning: Option<&Meaning>,
+) -> Result<(), AllocError>
+    requires { (spot.at.x ≤ 1100) × (spot.at.y ≤ 1100) }
+    ensures { OnOk result (text.new.items ≡ text.old.items
+        ++ said_text spot.at (option_map (said sheet.now.widths.now (mean sheet.now.table.now) spot.frame) (option_copied meaning.entry))) }
+{
+    match meaning {
+        Some(meaning) => {
+            let told = tell(sheet.table, sheet.widths, spot.frame, meaning);
+            add_name(text, spot.at, meaning)?;
+            add_told(text, spot.at, told)
+        }
+        None => add_nothing(text, spot.at),
+    }
+}
+
+/// What begins the card of a cell.
+fn card_lead(meaning: Option<&Meaning>) -> &'static str
+    ensures { result.now ≡ card_lead (option_copied meaning.entry) }
+{
+    match meaning {
+        Some(_) => "<rect class='m' x='",
+        None => "<rect class='v' x='",
+    }
+}
+
+/// Adds the card of a cell.
+#[tactic(auto, unfolding(crate::specs::Document::card_text))]
+fn add_card(text: &mut Vec<u8>, meaning: Option<&Meaning>, at: Place) -> Result<(), AllocError>
+    ensures { OnOk result (text.new.items ≡ text.old.items ++ card_text (option_copied meaning.entry) at) }
+{
+    add_lead(text, card_lead(meaning), at)?;
+    text.extend_from_slice(b"' width='96' height='80'/>\n")
+}
+
+/// Adds the paper of a combination with its holes.
+#[tactic(auto, unfolding(crate::specs::Document::paper_text))]
+fn add_strip(text: &mut Vec<u8>, frame: u8, at: Place) -> Result<(), AllocError>
+    requires { (frame < 64) × (at.x ≤ 1000) × (at.y ≤ 1000) }
+    ensures { OnOk result (text.new.items ≡ text.old.items ++ paper_text frame at) }
+{
+    let paper = Place {
+        x: at.x + 6,
+        y: at.y + 6,
+    };
+    let column = Place {
+        x: at.x + 15,
+        y: at.y + 6,
+    };
+    add_paper(text, paper, 1)?;
+    text.extend_from_slice(b"<path d='")?;
+    add_holes(text, frame, column)?;
+    text.extend_from_slice(b"'/>\n")
+}
+
+/// Adds its number below them.
+#[tactic(auto, unfolding(crate::specs::Document::number_text))]
+fn add_frame_number(text: &mut Vec<u8>, frame: u8, at: Place) -> Result<(), AllocError>
+    requires { (at.x ≤ 1000) × (at.y ≤ 1000) }
+    ensures { OnOk result (text.new.items ≡ text.old.items ++ number_text frame at) }
+{
+    let below = Place {
+        x: at.x + 15,
+        y: at.y + 76,
+    };
+    add_lead(text, "<text class='n' x='", below)?;
+    add_count(text, "'>", u64::from(frame))?;
+    text.extend_from_slice(b"</text>\n")
+}
+
+/// Adds what begins the group of a cell.
+#[tactic(auto, unfolding(crate::specs::Document::group_text))]
+fn add_group(text: &mut Vec<u8>, number: u64) -> Result<(), AllocError>
+    ensures { OnOk result (text.new.items ≡ text.old.items ++ group_text number) }
+{
+    add_count(text, "<g id='frame", number)?;
+    text.extend_from_slice(b"'>\n")
+}
+
+/// Adds what begins the drawing of a cell.
+#[tactic(auto, unfolding(crate::specs::Document::view_text))]
+fn add_view(text: &mut Vec<u8>, number: u64, at: Place) -> Result<(), AllocError>
+    ensures { OnOk result (text.new.items ≡ text.old.items ++ view_text number at) }
+{
+    add_count(text, "<svg id='frame", number)?;
+    add_pair(text, "' viewBox='", at.x, " ", at.y)?;
+    text.extend_from_slice(b" 100 84'>\n")
+}
+
+/// Adds what begins a cell.
+fn add_open(text: &mut Vec<u8>, page: Page, frame: u8, at: Place) -> Result<(), AllocError>
+    ensures { OnOk result (text.new.items ≡ text.old.items ++ open_text page frame at) }
+{
+    match page {
+        Page::Svg => add_group(text, u64::from(frame)),
+        Page::Html => add_view(text, u64::from(frame), at),
+    }
+}
+
+/// Adds what ends it.
+fn add_close(text: &mut Vec<u8>, page: Page) -> Result<(), AllocError>
+    ensures { OnOk result (text.new.items ≡ text.old.items ++ close_text page) }
+{
+    match page {
+        Page::Svg => text.extend_from_slice(b"</g>\n"),
+        Page::Html => text.extend_from_slice(b"</svg>\n"),
+    }
+}
+
+/// Adds the words of a cell, for who points at it.
+#[tactic(auto, unfolding(crate::specs::Document::title_text))]
+fn add_title(
+    text: &mut Vec<u8>,
+    frame: u8,
+    unshift: Option<&Meaning>,
+    shift: Option<&Meaning>,
+) -> Result<(), AllocError>
+    ensures { OnOk result (text.new.items ≡ text.old.items ++ title_text frame (option_copied unshift.entry) (option_copied shift.entry)) }
+{
+    add_count(text, "<title>", u64::from(frame))?;
+    text.extend_from_slice(b": ")?;
+    add_escaped(text, meaning_word(unshift))?;
+    text.extend_from_slice(b", ")?;
+    add_escaped(text, meaning_word(shift))?;
+    text.extend_from_slice(b"</title>\n")
+}
+
+/// Adds the words of a cell, its card, its holes and its number.
+#[tactic(auto, using(crate::proofs::Chart::meaning_in_cell))]
+fn add_ground(text: &mut Vec<u8>, sheet: &Sheet<'_>, frame: u8, at: Place) -> Result<(), AllocError>
+    requires { (frame < 64) × (at.x ≤ 1000) × (at.y ≤ 1000) }
+    ensures { OnOk result (text.new.items ≡ text.old.items ++ ground_text (cell sheet.now.widths.now (mean sheet.now.table.now) frame) at) }
+{
+    let unshift = sheet.table.meaning(Case::Unshift, frame);
+    let shift = sheet.table.meaning(Case::Shift, frame);
+    add_title(text, frame, unshift, shift)?;
+    add_card(text, unshift, at)?;
+    add_strip(text, frame, at)?;
+    add_frame_number(text, frame, at)
+}
+
+/// Adds both meanings of a cell.
+fn add_both(text: &mut Vec<u8>, sheet: &Sheet<'_>, frame: u8, at: Place) -> Result<(), AllocError>
+    requires { (frame < 64) × (at.x ≤ 1000) × (at.y ≤ 1000) }
+    ensures { OnOk result (text.new.items ≡ text.old.items ++ both_text (cell sheet.now.widths.now (mean sheet.now.table.now) frame) at) }
+{
+    let above = Spot {
+        frame,
+        at: Place {
+            x: at.x,
+            y: at.y + 26,
+        },
+    };
+    let below = Spot {
+        frame,
+        at: Place {
+            x: at.x,
+            y: at.y + 60,
+        },
+    };
+    add_said(
+        text,
+        sheet,
+        above,
+        sheet.table.meaning(Case::Unshift, frame),
+    )?;
+    add_said(text, sheet, below, sheet.table.meaning(Case::Shift, frame))
+}
+
+/// Adds a cell.
+fn add_cell(text: &mut Vec<u8>, sheet: &Sheet<'_>, frame: u8) -> Result<(), AllocError>
+    requires { frame < 64 }
+    ensures { OnOk result (text.new.items ≡ text.old.items ++ cell_text sheet.now.page (cell sheet.now.widths.now (mean sheet.now.table.now) frame)) }
+{
+    let at = corner(frame);
+    add_open(text, sheet.page, frame, at)?;
+    add_ground(text, sheet, frame, at)?;
+    add_both(text, sheet, frame, at)?;
+    add_close(text, sheet.page)
+}
+
+/// Adds the cells of a chart.
+pub fn add_cells(text: &mut Vec<u8>, sheet: &Sheet<'_>) -> Result<(), AllocError>
+    ensures { OnOk result (text.new.items ≡ text.old.items ++ cells_text sheet.now.page (chart sheet.now.widths.now (mean sheet.now.table.now))) }
+{
+    for frame in 0..64u8 {
+        add_cell(text, sheet, frame)?;
+    }
+    Ok(())
+}

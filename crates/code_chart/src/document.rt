@@ -1,0 +1,151 @@
+//! The document of a chart.
+
+ghost use Rattle.std.specs.Prelude.{◌≡◌, ◌++◌, OnOk, IfOk};
+ghost use Rattle.code_table.specs.Tables.{mean};
+ghost use Rattle.tape_drawing.specs.Shapes.{escaped};
+ghost use Rattle.code_chart.specs.Cells.{chart};
+ghost use Rattle.code_chart.specs.Document.{title_words, legend_text, svg_open, svg_head, page_open, page_head, text_with, chart_text};
+
+use crate::cells::{Sheet, add_cells};
+use crate::texts::{
+    first_legend, fourth_legend, page_end, page_legend, page_style_end, page_style_lead,
+    second_legend, style, svg_ground, svg_middle, svg_style_lead, third_legend,
+};
+use code_table::CodeTable;
+use std::alloc::{AllocError, Global};
+use tape_drawing::{Page, Place, Style, add_escaped, add_words, page_lead, svg_lead};
+use widths::Widths;
+
+/// What is to be charted: a table and widths, with the names that they were given by, and as what it is written.
+#[derive(Clone, Copy)]
+pub struct ChartOrder<'a> {
+    pub table: &'a CodeTable,
+    pub widths: &'a Widths,
+    /// What the table is called.
+    pub table_name: &'a str,
+    /// What the width file is called.
+    pub widths_name: &'a str,
+    pub page: Page,
+}
+
+/// The title.
+fn title_of(alloc: Global, order: &ChartOrder<'_>) -> Result<Vec<u8>, AllocError>
+    ensures { IfOk result (λ words. words.items ≡ title_words order.now.table_name.now order.now.widths_name.now) }
+{
+    let mut words = Vec::new(alloc);
+    words.extend_from_slice(order.table_name.as_bytes())?;
+    words.extend_from_slice(b", with the widths of ")?;
+    words.extend_from_slice(order.widths_name.as_bytes())?;
+    Ok(words)
+}
+
+/// Adds how a cell reads, and what the marks stand for.
+#[tactic(auto, unfolding(crate::specs::Document::legend_text))]
+fn add_legend(text: &mut Vec<u8>) -> Result<(), AllocError>
+    ensures { OnOk result (text.new.items ≡ text.old.items ++ legend_text) }
+{
+    add_words(
+        text,
+        Style::Head,
+        Place { x: 20, y: 52 },
+        first_legend().as_bytes(),
+    )?;
+    add_words(
+        text,
+        Style::Head,
+        Place { x: 20, y: 70 },
+        second_legend().as_bytes(),
+    )?;
+    add_words(
+        text,
+        Style::Head,
+        Place { x: 20, y: 88 },
+        third_legend().as_bytes(),
+    )?;
+    add_words(
+        text,
+        Style::Head,
+        Place { x: 20, y: 104 },
+        fourth_legend().as_bytes(),
+    )
+}
+
+/// Adds what begins a document, with its title.
+#[tactic(auto, unfolding(crate::specs::Document::svg_open))]
+fn add_svg_open(text: &mut Vec<u8>, title: &[u8]) -> Result<(), AllocError>
+    ensures { OnOk result (text.new.items ≡ text.old.items ++ svg_open title.now) }
+{
+    text.extend_from_slice(svg_lead().as_bytes())?;
+    text.extend_from_slice(svg_middle().as_bytes())?;
+    add_escaped(text, title)?;
+    text.extend_from_slice(svg_style_lead().as_bytes())
+}
+
+/// Adds how a document looks, and its head.
+#[tactic(auto, unfolding(crate::specs::Document::svg_head))]
+fn add_svg_head(text: &mut Vec<u8>, title: &[u8]) -> Result<(), AllocError>
+    ensures { OnOk result (text.new.items ≡ text.old.items ++ svg_head title.now) }
+{
+    text.extend_from_slice(style().as_bytes())?;
+    text.extend_from_slice(svg_ground().as_bytes())?;
+    add_words(text, Style::Heading, Place { x: 20, y: 30 }, title)?;
+    add_legend(text)
+}
+
+/// Adds what begins a page, with its title.
+#[tactic(auto, unfolding(crate::specs::Document::page_open))]
+fn add_page_open(text: &mut Vec<u8>, title: &[u8]) -> Result<(), AllocError>
+    ensures { OnOk result (text.new.items ≡ text.old.items ++ page_open title.now) }
+{
+    text.extend_from_slice(page_lead().as_bytes())?;
+    add_escaped(text, title)?;
+    text.extend_from_slice(page_style_lead().as_bytes())
+}
+
+/// Adds how a page looks, and its head.
+#[tactic(auto, unfolding(crate::specs::Document::page_head))]
+fn add_page_head(text: &mut Vec<u8>, title: &[u8]) -> Result<(), AllocError>
+    ensures { OnOk result (text.new.items ≡ text.old.items ++ page_head title.now) }
+{
+    text.extend_from_slice(style().as_bytes())?;
+    text.extend_from_slice(page_style_end().as_bytes())?;
+    add_escaped(text, title)?;
+    text.extend_from_slice(page_legend().as_bytes())
+}
+
+/// Adds the document with this title.
+fn add_chart(text: &mut Vec<u8>, sheet: &Sheet<'_>, title: &[u8]) -> Result<(), AllocError>
+    ensures { OnOk result (text.new.items ≡ text.old.items
+        ++ text_with sheet.now.page title.now (chart sheet.now.widths.now (mean sheet.now.table.now))) }
+{
+    match sheet.page {
+        Page::Svg => {
+            add_svg_open(text, title)?;
+            add_svg_head(text, title)?;
+            add_cells(text, sheet)?;
+            text.extend_from_slice(b"</svg>\n")
+        }
+        Page::Html => {
+            add_page_open(text, title)?;
+            add_page_head(text, title)?;
+            add_cells(text, sheet)?;
+            text.extend_from_slice(page_end().as_bytes())
+        }
+    }
+}
+
+/// Charts a code table: all 64 combinations, with their holes, both meanings, and their widths.
+pub fn draw_chart(alloc: Global, order: &ChartOrder<'_>) -> Result<Vec<u8>, AllocError>
+    ensures { IfOk result (λ text. text.items
+        ≡ chart_text order.now.page order.now.widths.now (mean order.now.table.now) order.now.table_name.now order.now.widths_name.now) }
+{
+    let title = title_of(alloc, order)?;
+    let sheet = Sheet {
+        page: order.page,
+        table: order.table,
+        widths: order.widths,
+    };
+    let mut text = Vec::new(alloc);
+    add_chart(&mut text, &sheet, &title)?;
+    Ok(text)
+}

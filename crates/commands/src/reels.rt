@@ -1,0 +1,123 @@
+//! The commands for restorers, run over the files that their words name.
+
+use crate::story::Story;
+use crate::tapes::HostTapes;
+use command_ends::{End, Fault};
+use command_line::ReelPlan;
+use opened_files::Opened;
+use reel::{Cutting, Levels, LevelsFault, levels_of, mask_of};
+use reel_commands::{ChartPaths, Reel, ReelFault, Survey, end_by, import, put_import};
+use std::alloc::Global;
+use std::io::{Read, Write};
+
+/// What is told where a mask has not six bits.
+const NO_MASK: &str = "usage: --mask takes a byte of which six bits are set, as 0x3f";
+
+/// What is told where a word does not name each level.
+const NO_LEVELS: &str = "usage: --levels takes each level from 0 to 5 once, as 543210";
+
+/// The levels that a line names.
+fn levels_by(alloc: Global, plan: &ReelPlan<'_>) -> Result<Levels, LevelsFault> {
+    let Some(mask) = mask_of(plan.mask.as_bytes()) else {
+        return Err(LevelsFault::BadMask);
+    };
+    levels_of(alloc, plan.levels.as_bytes(), mask, plan.inverted)
+}
+
+/// Tells why a line names no levels, and gives the end.
+fn tell_levels<E: Write>(fault: LevelsFault, err: &mut E) -> End {
+    let text = match fault {
+        LevelsFault::OutOfMemory => return Fault::OutOfMemory.tell(err),
+        LevelsFault::BadMask => NO_MASK,
+        LevelsFault::BadLevels => NO_LEVELS,
+    };
+    let _ = writeln!(err, "{text}");
+    End::Usage
+}
+
+/// How the roll of a line is cut.
+fn cutting_by(plan: &ReelPlan<'_>) -> Cutting {
+    Cutting {
+        least: plan.split.unwrap_or(0) as usize,
+        trims: plan.trims,
+    }
+}
+
+/// Makes tapes of a reel, and tells of each.
+fn import_reel<'a, R: Read, W: Write>(
+    rt: &HostRuntime,
+    reel: &Reel<'a>,
+    input: &mut R,
+    out: &mut W,
+) -> Result<End, ReelFault<'a>> {
+    let mut folder = HostTapes::at(rt, reel.folder);
+    let done = import(rt.alloc(), reel, input, &mut folder)?;
+    put_import(rt.alloc(), &done, out)?;
+    Ok(end_by(&done.tapes))
+}
+
+/// Makes tapes of the reel at its path. The levels are looked at first.
+pub fn run_import<R: Read, W: Write, E: Write>(
+    rt: &HostRuntime,
+    plan: &ReelPlan<'_>,
+    input: &mut R,
+    out: &mut W,
+    err: &mut E,
+) -> End {
+    let levels = match levels_by(rt.alloc(), plan) {
+        Ok(levels) => levels,
+        Err(fault) => return tell_levels(fault, err),
+    };
+    let reel = Reel {
+        path: plan.path,
+        levels,
+        cutting: cutting_by(plan),
+        folder: plan.folder,
+    };
+    let mut bytes = Story::at(rt, plan.path, input);
+    match import_reel(rt, &reel, &mut bytes, out) {
+        Ok(end) => end,
+        Err(fault) => fault.tell(err),
+    }
+}
+
+/// A survey by the table and the widths at their paths.
+fn read_survey<'a>(rt: &HostRuntime, paths: &ChartPaths<'a>) -> Result<Survey, Fault<'a>> {
+    let mut table = Opened::at(rt, paths.table);
+    let mut widths = Opened::at(rt, paths.widths);
+    Survey::read(rt.alloc(), paths, &mut table, &mut widths)
+}
+
+/// Adds the tapes at their paths to a survey, one after the other.
+fn add_tapes<'a>(
+    rt: &HostRuntime,
+    survey: &mut Survey,
+    paths: &'a [String],
+) -> Result<(), ReelFault<'a>> {
+    for path in paths {
+        let mut tape = Opened::at(rt, path.as_str());
+        survey.add(rt.alloc(), path.as_str(), &mut tape)?;
+    }
+    Ok(())
+}
+
+/// Surveys the tapes at their paths.
+pub fn run_survey<W: Write, E: Write>(
+    rt: &HostRuntime,
+    paths: &ChartPaths<'_>,
+    tapes: &[String],
+    out: &mut W,
+    err: &mut E,
+) -> End {
+    let mut survey = match read_survey(rt, paths) {
+        Ok(survey) => survey,
+        Err(fault) => return fault.tell(err),
+    };
+    if let Err(fault) = add_tapes(rt, &mut survey, tapes) {
+        return fault.tell(err);
+    }
+    match survey.write(rt.alloc(), out) {
+        Ok(()) => End::Done,
+        Err(fault) => fault.tell(err),
+    }
+}

@@ -1,0 +1,4 @@
+pub mod Fits
+pub mod Oddities
+pub mod Places
+pub mod Reaches

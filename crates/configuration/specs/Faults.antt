@@ -1,0 +1,54 @@
+-- The faults of a configuration, not the first alone.
+use Rattle.std.specs.Prelude.{ℕ, List, [], ◌∷◌, ◌++◌, length, Option, Some, None, Result, Ok, Err, nat_le, if◌then◌else◌}
+use Rattle.protocol.specs.Limits.{most_members}
+use Rattle.toml.specs.Data.{Members}
+use Rattle.wire.specs.declared.address.Address.{Address}
+use Rattle.configuration.specs.Keys.{number_at, text_at, folders_in, entries_at, ◌>>=◌}
+use Rattle.configuration.specs.Stations.{read_stations}
+use Rattle.configuration.specs.declared.fault.ConfigKey.TheVariants.{Circuit, Member, Table, Widths, Rows}
+use Rattle.configuration.specs.declared.fault.ConfigFault.{ConfigFault}
+use Rattle.configuration.specs.declared.fault.ConfigFault.TheVariants.{NotToml, OutOfRange}
+
+-- the fault of what is read, if any
+abbrev pub fault_of : {A : Type 0} → Result A ConfigFault → Option ConfigFault
+fault_of (Ok x) = None
+fault_of (Err e) = Some e
+
+-- these faults, and one more where there is one
+unfoldable pub noted : List ConfigFault → Option ConfigFault → List ConfigFault
+noted faults None = faults
+noted faults (Some fault) = faults ++ fault ∷ []
+
+-- the stations of a document, or the first fault among them
+unfoldable pub stations_in : Members → Result (List Address) ConfigFault
+stations_in file = do
+  entries ← entries_at file
+  read_stations entries
+
+-- that this member is none of so many stations, where it was read
+unfoldable pub absent : Result ℕ ConfigFault → ℕ → Option ConfigFault
+absent (Ok member) count = if nat_le member count then None else Some (OutOfRange Member)
+absent (Err e) count = None
+
+-- these faults, and those of the stations: the first among them, or that the own member is none of them
+unfoldable pub with_stations : List ConfigFault → Result ℕ ConfigFault → Result (List Address) ConfigFault → List ConfigFault
+with_stations faults member (Ok stations) = noted faults (absent member (length stations))
+with_stations faults member (Err fault) = noted faults (Some fault)
+
+-- the faults of a document: that of each key, the first of the folders and the first among the stations, and that there is no station of
+-- the own member
+unfoldable pub faults_in : Members → List ConfigFault
+faults_in file =
+    with_stations (noted (noted (noted (noted (noted (noted []
+    (fault_of (number_at Circuit 0 65535 file)))
+    (fault_of (number_at Member 1 most_members file)))
+    (fault_of (text_at Table file)))
+    (fault_of (text_at Widths file)))
+    (fault_of (text_at Rows file)))
+    (fault_of (folders_in file)))
+    (number_at Member 1 most_members file) (stations_in file)
+
+-- the faults of a document that was read; where none was read, it is not TOML
+unfoldable pub all_faults : Option Members → List ConfigFault
+all_faults None = NotToml ∷ []
+all_faults (Some file) = faults_in file

@@ -1,0 +1,148 @@
+//! The faults of a configuration, not the first alone.
+
+ghost use Rattle.std.specs.Prelude.{◌≡◌, ◌⊎◌, [], ◌∷◌, Ok, Err, IfOk, OnOk, MatchResult};
+ghost use Rattle.protocol.specs.Limits.{most_members};
+ghost use Rattle.toml.specs.Parse.{parse_document};
+ghost use Rattle.toml.specs.View.{table_view};
+ghost use Rattle.configuration.specs.Keys.{number_at, text_at, folders_in};
+ghost use Rattle.configuration.specs.Faults.{fault_of, noted, stations_in, absent, with_stations, faults_in, all_faults};
+ghost use Rattle.configuration.specs.declared.fault.ConfigKey.TheVariants.{Circuit, Member as MemberKey};
+ghost use Rattle.configuration.specs.declared.fault.ConfigFault.TheVariants.{OutOfMemory};
+
+use crate::config::document_of;
+use crate::fault::{ConfigFault, ConfigKey};
+use crate::keys::{circuit_at, entries_at, folders_in, member_at, text_at};
+use crate::stations::read_stations;
+use ballots::Member;
+use std::alloc::{AllocError, Global};
+use toml::Table;
+use wire::Address;
+
+/// Notes a fault, if there is one.
+#[tactic(auto, unfolding(crate::specs::Faults::noted))]
+fn note(faults: &mut Vec<ConfigFault>, fault: Option<ConfigFault>) -> Result<(), AllocError>
+    ensures { OnOk result (faults.new.items ≡ noted faults.old.items fault) }
+{
+    match fault {
+        Some(fault) => Ok(faults.push(fault)?),
+        None => Ok(()),
+    }
+}
+
+/// The fault at the circuit's number.
+fn circuit_fault(file: &Table) -> Option<ConfigFault>
+    ensures { result ≡ fault_of (number_at Circuit 0 65535 (table_view file.now)) }
+{
+    match circuit_at(file) {
+        Ok(_) => None,
+        Err(fault) => Some(fault),
+    }
+}
+
+/// The fault at a path.
+fn path_fault(file: &Table, key: ConfigKey) -> Option<ConfigFault>
+    ensures { result ≡ fault_of (text_at key (table_view file.now)) }
+{
+    match text_at(file, key) {
+        Ok(_) => None,
+        Err(fault) => Some(fault),
+    }
+}
+
+/// The first fault at the folders.
+fn folders_fault(file: &Table) -> Option<ConfigFault>
+    ensures { result ≡ fault_of (folders_in (table_view file.now)) }
+{
+    match folders_in(file) {
+        Ok(_) => None,
+        Err(fault) => Some(fault),
+    }
+}
+
+/// The stations, or the first fault among them.
+#[tactic(auto, unfolding(crate::specs::Faults::stations_in))]
+fn stations_in(alloc: Global, file: &Table) -> Result<Vec<Address>, ConfigFault>
+    ensures { MatchResult result (λ stations. stations_in (table_view file.now) ≡ Ok stations.items)
+        (λ fault. (fault ≡ OutOfMemory) ⊎ (stations_in (table_view file.now) ≡ Err fault)) }
+{
+    let entries = entries_at(file)?;
+    read_stations(alloc, entries)
+}
+
+/// That this member is none of so many stations, where it was read.
+#[tactic(auto, unfolding(crate::specs::Faults::absent))]
+fn absent(member: Result<Member, ConfigFault>, count: usize) -> Option<ConfigFault>
+    ensures { result ≡ absent member count }
+{
+    match member {
+        Ok(member) if usize::from(member.get()) > count => {
+            Some(ConfigFault::OutOfRange(ConfigKey::Member))
+        }
+        _ => None,
+    }
+}
+
+/// Notes the fault of the stations: the first among them, or that the own member is none of them.
+#[tactic(auto, unfolding(crate::specs::Faults::with_stations))]
+fn note_stations(
+    alloc: Global,
+    file: &Table,
+    faults: &mut Vec<ConfigFault>,
+) -> Result<(), AllocError>
+    ensures { OnOk result (faults.new.items ≡ with_stations faults.old.items (number_at MemberKey 1 most_members (table_view file.now))
+        (stations_in (table_view file.now))) }
+{
+    match stations_in(alloc, file) {
+        Ok(stations) => note(faults, absent(member_at(file), stations.len())),
+        Err(ConfigFault::OutOfMemory) => Err(AllocError),
+        Err(fault) => note(faults, Some(fault)),
+    }
+}
+
+/// The fault at the own member.
+fn member_fault(file: &Table) -> Option<ConfigFault>
+    ensures { result ≡ fault_of (number_at MemberKey 1 most_members (table_view file.now)) }
+{
+    match member_at(file) {
+        Ok(_) => None,
+        Err(fault) => Some(fault),
+    }
+}
+
+/// The faults of a document, in the order of its keys.
+#[tactic(auto, unfolding(crate::specs::Faults::faults_in))]
+fn faults_in(alloc: Global, file: &Table) -> Result<Vec<ConfigFault>, AllocError>
+    ensures { IfOk result (λ v. v.items ≡ faults_in (table_view file.now)) }
+{
+    let mut faults = Vec::new(alloc);
+    note(&mut faults, circuit_fault(file))?;
+    note(&mut faults, member_fault(file))?;
+    note(&mut faults, path_fault(file, ConfigKey::Table))?;
+    note(&mut faults, path_fault(file, ConfigKey::Widths))?;
+    note(&mut faults, path_fault(file, ConfigKey::Rows))?;
+    note(&mut faults, folders_fault(file))?;
+    note_stations(alloc, file, &mut faults)?;
+    Ok(faults)
+}
+
+/// One fault alone.
+fn alone(alloc: Global, fault: ConfigFault) -> Result<Vec<ConfigFault>, AllocError>
+    ensures { IfOk result (λ v. v.items ≡ fault ∷ []) }
+{
+    let mut faults = Vec::new(alloc);
+    faults.push(fault)?;
+    Ok(faults)
+}
+
+/// The faults of a configuration's text: that it is not TOML; or that of each key, the first of the folders and the first among the
+/// stations, in the order in which they are read.
+#[tactic(auto, unfolding(crate::specs::Faults::all_faults))]
+pub fn faults_of(alloc: Global, text: &str) -> Result<Vec<ConfigFault>, AllocError>
+    ensures { IfOk result (λ v. v.items ≡ all_faults (parse_document text.now)) }
+{
+    match document_of(alloc, text) {
+        Ok(file) => faults_in(alloc, &file),
+        Err(ConfigFault::OutOfMemory) => Err(AllocError),
+        Err(fault) => alone(alloc, fault),
+    }
+}

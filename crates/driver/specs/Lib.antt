@@ -1,0 +1,5 @@
+pub mod Calls
+pub mod Fates
+pub mod Driving
+pub mod Pacing
+pub mod Replies

@@ -1,0 +1,17 @@
+//! The loop under `serve` and `run`: a station on a wire, and what becomes of its releases.
+#![tactic(auto)]
+
+mod calls;
+mod desk;
+mod driver;
+mod log;
+mod pacing;
+mod run_loop;
+mod sink;
+
+pub use calls::Call;
+pub use desk::{Denied, Desk};
+pub use driver::Driver;
+pub use log::Log;
+pub use pacing::Tasks;
+pub use sink::{Sink, Step};

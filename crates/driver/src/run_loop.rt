@@ -1,0 +1,188 @@
+//! The turns of a station that stays up: one work after the other, in the order of `pace`, until the run is over.
+
+ghost use Rattle.std.specs.Prelude.{◌≡◌, []};
+ghost use Rattle.wire.specs.Passing.{Passes};
+ghost use Rattle.exchange.specs.Events.{ended};
+ghost use Rattle.driver.specs.Replies.{IsAskedBy, reply_of};
+ghost use Rattle.driver.specs.Driving.{DroveUpTo, Anyhow};
+
+use crate::calls::ask;
+use crate::desk::{Denied, Desk};
+use crate::driver::Driver;
+use crate::log::Log;
+use crate::pacing::asking_of;
+use crate::sink::Step;
+use command_ends::Fault;
+use exchange::{pass_over, tell_lost, tell_strangers};
+use folders::Request;
+use pace::Work;
+use saved_rows::Rows;
+use station::{Answer, Station, StepRefusal};
+use std::io::Write;
+use wire::Wire;
+
+/// Takes in what waits at the wire, and tells of strangers and of what found no place; whether a datagram waits in memory.
+fn find<N: Wire, E: Write>(wire: &mut N, now: u64, log: &mut Log<'_, E>) -> bool
+    ensures { Passes (N.passed wire.old) (N.passed wire.new) [] }
+{
+    let is_waiting = wire.fetch();
+    tell_strangers(wire, now, log.err);
+    tell_lost(wire, now, log.err);
+    is_waiting
+}
+
+/// The run is not over by this.
+fn going_on(done: Result<(), Fault<'static>>) -> Result<bool, Fault<'static>>
+    ensures { ended result ≡ ended done.entry }
+{
+    match done {
+        Ok(()) => Ok(false),
+        Err(fault) => Err(fault),
+    }
+}
+
+/// What came of asking the station for a file.
+#[derive(Drop)]
+pub(crate) enum Reply {
+    /// It is not known any more what for, and it was not asked.
+    Unknown,
+    /// It took the step, for an entry of so many bytes.
+    Done { answer: Answer, length: usize },
+    /// It refused.
+    Refused(StepRefusal),
+}
+
+/// What came of it, where it was asked for an entry of so many bytes.
+fn reply_of(length: usize, answer: Result<Answer, StepRefusal>) -> Reply
+    ensures { result ≡ reply_of length answer }
+{
+    match answer {
+        Ok(answer) => Reply::Done { answer, length },
+        Err(refusal) => Reply::Refused(refusal),
+    }
+}
+
+/// Asks the station for a file, at a moment in milliseconds.
+fn ask_by<R: Rows, S: Desk>(
+    station: &mut Station<R>,
+    desk: &S,
+    request: &Request,
+    now: u64,
+) -> Reply
+    ensures { IsAskedBy R.Rows (S.may desk.now) now station.old station.new result }
+{
+    match desk.call(request) {
+        Some(call) => {
+            let length = call.length();
+            reply_of(length, ask(station, call, now))
+        }
+        None => Reply::Unknown,
+    }
+}
+
+impl<'a, R: Rows, N: Wire, S: Desk> Driver<'a, R, N, S> {
+    /// Asks the station for a file, at a moment in milliseconds, and hands on what it hands out.
+    fn ask_for<E: Write>(
+        &mut self,
+        request: &Request,
+        now: u64,
+        log: &mut Log<'_, E>,
+    ) -> Result<(), Fault<'static>>
+        ensures station { self.new.station.ghost_name ≡ self.old.station.ghost_name }
+        ensures wire { self.new.wire.ghost_name ≡ self.old.wire.ghost_name }
+        ensures was_kept { R.kept self.new.station.now.rows → R.kept self.old.station.now.rows }
+        ensures drove { DroveUpTo Anyhow result R.Rows N.passed S.Sink self.old self.new }
+    {
+        match ask_by(self.station, &self.sink, request, now) {
+            Reply::Done { answer, length } => {
+                let ballot = self.station.open_ballot(request.number);
+                self.pacing
+                    .begin(asking_of(ballot, request.number, length), now);
+                let step = Step {
+                    answer,
+                    moment: now,
+                };
+                self.hand_on(&step, log)
+            }
+            Reply::Refused(refusal) => {
+                let denied = Denied {
+                    request: *request,
+                    refusal,
+                    moment: now,
+                };
+                self.sink.deny(denied, log);
+                pass_over(refusal)
+            }
+            Reply::Unknown => Ok(()),
+        }
+    }
+
+    /// Does what there is to do with one file, at a moment in milliseconds: the station is asked for it, where it may be, or the desk does
+    /// it.
+    fn do_deed<E: Write>(
+        &mut self,
+        may_ask: bool,
+        now: u64,
+        log: &mut Log<'_, E>,
+    ) -> Result<(), Fault<'static>>
+        ensures station { self.new.station.ghost_name ≡ self.old.station.ghost_name }
+        ensures wire { self.new.wire.ghost_name ≡ self.old.wire.ghost_name }
+        ensures was_kept { R.kept self.new.station.now.rows → R.kept self.old.station.now.rows }
+        ensures drove { DroveUpTo Anyhow result R.Rows N.passed S.Sink self.old self.new }
+    {
+        match self.sink.deed(may_ask, now, log) {
+            Some(request) => self.ask_for(&request, now, log),
+            None => Ok(()),
+        }
+    }
+
+    /// Does this work, at a moment in milliseconds; whether the run is over.
+    fn work<E: Write>(
+        &mut self,
+        work: Work,
+        now: u64,
+        log: &mut Log<'_, E>,
+    ) -> Result<bool, Fault<'static>>
+        ensures station { self.new.station.ghost_name ≡ self.old.station.ghost_name }
+        ensures wire { self.new.wire.ghost_name ≡ self.old.wire.ghost_name }
+        ensures was_kept { R.kept self.new.station.now.rows → R.kept self.old.station.now.rows }
+        ensures drove { DroveUpTo Anyhow result R.Rows N.passed S.Sink self.old self.new }
+    {
+        match work {
+            Work::Look => Ok(self.sink.look(now, log)),
+            Work::TakeIn | Work::Wait => going_on(self.take_in(now, log)),
+            Work::Due => going_on(self.see_to_due(now, log)),
+            Work::Deed { may_ask } => going_on(self.do_deed(may_ask, now, log)),
+        }
+    }
+
+    /// The work that comes next; whether the run is over.
+    fn step<E: Write>(&mut self, log: &mut Log<'_, E>) -> Result<bool, Fault<'static>>
+        ensures station { self.new.station.ghost_name ≡ self.old.station.ghost_name }
+        ensures wire { self.new.wire.ghost_name ≡ self.old.wire.ghost_name }
+        ensures was_kept { R.kept self.new.station.now.rows → R.kept self.old.station.now.rows }
+        ensures drove { DroveUpTo Anyhow result R.Rows N.passed S.Sink self.old self.new }
+    {
+        let now = self.wire.now();
+        let is_waiting = find(self.wire, now, log);
+        let tasks = self.sink.tasks();
+        let work = self.pacing.next(is_waiting, tasks, now);
+        self.work(work, now, log)
+    }
+
+    /// One work after the other, until the run is over.
+    pub fn run<E: Write>(&mut self, log: &mut Log<'_, E>) -> Result<(), Fault<'static>>
+        ensures station { self.new.station.ghost_name ≡ self.old.station.ghost_name }
+        ensures wire { self.new.wire.ghost_name ≡ self.old.wire.ghost_name }
+        ensures was_kept { R.kept self.new.station.now.rows → R.kept self.old.station.now.rows }
+        ensures drove { DroveUpTo Anyhow result R.Rows N.passed S.Sink self.old self.new }
+    {
+        for _ in 0..u64::MAX {
+            let is_over = self.step(log)?;
+            if is_over {
+                return Ok(());
+            }
+        }
+        Ok(())
+    }
+}

@@ -1,0 +1,46 @@
+//! What becomes of the releases of a station.
+
+ghost use Rattle.std.specs.Prelude.{[], List, OnOk, OnErr, IfErr};
+ghost use Rattle.command_ends.specs.Ends.{IsOfWriting};
+ghost use Rattle.protocol.specs.Refusals.{Call};
+ghost use Rattle.exchange.specs.Events.{Event};
+ghost use Rattle.driver.specs.Fates.{ByAnswer, Fates};
+
+use crate::log::Log;
+use command_ends::Fault;
+use station::{Answer, StepRefusal};
+use std::io::Write;
+
+/// A step that the station took.
+#[derive(Drop)]
+pub struct Step {
+    /// What it handed out.
+    pub answer: Answer,
+    /// When it was taken, in milliseconds.
+    pub moment: u64,
+}
+
+/// Where the releases of a station go, as they are printed, or written as files. Moments are in milliseconds.
+pub trait Sink: Drop {
+    // What became of it while exactly these events happened, one after the other.
+    ghost lived: { Self → Self → List Event → Type 0 };
+
+    // How far it came with them, where what was released in the last could not be taken.
+    ghost front: { Self → Self → List Event → Type 0 };
+
+    // The station may be called so, as far as it knows.
+    ghost may: { Self → Call → Type 0 };
+
+    /// Takes what a step of the station did and released, once its datagrams are sent. It fails where that can't be written, or there is no
+    /// memory for it.
+    fn take<E: Write>(&mut self, step: &Step, log: &mut Log<'_, E>) -> Result<(), Fault<'static>>
+        ensures ok { OnOk result (ByAnswer lived may self.old self.new step.now.answer) }
+        ensures err { OnErr result (ByAnswer front may self.old self.new step.now.answer) }
+        ensures fault { IfErr result IsOfWriting };
+
+    /// A datagram was refused, and passed over unless it stopped the station.
+    fn hear_refusal<E: Write>(&mut self, refusal: StepRefusal, now: u64, log: &mut Log<'_, E>)
+        ensures { lived self.old self.new [] };
+
+    ghost fates: { Fates lived front may };
+}

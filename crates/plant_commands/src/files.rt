@@ -1,0 +1,85 @@
+//! The files that a configuration names.
+
+use code_table::CodeTable;
+use command_ends::{Fault, read_table, read_widths};
+use config_check::{elevate_frame, fitting_frame};
+use configuration::Config;
+use opened_files::Opened;
+use std::io::{ErrorKind, Write};
+use std::{fs, io};
+use widths::Widths;
+
+/// What a file was read as, or the fault that is told of it. Want of memory is none of the file's.
+fn read_or_tell<'a, T: Drop, W: Write>(
+    read: Result<T, Fault<'a>>,
+    out: &mut W,
+) -> Result<Option<T>, Fault<'a>> {
+    match read {
+        Ok(held) => Ok(Some(held)),
+        Err(Fault::OutOfMemory) => Err(Fault::OutOfMemory),
+        Err(fault) => match writeln!(out, "fault: {fault}") {
+            Ok(()) => Ok(None),
+            Err(_) => Err(Fault::CannotWrite),
+        },
+    }
+}
+
+/// Writes what is odd about a code table beside widths.
+fn put_oddities<W: Write>(table: &CodeTable, widths: &Widths, out: &mut W) -> io::Result<()> {
+    if elevate_frame(table).is_none() {
+        writeln!(
+            out,
+            "odd: the table has no elevate code: no line can be ended"
+        )?;
+    }
+    if fitting_frame(table, widths).is_none() {
+        let measure = widths.measure();
+        writeln!(
+            out,
+            "odd: no matrix of the table fits the measure of {measure}"
+        )?;
+    }
+    Ok(())
+}
+
+/// Writes what is wrong with the code table and the widths, and what is odd about them; whether nothing is wrong.
+pub(crate) fn put_tables<'a, W: Write>(
+    rt: &HostRuntime,
+    config: &'a Config,
+    out: &mut W,
+) -> Result<bool, Fault<'a>> {
+    let mut input = Opened::at(rt, &config.table);
+    let table = read_or_tell(read_table(rt.alloc(), &mut input, &config.table), out)?;
+    let mut input = Opened::at(rt, &config.widths);
+    let widths = read_or_tell(read_widths(rt.alloc(), &mut input, &config.widths), out)?;
+    let (Some(table), Some(widths)) = (&table, &widths) else {
+        return Ok(false);
+    };
+    match put_oddities(table, widths, out) {
+        Ok(()) => Ok(true),
+        Err(_) => Err(Fault::CannotWrite),
+    }
+}
+
+/// Writes whether there is a row file yet. It is not opened.
+pub(crate) fn put_rows<'a, W: Write>(
+    rt: &HostRuntime,
+    config: &Config,
+    out: &mut W,
+) -> Result<(), Fault<'a>> {
+    let path = config.rows.as_str();
+    let told = match fs::symlink_metadata(rt, path) {
+        Ok(_) => Ok(()),
+        Err(error) if error.kind() == ErrorKind::NotFound => {
+            writeln!(
+                out,
+                "there is no {path} yet: circuitd create makes it, for a station that never ran"
+            )
+        }
+        Err(_) => writeln!(out, "odd: {path} can't be looked at"),
+    };
+    match told {
+        Ok(()) => Ok(()),
+        Err(_) => Err(Fault::CannotWrite),
+    }
+}

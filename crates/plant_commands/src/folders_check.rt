@@ -1,0 +1,76 @@
+//! The folders that a configuration names.
+
+use command_ends::Fault;
+use configuration::{Config, Folders};
+use host_folders::{PlantPaths, why_misplaced, why_no_folder};
+use std::io;
+use std::io::Write;
+
+/// Writes why a folder does not serve, if it does not; whether it does.
+fn put_folder<W: Write>(rt: &HostRuntime, name: &str, path: &str, out: &mut W) -> io::Result<bool> {
+    match why_no_folder(rt, path) {
+        None => Ok(true),
+        Some(fault) => {
+            writeln!(out, "fault: folders: cannot read {name}: {fault}")?;
+            Ok(false)
+        }
+    }
+}
+
+/// Writes what lies where it may not, if something does; whether nothing does.
+fn put_misplaced<W: Write>(
+    rt: &HostRuntime,
+    paths: &PlantPaths<'_>,
+    out: &mut W,
+) -> io::Result<bool> {
+    match why_misplaced(rt, paths) {
+        None => Ok(true),
+        Some(reason) => {
+            writeln!(out, "fault: folders: {reason}")?;
+            Ok(false)
+        }
+    }
+}
+
+/// Writes what is wrong with the folders of a plant with these paths; whether nothing is.
+fn put_both<W: Write>(rt: &HostRuntime, paths: &PlantPaths<'_>, out: &mut W) -> io::Result<bool> {
+    let offers = put_folder(rt, "offers", paths.offers, out)?;
+    let releases = put_folder(rt, "releases", paths.releases, out)?;
+    let placed = put_misplaced(rt, paths, out)?;
+    Ok(offers && releases && placed)
+}
+
+/// Where a plant lies whose configuration at a path names these folders.
+fn paths_of<'a>(path: &'a str, config: &'a Config, folders: &'a Folders) -> PlantPaths<'a> {
+    PlantPaths {
+        configuration: path,
+        table: &config.table,
+        widths: &config.widths,
+        rows: &config.rows,
+        offers: &folders.offers,
+        releases: &folders.releases,
+    }
+}
+
+/// Writes what is wrong with the folders that the configuration at a path names, and that it is odd to name none; whether nothing is wrong.
+pub(crate) fn put_folders<'a, W: Write>(
+    rt: &HostRuntime,
+    path: &str,
+    config: &Config,
+    out: &mut W,
+) -> Result<bool, Fault<'a>> {
+    let told = match &config.folders {
+        Some(folders) => put_both(rt, &paths_of(path, config, folders), out),
+        None => match writeln!(
+            out,
+            "odd: no folders are named: it only votes, and nothing but a kill ends it"
+        ) {
+            Ok(()) => Ok(true),
+            Err(error) => Err(error),
+        },
+    };
+    match told {
+        Ok(well) => Ok(well),
+        Err(_) => Err(Fault::CannotWrite),
+    }
+}

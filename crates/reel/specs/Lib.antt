@@ -1,0 +1,6 @@
+pub mod Levels
+pub mod Masks
+pub mod Pieces
+pub mod Trimming
+pub mod Tapes
+pub mod Names

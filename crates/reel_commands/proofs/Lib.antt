@@ -1,0 +1,4 @@
+pub mod Frames
+pub mod Made
+pub mod Near
+pub mod Lines

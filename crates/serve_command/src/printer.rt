@@ -1,0 +1,89 @@
+//! Releases that are printed as they come.
+
+ghost use Rattle.std.specs.Prelude.{◌≡◌, OnOk, OnErr, IfErr, option_copied};
+ghost use Rattle.std.specs.Io.KnownBytes.{Appends};
+ghost use Rattle.streams.specs.Fronts.{AppendsFront};
+ghost use Rattle.station.specs.Readiness.{slugs_of};
+ghost use Rattle.command_ends.specs.Ends.{IsOfWriting};
+ghost use Rattle.command_ends.specs.ReleaseText.{lent};
+ghost use Rattle.serve_command.specs.Serving.{release_of, printing};
+ghost use Rattle.serve_command.specs.Printed.{Printed, PrintedFront, printed};
+
+use command_ends::{Fault, put_release};
+use driver::{Log, Sink, Step};
+use line_check::{SetFault, Slug};
+use station::{Release, StepRefusal};
+use std::alloc::Global;
+use std::io::Write;
+
+/// What setting the entry of a release gave, its slugs lent.
+fn lent_slugs(release: &Release) -> Result<&[Slug], SetFault>
+    ensures { lent result ≡ slugs_of release.now.set }
+{
+    match &release.set {
+        Ok(slugs) => Ok(slugs.as_slice()),
+        Err(fault) => Err(*fault),
+    }
+}
+
+fn put<W: Write>(alloc: Global, release: &Release, out: &mut W) -> Result<(), Fault<'static>>
+    ensures ok { OnOk result (Appends (W.contents out.old) (W.contents out.new) (release_of release.now)) }
+    ensures err { OnErr result (AppendsFront (W.contents out.old) (W.contents out.new) (release_of release.now)) }
+    ensures fault { IfErr result IsOfWriting }
+{
+    let number = release.number.get();
+    let set = lent_slugs(release);
+    put_release(alloc, "", number, &release.entry.lend(), set, out)
+}
+
+/// Writes a release and hands it on at once.
+fn announce<W: Write>(alloc: Global, release: &Release, out: &mut W) -> Result<(), Fault<'static>>
+    ensures ok { OnOk result (Appends (W.contents out.old) (W.contents out.new) (release_of release.now)) }
+    ensures err { OnErr result (AppendsFront (W.contents out.old) (W.contents out.new) (release_of release.now)) }
+    ensures fault { IfErr result IsOfWriting }
+{
+    put(alloc, release, out)?;
+    match out.flush() {
+        Ok(()) => Ok(()),
+        Err(_) => Err(Fault::CannotWrite),
+    }
+}
+
+/// The same, if there is one.
+fn announce_any<W: Write>(
+    alloc: Global,
+    release: Option<&Release>,
+    out: &mut W,
+) -> Result<(), Fault<'static>>
+    ensures ok { OnOk result (Appends (W.contents out.old) (W.contents out.new) (printing (option_copied release.entry))) }
+    ensures err { OnErr result (AppendsFront (W.contents out.old) (W.contents out.new) (printing (option_copied release.entry))) }
+    ensures fault { IfErr result IsOfWriting }
+{
+    match release {
+        Some(release) => announce(alloc, release, out),
+        None => Ok(()),
+    }
+}
+
+/// Prints each release, and hands it on at once.
+#[derive(Drop)]
+pub(crate) struct Printer<'a, W: Write> {
+    pub(crate) alloc: Global,
+    pub(crate) out: &'a mut W,
+}
+
+impl<W: Write> Sink for Printer<'_, W> {
+    ghost lived = { λ old new log. Printed old.out.ghost_name new.out.ghost_name (W.contents old.out.now) (W.contents new.out.now) log };
+
+    ghost front = { λ old new log. PrintedFront old.out.ghost_name new.out.ghost_name (W.contents old.out.now) (W.contents new.out.now) log };
+
+    ghost may = { λ _ _. Unit {0} };
+
+    fn take<E: Write>(&mut self, step: &Step, _log: &mut Log<'_, E>) -> Result<(), Fault<'static>> {
+        announce_any(self.alloc, step.answer.release.as_ref(), self.out)
+    }
+
+    fn hear_refusal<E: Write>(&mut self, _refusal: StepRefusal, _now: u64, _log: &mut Log<'_, E>) {}
+
+    ghost fates = { printed (λ it. it.out.ghost_name) (λ it. W.contents it.out.now) };
+}

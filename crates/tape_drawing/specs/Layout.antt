@@ -1,0 +1,104 @@
+-- The layout: where what stands. A page is 840 units wide; a slug and 40 frames of 18 units are 720, from 60 on.
+use Rattle.std.specs.Prelude.{◌≡◌, ◌≤◌, ◌<◌, ℕ, ◌+◌, ◌-◌, ◌*◌, ◌/◌, ◌%◌, min, max, List, [], ◌∷◌, Option, Some, None, sum_by}
+use Rattle.widths.specs.Widths.{WidthFile}
+use Rattle.slug_reader.specs.declared.line.Line.{Line}
+use Rattle.line_check.specs.declared.slug.Slug.{Slug}
+use Rattle.line_check.specs.Slugs.{sort_width}
+use Rattle.line_fit.specs.declared.verdict.Verdict.{Verdict}
+use Rattle.line_fit.specs.declared.verdict.Verdict.TheVariants.{Nothing, Faulty, Sets}
+use Rattle.line_fit.specs.declared.verdict.LineFit.{LineFit}
+use Rattle.tape_drawing.specs.declared.elements.Place.{Place}
+use Rattle.tape_drawing.specs.declared.layout.Spot.{Spot}
+use Rattle.tape_drawing.specs.declared.layout.Stretch.{Stretch}
+
+-- the upper left corner of the paper of the k-th frame of a line, whose upper edge is at `top`: a row is 87 units high
+abbrev pub corner : ℕ → ℕ → Place
+corner top k = record { x = 60 + 18 * (k % 40); y = top + 87 * (k / 40) + 12 }
+
+-- how high the rows of so many frames are
+abbrev pub rows_height : ℕ → ℕ
+rows_height frames = 87 * ((frames + 39) / 40)
+
+-- the edge that lies so many units of the measure from the left of a slug, rounded down to a whole user unit
+abbrev pub edge : ℕ → ℕ → ℕ
+edge measure units = 60 + units * 720 / measure
+
+-- how far the right edge of a stretch lies from its left edge
+abbrev pub across : Stretch → ℕ
+across s = edge s.measure (s.from + s.width) - edge s.measure s.from
+
+-- the size of the type in user units, so that its em is that of the widths; no more than the height of a slug
+abbrev pub type_size : WidthFile → ℕ
+type_size widths = max 6 (min 44 (widths.em * 720 / widths.measure))
+
+-- how high what stands below the frames of a line is: what is cast of it, or where nothing can be drawn a note
+abbrev pub height_below : Verdict → Option Line → ℕ
+height_below (Sets slug) line = 64
+height_below Nothing line = 18
+height_below (Faulty fault) None = 18
+height_below (Faulty fault) (Some line) = 64
+
+-- how many slugs a verdict has
+abbrev pub slugs_in : Verdict → ℕ
+slugs_in (Sets slug) = 1
+slugs_in Nothing = 0
+slugs_in (Faulty fault) = 0
+
+-- how many faults
+abbrev pub faults_in : Verdict → ℕ
+faults_in (Faulty fault) = 1
+faults_in Nothing = 0
+faults_in (Sets slug) = 0
+
+-- how many frames a line has that begins at a position, with the code that cuts it
+abbrev pub frames_in : ℕ → LineFit → ℕ
+frames_in from fit = fit.cut_at + 1 - from
+
+-- how high a line is
+abbrev pub line_height : ℕ → LineFit → ℕ
+line_height from fit = rows_height (frames_in from fit) + height_below fit.verdict fit.line
+
+-- where the line begins that follows another
+abbrev pub next : Spot → LineFit → Spot
+next spot fit = record {
+  number = spot.number + 1;
+  slug = spot.slug + slugs_in fit.verdict;
+  faults = spot.faults + faults_in fit.verdict;
+  from = fit.cut_at + 1;
+  top = spot.top + line_height spot.from fit;
+}
+
+-- where the line begins that follows these
+abbrev pub after : Spot → List LineFit → Spot
+after spot [] = spot
+after spot (fit ∷ fits) = after (next spot fit) fits
+
+-- where the first line begins, below the head
+abbrev pub first_spot : Spot
+first_spot = record { number = 1; slug = 1; faults = 0; from = 0; top = 96 }
+
+-- a spot lies no lower than the frames before it need
+pub record IsWithin (end : ℕ) (spot : Spot) : Type 0 where
+  pub from : spot.from ≤ end
+  pub some_lines : 1 ≤ spot.number
+  pub some_slugs : 1 ≤ spot.slug
+  pub number : spot.number ≤ spot.from + 1
+  pub slug : spot.slug ≤ spot.from + 1
+  pub faults : spot.faults ≤ spot.from
+  pub top : spot.top ≤ 96 + 151 * spot.from
+
+-- left, items and right of a slug add up to the measure
+abbrev pub IsFull : ℕ → Slug → Type 0
+IsFull measure slug = slug.left + sum_by sort_width slug.items + slug.right ≡ measure
+
+-- the slug of a verdict fills the measure, where it has one
+abbrev pub IsFilled : ℕ → Verdict → Type 0
+IsFilled measure (Sets slug) = IsFull measure slug
+IsFilled measure Nothing = Unit {0}
+IsFilled measure (Faulty fault) = Unit {0}
+
+-- lines one after the other: each is cut behind where it begins and before the end, and its slug fills the measure
+abbrev pub AreLines : ℕ → ℕ → ℕ → List LineFit → Type 0
+AreLines measure end from [] = Unit {0}
+AreLines measure end from (fit ∷ fits) =
+    ((from ≤ fit.cut_at) × (fit.cut_at < end) × IsFilled measure fit.verdict) × AreLines measure end (fit.cut_at + 1) fits

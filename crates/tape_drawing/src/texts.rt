@@ -1,0 +1,141 @@
+//! The texts of a document that are always the same.
+
+ghost use Rattle.std.specs.Prelude.{◌≡◌};
+ghost use Rattle.tape_drawing.specs.Texts.{style_head, style_tail, svg_lead, svg_style_end, first_legend, second_legend, page_lead, page_style_end, page_legend, page_main};
+
+/// How what is drawn looks, as far as the size of the type.
+#[tactic(auto, unfolding(crate::specs::Texts::style_head))]
+pub fn style_head() -> &'static str
+    ensures { result.now ≡ style_head }
+{
+    "\
+@page{size:840px 1120px;margin:0}\n\
+text{font-family:'Times New Roman',Times,serif;font-size:13px;text-anchor:middle;fill:#1a1a1a}\n\
+path{fill:none;stroke:#1a1a1a;stroke-width:6;stroke-linecap:round}\n\
+.p{fill:#f6edd2;stroke:#cdbd91}\n\
+.d{stroke:#9c9376;stroke-width:2;stroke-dasharray:0 18}\n\
+.c,.n,.l,.g,.o,.e,.w,.h,.i{font-family:Helvetica,Arial,sans-serif}\n\
+.c{font-size:8.5px;font-weight:bold;fill:#1256a8}\n\
+.n,.w{font-size:8px;fill:#66696f}\n\
+.l{font-size:15px;text-anchor:end}\n\
+.g{font-size:12px;text-anchor:end;fill:#55585e}\n\
+.o,.i{font-size:11px;text-anchor:start;fill:#55585e}\n\
+.e{font-size:11px;font-weight:bold;text-anchor:end}\n\
+.h{font-size:16px;font-weight:bold;text-anchor:start}\n\
+.k{fill:#eef0f3;stroke:#8f959e}\n\
+.m{fill:none;stroke:#d5d9df;stroke-width:.7}\n\
+.b{fill:url(#band)}\n\
+.s{fill:#dadde2;stroke:#c3c8cf;stroke-width:.7}\n\
+.q{fill:#c9cdd3}\n\
+.v{fill:#fadcdc;stroke:#c00000}\n\
+.a{fill:#ffffff;stroke:#c00000;stroke-dasharray:3 3}\n\
+.f{fill:none;stroke:#c00000;stroke-width:1.5}\n\
+.u{font-weight:bold}\n\
+.z{fill:#fdfcf8}\n\
+.t{font-size:"
+}
+
+/// How what is drawn looks, behind the size of the type.
+#[tactic(auto, unfolding(crate::specs::Texts::style_tail))]
+pub fn style_tail() -> &'static str
+    ensures { result.now ≡ style_tail }
+{
+    "\
+px}\n\
+.x{fill:#c00000}\n\
+"
+}
+
+/// The element of a document, as far as its height.
+#[tactic(auto, unfolding(crate::specs::Texts::svg_lead))]
+pub fn svg_lead() -> &'static str
+    ensures { result.now ≡ svg_lead }
+{
+    "<svg xmlns='http://www.w3.org/2000/svg' version='1.1' width='840' height='"
+}
+
+/// Behind the style of a document: what spacebands are filled with, and the ground.
+#[tactic(auto, unfolding(crate::specs::Texts::svg_style_end))]
+pub fn svg_style_end() -> &'static str
+    ensures { result.now ≡ svg_style_end }
+{
+    "\
+</style>\n\
+<defs><pattern id='band' width='1' height='1' patternContentUnits='objectBoundingBox'><path d='M0 0H1V1H0z' style='fill:#e3eaf5;stroke:none'/><path d='M.36 0H.64L.8 1H.2z' style='fill:#c3d2ea;stroke:none'/></pattern></defs>\n\
+<rect class='z' width='100%' height='100%'/>\n\
+"
+}
+
+/// What the marks of functions stand for.
+#[tactic(auto, unfolding(crate::specs::Texts::first_legend))]
+pub fn first_legend() -> &'static str
+    ensures { result.now ≡ first_legend }
+{
+    "SB spaceband | SH shift | UN unshift | EL elevate, which ends a line | RT return | UR upper rail, set bold | LR lower rail"
+}
+
+/// What the others stand for.
+#[tactic(auto, unfolding(crate::specs::Texts::second_legend))]
+pub fn second_legend() -> &'static str
+    ensures { result.now ≡ second_legend }
+{
+    "QL QC QR quad left, center, right | TH EN EM thin, en, em space | IG ignored | at the left the lines of the text and the slugs of the galley"
+}
+
+/// What begins a page, as far as its title.
+#[tactic(auto, unfolding(crate::specs::Texts::page_lead))]
+pub fn page_lead() -> &'static str
+    ensures { result.now ≡ page_lead }
+{
+    "\
+<!DOCTYPE html>\n\
+<html lang='en'>\n\
+<head>\n\
+<meta charset='utf-8'>\n\
+<meta name='viewport' content='width=device-width, initial-scale=1'>\n\
+<title>"
+}
+
+/// How a page looks round its drawings, and what begins its heading.
+#[tactic(auto, unfolding(crate::specs::Texts::page_style_end))]
+pub fn page_style_end() -> &'static str
+    ensures { result.now ≡ page_style_end }
+{
+    "\
+@page{size:auto;margin:12mm}\n\
+:root{color-scheme:only light;scroll-padding-top:6em}\n\
+body{max-width:1000px;margin:0 auto;padding:16px;background:#fdfcf8;color:#1a1a1a;font-family:Helvetica,Arial,sans-serif}\n\
+h1{font-size:1.25em;overflow-wrap:anywhere}\n\
+p{font-size:.85em;line-height:1.5}\n\
+main{overflow-x:auto}\n\
+main>svg{display:block;width:100%;min-width:640px;break-inside:avoid;overflow:hidden}\n\
+.y{position:absolute}\n\
+</style>\n\
+</head>\n\
+<body>\n\
+<h1>"
+}
+
+/// What the marks stand for, in a page.
+#[tactic(auto, unfolding(crate::specs::Texts::page_legend))]
+pub fn page_legend() -> &'static str
+    ensures { result.now ≡ page_legend }
+{
+    "\
+<p>SB spaceband | SH shift | UN unshift | EL elevate, which ends a line | RT return | UR upper rail, set bold | LR lower rail<br>\n\
+QL QC QR quad left, center, right | TH EN EM thin, en, em space | IG ignored | at the left the lines of the text and the slugs of the galley</p>\n\
+"
+}
+
+/// What begins the drawings of a page.
+#[tactic(auto, unfolding(crate::specs::Texts::page_main))]
+pub fn page_main() -> &'static str
+    ensures { result.now ≡ page_main }
+{
+    "\
+<main>\n\
+<svg class='y' width='0' height='0'>\n\
+<defs><pattern id='band' width='1' height='1' patternContentUnits='objectBoundingBox'><path d='M0 0H1V1H0z' style='fill:#e3eaf5;stroke:none'/><path d='M.36 0H.64L.8 1H.2z' style='fill:#c3d2ea;stroke:none'/></pattern></defs>\n\
+</svg>\n\
+"
+}
