@@ -1,5 +1,6 @@
 """How a file leaves the offers of a plant, and where it goes."""
 import os
+import time
 
 import plants
 import stage
@@ -58,6 +59,10 @@ def come(at, *names):
         stage.within(60, lambda name=name: os.path.lexists(at.path(name)), f'{name} lies there')
 
 
+# longer than it is from one look at the offers to the next, in seconds
+LOOKS = 1
+
+
 def lay_at_first(at, name, data=b''):
     """Lays a file among the offers of the first of three plants."""
     plants.lay(at, 1, name, data)
@@ -68,18 +73,59 @@ def began(at, number):
     stage.within(20, lambda: any(line.startswith(f'{number} began ') for line in told(at, 'log1')), f'{number} is under way: {told(at, "log1")}')
 
 
+def search(at, members, numbers):
+    """These plants search for these numbers: they came up as the ballots went on, and may have missed one."""
+    for member in members:
+        for number in numbers:
+            plants.lay(at, member, f'{number}.seek', b'')
+
+
+def replaced_while_under_way(at):
+    """A file that is replaced while its ballots are under way: where they still come to its story, that stands, and the correction is lost;
+    one that is removed, or becomes a folder, is released all the same."""
+    ports = plants.configure(at)
+    plants.bring_up(at, ports, (1,))
+    for number in (12, 13, 14):
+        lay_at_first(at, f'{number}.tape', at.read(STORY))
+        began(at, number)
+    lay_at_first(at, '12.tape', at.read(OTHER))
+    os.remove(at.path('offers1/13.tape'))
+    os.remove(at.path('offers1/14.tape'))
+    os.mkdir(at.path('offers1/14.tape'))
+    time.sleep(LOOKS)
+    plants.bring_up(at, ports, (2, 3))
+    come(at, 'offers1/lost/12.tape', 'releases1/13.galley', 'releases1/14.galley')
+    search(at, (2, 3), (12, 13, 14))
+    for member in (1, 2, 3):
+        for number in (12, 13, 14):
+            come(at, f'releases{member}/{number}.galley')
+            holds(at, f'releases{member}/{number}.tape', at.read(STORY))
+    holds(at, 'offers1/lost/12.tape', at.read(OTHER))
+    holds(at, 'offers1/lost/12.tape.txt', STANDS)
+    stage.wants('12 replaced while it was under way' in told(at, 'log1'), f'{told(at, "log1")}')
+    stage.wants(os.path.isdir(at.path('offers1/14.tape')), 'a folder stays')
+    stage.wants(not os.path.exists(at.path('offers1/sent')), 'nothing was sent')
+
+
 def given_up_and_begun_again(at):
-    """A file whose ballots came to no end is offered again."""
+    """A file whose ballots came to no end is offered again; one that was replaced meanwhile is then the correction."""
     ports = plants.configure(at)
     plants.bring_up(at, ports, (1,))
     lay_at_first(at, '12.tape', at.read(STORY))
+    lay_at_first(at, '13.tape', at.read(STORY))
     began(at, 12)
-    stage.within(150, lambda: any(line.startswith('12 gave-up ') for line in told(at, 'log1')), '12 is given up')
+    began(at, 13)
+    lay_at_first(at, '13.tape', at.read(OTHER))
+    for number in (12, 13):
+        stage.within(150, lambda: any(line.startswith(f'{number} gave-up ') for line in told(at, 'log1')), f'{number} is given up')
     plants.bring_up(at, ports, (2, 3))
-    come(at, 'offers1/sent/12.tape')
+    come(at, 'offers1/sent/12.tape', 'offers1/sent/13.tape')
+    search(at, (2, 3), (12, 13))
     for member in (1, 2, 3):
-        come(at, f'releases{member}/12.galley')
+        come(at, f'releases{member}/12.galley', f'releases{member}/13.galley')
         holds(at, f'releases{member}/12.tape', at.read(STORY))
+        holds(at, f'releases{member}/13.tape', at.read(OTHER))
+    stage.wants('13 replaced while it was under way' in told(at, 'log1'), f'{told(at, "log1")}')
 
 
-PLAYS = [sent, late, refused, given_up_and_begun_again]
+PLAYS = [sent, late, refused, replaced_while_under_way, given_up_and_begun_again]

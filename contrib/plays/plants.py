@@ -19,14 +19,19 @@ STORIES = 300
 BALLOTS = 1.3
 
 
+def write_config(at, own, ports):
+    """The configuration of one plant, whose list has these ports in order, and its folders."""
+    stations = ''.join(f'[[station]]\nmember = {member}\nip = "127.0.0.1"\nport = {port}\n' for member, port in enumerate(ports, 1))
+    at.write(f'plant{own}.toml', CONFIG.format(member=own, stations=stations).encode())
+    os.mkdir(at.path(f'offers{own}'))
+    os.mkdir(at.path(f'releases{own}'))
+
+
 def configure(at):
     """Three plants that are not up yet, and the port of each."""
     ports = [stage.free_port() for _ in range(3)]
-    stations = ''.join(f'[[station]]\nmember = {member}\nip = "127.0.0.1"\nport = {port}\n' for member, port in enumerate(ports, 1))
     for member in (1, 2, 3):
-        at.write(f'plant{member}.toml', CONFIG.format(member=member, stations=stations).encode())
-        os.mkdir(at.path(f'offers{member}'))
-        os.mkdir(at.path(f'releases{member}'))
+        write_config(at, member, ports)
     return ports
 
 
@@ -61,6 +66,19 @@ def a_search_beside_its_tape(at):
     stage.within(10, lambda: sorted(os.listdir(at.path('offers2/sent'))) == ['12.seek', '12.tape'], 'both were sent')
 
 
+def lists_that_differ(at):
+    """A plant tells that another takes it for another member, and that another speaks as a member that it does not have."""
+    first, second, third, nobody = [stage.free_port() for _ in range(4)]
+    write_config(at, 1, (first, second, third))
+    write_config(at, 3, (second, first, third))
+    write_config(at, 4, (first, nobody, third, second))
+    bring_up(at, (first, second, third, second), (1, 3, 4))
+    lay(at, 3, '12.tape', at.read('flood.tape'))
+    lay(at, 4, '13.tape', at.read('flood.tape'))
+    for line in (b'refused not-for-me\n', b'refused stranger\n'):
+        stage.within(10, lambda: line in at.read('log1'), f'{line} is told')
+
+
 def burst(at, members):
     """Stories that are laid at these plants all at once: each plant has all of them, and they took few ballots."""
     three(at)
@@ -84,4 +102,4 @@ def a_burst_at_each_plant(at):
     burst(at, (1, 2, 3))
 
 
-PLAYS = [a_search_beside_its_tape, a_burst_at_one_plant, a_burst_at_each_plant]
+PLAYS = [a_search_beside_its_tape, lists_that_differ, a_burst_at_one_plant, a_burst_at_each_plant]

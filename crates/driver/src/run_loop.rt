@@ -4,7 +4,7 @@ ghost use Rattle.std.specs.Prelude.{◌≡◌, []};
 ghost use Rattle.wire.specs.Passing.{Passes};
 ghost use Rattle.exchange.specs.Events.{ended};
 ghost use Rattle.driver.specs.Replies.{IsAskedBy, reply_of};
-ghost use Rattle.driver.specs.Driving.{DroveUpTo, Anyhow};
+ghost use Rattle.driver.specs.Driving.{Anyhow, Drove, DroveUpTo, fate_of, known, post_of};
 
 use crate::calls::ask;
 use crate::desk::{Denied, Desk};
@@ -12,7 +12,7 @@ use crate::driver::Driver;
 use crate::log::Log;
 use crate::pacing::asking_of;
 use crate::sink::Step;
-use command_ends::Fault;
+use command_ends::{End, Fault};
 use exchange::{pass_over, tell_lost, tell_strangers};
 use folders::Request;
 use pace::Work;
@@ -171,7 +171,7 @@ impl<'a, R: Rows, N: Wire, S: Desk> Driver<'a, R, N, S> {
     }
 
     /// One work after the other, until the run is over.
-    pub fn run<E: Write>(&mut self, log: &mut Log<'_, E>) -> Result<(), Fault<'static>>
+    fn work_on<E: Write>(&mut self, log: &mut Log<'_, E>) -> Result<(), Fault<'static>>
         ensures station { self.new.station.ghost_name ≡ self.old.station.ghost_name }
         ensures wire { self.new.wire.ghost_name ≡ self.old.wire.ghost_name }
         ensures was_kept { R.kept self.new.station.now.rows → R.kept self.old.station.now.rows }
@@ -184,5 +184,18 @@ impl<'a, R: Rows, N: Wire, S: Desk> Driver<'a, R, N, S> {
             }
         }
         Ok(())
+    }
+
+    /// The same; how the run ends. A fault that ends it is told.
+    pub fn run<E: Write>(&mut self, log: &mut Log<'_, E>) -> End
+        ensures station { self.new.station.ghost_name ≡ self.old.station.ghost_name }
+        ensures wire { self.new.wire.ghost_name ≡ self.old.wire.ghost_name }
+        ensures was_kept { R.kept self.new.station.now.rows → R.kept self.old.station.now.rows }
+        ensures drove { Drove (known R.Rows N.passed (fate_of S.Sink)) (post_of self.old) (post_of self.new) result Anyhow }
+    {
+        match self.work_on(log) {
+            Ok(()) => End::Done,
+            Err(fault) => fault.tell(log.err),
+        }
     }
 }

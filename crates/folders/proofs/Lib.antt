@@ -1,2 +1,3 @@
 pub mod Doings
 pub mod NameEnds
+pub mod Steps

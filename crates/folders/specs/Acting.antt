@@ -1,17 +1,18 @@
 -- What was done with folders in memory.
-use Rattle.std.specs.Prelude.{List, map, string_bytes}
+use Rattle.std.specs.Prelude.{List, [], ◌∷◌, flat_map, string_bytes}
 use Rattle.folders.specs.Doings.{Doing, saw_file, read_file, wrote_file, moved_file, removed_file}
 use Rattle.folders.specs.declared.acts.Act.{Act}
-use Rattle.folders.specs.declared.acts.Act.TheVariants.{Saw, Read, Wrote, SetAside, TakenAway}
+use Rattle.folders.specs.declared.acts.Act.TheVariants.{Saw, Read, Wrote, Noted, SetAside, TakenAway}
 
--- what was done
-abbrev pub act_of : Act → Doing
-act_of (Saw name) = saw_file (string_bytes name)
-act_of (Read file) = read_file file
-act_of (Wrote file) = wrote_file file
-act_of (SetAside name to) = moved_file (string_bytes name) to
-act_of (TakenAway name) = removed_file (string_bytes name)
+-- what was done with the files of a plant; a text beside one is none of them
+abbrev pub act_of : Act → List Doing
+act_of (Saw name) = saw_file (string_bytes name) ∷ []
+act_of (Read file) = read_file file ∷ []
+act_of (Wrote file) = wrote_file file ∷ []
+act_of (Noted text) = []
+act_of (SetAside name to) = moved_file (string_bytes name) to ∷ []
+act_of (TakenAway name) = removed_file (string_bytes name) ∷ []
 
 -- each of these, in order
 abbrev pub acts_of : List Act → List Doing
-acts_of acts = map act_of acts
+acts_of acts = flat_map act_of acts

@@ -5,8 +5,7 @@ pub mod Leaving
 pub mod LogNames
 pub mod Offers
 pub mod OwnNames
-pub mod Pausing
 pub mod Stamps
 pub mod Standing
-pub mod Watching
+pub mod Steps
 pub mod Written

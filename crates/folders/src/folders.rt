@@ -34,7 +34,7 @@ pub enum News {
     WrittenAnew,
 }
 
-/// What lies among the offers.
+/// What lies among the offers, as far as a look has come since it was asked last.
 #[derive(Drop)]
 pub struct Listing {
     /// The plain files, in no order.
@@ -43,18 +43,24 @@ pub struct Listing {
     pub others: Vec<PassedOver>,
     /// How many there are besides whose names are not UTF-8.
     pub skipped: usize,
-    /// What befell the folders since the last look.
+    /// What befell the folders since they were asked last.
     pub news: Vec<News>,
+    /// Whether the look has come to its end.
+    pub is_end: bool,
+    /// How long the look has taken so far, in milliseconds.
+    pub took: u64,
 }
 
 impl Listing {
-    /// Nothing lies there.
+    /// A look has come to its end at once, and nothing lies there.
     pub fn new(alloc: Global) -> Listing {
         Listing {
             files: Vec::new(alloc),
             others: Vec::new(alloc),
             skipped: 0,
             news: Vec::new(alloc),
+            is_end: true,
+            took: 0,
         }
     }
 }
@@ -74,8 +80,13 @@ pub trait Folders {
     // was written among the releases.
     ghost doings: { Self → Option (List Doing) } = { λ _. None };
 
-    /// What lies among the offers. A file `stop` that is older than the start does not.
-    fn list(&mut self, alloc: Global) -> Result<Listing, FolderFault>
+    /// What lies among the offers: the next names of a look, so many at most, where it left off; where none goes on one is begun. A name may
+    /// come twice or not at all where files are laid or taken away meanwhile. A fault ends the look.
+    fn list(&mut self, alloc: Global, most: usize) -> Result<Listing, FolderFault>
+        ensures { doings self.new ≡ doings self.old };
+
+    /// Whether a file `stop` that is newer than the start lies among the offers; it is looked for by its name.
+    fn has_stop(&mut self, alloc: Global) -> bool
         ensures { doings self.new ≡ doings self.old };
 
     /// What the file of this name and stamp among the offers holds; `None` where that is more than so many bytes, which are not read then.

@@ -1,15 +1,17 @@
 //! Folders in memory, for tests.
 
-ghost use Rattle.std.specs.Prelude.{◌≡◌, ◌++◌, ◌∷◌, [], OnOk, OnErr};
+ghost use Rattle.std.specs.Prelude.{◌≡◌, ◌++◌, ◌∷◌, [], OnOk, OnErr, IfOk};
 ghost use Rattle.folders.specs.Acting.{acts_of, act_of};
 ghost use Rattle.folders.specs.Doings.{wrote_file};
 
-use crate::acts::Act;
+use crate::acts::{Act, Noted};
 use crate::fault::FolderFault;
 use crate::folders::{Folders, Found, Listing, Unwritten};
 use crate::leaving::{Leaving, Place, text_name};
 use crate::named_file::NamedFile;
-use crate::stamp::{FileId, Stamp, is_unchanged};
+use crate::names::STOP;
+use crate::reading::{Opened, read_between, test_same};
+use crate::stamp::{FileId, Stamp};
 use std::alloc::{AllocError, Global};
 
 /// A file among the offers.
@@ -34,19 +36,48 @@ impl Offer {
     }
 }
 
-/// A text that was written beside a file that was set aside.
-#[derive(Drop)]
-pub struct Noted {
-    pub to: Place,
-    pub name: String,
-    pub text: String,
+/// An offer of this name and these bytes, which were changed at this moment.
+fn offer_of(alloc: Global, name: &str, bytes: &[u8], changed: i64) -> Result<Offer, AllocError> {
+    Ok(Offer {
+        name: String::from_str(alloc, name)?,
+        bytes: Vec::from_slice(alloc, bytes)?,
+        changed,
+    })
 }
 
-/// Folders in memory. They can be told to refuse what is written among the releases.
+/// An offer that is open to be read, which may be written anew at the moment at which it is.
+#[derive(Drop)]
+struct OpenOffer {
+    bytes: Vec<u8>,
+    /// Its stamp until it is read, and from then on.
+    before: Stamp,
+    after: Stamp,
+    is_read: bool,
+}
+
+impl Opened for OpenOffer {
+    fn stamp(&mut self) -> Result<Stamp, FolderFault> {
+        if self.is_read {
+            Ok(self.after)
+        } else {
+            Ok(self.before)
+        }
+    }
+
+    fn bytes(&mut self, alloc: Global, _most: u64) -> Result<Vec<u8>, FolderFault> {
+        self.is_read = true;
+        Ok(Vec::from_slice(alloc, &self.bytes)?)
+    }
+}
+
+/// Folders in memory. They can be told to refuse what is written among the releases, and to write an offer anew while it is read.
 #[derive(Drop)]
 pub struct MemoryFolders {
     offers: Vec<Offer>,
-    noted: Vec<Noted>,
+    /// How many of them a look has come to that goes on.
+    looked_at: usize,
+    /// What is laid among the offers while a file is read next.
+    coming: Option<Offer>,
     /// What was done, in order.
     acts: Vec<Act>,
     is_full: bool,
@@ -57,7 +88,8 @@ impl MemoryFolders {
     pub fn new(alloc: Global) -> MemoryFolders {
         MemoryFolders {
             offers: Vec::new(alloc),
-            noted: Vec::new(alloc),
+            looked_at: 0,
+            coming: None,
             acts: Vec::new(alloc),
             is_full: false,
         }
@@ -66,11 +98,6 @@ impl MemoryFolders {
     /// Whether what is written among the releases is refused from now on.
     pub fn set_full(&mut self, is_full: bool) {
         self.is_full = is_full;
-    }
-
-    /// What was written beside files that were set aside, in order.
-    pub fn noted(&self) -> &[Noted] {
-        &self.noted
     }
 
     /// What was done since the start, in order.
@@ -88,13 +115,21 @@ impl MemoryFolders {
         bytes: &[u8],
         changed: i64,
     ) -> Result<(), AllocError> {
-        let offer = Offer {
-            name: String::from_str(alloc, name)?,
-            bytes: Vec::from_slice(alloc, bytes)?,
-            changed,
-        };
+        let offer = offer_of(alloc, name, bytes, changed)?;
         self.drop_offer(name);
         self.offers.push(offer)?;
+        Ok(())
+    }
+
+    /// Does the same while a file is read next: once its stamp was looked at, and before its bytes are.
+    pub fn lay_within_read(
+        &mut self,
+        alloc: Global,
+        name: &str,
+        bytes: &[u8],
+        changed: i64,
+    ) -> Result<(), AllocError> {
+        self.coming = Some(offer_of(alloc, name, bytes, changed)?);
         Ok(())
     }
 
@@ -104,23 +139,41 @@ impl MemoryFolders {
         self.offers.retain(|offer| offer.name.as_str() != name);
     }
 
-    fn offer_of(&self, name: &str) -> Option<&Offer> {
+    fn find(&self, name: &str) -> Option<&Offer> {
         self.offers.iter().find(|offer| offer.name.as_str() == name)
     }
 
-    /// The file of this name and stamp among the offers.
-    fn offer_as(&self, name: &str, stamp: Stamp) -> Result<&Offer, FolderFault> {
-        let offer = self.offer_of(name).ok_or(FolderFault::Missing)?;
-        if is_unchanged(stamp, offer.stamp()) {
-            Ok(offer)
-        } else {
-            Err(FolderFault::Changed)
+    /// The stamp of the file of this name among the offers.
+    fn stamp_of(&self, name: &str) -> Result<Stamp, FolderFault> {
+        match self.find(name) {
+            Some(offer) => Ok(offer.stamp()),
+            None => Err(FolderFault::Missing),
         }
+    }
+
+    /// Opens the file of this name among the offers, once what is laid while it is read was.
+    fn open(&mut self, alloc: Global, name: &str) -> Result<OpenOffer, FolderFault>
+        ensures { self.new.acts ≡ self.old.acts }
+    {
+        let before = self.stamp_of(name)?;
+        if let Some(coming) = self.coming.take() {
+            self.drop_offer(coming.name.as_str());
+            if self.offers.push(coming).is_err() {
+                return Err(FolderFault::OutOfMemory);
+            }
+        }
+        let offer = self.find(name).ok_or(FolderFault::Missing)?;
+        Ok(OpenOffer {
+            bytes: Vec::from_slice(alloc, &offer.bytes)?,
+            before,
+            after: offer.stamp(),
+            is_read: false,
+        })
     }
 
     /// Keeps what was done behind what was done before.
     fn keep(&mut self, act: Act) -> Result<(), FolderFault>
-        ensures ok { OnOk result (acts_of self.new.acts.items ≡ acts_of self.old.acts.items ++ act_of act ∷ []) }
+        ensures ok { OnOk result (acts_of self.new.acts.items ≡ acts_of self.old.acts.items ++ act_of act) }
         ensures err { OnErr result (self.new.acts.items ≡ self.old.acts.items) }
     {
         if let Err(_) = self.acts.push(act) {
@@ -131,10 +184,10 @@ impl MemoryFolders {
 
     /// Lets a file leave the offers. Where there is no memory to tell it, it stays.
     fn leave(&mut self, name: &str, act: Act) -> Result<(), FolderFault>
-        ensures ok { OnOk result (acts_of self.new.acts.items ≡ acts_of self.old.acts.items ++ act_of act ∷ []) }
+        ensures ok { OnOk result (acts_of self.new.acts.items ≡ acts_of self.old.acts.items ++ act_of act) }
         ensures err { OnErr result (self.new.acts.items ≡ self.old.acts.items) }
     {
-        if self.offer_of(name).is_none() {
+        if self.find(name).is_none() {
             return Err(FolderFault::Missing);
         }
         self.keep(act)?;
@@ -154,19 +207,16 @@ impl MemoryFolders {
         self.keep(Act::Wrote(named))
     }
 
-    /// Keeps the text that is written beside a file.
+    /// Writes the text beside where a file goes.
     fn note(&mut self, alloc: Global, leaving: Leaving<'_>, text: &str) -> Result<(), FolderFault>
-        ensures { self.new.acts ≡ self.old.acts }
+        ensures { acts_of self.new.acts.items ≡ acts_of self.old.acts.items }
     {
         let noted = Noted {
             to: leaving.to,
             name: text_name(alloc, leaving.name)?,
             text: String::from_str(alloc, text)?,
         };
-        match self.noted.push(noted) {
-            Ok(()) => Ok(()),
-            Err(_) => Err(FolderFault::OutOfMemory),
-        }
+        self.keep(Act::Noted(noted))
     }
 }
 
@@ -176,16 +226,27 @@ impl Folders for MemoryFolders {
 
     ghost doings = { λ m. Some (acts_of m.acts.items) };
 
-    fn list(&mut self, alloc: Global) -> Result<Listing, FolderFault> {
+    fn list(&mut self, alloc: Global, most: usize) -> Result<Listing, FolderFault> {
         let mut listing = Listing::new(alloc);
-        for offer in &self.offers {
+        let first = self.looked_at;
+        self.looked_at = 0;
+        for offer in self.offers.iter().skip(first).take(most) {
             let name = offer.name.clone()?;
             let stamp = offer.stamp();
             if listing.files.push(Found { name, stamp }).is_err() {
                 return Err(FolderFault::OutOfMemory);
             }
         }
+        let next = first.saturating_add(most);
+        listing.is_end = next >= self.offers.len();
+        if !listing.is_end {
+            self.looked_at = next;
+        }
         Ok(listing)
+    }
+
+    fn has_stop(&mut self, _alloc: Global) -> bool {
+        self.find(STOP).is_some()
     }
 
     fn read(
@@ -195,13 +256,15 @@ impl Folders for MemoryFolders {
         stamp: Stamp,
         most: usize,
     ) -> Result<Option<Vec<u8>>, FolderFault> {
-        let bytes = Vec::from_slice(alloc, &self.offer_as(name, stamp)?.bytes)?;
         let seen = String::from_str(alloc, name)?;
-        let named = NamedFile::of(alloc, name, &bytes)?;
+        test_same(stamp, self.stamp_of(name)?)?;
         self.keep(Act::Saw(seen))?;
-        if bytes.len() > most {
+        if stamp.length > most as u64 {
             return Ok(None);
         }
+        let mut file = self.open(alloc, name)?;
+        let bytes = read_between(alloc, &mut file, stamp)?;
+        let named = NamedFile::of(alloc, name, &bytes)?;
         self.keep(Act::Read(named))?;
         Ok(Some(bytes))
     }
@@ -221,7 +284,7 @@ impl Folders for MemoryFolders {
         leaving: Leaving<'_>,
         beside: Option<&str>,
     ) -> Result<(), FolderFault> {
-        self.offer_as(leaving.name, leaving.stamp)?;
+        test_same(leaving.stamp, self.stamp_of(leaving.name)?)?;
         let name = String::from_str(alloc, leaving.name)?;
         if let Some(text) = beside {
             self.note(alloc, leaving, text)?;

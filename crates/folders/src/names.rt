@@ -1,11 +1,9 @@
 //! What the names of the files among the offers ask for.
 
-ghost use Rattle.std.specs.Prelude.{◌≡◌, ◌≤◌, ◌++◌, ◌↔◌, ℕ, IfOk, IfSome, IfNone, MatchOption, IsTrue, Some, false, codes, decimal, string_bytes};
-ghost use Rattle.std.specs.List.{All, Any};
+ghost use Rattle.std.specs.Prelude.{◌≡◌, ◌≤◌, ◌++◌, ◌↔◌, ℕ, IfOk, IfSome, IfNone, MatchOption, IsTrue, Some, decimal, string_bytes};
 ghost use Rattle.protocol.specs.Limits.{last_number};
 ghost use Rattle.folders.specs.Offers.{kind_word, IsNameOf, NamesNoneOf, NamesNone, IsStop, BeginsWithDot, EndsWithPart, IsLeft};
 
-use crate::folders::Found;
 use ballots::Number;
 use std::alloc::{AllocError, Global};
 
@@ -50,24 +48,18 @@ fn kind_word(kind: Kind) -> &'static str
     }
 }
 
+/// The name of the file that asks for this; where there is no memory for it, `AllocError`.
+pub fn name_of(alloc: Global, request: Request) -> Result<String, AllocError>
+    ensures { IfOk result (λ t. IsNameOf (string_bytes t) request.number request.kind) }
+{
+    file_name(alloc, request.number.get(), kind_word(request.kind))
+}
+
 /// Whether this is the file that ends a run.
 fn is_stop(name: &str) -> bool
     ensures { IsTrue result ↔ IsStop name.now }
 {
     name == STOP
-}
-
-/// Whether the file that ends a run is among these.
-pub fn has_stop(files: &[Found]) -> bool
-    ensures one { IsTrue result → Any (λ (file : _). IsStop (string_bytes file.name)) files.now }
-    ensures else_none { result ≡ false → All (λ (file : _). ¬ IsStop (string_bytes file.name)) files.now }
-{
-    for file in files {
-        if is_stop(file.name.as_str()) {
-            return true;
-        }
-    }
-    false
 }
 
 /// Whether it begins with a dot.

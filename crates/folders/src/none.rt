@@ -12,8 +12,12 @@ use std::alloc::Global;
 pub struct NoFolders;
 
 impl Folders for NoFolders {
-    fn list(&mut self, alloc: Global) -> Result<Listing, FolderFault> {
+    fn list(&mut self, alloc: Global, _most: usize) -> Result<Listing, FolderFault> {
         Ok(Listing::new(alloc))
+    }
+
+    fn has_stop(&mut self, _alloc: Global) -> bool {
+        false
     }
 
     fn read(

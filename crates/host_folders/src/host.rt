@@ -61,12 +61,18 @@ impl<'a> HostFolders<'a> {
 }
 
 impl<'a> Folders for HostFolders<'a> {
-    fn list(&mut self, alloc: Global) -> Result<Listing, FolderFault> {
-        self.ready_releases();
-        self.check_offers()?;
-        let mut listing = self.offers.list(self.maker.rt)?;
+    fn list(&mut self, alloc: Global, most: usize) -> Result<Listing, FolderFault> {
+        if !self.offers.is_looking() {
+            self.ready_releases();
+            self.check_offers()?;
+        }
+        let mut listing = self.offers.list(self.maker.rt, most)?;
         listing.news = mem::replace(&mut self.releases.news, Vec::new(alloc));
         Ok(listing)
+    }
+
+    fn has_stop(&mut self, _alloc: Global) -> bool {
+        self.offers.has_stop(self.maker.rt)
     }
 
     fn read(

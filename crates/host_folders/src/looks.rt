@@ -1,6 +1,6 @@
 //! What stands at a path, by looks that open nothing.
 
-use folders::{FileId, FolderFault, Stamp, is_unchanged};
+use folders::{FileId, FolderFault, Stamp};
 use std::alloc::{AllocError, Global};
 use std::fs::Metadata;
 use std::io::ErrorKind;
@@ -61,15 +61,6 @@ pub(crate) fn found_again(rt: &HostRuntime, path: &str) -> Result<Stamp, FolderF
     match plain_file(rt, path) {
         Err(FolderFault::NoFile) => Err(FolderFault::Changed),
         found => found,
-    }
-}
-
-/// Refuses a file that is not as it was found.
-pub(crate) fn test_same(found: Stamp, now: Stamp) -> Result<(), FolderFault> {
-    if is_unchanged(found, now) {
-        Ok(())
-    } else {
-        Err(FolderFault::Changed)
     }
 }
 

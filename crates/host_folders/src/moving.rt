@@ -1,10 +1,14 @@
 //! Files that leave the offers: through a passage of their own, where each is judged by what it is.
 
 use crate::copies::{free_path, write_beside};
-use crate::looks::{found_again, id_at, test_same, within};
+use crate::looks::{found_again, id_at, within};
 use crate::maker::Maker;
 use crate::part::clear_parts;
-use folders::{FolderFault, Leaving, PASSAGE, PLACES, Place, Return, is_as_read, return_of};
+use folders::{
+    FolderFault, Leaving, Mover, PASSAGE, PLACES, Place, Return, is_as_read, move_behind,
+    return_of, test_same,
+};
+use std::alloc::Global;
 use std::fs;
 use std::io::ErrorKind;
 
@@ -80,6 +84,43 @@ fn put_aside(
     Ok(fs::rename(rt, own, path.as_str())?)
 }
 
+/// The way of a file from the offers to a folder of theirs.
+#[derive(Drop)]
+struct Way<'w, 'a> {
+    maker: &'w mut Maker<'a>,
+    offers: &'w str,
+    folder: &'w str,
+}
+
+/// The way from the offers to this folder.
+fn way_to<'w, 'a>(maker: &'w mut Maker<'a>, offers: &'w str, folder: &'w str) -> Way<'w, 'a> {
+    Way {
+        maker,
+        offers,
+        folder,
+    }
+}
+
+impl Mover for Way<'_, '_> {
+    fn write_text(
+        &mut self,
+        _alloc: Global,
+        leaving: Leaving<'_>,
+        text: &str,
+    ) -> Result<(), FolderFault> {
+        write_beside(self.maker, self.folder, leaving.name, text)
+    }
+
+    fn take(&mut self, _alloc: Global, leaving: Leaving<'_>) -> Result<(), FolderFault> {
+        let own = take_away(self.maker, self.offers, leaving.name)?;
+        let put = put_aside(self.maker.rt, &own, self.folder, leaving);
+        if put.is_err() {
+            put_back(self.maker, self.offers, &own, leaving.name)?;
+        }
+        put
+    }
+}
+
 /// Moves a file of the offers to a place, once the text beside it is written. It is taken from its name first, and judged then: what is
 /// not the file that was found is put back.
 pub(crate) fn set_aside(
@@ -88,18 +129,12 @@ pub(crate) fn set_aside(
     leaving: Leaving<'_>,
     beside: Option<&str>,
 ) -> Result<(), FolderFault> {
-    let home = within(maker.alloc(), offers, leaving.name)?;
+    let alloc = maker.alloc();
+    let home = within(alloc, offers, leaving.name)?;
     test_same(leaving.stamp, found_again(maker.rt, &home)?)?;
     let folder = make_place(maker.rt, offers, leaving.to)?;
-    if let Some(text) = beside {
-        write_beside(maker, &folder, leaving.name, text)?;
-    }
-    let own = take_away(maker, offers, leaving.name)?;
-    let put = put_aside(maker.rt, &own, &folder, leaving);
-    if put.is_err() {
-        put_back(maker, offers, &own, leaving.name)?;
-    }
-    put
+    let mut way = way_to(maker, offers, &folder);
+    move_behind(alloc, &mut way, leaving, beside)
 }
 
 /// Puts back what lies in the passage: what was on its way as a process ended.

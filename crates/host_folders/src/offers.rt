@@ -3,19 +3,36 @@
 ghost use Rattle.std.specs.Prelude.{◌≡◌, ◌≤◌, IfOk, IfSome, length};
 
 use crate::guard::{Guard, Guarded};
-use crate::looks::{found_again, plain_file, stamp_of, test_same, within};
+use crate::looks::{found_again, plain_file, stamp_of, within};
 use crate::maker::Maker;
 use crate::moving::clear_offers;
 use crate::part::Part;
-use folders::{FolderFault, Found, Listing, PassedOver, STOP, Stamp, is_since, nanos_of};
-use std::fs;
-use std::fs::File;
+use folders::{
+    FolderFault, Found, Listing, Opened, PassedOver, STOP, Stamp, is_since, nanos_of, read_between,
+    test_same,
+};
+use std::alloc::Global;
+use std::fs::{DirEntry, File, ReadDir};
 use std::io::{ErrorKind, Read};
+use std::path::AsPath;
+use std::time::Instant;
+use std::{fs, io};
+
+/// A look at what lies in a folder.
+#[derive(Drop)]
+struct Walk {
+    /// What it has not come to yet.
+    entries: ReadDir,
+    /// How long it took so far, in microseconds.
+    took: u64,
+}
 
 /// The folder of offers.
 #[derive(Drop)]
 pub(crate) struct Offers {
     guarded: Guarded,
+    /// The look that goes on.
+    walk: Option<Walk>,
     /// The start, in nanoseconds since 1970 by the clock of the folder, or of the host where the folder told none.
     start: u64,
 }
@@ -28,27 +45,50 @@ fn clock_of(maker: &mut Maker<'_>, folder: &str) -> Result<u64, FolderFault> {
     Ok(nanos_of(touched?))
 }
 
+/// How many microseconds have passed since a moment; none where the clock failed.
+fn micros_since(rt: &HostRuntime, moment: io::Result<Instant>) -> u64 {
+    let Ok(moment) = moment else {
+        return 0;
+    };
+    match moment.elapsed(rt) {
+        Ok(passed) => u64::try_from(passed.as_micros()).unwrap_or(u64::MAX),
+        Err(_) => 0,
+    }
+}
+
+/// A file that is open.
+#[derive(Drop)]
+struct OpenFile {
+    file: File,
+}
+
+impl Opened for OpenFile {
+    fn stamp(&mut self) -> Result<Stamp, FolderFault> {
+        Ok(stamp_of(&self.file.metadata()?))
+    }
+
+    fn bytes(&mut self, alloc: Global, most: u64) -> Result<Vec<u8>, FolderFault> {
+        let mut bytes = Vec::new(alloc);
+        let mut front = (&self.file).take(most);
+        front.read_to_end(&mut bytes)?;
+        Ok(bytes)
+    }
+}
+
 /// What the plain file of this stamp at a path holds. It is seen to be the one that was found, and to stay as it is.
 fn read_whole(rt: &HostRuntime, path: &str, stamp: Stamp) -> Result<Vec<u8>, FolderFault>
     ensures { IfOk result (λ v. length v.items ≡ stamp.length) }
 {
     let file = File::open(rt, path)?;
-    test_same(stamp, stamp_of(&file.metadata()?))?;
-    let mut bytes = Vec::new(rt.alloc());
-    let mut front = (&file).take(stamp.length);
-    front.read_to_end(&mut bytes)?;
-    test_same(stamp, stamp_of(&file.metadata()?))?;
-    if bytes.len() as u64 == stamp.length {
-        Ok(bytes)
-    } else {
-        Err(FolderFault::Changed)
-    }
+    let mut open = OpenFile { file };
+    read_between(rt.alloc(), &mut open, stamp)
 }
 
 impl Offers {
     pub(crate) fn new(path: String, start: u64) -> Offers {
         Offers {
             guarded: Guarded::new(path),
+            walk: None,
             start,
         }
     }
@@ -79,38 +119,88 @@ impl Offers {
         is_since(nanos_of(stamp.touched), self.start)
     }
 
-    /// Looks at what stands under a name, and lists it. A folder is not listed, nor a file `stop` that is older than the start.
-    fn see(&self, rt: &HostRuntime, name: &str, listing: &mut Listing) -> Result<(), FolderFault> {
-        let path = within(rt.alloc(), self.guarded.path(), name)?;
-        let own = String::from_str(rt.alloc(), name)?;
-        let listed = match plain_file(rt, &path) {
-            Ok(stamp) if name == STOP && !self.is_new(stamp) => true,
-            Ok(stamp) => listing.files.push(Found { name: own, stamp }).is_ok(),
+    /// Lists what stands at the path of a name. A folder is not listed.
+    fn see(
+        &self,
+        rt: &HostRuntime,
+        entry: &DirEntry,
+        listing: &mut Listing,
+    ) -> Result<(), FolderFault> {
+        let name = String::from_str(rt.alloc(), entry.file_name())?;
+        let is_listed = match plain_file(rt, entry.path().path_text()) {
+            Ok(stamp) => listing.files.push(Found { name, stamp }).is_ok(),
             Err(FolderFault::Missing) => true,
-            Err(fault) => listing.others.push(PassedOver { name: own, fault }).is_ok(),
+            Err(fault) => listing.others.push(PassedOver { name, fault }).is_ok(),
         };
-        if listed {
+        if is_listed {
             Ok(())
         } else {
             Err(FolderFault::OutOfMemory)
         }
     }
 
-    /// Lists what lies there. A name that is not UTF-8 fails alone; a folder that may be listed and not searched fails whole.
-    pub(crate) fn list(&self, rt: &HostRuntime) -> Result<Listing, FolderFault> {
-        let path = self.guarded.path();
-        fs::symlink_metadata(rt, within(rt.alloc(), path, ".")?.as_str())?;
-        let mut listing = Listing::new(rt.alloc());
-        for entry in fs::read_dir(rt, path)? {
-            match entry {
-                Ok(entry) => self.see(rt, entry.file_name(), &mut listing)?,
-                Err(error) if error.kind() == ErrorKind::InvalidFilename => {
+    /// Goes on with a look, so many names at most; whether it has come to its end. A name that is not UTF-8 fails alone.
+    fn go_on(
+        &self,
+        rt: &HostRuntime,
+        walk: &mut Walk,
+        most: usize,
+        listing: &mut Listing,
+    ) -> Result<bool, FolderFault> {
+        for _ in 0..most {
+            match walk.entries.next() {
+                None => return Ok(true),
+                Some(Ok(entry)) => self.see(rt, &entry, listing)?,
+                Some(Err(error)) if error.kind() == ErrorKind::InvalidFilename => {
                     listing.skipped = listing.skipped.saturating_add(1);
                 }
-                Err(error) => return Err(FolderFault::from(error)),
+                Some(Err(error)) => return Err(FolderFault::from(error)),
             }
         }
+        Ok(false)
+    }
+
+    /// Whether a look goes on.
+    pub(crate) fn is_looking(&self) -> bool {
+        self.walk.is_some()
+    }
+
+    /// Begins a look, in place of one that went on. It fails where the folder may be listed and not searched.
+    fn begin(&self, rt: &HostRuntime) -> Result<Walk, FolderFault> {
+        let path = self.guarded.path();
+        fs::symlink_metadata(rt, within(rt.alloc(), path, ".")?.as_str())?;
+        let entries = fs::read_dir(rt, path)?;
+        Ok(Walk { entries, took: 0 })
+    }
+
+    /// The look that goes on, or else one that is begun.
+    fn take_walk(&mut self, rt: &HostRuntime) -> Result<Walk, FolderFault> {
+        match self.walk.take() {
+            Some(walk) => Ok(walk),
+            None => self.begin(rt),
+        }
+    }
+
+    /// The next of what lies there, so many names at most.
+    pub(crate) fn list(&mut self, rt: &HostRuntime, most: usize) -> Result<Listing, FolderFault> {
+        let start = Instant::now(rt);
+        let mut walk = self.take_walk(rt)?;
+        let mut listing = Listing::new(rt.alloc());
+        listing.is_end = self.go_on(rt, &mut walk, most, &mut listing)?;
+        walk.took = walk.took.saturating_add(micros_since(rt, start));
+        listing.took = walk.took / 1000;
+        if !listing.is_end {
+            self.walk = Some(walk);
+        }
         Ok(listing)
+    }
+
+    /// Whether a file `stop` that is newer than the start lies there.
+    pub(crate) fn has_stop(&self, rt: &HostRuntime) -> bool {
+        let Ok(path) = within(rt.alloc(), self.guarded.path(), STOP) else {
+            return false;
+        };
+        matches!(plain_file(rt, &path), Ok(stamp) if self.is_new(stamp))
     }
 
     /// What the file of this name and stamp holds; `None` where that is more than so many bytes. That one is not opened, nor is an empty one.

@@ -7,11 +7,16 @@ use Rattle.offers.specs.declared.deed.Deed.TheVariants.{Ask}
 use Rattle.offers.specs.declared.offer.Offer.{Offer}
 use Rattle.offers.specs.Left.{IsSoonest}
 use Rattle.offers.specs.Rules.{Standing, MayDo, AreApart, is_under_way}
+use Rattle.offers.specs.Order.{rank}
+use Rattle.offers.specs.Stages.{after, changed}
+use Rattle.offers.specs.declared.stage.News.TheVariants as news
+use Rattle.offers.specs.UnderWay.{AreHeld, AreAlone}
+use Rattle.offers.proofs.Airborne.{held_asked, alone_asked}
 use Rattle.offers.proofs.Flying.{apart_more}
 use Rattle.offers.proofs.Soonest.{soonest_may, soonest_alone}
 
 -- some file stands at an index
-standing_at : (os : List Offer) (i : ℕ) → i < length os → (o : Offer) × (o ≡ get_or os i o)
+pub standing_at : (os : List Offer) (i : ℕ) → i < length os → (o : Offer) × (o ≡ get_or os i o)
 standing_at [] i h = absurd (omega arith)
 standing_at (o ∷ os) zero h = (o, refl)
 standing_at (o ∷ os) (suc i) h = let rest = standing_at os i (omega arith) in (rest.0, rest.1)
@@ -31,6 +36,15 @@ asked_apart w n false apart none = apart
 pub asked_few : (w : List ℕ) (n : ℕ) (found : Bool) → length w ≤ 16 → (found ≡ true → length w < 16) → length (with_one found n w) ≤ 16
 asked_few w n true few room = let one = room refl in rw length-append (omega arith)
 asked_few w n false few room = few
+
+-- a file is under way with its number, and alone of it
+pub held_if : (w : List ℕ) (q : Request) (found : Bool) (os : List Offer) → AreHeld w os → AreHeld (with_one found q.number w) (cond found (changed (rank q) (after news.Asked 0) os) os)
+held_if w q true os held = held_asked w q os held
+held_if w q false os held = held
+
+pub alone_if_asked : (w : List ℕ) (q : Request) (found : Bool) (os : List Offer) → AreHeld w os → AreAlone os → is_under_way q.number w ≡ false → AreAlone (cond found (changed (rank q) (after news.Asked 0) os) os)
+alone_if_asked w q true os held alone none = alone_asked w q os held alone none
+alone_if_asked w q false os held alone none = alone
 
 -- the same of the file at an index, by what it asks for
 pub may_if : (b : Standing) (i : ℕ) (r : Request) (found : Bool) → IsSoonest b i → ((d : Offer) → (get_or b.files i d).request ≡ r) → (found ≡ true → length b.window < 16) → IfSome (asked_if found r) (MayDo b)

@@ -11,13 +11,13 @@ use Rattle.offers.specs.Rules.{Standing, entry_of, is_under_way, IsLeaving, IsOt
 use Rattle.offers.specs.Turns.{IsMove, IsOtherDeed}
 use Rattle.offers.proofs.Editing.{file_is}
 
-pub leaves : (b : Standing) (o : Offer) (d : Deed) → IsLeaving (entry_of b o.request.number) b.looked o d → Suits b d o
+pub leaves : (b : Standing) (o : Offer) (d : Deed) → IsLeaving (entry_of b o.request.number) b.still b.looked o d → Suits b d o
 leaves b o (Move r found to) h = record { file = h.0; as_found = h.1; whole = h.2; ready = h.3; leaves = rw (sym h.0) h.4 }
 leaves b o (Ask r) h = absurd h
 leaves b o (Read r found replaced) h = absurd h
 leaves b o (Refuse r found why) h = absurd h
 
-pub others : (b : Standing) (o : Offer) (d : Deed) → IsOther (is_under_way o.request.number b.window) b.looked o d → Suits b d o
+pub others : (b : Standing) (o : Offer) (d : Deed) → IsOther (is_under_way o.request.number b.window) b.still b.looked o d → Suits b d o
 others b o (Move r found to) h = absurd h
 others b o (Ask r) h = absurd h
 others b o (Read r found replaced) h = record { file = h.0; as_found = h.1; whole = h.2; unread = h.3; one = rw (sym h.0) h.4 }
@@ -27,11 +27,11 @@ others b o (Refuse r found why) h = record { file = h.0; as_found = h.1; whole =
 pub may_do : (b : Standing) (i : ℕ) (o : Offer) (d : Deed) → i < length b.files → o ≡ get_or b.files i o → Suits b d o → MayDo b d
 may_do b i o d within is h = (i, o, within, sym is, h)
 
-pub may_leave : (b : Standing) (i : ℕ) (o : Offer) (r : Option Deed) → i < length b.files → o ≡ get_or b.files i o → IfSome r (IsLeaving (entry_of b o.request.number) b.looked o) → IfSome r (MayDo b)
+pub may_leave : (b : Standing) (i : ℕ) (o : Offer) (r : Option Deed) → i < length b.files → o ≡ get_or b.files i o → IfSome r (IsLeaving (entry_of b o.request.number) b.still b.looked o) → IfSome r (MayDo b)
 may_leave b i o None within is h = tt
 may_leave b i o (Some d) within is h = may_do b i o d within is (leaves b o d h)
 
-pub may_other : (b : Standing) (i : ℕ) (o : Offer) (r : Option Deed) → i < length b.files → o ≡ get_or b.files i o → IfSome r (IsOther (is_under_way o.request.number b.window) b.looked o) → IfSome r (MayDo b)
+pub may_other : (b : Standing) (i : ℕ) (o : Offer) (r : Option Deed) → i < length b.files → o ≡ get_or b.files i o → IfSome r (IsOther (is_under_way o.request.number b.window) b.still b.looked o) → IfSome r (MayDo b)
 may_other b i o None within is h = tt
 may_other b i o (Some d) within is h = may_do b i o d within is (others b o d h)
 
@@ -48,16 +48,16 @@ pub has_left : (b : Standing) (r : Request) (i : ℕ) → Rises b.files → IsPl
 has_left b r i rises there none = go_left b r i rises there none (file_at b.files (rank r)) refl
 
 -- of which kind each is
-pub all_move : (entry : Option Entry) (looked : ℕ) (o : Offer) (r : Option Deed) → IfSome r (IsLeaving entry looked o) → IfSome r IsMove
-all_move entry looked o None h = tt
-all_move entry looked o (Some (Move r found to)) h = tt
-all_move entry looked o (Some (Ask r)) h = absurd h
-all_move entry looked o (Some (Read r found replaced)) h = absurd h
-all_move entry looked o (Some (Refuse r found why)) h = absurd h
+pub all_move : (entry : Option Entry) (still looked : ℕ) (o : Offer) (r : Option Deed) → IfSome r (IsLeaving entry still looked o) → IfSome r IsMove
+all_move entry still looked o None h = tt
+all_move entry still looked o (Some (Move r found to)) h = tt
+all_move entry still looked o (Some (Ask r)) h = absurd h
+all_move entry still looked o (Some (Read r found replaced)) h = absurd h
+all_move entry still looked o (Some (Refuse r found why)) h = absurd h
 
-pub all_other : (flies : Bool) (looked : ℕ) (o : Offer) (r : Option Deed) → IfSome r (IsOther flies looked o) → IfSome r IsOtherDeed
-all_other flies looked o None h = tt
-all_other flies looked o (Some (Move r found to)) h = absurd h
-all_other flies looked o (Some (Ask r)) h = absurd h
-all_other flies looked o (Some (Read r found replaced)) h = tt
-all_other flies looked o (Some (Refuse r found why)) h = tt
+pub all_other : (flies : Bool) (still looked : ℕ) (o : Offer) (r : Option Deed) → IfSome r (IsOther flies still looked o) → IfSome r IsOtherDeed
+all_other flies still looked o None h = tt
+all_other flies still looked o (Some (Move r found to)) h = absurd h
+all_other flies still looked o (Some (Ask r)) h = absurd h
+all_other flies still looked o (Some (Read r found replaced)) h = tt
+all_other flies still looked o (Some (Refuse r found why)) h = tt

@@ -25,6 +25,23 @@ ordered low (o ∷ os) zero (suc j) d r le h = let rest = low_at (suc (rank o.re
 ordered low (o ∷ os) (suc i) zero d r le h = absurd (omega arith)
 ordered low (o ∷ os) (suc i) (suc j) d r le h = ordered (suc (rank o.request)) os i j d r.1 (omega arith) (omega arith)
 
+-- and at a greater one, so that of one place there is one
+ascends : (low : ℕ) (os : List Offer) (i j : ℕ) (d : Offer) → RisesFrom low os → i < j → j < length os → rank (get_or os i d).request < rank (get_or os j d).request
+ascends low [] i j d r lt h = absurd (omega arith)
+ascends low (o ∷ os) zero zero d r lt h = absurd (omega arith)
+ascends low (o ∷ os) zero (suc j) d r lt h = let rest = low_at (suc (rank o.request)) os j d r.1 (omega arith) in omega arith
+ascends low (o ∷ os) (suc i) zero d r lt h = absurd (omega arith)
+ascends low (o ∷ os) (suc i) (suc j) d r lt h = ascends (suc (rank o.request)) os i j d r.1 (omega arith) (omega arith)
+
+pub only_one : (os : List Offer) (i j : ℕ) (d : Offer) → Rises os → i < length os → j < length os → rank (get_or os i d).request ≡ rank (get_or os j d).request → i ≡ j
+only_one os i j d r hi hj e = elim (cases_lt i j) [
+  | inl below ↦ let apart = ascends 0 os i j d r below hj in absurd (omega arith)
+  | inr from ↦ elim (cases_lt j i) [
+    | inl above ↦ let apart = ascends 0 os j i d r above hi in absurd (omega arith)
+    | inr same ↦ omega arith
+  ]
+]
+
 -- how lesser numbers compare
 lesser : (a b k : ℕ) → a ≤ b → ordering_index (nat_cmp a k) ≤ ordering_index (nat_cmp b k)
 lesser a b k h = grind (arith, nat_tests)
@@ -57,7 +74,7 @@ two_ways true = inl refl
 two_ways false = inr refl
 
 -- a file at another place stays
-stays : (k : ℕ) (g : Stage → Stage) (o : Offer) → (rank o.request == k) ≡ false → change_at k g o ≡ o
+pub stays : (k : ℕ) (g : Stage → Stage) (o : Offer) → (rank o.request == k) ≡ false → change_at k g o ≡ o
 stays k g o h = rw h refl
 
 -- where no file stands at the place, none is changed

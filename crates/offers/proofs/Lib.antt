@@ -1,8 +1,11 @@
+pub mod Airborne
 pub mod Asking
+pub mod Blocks
 pub mod Doing
 pub mod Editing
 pub mod Flying
 pub mod Looking
+pub mod Marking
 pub mod Merging
 pub mod Soonest
 pub mod Turning

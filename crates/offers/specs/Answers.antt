@@ -1,16 +1,21 @@
 -- What becomes of the book once it is known what became of a number.
-use Rattle.std.specs.Prelude.{◌≡◌, ◌≢◌, ℕ, true, Some}
+use Rattle.std.specs.Prelude.{◌≡◌, ◌≢◌, ℕ, List, true, Some}
 use Rattle.tape_frames.specs.declared.entry.Entry.{Entry}
 use Rattle.pace.specs.UnderWay.{without}
 use Rattle.offers.specs.declared.stage.Landing.{Landing}
 use Rattle.offers.specs.declared.stage.Landing.TheVariants as landings
 use Rattle.offers.specs.declared.stage.News.TheVariants as news
-use Rattle.offers.specs.Rules.{Standing, entry_of}
+use Rattle.offers.specs.Rules.{Standing, entry_in, entry_of}
 use Rattle.offers.specs.Stages.{after, all_changed}
 
 -- the number is no longer under way, and its files are told
 abbrev pub landed_in : ℕ → Landing → ℕ → Standing → Standing
 landed_in n landing now b = record b { window = without n b.window; files = all_changed n (after (news.Landed landing) now) b.files; asks = true }
+
+-- an entry is kept in mind for a number, and those of other numbers stay
+pub record Keeps (n : ℕ) (entry : Entry) (old new : List (ℕ × Entry)) : Type 0 where
+  pub kept : entry_in new n ≡ Some entry
+  pub rest : (m : ℕ) → m ≢ n → entry_in new m ≡ entry_in old m
 
 -- a number was released: its entry is kept in mind, it is no longer under way, and its files leave the offers
 pub record Releases (n : ℕ) (entry : Entry) (old new : Standing) : Type 0 where
@@ -19,6 +24,7 @@ pub record Releases (n : ℕ) (entry : Entry) (old new : Standing) : Type 0 wher
   pub window : new.window ≡ without n old.window
   pub files : new.files ≡ all_changed n (after (news.Landed landings.Released) 0) old.files
   pub looked : new.looked ≡ old.looked
+  pub still : new.still ≡ old.still
   pub moves : new.moves ≡ old.moves
   pub asks : new.asks ≡ true
   pub row : new.row ≡ old.row

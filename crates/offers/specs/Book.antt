@@ -1,8 +1,11 @@
 -- What the book knows at the start, and what holds of it at all times.
-use Rattle.std.specs.Prelude.{◌≡◌, ◌≤◌, ℕ, [], false, nat_le, None, length, if◌then◌else◌}
+use Rattle.std.specs.Prelude.{Bool, true, ◌≡◌, ◌≤◌, ℕ, [], false, nat_le, None, length, if◌then◌else◌}
+use Rattle.offers.specs.declared.marks.Marks.{Marks}
+use Rattle.offers.specs.Marks.{IsMarked}
 use Rattle.offers.specs.Order.{Rises}
 use Rattle.offers.specs.Rules.{Standing, AreApart, entry_of}
 use Rattle.offers.specs.Left.{NoAsks}
+use Rattle.offers.specs.UnderWay.{AreHeld, AreAlone}
 
 -- nothing is known yet
 pub record IsFresh (b : Standing) : Type 0 where
@@ -15,10 +18,18 @@ pub record IsFresh (b : Standing) : Type 0 where
 abbrev pub begun_again : ℕ → ℕ → ℕ
 begun_again index end = if nat_le end index then 0 else index
 
--- what holds of every book: its files are in order, no two numbers under way are one, they are 16 at most, and where none is left to be
--- asked for, the station may be asked for none
-pub record IsBook (b : Standing) : Type 0 where
+-- what holds of every book: its files are in order, no two numbers under way are one, they are 16 at most, a file is under way only with
+-- its number, and of one number one file is; each file is marked as it is; and where none is left to be asked for, the station may be asked for none
+pub record IsBook (b : Standing) (m : Marks) : Type 0 where
   pub rises : Rises b.files
   pub apart : AreApart b.window
   pub few : length b.window ≤ 16
+  pub held : AreHeld b.window b.files
+  pub alone : AreAlone b.files
+  pub marked : IsMarked b m
   pub idle : b.asks ≡ false → NoAsks b
+
+-- how long a file has to stay as it was found until it is whole, in milliseconds: files that come only by being renamed are so at once
+abbrev pub still_for : Bool → ℕ
+still_for true = 0
+still_for false = 500

@@ -1,5 +1,5 @@
 -- What is left to be done with the files of the book.
-use Rattle.std.specs.Prelude.{◌≡◌, ◌<◌, ◌≤◌, ℕ, false, nat_lt, Option, Some, None, length, slice_index_or, IfSome, if◌then◌else◌}
+use Rattle.std.specs.Prelude.{◌≡◌, ◌<◌, ◌≤◌, ℕ, false, Option, Some, None, length, slice_index_or, IfSome}
 use Rattle.folders.specs.declared.names.Request.{Request}
 use Rattle.offers.specs.declared.offer.Offer.{Offer}
 use Rattle.offers.specs.Order.{rank, file_at}
@@ -35,12 +35,6 @@ IsSoonest b index = (moment : ℕ) × IsSoonestBefore b (length b.files) index m
 abbrev pub MatchSoonest : Standing → ℕ → Option (ℕ × ℕ) → Type 0
 MatchSoonest b high None = NoAsksBefore b high
 MatchSoonest b high (Some first) = IsSoonestBefore b high first.0 first.1
-
--- the first so far, with its moment, or one more, where its moment came before
-abbrev pub sooner : Option (ℕ × ℕ) → ℕ → Option ℕ → Option (ℕ × ℕ)
-sooner first index None = first
-sooner None index (Some own) = Some (index, own)
-sooner (Some first) index (Some own) = if nat_lt own first.1 then Some (index, own) else Some first
 
 -- the file that asks for this does not leave the offers now; or there is no such file
 abbrev pub HasLeft : Standing → Request → Type 0

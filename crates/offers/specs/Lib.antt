@@ -2,7 +2,10 @@ pub mod Answers
 pub mod Book
 pub mod Left
 pub mod Looks
+pub mod Marks
+pub mod Moments
 pub mod Order
 pub mod Rules
 pub mod Stages
 pub mod Turns
+pub mod UnderWay

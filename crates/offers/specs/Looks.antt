@@ -7,7 +7,7 @@ use Rattle.offers.specs.declared.offer.Offer.{Offer}
 use Rattle.offers.specs.declared.stage.Stage.{Stage}
 use Rattle.offers.specs.declared.stage.Stage.TheVariants.{Watched}
 use Rattle.offers.specs.Order.{rank, file_at, rising}
-use Rattle.offers.specs.Stages.{later, anew}
+use Rattle.offers.specs.Stages.{anew}
 
 -- the same file and length, and the same moments of change, of what the file holds and of what is told about it
 abbrev pub is_same_stamp : Stamp → Stamp → Bool
@@ -21,7 +21,7 @@ since_after (Some o) now f = if is_same_stamp o.stamp f.stamp then o.since else 
 
 -- what is known of it then: where it is as it was, what was known; else it is watched from now on
 abbrev pub stage_after : Option Offer → ℕ → Found → Stage
-stage_after None now f = Watched (later now 1000) false
+stage_after None now f = Watched now false
 stage_after (Some o) now f = if is_same_stamp o.stamp f.stamp then o.stage else anew now o.stage
 
 -- a file that is found now, as it stands in the book then

@@ -19,13 +19,14 @@ use Rattle.offers.specs.declared.stage.Stage.{Stage}
 use Rattle.offers.specs.declared.stage.Stage.TheVariants.{Watched, Waiting, UnderWay, Refused, Gone}
 
 -- what the book knows: the files among the offers, in order; the numbers under way; the entries of the numbers that were released; the
--- moment of the last look; from which file on it is left to see whether it leaves the offers, and whether it is read or refused; whether it
+-- moment of the last look, and how long a file has to stay as it was found until it is whole; from which file on it is left to see whether it leaves the offers, and whether it is read or refused; whether it
 -- is left to see for which the station may be asked; and how many were asked for in a row, eight at most
 pub record Standing : Type 0 where
   pub files : List Offer
   pub window : List ℕ
   pub released : List (ℕ × Entry)
   pub looked : ℕ
+  pub still : ℕ
   pub moves : ℕ
   pub others : ℕ
   pub asks : Bool
@@ -47,9 +48,9 @@ is_under_way n window = list_any (λ m. m == n) window
 abbrev pub AreApart : List ℕ → Type 0
 AreApart window = AllPairs (λ m n. m ≢ n) window
 
--- two looks, a second apart, found it as it is: the first that did, and the last look
-abbrev pub IsWhole : ℕ → Offer → Type 0
-IsWhole looked o = o.since + 1000 ≤ looked
+-- two looks, so long apart, found it as it is: the first that did, and the last look; where no time is asked for, they may be one
+abbrev pub IsWhole : ℕ → ℕ → Offer → Type 0
+IsWhole still looked o = o.since + still ≤ looked
 
 -- it was not read yet, and its moment has come
 abbrev pub IsUnread : ℕ → Bool → Stage → Type 0
@@ -92,14 +93,14 @@ Leaves entry Gone to = ⊥
 pub record MayMove (b : Standing) (o : Offer) (r : Request) (found : Stamp) (to : Place) : Type 0 where
   pub file : o.request ≡ r
   pub as_found : o.stamp ≡ found
-  pub whole : IsWhole b.looked o
+  pub whole : IsWhole b.still b.looked o
   pub ready : IsReady b.looked o.stage
   pub leaves : Leaves (entry_of b r.number) o.stage to
 
 -- the station is asked for a file
 pub record MayAsk (b : Standing) (o : Offer) (r : Request) : Type 0 where
   pub file : o.request ≡ r
-  pub whole : IsWhole b.looked o
+  pub whole : IsWhole b.still b.looked o
   pub ready : IsReady b.looked o.stage
   pub unreleased : entry_of b r.number ≡ None
   pub one : is_under_way r.number b.window ≡ false
@@ -109,7 +110,7 @@ pub record MayAsk (b : Standing) (o : Offer) (r : Request) : Type 0 where
 pub record MayRead (b : Standing) (o : Offer) (r : Request) (found : Stamp) (replaced : Bool) : Type 0 where
   pub file : o.request ≡ r
   pub as_found : o.stamp ≡ found
-  pub whole : IsWhole b.looked o
+  pub whole : IsWhole b.still b.looked o
   pub unread : IsUnread b.looked replaced o.stage
   pub one : is_under_way r.number b.window ≡ false
 
@@ -117,7 +118,7 @@ pub record MayRead (b : Standing) (o : Offer) (r : Request) (found : Stamp) (rep
 pub record MayRefuse (b : Standing) (o : Offer) (r : Request) (found : Stamp) (why : Reason) : Type 0 where
   pub file : o.request ≡ r
   pub as_found : o.stamp ≡ found
-  pub whole : IsWhole b.looked o
+  pub whole : IsWhole b.still b.looked o
   pub refused : IsRefused b.looked why o.stage
 
 -- the rules let this be done with the file
@@ -131,9 +132,9 @@ Suits b (Refuse r found why) o = MayRefuse b o r found why
 abbrev pub MayDo : Standing → Deed → Type 0
 MayDo b deed = Any (Suits b deed) b.files
 
--- whether two looks, a second apart, found it as it is
-abbrev pub is_whole : ℕ → Offer → Bool
-is_whole looked o = nat_le (o.since + 1000) looked
+-- whether two looks, so long apart, found it as it is
+abbrev pub is_whole : ℕ → ℕ → Offer → Bool
+is_whole still looked o = nat_le (o.since + still) looked
 
 -- the moment from which on it waits, if that has come
 abbrev pub moment_of : ℕ → Stage → Option ℕ
@@ -144,12 +145,12 @@ moment_of looked (Refused reason at pause) = None
 moment_of looked Gone = None
 
 -- whether a file leaves the offers, where this is what was released under its number
-abbrev pub is_leaving : Option Entry → ℕ → Offer → Bool
-is_leaving entry looked o = is_whole looked o && is_some (moment_of looked o.stage) && is_some entry
+abbrev pub is_leaving : Option Entry → ℕ → ℕ → Offer → Bool
+is_leaving entry still looked o = is_whole still looked o && is_some (moment_of looked o.stage) && is_some entry
 
 -- the moment since which the station may be asked for a file, if it may
-abbrev pub ask_moment : Option Entry → Bool → ℕ → Offer → Option ℕ
-ask_moment entry flies looked o = if is_whole looked o && not (is_some entry) && not flies then moment_of looked o.stage else None
+abbrev pub ask_moment : Option Entry → Bool → ℕ → ℕ → Offer → Option ℕ
+ask_moment entry flies still looked o = if is_whole still looked o && not (is_some entry) && not flies then moment_of looked o.stage else None
 
 -- whether a file was not read and is to be, or is to be refused, where its number is under way or is not
 abbrev pub is_other : Bool → ℕ → Stage → Bool
@@ -159,25 +160,25 @@ is_other flies looked (UnderWay wish pause) = false
 is_other flies looked (Refused reason at pause) = nat_le at looked
 is_other flies looked Gone = false
 
-abbrev pub has_other : Bool → ℕ → Offer → Bool
-has_other flies looked o = is_whole looked o && is_other flies looked o.stage
+abbrev pub has_other : Bool → ℕ → ℕ → Offer → Bool
+has_other flies still looked o = is_whole still looked o && is_other flies looked o.stage
 
 -- the same of a file of the book
 abbrev pub is_leaving_of : Standing → Offer → Bool
-is_leaving_of b o = is_leaving (entry_of b o.request.number) b.looked o
+is_leaving_of b o = is_leaving (entry_of b o.request.number) b.still b.looked o
 
 abbrev pub ask_moment_of : Standing → Offer → Option ℕ
-ask_moment_of b o = ask_moment (entry_of b o.request.number) (is_under_way o.request.number b.window) b.looked o
+ask_moment_of b o = ask_moment (entry_of b o.request.number) (is_under_way o.request.number b.window) b.still b.looked o
 
 abbrev pub has_other_of : Standing → Offer → Bool
-has_other_of b o = has_other (is_under_way o.request.number b.window) b.looked o
+has_other_of b o = has_other (is_under_way o.request.number b.window) b.still b.looked o
 
 -- this is how a file leaves the offers, where this is what was released under its number
-abbrev pub IsLeaving : Option Entry → ℕ → Offer → Deed → Type 0
-IsLeaving entry looked o (Move r found to) = (o.request ≡ r) × (o.stamp ≡ found) × IsWhole looked o × IsReady looked o.stage × Leaves entry o.stage to
-IsLeaving entry looked o (Ask r) = ⊥
-IsLeaving entry looked o (Read r found replaced) = ⊥
-IsLeaving entry looked o (Refuse r found why) = ⊥
+abbrev pub IsLeaving : Option Entry → ℕ → ℕ → Offer → Deed → Type 0
+IsLeaving entry still looked o (Move r found to) = (o.request ≡ r) × (o.stamp ≡ found) × IsWhole still looked o × IsReady looked o.stage × Leaves entry o.stage to
+IsLeaving entry still looked o (Ask r) = ⊥
+IsLeaving entry still looked o (Read r found replaced) = ⊥
+IsLeaving entry still looked o (Refuse r found why) = ⊥
 
 -- it goes where what it asks for goes
 abbrev pub IsMoveFor : Option Entry → Offer → Wish → Deed → Type 0
@@ -187,8 +188,8 @@ IsMoveFor entry o wish (Read r found replaced) = ⊥
 IsMoveFor entry o wish (Refuse r found why) = ⊥
 
 -- this is how a file is read or refused, whose number is under way or is not
-abbrev pub IsOther : Bool → ℕ → Offer → Deed → Type 0
-IsOther flies looked o (Move r found to) = ⊥
-IsOther flies looked o (Ask r) = ⊥
-IsOther flies looked o (Read r found replaced) = (o.request ≡ r) × (o.stamp ≡ found) × IsWhole looked o × IsUnread looked replaced o.stage × (flies ≡ false)
-IsOther flies looked o (Refuse r found why) = (o.request ≡ r) × (o.stamp ≡ found) × IsWhole looked o × IsRefused looked why o.stage
+abbrev pub IsOther : Bool → ℕ → ℕ → Offer → Deed → Type 0
+IsOther flies still looked o (Move r found to) = ⊥
+IsOther flies still looked o (Ask r) = ⊥
+IsOther flies still looked o (Read r found replaced) = (o.request ≡ r) × (o.stamp ≡ found) × IsWhole still looked o × IsUnread looked replaced o.stage × (flies ≡ false)
+IsOther flies still looked o (Refuse r found why) = (o.request ≡ r) × (o.stamp ≡ found) × IsWhole still looked o × IsRefused looked why o.stage

@@ -21,13 +21,13 @@ later now pause = min (now + pause) (2 ^ 64 - 1)
 abbrev pub longer : ℕ → ℕ
 longer pause = min (2 * pause) 60_000
 
--- a file that was changed is read once it stays as it is for a second, and it is kept in mind whether it was under way as it was changed
+-- a file that was changed is watched from now on, and it is kept in mind whether it was under way as it was changed
 abbrev pub anew : ℕ → Stage → Stage
-anew now (Watched at replaced) = Watched (later now 1000) replaced
-anew now (Waiting wish at pause) = Watched (later now 1000) false
-anew now (UnderWay wish pause) = Watched (later now 1000) true
-anew now (Refused reason at pause) = Watched (later now 1000) false
-anew now Gone = Watched (later now 1000) false
+anew now (Watched at replaced) = Watched now replaced
+anew now (Waiting wish at pause) = Watched now false
+anew now (UnderWay wish pause) = Watched now true
+anew now (Refused reason at pause) = Watched now false
+anew now Gone = Watched now false
 
 -- once more after its pause; a file that could not be read, after a minute
 abbrev pub put_off : ℕ → Stage → Stage

@@ -1,18 +1,21 @@
 //! What came of what was done with a file, and of what the station was asked.
 
-ghost use Rattle.std.specs.Prelude.{◌≡◌, OnOk, OnErr, true};
+ghost use Rattle.std.specs.Prelude.{◌≡◌, OnOk, OnErr, true, false};
 ghost use Rattle.offers.specs.Order.{rank};
 ghost use Rattle.offers.specs.Stages.{after, changed, news_of};
 ghost use Rattle.offers.specs.Rules.{is_under_way};
-ghost use Rattle.offers.specs.Answers.{landed_in, Releases};
+ghost use Rattle.offers.specs.Answers.{landed_in, Keeps, Releases};
+ghost use Rattle.offers.specs.UnderWay.{begins};
 
 use crate::book::Book;
 use crate::edits::{tell, tell_all};
+use crate::marks::remark;
 use crate::stage::{Landing, News, Reason};
 use crate::under_way::is_under_way;
 use ballots::Number;
 use folders::{Request, Wish};
 use std::alloc::AllocError;
+use std::collections::BTreeMap;
 use tape_frames::Entry;
 
 /// What there is to tell of a file that was read.
@@ -25,29 +28,48 @@ fn news_of(wish: Result<Wish, Reason>) -> News
     }
 }
 
+/// Keeps in mind what was released under a number.
+fn keep(released: &mut BTreeMap<u32, Entry>, number: Number, entry: Entry) -> Result<(), AllocError>
+    ensures ok { OnOk result (Keeps number entry released.old.entries released.new.entries) }
+    ensures err { OnErr result (released.new.entries ≡ released.old.entries) }
+{
+    match released.insert(number.get(), entry) {
+        Ok(_) => Ok(()),
+        Err(_) => Err(AllocError),
+    }
+}
+
 impl Book {
+    /// Takes in some news of a file, which puts none under way.
+    fn note(&mut self, request: Request, news: News, now: u64)
+        requires { begins news ≡ false }
+        ensures { self.new ≡ record self.old { files = changed (rank request) (after news now) self.old.files; asks = true } }
+    {
+        let number = request.number;
+        self.asks = true;
+        tell(&mut self.offers, request, news, now);
+        remark(&mut self.marks, self.offers.as_slice(), &self.known, number);
+    }
+
     /// A file was read, and asks for this, or is no offer.
     pub fn was_read(&mut self, request: Request, wish: Result<Wish, Reason>)
         ensures { self.new ≡ record self.old { files = changed (rank request) (after (news_of wish) 0) self.old.files; asks = true } }
     {
-        self.asks = true;
-        tell(&mut self.offers, request, news_of(wish), 0);
+        self.note(request, news_of(wish), 0);
     }
 
     /// A file could not be read, or moved, at a moment.
     pub fn could_not(&mut self, request: Request, now: u64)
         ensures { self.new ≡ record self.old { files = changed (rank request) (after News.PutOff now) self.old.files; asks = true } }
     {
-        self.asks = true;
-        tell(&mut self.offers, request, News::PutOff, now);
+        self.note(request, News::PutOff, now);
     }
 
     /// A file was moved: it is no longer among the offers.
     pub fn moved(&mut self, request: Request)
         ensures { self.new ≡ record self.old { files = changed (rank request) (after News.Moved 0) self.old.files; asks = true } }
     {
-        self.asks = true;
-        tell(&mut self.offers, request, News::Moved, 0);
+        self.note(request, News::Moved, 0);
     }
 
     /// This became of a number, at a moment: it is no longer under way. Whether it was.
@@ -55,10 +77,11 @@ impl Book {
         ensures news { result ≡ is_under_way number self.old.window }
         ensures same { self.new ≡ landed_in number landing now self.old }
     {
-        let was_under_way = is_under_way(self.window.numbers(), number);
+        let was_under_way = is_under_way(self.known.window.numbers(), number);
         self.asks = true;
-        self.window.leave(number);
+        self.known.window.leave(number);
         tell_all(&mut self.offers, number, landing, now);
+        remark(&mut self.marks, self.offers.as_slice(), &self.known, number);
         was_under_way
     }
 
@@ -96,11 +119,18 @@ impl Book {
         ensures err { OnErr result (self.new ≡ landed_in number Landing.Ended now self.old) }
     {
         self.asks = true;
-        if self.released.insert(number.get(), entry).is_err() {
-            self.ended(number, now);
-            return Err(AllocError);
+        match keep(&mut self.known.released, number, entry) {
+            Err(_) => {
+                self.ended(number, now);
+                Err(AllocError)
+            }
+            Ok(()) => {
+                let window = &mut self.known.window;
+                window.leave(number);
+                tell_all(&mut self.offers, number, Landing::Released, 0);
+                remark(&mut self.marks, self.offers.as_slice(), &self.known, number);
+                Ok(())
+            }
         }
-        self.land(number, Landing::Released, 0);
-        Ok(())
     }
 }

@@ -5,11 +5,14 @@ ghost use Rattle.offers.specs.Looks.{looked};
 ghost use Rattle.offers.specs.Order.{rank, file_at};
 ghost use Rattle.offers.specs.Stages.{wish_at};
 ghost use Rattle.offers.specs.Rules.{AreApart, entry_of, is_under_way};
-ghost use Rattle.offers.specs.Book.{IsFresh, begun_again};
+ghost use Rattle.offers.specs.Book.{IsFresh, begun_again, still_for};
 ghost use Rattle.offers.specs.Turns.{deeds_left};
+ghost use Rattle.offers.specs.UnderWay.{AreHeld, AreAlone, asked_count};
 
 use crate::edits::index_of;
+use crate::known::Known;
 use crate::look::merge;
+use crate::marks::{Marks, mark_all};
 use crate::offer::{Found, Offer};
 use crate::order::rank;
 use crate::under_way::is_under_way;
@@ -22,6 +25,9 @@ use std::marker::Model;
 use std::mem;
 use tape_frames::Entry;
 
+/// How long a file has to stay as it was found until it is whole, in milliseconds, where it may be written as it lies there.
+const STILL: u64 = 500;
+
 /// How many files are asked for in a row, though something else is to be done.
 pub(crate) const MOST_IN_A_ROW: usize = 8;
 
@@ -31,12 +37,8 @@ pub(crate) const MOST_IN_A_ROW: usize = 8;
 pub struct Book {
     pub(crate) alloc: Global,
     pub(crate) offers: Vec<Offer>,
-    /// The numbers that are under way.
-    pub(crate) window: Window,
-    /// The entries of the numbers that were released.
-    pub(crate) released: BTreeMap<u32, Entry>,
-    /// The last look.
-    pub(crate) looked: u64,
+    /// The numbers that are under way, what was released, and the last look.
+    pub(crate) known: Known,
     /// From which file on it is left to see whether it leaves the offers.
     pub(crate) moves: usize,
     /// From which file on it is left to see whether it is read or refused.
@@ -45,6 +47,8 @@ pub struct Book {
     pub(crate) asks: bool,
     /// How many files were asked for in a row, as far as that matters.
     pub(crate) row: usize,
+    /// What may be done with each file.
+    pub(crate) marks: Marks,
 }
 
 impl Model for Book {
@@ -53,9 +57,9 @@ impl Model for Book {
 
     ghost Value = { Standing };
 
-    ghost view = { λ b. record { files = b.offers.items; window = b.window; released = b.released.entries; looked = b.looked; moves = b.moves; others = b.others; asks = b.asks; row = b.row } };
+    ghost view = { λ b. record { files = b.offers.items; window = b.known.window; released = b.known.released.entries; looked = b.known.looked; still = b.known.still; moves = b.moves; others = b.others; asks = b.asks; row = b.row } };
 
-    ghost invariant = { λ b. IsBook (record { files = b.offers.items; window = b.window; released = b.released.entries; looked = b.looked; moves = b.moves; others = b.others; asks = b.asks; row = b.row }) };
+    ghost invariant = { λ b. IsBook (record { files = b.offers.items; window = b.known.window; released = b.known.released.entries; looked = b.known.looked; still = b.known.still; moves = b.moves; others = b.others; asks = b.asks; row = b.row }) b.marks };
 }
 
 /// An index that begins with the first again, where it has come to the end.
@@ -65,21 +69,41 @@ fn begun_again(index: usize, end: usize) -> usize
     if end <= index { 0 } else { index }
 }
 
+/// How long a file has to stay as it was found until it is whole, in milliseconds.
+fn still_for(renamed: bool) -> u64
+    ensures { result ≡ still_for renamed }
+{
+    if renamed { 0 } else { STILL }
+}
+
 impl Book {
-    /// A book in which nothing stands.
+    /// A book in which nothing stands. A file is whole once two looks found it as it is, half a second apart.
     pub fn new(alloc: Global) -> Book
-        ensures { IsFresh result }
+        ensures fresh { IsFresh result }
+        ensures still { result.still ≡ 500 }
+    {
+        Book::over(alloc, false)
+    }
+
+    /// The same over a folder to which files come only by being renamed, or not only so: where they do, one look that found a file is enough.
+    pub fn over(alloc: Global, renamed: bool) -> Book
+        ensures fresh { IsFresh result }
+        ensures still { result.still ≡ still_for renamed }
     {
         Book {
             alloc,
             offers: Vec::new(alloc),
-            window: Window::new(),
-            released: BTreeMap::new(alloc),
-            looked: 0,
+            known: Known {
+                window: Window::new(),
+                released: BTreeMap::new(alloc),
+                looked: 0,
+                still: still_for(renamed),
+            },
             moves: 0,
             others: 0,
             asks: true,
             row: 0,
+            marks: Marks::new(alloc),
         }
     }
 
@@ -91,12 +115,15 @@ impl Book {
         ensures err { OnErr result (self.new ≡ self.old) }
     {
         let room = Vec::with_capacity(self.alloc, found.len())?;
+        let mut marks = Marks::none(self.alloc, found.len())?;
         self.asks = true;
         self.others = begun_again(self.others, self.offers.len());
         let known = mem::replace(&mut self.offers, Vec::new(self.alloc));
         self.offers = merge(VecDeque::from(known), found, now, room);
-        self.looked = now;
+        self.known.looked = now;
         self.moves = 0;
+        mark_all(&mut marks, self.offers.as_slice(), &self.known);
+        self.marks = marks;
         Ok(())
     }
 
@@ -131,22 +158,25 @@ impl Book {
         ensures { option_copied result ≡ entry_of self.now number }
     {
         let key = number.get();
-        self.released.get(&key)
+        self.known.released.get(&key)
     }
 
     /// Whether a number is under way: only then is there something to tell of its ballots.
     pub fn is_under_way(&self, number: Number) -> bool
         ensures { result ≡ is_under_way number self.now.window }
     {
-        is_under_way(self.window.numbers(), number)
+        is_under_way(self.known.window.numbers(), number)
     }
 
-    /// How many numbers are under way.
+    /// How many numbers are under way. A file is only with its number, and of one number one file is: so no more files are.
     pub fn under_way(&self) -> usize
         ensures count { result ≡ length self.now.window }
         ensures few { result ≤ 16 }
         ensures one { AreApart self.now.window }
+        ensures held { AreHeld self.now.window self.now.files }
+        ensures alone { AreAlone self.now.files }
+        ensures files { asked_count self.now.files ≤ result }
     {
-        self.window.len()
+        self.known.window.len()
     }
 }

@@ -2,35 +2,24 @@
 
 ghost use Rattle.std.specs.Prelude.{◌≡◌, ◌≤◌, ◌<◌, ◌+◌, ◌-◌, ◌↔◌, Some, None, IsTrue, if◌then◌else◌, IfSome, length, is_some, min, true, slice_index_or};
 ghost use Rattle.offers.specs.declared.offer.Offer.{Offer};
-ghost use Rattle.offers.specs.Rules.{MayDo, ask_moment_of};
+ghost use Rattle.offers.specs.Rules.{MayDo};
 ghost use Rattle.offers.specs.Stages.{after, changed, tape_of, withdrawal_of, search_of};
 ghost use Rattle.offers.specs.Order.{rank, Rises};
 ghost use Rattle.pace.specs.UnderWay.{with_one};
-ghost use Rattle.offers.specs.Left.{NoMoves, NoOthers, NoAsks, IsSoonest, MatchSoonest, sooner, HasLeft};
+ghost use Rattle.offers.specs.Left.{NoMoves, NoOthers, NoAsks, IsSoonest, MatchSoonest, HasLeft};
 ghost use Rattle.offers.specs.Turns.{IsMove, IsOtherDeed, IsAskOf, NoMovesLeft, IsAskOrOther, IsEarly, IsStill, IsBehindMoves, IsInTurn, Rests, RestsButMoves, Advances, AdvancesOther, row_after, window_after, files_after};
 
 use crate::book::{Book, MOST_IN_A_ROW};
 use crate::deed::{Allowed, Deed};
 use crate::edits::{index_of, request_of, tell};
+use crate::marks::remark;
 use crate::offer::Offer;
 use crate::order::rank;
-use crate::rules::{ask_moment, leaving, other};
+use crate::rules::{leaving, other};
 use crate::stage::News;
-use crate::under_way::is_under_way;
 use ballots::Number;
 use folders::{Kind, Request};
 use pace::Window;
-
-/// The first of the files so far, with its moment, and one more, if it has one: the sooner of the two.
-fn sooner(first: Option<(usize, u64)>, index: usize, moment: Option<u64>) -> Option<(usize, u64)>
-    ensures { result ≡ sooner first index moment }
-{
-    match (first, moment) {
-        (Some((_, at)), Some(own)) => if own < at { Some((index, own)) } else { first },
-        (None, Some(own)) => Some((index, own)),
-        (_, None) => first,
-    }
-}
 
 /// Where a file is asked for, counts one more that was in a row, as far as that matters.
 fn count_if(row: &mut usize, is_asked: bool)
@@ -76,7 +65,7 @@ impl Book {
         ensures kind { IfSome result IsMove }
         ensures none { result ≡ None → NoMoves self.now index (index + 1) }
     {
-        leaving(&self.offers[index], &self.released, self.looked)
+        leaving(&self.offers[index], &self.known)
     }
 
     /// The first file of those that are left that leaves the offers.
@@ -87,12 +76,13 @@ impl Book {
         ensures kind { IfSome result (λ p. IsMove p.1) }
         ensures none { result ≡ None → NoMoves self.now self.now.moves (length self.now.files) }
     {
-        for index in self.moves..self.offers.len() {
-            if let Some(deed) = self.move_at(index) {
-                return Some((index, deed));
-            }
+        match self.marks.moves.next(self.moves) {
+            Some(index) => match self.move_at(index) {
+                Some(deed) => Some((index, deed)),
+                None => None,
+            },
+            None => None,
         }
-        None
     }
 
     /// The same, and the work goes on behind it.
@@ -138,9 +128,7 @@ impl Book {
         ensures kind { IfSome result IsOtherDeed }
         ensures none { result ≡ None → NoOthers self.now index (index + 1) }
     {
-        let offer = &self.offers[index];
-        let flies = is_under_way(self.window.numbers(), offer.request.number);
-        other(offer, flies, self.looked)
+        other(&self.offers[index], &self.known)
     }
 
     /// The first file of those that are left that is read or refused.
@@ -151,12 +139,13 @@ impl Book {
         ensures kind { IfSome result (λ p. IsOtherDeed p.1) }
         ensures none { result ≡ None → NoOthers self.now self.now.others (length self.now.files) }
     {
-        for index in self.others..self.offers.len() {
-            if let Some(deed) = self.other_at(index) {
-                return Some((index, deed));
-            }
+        match self.marks.others.next(self.others) {
+            Some(index) => match self.other_at(index) {
+                Some(deed) => Some((index, deed)),
+                None => None,
+            },
+            None => None,
         }
-        None
     }
 
     /// The same, and the work goes on behind it.
@@ -183,25 +172,11 @@ impl Book {
         }
     }
 
-    /// The moment since which the station may be asked for the file at an index.
-    fn moment_at(&self, index: usize) -> Option<u64>
-        requires { index < length self.now.files }
-        ensures { (d : Offer) → result ≡ ask_moment_of self.now (slice_index_or self.now.files index d) }
-    {
-        let offer = &self.offers[index];
-        let flies = is_under_way(self.window.numbers(), offer.request.number);
-        ask_moment(offer, &self.released, flies, self.looked)
-    }
-
     /// The file for which the station may be asked whose moment came first, with that moment.
     fn soonest(&self) -> Option<(usize, u64)>
         ensures { MatchSoonest self.now (length self.now.files) result }
     {
-        let mut first = None;
-        for index in 0..self.offers.len() {
-            first = sooner(first, index, self.moment_at(index));
-        }
-        first
+        self.marks.asks.first()
     }
 
     /// The same, where it is left to see for which the station may be asked.
@@ -241,7 +216,13 @@ impl Book {
         ensures same { self.new ≡ record self.old { asks = self.new.asks; row = row_after result self.old.row; window = window_after result self.old.window; files = files_after result self.old.files } }
         ensures asks { self.new.asks ≡ true }
     {
-        let found = take_off(&mut self.window, &mut self.offers, &request);
+        let found = take_off(&mut self.known.window, &mut self.offers, &request);
+        remark(
+            &mut self.marks,
+            self.offers.as_slice(),
+            &self.known,
+            request.number,
+        );
         count_if(&mut self.row, found);
         ask_if(found, &request)
     }

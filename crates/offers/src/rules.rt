@@ -3,20 +3,22 @@
 ghost use Rattle.std.specs.Prelude.{◌≡◌, None, false, IfSome};
 ghost use Rattle.std.specs.Ordering.{nat_cmp};
 ghost use Rattle.std.specs.BTreeMap.{get};
-ghost use Rattle.offers.specs.Rules.{is_whole, is_leaving, moment_of, ask_moment, has_other, IsLeaving, IsMoveFor, IsOther};
+ghost use Rattle.offers.specs.Rules.{is_whole, is_leaving, moment_of, ask_moment, is_other, has_other, is_under_way, IsLeaving, IsMoveFor, IsOther};
 
 use crate::deed::Deed;
+use crate::known::Known;
 use crate::offer::Offer;
-use crate::stage::{STILL, Stage};
+use crate::stage::Stage;
+use crate::under_way::is_under_way;
 use folders::{Wish, has_passed, place_of};
 use std::collections::BTreeMap;
 use tape_frames::Entry;
 
-/// Whether two looks, a second apart, found a file as it is: the first that did, and the last look.
-fn is_whole(offer: &Offer, looked: u64) -> bool
-    ensures { result ≡ is_whole looked offer.now }
+/// Whether two looks found a file as it is, so long apart as is asked: the first that did, and the last look.
+fn is_whole(offer: &Offer, known: &Known) -> bool
+    ensures { result ≡ is_whole known.now.still known.now.looked offer.now }
 {
-    has_passed(offer.since, STILL, looked)
+    has_passed(offer.since, known.still, known.looked)
 }
 
 /// Where a file goes whose number was released; nowhere where it was not.
@@ -36,17 +38,17 @@ fn leave(offer: &Offer, wish: &Wish, released: &BTreeMap<u32, Entry>) -> Option<
 }
 
 /// How a file leaves the offers that was released under its number, if its moment has come.
-pub(crate) fn leaving(offer: &Offer, released: &BTreeMap<u32, Entry>, looked: u64) -> Option<Deed>
-    ensures some { IfSome result (IsLeaving (get nat_cmp released.now offer.now.request.number) looked offer.now) }
-    ensures none { result ≡ None → is_leaving (get nat_cmp released.now offer.now.request.number) looked offer.now ≡ false }
+pub(crate) fn leaving(offer: &Offer, known: &Known) -> Option<Deed>
+    ensures some { IfSome result (IsLeaving (get nat_cmp known.now.released offer.now.request.number) known.now.still known.now.looked offer.now) }
+    ensures none { result ≡ None → is_leaving (get nat_cmp known.now.released offer.now.request.number) known.now.still known.now.looked offer.now ≡ false }
 {
-    if !is_whole(offer, looked) {
+    if !is_whole(offer, known) {
         return None;
     }
     match &offer.stage {
         Stage::Waiting { wish, at, .. } => {
-            if *at <= looked {
-                leave(offer, wish, released)
+            if *at <= known.looked {
+                leave(offer, wish, &known.released)
             } else {
                 None
             }
@@ -65,31 +67,58 @@ fn moment_of(stage: &Stage, looked: u64) -> Option<u64>
     }
 }
 
-/// The moment since which the station may be asked for a file, whose number is under way or is not.
-pub(crate) fn ask_moment(
-    offer: &Offer,
-    released: &BTreeMap<u32, Entry>,
-    flies: bool,
-    looked: u64,
-) -> Option<u64>
-    ensures { result ≡ ask_moment (get nat_cmp released.now offer.now.request.number) flies looked offer.now }
+/// Whether a file leaves the offers now, whatever its way.
+pub(crate) fn is_leaving(offer: &Offer, known: &Known) -> bool
+    ensures { result ≡ is_leaving (get nat_cmp known.now.released offer.now.request.number) known.now.still known.now.looked offer.now }
 {
     let key = offer.request.number.get();
-    if is_whole(offer, looked) && !released.contains_key(&key) && !flies {
-        moment_of(&offer.stage, looked)
+    is_whole(offer, known)
+        && moment_of(&offer.stage, known.looked).is_some()
+        && known.released.contains_key(&key)
+}
+
+/// The moment since which the station may be asked for a file.
+pub(crate) fn ask_moment(offer: &Offer, known: &Known) -> Option<u64>
+    ensures { result ≡ ask_moment (get nat_cmp known.now.released offer.now.request.number) (is_under_way offer.now.request.number known.now.window) known.now.still known.now.looked offer.now }
+{
+    let flies = is_under_way(known.window.numbers(), offer.request.number);
+    let key = offer.request.number.get();
+    if is_whole(offer, known) && !known.released.contains_key(&key) && !flies {
+        moment_of(&offer.stage, known.looked)
     } else {
         None
     }
 }
 
-/// Whether a file is read or refused now, whose number is under way or is not.
-pub(crate) fn other(offer: &Offer, flies: bool, looked: u64) -> Option<Deed>
-    ensures some { IfSome result (IsOther flies looked offer.now) }
-    ensures none { result ≡ None → has_other flies looked offer.now ≡ false }
+/// Whether a file in this state was not read and is to be, or is to be refused, where its number is under way or is not.
+fn is_other(stage: &Stage, flies: bool, looked: u64) -> bool
+    ensures { result ≡ is_other flies looked stage.now }
 {
-    if !is_whole(offer, looked) {
+    match stage {
+        Stage::Watched { at, .. } => *at <= looked && !flies,
+        Stage::Refused { at, .. } => *at <= looked,
+        _ => false,
+    }
+}
+
+/// Whether a file is read or refused now.
+pub(crate) fn has_other(offer: &Offer, known: &Known) -> bool
+    ensures { result ≡ has_other (is_under_way offer.now.request.number known.now.window) known.now.still known.now.looked offer.now }
+{
+    let flies = is_under_way(known.window.numbers(), offer.request.number);
+    is_whole(offer, known) && is_other(&offer.stage, flies, known.looked)
+}
+
+/// How a file is read or refused now.
+pub(crate) fn other(offer: &Offer, known: &Known) -> Option<Deed>
+    ensures some { IfSome result (IsOther (is_under_way offer.now.request.number known.now.window) known.now.still known.now.looked offer.now) }
+    ensures none { result ≡ None → has_other (is_under_way offer.now.request.number known.now.window) known.now.still known.now.looked offer.now ≡ false }
+{
+    if !is_whole(offer, known) {
         return None;
     }
+    let flies = is_under_way(known.window.numbers(), offer.request.number);
+    let looked = known.looked;
     let request = offer.request;
     let stamp = offer.stamp;
     match &offer.stage {

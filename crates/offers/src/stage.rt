@@ -19,7 +19,7 @@ pub enum Reason {
 /// What is known of a file among the offers. Moments and pauses are in milliseconds.
 #[derive(Drop)]
 pub enum Stage {
-    /// It was not read yet, and is from this moment on. It may be in place of one that was under way as it was changed.
+    /// It was not read yet, and is from this moment on, once it is whole. It may be in place of one that was under way as it was changed.
     Watched { at: u64, replaced: bool },
     /// It was read. From this moment on the station is asked for it, or it leaves the offers, where its number was released. Where that
     /// comes to nothing, it waits this long.
@@ -61,9 +61,6 @@ pub enum News {
     /// This became of its number.
     Landed(Landing),
 }
-
-/// How long a file has to stay as it is before it is read.
-pub(crate) const STILL: u64 = 1000;
 
 /// The pause after what came to nothing, the first time.
 const FIRST_PAUSE: u64 = 1000;
@@ -116,14 +113,11 @@ fn put_back(wish: Wish, pause: u64, now: u64) -> Stage
 }
 
 impl Stage {
-    /// A file that was found the first time, or was changed, is read once it stays as it is for a second.
+    /// A file that was found the first time, or was changed, is watched from now on.
     pub(crate) fn watched(now: u64, replaced: bool) -> Stage
-        ensures { result ≡ Stage.Watched (later now 1000) replaced }
+        ensures { result ≡ Stage.Watched now replaced }
     {
-        Stage::Watched {
-            at: later(now, STILL),
-            replaced,
-        }
+        Stage::Watched { at: now, replaced }
     }
 
     /// What is known of a file that was changed.

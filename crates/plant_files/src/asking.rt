@@ -1,28 +1,22 @@
 //! What the station is asked for a file among the offers, and which of its refusals stand.
 
-ghost use Rattle.std.specs.Prelude.{◌↔◌, IsTrue};
-ghost use Rattle.station.specs.Steps.{IsStep};
+ghost use Rattle.std.specs.Prelude.{◌≡◌, ◌↔◌, ℕ, IsTrue};
+ghost use Rattle.driver.specs.Calls.{call_of as asked_by};
 ghost use Rattle.plant_files.specs.Asking.{call_of, IsOfOffer};
 
+use driver::Call;
 use folders::Wish;
-use saved_rows::Rows;
-use station::{Answer, Station, StepRefusal};
+use station::StepRefusal;
 use tape_frames::Entry;
 
-/// Asks the station what a file asks for its number, at a moment in milliseconds: it is offered, withdrawn or sought. What the station
-/// hands out is not sent yet; its refusal is that of the step.
-pub fn ask<R: Rows>(
-    station: &mut Station<R>,
-    wish: &Wish,
-    number: u32,
-    now: u64,
-) -> Result<Answer, StepRefusal>
-    ensures { IsStep R.Rows (call_of wish.now number now) station.old station.new result }
+/// What the station is asked for what a file asks for its number: its entry is offered or withdrawn, or it is sought.
+pub fn call_for(wish: &Wish, number: u32) -> Call<'_>
+    ensures { (now : ℕ) → asked_by result now ≡ call_of wish.now number now }
 {
     match wish {
-        Wish::Offered(Entry::Tape(tape)) => station.offer(number, tape, now),
-        Wish::Offered(Entry::Void) => station.withdraw(number, now),
-        Wish::Sought => station.seek(number, now),
+        Wish::Offered(Entry::Tape(tape)) => Call::Offer { number, tape },
+        Wish::Offered(Entry::Void) => Call::Withdraw { number },
+        Wish::Sought => Call::Seek { number },
     }
 }
 

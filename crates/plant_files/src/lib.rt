@@ -5,5 +5,5 @@
 mod asking;
 mod release_files;
 
-pub use asking::{ask, is_of_offer};
+pub use asking::{call_for, is_of_offer};
 pub use release_files::keep_any;

@@ -1,4 +1,5 @@
+pub mod Lives
 pub mod Looking
 pub mod Minds
-pub mod Run
 pub mod Story
+pub mod Wishes

@@ -1,27 +1,43 @@
--- Looks at the offers, and files that leave them.
-use Rattle.std.proofs.Common.{◌≡◌, ◌<◌, ◌++◌, ◌∙◌, ◌⊎◌, ℕ, Bool, true, false, List, [], ◌∷◌, Option, Some, None, Result, Ok, Err, String, Vec, Global, inl, inr, refl, sym, ap, subst, set, length, get_or, append-nil}
-use Rattle.std.specs.Prelude.{flat_map, string_bytes, IfOk, IfSome, IfNone, IsErr, OnOk, is_some}
-use Rattle.std.specs.List.{Contains, items_where_true}
+-- Looks at the offers, files that leave them, and what follows of it.
+use Rattle.std.proofs.Common.{◌≡◌, ◌++◌, ◌∙◌, ◌⊎◌, ℕ, true, List, [], ◌∷◌, Option, Some, None, Result, Ok, Err, Vec, Global, inl, inr, refl, sym, ap, subst, append-nil, length, ◌==◌, arith}
+use Rattle.std.specs.Prelude.{flat_map, IfOk, IfSome, IfNone, IsErr, OnOk, OnErr}
 use Rattle.std.proofs.lemmas.Grind.{flat_map-append}
-use Rattle.std.proofs.lemmas.List.Elements.{All-set, All-contains, All-nil, All-cons, All-head, All-tail}
+use Rattle.std.proofs.lemmas.Bool.Decides.{nat_tests}
 use Rattle.protocol.specs.Lists.{IsAmong}
+use Rattle.tape_frames.specs.declared.entry.Entry.{Entry}
 use Rattle.station.specs.declared.answer.Release.{Release}
 use Rattle.folders.specs.Doings.{Doing, saw_file, read_file, moved_file, writing, Does, MayDo}
 use Rattle.folders.specs.Offers.{IsNameOf}
-use Rattle.folders.specs.Pausing.{put_off_at}
+use Rattle.folders.specs.Written.{File}
 use Rattle.folders.specs.declared.leaving.Place.{Place}
 use Rattle.folders.specs.declared.leaving.Place.TheVariants as places
-use Rattle.folders.specs.declared.names.Kind.{Kind}
-use Rattle.folders.specs.declared.names.Kind.TheVariants as kinds
-use Rattle.folders.specs.declared.wishes.Asked.{Asked}
+use Rattle.folders.specs.declared.names.Request.{Request}
 use Rattle.folders.specs.declared.wishes.Wish.{Wish}
 use Rattle.folders.proofs.Doings.{does_nothing, does_then}
+use Rattle.offers.specs.Answers.{landed_in, Releases as IsReleasing}
+use Rattle.offers.specs.Rules.{Standing, entry_in, entry_of, Leaves, MayDo as MayDoDeed}
+use Rattle.offers.specs.declared.deed.Allowed.{Allowed}
+use Rattle.offers.specs.declared.deed.Deed.{Deed}
+use Rattle.offers.specs.declared.deed.Deed.TheVariants as deeds
+use Rattle.offers.specs.declared.offer.Offer.{Offer}
+use Rattle.offers.specs.declared.stage.Landing.{Landing}
+use Rattle.offers.specs.declared.stage.Landing.TheVariants as landings
+use Rattle.offers.specs.declared.stage.Reason.{Reason}
+use Rattle.offers.specs.declared.stage.Stage.{Stage}
+use Rattle.offers.specs.declared.stage.Stage.TheVariants as stages
+use Rattle.offers.specs.Order.{rank}
+use Rattle.offers.specs.Stages.{after, changed, news_of}
+use Rattle.offers.specs.Turns.{IsInTurn}
 use Rattle.exchange.specs.Events.{Event}
-use Rattle.run_command.specs.Minding.{Mind, WasRead, WasTaken, WereTaken, HasRelease, HaveReleases, KeepsRelease, onto, IsOfNumber, IsOfRelease, AreLooks, IsLook, AreSettlings, IsSettling}
+use Rattle.run_command.specs.Departing.{departure_of, task_of, place_of, IsFree, IsFreeWay, IsFreeTask}
+use Rattle.run_command.specs.Minding.{name_of, WasRead, WereRead, HasRelease, HaveReleases, onto, IsOfRelease, AreLooks, IsLook, AreSettlings, IsSettling}
 use Rattle.run_command.specs.Story.{IsReleasedIn}
-use Rattle.run_command.specs.Working.{StayTaken, Follows, Looks, TakesUp, Leaves, IfRead, LaySo, IsSame, SettlesOne, Settles, Closes, Always, Releases}
-use Rattle.run_command.specs.declared.offer_book.Known.{Known}
-use Rattle.run_command.proofs.Story.{among_front, among_behind, onto_then, read_here, taken_more, looks_then, settlings_then, silent_looks, settlings_look, settlings_weaker}
+use Rattle.run_command.specs.Working.{Follows, Looks, IfRead, Deals, Always, Releases}
+use Rattle.run_command.specs.declared.departures.Departure.{Departure}
+use Rattle.run_command.specs.declared.departures.Way.{Way}
+use Rattle.run_command.specs.declared.departures.Way.TheVariants.{Released, NoOffer}
+use Rattle.run_command.proofs.Story.{onto_then, read_here, taken_more, looks_then, settlings_then, silent_looks, settlings_look}
+use Rattle.run_command.proofs.Wishes.{landed_still, read_now, IfOffer}
 
 -- what a call may have done
 
@@ -59,6 +75,9 @@ looks_did a b d look p = record {
 
 pub looks_may : (a b : Option (List Doing)) (d : Doing) → IsLook d → MayDo a b d → Looks a b (λ doings. Unit {0})
 looks_may a b d look p = looks_did a b d look (did_of a b d p)
+
+pub looks_one : (a b : Option (List Doing)) (d : Doing) → IsLook d → Does a b (d ∷ []) → Looks a b (λ doings. Unit {0})
+looks_one a b d look does = record { doings = d ∷ []; does = does; looks = (look, tt); finds = tt }
 
 -- the same looks find something else
 pub looks_so :
@@ -113,310 +132,230 @@ read_ok D A (Err e) bytes P same p = tt
 
 -- what is kept in mind
 
-pub was_same : (shown : List Doing) (x y : Asked) → IsSame x y → WasTaken shown x → WasTaken shown y
-was_same shown x y s r =
-    subst (λ (w : Wish). WasRead shown (string_bytes y.name) y.number w) (sym s.wish)
-    (subst (λ (n : ℕ). WasRead shown (string_bytes y.name) n x.wish) (sym s.number)
-    (subst (λ (t : String Global). WasRead shown (string_bytes t) x.number x.wish) (sym s.name) r))
-
-pub takes_same : (m n : Mind) (ds : List Doing) → n ≡ m → TakesUp m n ds
-takes_same m n ds same = record {
-  taken = λ shown h. taken_more ds shown n.asked (subst (λ (x : Mind). WereTaken shown x.asked) (sym same) h);
-  released = ap (λ (x : Mind). x.released) same;
-  unwritten = ap (λ (x : Mind). x.unwritten) same;
-}
-
-pub takes_follows : (m n : Mind) (ds : List Doing) → Follows m n → TakesUp m n ds
-takes_follows m n ds f = record {
-  taken = λ shown h. taken_more ds shown n.asked (f.taken shown h);
-  released = f.released;
-  unwritten = f.unwritten;
-}
-
-pub looks_then_more :
-    (a b c : Option (List Doing)) (m n o : Mind) → Looks a b (TakesUp m n) → Looks b c (TakesUp n o) → Looks a c (TakesUp m o)
-looks_then_more a b c m n o p q = record {
-  doings = p.doings ++ q.doings;
-  does = does_then a b c p.doings q.doings p.does q.does;
-  looks = looks_then p.doings q.doings p.looks q.looks;
-  finds = record {
-    taken = λ shown h.
-        subst (λ (l : List Doing). WereTaken l o.asked) (sym (onto_then p.doings q.doings shown))
-        (q.finds.taken (onto p.doings shown) (p.finds.taken shown h));
-    released = q.finds.released ∙ p.finds.released;
-    unwritten = q.finds.unwritten ∙ p.finds.unwritten;
-  };
-}
-
--- nothing is taken up by a look
-pub looks_idle : (a b : Option (List Doing)) (P : List Doing → Type 0) (m n : Mind) → Looks a b P → n ≡ m → Looks a b (TakesUp m n)
-looks_idle a b P m n l same = looks_so a b P (TakesUp m n) l (takes_same m n l.doings same)
-
--- a file that was read is taken up
-pub takes_read :
-    (m n : Mind) (ds : List Doing) (x : Asked) → WasTaken ds x
-    → ((shown : List Doing) → WereTaken shown m.asked → WasTaken shown x → WereTaken shown n.asked) → n.released ≡ m.released → n.unwritten ≡ m.unwritten
-    → TakesUp m n ds
-takes_read m n ds x read add released unwritten = record {
-  taken = λ shown h. add (onto ds shown) (taken_more ds shown m.asked h) (read_here ds shown (string_bytes x.name) x.number x.wish read);
-  released = released;
-  unwritten = unwritten;
-}
-
--- the same of the file that was read by a look
-pub looks_taken :
-    {E : Type 0} (D : Type 0) (a b : Option (List Doing)) (m n : Mind) (r : Result Asked E) (x : Asked) → r ≡ Ok x
-    → Looks a b (λ doings. IfRead {D = D} (Ok r) (λ y. WasTaken doings y))
-    → ((shown : List Doing) → WereTaken shown m.asked → WasTaken shown x → WereTaken shown n.asked) → n.released ≡ m.released → n.unwritten ≡ m.unwritten
-    → Looks a b (TakesUp m n)
-looks_taken D a b m n r x is l add released unwritten =
-    looks_so a b (λ doings. IfRead {D = D} (Ok r) (λ y. WasTaken doings y)) (TakesUp m n) l
-    (takes_read m n l.doings x (subst (λ q. IfRead {D = D} (Ok q) (λ y. WasTaken l.doings y)) is l.finds) add released unwritten)
-
--- what is kept in mind was changed before, and nothing was taken up by that
-pub looks_behind :
-    (a b : Option (List Doing)) (m n o : Mind) → Follows m n → Looks a b (TakesUp n o) → Looks a b (TakesUp m o)
-looks_behind a b m n o f l =
-    looks_so a b (TakesUp n o) (TakesUp m o) l (record {
-      taken = λ shown h. l.finds.taken shown (f.taken shown h);
-      released = l.finds.released ∙ f.released;
-      unwritten = l.finds.unwritten ∙ f.unwritten;
-    })
-
-pub follows_same : (m n : Mind) → n ≡ m → Follows m n
+pub follows_same : (m n : Standing) → n ≡ m → Follows m n
 follows_same m n same = record {
-  taken = λ shown h. subst (λ (x : Mind). WereTaken shown x.asked) (sym same) h;
-  released = ap (λ (x : Mind). x.released) same;
-  unwritten = ap (λ (x : Mind). x.unwritten) same;
+  taken = λ shown h. subst (λ (b : Standing). WereRead shown b.files) (sym same) h;
+  released = ap (λ (b : Standing). b.released) same;
 }
 
-pub follows_then : (m n o : Mind) → Follows m n → Follows n o → Follows m o
-follows_then m n o f h = record {
-  taken = λ shown x. h.taken shown (f.taken shown x);
-  released = h.released ∙ f.released;
-  unwritten = h.unwritten ∙ f.unwritten;
-}
+pub follows_then : (m n o : Standing) → Follows m n → Follows n o → Follows m o
+follows_then m n o f g = record { taken = λ shown h. g.taken shown (f.taken shown h); released = g.released ∙ f.released }
 
--- the offers were listed, and some were forgotten
-pub looks_listed : (a b : Option (List Doing)) (m n : Mind) → b ≡ a → Follows m n → Looks a b (TakesUp m n)
-looks_listed a b m n same f = looks_none a b (TakesUp m n) same (takes_follows m n [] f)
-
-pub same_put_off : (now : ℕ) (x y : Asked) → y ≡ put_off_at now x → IsSame x y
-same_put_off now x y e = record { name = ap (λ (a : Asked). a.name) e; number = ap (λ (a : Asked). a.number) e; wish = ap (λ (a : Asked). a.wish) e }
-
--- one of the files that were taken up is changed, and is the same file still
-pub stay_set :
-    (xs : List Asked) (i : ℕ) (x y : Asked) → i < length xs → get_or xs i x ≡ x → IsSame x y → StayTaken xs (set xs i y)
-stay_set xs i x y within is same = λ shown h.
-    let r : WasTaken shown x = subst (λ (a : Asked). WasTaken shown a) is (h i x within) in
-    All-set (λ (a : Asked). WasTaken shown a) xs i y (was_same shown x y same r) h
-
--- one of those that stayed is changed, or none
-pub stay_then_set :
-    (xs ys zs : List Asked) (i : ℕ) (x y : Asked) → StayTaken xs ys → i < length ys → get_or ys i x ≡ x → IsSame x y → zs ≡ set ys i y → StayTaken xs zs
-stay_then_set xs ys zs i x y stay within is same set_so = λ shown h.
-    subst (λ (l : List Asked). WereTaken shown l) (sym set_so) (stay_set ys i x y within is same shown (stay shown h))
-
-pub stay_still : (xs ys zs : List Asked) → StayTaken xs ys → zs ≡ ys → StayTaken xs zs
-stay_still xs ys zs stay same = λ shown h. subst (λ (l : List Asked). WereTaken shown l) (sym same) (stay shown h)
-
-pub follows_set :
-    (m n : Mind) (i : ℕ) (x y : Asked) → i < length m.asked → get_or m.asked i x ≡ x → IsSame x y → n.asked ≡ set m.asked i y → n.released ≡ m.released
-    → n.unwritten ≡ m.unwritten → Follows m n
-follows_set m n i x y within is same asked released unwritten = record {
-  taken = λ shown h. subst (λ (l : List Asked). WereTaken shown l) (sym asked) (stay_set m.asked i x y within is same shown h);
+-- the files are these
+pub follows_of : (m n : Standing) (files : List Offer) → n.files ≡ files → ((shown : List Doing) → WereRead shown m.files → WereRead shown files) → n.released ≡ m.released → Follows m n
+follows_of m n files is taken released = record {
+  taken = λ shown h. subst (λ (l : List Offer). WereRead shown l) (sym is) (taken shown h);
   released = released;
-  unwritten = unwritten;
 }
 
--- some of them are kept
-pub kept_of : (bs : List Bool) (xs : List Asked) (shown : List Doing) → WereTaken shown xs → WereTaken shown (items_where_true bs xs)
-kept_of [] xs shown h = All-nil (λ (a : Asked). WasTaken shown a)
-kept_of (b ∷ bs) [] shown h = All-nil (λ (a : Asked). WasTaken shown a)
-kept_of (true ∷ bs) (x ∷ xs) shown h =
-    let P : Asked → Type 0 = λ (a : Asked). WasTaken shown a in
-    All-cons P x (items_where_true bs xs) (All-head P x xs h) (kept_of bs xs shown (All-tail P x xs h))
-kept_of (false ∷ bs) (x ∷ xs) shown h = kept_of bs xs shown (All-tail (λ (a : Asked). WasTaken shown a) x xs h)
+-- the files alone have changed
+pub follows_files : (m n : Standing) → ((shown : List Doing) → WereRead shown m.files → WereRead shown n.files) → n.released ≡ m.released → Follows m n
+follows_files m n taken released = record { taken = taken; released = released }
 
--- files that leave the offers
+pub follows_landed : (m n : Standing) (number : ℕ) (l : Landing) (now : ℕ) → n ≡ landed_in number l now m → Follows m n
+follows_landed m n number l now same = record {
+  taken = λ shown h. subst (λ (b : Standing). WereRead shown b.files) (sym same) (landed_still shown number l now m.files h);
+  released = ap (λ (b : Standing). b.released) same;
+}
+
+-- what was done with files among the offers
+
+pub deals_follows : (G : List Event → Type 0) (a b : Option (List Doing)) (w : List File) (m n : Standing) → b ≡ a → Follows m n → Deals G a b w m n
+deals_follows G a b w m n same f = record {
+  doings = [];
+  does = does_nothing a b same;
+  silent = refl;
+  settles = λ log shown g known h. tt;
+  none = λ full. tt;
+  taken = f.taken;
+  released = λ log g known number e is. known number e (ap (λ l. entry_in l number) (sym f.released) ∙ is);
+}
+
+pub deals_look :
+    (G : List Event → Type 0) (a b : Option (List Doing)) (w : List File) (P : List Doing → Type 0) (m n : Standing) (l : Looks a b P)
+    → ((shown : List Doing) → WereRead shown m.files → WereRead (onto l.doings shown) n.files) → n.released ≡ m.released → Deals G a b w m n
+deals_look G a b w P m n l taken same = record {
+  doings = l.doings;
+  does = l.does;
+  silent = silent_looks l.doings l.looks;
+  settles = λ log shown g known h. settlings_look (IsOfRelease log) l.doings l.looks;
+  none = λ full. l.looks;
+  taken = taken;
+  released = λ log g known number e is. known number e (ap (λ l. entry_in l number) (sym same) ∙ is);
+}
+
+-- a look, and then a change that reads nothing
+pub deals_looked :
+    (G : List Event → Type 0) (a b : Option (List Doing)) (w : List File) (P : List Doing → Type 0) (m n : Standing) → Looks a b P → Follows m n → Deals G a b w m n
+deals_looked G a b w P m n l f =
+    deals_look G a b w P m n l (λ shown h. taken_more l.doings shown n.files (f.taken shown h)) f.released
+
+-- a file was read, and what it asks for is told
+read_of : (D : Type 0) (doings : List Doing) (r : Request) (wish : Result Wish Reason) → IfRead {D = D} (Ok wish) (λ w. WasRead doings r w) → IfOffer wish (WasRead doings r)
+read_of D doings r (Ok wish) h = h
+read_of D doings r (Err why) h = tt
+
+read_onto : (ds shown : List Doing) (r : Request) (wish : Result Wish Reason) → IfOffer wish (WasRead ds r) → IfOffer wish (WasRead (onto ds shown) r)
+read_onto ds shown r (Ok wish) h = read_here ds shown r wish h
+read_onto ds shown r (Err why) h = tt
+
+pub deals_read :
+    (D : Type 0) (a b : Option (List Doing)) (w : List File) (r : Request) (result : Result (Result Wish Reason) D) (wish : Result Wish Reason) (m n : Standing) → result ≡ Ok wish
+    → Looks a b (λ doings. IfRead result (λ x. WasRead doings r x)) → n.files ≡ changed (rank r) (after (news_of wish) 0) m.files → n.released ≡ m.released
+    → Deals Always a b w m n
+deals_read D a b w r result wish m n is l files released =
+    deals_look Always a b w (λ doings. IfRead result (λ x. WasRead doings r x)) m n l
+    (λ shown h.
+    subst (λ (x : List Offer). WereRead (onto l.doings shown) x) (sym files)
+    (read_now (onto l.doings shown) r wish 0 m.files
+    (read_onto l.doings shown r wish (read_of D l.doings r wish (subst (λ q. IfRead {D = D} q (λ x. WasRead l.doings r x)) is l.finds)))
+    (taken_more l.doings shown m.files h)))
+    released
+
+-- one after the other
+pub deals_then :
+    (G : List Event → Type 0) (a b c : Option (List Doing)) (w : List File) (m n o : Standing) → Deals G a b w m n → Deals Always b c w n o → Deals G a c w m o
+deals_then G a b c w m n o d e = record {
+  doings = d.doings ++ e.doings;
+  does = does_then a b c d.doings e.doings d.does e.does;
+  silent = flat_map-append writing d.doings e.doings ∙ ap (λ l. l ++ flat_map writing e.doings) d.silent ∙ e.silent;
+  settles = λ log shown g known h.
+      settlings_then (IsOfRelease log) d.doings e.doings (d.settles log shown g known h)
+      (e.settles log (onto d.doings shown) tt (d.released log g known) (d.taken shown h));
+  none = λ full. looks_then d.doings e.doings (d.none full) (e.none full);
+  taken = λ shown h.
+      subst (λ (l : List Doing). WereRead l o.files) (sym (onto_then d.doings e.doings shown)) (e.taken (onto d.doings shown) (d.taken shown h));
+  released = λ log g known. e.released log tt (d.released log g known);
+}
+
+-- the same waits
+pub deals_beside : (G : List Event → Type 0) (a b : Option (List Doing)) (w v : List File) (m n : Standing) → v ≡ w → Deals G a b v m n → Deals G a b w m n
+deals_beside G a b w v m n same d = subst (λ (l : List File). Deals G a b l m n) same d
+
+-- the same folders and the same book before
+pub deals_from :
+    (G : List Event → Type 0) (a x b : Option (List Doing)) (w v : List File) (m n o : Standing) → x ≡ a → v ≡ w → Follows m n → Deals G x b v n o → Deals G a b w m o
+deals_from G a x b w v m n o same waits f d =
+    let e : Deals G a b v n o = subst (λ (y : Option (List Doing)). Deals G y b v n o) same d in
+    let g : Deals G a b w n o = deals_beside G a b w v n o waits e in
+    record {
+      doings = g.doings;
+      does = g.does;
+      silent = g.silent;
+      settles = λ log shown given known h.
+          g.settles log shown given (λ number e is. known number e (ap (λ l. entry_in l number) (sym f.released) ∙ is)) (f.taken shown h);
+      none = g.none;
+      taken = λ shown h. g.taken shown (f.taken shown h);
+      released = λ log given known. g.released log given (λ number e is. known number e (ap (λ l. entry_in l number) (sym f.released) ∙ is));
+    }
+
+-- what was released, if anything was
+pub deals_some :
+    (a b : Option (List Doing)) (w : List File) (o : Option Release) (r : Release) (m n : Standing) → o ≡ Some r → Deals (λ log. IsReleasedIn log r) a b w m n
+    → Deals (Releases o) a b w m n
+deals_some a b w o r m n is d = subst (λ (p : Option Release). Deals (Releases p) a b w m n) (sym is) d
+
+-- a file leaves the offers
 
 settling_place : (P : List ℕ → Type 0) (name : List ℕ) (to : Place) → P name → IsSettling P (moved_file name to)
 settling_place P name places.Sent p = p
 settling_place P name places.Lost p = p
 settling_place P name places.Refused p = tt
 
-leaves_did : (a b : Option (List Doing)) (name : List ℕ) (to : Place) (P : List ℕ → Type 0) → P name → Did a b (moved_file name to) → Leaves a b P
-leaves_did a b name to P p d = record {
-  doings = d.doings;
-  does = d.does;
-  silent = elim d.either [
-    | inl none ↦ ap (λ (l : List Doing). flat_map writing l) none
-    | inr one ↦ ap (λ (l : List Doing). flat_map writing l) one
-  ];
-  settles = elim d.either [
-    | inl none ↦ subst (λ (l : List Doing). AreSettlings P l) (sym none) tt
-    | inr one ↦ subst (λ (l : List Doing). AreSettlings P l) (sym one) (settling_place P name to p, tt)
-  ];
-}
+way_settles :
+    (b : Standing) (waits : List File) (r : Request) (way : Way) (log : List Event) → IsFreeWay b waits r.number way → HaveReleases log b
+    → IsSettling (IsOfRelease log) (moved_file (name_of r) (place_of way))
+way_settles b waits r (Released to) log free known =
+    let it : HasRelease log r.number = known r.number free.0.0 free.0.1 in
+    settling_place (IsOfRelease log) (name_of r) to (record {
+      release = it.release;
+      kind = r.kind;
+      released = it.released;
+      named = subst (λ (n : ℕ). IsNameOf (name_of r) n r.kind) (sym it.number) refl;
+    })
+way_settles b waits r (NoOffer why) log free known = tt
 
-pub leaves_may : (a b : Option (List Doing)) (name : List ℕ) (to : Place) (P : List ℕ → Type 0) → P name → MayDo a b (moved_file name to) → Leaves a b P
-leaves_may a b name to P p m = leaves_did a b name to P p (did_of a b (moved_file name to) m)
+way_looks : (b : Standing) (waits : List File) (r : Request) (way : Way) → IsFreeWay b waits r.number way → (waits ≡ [] → ⊥) → IsLook (moved_file (name_of r) (place_of way))
+way_looks b waits r (Released to) free full = absurd (full free.1)
+way_looks b waits r (NoOffer why) free full = tt
 
--- a file was refused, or not, and is the same file still
-pub looks_refused :
-    (a b : Option (List Doing)) (name : List ℕ) (x y : Asked) → MayDo a b (moved_file name places.Refused) → IsSame x y → Looks a b (λ doings. IsSame x y)
-looks_refused a b name x y may same =
-    looks_so a b (λ doings. Unit {0}) (λ doings. IsSame x y) (looks_may a b (moved_file name places.Refused) tt may) same
+pub deals_left :
+    (a b : Option (List Doing)) (w : List File) (d : Departure) (m n : Standing) → MayDo a b (moved_file (name_of d.found.request) (place_of d.way))
+    → IsFree m w d → Follows m n → Deals Always a b w m n
+deals_left a b w d m n may free f =
+    let did = did_of a b (moved_file (name_of d.found.request) (place_of d.way)) may in
+    record {
+      doings = did.doings;
+      does = did.does;
+      silent = elim did.either [
+        | inl none ↦ ap (λ (l : List Doing). flat_map writing l) none
+        | inr one ↦ ap (λ (l : List Doing). flat_map writing l) one
+      ];
+      settles = λ log shown g known h. elim did.either [
+        | inl none ↦ subst (λ (l : List Doing). AreSettlings (IsOfRelease log) l) (sym none) tt
+        | inr one ↦ subst (λ (l : List Doing). AreSettlings (IsOfRelease log) l) (sym one) (way_settles m w d.found.request d.way log free known, tt)
+      ];
+      none = λ full. elim did.either [
+        | inl none ↦ subst (λ (l : List Doing). AreLooks l) (sym none) tt
+        | inr one ↦ subst (λ (l : List Doing). AreLooks l) (sym one) (way_looks m w d.found.request d.way free full, tt)
+      ];
+      taken = λ shown h. taken_more did.doings shown n.files (f.taken shown h);
+      released = λ log g known number e is. known number e (ap (λ l. entry_in l number) (sym f.released) ∙ is);
+    }
 
--- it left the offers, or not
-pub settles_leave :
-    (a b : Option (List Doing)) (was is : Asked) → Leaves a b (λ name. name ≡ string_bytes was.name) → IsSame was is → SettlesOne a b was.number was is
-settles_leave a b was is v same = record {
-  doings = v.doings;
-  does = v.does;
-  silent = v.silent;
-  settles = λ shown h.
-      settlings_weaker (λ (name : List ℕ). name ≡ string_bytes was.name) (IsOfNumber was.number) v.doings
-      (λ name e. record { kind = h.kind; named = subst (λ (x : List ℕ). IsNameOf x was.number h.kind) (sym e) h.named }) v.settles;
-  same = same;
-}
+-- a file leaves by its entry, so that is known
+leaves_known : (entry : Option Entry) (s : Stage) (to : Place) → Leaves entry s to → (e : Entry) × (entry ≡ Some e)
+leaves_known entry (stages.Watched at replaced) to h = absurd h
+leaves_known None (stages.Waiting wish at pause) to h = absurd h
+leaves_known (Some e) (stages.Waiting wish at pause) to h = (e, refl)
+leaves_known entry (stages.UnderWay wish pause) to h = absurd h
+leaves_known entry (stages.Refused reason at pause) to h = absurd h
+leaves_known entry stages.Gone to h = absurd h
 
--- nothing was settled
-pub settles_none : (a : Option (List Doing)) (n : ℕ) (x : Asked) → SettlesOne a a n x x
-settles_none a n x = record {
+-- where files that were released may leave only if nothing waits, what may be done is free
+pub task_free : (b c : Standing) (w : List File) (allowed : Allowed) (d : Deed) → c.released ≡ b.released → (allowed.moves ≡ true → w ≡ []) → MayDoDeed b d → IsInTurn b allowed (Some d) → IfSome (task_of d) (IsFreeTask c w)
+task_free b c w allowed (deeds.Move r found to) same empty may turn =
+    let known = leaves_known (entry_of b r.number) may.1.stage to may.4.leaves in
+    ((known.0, ap (λ l. entry_in l r.number) same ∙ known.1), empty turn)
+task_free b c w allowed (deeds.Ask r) same empty may turn = tt
+task_free b c w allowed (deeds.Read r found replaced) same empty may turn = tt
+task_free b c w allowed (deeds.Refuse r found why) same empty may turn = tt
+
+pub departure_free : (b : Standing) (w : List File) (d : Deed) → w ≡ [] → MayDoDeed b d → IfSome (departure_of d) (IsFree b w)
+departure_free b w (deeds.Move r found to) empty may = (leaves_known (entry_of b r.number) may.1.stage to may.4.leaves, empty)
+departure_free b w (deeds.Ask r) empty may = tt
+departure_free b w (deeds.Read r found replaced) empty may = tt
+departure_free b w (deeds.Refuse r found why) empty may = tt
+
+-- a release is kept in mind
+
+same_or_not : (n m : ℕ) → (n ≡ m) ⊎ (n ≡ m → ⊥)
+same_or_not n m = grind (arith, nat_tests)
+
+pub deals_kept :
+    (a b : Option (List Doing)) (w : List File) (r : Release) (e : Entry) (m n : Standing) → b ≡ a → IsReleasing r.number e m n
+    → Deals (λ log. IsReleasedIn log r) a b w m n
+deals_kept a b w r e m n same k = record {
   doings = [];
-  does = does_nothing a a refl;
-  silent = refl;
-  settles = λ shown h. tt;
-  same = record { name = refl; number = refl; wish = refl };
-}
-
-pub settles_first : (a : Option (List Doing)) (n : ℕ) (xs : List Asked) → Settles a a n xs xs
-settles_first a n xs = record { doings = []; does = does_nothing a a refl; silent = refl; settles = λ shown h. tt; taken = λ shown h. h }
-
--- one more file of the number was settled
-pub settles_more :
-    (a b c : Option (List Doing)) (n : ℕ) (xs ys : List Asked) (i : ℕ) (x y : Asked) → i < length ys → get_or ys i x ≡ x
-    → Settles a b n xs ys → SettlesOne b c n x y → Settles a c n xs (set ys i y)
-settles_more a b c n xs ys i x y within is p q = record {
-  doings = p.doings ++ q.doings;
-  does = does_then a b c p.doings q.doings p.does q.does;
-  silent = flat_map-append writing p.doings q.doings ∙ ap (λ l. l ++ flat_map writing q.doings) p.silent ∙ q.silent;
-  settles = λ shown h.
-      settlings_then (IsOfNumber n) p.doings q.doings (p.settles shown h)
-      (q.settles shown (subst (λ (z : Asked). WasTaken shown z) is (p.taken shown h i x within)));
-  taken = λ shown h. stay_set ys i x y within is q.same shown (p.taken shown h);
-}
-
-pub settles_so :
-    (a b c : Option (List Doing)) (n : ℕ) (xs ys zs : List Asked) → c ≡ b → zs ≡ ys → Settles a b n xs ys → Settles a c n xs zs
-settles_so a b c n xs ys zs same asked s =
-    subst (λ (l : List Asked). Settles a c n xs l) (sym asked) (subst (λ (d : Option (List Doing)). Settles a d n xs ys) (sym same) s)
-
--- files of released numbers
-
-not_both : true ≡ false → ⊥
-not_both e = cc
-
-pub closes_none : (G : List Event → Type 0) (a : Option (List Doing)) (m n : Mind) → Follows m n → Closes G a a m n
-closes_none G a m n f = record {
-  doings = [];
-  does = does_nothing a a refl;
-  silent = refl;
-  settles = λ log shown g known h. tt;
-  none = λ e. tt;
-  taken = f.taken;
-  released = λ log g known. subst (λ (l : List Known). HaveReleases log l) (sym f.released) known;
-  unwritten = f.unwritten;
-}
-
--- a look leaves what is released
-pub closes_look : (a b : Option (List Doing)) (m n : Mind) → Looks a b (λ doings. Unit {0}) → Follows m n → Closes Always a b m n
-closes_look a b m n l f = record {
-  doings = l.doings;
-  does = l.does;
-  silent = silent_looks l.doings l.looks;
-  settles = λ log shown g known h. settlings_look (IsOfRelease log) l.doings l.looks;
-  none = λ e. l.looks;
-  taken = f.taken;
-  released = λ log g known. subst (λ (k : List Known). HaveReleases log k) (sym f.released) known;
-  unwritten = f.unwritten;
-}
-
--- the same, behind a change that takes nothing up
-pub closes_after :
-    (G : List Event → Type 0) (a b : Option (List Doing)) (m n o : Mind) → Follows m n → Closes G a b n o → Closes G a b m o
-closes_after G a b m n o f c = record {
-  doings = c.doings;
-  does = c.does;
-  silent = c.silent;
-  settles = λ log shown g known h. c.settles log shown g (subst (λ (l : List Known). HaveReleases log l) (sym f.released) known) (f.taken shown h);
-  none = λ e. c.none (f.unwritten ∙ e);
-  taken = λ shown h. c.taken shown (f.taken shown h);
-  released = λ log g known. c.released log g (subst (λ (l : List Known). HaveReleases log l) (sym f.released) known);
-  unwritten = c.unwritten ∙ f.unwritten;
-}
-
--- the same of what is released, if anything is
-pub closes_some :
-    (a b : Option (List Doing)) (o : Option Release) (r : Release) (m n : Mind) → o ≡ Some r → Closes (λ log. IsReleasedIn log r) a b m n
-    → Closes (Releases o) a b m n
-closes_some a b o r m n is c = subst (λ (p : Option Release). Closes (Releases p) a b m n) (sym is) c
-
--- where files wait, those of the number that is released are put off
-pub closes_put_off :
-    (a : Option (List Doing)) (r : Release) (m n : Mind) → KeepsRelease r m.released n.released → StayTaken m.asked n.asked → n.unwritten ≡ m.unwritten
-    → Closes (λ log. IsReleasedIn log r) a a m n
-closes_put_off a r m n keeps stay unwritten = record {
-  doings = [];
-  does = does_nothing a a refl;
+  does = does_nothing a b same;
   silent = refl;
   settles = λ log shown g known h. tt;
-  none = λ e. tt;
-  taken = stay;
-  released = λ log g known. keeps log g known;
-  unwritten = unwritten;
+  none = λ full. tt;
+  taken = λ shown h. subst (λ (l : List Offer). WereRead shown l) (sym k.files) (landed_still shown r.number landings.Released 0 m.files h);
+  released = λ log g known number x is. elim (same_or_not number r.number) [
+    | inl here ↦ record { release = r; released = g; number = sym here }
+    | inr other ↦ known number x (sym (k.rest number other) ∙ is)
+  ];
 }
 
--- else they are settled
-pub closes_all :
-    (a b : Option (List Doing)) (r : Release) (m n : Mind) → KeepsRelease r m.released n.released → Settles a b r.number m.asked n.asked
-    → n.unwritten ≡ m.unwritten → m.unwritten ≡ false → Closes (λ log. IsReleasedIn log r) a b m n
-closes_all a b r m n keeps s unwritten idle = record {
-  doings = s.doings;
-  does = s.does;
-  silent = s.silent;
-  settles = λ log shown g known h.
-      settlings_weaker (IsOfNumber r.number) (IsOfRelease log) s.doings
-      (λ name p. record { release = r; kind = p.kind; released = g; named = p.named }) (s.settles shown h);
-  none = λ e. absurd (not_both (sym e ∙ idle));
-  taken = s.taken;
-  released = λ log g known. keeps log g known;
-  unwritten = unwritten;
-}
+pub deals_kept_or :
+    {E : Type 0} (a b : Option (List Doing)) (w : List File) (r : Release) (e : Entry) (now : ℕ) (m n : Standing) (result : Result (Unit {0}) E) → b ≡ a
+    → OnOk result (IsReleasing r.number e m n) → OnErr result (n ≡ landed_in r.number landings.Ended now m) → Deals (λ log. IsReleasedIn log r) a b w m n
+deals_kept_or a b w r e now m n (Ok done) same ok err = deals_kept a b w r e m n same ok
+deals_kept_or a b w r e now m n (Err why) same ok err =
+    deals_follows (λ log. IsReleasedIn log r) a b w m n same (follows_landed m n r.number landings.Ended now err)
 
--- a file of a number that was released before was settled
-pub closes_late :
-    (a b : Option (List Doing)) (m n : Mind) (i : ℕ) (x y : Asked) (k : Known) → i < length m.asked → get_or m.asked i x ≡ x
-    → SettlesOne a b x.number x y → Contains m.released k → k.number ≡ x.number → n.asked ≡ set m.asked i y → n.released ≡ m.released
-    → n.unwritten ≡ m.unwritten → m.unwritten ≡ false → Closes Always a b m n
-closes_late a b m n i x y k within is one has number asked released unwritten idle = record {
-  doings = one.doings;
-  does = one.does;
-  silent = one.silent;
-  settles = λ log shown g known h.
-      let it : HasRelease log k.number = All-contains (λ (z : Known). HasRelease log z.number) m.released k known has in
-      let r : WasTaken shown x = subst (λ (z : Asked). WasTaken shown z) is (h i x within) in
-      settlings_weaker (IsOfNumber x.number) (IsOfRelease log) one.doings
-      (λ name p. record {
-        release = it.release;
-        kind = p.kind;
-        released = it.released;
-        named = subst (λ (z : ℕ). IsNameOf name z p.kind) (sym (it.number ∙ number)) p.named;
-      })
-      (one.settles shown r);
-  none = λ e. absurd (not_both (sym e ∙ idle));
-  taken = λ shown h. subst (λ (l : List Asked). WereTaken shown l) (sym asked) (stay_set m.asked i x y within is one.same shown h);
-  released = λ log g known. subst (λ (l : List Known). HaveReleases log l) (sym released) known;
-  unwritten = unwritten;
-}
+-- nothing waits where its count is none
+pub no_items : (w : List File) (n : ℕ) → n ≡ length w → (n == 0) ≡ true → w ≡ []
+no_items [] n same e = refl
+no_items (x ∷ w) n same e = let none : n ≡ 0 = grind (arith, nat_tests) in absurd (omega arith)

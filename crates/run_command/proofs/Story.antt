@@ -1,6 +1,6 @@
 -- Stories, one behind the other, and what may happen in them.
 use Rattle.std.proofs.Common.{◌≡◌, ◌++◌, ◌∙◌, ◌⊎◌, ℕ, List, [], ◌∷◌, Option, Some, None, Ok, inl, inr, refl, sym, ap, subst, map}
-use Rattle.std.specs.Prelude.{flat_map, string_bytes}
+use Rattle.std.specs.Prelude.{flat_map}
 use Rattle.std.proofs.lemmas.List.Elements.{All-weaker}
 use Rattle.protocol.specs.Lists.{IsAmong}
 use Rattle.protocol.specs.Refusals.{Call}
@@ -12,15 +12,17 @@ use Rattle.folders.specs.Written.{File}
 use Rattle.folders.specs.declared.leaving.Place.TheVariants as places
 use Rattle.folders.specs.declared.names.Kind.{Kind}
 use Rattle.folders.specs.declared.names.Kind.TheVariants as kinds
-use Rattle.folders.specs.declared.wishes.Asked.{Asked}
+use Rattle.folders.specs.declared.names.Request.{Request}
 use Rattle.folders.specs.declared.wishes.Wish.{Wish}
+use Rattle.offers.specs.Rules.{Standing}
+use Rattle.offers.specs.Stages.{wish_of}
+use Rattle.offers.specs.declared.offer.Offer.{Offer}
 use Rattle.plant_files.specs.Filing.{files_of, release_files}
 use Rattle.exchange.specs.Events.{Event, took}
 use Rattle.run_command.specs.Filing.{filing}
-use Rattle.run_command.specs.Minding.{WasRead, WasTaken, WereTaken, HasRelease, HaveReleases, onto, IsOfRelease, IsLook, IsSettling, AreLooks, AreSettlings}
+use Rattle.run_command.specs.Minding.{WasRead, IsRead, IsReadOffer, WereRead, HasRelease, HaveReleases, onto, IsOfRelease, IsLook, IsSettling, AreLooks, AreSettlings}
 use Rattle.run_command.specs.Story.{Happened, did, events_of, doings_of, files_of_story, IsReleasedIn, MayBeDone, IsInOrder}
 use Rattle.run_command.specs.Working.{Releases}
-use Rattle.run_command.specs.declared.offer_book.Known.{Known}
 
 -- lists
 
@@ -101,28 +103,17 @@ lay_here ds shown kinds.Tape name bytes i = among_here ds shown (read_file (reco
 lay_here ds shown kinds.Withdraw name bytes i = among_here ds shown (saw_file name) i
 lay_here ds shown kinds.Seek name bytes i = among_here ds shown (saw_file name) i
 
-pub read_here : (ds shown : List Doing) (name : List ℕ) (n : ℕ) (wish : Wish) → WasRead ds name n wish → WasRead (onto ds shown) name n wish
-read_here ds shown name n wish r = record {
-  kind = r.kind;
-  bytes = r.bytes;
-  named = r.named;
-  lay_there = lay_here ds shown r.kind name r.bytes r.lay_there;
-  stands = r.stands;
-}
+pub read_here : (ds shown : List Doing) (r : Request) (wish : Wish) → WasRead ds r wish → WasRead (onto ds shown) r wish
+read_here ds shown r wish w = record { bytes = w.bytes; lay_there = lay_here ds shown r.kind _ w.bytes w.lay_there; stands = w.stands }
 
-pub read_more : (ds shown : List Doing) (name : List ℕ) (n : ℕ) (wish : Wish) → WasRead shown name n wish → WasRead (onto ds shown) name n wish
-read_more ds shown name n wish r = record {
-  kind = r.kind;
-  bytes = r.bytes;
-  named = r.named;
-  lay_there = lay_more ds shown r.kind name r.bytes r.lay_there;
-  stands = r.stands;
-}
+read_more : (ds shown : List Doing) (r : Request) (wish : Option Wish) → IsRead shown r wish → IsRead (onto ds shown) r wish
+read_more ds shown r None w = tt
+read_more ds shown r (Some wish) w =
+    record { bytes = w.bytes; lay_there = lay_more ds shown r.kind _ w.bytes w.lay_there; stands = w.stands }
 
-pub taken_more : (ds shown : List Doing) (asked : List Asked) → WereTaken shown asked → WereTaken (onto ds shown) asked
-taken_more ds shown asked all =
-    All-weaker (λ (a : Asked). WasTaken shown a) (λ (a : Asked). WasTaken (onto ds shown) a)
-    (λ a r. read_more ds shown (string_bytes a.name) a.number a.wish r) asked all
+pub taken_more : (ds shown : List Doing) (files : List Offer) → WereRead shown files → WereRead (onto ds shown) files
+taken_more ds shown files all =
+    All-weaker (IsReadOffer shown) (IsReadOffer (onto ds shown)) (λ o r. read_more ds shown o.request (wish_of o.stage) r) files all
 
 release_more : (e : Event) (log : List Event) (n : ℕ) → HasRelease log n → HasRelease (e ∷ log) n
 release_more e log n h = record {
@@ -131,9 +122,8 @@ release_more e log n h = record {
   number = h.number;
 }
 
-pub releases_more : (e : Event) (log : List Event) (known : List Known) → HaveReleases log known → HaveReleases (e ∷ log) known
-releases_more e log known all =
-    All-weaker (λ (k : Known). HasRelease log k.number) (λ (k : Known). HasRelease (e ∷ log) k.number) (λ k h. release_more e log k.number h) known all
+pub releases_more : (e : Event) (log : List Event) (b : Standing) → HaveReleases log b → HaveReleases (e ∷ log) b
+releases_more e log b all = λ n entry is. release_more e log n (all n entry is)
 
 -- what is released now
 pub releases_here : (call : Call) (answer : Answer) (log : List Event) (o : Option Release) → answer.release ≡ o → Releases o (took call (Ok answer) ∷ log)

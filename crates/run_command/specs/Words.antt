@@ -2,7 +2,7 @@
 use Rattle.std.specs.Prelude.{ℕ, List, ◌++◌, codes, decimal}
 use Rattle.protocol.specs.Ballots.{Ballot}
 use Rattle.run_command.specs.declared.telling.Event.{Event}
-use Rattle.run_command.specs.declared.telling.Event.TheVariants.{Began, GaveUp, Nothing, Released, Sent, Lost}
+use Rattle.run_command.specs.declared.telling.Event.TheVariants.{Began, GaveUp, Nothing, Released, Sent, Lost, Replaced}
 
 -- a ballot, as `round.owner`
 abbrev pub ballot_text : Ballot → List ℕ
@@ -16,3 +16,4 @@ event_text (Nothing n b) = decimal n ++ (codes " nothing " ++ ballot_text b)
 event_text (Released n) = decimal n ++ codes " released"
 event_text (Sent n) = decimal n ++ codes " sent"
 event_text (Lost n) = decimal n ++ codes " lost"
+event_text (Replaced n) = decimal n ++ codes " replaced while it was under way"

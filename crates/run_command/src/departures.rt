@@ -1,19 +1,48 @@
-//! Files that leave the offers, by the rules: to those that were sent or lost once their number is released, or to those that
-//! are no offers.
+//! Files that leave the offers: to those that were sent or lost once their number is released, or to those that are no offers.
 
 ghost use Rattle.std.specs.Prelude.{◌≡◌, [], IfOk, string_bytes};
 ghost use Rattle.tape_frames.specs.Entries.{lent_entry};
 ghost use Rattle.command_ends.specs.EntryText.{entry_text};
 ghost use Rattle.command_ends.specs.ReleaseText.{plain_line};
 ghost use Rattle.folders.specs.Doings.{moved_file, MayDo};
-ghost use Rattle.run_command.specs.Working.{IsSame, Leaves, Looks, SettlesOne};
+ghost use Rattle.run_command.specs.Departing.{place_of};
+ghost use Rattle.run_command.specs.Minding.{name_of};
 
-use crate::telling::{Event, Reason, tell, tell_file, tell_refused};
+use crate::plant::Plant;
+use crate::telling::{Event, ReasonText, tell, tell_refused};
 use command_ends::entry_text;
-use folders::{Asked, FolderFault, Folders, Leaving, Place, Stamp, place_of};
+use driver::Log;
+use folders::{FolderFault, Folders, Leaving, Place, name_of};
+use offers::{Found, Reason};
 use std::alloc::{AllocError, Global};
 use std::io::Write;
 use tape_frames::EntryRef;
+
+/// Why a file leaves the offers.
+#[derive(Clone, Copy)]
+pub(crate) enum Way {
+    /// Its number was released; it goes there.
+    Released(Place),
+    /// It is no offer.
+    NoOffer(Reason),
+}
+
+/// A file that leaves the offers.
+#[derive(Clone, Copy)]
+pub(crate) struct Departure {
+    pub(crate) found: Found,
+    pub(crate) way: Way,
+}
+
+/// Where such a file goes.
+fn place_of(way: Way) -> Place
+    ensures { result ≡ place_of way }
+{
+    match way {
+        Way::Released(to) => to,
+        Way::NoOffer(_) => Place::Refused,
+    }
+}
 
 /// The text beside a file that was lost: what stands under its number.
 fn standing_text(alloc: Global, number: u32, entry: &EntryRef<'_>) -> Result<String, AllocError>
@@ -23,129 +52,75 @@ fn standing_text(alloc: Global, number: u32, entry: &EntryRef<'_>) -> Result<Str
     format!(in alloc; "release {number} {text}\n")
 }
 
-/// The file that was taken up, as it leaves for a place.
-fn leaving_of(asked: &Asked, to: Place) -> Leaving<'_>
-    ensures name { result.name.now ≡ string_bytes asked.now.name }
-    ensures to { result.to ≡ to }
-{
-    Leaving {
-        name: asked.name.as_str(),
-        stamp: asked.stamp,
-        to,
-    }
+/// The text beside a file that is no offer.
+fn reason_text(alloc: Global, reason: Reason) -> Result<String, AllocError> {
+    let why = ReasonText(reason);
+    format!(in alloc; "{why}\n")
 }
 
-/// Moves a file that was lost, with the entry that stands under its number beside it.
-fn lose<F: Folders>(
+/// Moves a file, with this text beside it.
+fn set_aside<F: Folders>(
     alloc: Global,
     folders: &mut F,
-    asked: &Asked,
-    entry: &EntryRef<'_>,
+    departure: &Departure,
+    beside: Option<&str>,
 ) -> Result<(), FolderFault>
-    ensures { MayDo (F.doings folders.old) (F.doings folders.new) (moved_file (string_bytes asked.now.name) Place.Lost) }
+    ensures { MayDo (F.doings folders.old) (F.doings folders.new) (moved_file (name_of departure.now.found.request) (place_of departure.now.way)) }
 {
-    let text = standing_text(alloc, asked.number.get(), entry)?;
-    folders.set_aside(alloc, leaving_of(asked, Place::Lost), Some(text.as_str()))
-}
-
-/// Moves a file to the place that it has where this entry stands under its number, and answers what there is to tell.
-fn file_away<F: Folders>(
-    alloc: Global,
-    folders: &mut F,
-    asked: &Asked,
-    entry: &EntryRef<'_>,
-) -> Result<Event, FolderFault>
-    ensures { Leaves (F.doings folders.old) (F.doings folders.new) (λ name. name ≡ string_bytes asked.now.name) }
-{
-    let number = asked.number.get();
-    match place_of(&asked.wish, entry) {
-        Place::Lost => {
-            lose(alloc, folders, asked, entry)?;
-            Ok(Event::Lost { number })
-        }
-        place => {
-            folders.set_aside(alloc, leaving_of(asked, place), None)?;
-            Ok(Event::Sent { number })
-        }
-    }
-}
-
-/// Puts a file off that can't be moved now, which is told.
-fn put_off_move<E: Write>(
-    alloc: Global,
-    asked: &mut Asked,
-    fault: FolderFault,
-    now: u64,
-    err: &mut E,
-)
-    ensures { IsSame asked.old asked.new }
-{
-    asked.put_off(now);
-    let name = asked.name.as_str();
-    tell_file(alloc, "cannot move", name, fault, asked.told, err);
-    asked.told = Some(fault);
-}
-
-/// Settles a file whose number has this entry. One that was changed since is left, to be taken up anew.
-pub(crate) fn settle<F: Folders, E: Write>(
-    alloc: Global,
-    folders: &mut F,
-    asked: &mut Asked,
-    entry: &EntryRef<'_>,
-    now: u64,
-    quiet: bool,
-    err: &mut E,
-)
-    ensures { SettlesOne (F.doings folders.old) (F.doings folders.new) asked.old.number asked.old asked.new }
-{
-    match file_away(alloc, folders, asked, entry) {
-        Ok(event) => {
-            asked.is_settled = true;
-            tell(quiet, event, err);
-        }
-        // Another file by now, to be taken up anew.
-        Err(FolderFault::Missing | FolderFault::Changed) => asked.is_settled = true,
-        Err(fault) => put_off_move(alloc, asked, fault, now, err),
-    }
-}
-
-/// Moves the file of this name and stamp, which is no offer, with the reason beside it.
-pub(crate) fn refuse<F: Folders>(
-    alloc: Global,
-    folders: &mut F,
-    name: &str,
-    stamp: Stamp,
-    reason: Reason,
-) -> Result<(), FolderFault>
-    ensures { MayDo (F.doings folders.old) (F.doings folders.new) (moved_file name.now Place.Refused) }
-{
-    let text = format!(in alloc; "{reason}\n")?;
+    let name = name_of(alloc, departure.found.request)?;
     let leaving = Leaving {
-        name,
-        stamp,
-        to: Place::Refused,
+        name: name.as_str(),
+        stamp: departure.found.stamp,
+        to: place_of(departure.way),
     };
-    folders.set_aside(alloc, leaving, Some(text.as_str()))
+    folders.set_aside(alloc, leaving, beside)
 }
 
-/// Refuses a file that was taken up.
-pub(crate) fn refuse_asked<F: Folders, E: Write>(
-    alloc: Global,
-    folders: &mut F,
-    asked: &mut Asked,
-    reason: Reason,
-    now: u64,
-    quiet: bool,
-    err: &mut E,
-)
-    ensures { Looks (F.doings folders.old) (F.doings folders.new) (λ doings. IsSame asked.old asked.new) }
-{
-    match refuse(alloc, folders, asked.name.as_str(), asked.stamp, reason) {
-        Ok(()) => {
-            asked.is_settled = true;
-            tell_refused(alloc, quiet, asked.name.as_str(), reason, err);
+/// Tells that a file has left the offers.
+pub(crate) fn tell_departure<E: Write>(alloc: Global, departure: &Departure, log: &mut Log<'_, E>) {
+    let number = departure.found.request.number.get();
+    match departure.way {
+        Way::Released(Place::Lost) => tell(Event::Lost { number }, log),
+        Way::Released(_) => tell(Event::Sent { number }, log),
+        Way::NoOffer(reason) => {
+            let why = format!(in alloc; "{}", ReasonText(reason));
+            let name = name_of(alloc, departure.found.request);
+            if let (Ok(name), Ok(why)) = (name, why) {
+                tell_refused(alloc, name.as_str(), why.as_str(), log);
+            }
         }
-        Err(FolderFault::Missing | FolderFault::Changed) => asked.is_settled = true,
-        Err(fault) => put_off_move(alloc, asked, fault, now, err),
+    }
+}
+
+impl<'f, 'p, F: Folders> Plant<'f, 'p, F> {
+    /// What is to lie beside a file: nothing where it was sent.
+    fn text_beside(&self, departure: &Departure) -> Result<Option<String>, FolderFault> {
+        match departure.way {
+            Way::Released(Place::Lost) => {
+                let number = departure.found.request.number;
+                let Some(entry) = self.papers.book.entry(number) else {
+                    return Err(FolderFault::Missing);
+                };
+                let text = standing_text(self.alloc, number.get(), &entry.lend())?;
+                Ok(Some(text))
+            }
+            Way::Released(_) => Ok(None),
+            Way::NoOffer(reason) => {
+                let text = reason_text(self.alloc, reason)?;
+                Ok(Some(text))
+            }
+        }
+    }
+
+    /// Moves a file, with the text beside it that is to lie there.
+    pub(crate) fn depart(&mut self, departure: &Departure) -> Result<(), FolderFault>
+        ensures folders { self.new.folders.ghost_name ≡ self.old.folders.ghost_name }
+        ensures waits { self.new.papers.now.waits ≡ self.old.papers.now.waits }
+        ensures book { self.new.papers.now.book ≡ self.old.papers.now.book }
+        ensures departs { MayDo (F.doings self.old.folders.now) (F.doings self.new.folders.now) (moved_file (name_of departure.now.found.request) (place_of departure.now.way)) }
+    {
+        let text = self.text_beside(departure)?;
+        let beside = text.as_ref().map(|text| text.as_str());
+        set_aside(self.alloc, self.folders, departure, beside)
     }
 }

@@ -1,199 +1,103 @@
-//! A look at the folders: what lies among the offers; and what is taken up of it, one file after the other.
+//! A look at the folders: what waits is written, and what lies among the offers is found.
 
-ghost use Rattle.std.specs.Prelude.{◌≡◌, OnOk, string_bytes};
-ghost use Rattle.protocol.specs.Lists.{IsAmong};
-ghost use Rattle.folders.specs.Doings.{read_file, saw_file};
-ghost use Rattle.run_command.specs.Minding.{mind_of, WasTaken};
-ghost use Rattle.run_command.specs.Working.{Follows, IfRead, LaySo, Looks, TakesUp, WritesAndLooks};
+ghost use Rattle.std.specs.Prelude.{◌≡◌};
+ghost use Rattle.run_command.specs.Working.{Follows, Deals, Always, WritesAndDeals};
 
-use crate::offer_book::OfferBook;
-use crate::telling::{Reason, tell_news};
-use ballots::Number;
-use folders::{
-    Asked, FolderFault, Folders, Found, Kind, Listing, NamedFile, Request, Stamp, Watched, Wish,
-    has_stop, is_left, named,
-};
-use saved_rows::Rows;
-use station::Station;
-use std::alloc::Global;
+use crate::gathered::Seen;
+use crate::look_turns::MOST;
+use crate::plant::Plant;
+use crate::telling::tell_news;
+use driver::Log;
+use folders::{FolderFault, Folders, Listing};
+use offers::Found;
+use std::alloc::AllocError;
 use std::io::Write;
-use tape_frames::{Entry, MAX_FRAMES, Tape, TapeFault};
 
-/// The tape in a file of this stamp, or why it is none.
-fn read_tape<F: Folders>(
-    alloc: Global,
-    folders: &mut F,
-    name: &str,
-    stamp: Stamp,
-) -> Result<Result<Tape, TapeFault>, FolderFault>
-    ensures { Looks (F.doings folders.old) (F.doings folders.new) (λ doings. IfRead result (λ tape. IsAmong doings (read_file (record { name = name.now; bytes = tape })))) }
-{
-    match folders.read(alloc, name, stamp, MAX_FRAMES)? {
-        Some(bytes) => Ok(Tape::from_vec(alloc, bytes)),
-        None => {
-            let len = usize::try_from(stamp.length).unwrap_or(usize::MAX);
-            Ok(Err(TapeFault::TooLong { len }))
+impl<'f, 'p, F: Folders> Plant<'f, 'p, F> {
+    /// Takes in which files a look found, in order, at a moment. Where there is no memory for it, what is known stays as it was.
+    fn see(
+        &mut self,
+        requests: Vec<Found>,
+        strays: Vec<folders::Found>,
+        now: u64,
+    ) -> Result<(), AllocError>
+        ensures folders { self.new.folders.ghost_name ≡ self.old.folders.ghost_name }
+        ensures same { self.new.folders.now ≡ self.old.folders.now }
+        ensures waits { self.new.papers.now.waits ≡ self.old.papers.now.waits }
+        ensures book { Follows self.old.papers.now.book self.new.papers.now.book }
+    {
+        self.papers.book.see(requests.as_slice(), now)?;
+        self.papers.strays.see(strays, now)
+    }
+
+    /// Takes in all that a look found, at a moment.
+    fn take_seen<E: Write>(&mut self, seen: Seen, now: u64, log: &mut Log<'_, E>)
+        ensures folders { self.new.folders.ghost_name ≡ self.old.folders.ghost_name }
+        ensures same { self.new.folders.now ≡ self.old.folders.now }
+        ensures waits { self.new.papers.now.waits ≡ self.old.papers.now.waits }
+        ensures book { Follows self.old.papers.now.book self.new.papers.now.book }
+    {
+        let Seen {
+            requests,
+            strays,
+            others,
+            skipped,
+        } = seen;
+        self.papers.told.listed(skipped, others, log);
+        if self.see(requests, strays, now).is_err() {
+            self.papers.told.cannot_list(FolderFault::OutOfMemory, log);
         }
     }
-}
 
-/// Sees to it that a file of this name and stamp lies there, whatever it holds.
-fn find<F: Folders>(
-    alloc: Global,
-    folders: &mut F,
-    name: &str,
-    stamp: Stamp,
-) -> Result<(), FolderFault>
-    ensures { Looks (F.doings folders.old) (F.doings folders.new) (λ doings. OnOk result (IsAmong doings (saw_file name.now))) }
-{
-    let _ = folders.read(alloc, name, stamp, 0)?;
-    Ok(())
-}
-
-/// What a file of this name and stamp asks for, or why it is no offer. Where there is no memory for its tape, it can't be read now.
-fn read_wish<F: Folders>(
-    alloc: Global,
-    folders: &mut F,
-    name: &str,
-    request: &Request,
-    stamp: Stamp,
-) -> Result<Result<Wish, Reason>, FolderFault>
-    ensures { Looks (F.doings folders.old) (F.doings folders.new) (λ doings. IfRead result (λ wish. LaySo doings request.now.kind request.now.number name.now wish)) }
-{
-    match request.kind {
-        Kind::Withdraw => {
-            find(alloc, folders, name, stamp)?;
-            Ok(Ok(Wish::Offered(Entry::Void)))
-        }
-        Kind::Seek => {
-            find(alloc, folders, name, stamp)?;
-            Ok(Ok(Wish::Sought))
-        }
-        Kind::Tape => match read_tape(alloc, folders, name, stamp)? {
-            Ok(tape) => Ok(Ok(Wish::Offered(Entry::Tape(tape)))),
-            Err(TapeFault::OutOfMemory) => Err(FolderFault::OutOfMemory),
-            Err(fault) => Ok(Err(Reason::Tape(fault))),
-        },
-    }
-}
-
-/// Takes up a file of this name, or says why it is no offer.
-fn read_asked<F: Folders>(
-    alloc: Global,
-    folders: &mut F,
-    file: &Watched,
-    now: u64,
-) -> Result<Result<Asked, Reason>, FolderFault>
-    ensures { Looks (F.doings folders.old) (F.doings folders.new) (λ doings. IfRead result (λ asked. WasTaken doings asked)) }
-{
-    let Some(request) = named(alloc, file.name.as_str())? else {
-        return Ok(Err(Reason::Name));
-    };
-    match read_wish(alloc, folders, file.name.as_str(), &request, file.stamp)? {
-        Ok(wish) => asked_of(file, request.number, wish, now),
-        Err(reason) => Ok(Err(reason)),
-    }
-}
-
-/// A file that was read, as it is kept in mind.
-fn asked_of(
-    file: &Watched,
-    number: Number,
-    wish: Wish,
-    now: u64,
-) -> Result<Result<Asked, Reason>, FolderFault>
-    ensures { IfRead result (λ asked. (string_bytes asked.name ≡ string_bytes file.now.name) × (asked.number ≡ number) × (asked.wish ≡ wish)) }
-{
-    let name = file.name.clone()?;
-    Ok(Ok(Asked::new(name, number, wish, file.stamp, now)))
-}
-
-/// Reads the file at a place of those that are watched, and takes it up or refuses it. One that can't be read, or moved, is watched again.
-pub(crate) fn read_at<F: Folders, E: Write>(
-    folders: &mut F,
-    book: &mut OfferBook,
-    place: usize,
-    now: u64,
-    err: &mut E,
-)
-    ensures { Looks (F.doings folders.old) (F.doings folders.new) (TakesUp (mind_of book.old) (mind_of book.new)) }
-{
-    let Some(file) = book.take_watched(place) else {
-        return;
-    };
-    match read_asked(book.alloc, folders, &file, now) {
-        Ok(Ok(asked)) => book.add(asked),
-        Ok(Err(reason)) => book.refuse_watched(folders, file, reason, now, err),
-        // Gone, or another file by now, to be found anew.
-        Err(FolderFault::Missing | FolderFault::Changed) => {}
-        Err(fault) => book.watch_later("cannot read", file, fault, now, err),
-    }
-}
-
-/// Looks at a file, unless it is left alone or was taken up.
-fn watch(book: &mut OfferBook, found: &Found, now: u64)
-    ensures { mind_of book.new ≡ mind_of book.old }
-{
-    let name = found.name.as_str();
-    if !is_left(name) && !book.has_asked(name) {
-        book.see(name, found.stamp, now);
-    }
-}
-
-/// Looks at each file that was not taken up yet.
-fn watch_all(book: &mut OfferBook, files: &[Found], now: u64)
-    ensures { mind_of book.new ≡ mind_of book.old }
-{
-    for found in files {
-        watch(book, found, now);
-    }
-}
-
-/// Takes in what was found among the offers; whether the file that ends the run was.
-fn take_listing<E: Write>(book: &mut OfferBook, mut listing: Listing, now: u64, err: &mut E) -> bool
-    ensures { Follows (mind_of book.old) (mind_of book.new) }
-{
-    listing
-        .files
-        .sort_unstable_by(|a, b| a.name.as_str().cmp(b.name.as_str()));
-    tell_news(listing.news.as_slice(), err);
-    book.note_read(listing.skipped, listing.others, err);
-    book.forget(listing.files.as_slice());
-    watch_all(book, listing.files.as_slice(), now);
-    has_stop(listing.files.as_slice())
-}
-
-/// Looks at what lies among the offers; whether the file that ends the run does.
-fn see_offers<F: Folders, E: Write>(
-    folders: &mut F,
-    book: &mut OfferBook,
-    now: u64,
-    err: &mut E,
-) -> bool
-    ensures { Looks (F.doings folders.old) (F.doings folders.new) (TakesUp (mind_of book.old) (mind_of book.new)) }
-{
-    match folders.list(book.alloc) {
-        Ok(listing) => take_listing(book, listing, now, err),
-        Err(fault) => {
-            book.note_unread(fault, err);
-            false
+    /// Takes in what was found in a turn of a look, at a moment.
+    fn take_listing<E: Write>(&mut self, listing: Listing, now: u64, log: &mut Log<'_, E>)
+        ensures folders { self.new.folders.ghost_name ≡ self.old.folders.ghost_name }
+        ensures same { self.new.folders.now ≡ self.old.folders.now }
+        ensures waits { self.new.papers.now.waits ≡ self.old.papers.now.waits }
+        ensures book { Follows self.old.papers.now.book self.new.papers.now.book }
+    {
+        tell_news(listing.news.as_slice(), log);
+        match self.papers.looking.take(listing, now) {
+            Some(Ok(seen)) => self.take_seen(seen, now, log),
+            Some(Err(_)) => self.papers.told.cannot_list(FolderFault::OutOfMemory, log),
+            None => {}
         }
     }
-}
 
-/// A look at the folders: writes the files that wait, and looks at the offers. Where the file that ends the run lies there, the run is
-/// over.
-pub(crate) fn look<R: Rows, F: Folders, E: Write>(
-    station: &Station<R>,
-    folders: &mut F,
-    waits: &mut Vec<NamedFile>,
-    book: &mut OfferBook,
-    now: u64,
-    err: &mut E,
-)
-    ensures { WritesAndLooks (F.doings folders.old) (F.doings folders.new) waits.old.items waits.new.items (mind_of book.old) (mind_of book.new) }
-{
-    book.pacing.sweep(station);
-    book.write(folders, waits, err);
-    book.is_over = see_offers(folders, book, now, err);
+    /// Goes on with a look at what lies among the offers, or begins one, at a moment.
+    pub(crate) fn look_at_offers<E: Write>(&mut self, now: u64, log: &mut Log<'_, E>)
+        ensures folders { self.new.folders.ghost_name ≡ self.old.folders.ghost_name }
+        ensures waits { self.new.papers.now.waits ≡ self.old.papers.now.waits }
+        ensures deals { Deals Always (F.doings self.old.folders.now) (F.doings self.new.folders.now) self.old.papers.now.waits.items self.old.papers.now.book self.new.papers.now.book }
+    {
+        match self.folders.list(self.alloc, MOST) {
+            Ok(listing) => self.take_listing(listing, now, log),
+            Err(fault) => {
+                self.papers.looking.fail(now);
+                self.papers.told.cannot_list(fault, log);
+            }
+        }
+    }
+
+    /// The same, where it is time for a look.
+    fn look_if_due<E: Write>(&mut self, now: u64, log: &mut Log<'_, E>)
+        ensures folders { self.new.folders.ghost_name ≡ self.old.folders.ghost_name }
+        ensures waits { self.new.papers.now.waits ≡ self.old.papers.now.waits }
+        ensures deals { Deals Always (F.doings self.old.folders.now) (F.doings self.new.folders.now) self.old.papers.now.waits.items self.old.papers.now.book self.new.papers.now.book }
+    {
+        if self.papers.looking.is_due(now) {
+            self.look_at_offers(now, log);
+        }
+    }
+
+    /// A look at the folders, at a moment: writes the files that wait, and looks at the offers where it is time for it. Whether the file that
+    /// ends the run lies there, which is looked for each time.
+    pub(crate) fn look<E: Write>(&mut self, now: u64, log: &mut Log<'_, E>) -> bool
+        ensures folders { self.new.folders.ghost_name ≡ self.old.folders.ghost_name }
+        ensures looks { WritesAndDeals (F.doings self.old.folders.now) (F.doings self.new.folders.now) self.old.papers.now.waits.items self.new.papers.now.waits.items self.old.papers.now.book self.new.papers.now.book }
+    {
+        self.write(log);
+        self.look_if_due(now, log);
+        self.folders.has_stop(self.alloc)
+    }
 }

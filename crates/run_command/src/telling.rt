@@ -5,12 +5,13 @@ ghost use Rattle.run_command.specs.Words.{ballot_text, event_text};
 
 use ballots::Ballot;
 use command_ends::{Fault, RefusalText};
+use driver::Log;
 use folders::{FolderFault, News, shown_name};
+use offers::Reason;
 use station::StepRefusal;
 use std::alloc::Global;
 use std::fmt;
 use std::io::Write;
-use tape_frames::TapeFault;
 
 /// Something that an operator may want to know, with its number.
 #[derive(Clone, Copy)]
@@ -27,6 +28,8 @@ pub(crate) enum Event {
     Sent { number: u32 },
     /// It is not.
     Lost { number: u32 },
+    /// What was read of a file is in place of what its number is under way for, or was.
+    Replaced { number: u32 },
 }
 
 /// A ballot, as `1.2`.
@@ -60,62 +63,49 @@ impl fmt::Display for Event {
             Event::Released { number } => write!(f, "{number} released"),
             Event::Sent { number } => write!(f, "{number} sent"),
             Event::Lost { number } => write!(f, "{number} lost"),
+            Event::Replaced { number } => write!(f, "{number} replaced while it was under way"),
         }
     }
 }
 
-/// Why a file is no offer.
+/// Why a file is no offer, though its name asks for something.
 #[derive(Clone, Copy)]
-pub(crate) enum Reason {
-    /// Its name asks for nothing that there is.
-    Name,
-    /// It holds no tape.
-    Tape(TapeFault),
-    /// The station does not take it.
-    Step(StepRefusal),
-}
+pub(crate) struct ReasonText(pub(crate) Reason);
 
-impl fmt::Display for Reason {
+impl fmt::Display for ReasonText {
     fn fmt<W: fmt::Write>(&self, f: &mut fmt::Formatter<W>) -> fmt::Result {
-        match *self {
-            Reason::Name => f.write_str("no number"),
+        match self.0 {
             Reason::Tape(fault) => write!(f, "{}", Fault::of_tape(fault)),
             Reason::Step(refusal) => write!(f, "{}", RefusalText(refusal)),
         }
     }
 }
 
-/// Writes a line. That the writer fails is ignored.
-pub(crate) fn tell<E: Write>(quiet: bool, event: Event, err: &mut E) {
-    if !quiet {
-        let _ = writeln!(err, "{event}");
+/// Writes a line, unless faults alone are told. That the writer fails is ignored.
+pub(crate) fn tell<E: Write>(event: Event, log: &mut Log<'_, E>) {
+    if !log.quiet {
+        let _ = writeln!(log.err, "{event}");
     }
 }
 
-/// Writes why a file is no offer.
-pub(crate) fn tell_refused<E: Write>(
-    alloc: Global,
-    quiet: bool,
-    name: &str,
-    reason: Reason,
-    err: &mut E,
-) {
-    if quiet {
+/// Writes why a file is no offer, unless faults alone are told.
+pub(crate) fn tell_refused<E: Write>(alloc: Global, name: &str, why: &str, log: &mut Log<'_, E>) {
+    if log.quiet {
         return;
     }
     if let Ok(name) = shown_name(alloc, name) {
-        let _ = writeln!(err, "refused {name}: {reason}");
+        let _ = writeln!(log.err, "refused {name}: {why}");
     }
 }
 
-/// Writes that a station speaks for another circuit.
-pub(crate) fn tell_wrong_circuit<E: Write>(err: &mut E) {
-    let _ = Fault::of_step(StepRefusal::WrongCircuit).tell(err);
+/// Writes the refusal of a datagram that shows that its sender has another configuration.
+pub(crate) fn tell_difference<E: Write>(refusal: StepRefusal, log: &mut Log<'_, E>) {
+    let _ = Fault::of_step(refusal).tell(log.err);
 }
 
 /// Writes what there is to tell of the folders.
-pub(crate) fn tell_folders<E: Write>(what: &str, err: &mut E) {
-    let _ = writeln!(err, "folders: {what}");
+pub(crate) fn tell_folders<E: Write>(what: &str, log: &mut Log<'_, E>) {
+    let _ = writeln!(log.err, "folders: {what}");
 }
 
 /// Writes that a folder does not serve, unless it is the fault that was told last.
@@ -123,27 +113,23 @@ pub(crate) fn tell_fault<E: Write>(
     what: &str,
     fault: FolderFault,
     told: Option<FolderFault>,
-    err: &mut E,
+    log: &mut Log<'_, E>,
 ) {
     if told != Some(fault) {
-        let _ = writeln!(err, "folders: {what}: {fault}");
+        let _ = writeln!(log.err, "folders: {what}: {fault}");
     }
 }
 
-/// Writes that a folder does not serve for a file, unless it is the fault that was told of it last.
+/// Writes that a folder does not serve for a file of this name.
 pub(crate) fn tell_file<E: Write>(
     alloc: Global,
     what: &str,
     name: &str,
     fault: FolderFault,
-    told: Option<FolderFault>,
-    err: &mut E,
+    log: &mut Log<'_, E>,
 ) {
-    if told == Some(fault) {
-        return;
-    }
     if let Ok(name) = shown_name(alloc, name) {
-        let _ = writeln!(err, "folders: {what} {name}: {fault}");
+        let _ = writeln!(log.err, "folders: {what} {name}: {fault}");
     }
 }
 
@@ -157,8 +143,8 @@ fn news_text(news: News) -> &'static str {
 }
 
 /// Writes what befell the folders.
-pub(crate) fn tell_news<E: Write>(news: &[News], err: &mut E) {
+pub(crate) fn tell_news<E: Write>(news: &[News], log: &mut Log<'_, E>) {
     for each in news {
-        tell_folders(news_text(*each), err);
+        tell_folders(news_text(*each), log);
     }
 }

@@ -8,7 +8,7 @@ use configuration::{Config, read_config};
 use folders::NoFolders;
 use host_folders::HostFolders;
 use row_files::{RowFiles, close_rows};
-use run_command::run_station;
+use run_command::{Terms, run_station};
 use saved_rows::Rows;
 use station::Station;
 use station_start::{Host, Started, ThisHost, start};
@@ -25,9 +25,14 @@ fn run_over<R: Rows, N: Wire, E: Write>(
     quiet: bool,
     err: &mut E,
 ) -> End {
+    let terms = Terms {
+        alloc: rt.alloc(),
+        quiet,
+        err,
+    };
     match folders {
-        Some(folders) => run_station(rt.alloc(), station, wire, folders, quiet, err),
-        None => run_station(rt.alloc(), station, wire, &mut NoFolders, quiet, err),
+        Some(folders) => run_station(station, wire, folders, terms),
+        None => run_station(station, wire, &mut NoFolders, terms),
     }
 }
 

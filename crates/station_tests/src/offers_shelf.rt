@@ -216,11 +216,12 @@ impl Shelf {
     }
 }
 
-/// The place of the first event of a story after which something is not as it has to be; how many events there are where there is none.
-pub fn first_fault(alloc: Global, story: &[Event]) -> usize {
+/// The place of the first event of a story after which something is not as it has to be; how many events there are where there is none. Files come only by
+/// being renamed, or not only so.
+pub fn first_fault(alloc: Global, renamed: bool, story: &[Event]) -> usize {
     let mut shelf = Shelf {
         alloc,
-        book: Book::new(alloc),
+        book: Book::over(alloc, renamed),
         found: Vec::new(alloc),
     };
     for (place, event) in story.iter().enumerate() {

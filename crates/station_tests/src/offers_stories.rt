@@ -8,29 +8,29 @@ use crate::offers_shelf::Told::{Ask, Lost, Nothing, Read, ReadAnew, Refuse, Sent
 use crate::offers_shelf::{Event, first_fault};
 use folders::Kind::{Seek, Tape, Withdraw};
 
-/// A file is read once two looks, a second apart, found it as it is; one that is changed is watched anew, also where it waits; one that
+/// A file is read once two looks, half a second apart, found it as it is; one that is changed is watched anew, also where it waits; one that
 /// could not be read is read a minute later; one that is taken away is forgotten.
 const QUIET: &[Event] = &[
     Lay(12, Withdraw),
     Look(0),
     Next(Nothing, 0),
-    Look(999),
+    Look(499),
     Next(Nothing, 0),
-    Look(1000),
+    Look(500),
     Next(Read, 12),
     Next(Nothing, 0),
     Change(0, 7),
     Look(1250),
     Next(Nothing, 0),
-    Look(2249),
+    Look(1749),
     Next(Nothing, 0),
-    Look(2250),
+    Look(1750),
     Next(Read, 12),
     Holds(12, Withdraw),
     Change(0, 8),
     Look(2500),
     Next(Nothing, 0),
-    Look(3500),
+    Look(3000),
     Next(Read, 12),
     CouldNot(12, Withdraw, 3500),
     Look(63_499),
@@ -278,6 +278,21 @@ const NO_OFFERS: &[Event] = &[
     Next(Refuse, 6),
 ];
 
+/// Where files come only by being renamed: one look is enough, also for one that is put in place of another.
+const RENAMED: &[Event] = &[
+    Lay(12, Tape),
+    Look(100),
+    Next(Read, 12),
+    Holds(12, Tape),
+    Next(Ask, 12),
+    Change(0, 9),
+    Look(200),
+    Next(Nothing, 0),
+    Ended(12, 250, true),
+    Look(300),
+    Next(ReadAnew, 12),
+];
+
 /// The stories.
 const STORIES: &[&[Event]] = &[
     QUIET,
@@ -292,6 +307,7 @@ const STORIES: &[&[Event]] = &[
 #[test]
 fn files_come_and_go_by_the_rules(rt: HostRuntime) {
     for story in STORIES {
-        assert_eq!(rt; first_fault(rt.alloc(), *story), story.len());
+        assert_eq!(rt; first_fault(rt.alloc(), false, *story), story.len());
     }
+    assert_eq!(rt; first_fault(rt.alloc(), true, RENAMED), RENAMED.len());
 }

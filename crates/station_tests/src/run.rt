@@ -7,6 +7,7 @@ mod offering;
 mod order;
 mod plant;
 mod refusing;
+mod replaced;
 mod stage;
 mod waiting;
 mod wires;

@@ -155,7 +155,7 @@ fn are_put<F: Folders>(rt: &HostRuntime, folders: &mut F, papers: &[Paper]) -> b
 
 /// Whether what is put stands there in the end, after a look, and no more is left under other names.
 fn is_released<F: Folders>(rt: &HostRuntime, folders: &mut F, release: &Release) -> bool {
-    folders.list(rt.alloc()).is_ok()
+    folders.list(rt.alloc(), MOST).is_ok()
         && are_put(rt, folders, release.put)
         && release.stands.iter().all(|paper| stands(rt, *paper))
         && count(rt, RELEASES).saturating_sub(release.stands.len()) == release.left
@@ -185,7 +185,7 @@ fn replace_releases(rt: &HostRuntime) -> bool {
 /// Whether a release is the file that was written where the folder is replaced by a copy of itself after a look, and nothing of the copy's is
 /// left under another name.
 fn is_the_file_written<F: Folders>(rt: &HostRuntime, folders: &mut F) -> bool {
-    folders.list(rt.alloc()).is_ok()
+    folders.list(rt.alloc(), MOST).is_ok()
         && count(rt, RELEASES) == 2
         && replace_releases(rt)
         && are_put(rt, folders, &[Paper::Tape, Paper::Galley])
@@ -194,9 +194,12 @@ fn is_the_file_written<F: Folders>(rt: &HostRuntime, folders: &mut F) -> bool {
         && count(rt, RELEASES) == 2
 }
 
+/// More names than lie in a folder here.
+const MOST: usize = 64;
+
 /// The stamp of the offer, where it alone is listed: folders are not.
 fn listed<F: Folders>(rt: &HostRuntime, folders: &mut F) -> Option<Stamp> {
-    let listing = folders.list(rt.alloc()).ok()?;
+    let listing = folders.list(rt.alloc(), MOST).ok()?;
     let found = listing.files.first()?;
     let is_alone = listing.files.len() == 1 && listing.others.is_empty();
     (is_alone && found.name.as_str() == TAPE).then_some(found.stamp)
@@ -264,6 +267,63 @@ fn keeps_all<F: Folders>(rt: &HostRuntime, folders: &mut F) -> bool {
         && count(rt, "circuitd_folders/offers/lost") == 5
 }
 
+/// A name that is so long that the text beside its file can't have one.
+const LONG_NAME: &str = "\
+aaaaaaaaaaaaaaaaaaaaaaaaaaaaaaaaaaaaaaaaaaaaaaaaaaaaaaaaaaaaaaaaaaaaaaaaaaaaaaaaaaaa\
+aaaaaaaaaaaaaaaaaaaaaaaaaaaaaaaaaaaaaaaaaaaaaaaaaaaaaaaaaaaaaaaaaaaaaaaaaaaaaaaaaaaa\
+aaaaaaaaaaaaaaaaaaaaaaaaaaaaaaaaaaaaaaaaaaaaaaaaaaaaaaaaaaaaaaaaaaaaaaaaaaaaaaaaaaaa";
+
+/// Whether a file beside which no text can be written stays where it is.
+fn stays_without_its_text<F: Folders>(rt: &HostRuntime, folders: &mut F) -> bool {
+    let Ok(path) = format!(in rt.alloc(); "{OFFERS}/{LONG_NAME}") else {
+        return false;
+    };
+    if fs::write(rt, path.as_str(), b"long").is_err() {
+        return false;
+    }
+    let Ok(listing) = folders.list(rt.alloc(), MOST) else {
+        return false;
+    };
+    let Some(found) = listing.files.iter().find(|found| found.stamp.length == 4) else {
+        return false;
+    };
+    let leaving = Leaving {
+        name: LONG_NAME,
+        stamp: found.stamp,
+        to: Place::Refused,
+    };
+    matches!(
+        folders.set_aside(rt.alloc(), leaving, Some("no number\n")),
+        Err(FolderFault::NameTooLong)
+    ) && holds(rt, path.as_str(), b"long")
+        && fs::remove_file(rt, path.as_str()).is_ok()
+}
+
+/// How many names a look finds that takes one name in each turn, and how many turns it takes; nothing where it fails.
+fn in_turns<F: Folders>(rt: &HostRuntime, folders: &mut F) -> Option<(usize, usize)> {
+    let mut found: usize = 0;
+    for turn in 1..9 {
+        let listing = folders.list(rt.alloc(), 1).ok()?;
+        found = found.saturating_add(listing.files.len());
+        if listing.is_end {
+            return Some((found, turn));
+        }
+    }
+    None
+}
+
+/// Whether a look goes on where it left off, and the next begins anew; and `stop` is found by its name meanwhile.
+fn looks_in_turns<F: Folders>(rt: &HostRuntime, folders: &mut F) -> bool {
+    let stop = "circuitd_folders/offers/stop";
+    laid(rt, folders, b"one").is_some()
+        && !folders.has_stop(rt.alloc())
+        && fs::write(rt, stop, b"").is_ok()
+        && in_turns(rt, folders) == Some((2, 3))
+        && in_turns(rt, folders) == Some((2, 3))
+        && folders.has_stop(rt.alloc())
+        && fs::remove_file(rt, stop).is_ok()
+}
+
 /// Whether the file of this stamp holds these bytes, where that is at most so many; nothing where it is not read.
 fn reads<F: Folders>(rt: &HostRuntime, folders: &mut F, stamp: Stamp, most: usize) -> Option<bool> {
     let held = folders.read(rt.alloc(), TAPE, stamp, most).ok()?;
@@ -297,6 +357,8 @@ enum Task<'a> {
     Replaced,
     /// Offers are set aside, and read.
     Offers,
+    /// They are looked at over several turns.
+    Turns,
     /// Nothing.
     Nothing,
 }
@@ -307,8 +369,12 @@ fn goes<F: Folders>(rt: &HostRuntime, folders: &mut F, task: Task<'_>) -> bool {
         Task::Release(release) => is_released(rt, folders, release),
         Task::Replaced => is_the_file_written(rt, folders),
         Task::Offers => {
-            keeps_all(rt, folders) && stays_where_replaced(rt, folders) && is_read(rt, folders)
+            stays_without_its_text(rt, folders)
+                && keeps_all(rt, folders)
+                && stays_where_replaced(rt, folders)
+                && is_read(rt, folders)
         }
+        Task::Turns => looks_in_turns(rt, folders),
         Task::Nothing => true,
     }
 }
@@ -423,6 +489,7 @@ fn folders_of_the_host(rt: HostRuntime) {
     assert_eq!(rt; first_amiss(&rt), None);
     assert!(rt; lay_out(&rt) && goes_on_host(&rt, Task::Replaced));
     assert!(rt; lay_out(&rt) && goes_on_host(&rt, Task::Offers));
+    assert!(rt; lay_out(&rt) && goes_on_host(&rt, Task::Turns));
     assert_eq!(rt; first_misjudged(&rt), None);
     assert!(rt; are_held_alone(&rt));
     assert!(rt; settles_leftovers(&rt));

@@ -1,6 +1,6 @@
 //! Many files at once, and much traffic: nothing is lost, few are under way, and a look comes whatever waits.
 
-use crate::run::plant::{RUN, Run, count_filed, station_of};
+use crate::run::plant::{RUN, Run, count_filed, station_of, terms};
 use crate::run::stage::Held::{Flood, Nothing};
 use crate::run::stage::Name::{Seek12, Stop, Tape12};
 use crate::run::stage::What::{Burst, Laid};
@@ -66,7 +66,12 @@ fn three(alloc: Global, acts: &'static [Act], slowness: u32) -> Option<Came> {
     let mut wire = Threesome::new(alloc, slowness)?;
     let mut stage = Stage::new(alloc, acts);
     let mut err = Vec::new(alloc);
-    let end = run_station(alloc, &mut station, &mut wire, &mut stage, false, &mut err);
+    let end = run_station(
+        &mut station,
+        &mut wire,
+        &mut stage,
+        terms(alloc, false, &mut err),
+    );
     Some(Came {
         end,
         err,
@@ -138,17 +143,21 @@ fn unanswered(alloc: Global) -> Option<Vec<u8>> {
     };
     let mut stage = Stage::new(alloc, &[Act(1, Burst(17))]);
     let mut err = Vec::new(alloc);
-    let _ = run_station(alloc, &mut station, &mut wire, &mut stage, false, &mut err);
+    let _ = run_station(
+        &mut station,
+        &mut wire,
+        &mut stage,
+        terms(alloc, false, &mut err),
+    );
     Some(err)
 }
 
-/// How many numbers are begun before the first is given up, and how many are given up before the last in the order of the names is
-/// begun.
+/// How many numbers are begun before the first is given up, and how many are given up before the last is begun.
 fn under_way(alloc: Global) -> Option<(usize, usize)> {
     let err = unanswered(alloc)?;
     let (mut began, mut given_up, mut first): (usize, usize, usize) = (0, 0, 0);
     for line in str::from_utf8(&err).ok()?.lines() {
-        if line == "9 began 1.1" {
+        if line == "17 began 1.1" {
             return Some((first, given_up));
         }
         if line.ends_with(" began 1.1") {
@@ -177,7 +186,12 @@ fn hears(alloc: Global) -> Option<bool> {
     };
     let mut stage = Stage::new(alloc, &[Act(3, Laid(Stop, Nothing))]);
     let mut err = Vec::new(alloc);
-    let end = run_station(alloc, &mut station, &mut wire, &mut stage, false, &mut err);
+    let end = run_station(
+        &mut station,
+        &mut wire,
+        &mut stage,
+        terms(alloc, false, &mut err),
+    );
     let told = err.as_slice() == "socket: 7 datagrams found no place in memory\n".as_bytes();
     Some(end == End::Done && told && wire.left > 3_000)
 }

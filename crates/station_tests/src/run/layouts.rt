@@ -1,5 +1,6 @@
 //! A station over layout 1 that hears layout 2.
 
+use crate::run::plant::terms;
 use crate::stations::{rows_with, station_over};
 use ballots::Member;
 use command_ends::End;
@@ -50,12 +51,10 @@ fn told(alloc: Global, count: u32) -> Option<Vec<u8>> {
     };
     let mut err = Vec::new(alloc);
     let end = run_station(
-        alloc,
         &mut station,
         &mut wire,
         &mut NoFolders,
-        true,
-        &mut err,
+        terms(alloc, true, &mut err),
     );
     (end == End::Socket).then_some(err)
 }

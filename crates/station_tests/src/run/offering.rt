@@ -1,12 +1,12 @@
 //! Stories, withdrawals and searches among the offers, and where they are put.
 
 use crate::run::plant::{RUN, Run, Saved, is_true};
-use crate::run::stage::Held::{Flood, Harvest, Nothing, Why};
+use crate::run::stage::Held::{Flood, Harvest, Nothing, Start, Why};
 use crate::run::stage::Name::{Seek12, Stop, Tape12, Withdraw14};
-use crate::run::stage::What::{Laid, LaidAt};
+use crate::run::stage::What::{Laid, LaidAt, Left};
 use crate::run::stage::{Act, Call};
 
-/// An offer is released and sent; quietly, too.
+/// An offer is released and sent; quietly, and beside so many files that a look takes two turns, too.
 const LOUD: Run = Run {
     acts: &[Act(1, Laid(Tape12, Flood)), Act(20, Laid(Stop, Nothing))],
     folders: "wrote 12.tape 7\nwrote 12.galley 25\nsent 12.tape\n",
@@ -19,6 +19,14 @@ const SENT: &[Run] = &[
     Run {
         quiet: true,
         err: "",
+        ..LOUD
+    },
+    Run {
+        acts: &[
+            Act(1, Left(600)),
+            Act(1, Laid(Tape12, Flood)),
+            Act(30, Laid(Stop, Nothing)),
+        ],
         ..LOUD
     },
 ];
@@ -61,12 +69,23 @@ fn lost(rt: HostRuntime) {
     }
 }
 
-/// A story that is written anew just before it is read, or moved, is neither: it is found anew, and then as it is.
+/// A story that is written anew just before it is read, while it is, or just before it is moved, is neither read nor moved: it is found anew,
+/// and then as it is.
 const CHANGED: &[Run] = &[
     Run {
         acts: &[
             Act(1, Laid(Tape12, Harvest)),
             Act(1, LaidAt(Call::Read, Tape12, Flood)),
+            Act(20, Laid(Stop, Nothing)),
+        ],
+        ..LOUD
+    },
+    // It is half of a story as it is read.
+    Run {
+        acts: &[
+            Act(1, Laid(Tape12, Harvest)),
+            Act(1, LaidAt(Call::WithinRead, Tape12, Start(3))),
+            Act(5, Laid(Tape12, Flood)),
             Act(20, Laid(Stop, Nothing)),
         ],
         ..LOUD

@@ -1,7 +1,7 @@
 //! In which order a run does what it does with its folders.
 
-use crate::run::plant::place_word;
-use crate::run::stage::Held::{Flood, Nothing};
+use crate::run::plant::{place_word, terms};
+use crate::run::stage::Held::{Flood, Harvest, Nothing};
 use crate::run::stage::Name::{Stop, Tape12};
 use crate::run::stage::What::Laid;
 use crate::run::stage::{Act as Happens, Stage};
@@ -20,13 +20,15 @@ fn put_act(act: &Act, text: &mut Vec<u8>) -> bool {
         Act::Saw(_) => return true,
         Act::Read(named) => ("read", named.name()),
         Act::Wrote(named) => ("wrote", named.name()),
+        Act::Noted(noted) => ("noted", noted.name.as_str()),
         Act::SetAside(name, to) => (place_word(*to), name.as_str()),
         Act::TakenAway(name) => ("gone", name.as_str()),
     };
     writeln!(text, "{word} {name}").is_ok()
 }
 
-/// What was done with the folders of a plant in a run of a circuit of one, in which a tape is laid there, and then `stop`.
+/// What was done with the folders of a plant in a run of a circuit of one, in which a tape is laid there, then
+/// another one of its number, and then `stop`.
 fn done(alloc: Global) -> Option<Vec<u8>> {
     let rows = rows_with(alloc, Version::Two, None)?;
     let mut station = station_over(alloc, 1, 1, rows)?;
@@ -34,6 +36,7 @@ fn done(alloc: Global) -> Option<Vec<u8>> {
         alloc,
         &[
             Happens(1, Laid(Tape12, Flood)),
+            Happens(10, Laid(Tape12, Harvest)),
             Happens(20, Laid(Stop, Nothing)),
         ],
     );
@@ -43,7 +46,13 @@ fn done(alloc: Global) -> Option<Vec<u8>> {
         until: 15_000,
     };
     let mut err = Vec::new(alloc);
-    if run_station(alloc, &mut station, &mut wire, &mut stage, true, &mut err) != End::Done {
+    if run_station(
+        &mut station,
+        &mut wire,
+        &mut stage,
+        terms(alloc, true, &mut err),
+    ) != End::Done
+    {
         return None;
     }
     let mut text = Vec::new(alloc);
@@ -55,8 +64,10 @@ fn done(alloc: Global) -> Option<Vec<u8>> {
     Some(text)
 }
 
-/// The tape leaves the offers behind both files of its release.
-const ORDER: &str = "read 12.tape\nwrote 12.tape\nwrote 12.galley\nsent 12.tape\n";
+/// The tape leaves the offers behind both files of its release, and the other one behind the text beside it.
+const ORDER: &str = "\
+read 12.tape\nwrote 12.tape\nwrote 12.galley\nsent 12.tape\n\
+read 12.tape\nnoted 12.tape.txt\nlost 12.tape\n";
 
 #[test]
 fn order(rt: HostRuntime) {

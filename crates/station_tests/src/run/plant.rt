@@ -7,7 +7,7 @@ use ballots::{Number, Row, Vote};
 use command_ends::End;
 use fixtures::FLOOD;
 use folders::{Act as Doing, MemoryFolders, Place};
-use run_command::run_station;
+use run_command::{Terms, run_station};
 use saved_rows::{MemoryRows, Rows};
 use station::Station;
 use std::alloc::Global;
@@ -118,6 +118,18 @@ fn write_moved(act: &Doing, text: &mut Vec<u8>) -> bool {
     writeln!(text, "{place} {name}").is_ok()
 }
 
+/// The same for a text that was written beside a file.
+fn write_noted(act: &Doing, text: &mut Vec<u8>) -> bool {
+    match act {
+        Doing::Noted(noted) => {
+            let (place, name) = (place_word(noted.to), noted.name.as_str());
+            let line = noted.text.as_str();
+            write!(text, "{place} {name}: {line}").is_ok()
+        }
+        _ => true,
+    }
+}
+
 /// Writes what folders hold; whether there was memory for it.
 fn write_folders(folders: &MemoryFolders, text: &mut Vec<u8>) -> bool {
     let mut is_whole = true;
@@ -127,10 +139,8 @@ fn write_folders(folders: &MemoryFolders, text: &mut Vec<u8>) -> bool {
     for act in folders.acts() {
         is_whole &= write_moved(act, text);
     }
-    for noted in folders.noted() {
-        let (place, name) = (place_word(noted.to), noted.name.as_str());
-        let line = noted.text.as_str();
-        is_whole &= write!(text, "{place} {name}: {line}").is_ok();
+    for act in folders.acts() {
+        is_whole &= write_noted(act, text);
     }
     is_whole
 }
@@ -139,6 +149,11 @@ fn write_folders(folders: &MemoryFolders, text: &mut Vec<u8>) -> bool {
 fn holds(alloc: Global, folders: &MemoryFolders, expected: &str) -> bool {
     let mut text = Vec::new(alloc);
     write_folders(folders, &mut text) && text.as_slice() == expected.as_bytes()
+}
+
+/// The terms of a run that tells this writer.
+pub fn terms(alloc: Global, quiet: bool, err: &mut Vec<u8>) -> Terms<'_, Vec<u8>> {
+    Terms { alloc, quiet, err }
 }
 
 /// Whether a run ends and tells as it has to.
@@ -152,7 +167,12 @@ fn ends(alloc: Global, stage: &mut Stage, run: &Run) -> bool {
         until: run.quarters.saturating_mul(250),
     };
     let mut err = Vec::new(alloc);
-    let end = run_station(alloc, &mut station, &mut wire, stage, run.quiet, &mut err);
+    let end = run_station(
+        &mut station,
+        &mut wire,
+        stage,
+        terms(alloc, run.quiet, &mut err),
+    );
     end == run.end && err.as_slice() == run.err.as_bytes()
 }
 

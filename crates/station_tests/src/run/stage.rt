@@ -13,6 +13,7 @@ pub enum Name {
     Tape13,
     Tape14,
     Seek12,
+    Seek14,
     Withdraw14,
     Stop,
     /// Names of no number: with a zero in front, with none, above the last.
@@ -32,6 +33,7 @@ fn text_of(name: Name) -> &'static str {
         Name::Tape13 => "13.tape",
         Name::Tape14 => "14.tape",
         Name::Seek12 => "12.seek",
+        Name::Seek14 => "14.seek",
         Name::Withdraw14 => "14.withdraw",
         Name::Stop => "stop",
         Name::ZeroTape => "012.tape",
@@ -76,10 +78,11 @@ fn bytes_of(held: Held) -> &'static [u8] {
     }
 }
 
-/// A call of the folders.
+/// A call of the folders; or, within one that reads, what comes between its first look at the file and the reading.
 #[derive(Clone, Copy, PartialEq, Eq)]
 pub enum Call {
     Read,
+    WithinRead,
     SetAside,
 }
 
@@ -90,8 +93,14 @@ pub enum What {
     Laid(Name, Held),
     /// The same, just before the next such call.
     LaidAt(Call, Name, Held),
+    /// A file is taken from the offers.
+    Taken(Name),
     /// The flood story is laid among the offers for each of so many numbers, from 1 on.
     Burst(u32),
+    /// So many files are laid among the offers whose names ask for nothing.
+    Strays(u32),
+    /// The same of files that are left alone.
+    Left(u32),
     /// The folder of releases is full, or no longer.
     Full(bool),
     /// Nothing can be set aside, or it can again.
@@ -141,28 +150,54 @@ impl Stage {
         Ok(())
     }
 
+    /// Lays so many files whose names ask for nothing, with this end.
+    fn lay_strays(&mut self, alloc: Global, count: u32, end: &str) -> Result<(), AllocError> {
+        for number in 0..count {
+            let name = format!(in alloc; "story{number}{end}")?;
+            self.folders.lay(alloc, &name, FLOOD, 0)?;
+        }
+        Ok(())
+    }
+
     fn lay(&mut self, alloc: Global, name: Name, held: Held) -> Result<(), AllocError> {
         let changed = i64::try_from(self.looks).unwrap_or(i64::MAX);
         self.folders
             .lay(alloc, text_of(name), bytes_of(held), changed)
     }
 
-    /// Lays what is laid before this call.
+    /// The same within the next call that reads.
+    fn lay_within(&mut self, alloc: Global, name: Name, held: Held) -> Result<(), AllocError> {
+        let changed = i64::try_from(self.looks).unwrap_or(i64::MAX);
+        self.folders
+            .lay_within_read(alloc, text_of(name), bytes_of(held), changed)
+    }
+
+    /// Lays what is laid before this call, or within it.
     fn lay_before(&mut self, alloc: Global, call: Call) -> Result<(), AllocError> {
         let laid = self.next;
         let Some((next, name, held)) = laid else {
             return Ok(());
         };
-        if next != call {
-            return Ok(());
+        if next == call {
+            self.next = None;
+            return self.lay(alloc, name, held);
         }
-        self.next = None;
-        self.lay(alloc, name, held)
+        if next == Call::WithinRead && call == Call::Read {
+            self.next = None;
+            return self.lay_within(alloc, name, held);
+        }
+        Ok(())
     }
 
     fn act(&mut self, alloc: Global, what: What) -> Result<(), AllocError> {
         match what {
             What::Burst(last) => self.lay_all(alloc, last),
+            What::Strays(count) => self.lay_strays(alloc, count, ""),
+            What::Left(count) => self.lay_strays(alloc, count, ".part"),
+            What::Taken(name) => {
+                let _ = self.folders.remove(alloc, text_of(name));
+                Ok(())
+            }
             What::Laid(name, held) => self.lay(alloc, name, held),
             What::LaidAt(call, name, held) => {
                 self.next = Some((call, name, held));
@@ -204,12 +239,14 @@ impl Stage {
 const FIFO: &str = "a\nfifo";
 
 impl Folders for Stage {
-    fn list(&mut self, alloc: Global) -> Result<Listing, FolderFault> {
+    /// A look takes so long that the next comes a quarter of a second later.
+    fn list(&mut self, alloc: Global, most: usize) -> Result<Listing, FolderFault> {
         self.pass(alloc)?;
         if self.is_unread {
             return Err(FolderFault::NotAllowed);
         }
-        let mut listing = self.folders.list(alloc)?;
+        let mut listing = self.folders.list(alloc, most)?;
+        listing.took = 2;
         if self.has_fifo {
             let fifo = PassedOver {
                 name: String::from_str(alloc, FIFO)?,
@@ -220,6 +257,10 @@ impl Folders for Stage {
             }
         }
         Ok(listing)
+    }
+
+    fn has_stop(&mut self, alloc: Global) -> bool {
+        self.folders.has_stop(alloc)
     }
 
     fn read(

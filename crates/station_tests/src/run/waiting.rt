@@ -7,24 +7,24 @@ use crate::run::stage::Name::{Seek12, Stop, Tape12};
 use crate::run::stage::What::{Fifo, Full, Laid, Stuck, Unread};
 use command_ends::End;
 
-/// A file that grows is not taken before it stood still for a second.
+/// A file that grows is not taken before it stood still for half a second.
 const GROWING: &[Run] = &[
     Run {
         acts: &[
             Act(1, Laid(Tape12, Start(1))),
-            Act(4, Laid(Tape12, Start(2))),
-            Act(7, Laid(Tape12, Start(3))),
-            Act(10, Laid(Tape12, Flood)),
-            Act(13, Laid(Stop, Nothing)),
+            Act(2, Laid(Tape12, Start(2))),
+            Act(3, Laid(Tape12, Start(3))),
+            Act(4, Laid(Tape12, Flood)),
+            Act(5, Laid(Stop, Nothing)),
         ],
         ..RUN
     },
     Run {
         acts: &[
             Act(1, Laid(Tape12, Start(1))),
-            Act(4, Laid(Tape12, Start(2))),
-            Act(7, Laid(Tape12, Flood)),
-            Act(12, Laid(Stop, Nothing)),
+            Act(2, Laid(Tape12, Start(2))),
+            Act(3, Laid(Tape12, Flood)),
+            Act(8, Laid(Stop, Nothing)),
         ],
         folders: "wrote 12.tape 7\nwrote 12.galley 25\nsent 12.tape\n",
         err: "12 released\n12 sent\n",
@@ -134,7 +134,7 @@ fn written_anew(rt: HostRuntime) {
 const ALONE: Run = Run {
     members: 3,
     acts: &[Act(1, Laid(Seek12, Nothing))],
-    quarters: 7,
+    quarters: 5,
     end: End::Socket,
     err: "12 began 1.1\n12 began 2.1\nsocket: receive failed\n",
     ..RUN
@@ -149,7 +149,7 @@ fn alone(rt: HostRuntime) {
 const GIVEN_UP: Run = Run {
     members: 3,
     acts: &[Act(1, Laid(Seek12, Nothing))],
-    quarters: 49,
+    quarters: 47,
     end: End::Socket,
     err: "\
 12 began 1.1\n12 began 2.1\n12 began 3.1\n12 began 4.1\n12 began 5.1\n12 began 6.1\n\

@@ -3,7 +3,7 @@
 use crate::serve::wires::{Manner, Scripted};
 use crate::stations::{rows_with, station_over};
 use ballots::Number;
-use command_ends::Fault;
+use command_ends::{End, Fault};
 use driver::{Call, Denied, Desk, Driver, Log, Sink, Step, Tasks};
 use exchange::Intake;
 use folders::{Kind, Request};
@@ -108,7 +108,7 @@ fn counts(alloc: Global) -> Option<(usize, usize)> {
     let mut told = Vec::new(alloc);
     let mut log = Log::new(&mut told, false);
     let mut driver = Driver::new(&mut station, &mut wire, desk, &mut intake);
-    if driver.run(&mut log).is_err() {
+    if driver.run(&mut log) != End::Done {
         return None;
     }
     let desk = driver.sink();

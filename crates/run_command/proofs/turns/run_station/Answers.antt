@@ -1,32 +1,49 @@
--- The run from its start on.
-use Rattle.std.proofs.Common.{rules, ◌≡◌, false, ◌∙◌, refl, inl}
-use Rattle.command_ends.specs.Ends.{end_of}
+-- What lies there at the start is taken away, and then the station is driven until the run is over.
+use Rattle.std.proofs.Common.{rules, ◌≡◌, ◌∙◌, [], codes, inl, refl}
 use Rattle.command_ends.specs.declared.end.End.TheVariants as ends
-use Rattle.run_command.specs.Running.{known, plant}
-use Rattle.run_command.proofs.Run.{idle, ended_so, stays}
+use Rattle.folders.specs.Doings.{removed_file}
+use Rattle.driver.specs.Driving.{known, post, post_of, Anyhow}
+use Rattle.driver.proofs.Driven.{answered, came_from, left_so, seen_from}
+use Rattle.run_command.specs.Living.{kept, kept_of}
+use Rattle.run_command.specs.Running.{tells}
+use Rattle.run_command.specs.Working.{Deals, Always}
+use Rattle.run_command.specs.Lives.{begun}
+use Rattle.run_command.proofs.Lives.{idle, tells_start}
+use Rattle.run_command.proofs.Looking.{deals_looked, follows_same, looks_may}
 use Rattle.run_command.proofs.turns.run_station.Goals as goal
 
 pub returns-then-stopped-clause-runs : goal.returns-then-stopped-clause-runs
 returns-then-stopped-clause-runs g c =
-    let k = known g.R.Rows g.N.Wire.passed g.F.Folders.doings in
-    let old = plant c.args.station.now c.args.wire.now c.args.folders.now in
-    ended_so k old old ends.Input c.tell.result (c.tell.ensures.end ∙ c.of_step.ensures) (idle k c.args.station.now c.args.wire.now c.args.folders.now ends.Input refl)
+    let k = known g.R.Rows g.N.Wire.passed (tells g.F.Folders.doings) in
+    let old = post c.args.station.now c.args.wire.now c.args.folders.now in
+    answered k old old ends.Input c.tell.result Anyhow (c.tell.ensures.end ∙ c.of_step.ensures)
+    (idle g.R.Rows g.N.Wire.passed g.F.Folders.doings c.args.station.now c.args.wire.now c.args.folders.now ends.Input refl)
 
 pub returns-in_default-clause-runs : goal.returns-in_default-clause-runs
 returns-in_default-clause-runs g c =
-    let k = known g.R.Rows g.N.Wire.passed g.F.Folders.doings in
-    let old = plant c.args.station.now c.args.wire.now c.args.folders.now in
-    ended_so k old old ends.Memory c.tell-in_default.result c.tell-in_default.ensures.end (idle k c.args.station.now c.args.wire.now c.args.folders.now ends.Memory (inl refl))
-
-pub returns-in-Ok-start-clause-goes_on : goal.returns-in-Ok-start-clause-goes_on
-returns-in-Ok-start-clause-goes_on g c = λ done.
-    let k = known g.R.Rows g.N.Wire.passed g.F.Folders.doings in
-    let going : c.args.station.now.stopped ≡ false = search rules in
-    stays k (plant c.args.station.now c.args.wire.now c.args.folders.now) (plant c.start.new.station c.start.new.wire c.start.new.folders) ends.Done refl c.in-Ok-start.ensures.runs ∙ going
+    let k = known g.R.Rows g.N.Wire.passed (tells g.F.Folders.doings) in
+    let old = post c.args.station.now c.args.wire.now c.args.folders.now in
+    answered k old old ends.Memory c.tell-in_default.result Anyhow c.tell-in_default.ensures.end
+    (idle g.R.Rows g.N.Wire.passed g.F.Folders.doings c.args.station.now c.args.wire.now c.args.folders.now ends.Memory (inl refl))
 
 pub returns-clause-runs : goal.returns-clause-runs
 returns-clause-runs g c =
-    let k = known g.R.Rows g.N.Wire.passed g.F.Folders.doings in
-    let old = plant c.args.station.now c.args.wire.now c.args.folders.now in
-    let new = plant c.start.new.station c.start.new.wire c.start.new.folders in
-    ended_so k old new (end_of c.in-Err.fault) c.tell-in-Err.result c.tell-in-Err.ensures.end c.in-Err.ensures.runs
+    let doings = g.F.Folders.doings in
+    let last = c.run.new.self in
+    let f = c.args.folders.now in
+    let mid = c.remove_stop.new.folders in
+    let h = last.sink.plant.folders.now in
+    let q = c.new-papers.result.waits.items in
+    let r = last.sink.plant.papers.now.waits.items in
+    let m = c.new-papers.result.book in
+    let n = last.sink.plant.papers.now.book in
+    let none : q ≡ [] = c.new-papers.ensures.waits in
+    let stop = removed_file (codes "stop") in
+    let gone : Deals Always (doings f) (doings mid) q m m =
+    deals_looked Always (doings f) (doings mid) q (λ doings. Unit {0}) m m (looks_may (doings f) (doings mid) stop refl c.remove_stop.ensures) (follows_same m m refl) in
+    let came = came_from _ _ (post_of last) _ _ _ c.run.result Anyhow c.new-driver.ensures.is c.run.ensures.drove in
+    let same : last.sink.plant.folders.ghost_name ≡ _ = came.1.0 in
+    let seen = seen_from _ (tells doings) _ (post_of last) _ _ _ c.run.result Anyhow f h c.new-driver.ensures.is c.run.ensures.drove
+    (λ log p. tells_start doings f mid h q r m n log (kept mid q m) none c.new-papers.ensures.book gone refl p.1)
+    (λ log p. tells_start doings f mid h q r m n log (kept mid q m) none c.new-papers.ensures.book gone refl (begun doings (kept mid q m) (kept_of last.sink.plant) log p.1)) in
+    left_so _ _ last.station.now _ last.wire.now _ h _ c.run.result Anyhow (search rules) (search rules) (search rules) seen

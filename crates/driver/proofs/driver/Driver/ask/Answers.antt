@@ -1,5 +1,5 @@
 -- The clock was asked, and then the station, in one step.
-use Rattle.std.proofs.Common.{◌≡◌, Ok, Err, refl}
+use Rattle.std.proofs.Common.{◌≡◌, refl}
 use Rattle.exchange.specs.Events.{ended}
 use Rattle.exchange.proofs.Stretches.{ends_badly}
 use Rattle.driver.specs.Calls.{call_of, IsAsked}

@@ -3,7 +3,7 @@ use Rattle.offers.proofs.Doing.{may_other, all_other}
 use Rattle.offers.proofs.book.Book.other_at.Goals as goal
 
 pub returns-clause-some : goal.returns-clause-some
-returns-clause-some c = rw (sym c.self.view_is) (may_other _ c.args.index c.index-offer.result.now c.other.result (rw (sym c.self.view_is) at c.requires) c.index-offer.ensures (rw (c.is_under_way-flies.ensures, c.numbers.ensures) at c.other.ensures.some))
+returns-clause-some c = rw (sym c.self.view_is) (may_other _ c.args.index c.index.result.now c.other.result (rw (sym c.self.view_is) at c.requires) c.index.ensures c.other.ensures.some)
 
 pub returns-clause-kind : goal.returns-clause-kind
-returns-clause-kind c = all_other _ _ _ c.other.result c.other.ensures.some
+returns-clause-kind c = all_other _ _ _ _ c.other.result c.other.ensures.some

@@ -1,11 +1,29 @@
-use Rattle.offers.proofs.Looking.{found_rises}
+use Rattle.std.proofs.Common.{◌≡◌, rules}
+use Rattle.offers.proofs.Airborne.{looked_fewer, held_still, alone_still}
 use Rattle.offers.proofs.Flying.{left}
+use Rattle.offers.proofs.Looking.{found_rises}
+use Rattle.offers.proofs.Marking.{few_looked, room_for}
 use Rattle.offers.proofs.book.Book.see.Goals as goal
 
 pub invariant_of-self : goal.invariant_of-self
-invariant_of-self c = record {
-  rises = rw c.merge.ensures (found_rises c.from.result.items c.args.now 0 c.args.found.now);
-  apart = c.self.invariant.apart;
-  few = c.self.invariant.few;
-  idle = λ e. absurd (left e);
-}
+invariant_of-self c =
+    let same : c.from.result.items ≡ c.self.inside.offers.items = search rules in
+    let fewer = looked_fewer c.self.inside.offers.items c.args.now c.args.found.now in
+    record {
+      rises = rw c.merge.ensures (found_rises c.from.result.items c.args.now 0 c.args.found.now);
+      apart = c.self.invariant.apart;
+      few = c.self.invariant.few;
+      held = rw (c.merge.ensures, same) (held_still c.self.inside.known.window _ c.self.inside.offers.items fewer c.self.invariant.held);
+      alone = rw (c.merge.ensures, same) (alone_still _ c.self.inside.offers.items fewer c.self.invariant.alone);
+      marked = record {
+        moves = rw c.as_slice.ensures.value at c.mark_all.ensures.moves;
+        others = rw c.as_slice.ensures.value at c.mark_all.ensures.others;
+        asks = rw c.as_slice.ensures.value at c.mark_all.ensures.asks;
+      };
+      idle = λ e. absurd (left e);
+    }
+
+pub mark_all-requires-clause-room : goal.mark_all-requires-clause-room
+mark_all-requires-clause-room c =
+    rw (c.as_slice.ensures.value, c.merge.ensures)
+    (room_for _ c.in_ok-marks.marks _ (few_looked c.from.result.items c.args.now c.args.found.now) c.in_ok-marks.ensures.moves.0 c.in_ok-marks.ensures.others.0 c.in_ok-marks.ensures.asks.0)

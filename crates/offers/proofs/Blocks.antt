@@ -1,0 +1,212 @@
+-- Moments by index, and the first of each block.
+use Rattle.std.proofs.Common.{◌≡◌, ◌≢◌, ℕ, ◌+◌, ◌*◌, ◌<◌, ◌≤◌, ◌==◌, inl, inr, List, Option, Some, None, IfSome, true, false, length, get_or, set, cond, nat_lt, refl, sym, ◌∙◌, arith}
+use Rattle.std.proofs.lemmas.Bool.{cases_lt}
+use Rattle.std.proofs.lemmas.Bool.Decides.{nat_tests}
+use Rattle.std.proofs.lemmas.List.{get_or-set_same, get_or-set_other, get_or_past, length-set}
+use Rattle.offers.specs.Moments.{moment_at, MatchIn, sooner, earlier, AreBlocks}
+use Rattle.offers.proofs.Editing.{two_ways}
+
+-- ---- of one moment, which may be none
+
+weaker : (x : Option ℕ) (low high : ℕ) → low ≤ high → IfSome x (λ m. high ≤ m) → IfSome x (λ m. low ≤ m)
+weaker None low high le h = tt
+weaker (Some m) low high le h = omega arith
+
+from_none : (x : Option ℕ) (low : ℕ) → x ≡ None → IfSome x (λ m. low ≤ m)
+from_none None low e = tt
+from_none (Some m) low e = cc
+
+from_some : (x : Option ℕ) (low own : ℕ) → x ≡ Some own → low ≤ own → IfSome x (λ m. low ≤ m)
+from_some None low own e le = cc
+from_some (Some m) low own e le = let same : m ≡ own = cc in omega arith
+
+-- ---- the first of some and one more
+
+-- what holds of those before one and of that one holds of those before the next
+more : (moments : List (Option ℕ)) (low i m : ℕ) → ((j : ℕ) → low ≤ j → j < i → IfSome (moment_at moments j) (λ own. m ≤ own)) → IfSome (moment_at moments i) (λ own. m ≤ own) → (j : ℕ) → low ≤ j → j < i + 1 → IfSome (moment_at moments j) (λ own. m ≤ own)
+more moments low i m before here j from lt = elim (cases_lt j i) [
+  | inl below ↦ before j from below
+  | inr behind ↦ let same : j ≡ i = omega arith in rw same here
+]
+
+pub one_more : (moments : List (Option ℕ)) (low i : ℕ) (first : Option (ℕ × ℕ)) (m : Option ℕ) → low ≤ i → MatchIn moments low i first → m ≡ moment_at moments i → MatchIn moments low (i + 1) (sooner first i m)
+one_more moments low i None None from h is = λ j above lt. elim (cases_lt j i) [
+  | inl below ↦ h j above below
+  | inr behind ↦ let same : j ≡ i = omega arith in rw same (sym is)
+]
+one_more moments low i None (Some own) from h is = record {
+  above = from;
+  within = omega arith;
+  is = sym is;
+  first = more moments low i own (λ j above lt. from_none _ own (h j above lt)) (from_some _ own own (sym is) (omega arith));
+}
+one_more moments low i (Some first) None from h is = record {
+  above = h.above;
+  within = omega (arith, h.within);
+  is = h.is;
+  first = more moments low i first.1 h.first (from_none _ first.1 (sym is));
+}
+one_more moments low i (Some first) (Some own) from h is = elim (nat_lt own first.1) as (λ t. t ≡ nat_lt own first.1 → MatchIn moments low (i + 1) (cond t (Some (i, own)) (Some first))) [
+  | true ↦ λ e.
+      let sooner_is : own ≤ first.1 = grind (arith, nat_tests) in
+      record {
+        above = from;
+        within = omega arith;
+        is = sym is;
+        first = more moments low i own (λ j above lt. weaker _ own first.1 sooner_is (h.first j above lt)) (from_some _ own own (sym is) (omega arith));
+      }
+  | false ↦ λ e.
+      let later_is : first.1 ≤ own = grind (arith, nat_tests) in
+      record {
+        above = h.above;
+        within = omega (arith, h.within);
+        is = h.is;
+        first = more moments low i first.1 h.first (from_some _ first.1 own (sym is) later_is);
+      }
+] refl
+
+-- ---- those of one block behind those before it
+
+both : (moments : List (Option ℕ)) (k l m : ℕ) → ((j : ℕ) → 0 ≤ j → j < k → IfSome (moment_at moments j) (λ own. m ≤ own)) → ((j : ℕ) → k ≤ j → j < l → IfSome (moment_at moments j) (λ own. m ≤ own)) → (j : ℕ) → 0 ≤ j → j < l → IfSome (moment_at moments j) (λ own. m ≤ own)
+both moments k l m before here j from lt = elim (cases_lt j k) [
+  | inl below ↦ before j from below
+  | inr behind ↦ here j behind lt
+]
+
+pub join : (moments : List (Option ℕ)) (k l : ℕ) (first other : Option (ℕ × ℕ)) → k ≤ l → MatchIn moments 0 k first → MatchIn moments k l other → MatchIn moments 0 l (earlier first other)
+join moments k l None None le h g = λ j above lt. elim (cases_lt j k) [
+  | inl below ↦ h j above below
+  | inr behind ↦ g j behind lt
+]
+join moments k l (Some first) None le h g = record {
+  above = h.above;
+  within = omega (arith, h.within);
+  is = h.is;
+  first = both moments k l first.1 h.first (λ j above lt. from_none _ first.1 (g j above lt));
+}
+join moments k l None (Some other) le h g = record {
+  above = omega arith;
+  within = g.within;
+  is = g.is;
+  first = both moments k l other.1 (λ j above lt. from_none _ other.1 (h j above lt)) g.first;
+}
+join moments k l (Some first) (Some other) le h g = elim (nat_lt other.1 first.1) as (λ t. t ≡ nat_lt other.1 first.1 → MatchIn moments 0 l (cond t (Some (other.0, other.1)) (Some first))) [
+  | true ↦ λ e.
+      let sooner_is : other.1 ≤ first.1 = grind (arith, nat_tests) in
+      record {
+        above = omega arith;
+        within = g.within;
+        is = g.is;
+        first = both moments k l other.1 (λ j above lt. weaker _ other.1 first.1 sooner_is (h.first j above lt)) g.first;
+      }
+  | false ↦ λ e.
+      let later_is : first.1 ≤ other.1 = grind (arith, nat_tests) in
+      record {
+        above = h.above;
+        within = omega (arith, h.within);
+        is = h.is;
+        first = both moments k l first.1 h.first (λ j above lt. weaker _ first.1 other.1 later_is (g.first j above lt));
+      }
+] refl
+
+-- ---- one of them is put there
+
+-- another is as it was
+pub other_is : (moments : List (Option ℕ)) (index i : ℕ) (m : Option ℕ) → i ≢ index → moment_at (set moments index m) i ≡ moment_at moments i
+other_is moments index i m apart = get_or-set_other moments index i m None apart
+
+-- those among which it is not are as they were
+pub outside : (moments : List (Option ℕ)) (low high index : ℕ) (m : Option ℕ) (x : Option (ℕ × ℕ)) → ((i : ℕ) → low ≤ i → i < high → i ≢ index) → MatchIn moments low high x → MatchIn (set moments index m) low high x
+outside moments low high index m None apart h = λ i above lt. other_is moments index i m (apart i above lt) ∙ h i above lt
+outside moments low high index m (Some first) apart h = record {
+  above = h.above;
+  within = h.within;
+  is = other_is moments index first.0 m (apart first.0 h.above h.within) ∙ h.is;
+  first = λ i above lt. rw (other_is moments index i m (apart i above lt)) (h.first i above lt);
+}
+
+-- one of those among which it is, where it was none
+put_first : (moments : List (Option ℕ)) (low high index own m : ℕ) → index < length moments → own ≤ m → ((i : ℕ) → low ≤ i → i < high → i ≢ index → IfSome (moment_at moments i) (λ x. own ≤ x)) → (i : ℕ) → low ≤ i → i < high → IfSome (moment_at (set moments index (Some m)) i) (λ x. own ≤ x)
+put_first moments low high index own m inside le rest i above lt = elim (two_ways (i == index)) [
+  | inl here ↦
+      let same : i ≡ index = grind (arith, nat_tests) in
+      rw (same, get_or-set_same moments index (Some m) None inside) le
+  | inr apart ↦
+      let other : i ≢ index = grind (arith, nat_tests) in
+      rw (other_is moments index i (Some m) other) (rest i above lt other)
+]
+
+not_none : (moments : List (Option ℕ)) (index i m : ℕ) → moment_at moments index ≡ None → moment_at moments i ≡ Some m → i ≢ index
+not_none moments index i m none some = λ e. let same : moment_at moments i ≡ None = rw e none in cc
+
+pub put_in : (moments : List (Option ℕ)) (low high index : ℕ) (m : Option ℕ) (x : Option (ℕ × ℕ)) → index < length moments → low ≤ index → index < high → moment_at moments index ≡ None → MatchIn moments low high x → MatchIn (set moments index m) low high (sooner x index m)
+put_in moments low high index None None inside above lt none h = λ i from to. elim (two_ways (i == index)) [
+  | inl here ↦ let same : i ≡ index = grind (arith, nat_tests) in rw (same, get_or-set_same moments index None None inside) refl
+  | inr apart ↦ let other : i ≢ index = grind (arith, nat_tests) in other_is moments index i None other ∙ h i from to
+]
+put_in moments low high index None (Some first) inside above lt none h = record {
+  above = h.above;
+  within = h.within;
+  is = other_is moments index first.0 None (not_none moments index first.0 first.1 none h.is) ∙ h.is;
+  first = λ i from to. elim (two_ways (i == index)) [
+    | inl here ↦ let same : i ≡ index = grind (arith, nat_tests) in rw (same, get_or-set_same moments index None None inside) tt
+    | inr apart ↦ let other : i ≢ index = grind (arith, nat_tests) in rw (other_is moments index i None other) (h.first i from to)
+  ];
+}
+put_in moments low high index (Some m) None inside above lt none h = record {
+  above = above;
+  within = lt;
+  is = get_or-set_same moments index (Some m) None inside;
+  first = put_first moments low high index m m inside (omega arith) (λ i from to apart. from_none _ m (h i from to));
+}
+put_in moments low high index (Some m) (Some first) inside above lt none h = elim (nat_lt m first.1) as (λ t. t ≡ nat_lt m first.1 → MatchIn (set moments index (Some m)) low high (cond t (Some (index, m)) (Some first))) [
+  | true ↦ λ e.
+      let sooner_is : m ≤ first.1 = grind (arith, nat_tests) in
+      record {
+        above = above;
+        within = lt;
+        is = get_or-set_same moments index (Some m) None inside;
+        first = put_first moments low high index m m inside (omega arith) (λ i from to apart. weaker _ m first.1 sooner_is (h.first i from to));
+      }
+  | false ↦ λ e.
+      let later_is : first.1 ≤ m = grind (arith, nat_tests) in
+      record {
+        above = h.above;
+        within = h.within;
+        is = other_is moments index first.0 (Some m) (not_none moments index first.0 first.1 none h.is) ∙ h.is;
+        first = put_first moments low high index first.1 m inside later_is (λ i from to apart. h.first i from to);
+      }
+] refl
+
+-- ---- one of them is put there, beside the blocks
+
+-- behind the last there is none
+pub widen : (moments : List (Option ℕ)) (low high end : ℕ) (x : Option (ℕ × ℕ)) → high ≤ end → ((i : ℕ) → high ≤ i → i < end → length moments ≤ i) → MatchIn moments low high x → MatchIn moments low end x
+widen moments low high end None le past h = λ i above lt. elim (cases_lt i high) [
+  | inl below ↦ h i above below
+  | inr from ↦ get_or_past moments i None (past i from lt)
+]
+widen moments low high end (Some first) le past h = record {
+  above = h.above;
+  within = omega (arith, h.within);
+  is = h.is;
+  first = λ i above lt. elim (cases_lt i high) [
+    | inl below ↦ h.first i above below
+    | inr from ↦ from_none _ first.1 (get_or_past moments i None (past i from lt))
+  ];
+}
+
+pub set_block : (moments : List (Option ℕ)) (blocks : List (Option (ℕ × ℕ))) (index k : ℕ) (m : Option ℕ) (x : Option (ℕ × ℕ)) → AreBlocks moments blocks → index < length moments → 256 * k ≤ index → index < 256 * k + 256 → MatchIn (set moments index m) (256 * k) (256 * k + 256) x → AreBlocks (set moments index m) (set blocks k x)
+set_block moments blocks index k m x are inside above below h = record {
+  cover = rw (length-set moments index m, length-set blocks k x) are.cover;
+  each = λ b. elim (two_ways (b == k)) [
+    | inl here ↦
+        let same : b ≡ k = grind (arith, nat_tests) in
+        let within : k < length blocks = omega (arith, are.cover) in
+        rw (same, get_or-set_same blocks k x None within) h
+    | inr apart ↦
+        let other : b ≢ k = grind (arith, nat_tests) in
+        rw (get_or-set_other blocks k b x None other)
+        (outside moments (256 * b) (256 * b + 256) index m (get_or blocks b None) (λ i from to. omega arith) (are.each b))
+  ];
+}

@@ -1,0 +1,19 @@
+-- What a file asks for that is known was read.
+use Rattle.std.proofs.Common.{rules, ◌≡◌, ℕ, Some, sym, subst}
+use Rattle.protocol.specs.Refusals.{Call}
+use Rattle.plant_files.specs.Asking.{call_of}
+use Rattle.offers.specs.Order.{rank, file_at}
+use Rattle.offers.specs.Stages.{wish_at}
+use Rattle.run_command.specs.Story.{doings_of, MayBeCalled}
+use Rattle.run_command.proofs.Wishes.{wish_read}
+use Rattle.run_command.proofs.Lives.{may_be_called}
+use Rattle.run_command.proofs.desk.PlantDeskDesk.call.Goals as goal
+
+pub returns-in-Some : goal.returns-in-Some
+returns-in-Some g c = λ now past st.
+    let request = c.args.request.now in
+    let wish = c.in-Some.wish.now in
+    let known : wish_at (file_at c.args.self.now.plant.papers.now.book.files (rank request)) ≡ Some wish = search rules in
+    subst (λ (x : Call). MayBeCalled past x) (sym (c.call_for.ensures now))
+    (subst (λ (n : ℕ). MayBeCalled past (call_of wish n now)) (sym c.get.ensures.value)
+    (may_be_called past request now wish (wish_read (doings_of past) c.args.self.now.plant.papers.now.book.files request wish st.taken known)))

@@ -1,0 +1,14 @@
+-- The number is no longer under way.
+use Rattle.std.proofs.Common.{refl}
+use Rattle.offers.specs.declared.stage.Landing.TheVariants.{Ended, Busy, Barred}
+use Rattle.run_command.proofs.Looking.{follows_landed}
+use Rattle.run_command.proofs.plant.Plant.deny.Goals as goal
+
+pub returns-in-AlreadyOpen-clause-book : goal.returns-in-AlreadyOpen-clause-book
+returns-in-AlreadyOpen-clause-book g c = follows_landed _ _ _ Busy _ c.busy.ensures.same
+
+pub returns-in_default : goal.returns-in_default
+returns-in_default g c = record { folders = refl; same = refl; waits = refl; book = follows_landed _ _ _ (Barred _) 0 c.barred.ensures.same }
+
+pub returns-in_default-2 : goal.returns-in_default-2
+returns-in_default-2 g c = record { folders = refl; same = refl; waits = refl; book = follows_landed _ _ _ Ended _ c.ended.ensures.same }

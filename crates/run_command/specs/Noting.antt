@@ -1,0 +1,19 @@
+-- What a step with a note tells of the ballots of its number.
+use Rattle.std.specs.Prelude.{ℕ, Bool, true, false, Option, Some, None}
+use Rattle.node_core.specs.declared.turn.Note.{Note}
+use Rattle.node_core.specs.declared.turn.Note.TheVariants as notes
+use Rattle.run_command.specs.declared.telling.Event.{Event}
+use Rattle.run_command.specs.declared.telling.Event.TheVariants as events
+
+-- it closed a ballot: that was given up, or found nothing
+abbrev pub is_of_close : Note → Bool
+is_of_close (notes.GaveUp ballot) = true
+is_of_close (notes.Nothing ballot) = true
+is_of_close note = false
+
+-- the line that is told of it, if the number was under way: a ballot was begun, given up, or found nothing
+abbrev pub event_of : ℕ → Note → Option Event
+event_of n (notes.Began ballot) = Some (events.Began n ballot)
+event_of n (notes.GaveUp ballot) = Some (events.GaveUp n ballot)
+event_of n (notes.Nothing ballot) = Some (events.Nothing n ballot)
+event_of n note = None

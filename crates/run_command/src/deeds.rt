@@ -1,0 +1,276 @@
+//! What is done with a file among the offers.
+
+ghost use Rattle.std.specs.Prelude.{◌≡◌, IfSome};
+ghost use Rattle.run_command.specs.Departing.{departure_of, task_of, IsFree, IsFreeTask};
+ghost use Rattle.run_command.specs.Working.{Always, Deals, Follows};
+
+use crate::departures::{Departure, Way, tell_departure};
+use crate::plant::Plant;
+use crate::reading::read;
+use crate::strays::Stray;
+use crate::telling::{Event, tell, tell_file, tell_refused};
+use ballots::Number;
+use driver::Log;
+use folders::{FolderFault, Folders, Leaving, Place, Request};
+use offers::{Allowed, Deed, Found};
+use std::alloc::Global;
+use std::io::Write;
+
+/// What is to be done with a file.
+#[derive(Clone, Copy)]
+pub(crate) enum Task {
+    /// It leaves the offers.
+    Leave(Departure),
+    /// It is read; whether it may be in place of one that was under way.
+    Read(Found, bool),
+    /// The station is asked for it.
+    Ask(Request),
+}
+
+/// How a file leaves the offers by a deed; nothing where it does not.
+fn departure_of(deed: &Deed) -> Option<Departure>
+    ensures { result ≡ departure_of deed.now }
+{
+    match *deed {
+        Deed::Move { request, stamp, to } => {
+            let found = Found { request, stamp };
+            let way = Way::Released(to);
+            Some(Departure { found, way })
+        }
+        Deed::Refuse {
+            request,
+            stamp,
+            reason,
+        } => {
+            let found = Found { request, stamp };
+            let way = Way::NoOffer(reason);
+            Some(Departure { found, way })
+        }
+        _ => None,
+    }
+}
+
+/// What is to be done by a deed.
+fn task_of(deed: &Deed) -> Option<Task>
+    ensures { result ≡ task_of deed.now }
+{
+    match *deed {
+        Deed::Ask { request } => Some(Task::Ask(request)),
+        Deed::Read {
+            request,
+            stamp,
+            replaced,
+        } => Some(Task::Read(Found { request, stamp }, replaced)),
+        _ => match departure_of(deed) {
+            Some(departure) => Some(Task::Leave(departure)),
+            None => None,
+        },
+    }
+}
+
+/// Tells that a file whose name asks for nothing can't be moved, unless that was told of it last, or it is gone, or another by now.
+fn tell_stuck<E: Write>(alloc: Global, stray: &Stray, fault: FolderFault, log: &mut Log<'_, E>) {
+    if stray.sighting.is_to_be_told(fault) {
+        tell_file(alloc, "cannot move", stray.name.as_str(), fault, log);
+    }
+}
+
+impl<'f, 'p, F: Folders> Plant<'f, 'p, F> {
+    /// Moves a file from the offers, at a moment. One that can't be moved is put off, which is told.
+    fn leave<E: Write>(&mut self, departure: &Departure, now: u64, log: &mut Log<'_, E>)
+        ensures folders { self.new.folders.ghost_name ≡ self.old.folders.ghost_name }
+        ensures waits { self.new.papers.now.waits ≡ self.old.papers.now.waits }
+        ensures deals { IsFree self.old.papers.now.book self.old.papers.now.waits.items departure.now → Deals Always (F.doings self.old.folders.now) (F.doings self.new.folders.now) self.old.papers.now.waits.items self.old.papers.now.book self.new.papers.now.book }
+    {
+        let request = &departure.found.request;
+        match self.depart(departure) {
+            Ok(()) => {
+                self.papers.book.moved(*request);
+                self.papers.told.is_done(request);
+                tell_departure(self.alloc, departure, log);
+            }
+            Err(fault) => {
+                self.papers.told.cannot_move(request, fault, log);
+                self.papers.book.could_not(*request, now);
+            }
+        }
+    }
+
+    /// Reads a file, at a moment; whether it was read. One that can't be read is put off, which is told.
+    fn read_file<E: Write>(&mut self, found: &Found, now: u64, log: &mut Log<'_, E>) -> bool
+        ensures folders { self.new.folders.ghost_name ≡ self.old.folders.ghost_name }
+        ensures waits { self.new.papers.now.waits ≡ self.old.papers.now.waits }
+        ensures deals { Deals Always (F.doings self.old.folders.now) (F.doings self.new.folders.now) self.old.papers.now.waits.items self.old.papers.now.book self.new.papers.now.book }
+    {
+        let request = &found.request;
+        match read(self.alloc, self.folders, found) {
+            Ok(wish) => {
+                self.papers.book.was_read(*request, wish);
+                self.papers.told.is_done(request);
+                true
+            }
+            Err(fault) => {
+                self.papers.told.cannot_read(request, fault, log);
+                self.papers.book.could_not(*request, now);
+                false
+            }
+        }
+    }
+
+    /// The same of a file that is in place of one that was under way, which is told.
+    fn read_anew<E: Write>(&mut self, found: &Found, now: u64, log: &mut Log<'_, E>)
+        ensures folders { self.new.folders.ghost_name ≡ self.old.folders.ghost_name }
+        ensures waits { self.new.papers.now.waits ≡ self.old.papers.now.waits }
+        ensures deals { Deals Always (F.doings self.old.folders.now) (F.doings self.new.folders.now) self.old.papers.now.waits.items self.old.papers.now.book self.new.papers.now.book }
+    {
+        if self.read_file(found, now, log) {
+            let number = found.request.number.get();
+            tell(Event::Replaced { number }, log);
+        }
+    }
+
+    /// What is to be done next with a file whose name asks for something, where the station may be asked, or may not. Files leave the
+    /// offers for what was released only where nothing waits to be written among the releases: what is offered again at the next start is
+    /// released again, and a release that waits would be lost.
+    fn next_task(&mut self, may_ask: bool) -> Option<Task>
+        ensures folders { self.new.folders.ghost_name ≡ self.old.folders.ghost_name }
+        ensures same { self.new.folders.now ≡ self.old.folders.now }
+        ensures waits { self.new.papers.now.waits ≡ self.old.papers.now.waits }
+        ensures book { Follows self.old.papers.now.book self.new.papers.now.book }
+        ensures free { IfSome result (IsFreeTask self.new.papers.now.book self.new.papers.now.waits.items) }
+    {
+        let allowed = Allowed {
+            moves: self.papers.waits.is_empty(),
+            asks: may_ask,
+        };
+        match self.papers.book.next(allowed) {
+            Some(deed) => task_of(&deed),
+            None => None,
+        }
+    }
+
+    /// Does it, at a moment, or answers for which file the station is to be asked.
+    fn do_task<E: Write>(&mut self, task: &Task, now: u64, log: &mut Log<'_, E>) -> Option<Request>
+        ensures folders { self.new.folders.ghost_name ≡ self.old.folders.ghost_name }
+        ensures waits { self.new.papers.now.waits ≡ self.old.papers.now.waits }
+        ensures deals { IsFreeTask self.old.papers.now.book self.old.papers.now.waits.items task.now → Deals Always (F.doings self.old.folders.now) (F.doings self.new.folders.now) self.old.papers.now.waits.items self.old.papers.now.book self.new.papers.now.book }
+    {
+        match task {
+            Task::Ask(request) => return Some(*request),
+            Task::Leave(departure) => self.leave(departure, now, log),
+            Task::Read(found, true) => self.read_anew(found, now, log),
+            Task::Read(found, false) => {
+                self.read_file(found, now, log);
+            }
+        }
+        None
+    }
+
+    /// Moves the next file whose name asks for nothing to those that are no offers, at a moment. One that can't be moved is put off, which
+    /// is told.
+    fn leave_stray<E: Write>(&mut self, now: u64, log: &mut Log<'_, E>)
+        ensures folders { self.new.folders.ghost_name ≡ self.old.folders.ghost_name }
+        ensures waits { self.new.papers.now.waits ≡ self.old.papers.now.waits }
+        ensures deals { Deals Always (F.doings self.old.folders.now) (F.doings self.new.folders.now) self.old.papers.now.waits.items self.old.papers.now.book self.new.papers.now.book }
+    {
+        let Some(stray) = self.papers.strays.first() else {
+            return;
+        };
+        let name = stray.name.as_str();
+        let leaving = Leaving {
+            name,
+            stamp: stray.sighting.stamp,
+            to: Place::Refused,
+        };
+        match self
+            .folders
+            .set_aside(self.alloc, leaving, Some("no number\n"))
+        {
+            Ok(()) => {
+                tell_refused(self.alloc, name, "no number", log);
+                self.papers.strays.moved();
+            }
+            Err(fault) => {
+                tell_stuck(self.alloc, stray, fault, log);
+                self.papers.strays.could_not(fault, now);
+            }
+        }
+    }
+
+    /// Does what is to be done where the book knows of nothing, at a moment: a file whose name asks for nothing is moved, or a look goes on.
+    fn do_other<E: Write>(&mut self, now: u64, log: &mut Log<'_, E>)
+        ensures folders { self.new.folders.ghost_name ≡ self.old.folders.ghost_name }
+        ensures waits { self.new.papers.now.waits ≡ self.old.papers.now.waits }
+        ensures deals { Deals Always (F.doings self.old.folders.now) (F.doings self.new.folders.now) self.old.papers.now.waits.items self.old.papers.now.book self.new.papers.now.book }
+    {
+        if self.papers.strays.find() {
+            self.leave_stray(now, log);
+        } else if self.papers.looking.goes_on() {
+            self.look_at_offers(now, log);
+        }
+    }
+
+    /// Does a deed with a file, at a moment, or answers for which one the station is to be asked, where it may be.
+    fn deed_with_file<E: Write>(
+        &mut self,
+        may_ask: bool,
+        now: u64,
+        log: &mut Log<'_, E>,
+    ) -> Option<Request>
+        ensures folders { self.new.folders.ghost_name ≡ self.old.folders.ghost_name }
+        ensures waits { self.new.papers.now.waits ≡ self.old.papers.now.waits }
+        ensures deals { Deals Always (F.doings self.old.folders.now) (F.doings self.new.folders.now) self.old.papers.now.waits.items self.old.papers.now.book self.new.papers.now.book }
+    {
+        match self.next_task(may_ask) {
+            Some(task) => self.do_task(&task, now, log),
+            None => {
+                self.do_other(now, log);
+                None
+            }
+        }
+    }
+
+    /// Does a deed, at a moment, or answers for which file the station is to be asked, where it may be. While a look goes on, each second
+    /// deed is a part of it.
+    pub(crate) fn deed<E: Write>(
+        &mut self,
+        may_ask: bool,
+        now: u64,
+        log: &mut Log<'_, E>,
+    ) -> Option<Request>
+        ensures folders { self.new.folders.ghost_name ≡ self.old.folders.ghost_name }
+        ensures waits { self.new.papers.now.waits ≡ self.old.papers.now.waits }
+        ensures deals { Deals Always (F.doings self.old.folders.now) (F.doings self.new.folders.now) self.old.papers.now.waits.items self.old.papers.now.book self.new.papers.now.book }
+    {
+        if self.papers.looking.takes_turn() {
+            self.look_at_offers(now, log);
+            None
+        } else {
+            self.deed_with_file(may_ask, now, log)
+        }
+    }
+
+    /// How the next file of a number leaves the offers that was released, if one does and nothing waits to be written.
+    fn next_departure(&self, number: Number) -> Option<Departure>
+        ensures free { IfSome result (IsFree self.now.papers.now.book self.now.papers.now.waits.items) }
+    {
+        if !self.papers.waits.is_empty() {
+            return None;
+        }
+        match self.papers.book.leaving(number) {
+            Some(deed) => departure_of(&deed),
+            None => None,
+        }
+    }
+
+    /// Lets a file of a number that was released leave the offers, at a moment, if there is one that may.
+    pub(crate) fn settle<E: Write>(&mut self, number: Number, now: u64, log: &mut Log<'_, E>)
+        ensures folders { self.new.folders.ghost_name ≡ self.old.folders.ghost_name }
+        ensures waits { self.new.papers.now.waits ≡ self.old.papers.now.waits }
+        ensures deals { Deals Always (F.doings self.old.folders.now) (F.doings self.new.folders.now) self.old.papers.now.waits.items self.old.papers.now.book self.new.papers.now.book }
+    {
+        if let Some(departure) = self.next_departure(number) {
+            self.leave(&departure, now, log);
+        }
+    }
+}

@@ -1,0 +1,63 @@
+//! The plant of a station as the desk of its driver.
+
+ghost use Rattle.std.specs.Prelude.{◌≡◌};
+ghost use Rattle.std.proofs.Common.{refl, ◌∙◌};
+ghost use Rattle.run_command.specs.Living.{CameOn, IsSameDesk, LivedOn, MayAsk, kept_of};
+ghost use Rattle.run_command.specs.Lives.{plant_fates};
+
+use crate::plant::Plant;
+use command_ends::Fault;
+use driver::{Call, Denied, Desk, Log, Sink, Step, Tasks};
+use folders::{Folders, Request};
+use plant_files::call_for;
+use station::StepRefusal;
+use std::io::Write;
+
+/// The plant of a station, as its driver works with it.
+#[derive(Drop)]
+pub(crate) struct PlantDesk<'f, 'p, F: Folders> {
+    pub(crate) plant: Plant<'f, 'p, F>,
+}
+
+impl<F: Folders> Sink for PlantDesk<'_, '_, F> {
+    ghost lived = { λ old new log. LivedOn F.doings old new log };
+
+    ghost front = { λ old new log. CameOn F.doings old new log };
+
+    ghost may = { λ it call. MayAsk (kept_of it.plant) call };
+
+    fn take<E: Write>(&mut self, step: &Step, log: &mut Log<'_, E>) -> Result<(), Fault<'static>> {
+        self.plant.take(step, log)
+    }
+
+    fn hear_refusal<E: Write>(&mut self, refusal: StepRefusal, now: u64, log: &mut Log<'_, E>) {
+        self.plant.hear_refusal(refusal, now, log);
+    }
+
+    ghost fates = { plant_fates F.doings (λ a b. IsSameDesk a b) (λ _. refl) (λ _ _ _ p q. q ∙ p) (λ it. kept_of it.plant) };
+}
+
+impl<F: Folders> Desk for PlantDesk<'_, '_, F> {
+    fn tasks(&mut self) -> Tasks {
+        self.plant.tasks()
+    }
+
+    fn look<E: Write>(&mut self, now: u64, log: &mut Log<'_, E>) -> bool {
+        self.plant.look(now, log)
+    }
+
+    fn deed<E: Write>(&mut self, may_ask: bool, now: u64, log: &mut Log<'_, E>) -> Option<Request> {
+        self.plant.deed(may_ask, now, log)
+    }
+
+    fn call(&self, request: &Request) -> Option<Call<'_>> {
+        match self.plant.papers.book.wish(*request) {
+            Some(wish) => Some(call_for(wish, request.number.get())),
+            None => None,
+        }
+    }
+
+    fn deny<E: Write>(&mut self, denied: Denied, _log: &mut Log<'_, E>) {
+        self.plant.deny(&denied);
+    }
+}
