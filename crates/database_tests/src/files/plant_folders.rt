@@ -488,8 +488,8 @@ fn first_misjudged(rt: &HostRuntime) -> Option<usize> {
 fn folders_of_the_host(rt: HostRuntime) {
     assert_eq!(rt; first_amiss(&rt), None);
     assert!(rt; lay_out(&rt) && goes_on_host(&rt, Task::Replaced));
-    assert!(rt; lay_out(&rt) && goes_on_host(&rt, Task::Offers));
     assert!(rt; lay_out(&rt) && goes_on_host(&rt, Task::Turns));
+    assert!(rt; lay_out(&rt) && goes_on_host(&rt, Task::Offers));
     assert_eq!(rt; first_misjudged(&rt), None);
     assert!(rt; are_held_alone(&rt));
     assert!(rt; settles_leftovers(&rt));
