@@ -188,7 +188,7 @@ class Plant:
             config.write(f'circuit = 7\nmember = {member}\ntable = "codes.toml"\nwidths = "widths.toml"\nrows = "station.db"\n'
                          f'[folders]\noffers = "offers"\nreleases = "releases"\n{stations}')
         env = dict(os.environ, LD_PRELOAD=preload) if preload else None
-        self.process = subprocess.Popen([*words, program, 'run', 'station.toml', '--create', '--layout', layout], cwd=self.home, env=env,
+        self.process = subprocess.Popen([*words, program, 'run', 'station.toml', '--create', '--layout', layout, '--verbose'], cwd=self.home, env=env,
                                         stdout=subprocess.DEVNULL, stderr=subprocess.PIPE)
         self.ballots, self.given_up, self.began, self.other = 0, set(), {}, []
         self.reader = threading.Thread(target=self.read, daemon=True)

@@ -1,7 +1,7 @@
 #!/usr/bin/env python3
 """A plant whose offers are crowded: what a look costs beside a plain lister, and how long a story and `stop` wait.
 
-    bench/crowded.py [--count N] [--rest MS] PROGRAM [CASE ..]
+    bench/crowded.py [--count N] [--rest MS] [--turns] PROGRAM [CASE ..]
 
 For each case three plants `run` on 127.0.0.1. So many files are laid among the offers of the first before it starts, 50,000 where no
 count is given, and a line is printed:
@@ -13,6 +13,10 @@ count is given, and a line is printed:
     story      from the rename of a story laid beside them to its galley among the releases of the first plant, the longest of five
     stop       from the laying of `stop` to the end of the first plant
 
+With --turns the first plant is watched by strace instead, which tells when it asks its socket, as it does once in each turn:
+
+    turn       the longest time between two such calls, in ten seconds in which nothing but looks happens; and the median
+
 Cases (all where none is named):
     left       names that are left alone: nothing is done with them, so that the look alone is seen
     half       half are searches that find nothing, half ask for nothing
@@ -22,6 +26,7 @@ Cases (all where none is named):
     swarm      names that are laid and taken away all the time
 """
 import argparse
+import contextlib
 import os
 import resource
 import shutil
@@ -79,11 +84,19 @@ class Plants:
     def path(self, member, *names):
         return os.path.join(self.folder, f'plant{member}', *names)
 
-    def start(self):
+    def start(self, watched=False):
         for member in MEMBERS:
             err = open(self.path(member, 'err'), 'w')
-            self.processes[member] = subprocess.Popen([self.program, 'run', 'station.toml', '--create', '--layout', '2'], cwd=self.path(member),
+            watcher = ['strace', '-f', '--seccomp-bpf', '-e', 'trace=recvfrom', '-ttt', '-T', '-o', self.path(1, 'calls')] if watched and member == 1 else []
+            self.processes[member] = subprocess.Popen([*watcher, self.program, 'run', 'station.toml', '--create', '--layout', '2'], cwd=self.path(member),
                                                       stdout=subprocess.DEVNULL, stderr=err)
+
+    def turns(self):
+        """How long it was between two asks of the socket, for each two, since SETTLES seconds after the first."""
+        with open(self.path(1, 'calls'), encoding='utf-8', errors='replace') as calls:
+            asked = [(float(words[1]), float(words[-1].strip('<>'))) for words in map(str.split, calls) if words[-1].startswith('<')]
+        quiet = [each for each in asked if each[0] > asked[0][0] + SETTLES]
+        return [after - before - took for (before, took), (after, _) in zip(quiet, quiet[1:])]
 
     def took(self):
         """The processor time of the first plant so far."""
@@ -184,7 +197,8 @@ def swarm_all(offers, over):
             put(path)
             os.rename(path, os.path.join(offers, f'{index}.swarm.part'))
         for index in range(1, 2_000):
-            os.remove(os.path.join(offers, f'{index}.swarm.part'))
+            with contextlib.suppress(FileNotFoundError):
+                os.remove(os.path.join(offers, f'{index}.swarm.part'))
 
 
 CASES = {
@@ -213,19 +227,34 @@ def lister(folder):
         return statistics.median(times)
 
 
+def watch(program, name, count):
+    """How long the turns of a look are."""
+    plants = Plants(program)
+    try:
+        CASES[name][0](plants.path(1, 'offers'), count)
+        plants.start(watched=True)
+        time.sleep(SETTLES + WATCHED)
+        plants.stop()
+        turns = plants.turns()
+        print(f'{name:10} turn {1000 * max(turns):6.1f} ms at most, median {1000 * statistics.median(turns):6.2f} ms, of {len(turns)}', flush=True)
+    finally:
+        plants.end()
+
+
 def run(program, name, count, rest):
     crowd, trouble = CASES[name]
     plants = Plants(program)
-    over = threading.Event()
+    over, troubling = threading.Event(), None
     try:
         offers = plants.path(1, 'offers')
         crowd(offers, count)
         plain = lister(offers)
+        if trouble:
+            troubling = threading.Thread(target=trouble, args=(offers, over), daemon=True)
+            troubling.start()
         plants.start()
         time.sleep(SETTLES)
         share = plants.share()
-        if trouble:
-            threading.Thread(target=trouble, args=(offers, over), daemon=True).start()
         stories = [plants.story(FIRST + index) for index in range(STORIES)]
         stop = plants.stop()
         look = rest * share / (1 - share) / 1000 if share < 0.99 else float('inf')
@@ -233,6 +262,8 @@ def run(program, name, count, rest):
               f'story {max(stories):6.2f} s; stop {stop:5.2f} s', flush=True)
     finally:
         over.set()
+        if troubling:
+            troubling.join()
         plants.end()
 
 
@@ -240,11 +271,15 @@ def main():
     parser = argparse.ArgumentParser(description=__doc__, formatter_class=argparse.RawDescriptionHelpFormatter)
     parser.add_argument('--count', type=int, default=50_000)
     parser.add_argument('--rest', type=float, default=500)
+    parser.add_argument('--turns', action='store_true')
     parser.add_argument('program')
     parser.add_argument('cases', nargs='*', choices=[[], *CASES], metavar='CASE')
     words = parser.parse_args()
     for name in words.cases or CASES:
-        run(os.path.abspath(words.program), name, words.count, words.rest)
+        if words.turns:
+            watch(os.path.abspath(words.program), name, words.count)
+        else:
+            run(os.path.abspath(words.program), name, words.count, words.rest)
     return 0
 
 

@@ -1,11 +1,12 @@
 #!/usr/bin/env python3
 """How long a story takes from its offer to the files of its release, at three plants on one machine.
 
-    bench/latency.py PROGRAM [STORIES]
+    bench/latency.py [--renamed] PROGRAM [STORIES]
 
 Three plants `run` on 127.0.0.1 with no network between them but the machine's. 200 stories where no other count is given are
-laid into the first plant's folder, one after another, each once the one before it stands in all three folders `releases`; each
-takes more than a second, since a file is taken up after two looks. Told are the least and the median time from the moment at which
+laid into the first plant's folder, one after another, each once the one before it stands in all three folders `releases`. A file
+is taken up once two looks half a second apart found it; with --renamed the plants are told that files come by rename alone, and one
+look is enough. Told are the least and the median time from the moment at which
 the plant opens the offer to read it to the last of the three files `N.tape`, and to the last of the three files `N.galley`; how
 long the offer waited until then; and the whole, from its rename to the last galley. The bench sleeps until the system tells it of
 a name in a folder, so that it takes no processor from the stations.
@@ -13,8 +14,9 @@ a name in a folder, so that it takes no processor from the stations.
 Beside them the saves on that path: promise and vote at the offering station, promise and vote at one other, timed alone on the
 same disk. They are timed by two programs: by the stock SQLite library with the same durability (journal in a log, each commit
 synced), and by bare calls of the system, those that the stations' rows make for a save (a page with its head, a sync, a mark of
-one byte behind it, a sync), with no library in between. Both are timed once for each story, while it waits to be taken up, so that
-they come out of a rest and in whatever phase the disk is in, as the stations' own do; and 200 times in a row.
+one byte behind it, a sync), with no library in between. Both are timed once for each story, while it waits to be taken up (with
+--renamed, before it is laid), so that they come out of a rest and in whatever phase the disk is in, as the stations' own do; and 200
+times in a row.
 """
 import ctypes
 import os
@@ -50,7 +52,7 @@ def free_ports():
     return ports
 
 
-def start(program, folder, member, ports):
+def start(program, folder, member, ports, renamed):
     """A plant in a folder of its own."""
     home = os.path.join(folder, f'plant{member}')
     os.makedirs(os.path.join(home, 'offers'))
@@ -60,7 +62,7 @@ def start(program, folder, member, ports):
     stations = ''.join(f'[[station]]\nmember = {other}\nip = "127.0.0.1"\nport = {port}\n' for other, port in zip(MEMBERS, ports))
     with open(os.path.join(home, 'station.toml'), 'w') as config:
         config.write(f'circuit = 7\nmember = {member}\ntable = "codes.toml"\nwidths = "widths.toml"\nrows = "station.db"\n'
-                     f'[folders]\noffers = "offers"\nreleases = "releases"\n{stations}')
+                     f'[folders]\noffers = "offers"\nreleases = "releases"\n{"renamed = true" if renamed else ""}\n{stations}')
     process = subprocess.Popen([program, 'run', 'station.toml', '--create', '--layout', '2'], cwd=home, stdout=subprocess.DEVNULL, stderr=subprocess.DEVNULL)
     return home, process
 
@@ -89,20 +91,28 @@ class Names:
         return names
 
 
-def story(plants, names, saves, number):
+def saves_alone(saves):
+    """How long saves as a story's own take alone, each out of a rest."""
+    alone = []
+    for each in saves:
+        time.sleep(0.15)
+        alone.append(each.time())
+    return alone
+
+
+def story(plants, names, saves, number, renamed):
     """Lays a story down, and gives the moments: laid, taken up, the last of its tapes and the last of its galleys released; and how
-    long saves as its own take alone, while it waits."""
+    long saves as its own take alone, while it waits or before."""
     home, _ = plants[0]
+    alone = saves_alone(saves) if renamed else []
     opened, given = names
     part, whole = (os.path.join(home, 'offers', name) for name in (f'.{number}.tape', f'{number}.tape'))
     with open(part, 'wb') as file:
         file.write(TAPE)
     laid = time.monotonic()
     os.rename(part, whole)
-    alone = []
-    for each in saves:
-        time.sleep(0.4)
-        alone.append(each.time())
+    if not renamed:
+        alone = saves_alone(saves)
     left = {f'{number}.tape': len(plants), f'{number}.galley': len(plants)}
     moments = {}
     while time.monotonic() < laid + 30:
@@ -168,18 +178,20 @@ class BareSaves:
 
 
 def main():
-    if not 2 <= len(sys.argv) <= 3:
+    renamed = '--renamed' in sys.argv
+    words = [word for word in sys.argv[1:] if word != '--renamed']
+    if not 1 <= len(words) <= 2:
         sys.exit(__doc__)
-    program = os.path.abspath(sys.argv[1])
-    count = int(sys.argv[2]) if len(sys.argv) > 2 else 200
+    program = os.path.abspath(words[0])
+    count = int(words[1]) if len(words) > 1 else 200
     folder = tempfile.mkdtemp(dir=os.getcwd())
     ports, plants = free_ports(), []
     try:
-        plants = [start(program, folder, member, ports) for member in MEMBERS]
+        plants = [start(program, folder, member, ports, renamed) for member in MEMBERS]
         time.sleep(1)
         names = Names([os.path.join(plants[0][0], 'offers')], OPENED), Names([os.path.join(home, 'releases') for home, _ in plants], MOVED_TO)
         saves = StockSaves(folder), BareSaves(folder, count + IN_A_ROW)
-        moments = [story(plants, names, saves, number) for number in range(1, count + 1)]
+        moments = [story(plants, names, saves, number, renamed) for number in range(1, count + 1)]
         rows = [[each.time() for _ in range(IN_A_ROW)] for each in saves]
     finally:
         for _, process in plants:

@@ -16,9 +16,9 @@ pids=("" "" "" "")
 for member in 1 2 3; do
     mkdir -p "$work/plant$member/offers" "$work/plant$member/releases"
     cp codes.toml widths.toml "$work/plant$member"
-    # the folders stand before the list of stations, as a table of TOML goes on to the next
-    awk '/^# where each member listens/ { print "[folders]\noffers = \"offers\"\nreleases = \"releases\"\n" } { print }' "station$member.toml" \
-        > "$work/plant$member/station.toml"
+    # the folders stand before the list of stations, as a table of TOML goes on to the next; all that is handed over is renamed
+    awk '/^# where each member listens/ { print "[folders]\noffers = \"offers\"\nreleases = \"releases\"\nrenamed = true\n" } { print }' \
+        "station$member.toml" > "$work/plant$member/station.toml"
 done
 cd "$work"
 

@@ -11,6 +11,7 @@ import stage
 from stage import GALLEY
 
 RUN = 'run plant.toml'
+ALL = f'{RUN} --verbose'
 OWN = ('.circuitd', '.1.part', '.2.part')
 
 
@@ -260,7 +261,7 @@ def standard_error_that_nobody_reads(at):
         except BlockingIOError:
             break
     fcntl.fcntl(writer, fcntl.F_SETFL, 0)
-    plant = up(at, stderr=writer)
+    plant = up(at, ALL, stderr=writer)
     os.close(writer)
     for number in (12, 13):
         lay(at, f'{number}.tape', tape(at))

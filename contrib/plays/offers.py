@@ -4,16 +4,16 @@ import time
 
 import plants
 import stage
-from folders import holds, is_released, lay, lies, told, up
+from folders import ALL, holds, is_released, lay, lies, told, up
 
 STORY, OTHER = 'flood.tape', 'harvest.tape'
 STANDS = b'release 12 01020301030204\n'
 
 
 def sent(at):
-    """A story that stands under its number is sent, and told."""
+    """A story that stands under its number is sent, and told where all is."""
     at.plant('plant.toml', 'plant.db')
-    up(at)
+    up(at, ALL)
     lay(at, '12.tape', at.read(STORY))
     lies(at, 'offers/sent/12.tape')
     is_released(at, 12)

@@ -35,11 +35,11 @@ def configure(at):
     return ports
 
 
-def bring_up(at, ports, members):
-    """Starts these for the first time, each with a log, and waits until they are up."""
+def bring_up(at, ports, members, words='--verbose'):
+    """Starts these for the first time, each with a log, of all where nothing else is said, and waits until they are up."""
     for member in members:
         with open(at.path(f'log{member}'), 'wb') as log:
-            at.start(f'run plant{member}.toml --create --layout 2', stderr=log)
+            at.start(f'run plant{member}.toml --create --layout 2 {words}', stderr=log)
     for member in members:
         at.port = ports[member - 1]
         stage.within(10, at.serves, 'each plant is up')

@@ -29,7 +29,7 @@ def completions(at):
     at.write('completions', written_by(at, 'completions.py'))
     for line, wanted in (
         ('ch', 'check chart check-config'),
-        ('run --', '--create --layout --quiet --help'),
+        ('run --', '--create --layout --quiet --verbose --times --help'),
         ('run --layout ', '1 2'),
         ('punch --most 4', '4096'),
         ('serve --turns ', ''),

@@ -2,6 +2,7 @@
 
 use ballots::Member;
 use command_ends::{ScriptPaths, TapePaths};
+use log_terms::LogTerms;
 use tape_drawing::Page;
 use tape_frames::Version;
 
@@ -69,8 +70,8 @@ pub enum Asked<'a> {
         /// The layout in which the tables of its saved rows are made first, by the version that it has rows of, where they
         /// are to be made.
         create: Option<Version>,
-        /// Whether faults alone are told.
-        quiet: bool,
+        /// How much is told, and how.
+        log: LogTerms,
     },
     /// To tell what is found about the configuration at a path.
     CheckConfig {

@@ -58,6 +58,8 @@ enum Shape<'a> {
     Words,
     /// Its name alone.
     Flag,
+    /// Its name alone, and not beside that of another one.
+    Rival(&'a str),
     /// Its name with a value behind it.
     Choice(Choice<'a>),
 }
@@ -459,10 +461,10 @@ Example: the first start of a station, and then each later one:
   $ circuitd run station1.toml --create --layout 2
   $ circuitd run station1.toml
 
-Where the configuration names folders, the file `12.tape` among the offers is offered under number 12,
-`14.withdraw` withdraws number 14, and `13.seek` asks for number 13. What the circuit has agreed on is put
-among the releases: `12.tape` and `12.galley`, or `14.void`. The file `stop` among the offers ends the
-station, and is taken away at its next start.";
+Where the configuration names folders, the file `12.tape` among the offers is offered under number 12, and
+`12.text` as the tape that `punch` makes of it. `14.withdraw` withdraws number 14, and `13.seek` asks for
+number 13. What the circuit has agreed on is put among the releases: `12.tape` and `12.galley`, or
+`14.void`. The file `stop` among the offers ends the station, and is taken away at its next start.";
 
 const RUN: Form = Form {
     name: "run",
@@ -487,8 +489,18 @@ const RUN: Form = Form {
         },
         Given {
             name: "quiet",
-            shape: Shape::Flag,
+            shape: Shape::Rival("verbose"),
             help: "Tell faults alone, and not what becomes of each number",
+        },
+        Given {
+            name: "verbose",
+            shape: Shape::Rival("quiet"),
+            help: "Tell each ballot of each number, and each file that was sent, too",
+        },
+        Given {
+            name: "times",
+            shape: Shape::Flag,
+            help: "Put the moment before each line, in Coordinated Universal Time",
         },
     ],
 };
@@ -747,6 +759,10 @@ fn arg_of<'a>(alloc: Global, given: Given<'a>) -> Result<Arg<'a>, AllocError> {
         ),
         Shape::Words => Ok(arg.required(true).action(ArgAction::Append).num_args(1..)),
         Shape::Flag => Ok(arg.long(given.name).action(ArgAction::SetTrue)),
+        Shape::Rival(other) => arg
+            .long(given.name)
+            .action(ArgAction::SetTrue)
+            .conflicts_with(other),
         Shape::Choice(choice) => choice_of(arg, given.name, choice),
     }
 }

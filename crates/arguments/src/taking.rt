@@ -5,6 +5,7 @@ use crate::grammar::grammar;
 use ballots::Member;
 use clap::{ArgMatches, Error};
 use command_ends::{ScriptPaths, TapePaths};
+use log_terms::{LogTerms, loudness_of};
 use std::alloc::Global;
 use tape_drawing::Page;
 use tape_frames::Version;
@@ -145,11 +146,13 @@ fn run_of<'a>(matches: &ArgMatches<'a>) -> Option<Asked<'a>> {
     let config = matches.get_str("CONFIG")?;
     let layout = version_of(matches, "layout")?;
     let create = matches.get_flag("create").then_some(layout);
-    let quiet = matches.get_flag("quiet");
+    let loudness = loudness_of(matches.get_flag("quiet"), matches.get_flag("verbose"));
+    let times = matches.get_flag("times");
+    let log = LogTerms { loudness, times };
     Some(Asked::Run {
         config,
         create,
-        quiet,
+        log,
     })
 }
 

@@ -171,8 +171,8 @@ pub fn carry_out<F: RowFiles, R: Read, W: Write, E: Write>(
         Asked::Run {
             config,
             create,
-            quiet,
-        } => run(rt, *config, *create, *quiet, row_files, err),
+            log,
+        } => run(rt, *config, *create, *log, row_files, err),
         Asked::CheckConfig { config } => check_config(rt, *config, out, err),
         Asked::Stop { config } => stop(rt, *config, err),
         Asked::Rehearse { paths } => run_rehearse(rt, paths, out, err),

@@ -1,9 +1,9 @@
 -- The keys of a configuration, as a TOML document has them.
-use Rattle.std.specs.Prelude.{◌≡◌, ℕ, zero, suc, ℤ, pos, negsuc, List, Bool, codes, Option, Some, None, Result, Ok, Err, MatchResult, nat_le, ◌&&◌, if◌then◌else◌}
+use Rattle.std.specs.Prelude.{◌≡◌, ℕ, zero, suc, ℤ, pos, negsuc, List, Bool, true, false, codes, Option, Some, None, Result, Ok, Err, MatchResult, nat_le, ◌&&◌, if◌then◌else◌}
 use Rattle.protocol.specs.Limits.{most_members}
-use Rattle.toml.specs.Data.{Data, Items, no_items, item, Members, get_member, as_integer, as_str, as_array, as_table}
+use Rattle.toml.specs.Data.{Data, Items, no_items, item, Members, get_member, as_integer, as_str, as_bool, as_array, as_table}
 use Rattle.configuration.specs.declared.fault.ConfigKey.{ConfigKey}
-use Rattle.configuration.specs.declared.fault.ConfigKey.TheVariants.{Circuit, Member, Table, Widths, Rows, Folders, Offers, Releases, Station}
+use Rattle.configuration.specs.declared.fault.ConfigKey.TheVariants.{Circuit, Member, Table, Widths, Rows, Folders, Offers, Releases, Text, Renamed, Station}
 use Rattle.configuration.specs.declared.fault.ConfigFault.{ConfigFault}
 use Rattle.configuration.specs.declared.fault.ConfigFault.TheVariants.{Missing, WrongType, OutOfRange}
 
@@ -41,6 +41,8 @@ name_of Rows = codes "rows"
 name_of Folders = codes "folders"
 name_of Offers = codes "offers"
 name_of Releases = codes "releases"
+name_of Text = codes "text"
+name_of Renamed = codes "renamed"
 name_of Station = codes "station"
 
 -- the value at a key
@@ -78,21 +80,35 @@ paths_in file = do
   rows ← text_at Rows file
   Ok (three_paths table widths rows)
 
--- the paths of two folders
+-- true or false, as the value at a key has it where there is one, and else as here
+abbrev pub flag_of : ConfigKey → Bool → Option Data → Result Bool ConfigFault
+flag_of key default None = Ok default
+flag_of key default (Some value) = wanted (WrongType key) (as_bool value)
+
+-- the same of the key
+unfoldable pub flag_at : ConfigKey → Bool → Members → Result Bool ConfigFault
+flag_at key default keys = flag_of key default (get_member (name_of key) keys)
+
+-- the paths of two folders, whether texts may be offered in the first, and whether files come into it only by being renamed
 pub record FolderPaths : Type 0 where
   pub offers : List ℕ
   pub releases : List ℕ
+  pub text : Bool
+  pub renamed : Bool
 
--- these two
-abbrev pub two_paths : List ℕ → List ℕ → FolderPaths
-two_paths offers releases = record { offers = offers; releases = releases }
+-- these
+abbrev pub folder_paths : List ℕ → List ℕ → Bool → Bool → FolderPaths
+folder_paths offers releases text renamed = record { offers = offers; releases = releases; text = text; renamed = renamed }
 
--- the two paths in a table
+-- the two paths in a table; texts may be offered unless it says that they may not, and files come in any way unless it says that they
+-- are renamed
 unfoldable pub folder_paths_in : Members → Result FolderPaths ConfigFault
 folder_paths_in keys = do
   offers ← text_at Offers keys
   releases ← text_at Releases keys
-  Ok (two_paths offers releases)
+  text ← flag_at Text true keys
+  renamed ← flag_at Renamed false keys
+  Ok (folder_paths offers releases text renamed)
 
 -- the folders of the value at their key, where there is one: a table
 abbrev pub folders_of : Option Data → Result (Option FolderPaths) ConfigFault

@@ -3,7 +3,7 @@ use Rattle.std.specs.Prelude.{ℕ, List, length, string_bytes, Option, Some, Non
 use Rattle.protocol.specs.Limits.{most_members}
 use Rattle.toml.specs.Data.{Members}
 use Rattle.wire.specs.declared.address.Address.{Address}
-use Rattle.configuration.specs.Keys.{◌>>=◌, holds, number_at, Paths, FolderPaths, paths_in, folders_in, entries_at}
+use Rattle.configuration.specs.Keys.{◌>>=◌, holds, number_at, Paths, FolderPaths, folder_paths, paths_in, folders_in, entries_at}
 use Rattle.configuration.specs.Stations.{read_stations}
 use Rattle.configuration.specs.declared.config.Config.{Config}
 use Rattle.configuration.specs.declared.config.Folders.{Folders}
@@ -11,8 +11,8 @@ use Rattle.configuration.specs.declared.fault.ConfigKey.TheVariants.{Circuit, Me
 use Rattle.configuration.specs.declared.fault.ConfigFault.{ConfigFault}
 use Rattle.configuration.specs.declared.fault.ConfigFault.TheVariants.{NotToml, OutOfRange}
 
--- what a configuration says: the circuit, the own member, the paths of three files and, where it names them, of two folders, and the
--- stations in order of their members
+-- what a configuration says: the circuit, the own member, the paths of three files and, where it names them, of two folders, with what
+-- holds of what comes into them, and the stations in order of their members
 pub record ConfigFile : Type 0 where
   pub circuit : ℕ
   pub member : ℕ
@@ -34,9 +34,9 @@ file_with circuit member paths folders stations = record {
   stations = stations;
 }
 
--- the paths of these folders
+-- the paths of these folders, whether texts may be offered, and whether files come only by being renamed
 abbrev pub paths_of : Folders → FolderPaths
-paths_of folders = record { offers = string_bytes folders.offers; releases = string_bytes folders.releases }
+paths_of folders = folder_paths (string_bytes folders.offers) (string_bytes folders.releases) folders.text folders.renamed
 
 -- what this configuration says
 abbrev pub file_of : Config → ConfigFile

@@ -3,7 +3,7 @@
 ghost use Rattle.std.specs.Prelude.{◌≡◌, ◌⊎◌, Some, None, Ok, Err, IfOk, IfErr, option_map, nat_le, string_bytes};
 ghost use Rattle.toml.specs.Parse.{parse_document};
 ghost use Rattle.toml.specs.View.{table_view};
-ghost use Rattle.configuration.specs.Keys.{three_paths, two_paths};
+ghost use Rattle.configuration.specs.Keys.{three_paths, folder_paths};
 ghost use Rattle.configuration.specs.Reading.{file_with, file_of, paths_of, read_file, read_config};
 ghost use Rattle.configuration.specs.Stations.{IsCircuit};
 ghost use Rattle.configuration.specs.declared.fault.ConfigFault.TheVariants.{NotToml, OutOfMemory};
@@ -23,6 +23,10 @@ pub struct Folders {
     pub offers: String,
     /// The path of the folder in which it puts what the circuit has agreed on.
     pub releases: String,
+    /// Whether texts may be handed over to it.
+    pub text: bool,
+    /// Whether files come into the folder of offers only by being renamed.
+    pub renamed: bool,
 }
 
 /// The configuration of one station of a circuit.
@@ -58,16 +62,23 @@ pub(crate) fn document_of(alloc: Global, text: &str) -> Result<Table, ConfigFaul
 
 /// The folders at these paths.
 fn folders_of(alloc: Global, paths: &FolderPaths<'_>) -> Result<Folders, AllocError>
-    ensures { IfOk result (λ f. paths_of f ≡ two_paths paths.now.offers.now paths.now.releases.now) }
+    ensures { IfOk result (λ f. paths_of f ≡ folder_paths paths.now.offers.now paths.now.releases.now paths.now.text paths.now.renamed) }
 {
     let offers = paths.offers.to_string(alloc)?;
     let releases = paths.releases.to_string(alloc)?;
-    Ok(Folders { offers, releases })
+    let text = paths.text;
+    let renamed = paths.renamed;
+    Ok(Folders {
+        offers,
+        releases,
+        text,
+        renamed,
+    })
 }
 
 /// The folders at these paths, where there are such.
 fn folders_at(alloc: Global, paths: &Option<FolderPaths<'_>>) -> Result<Option<Folders>, AllocError>
-    ensures { IfOk result (λ f. option_map paths_of f ≡ option_map (λ p. two_paths p.offers.now p.releases.now) paths.now) }
+    ensures { IfOk result (λ f. option_map paths_of f ≡ option_map (λ p. folder_paths p.offers.now p.releases.now p.text p.renamed) paths.now) }
 {
     match paths {
         Some(paths) => Ok(Some(folders_of(alloc, paths)?)),

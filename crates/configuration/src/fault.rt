@@ -22,6 +22,9 @@ pub enum ConfigKey {
     /// The keys of that table.
     Offers,
     Releases,
+    /// These may be absent.
+    Text,
+    Renamed,
     Station,
 }
 
@@ -39,6 +42,8 @@ impl ConfigKey {
             ConfigKey::Folders => "folders",
             ConfigKey::Offers => "offers",
             ConfigKey::Releases => "releases",
+            ConfigKey::Text => "text",
+            ConfigKey::Renamed => "renamed",
             ConfigKey::Station => "station",
         }
     }

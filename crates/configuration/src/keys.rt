@@ -4,7 +4,7 @@ ghost use Rattle.std.specs.Prelude.{◌≡◌, ◌≤◌, IfSome, IfOk, option_m
 ghost use Rattle.protocol.specs.Limits.{most_members};
 ghost use Rattle.toml.specs.Data.{get_member};
 ghost use Rattle.toml.specs.View.{view, table_view, array_view};
-ghost use Rattle.configuration.specs.Keys.{Gives, in_range, value_at, number_at, text_at, three_paths, paths_in, two_paths, folder_paths_in, folders_in, entries_at};
+ghost use Rattle.configuration.specs.Keys.{Gives, in_range, value_at, number_at, text_at, flag_at, three_paths, paths_in, folder_paths, folder_paths_in, folders_in, entries_at};
 ghost use Rattle.configuration.specs.declared.fault.ConfigKey.TheVariants.{Circuit, Member as MemberKey};
 
 use crate::fault::{ConfigFault, ConfigKey};
@@ -26,11 +26,13 @@ pub(crate) struct Paths<'a> {
     pub(crate) rows: &'a str,
 }
 
-/// The paths of two folders.
+/// The paths of two folders, whether texts may be offered in the first, and whether files come into it only by being renamed.
 #[derive(Clone, Copy)]
 pub(crate) struct FolderPaths<'a> {
     pub(crate) offers: &'a str,
     pub(crate) releases: &'a str,
+    pub(crate) text: bool,
+    pub(crate) renamed: bool,
 }
 
 /// The value at the key of this name.
@@ -131,21 +133,34 @@ pub(crate) fn paths_in(file: &Table) -> Result<Paths<'_>, ConfigFault>
     })
 }
 
+/// True or false, as the key has it, or as given where it is absent.
+#[tactic(auto, unfolding(crate::specs::Keys::flag_at))]
+fn flag_at(keys: &Table, key: ConfigKey, default: bool) -> Result<bool, ConfigFault>
+    ensures { result ≡ flag_at key default (table_view keys.now) }
+{
+    match value_of(keys, key.name()) {
+        Some(value) => value.as_bool().ok_or(ConfigFault::WrongType(key)),
+        None => Ok(default),
+    }
+}
+
 /// The paths in the table of the folders.
 #[tactic(auto, unfolding(crate::specs::Keys::folder_paths_in))]
 fn folder_paths_in(keys: &Table) -> Result<FolderPaths<'_>, ConfigFault>
-    ensures { Gives result (λ p. two_paths p.offers.now p.releases.now) (folder_paths_in (table_view keys.now)) }
+    ensures { Gives result (λ p. folder_paths p.offers.now p.releases.now p.text p.renamed) (folder_paths_in (table_view keys.now)) }
 {
     Ok(FolderPaths {
         offers: text_at(keys, ConfigKey::Offers)?,
         releases: text_at(keys, ConfigKey::Releases)?,
+        text: flag_at(keys, ConfigKey::Text, true)?,
+        renamed: flag_at(keys, ConfigKey::Renamed, false)?,
     })
 }
 
 /// The folders, where there is a table of them.
 #[tactic(auto, unfolding(crate::specs::Keys::folders_in))]
 pub(crate) fn folders_in(file: &Table) -> Result<Option<FolderPaths<'_>>, ConfigFault>
-    ensures { Gives result (λ f. option_map (λ p. two_paths p.offers.now p.releases.now) f) (folders_in (table_view file.now)) }
+    ensures { Gives result (λ f. option_map (λ p. folder_paths p.offers.now p.releases.now p.text p.renamed) f) (folders_in (table_view file.now)) }
 {
     let Some(value) = value_of(file, ConfigKey::Folders.name()) else {
         return Ok(None);

@@ -9,10 +9,3 @@ pub struct Log<'a, E: Write> {
     /// Whether faults alone are told.
     pub quiet: bool,
 }
-
-impl<'a, E: Write> Log<'a, E> {
-    /// All is told to this writer, or faults alone.
-    pub fn new(err: &'a mut E, quiet: bool) -> Log<'a, E> {
-        Log { err, quiet }
-    }
-}

@@ -186,14 +186,15 @@ impl<'a, R: Rows, N: Wire, S: Desk> Driver<'a, R, N, S> {
         Ok(())
     }
 
-    /// The same; how the run ends. A fault that ends it is told.
-    pub fn run<E: Write>(&mut self, log: &mut Log<'_, E>) -> End
+    /// The same; how the run ends. All is told to this writer, or faults alone, and so is a fault that ends it.
+    pub fn run<E: Write>(&mut self, err: &mut E, quiet: bool) -> End
         ensures station { self.new.station.ghost_name ≡ self.old.station.ghost_name }
         ensures wire { self.new.wire.ghost_name ≡ self.old.wire.ghost_name }
         ensures was_kept { R.kept self.new.station.now.rows → R.kept self.old.station.now.rows }
         ensures drove { Drove (known R.Rows N.passed (fate_of S.Sink)) (post_of self.old) (post_of self.new) result Anyhow }
     {
-        match self.work_on(log) {
+        let mut log = Log { err, quiet };
+        match self.work_on(&mut log) {
             Ok(()) => End::Done,
             Err(fault) => fault.tell(log.err),
         }

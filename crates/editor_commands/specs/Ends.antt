@@ -11,8 +11,7 @@ use Rattle.editor_commands.specs.declared.cause.EditorFault.TheVariants as fault
 abbrev pub end_in : EditorFault → End
 end_in (faults.Other fault) = end_of fault
 end_in (faults.NoCode piece place) = Input
-end_in (faults.NoEnd place) = Input
-end_in (faults.TooLong place) = Input
+end_in (faults.Text fault) = Input
 end_in faults.EmptyText = Input
 end_in (faults.NoFrame at byte) = Input
 

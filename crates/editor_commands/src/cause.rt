@@ -7,6 +7,7 @@ ghost use Rattle.editor_commands.specs.Ends.{end_in};
 use command_ends::{End, Fault};
 use std::fmt;
 use std::io::Write;
+use text_tape::{PunchError, PunchFault};
 use text_words::Place;
 
 /// Why a command for editors did not end well.
@@ -16,10 +17,8 @@ pub enum EditorFault<'a> {
     Other(Fault<'a>),
     /// No frame means this piece of the text, which stands at this place.
     NoCode { piece: String, place: Place },
-    /// A brace is not closed.
-    NoEnd(Place),
-    /// The tape would be longer than one may be.
-    TooLong(Place),
+    /// A word of the text can't be punched, of which no piece is told: a brace is not closed, or the tape would be too long.
+    Text(PunchFault),
     /// A text has no word.
     EmptyText,
     /// This byte of a tape is above 63, and none before it is.
@@ -28,27 +27,22 @@ pub enum EditorFault<'a> {
 
 impl<'a> fmt::Display for EditorFault<'a> {
     fn fmt<W: fmt::Write>(&self, f: &mut fmt::Formatter<W>) -> fmt::Result {
-        let (what, place) = match self {
-            EditorFault::Other(fault) => return write!(f, "{fault}"),
-            EditorFault::EmptyText => return f.write_str("text: empty"),
-            EditorFault::NoFrame { at, byte } => {
-                return write!(
-                    f,
-                    "tape: bad frame at {at}\nbyte {byte} is no frame: circuitd punch makes a tape of a text"
-                );
-            }
+        match self {
+            EditorFault::Other(fault) => write!(f, "{fault}"),
+            EditorFault::Text(fault) => write!(f, "{fault}"),
+            EditorFault::EmptyText => write!(f, "{}", PunchError::Empty),
+            EditorFault::NoFrame { at, byte } => write!(
+                f,
+                "tape: bad frame at {at}\nbyte {byte} is no frame: circuitd punch makes a tape of a text"
+            ),
             EditorFault::NoCode { piece, place } => {
                 let (line, column) = (place.line, place.column);
-                return write!(
+                write!(
                     f,
                     "text: no code for {piece} at line {line} column {column}"
-                );
+                )
             }
-            EditorFault::NoEnd(place) => ("no end of a word", place),
-            EditorFault::TooLong(place) => ("too long", place),
-        };
-        let (line, column) = (place.line, place.column);
-        write!(f, "text: {what} at line {line} column {column}")
+        }
     }
 }
 

@@ -43,17 +43,16 @@ fn piece_text(alloc: Global, piece: &[u8]) -> Result<String, AllocError> {
 fn text_fault<'a>(alloc: Global, text: &[u8], fault: PunchFault) -> EditorFault<'a>
     ensures { IsOfInput (end_in result) }
 {
+    let PunchCause::NoCode { len } = fault.cause else {
+        return EditorFault::Text(fault);
+    };
     let place = Place {
         line: fault.line,
         column: fault.column,
     };
-    match fault.cause {
-        PunchCause::NoEnd => EditorFault::NoEnd(place),
-        PunchCause::TooLong => EditorFault::TooLong(place),
-        PunchCause::NoCode { len } => match piece_text(alloc, bytes_at(text, fault.at, len)) {
-            Ok(piece) => EditorFault::NoCode { piece, place },
-            Err(_) => EditorFault::Other(Fault::OutOfMemory),
-        },
+    match piece_text(alloc, bytes_at(text, fault.at, len)) {
+        Ok(piece) => EditorFault::NoCode { piece, place },
+        Err(_) => EditorFault::Other(Fault::OutOfMemory),
     }
 }
 

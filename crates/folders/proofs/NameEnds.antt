@@ -8,7 +8,7 @@ use Rattle.std.proofs.lemmas.Fmt.{parse-decimal}
 use Rattle.protocol.specs.Limits.{last_number}
 use Rattle.folders.specs.Offers.{NamesNoneOf, NamesNone}
 use Rattle.folders.specs.declared.names.Kind.{Kind}
-use Rattle.folders.specs.declared.names.Kind.TheVariants.{Tape, Withdraw, Seek}
+use Rattle.folders.specs.declared.names.Kind.TheVariants.{Tape, Text, Withdraw, Seek}
 
 -- what is left of a name where its end is cut off
 pub rest_is : (word s rest front : List ℕ) → StripsSuffix (FindsTextSuffix word) s rest → s ≡ front ++ word → rest ≡ front
@@ -18,11 +18,12 @@ rest_is word s rest front h is = append_cancel_right rest front word (ap (λ x. 
 pub reads : {E : Type 0} (n : ℕ) (bs : List ℕ) (r : Result ℕ E) → n ≤ last_number → bs ≡ decimal n → ParsesUnsigned 32 10 bs r → r ≡ Ok n
 reads n bs r most is h = parse-decimal 32 n bs r (omega arith) (omega arith) is h
 
--- of each kind none, where of all three none
-each_kind : (name : List ℕ) → All (λ kind. NamesNoneOf kind name) (Tape ∷ Withdraw ∷ Seek ∷ []) → NamesNone name
+-- of each kind none, where of all four none
+each_kind : (name : List ℕ) → All (λ kind. NamesNoneOf kind name) (Tape ∷ Text ∷ Withdraw ∷ Seek ∷ []) → NamesNone name
 each_kind name none Tape = none 0 Tape (omega arith)
-each_kind name none Withdraw = none 1 Tape (omega arith)
-each_kind name none Seek = none 2 Tape (omega arith)
+each_kind name none Text = none 1 Tape (omega arith)
+each_kind name none Withdraw = none 2 Tape (omega arith)
+each_kind name none Seek = none 3 Tape (omega arith)
 
-pub names_none : (name : List ℕ) (i : ℕ) → 3 ≤ i → All (λ kind. NamesNoneOf kind name) (take i (Tape ∷ Withdraw ∷ Seek ∷ [])) → NamesNone name
-names_none name i past none = each_kind name (subst (λ (ks : List Kind). All (λ kind. NamesNoneOf kind name) ks) (take_all i (Tape ∷ Withdraw ∷ Seek ∷ []) past) none)
+pub names_none : (name : List ℕ) (i : ℕ) → 4 ≤ i → All (λ kind. NamesNoneOf kind name) (take i (Tape ∷ Text ∷ Withdraw ∷ Seek ∷ [])) → NamesNone name
+names_none name i past none = each_kind name (subst (λ (ks : List Kind). All (λ kind. NamesNoneOf kind name) ks) (take_all i (Tape ∷ Text ∷ Withdraw ∷ Seek ∷ []) past) none)

@@ -6,6 +6,5 @@ pub mod LogNames
 pub mod Offers
 pub mod OwnNames
 pub mod Stamps
-pub mod Standing
 pub mod Steps
 pub mod Written

@@ -13,6 +13,7 @@ use Rattle.folders.specs.declared.wishes.Wish.TheVariants.{Offered, Sought}
 -- how the names of this kind end
 abbrev pub kind_word : Kind → List ℕ
 kind_word kinds.Tape = codes ".tape"
+kind_word kinds.Text = codes ".text"
 kind_word kinds.Withdraw = codes ".withdraw"
 kind_word kinds.Seek = codes ".seek"
 

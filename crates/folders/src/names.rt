@@ -22,6 +22,8 @@ pub fn file_name(alloc: Global, number: u32, kind: &str) -> Result<String, Alloc
 pub enum Kind {
     /// Its frames are offered.
     Tape,
+    /// The tape that its text is punched as is offered.
+    Text,
     /// The number's withdrawal is offered.
     Withdraw,
     /// The number's entry is sought.
@@ -43,6 +45,7 @@ fn kind_word(kind: Kind) -> &'static str
 {
     match kind {
         Kind::Tape => ".tape",
+        Kind::Text => ".text",
         Kind::Withdraw => ".withdraw",
         Kind::Seek => ".seek",
     }
@@ -113,7 +116,7 @@ pub fn named(alloc: Global, name: &str) -> Result<Option<Request>, AllocError>
     ensures sound { IfOk result (λ named. IfSome named (λ r. IsNameOf name.now r.number r.kind)) }
     ensures else_none { IfOk result (λ named. IfNone named (NamesNone name.now)) }
 {
-    for kind in [Kind::Tape, Kind::Withdraw, Kind::Seek] {
+    for kind in [Kind::Tape, Kind::Text, Kind::Withdraw, Kind::Seek] {
         let found = named_as(alloc, name, kind)?;
         if found.is_some() {
             return Ok(found);

@@ -8,7 +8,7 @@ use Rattle.std.proofs.lemmas.List.Folds.{list_any-append}
 use Rattle.std.proofs.lemmas.List.Sums.{sum_by-cons}
 use Rattle.pace.specs.UnderWay.{without, without_at}
 use Rattle.folders.specs.declared.names.Kind.{Kind}
-use Rattle.folders.specs.declared.names.Kind.TheVariants.{Tape, Withdraw, Seek}
+use Rattle.folders.specs.declared.names.Kind.TheVariants.{Tape, Text, Withdraw, Seek}
 use Rattle.folders.specs.declared.names.Request.{Request}
 use Rattle.folders.specs.declared.wishes.Wish.{Wish}
 use Rattle.offers.specs.declared.offer.Found.{Found}
@@ -23,7 +23,7 @@ use Rattle.offers.specs.declared.stage.Stage.TheVariants.{Watched, Waiting, Unde
 use Rattle.offers.specs.Looks.{is_same_stamp, stage_after, seen, looked}
 use Rattle.offers.specs.Order.{rank, kind_rank, file_at, RisesFrom, rising_from}
 use Rattle.offers.specs.Rules.{is_under_way}
-use Rattle.offers.specs.Stages.{after, anew, landed, changed, all_changed, tape_of, withdrawal_of, search_of, news_of}
+use Rattle.offers.specs.Stages.{after, anew, landed, changed, all_changed, tape_of, text_of, withdrawal_of, search_of, news_of}
 use Rattle.offers.specs.UnderWay.{flies, file_flies, is_asked, asked_count, AreHeld, AreAlone, begins}
 use Rattle.offers.proofs.Editing.{two_ways}
 use Rattle.offers.proofs.Merging.{absent}
@@ -75,17 +75,25 @@ other_joins m n w apart = let other : (n == m) ≡ false = grind (arith, nat_tes
 
 same_kind : (i j : Kind) → kind_rank i ≡ kind_rank j → i ≡ j
 same_kind Tape Tape e = refl
+same_kind Tape Text e = cc
 same_kind Tape Withdraw e = cc
 same_kind Tape Seek e = cc
+same_kind Text Tape e = cc
+same_kind Text Text e = refl
+same_kind Text Withdraw e = cc
+same_kind Text Seek e = cc
 same_kind Withdraw Tape e = cc
+same_kind Withdraw Text e = cc
 same_kind Withdraw Withdraw e = refl
 same_kind Withdraw Seek e = cc
 same_kind Seek Tape e = cc
+same_kind Seek Text e = cc
 same_kind Seek Withdraw e = cc
 same_kind Seek Seek e = refl
 
-few_kinds : (k : Kind) → kind_rank k ≤ 2
+few_kinds : (k : Kind) → kind_rank k ≤ 3
 few_kinds Tape = omega arith
+few_kinds Text = omega arith
 few_kinds Withdraw = omega arith
 few_kinds Seek = omega arith
 
@@ -218,32 +226,47 @@ pub landed_fewer : (n : ℕ) (landing : Landing) (now : ℕ) (os : List Offer) (
 landed_fewer n landing now os r h =
     let g = after (news.Landed landing) now in
     let one = changed (rank (tape_of n)) g os in
-    let two = changed (rank (withdrawal_of n)) g one in
-    let in_two : is_asked two r ≡ true = was_flying (rank (search_of n)) (rank r) g two (lands landing now) h in
-    let in_one : is_asked one r ≡ true = was_flying (rank (withdrawal_of n)) (rank r) g one (lands landing now) in_two in
+    let two = changed (rank (text_of n)) g one in
+    let three = changed (rank (withdrawal_of n)) g two in
+    let in_three : is_asked three r ≡ true = was_flying (rank (search_of n)) (rank r) g three (lands landing now) h in
+    let in_two : is_asked two r ≡ true = was_flying (rank (withdrawal_of n)) (rank r) g two (lands landing now) in_three in
+    let in_one : is_asked one r ≡ true = was_flying (rank (text_of n)) (rank r) g one (lands landing now) in_two in
     was_flying (rank (tape_of n)) (rank r) g os (lands landing now) in_one
 
 none_landed : (n : ℕ) (kind : Kind) (landing : Landing) (now : ℕ) (os : List Offer) → is_asked (all_changed n (after (news.Landed landing) now) os) (record { number = n; kind = kind }) ≡ true → ⊥
 none_landed n Tape landing now os h =
     let g = after (news.Landed landing) now in
     let one = changed (rank (tape_of n)) g os in
-    let two = changed (rank (withdrawal_of n)) g one in
-    let in_two : is_asked two (tape_of n) ≡ true = was_flying (rank (search_of n)) (rank (tape_of n)) g two (lands landing now) h in
-    let in_one : is_asked one (tape_of n) ≡ true = was_flying (rank (withdrawal_of n)) (rank (tape_of n)) g one (lands landing now) in_two in
+    let two = changed (rank (text_of n)) g one in
+    let three = changed (rank (withdrawal_of n)) g two in
+    let in_three : is_asked three (tape_of n) ≡ true = was_flying (rank (search_of n)) (rank (tape_of n)) g three (lands landing now) h in
+    let in_two : is_asked two (tape_of n) ≡ true = was_flying (rank (withdrawal_of n)) (rank (tape_of n)) g two (lands landing now) in_three in
+    let in_one : is_asked one (tape_of n) ≡ true = was_flying (rank (text_of n)) (rank (tape_of n)) g one (lands landing now) in_two in
     let none : is_asked one (tape_of n) ≡ false = none_flying (rank (tape_of n)) g os (has_landed landing now) in
+    cc
+none_landed n Text landing now os h =
+    let g = after (news.Landed landing) now in
+    let one = changed (rank (tape_of n)) g os in
+    let two = changed (rank (text_of n)) g one in
+    let three = changed (rank (withdrawal_of n)) g two in
+    let in_three : is_asked three (text_of n) ≡ true = was_flying (rank (search_of n)) (rank (text_of n)) g three (lands landing now) h in
+    let in_two : is_asked two (text_of n) ≡ true = was_flying (rank (withdrawal_of n)) (rank (text_of n)) g two (lands landing now) in_three in
+    let none : is_asked two (text_of n) ≡ false = none_flying (rank (text_of n)) g one (has_landed landing now) in
     cc
 none_landed n Withdraw landing now os h =
     let g = after (news.Landed landing) now in
     let one = changed (rank (tape_of n)) g os in
-    let two = changed (rank (withdrawal_of n)) g one in
-    let in_two : is_asked two (withdrawal_of n) ≡ true = was_flying (rank (search_of n)) (rank (withdrawal_of n)) g two (lands landing now) h in
-    let none : is_asked two (withdrawal_of n) ≡ false = none_flying (rank (withdrawal_of n)) g one (has_landed landing now) in
+    let two = changed (rank (text_of n)) g one in
+    let three = changed (rank (withdrawal_of n)) g two in
+    let in_three : is_asked three (withdrawal_of n) ≡ true = was_flying (rank (search_of n)) (rank (withdrawal_of n)) g three (lands landing now) h in
+    let none : is_asked three (withdrawal_of n) ≡ false = none_flying (rank (withdrawal_of n)) g two (has_landed landing now) in
     cc
 none_landed n Seek landing now os h =
     let g = after (news.Landed landing) now in
     let one = changed (rank (tape_of n)) g os in
-    let two = changed (rank (withdrawal_of n)) g one in
-    let none : is_asked (changed (rank (search_of n)) g two) (search_of n) ≡ false = none_flying (rank (search_of n)) g two (has_landed landing now) in
+    let two = changed (rank (text_of n)) g one in
+    let three = changed (rank (withdrawal_of n)) g two in
+    let none : is_asked (changed (rank (search_of n)) g three) (search_of n) ≡ false = none_flying (rank (search_of n)) g three (has_landed landing now) in
     cc
 
 -- none of its files is under way then

@@ -4,7 +4,7 @@ use Rattle.std.proofs.lemmas.Bool.{cases_lt}
 use Rattle.std.proofs.lemmas.Bool.Decides.{nat_tests}
 use Rattle.std.proofs.lemmas.List.{get_or-map, get_or-set_same, get_or-set_other, get_or_default, length-set, length-map}
 use Rattle.folders.specs.declared.names.Kind.{Kind}
-use Rattle.folders.specs.declared.names.Kind.TheVariants.{Tape, Withdraw, Seek}
+use Rattle.folders.specs.declared.names.Kind.TheVariants.{Tape, Text, Withdraw, Seek}
 use Rattle.folders.specs.declared.names.Request.{Request}
 use Rattle.offers.specs.declared.marks.Marks.{Marks}
 use Rattle.offers.specs.declared.offer.Offer.{Offer}
@@ -19,7 +19,7 @@ use Rattle.offers.specs.declared.stage.News.TheVariants as news
 use Rattle.offers.specs.Looks.{seen, looked}
 use Rattle.offers.specs.Order.{rank, file_at, rising_from, Rises, IsPlaceOf}
 use Rattle.offers.specs.Rules.{Standing, entry_in, is_under_way, is_leaving_of, has_other_of}
-use Rattle.offers.specs.Stages.{after, change_at, changed, all_changed, tape_of, withdrawal_of, search_of}
+use Rattle.offers.specs.Stages.{after, change_at, changed, all_changed, tape_of, text_of, withdrawal_of, search_of}
 use Rattle.offers.proofs.Airborne.{same_number, other_stays, other_joins}
 use Rattle.offers.proofs.Asking.{standing_at}
 use Rattle.offers.proofs.Editing.{two_ways, stays, only_one, file_is}
@@ -100,10 +100,11 @@ has_room b files m marked e = record {
 apart_place : (r s : Request) → r.number ≢ s.number → rank r ≢ rank s
 apart_place r s apart = λ e. apart (same_number r s e)
 
-last_place : (n : ℕ) (k : Kind) (r : Request) → rank r ≡ rank (record { number = n; kind = k }) → rank r ≢ rank (search_of n) → rank r ≢ rank (withdrawal_of n) → rank r ≡ rank (tape_of n)
-last_place n Tape r is a b = is
-last_place n Withdraw r is a b = absurd (b is)
-last_place n Seek r is a b = absurd (a is)
+last_place : (n : ℕ) (k : Kind) (r : Request) → rank r ≡ rank (record { number = n; kind = k }) → rank r ≢ rank (search_of n) → rank r ≢ rank (withdrawal_of n) → rank r ≢ rank (text_of n) → rank r ≡ rank (tape_of n)
+last_place n Tape r is a b c = is
+last_place n Text r is a b c = absurd (c is)
+last_place n Withdraw r is a b c = absurd (b is)
+last_place n Seek r is a b c = absurd (a is)
 
 its_place : (r : Request) (n : ℕ) → r.number ≡ n → rank r ≡ rank (record { number = n; kind = r.kind })
 its_place r n e = rw e refl
@@ -130,27 +131,33 @@ no_place f files place old rises none = record {
   room = refl;
 }
 
-pub of_places : (f : Offer → Option ℕ) (files : List Offer) (n : ℕ) (a b c d : List (Option ℕ)) → RemarksPlace f files (rank (tape_of n)) a b → RemarksPlace f files (rank (withdrawal_of n)) b c → RemarksPlace f files (rank (search_of n)) c d → RemarksNumber f files n a d
-of_places f files n a b c d one two three = record {
+pub of_places : (f : Offer → Option ℕ) (files : List Offer) (n : ℕ) (a b c d e : List (Option ℕ)) → RemarksPlace f files (rank (tape_of n)) a b → RemarksPlace f files (rank (text_of n)) b c → RemarksPlace f files (rank (withdrawal_of n)) c d → RemarksPlace f files (rank (search_of n)) d e → RemarksNumber f files n a e
+of_places f files n a b c d e one two three four = record {
   here = λ i o within is.
       let r = (get_or files i o).request in
       elim (two_ways (rank r == rank (search_of n))) [
-        | inl search ↦ three.here i o within (grind (arith, nat_tests))
+        | inl search ↦ four.here i o within (grind (arith, nat_tests))
         | inr no_search ↦
-            let apart3 : rank r ≢ rank (search_of n) = grind (arith, nat_tests) in
-            let rest : moment_at c i ≡ f (get_or files i o) = elim (two_ways (rank r == rank (withdrawal_of n))) [
-              | inl withdrawal ↦ two.here i o within (grind (arith, nat_tests))
+            let apart4 : rank r ≢ rank (search_of n) = grind (arith, nat_tests) in
+            let third : moment_at d i ≡ f (get_or files i o) = elim (two_ways (rank r == rank (withdrawal_of n))) [
+              | inl withdrawal ↦ three.here i o within (grind (arith, nat_tests))
               | inr no_withdrawal ↦
-                  let apart2 : rank r ≢ rank (withdrawal_of n) = grind (arith, nat_tests) in
-                  two.there i o within apart2 ∙ one.here i o within (last_place n r.kind r (its_place r n is) apart3 apart2)
+                  let apart3 : rank r ≢ rank (withdrawal_of n) = grind (arith, nat_tests) in
+                  let second : moment_at c i ≡ f (get_or files i o) = elim (two_ways (rank r == rank (text_of n))) [
+                    | inl text ↦ two.here i o within (grind (arith, nat_tests))
+                    | inr no_text ↦
+                        let apart2 : rank r ≢ rank (text_of n) = grind (arith, nat_tests) in
+                        two.there i o within apart2 ∙ one.here i o within (last_place n r.kind r (its_place r n is) apart4 apart3 apart2)
+                  ] in
+                  three.there i o within apart3 ∙ second
             ] in
-            three.there i o within apart3 ∙ rest
+            four.there i o within apart4 ∙ third
       ];
   there = λ i o within apart.
       let r = (get_or files i o).request in
-      three.there i o within (apart_place r (search_of n) apart) ∙ two.there i o within (apart_place r (withdrawal_of n) apart) ∙ one.there i o within (apart_place r (tape_of n) apart);
-  past = λ i behind. three.past i behind ∙ two.past i behind ∙ one.past i behind;
-  room = three.room ∙ two.room ∙ one.room;
+      four.there i o within (apart_place r (search_of n) apart) ∙ three.there i o within (apart_place r (withdrawal_of n) apart) ∙ two.there i o within (apart_place r (text_of n) apart) ∙ one.there i o within (apart_place r (tape_of n) apart);
+  past = λ i behind. four.past i behind ∙ three.past i behind ∙ two.past i behind ∙ one.past i behind;
+  room = four.room ∙ three.room ∙ two.room ∙ one.room;
 }
 
 pub settle : (f g : Offer → Option ℕ) (n : ℕ) (files new_files : List Offer) (old new : List (Option ℕ)) → AreMarks f files old → length new_files ≡ length files → ((i : ℕ) (d : Offer) → i < length files → (get_or new_files i d).request.number ≢ n → g (get_or new_files i d) ≡ f (get_or files i d)) → RemarksNumber g new_files n old new → AreMarks g new_files new
@@ -223,20 +230,25 @@ changed_apart r g os i d within apart =
 pub many_all : (n : ℕ) (g : Stage → Stage) (os : List Offer) → length (all_changed n g os) ≡ length os
 many_all n g os =
     let one = changed (rank (tape_of n)) g os in
-    let two = changed (rank (withdrawal_of n)) g one in
-    many_changed (rank (search_of n)) g two ∙ many_changed (rank (withdrawal_of n)) g one ∙ many_changed (rank (tape_of n)) g os
+    let two = changed (rank (text_of n)) g one in
+    let three = changed (rank (withdrawal_of n)) g two in
+    many_changed (rank (search_of n)) g three ∙ many_changed (rank (withdrawal_of n)) g two ∙ many_changed (rank (text_of n)) g one ∙ many_changed (rank (tape_of n)) g os
 
 pub all_apart : (n : ℕ) (g : Stage → Stage) (os : List Offer) (i : ℕ) (d : Offer) → i < length os → (get_or (all_changed n g os) i d).request.number ≢ n → get_or (all_changed n g os) i d ≡ get_or os i d
 all_apart n g os i d within apart =
     let one = changed (rank (tape_of n)) g os in
-    let two = changed (rank (withdrawal_of n)) g one in
+    let two = changed (rank (text_of n)) g one in
+    let three = changed (rank (withdrawal_of n)) g two in
     let many_one = many_changed (rank (tape_of n)) g os in
-    let many_two = many_changed (rank (withdrawal_of n)) g one in
-    let third = changed_apart (search_of n) g two i d (omega arith) apart in
-    let apart_two : (get_or two i d).request.number ≢ n = rw third at apart in
-    let second = changed_apart (withdrawal_of n) g one i d (omega arith) apart_two in
+    let many_two = many_changed (rank (text_of n)) g one in
+    let many_three = many_changed (rank (withdrawal_of n)) g two in
+    let fourth = changed_apart (search_of n) g three i d (omega arith) apart in
+    let apart_three : (get_or three i d).request.number ≢ n = rw fourth at apart in
+    let third = changed_apart (withdrawal_of n) g two i d (omega arith) apart_three in
+    let apart_two : (get_or two i d).request.number ≢ n = rw third at apart_three in
+    let second = changed_apart (text_of n) g one i d (omega arith) apart_two in
     let apart_one : (get_or one i d).request.number ≢ n = rw second at apart_two in
-    third ∙ second ∙ changed_apart (tape_of n) g os i d within apart_one
+    fourth ∙ third ∙ second ∙ changed_apart (tape_of n) g os i d within apart_one
 
 -- ---- what each change leaves
 

@@ -1,20 +1,21 @@
 -- The order of the files among the offers.
 use Rattle.std.specs.Prelude.{◌≡◌, ◌<◌, length, slice_index_or, ℕ, ◌+◌, ◌*◌, ◌≤◌, ◌==◌, suc, List, [], ◌∷◌, Option, Some, None, Bool, false, nat_lt, if◌then◌else◌}
 use Rattle.folders.specs.declared.names.Kind.{Kind}
-use Rattle.folders.specs.declared.names.Kind.TheVariants.{Tape, Withdraw, Seek}
+use Rattle.folders.specs.declared.names.Kind.TheVariants.{Tape, Text, Withdraw, Seek}
 use Rattle.folders.specs.declared.names.Request.{Request}
 use Rattle.offers.specs.declared.offer.Found.{Found}
 use Rattle.offers.specs.declared.offer.Offer.{Offer}
 
--- of one number the tape stands first, then the withdrawal, then the search
+-- of one number the tape stands first, then the text, then the withdrawal, then the search
 abbrev pub kind_rank : Kind → ℕ
 kind_rank Tape = 0
-kind_rank Withdraw = 1
-kind_rank Seek = 2
+kind_rank Text = 1
+kind_rank Withdraw = 2
+kind_rank Seek = 3
 
 -- the place of a file among all files that there can be
 abbrev pub rank : Request → ℕ
-rank r = 3 * r.number + kind_rank r.kind
+rank r = 4 * r.number + kind_rank r.kind
 
 -- the files are in order from this place on, each once
 abbrev pub RisesFrom : ℕ → List Offer → Type 0

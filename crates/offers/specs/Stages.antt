@@ -1,6 +1,6 @@
 -- What news of a file makes of what is known of it.
 use Rattle.std.specs.Prelude.{ℕ, ◌+◌, ◌-◌, ◌*◌, ◌^◌, ◌==◌, min, true, false, List, map, Option, Some, None, Result, Ok, Err, if◌then◌else◌}
-use Rattle.folders.specs.declared.names.Kind.TheVariants.{Tape, Withdraw, Seek}
+use Rattle.folders.specs.declared.names.Kind.TheVariants.{Tape, Text, Withdraw, Seek}
 use Rattle.folders.specs.declared.names.Request.{Request}
 use Rattle.folders.specs.declared.wishes.Wish.{Wish}
 use Rattle.offers.specs.declared.offer.Offer.{Offer}
@@ -96,6 +96,9 @@ changed k g offers = map (change_at k g) offers
 abbrev pub tape_of : ℕ → Request
 tape_of n = record { number = n; kind = Tape }
 
+abbrev pub text_of : ℕ → Request
+text_of n = record { number = n; kind = Text }
+
 abbrev pub withdrawal_of : ℕ → Request
 withdrawal_of n = record { number = n; kind = Withdraw }
 
@@ -104,7 +107,8 @@ search_of n = record { number = n; kind = Seek }
 
 -- the files of a number changed so and no others
 abbrev pub all_changed : ℕ → (Stage → Stage) → List Offer → List Offer
-all_changed n g offers = changed (rank (search_of n)) g (changed (rank (withdrawal_of n)) g (changed (rank (tape_of n)) g offers))
+all_changed n g offers =
+    changed (rank (search_of n)) g (changed (rank (withdrawal_of n)) g (changed (rank (text_of n)) g (changed (rank (tape_of n)) g offers)))
 
 -- what a file asks for, where it was read and is an offer
 abbrev pub wish_of : Stage → Option Wish

@@ -3,7 +3,7 @@
 ghost use Rattle.std.specs.Prelude.{◌≡◌, ◌≤◌, ◌<◌, ◌+◌, ◌-◌, ◌↔◌, Some, None, IsTrue, if◌then◌else◌, IfSome, length, is_some, min, true, slice_index_or};
 ghost use Rattle.offers.specs.declared.offer.Offer.{Offer};
 ghost use Rattle.offers.specs.Rules.{MayDo};
-ghost use Rattle.offers.specs.Stages.{after, changed, tape_of, withdrawal_of, search_of};
+ghost use Rattle.offers.specs.Stages.{after, changed, tape_of, text_of, withdrawal_of, search_of};
 ghost use Rattle.offers.specs.Order.{rank, Rises};
 ghost use Rattle.pace.specs.UnderWay.{with_one};
 ghost use Rattle.offers.specs.Left.{NoMoves, NoOthers, NoAsks, IsSoonest, MatchSoonest, HasLeft};
@@ -319,11 +319,15 @@ impl Book {
     /// read does, one after the other.
     pub fn leaving(&self, number: Number) -> Option<Deed>
         ensures rules { IfSome result (MayDo self.now) }
-        ensures none { result ≡ None → HasLeft self.now (tape_of number) × HasLeft self.now (withdrawal_of number) × HasLeft self.now (search_of number) }
+        ensures none { result ≡ None → HasLeft self.now (tape_of number) × HasLeft self.now (text_of number) × HasLeft self.now (withdrawal_of number) × HasLeft self.now (search_of number) }
     {
         let tape = self.leaving_of(request_of(number, Kind::Tape));
         if tape.is_some() {
             return tape;
+        }
+        let text = self.leaving_of(request_of(number, Kind::Text));
+        if text.is_some() {
+            return text;
         }
         let withdrawal = self.leaving_of(request_of(number, Kind::Withdraw));
         if withdrawal.is_some() {

@@ -67,6 +67,12 @@ pub(crate) fn tell_all(offers: &mut Vec<Offer>, number: Number, landing: Landing
     );
     tell(
         offers,
+        request_of(number, Kind::Text),
+        News::Landed(landing),
+        now,
+    );
+    tell(
+        offers,
         request_of(number, Kind::Withdraw),
         News::Landed(landing),
         now,

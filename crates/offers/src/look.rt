@@ -58,7 +58,7 @@ fn seen_as(known: Option<Offer>, found: Found, now: u64) -> Offer
 
 /// Takes the file at a place out, which stands in front where it is there.
 fn take_at(rest: &mut VecDeque<Offer>, place: u32) -> Option<Offer>
-    requires within { place ≤ 2_999_999 }
+    requires within { place ≤ 3_999_999 }
     requires rises { RisesFrom place rest.old.items }
     ensures file { result ≡ file_at rest.old.items place }
     ensures rest { rest.new.items ≡ from (suc place) rest.old.items }

@@ -155,6 +155,7 @@ pub(crate) fn remark(marks: &mut Marks, offers: &[Offer], known: &Known, number:
     ensures asks { RemarksNumber (ask_mark known.now.released.entries known.now.window known.now.still known.now.looked) offers.now number marks.old.asks marks.new.asks }
 {
     remark_at(marks, offers, known, rank(request_of(number, Kind::Tape)));
+    remark_at(marks, offers, known, rank(request_of(number, Kind::Text)));
     remark_at(
         marks,
         offers,

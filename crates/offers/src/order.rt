@@ -8,20 +8,21 @@ use folders::{Kind, Request};
 /// The place of a kind among those of one number.
 fn kind_rank(kind: Kind) -> u32
     ensures rank { result ≡ kind_rank kind }
-    ensures within { result ≤ 2 }
+    ensures within { result ≤ 3 }
 {
     match kind {
         Kind::Tape => 0,
-        Kind::Withdraw => 1,
-        Kind::Seek => 2,
+        Kind::Text => 1,
+        Kind::Withdraw => 2,
+        Kind::Seek => 3,
     }
 }
 
-/// The place of a file among all files that there can be: in order of numbers, and of one number the tape, the withdrawal, the search.
-/// What is found is to be put in this order.
+/// The place of a file among all files that there can be: in order of numbers, and of one number the tape, the text, the withdrawal, the
+/// search. What is found is to be put in this order.
 pub fn rank(request: Request) -> u32
     ensures rank { result ≡ rank request }
-    ensures within { result ≤ 2_999_999 }
+    ensures within { result ≤ 3_999_999 }
 {
-    3 * request.number.get() + kind_rank(request.kind)
+    4 * request.number.get() + kind_rank(request.kind)
 }

@@ -6,12 +6,19 @@ ghost use Rattle.offers.specs.Stages.{later, longer, put_off, landed, after, ane
 use folders::{LAST_PAUSE, Wish};
 use refusals::StepRefusal;
 use tape_frames::TapeFault;
+use text_tape::PunchError;
 
 /// Why a file is no offer, though its name asks for something.
 #[derive(Clone, Copy)]
 pub enum Reason {
     /// It holds no tape.
     Tape(TapeFault),
+    /// It holds no text that becomes a tape.
+    Text(PunchError),
+    /// It holds a text of more bytes than one may have.
+    LongText,
+    /// It is a text, and none may be offered here.
+    NoTexts,
     /// The station does not take it, and never will.
     Step(StepRefusal),
 }

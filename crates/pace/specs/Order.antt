@@ -23,10 +23,10 @@ pub record Counts : Type 0 where
 abbrev pub first_counts : Counts
 first_counts = record { looked = None; just_looked = false; since_due = 0; since_deed = 0; seen = seens.Unseen }
 
--- 250 milliseconds have gone by since the last look, or there was none
+-- 100 milliseconds have gone by since the last look, or there was none
 abbrev pub has_rested : Option ℕ → ℕ → Bool
 has_rested None now = true
-has_rested (Some looked) now = nat_le (looked + 250) now
+has_rested (Some looked) now = nat_le (looked + 100) now
 
 -- a file may be asked for: fewer than 16 are under way, and no member is behind
 abbrev pub may_ask : Sight → Bool

@@ -5,7 +5,7 @@ use Rattle.pace.specs.declared.turns.Sight.{Sight}
 use Rattle.pace.specs.declared.turns.Work.TheVariants as works
 use Rattle.pace.specs.Order.{Counts, has_rested, has_deed, next_work}
 
--- 250 milliseconds after the last look comes a look, whatever waits; but not two one after the other
+-- 100 milliseconds after the last look comes a look, whatever waits; but not two one after the other
 abbrev pub LooksComeFirst : Type 0
 LooksComeFirst =
     (c : Counts) (s : Sight) → has_rested c.looked s.now ≡ true → c.just_looked ≡ false → next_work c s ≡ works.Look

@@ -6,7 +6,7 @@ ghost use Rattle.pace.specs.Order.{after_work, first_counts, has_deed, has_reste
 use std::marker::Model;
 
 /// The pause between the end of a look at the folder and the next look, in milliseconds.
-pub const LOOK: u64 = 250;
+pub const LOOK: u64 = 100;
 
 /// How long it is waited for a datagram at most, in milliseconds.
 pub const WAIT: u64 = 50;

@@ -80,18 +80,24 @@ fn wait_for(waits: &mut Vec<NamedFile>, named: NamedFile) -> Result<(), AllocErr
     }
 }
 
+/// A tape that was released, and its slugs, or why it does not set.
+#[derive(Clone, Copy)]
+struct SetTape<'a> {
+    tape: &'a Tape,
+    set: &'a Result<Vec<Slug>, SetFault>,
+}
+
 /// Lets the files of a tape wait behind the others.
 fn keep_tape(
     alloc: Global,
     number: u32,
-    tape: &Tape,
-    set: &Result<Vec<Slug>, SetFault>,
+    released: &SetTape<'_>,
     waits: &mut Vec<NamedFile>,
 ) -> Result<(), AllocError>
-    ensures { OnOk result (waits.new.items ≡ waits.old.items ++ tape_files number tape.now (slugs_of set.now)) }
+    ensures { OnOk result (waits.new.items ≡ waits.old.items ++ tape_files number released.now.tape.now (slugs_of released.now.set.now)) }
 {
-    let frames = tape_file(alloc, number, tape)?;
-    let text = galley_file(alloc, number, set)?;
+    let frames = tape_file(alloc, number, released.tape)?;
+    let text = galley_file(alloc, number, released.set)?;
     wait_for(waits, frames)?;
     wait_for(waits, text)
 }
@@ -111,7 +117,10 @@ fn keep(alloc: Global, release: &Release, waits: &mut Vec<NamedFile>) -> Result<
     let number = release.number.get();
     match &release.entry {
         Entry::Void => keep_void(alloc, number, waits),
-        Entry::Tape(tape) => keep_tape(alloc, number, tape, &release.set, waits),
+        Entry::Tape(tape) => {
+            let set = &release.set;
+            keep_tape(alloc, number, &SetTape { tape, set }, waits)
+        }
     }
 }
 

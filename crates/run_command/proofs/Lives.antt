@@ -19,6 +19,7 @@ use Rattle.driver.specs.Driving.{known, post, Drove, Anyhow}
 use Rattle.folders.specs.declared.names.Request.{Request}
 use Rattle.folders.specs.declared.wishes.Wish.{Wish}
 use Rattle.folders.specs.declared.wishes.Wish.TheVariants.{Offered, Sought}
+use Rattle.plant_files.specs.Standing.{Texts}
 use Rattle.plant_files.specs.Asking.{call_of}
 use Rattle.plant_files.specs.Filing.{files_of}
 use Rattle.offers.specs.Book.{IsFresh}
@@ -28,45 +29,45 @@ use Rattle.run_command.specs.Minding.{WasRead, Holds, onto}
 use Rattle.run_command.specs.Living.{Kept, kept, Lived, LivedFront, MayAsk}
 use Rattle.run_command.specs.Running.{Tells, tells}
 use Rattle.run_command.specs.Story.{Happened, stepped, did, event_in, events_of, doing_in, doings_of, file_in, files_of_story, MayBeCalled}
-use Rattle.run_command.specs.Working.{Follows, Deals, WritesAndDeals, Always, Writes, HandsOn}
+use Rattle.run_command.specs.Working.{Follows, DealsBy, Deals, WritesAndDeals, Always, Writes, HandsOn}
 use Rattle.run_command.specs.Lives.{joined_front}
 use Rattle.run_command.proofs.Story.{onto_then, events_none, doings_all, files_all, files_written, in_order_then, in_order_wrote}
 use Rattle.run_command.proofs.Minds.{holds_first, holds_follows, holds_out, out_released, deals_in_order, holds_deals}
 
 -- what is asked for a file that was read may be asked
-pub may_be_called : (past : List Happened) (r : Request) (now : ℕ) (wish : Wish) → WasRead (doings_of past) r wish → MayBeCalled past (call_of wish r.number now)
-may_be_called past r now (Offered entry) w =
+pub may_be_called : (t : Texts) (past : List Happened) (r : Request) (now : ℕ) (wish : Wish) → WasRead t (doings_of past) r wish → MayBeCalled t past (call_of wish r.number now)
+may_be_called t past r now (Offered entry) w =
     record { kind = r.kind; name = _; bytes = w.bytes; named = refl; lay_there = w.lay_there; stands = w.stands }
-may_be_called past r now Sought w = tt
+may_be_called t past r now Sought w = tt
 
-module _ {F : Type 0} (doings : F → Option (List Doing)) where
+module _ {F : Type 0} (t : Texts) (doings : F → Option (List Doing)) where
   -- no file was read, and no number released
-  pub beside : (f g : F) (q r : List File) (m n : Standing) → g ≡ f → r ≡ q → Follows m n → Lived doings (kept f q m) (kept g r n) []
+  pub beside : (f g : F) (q r : List File) (m n : Standing) → g ≡ f → r ≡ q → Follows m n → Lived t doings (kept f q m) (kept g r n) []
   beside f g q r m n same left fo =
-      subst (λ (h : F). Lived doings (kept f q m) (kept h r n) []) (sym same)
-      (subst (λ (l : List File). Lived doings (kept f q m) (kept f l n) []) (sym left) (record {
+      subst (λ (h : F). Lived t doings (kept f q m) (kept h r n) []) (sym same)
+      (subst (λ (l : List File). Lived t doings (kept f q m) (kept f l n) []) (sym left) (record {
         story = [];
         events = refl;
         does = does_nothing (doings f) (doings f) refl;
         whole = append-nil q;
         ordered = λ past st. tt;
-        stands = λ past st. holds_follows past q m n fo st;
+        stands = λ past st. holds_follows t past q m n fo st;
       }))
 
   -- something was done with files among the offers
-  pub dealt : (f g : F) (q r : List File) (m n : Standing) → r ≡ q → Deals Always (doings f) (doings g) q m n → Lived doings (kept f q m) (kept g r n) []
-  dealt f g q r m n left d =
-      subst (λ (l : List File). Lived doings (kept f q m) (kept g l n) []) (sym left) (record {
+  pub dealt : {T : Texts → Type 0} (f g : F) (q r : List File) (m n : Standing) → r ≡ q → T t → DealsBy T Always (doings f) (doings g) q m n → Lived t doings (kept f q m) (kept g r n) []
+  dealt f g q r m n left by d =
+      subst (λ (l : List File). Lived t doings (kept f q m) (kept g l n) []) (sym left) (record {
         story = map did d.doings;
         events = events_none d.doings;
         does = subst (λ (l : List Doing). Does (doings f) (doings g) l) (sym (doings_all d.doings)) d.does;
         whole = append-nil q ∙ ap (λ (l : List File). l ++ q) (sym (files_all d.doings ∙ d.silent));
-        ordered = λ past st. deals_in_order Always past q (doings f) (doings g) m n d tt st;
-        stands = λ past st. holds_deals Always past q (doings f) (doings g) m n d tt st;
+        ordered = λ past st. deals_in_order t Always past q (doings f) (doings g) m n d tt st;
+        stands = λ past st. holds_deals t Always past q (doings f) (doings g) m n d by tt st;
       })
 
   -- a look: of what waits the first were written, and then something was done with files among the offers
-  pub looked_through : (f g : F) (q r : List File) (m n : Standing) → WritesAndDeals (doings f) (doings g) q r m n → Lived doings (kept f q m) (kept g r n) []
+  pub looked_through : (f g : F) (q r : List File) (m n : Standing) → WritesAndDeals (doings f) (doings g) q r m n → Lived t doings (kept f q m) (kept g r n) []
   looked_through f g q r m n l =
       let fs = l.writes.files in
       let out = map did (map wrote_file fs) in
@@ -87,73 +88,74 @@ module _ {F : Type 0} (doings : F → Option (List Doing)) where
             (does_then (doings f) l.mid (doings g) (map wrote_file fs) l.deals.doings l.writes.does l.deals.does);
         whole = append-nil q ∙ l.writes.rest ∙ ap (λ (x : List File). x ++ r) (sym files);
         ordered = λ past st.
-            in_order_then out seen past (in_order_wrote fs past (out_released past (doings f) l.mid q r m l.writes st))
-            (deals_in_order Always (onto out past) r l.mid (doings g) m n l.deals tt (holds_out past (doings f) l.mid q r m l.writes st));
+            in_order_then t out seen past (in_order_wrote t fs past (out_released t past (doings f) l.mid q r m l.writes st))
+            (deals_in_order t Always (onto out past) r l.mid (doings g) m n l.deals tt (holds_out t past (doings f) l.mid q r m l.writes st));
         stands = λ past st.
-            subst (λ (x : List Happened). Holds x r n) (sym (onto_then out seen past))
-            (holds_deals Always (onto out past) r l.mid (doings g) m n l.deals tt (holds_out past (doings f) l.mid q r m l.writes st));
+            subst (λ (x : List Happened). Holds t x r n) (sym (onto_then out seen past))
+            (holds_deals t Always (onto out past) r l.mid (doings g) m n l.deals tt tt (holds_out t past (doings f) l.mid q r m l.writes st));
       }
 
   -- what a step handed out was handed on
-  handed_front : (a : Answer) (f g : F) (q r : List File) (m n : Standing) (end : End) → HandsOn doings a f g q r m n end → (call : Call) → MayAsk (kept f q m) call
-      → LivedFront doings (kept f q m) (kept g r n) (took call (Ok a) ∷ [])
+  handed_front : (a : Answer) (f g : F) (q r : List File) (m n : Standing) (end : End) → HandsOn doings a f g q r m n end → (call : Call) → MayAsk t (kept f q m) call
+      → LivedFront t doings (kept f q m) (kept g r n) (took call (Ok a) ∷ [])
   handed_front a f g q r m n end h call may = record {
     story = stepped (took call (Ok a)) ∷ map did h.done;
     events = ap (λ (l : List Event). took call (Ok a) ∷ l) (events_none h.done);
     does = subst (λ (l : List Doing). Does (doings f) (doings g) l) (sym (doings_all h.done)) h.does;
     front = (h.front.0, ap (λ (l : List File). q ++ l) (append-nil (files_of a.release)) ∙ h.front.1);
-    ordered = λ past st. (may past st, h.ordered past call st);
+    ordered = λ past st. (may past st, h.ordered t past call st);
   }
 
-  handed_whole : (a : Answer) (f g : F) (q r : List File) (m n : Standing) → HandsOn doings a f g q r m n ends.Done → (call : Call) → MayAsk (kept f q m) call
-      → Lived doings (kept f q m) (kept g r n) (took call (Ok a) ∷ [])
+  handed_whole : (a : Answer) (f g : F) (q r : List File) (m n : Standing) → HandsOn doings a f g q r m n ends.Done → (call : Call) → MayAsk t (kept f q m) call
+      → Lived t doings (kept f q m) (kept g r n) (took call (Ok a) ∷ [])
   handed_whole a f g q r m n h call may = record {
     story = stepped (took call (Ok a)) ∷ map did h.done;
     events = ap (λ (l : List Event). took call (Ok a) ∷ l) (events_none h.done);
     does = subst (λ (l : List Doing). Does (doings f) (doings g) l) (sym (doings_all h.done)) h.does;
     whole = ap (λ (l : List File). q ++ l) (append-nil (files_of a.release)) ∙ h.whole refl;
-    ordered = λ past st. (may past st, h.ordered past call st);
-    stands = λ past st. h.stands refl past call st;
+    ordered = λ past st. (may past st, h.ordered t past call st);
+    stands = λ past st. h.stands refl t past call st;
   }
 
   -- the same of a step that a plant took in, of whichever call that it may be, where this holds besides
   pub taken_whole : {A : Type 0} (X : Type 0) (a : Answer) (f g : F) (q r : List File) (m n : Standing) (result : Result A Fault) → X → HandsOn doings a f g q r m n (ended result)
-      → OnOk result ((call : Call) → MayAsk (kept f q m) call → X × Lived doings (kept f q m) (kept g r n) (took call (Ok a) ∷ []))
+      → OnOk result ((call : Call) → MayAsk t (kept f q m) call → X × Lived t doings (kept f q m) (kept g r n) (took call (Ok a) ∷ []))
   taken_whole X a f g q r m n (Ok u) same h = λ call may. (same, handed_whole a f g q r m n h call may)
   taken_whole X a f g q r m n (Err e) same h = tt
 
   pub taken_front : {A : Type 0} (X : Type 0) (a : Answer) (f g : F) (q r : List File) (m n : Standing) (result : Result A Fault) → X → HandsOn doings a f g q r m n (ended result)
-      → OnErr result ((call : Call) → MayAsk (kept f q m) call → X × LivedFront doings (kept f q m) (kept g r n) (took call (Ok a) ∷ []))
+      → OnErr result ((call : Call) → MayAsk t (kept f q m) call → X × LivedFront t doings (kept f q m) (kept g r n) (took call (Ok a) ∷ []))
   taken_front X a f g q r m n (Ok u) same h = tt
   taken_front X a f g q r m n (Err e) same h = λ call may. (same, handed_front a f g q r m n _ h call may)
 
   -- from the start on, where nothing waits and nothing is kept in mind
-  pub tells_of : (f h : F) (q r : List File) (m n : Standing) (log : List Event) → q ≡ [] → IsFresh m → LivedFront doings (kept f q m) (kept h r n) log → Tells doings f h log
+  pub tells_of : (f h : F) (q r : List File) (m n : Standing) (log : List Event) → q ≡ [] → IsFresh m → LivedFront t doings (kept f q m) (kept h r n) log → Tells t doings f h log
   tells_of f h q r m n log none fresh p = record {
     story = p.story;
     events = p.events;
     does = p.does;
     front = (p.front.0, subst (λ (l : List File). Writes (l ++ flat_map filing log) p.story p.front.0) none p.front.1);
-    ordered = p.ordered [] (subst (λ (l : List File). Holds [] l m) (sym none) (holds_first m fresh));
+    ordered = p.ordered [] (subst (λ (l : List File). Holds t [] l m) (sym none) (holds_first t m fresh));
   }
 
   -- before it something was done with files among the offers
   pub tells_behind : (f g h : F) (q r : List File) (m n : Standing) (log : List Event) → q ≡ [] → IsFresh m → Deals Always (doings f) (doings g) q m m
-      → LivedFront doings (kept g q m) (kept h r n) log → Tells doings f h log
+      → LivedFront t doings (kept g q m) (kept h r n) log → Tells t doings f h log
   tells_behind f g h q r m n log none fresh d p =
-      tells_of f h q r m n log none fresh (joined_front doings (kept f q m) (kept g q m) (kept h r n) [] log (dealt f g q q m m refl d) p)
+      tells_of f h q r m n log none fresh (joined_front t doings (kept f q m) (kept g q m) (kept h r n) [] log (dealt f g q q m m refl tt d) p)
 
-  -- the same, where what is kept at the start is that
-  pub tells_start : (f g h : F) (q r : List File) (m n : Standing) (log : List Event) (first : Kept F) → q ≡ [] → IsFresh m → Deals Always (doings f) (doings g) q m m
-      → first ≡ kept g q m → LivedFront doings first (kept h r n) log → Tells doings f h log
-  tells_start f g h q r m n log first none fresh d is p =
-      tells_behind f g h q r m n log none fresh d (subst (λ (s : Kept F). LivedFront doings s (kept h r n) log) is p)
+  -- the same, where what is kept at the start is that, and the table this one
+  pub tells_start : (u : Texts) (f g h : F) (q r : List File) (m n : Standing) (log : List Event) (first : Kept F) → u ≡ t → q ≡ [] → IsFresh m
+      → Deals Always (doings f) (doings g) q m m → first ≡ kept g q m → LivedFront u doings first (kept h r n) log → Tells t doings f h log
+  tells_start u f g h q r m n log first by none fresh d is p =
+      tells_behind f g h q r m n log none fresh d
+      (subst (λ (v : Texts). LivedFront v doings (kept g q m) (kept h r n) log) by (subst (λ (s : Kept F). LivedFront u doings s (kept h r n) log) is p))
 
 -- a run in which nothing happened
-pub idle : {R N F : Type 0} (rows : Ghosts R) (passed : N → Option (List Passed)) (doings : F → Option (List Doing)) (s : Station R) (w : N) (f : F) (end : End)
-    → HasCause [] s.stopped s.stopped end → Drove (known rows passed (tells doings)) (post s w f) (post s w f) end Anyhow
-idle rows passed doings s w f end cause =
-    let none : Tells doings f f [] = record { story = []; events = refl; does = does_nothing (doings f) (doings f) refl; front = ([], refl); ordered = tt } in
+pub idle : {R N F : Type 0} (t : Texts) (rows : Ghosts R) (passed : N → Option (List Passed)) (doings : F → Option (List Doing)) (s : Station R) (w : N) (f : F) (end : End)
+    → HasCause [] s.stopped s.stopped end → Drove (known rows passed (tells t doings)) (post s w f) (post s w f) end Anyhow
+idle t rows passed doings s w f end cause =
+    let none : Tells t doings f f [] = record { story = []; events = refl; does = does_nothing (doings f) (doings f) refl; front = ([], refl); ordered = tt } in
     record {
       log = [];
       driven = record { steps = λ kept. refl; passes = Passes-nil (passed w); front = none; whole = λ done. none; cause = cause };

@@ -4,6 +4,7 @@ use Rattle.std.specs.Prelude.{flat_map, IfOk, IfSome, IfNone, IsErr, OnOk, OnErr
 use Rattle.std.proofs.lemmas.Grind.{flat_map-append}
 use Rattle.std.proofs.lemmas.Bool.Decides.{nat_tests}
 use Rattle.protocol.specs.Lists.{IsAmong}
+use Rattle.code_table.specs.Tables.{Places}
 use Rattle.tape_frames.specs.declared.entry.Entry.{Entry}
 use Rattle.station.specs.declared.answer.Release.{Release}
 use Rattle.folders.specs.Doings.{Doing, saw_file, read_file, moved_file, writing, Does, MayDo}
@@ -23,16 +24,18 @@ use Rattle.offers.specs.declared.offer.Offer.{Offer}
 use Rattle.offers.specs.declared.stage.Landing.{Landing}
 use Rattle.offers.specs.declared.stage.Landing.TheVariants as landings
 use Rattle.offers.specs.declared.stage.Reason.{Reason}
+use Rattle.offers.specs.declared.stage.Reason.TheVariants as reasons
 use Rattle.offers.specs.declared.stage.Stage.{Stage}
 use Rattle.offers.specs.declared.stage.Stage.TheVariants as stages
 use Rattle.offers.specs.Order.{rank}
 use Rattle.offers.specs.Stages.{after, changed, news_of}
 use Rattle.offers.specs.Turns.{IsInTurn}
 use Rattle.exchange.specs.Events.{Event}
+use Rattle.plant_files.specs.Standing.{Texts}
 use Rattle.run_command.specs.Departing.{departure_of, task_of, place_of, IsFree, IsFreeWay, IsFreeTask}
 use Rattle.run_command.specs.Minding.{name_of, WasRead, WereRead, HasRelease, HaveReleases, onto, IsOfRelease, AreLooks, IsLook, AreSettlings, IsSettling}
 use Rattle.run_command.specs.Story.{IsReleasedIn}
-use Rattle.run_command.specs.Working.{Follows, Looks, IfRead, Deals, Always, Releases}
+use Rattle.run_command.specs.Working.{Follows, Looks, IfRead, IsTapeOrFault, BecameTape, By, DealsBy, Deals, Always, Releases}
 use Rattle.run_command.specs.declared.departures.Departure.{Departure}
 use Rattle.run_command.specs.declared.departures.Way.{Way}
 use Rattle.run_command.specs.declared.departures.Way.TheVariants.{Released, NoOffer}
@@ -109,6 +112,17 @@ looks_whole held v a b name P is whole p = record {
   finds = p;
 }
 
+-- the same, where it is longer than that
+pub looks_longer :
+    (held : Option (Vec ℕ Global)) (a b : Option (List Doing)) (name : List ℕ) (P : List Doing → Type 0) → held ≡ None
+    → IfNone held (Does a b (saw_file name ∷ [])) → P (saw_file name ∷ []) → Looks a b P
+looks_longer held a b name P is longer p = record {
+  doings = saw_file name ∷ [];
+  does = subst (λ (h : Option (Vec ℕ Global)). IfNone h (Does a b (saw_file name ∷ []))) is longer;
+  looks = (tt, tt);
+  finds = p;
+}
+
 -- it was not, and may have been found
 pub looks_failed : (a b : Option (List Doing)) (name : List ℕ) (P : List Doing → Type 0) → MayDo a b (saw_file name) → ((doings : List Doing) → P doings) → Looks a b P
 looks_failed a b name P may p =
@@ -124,6 +138,24 @@ pub failed_read : {A E D : Type 0} (r : Result (Result A E) D) (P : A → Type 0
 failed_read (Ok x) P failed = cc
 failed_read (Err d) P failed = tt
 
+-- what a text became, where it was read or not
+
+pub became :
+    {D : Type 0} (table : Places) (doings : List Doing) (name text : List ℕ) (r : Result (Result (List ℕ) Reason) D)
+    → IsAmong doings (read_file (record { name = name; bytes = text })) → IsTapeOrFault table text r → BecameTape table doings name r
+became table doings name text (Ok (Ok tape)) there h = record { text = text; lay_there = there; holds = h }
+became table doings name text (Ok (Err (reasons.Tape fault))) there h = absurd h
+became table doings name text (Ok (Err (reasons.Text fault))) there h = record { text = text; lay_there = there; holds = h }
+became table doings name text (Ok (Err reasons.LongText)) there h = absurd h
+became table doings name text (Ok (Err reasons.NoTexts)) there h = absurd h
+became table doings name text (Ok (Err (reasons.Step refusal))) there h = absurd h
+became table doings name text (Err d) there h = tt
+
+pub failed_became :
+    {D : Type 0} (table : Places) (doings : List Doing) (name : List ℕ) (r : Result (Result (List ℕ) Reason) D) → IsErr r → BecameTape table doings name r
+failed_became table doings name (Ok x) failed = cc
+failed_became table doings name (Err d) failed = tt
+
 pub read_ok :
     {E : Type 0} (D A : Type 0) (r : Result (List ℕ) E) (bytes : List ℕ) (P : List ℕ → Type 0) → IfOk r (λ t. A × (t ≡ bytes)) → P bytes
     → IfRead {D = D} (Ok r) P
@@ -134,51 +166,53 @@ read_ok D A (Err e) bytes P same p = tt
 
 pub follows_same : (m n : Standing) → n ≡ m → Follows m n
 follows_same m n same = record {
-  taken = λ shown h. subst (λ (b : Standing). WereRead shown b.files) (sym same) h;
+  taken = λ t shown h. subst (λ (b : Standing). WereRead t shown b.files) (sym same) h;
   released = ap (λ (b : Standing). b.released) same;
 }
 
 pub follows_then : (m n o : Standing) → Follows m n → Follows n o → Follows m o
-follows_then m n o f g = record { taken = λ shown h. g.taken shown (f.taken shown h); released = g.released ∙ f.released }
+follows_then m n o f g = record { taken = λ t shown h. g.taken t shown (f.taken t shown h); released = g.released ∙ f.released }
 
 -- the files are these
-pub follows_of : (m n : Standing) (files : List Offer) → n.files ≡ files → ((shown : List Doing) → WereRead shown m.files → WereRead shown files) → n.released ≡ m.released → Follows m n
+pub follows_of : (m n : Standing) (files : List Offer) → n.files ≡ files → ((t : Texts) (shown : List Doing) → WereRead t shown m.files → WereRead t shown files) → n.released ≡ m.released → Follows m n
 follows_of m n files is taken released = record {
-  taken = λ shown h. subst (λ (l : List Offer). WereRead shown l) (sym is) (taken shown h);
+  taken = λ t shown h. subst (λ (l : List Offer). WereRead t shown l) (sym is) (taken t shown h);
   released = released;
 }
 
 -- the files alone have changed
-pub follows_files : (m n : Standing) → ((shown : List Doing) → WereRead shown m.files → WereRead shown n.files) → n.released ≡ m.released → Follows m n
+pub follows_files : (m n : Standing) → ((t : Texts) (shown : List Doing) → WereRead t shown m.files → WereRead t shown n.files) → n.released ≡ m.released → Follows m n
 follows_files m n taken released = record { taken = taken; released = released }
 
 pub follows_landed : (m n : Standing) (number : ℕ) (l : Landing) (now : ℕ) → n ≡ landed_in number l now m → Follows m n
 follows_landed m n number l now same = record {
-  taken = λ shown h. subst (λ (b : Standing). WereRead shown b.files) (sym same) (landed_still shown number l now m.files h);
+  taken = λ t shown h. subst (λ (b : Standing). WereRead t shown b.files) (sym same) (landed_still t shown number l now m.files h);
   released = ap (λ (b : Standing). b.released) same;
 }
 
 -- what was done with files among the offers
 
-pub deals_follows : (G : List Event → Type 0) (a b : Option (List Doing)) (w : List File) (m n : Standing) → b ≡ a → Follows m n → Deals G a b w m n
+pub deals_follows :
+    {T : Texts → Type 0} (G : List Event → Type 0) (a b : Option (List Doing)) (w : List File) (m n : Standing) → b ≡ a → Follows m n → DealsBy T G a b w m n
 deals_follows G a b w m n same f = record {
   doings = [];
   does = does_nothing a b same;
   silent = refl;
-  settles = λ log shown g known h. tt;
+  settles = λ log g known. tt;
   none = λ full. tt;
-  taken = f.taken;
+  taken = λ t by shown h. f.taken t shown h;
   released = λ log g known number e is. known number e (ap (λ l. entry_in l number) (sym f.released) ∙ is);
 }
 
 pub deals_look :
-    (G : List Event → Type 0) (a b : Option (List Doing)) (w : List File) (P : List Doing → Type 0) (m n : Standing) (l : Looks a b P)
-    → ((shown : List Doing) → WereRead shown m.files → WereRead (onto l.doings shown) n.files) → n.released ≡ m.released → Deals G a b w m n
+    {T : Texts → Type 0} (G : List Event → Type 0) (a b : Option (List Doing)) (w : List File) (P : List Doing → Type 0) (m n : Standing) (l : Looks a b P)
+    → ((t : Texts) → T t → (shown : List Doing) → WereRead t shown m.files → WereRead t (onto l.doings shown) n.files) → n.released ≡ m.released
+    → DealsBy T G a b w m n
 deals_look G a b w P m n l taken same = record {
   doings = l.doings;
   does = l.does;
   silent = silent_looks l.doings l.looks;
-  settles = λ log shown g known h. settlings_look (IsOfRelease log) l.doings l.looks;
+  settles = λ log g known. settlings_look (IsOfRelease log) l.doings l.looks;
   none = λ full. l.looks;
   taken = taken;
   released = λ log g known number e is. known number e (ap (λ l. entry_in l number) (sym same) ∙ is);
@@ -186,66 +220,84 @@ deals_look G a b w P m n l taken same = record {
 
 -- a look, and then a change that reads nothing
 pub deals_looked :
-    (G : List Event → Type 0) (a b : Option (List Doing)) (w : List File) (P : List Doing → Type 0) (m n : Standing) → Looks a b P → Follows m n → Deals G a b w m n
+    {T : Texts → Type 0} (G : List Event → Type 0) (a b : Option (List Doing)) (w : List File) (P : List Doing → Type 0) (m n : Standing)
+    → Looks a b P → Follows m n → DealsBy T G a b w m n
 deals_looked G a b w P m n l f =
-    deals_look G a b w P m n l (λ shown h. taken_more l.doings shown n.files (f.taken shown h)) f.released
+    deals_look G a b w P m n l (λ t by shown h. taken_more t l.doings shown n.files (f.taken t shown h)) f.released
 
 -- a file was read, and what it asks for is told
-read_of : (D : Type 0) (doings : List Doing) (r : Request) (wish : Result Wish Reason) → IfRead {D = D} (Ok wish) (λ w. WasRead doings r w) → IfOffer wish (WasRead doings r)
-read_of D doings r (Ok wish) h = h
-read_of D doings r (Err why) h = tt
+read_of : (t : Texts) (D : Type 0) (doings : List Doing) (r : Request) (wish : Result Wish Reason) → IfRead {D = D} (Ok wish) (λ w. WasRead t doings r w) → IfOffer wish (WasRead t doings r)
+read_of t D doings r (Ok wish) h = h
+read_of t D doings r (Err why) h = tt
 
-read_onto : (ds shown : List Doing) (r : Request) (wish : Result Wish Reason) → IfOffer wish (WasRead ds r) → IfOffer wish (WasRead (onto ds shown) r)
-read_onto ds shown r (Ok wish) h = read_here ds shown r wish h
-read_onto ds shown r (Err why) h = tt
+read_onto : (t : Texts) (ds shown : List Doing) (r : Request) (wish : Result Wish Reason) → IfOffer wish (WasRead t ds r) → IfOffer wish (WasRead t (onto ds shown) r)
+read_onto t ds shown r (Ok wish) h = read_here t ds shown r wish h
+read_onto t ds shown r (Err why) h = tt
+
+read_by :
+    (own : Texts) (D : Type 0) (a b : Option (List Doing)) (r : Request) (result : Result (Result Wish Reason) D) (wish : Result Wish Reason) (m n : Standing) → result ≡ Ok wish
+    → (l : Looks a b (λ doings. IfRead result (λ x. WasRead own doings r x))) → n.files ≡ changed (rank r) (after (news_of wish) 0) m.files
+    → (t : Texts) → own ≡ t → (shown : List Doing) → WereRead t shown m.files → WereRead t (onto l.doings shown) n.files
+read_by own D a b r result wish m n is l files t by shown h =
+    let read : IfRead {D = D} (Ok wish) (λ x. WasRead own l.doings r x) = subst (λ q. IfRead {D = D} q (λ x. WasRead own l.doings r x)) is l.finds in
+    let here : IfOffer wish (WasRead t (onto l.doings shown) r) =
+    subst (λ (u : Texts). IfOffer wish (WasRead u (onto l.doings shown) r)) by (read_onto own l.doings shown r wish (read_of own D l.doings r wish read)) in
+    subst (λ (x : List Offer). WereRead t (onto l.doings shown) x) (sym files)
+    (read_now t (onto l.doings shown) r wish 0 m.files here (taken_more t l.doings shown m.files h))
 
 pub deals_read :
-    (D : Type 0) (a b : Option (List Doing)) (w : List File) (r : Request) (result : Result (Result Wish Reason) D) (wish : Result Wish Reason) (m n : Standing) → result ≡ Ok wish
-    → Looks a b (λ doings. IfRead result (λ x. WasRead doings r x)) → n.files ≡ changed (rank r) (after (news_of wish) 0) m.files → n.released ≡ m.released
-    → Deals Always a b w m n
-deals_read D a b w r result wish m n is l files released =
-    deals_look Always a b w (λ doings. IfRead result (λ x. WasRead doings r x)) m n l
-    (λ shown h.
-    subst (λ (x : List Offer). WereRead (onto l.doings shown) x) (sym files)
-    (read_now (onto l.doings shown) r wish 0 m.files
-    (read_onto l.doings shown r wish (read_of D l.doings r wish (subst (λ q. IfRead {D = D} q (λ x. WasRead l.doings r x)) is l.finds)))
-    (taken_more l.doings shown m.files h)))
-    released
+    (own : Texts) (D : Type 0) (a b : Option (List Doing)) (w : List File) (r : Request) (result : Result (Result Wish Reason) D) (wish : Result Wish Reason) (m n : Standing) → result ≡ Ok wish
+    → Looks a b (λ doings. IfRead result (λ x. WasRead own doings r x)) → n.files ≡ changed (rank r) (after (news_of wish) 0) m.files → n.released ≡ m.released
+    → DealsBy (By own) Always a b w m n
+deals_read own D a b w r result wish m n is l files released =
+    deals_look Always a b w (λ doings. IfRead result (λ x. WasRead own doings r x)) m n l (read_by own D a b r result wish m n is l files) released
 
 -- one after the other
 pub deals_then :
-    (G : List Event → Type 0) (a b c : Option (List Doing)) (w : List File) (m n o : Standing) → Deals G a b w m n → Deals Always b c w n o → Deals G a c w m o
+    {T : Texts → Type 0} (G : List Event → Type 0) (a b c : Option (List Doing)) (w : List File) (m n o : Standing)
+    → DealsBy T G a b w m n → DealsBy T Always b c w n o → DealsBy T G a c w m o
 deals_then G a b c w m n o d e = record {
   doings = d.doings ++ e.doings;
   does = does_then a b c d.doings e.doings d.does e.does;
   silent = flat_map-append writing d.doings e.doings ∙ ap (λ l. l ++ flat_map writing e.doings) d.silent ∙ e.silent;
-  settles = λ log shown g known h.
-      settlings_then (IsOfRelease log) d.doings e.doings (d.settles log shown g known h)
-      (e.settles log (onto d.doings shown) tt (d.released log g known) (d.taken shown h));
+  settles = λ log g known. settlings_then (IsOfRelease log) d.doings e.doings (d.settles log g known) (e.settles log tt (d.released log g known));
   none = λ full. looks_then d.doings e.doings (d.none full) (e.none full);
-  taken = λ shown h.
-      subst (λ (l : List Doing). WereRead l o.files) (sym (onto_then d.doings e.doings shown)) (e.taken (onto d.doings shown) (d.taken shown h));
+  taken = λ t by shown h.
+      subst (λ (l : List Doing). WereRead t l o.files) (sym (onto_then d.doings e.doings shown)) (e.taken t by (onto d.doings shown) (d.taken t by shown h));
   released = λ log g known. e.released log tt (d.released log g known);
 }
 
 -- the same waits
-pub deals_beside : (G : List Event → Type 0) (a b : Option (List Doing)) (w v : List File) (m n : Standing) → v ≡ w → Deals G a b v m n → Deals G a b w m n
-deals_beside G a b w v m n same d = subst (λ (l : List File). Deals G a b l m n) same d
+pub deals_beside :
+    {T : Texts → Type 0} (G : List Event → Type 0) (a b : Option (List Doing)) (w v : List File) (m n : Standing) → v ≡ w → DealsBy T G a b v m n → DealsBy T G a b w m n
+deals_beside {T} G a b w v m n same d = subst (λ (l : List File). DealsBy T G a b l m n) same d
+
+-- where texts may be read by any table, they are by such a one
+pub deals_by : {T : Texts → Type 0} (G : List Event → Type 0) (a b : Option (List Doing)) (w : List File) (m n : Standing) → Deals G a b w m n → DealsBy T G a b w m n
+deals_by G a b w m n d = record {
+  doings = d.doings;
+  does = d.does;
+  silent = d.silent;
+  settles = d.settles;
+  none = d.none;
+  taken = λ t by shown h. d.taken t tt shown h;
+  released = d.released;
+}
 
 -- the same folders and the same book before
 pub deals_from :
-    (G : List Event → Type 0) (a x b : Option (List Doing)) (w v : List File) (m n o : Standing) → x ≡ a → v ≡ w → Follows m n → Deals G x b v n o → Deals G a b w m o
-deals_from G a x b w v m n o same waits f d =
-    let e : Deals G a b v n o = subst (λ (y : Option (List Doing)). Deals G y b v n o) same d in
-    let g : Deals G a b w n o = deals_beside G a b w v n o waits e in
+    {T : Texts → Type 0} (G : List Event → Type 0) (a x b : Option (List Doing)) (w v : List File) (m n o : Standing) → x ≡ a → v ≡ w → Follows m n
+    → DealsBy T G x b v n o → DealsBy T G a b w m o
+deals_from {T} G a x b w v m n o same waits f d =
+    let e : DealsBy T G a b v n o = subst (λ (y : Option (List Doing)). DealsBy T G y b v n o) same d in
+    let g : DealsBy T G a b w n o = deals_beside G a b w v n o waits e in
     record {
       doings = g.doings;
       does = g.does;
       silent = g.silent;
-      settles = λ log shown given known h.
-          g.settles log shown given (λ number e is. known number e (ap (λ l. entry_in l number) (sym f.released) ∙ is)) (f.taken shown h);
+      settles = λ log given known. g.settles log given (λ number e is. known number e (ap (λ l. entry_in l number) (sym f.released) ∙ is));
       none = g.none;
-      taken = λ shown h. g.taken shown (f.taken shown h);
+      taken = λ t by shown h. g.taken t by shown (f.taken t shown h);
       released = λ log given known. g.released log given (λ number e is. known number e (ap (λ l. entry_in l number) (sym f.released) ∙ is));
     }
 
@@ -291,7 +343,7 @@ deals_left a b w d m n may free f =
         | inl none ↦ ap (λ (l : List Doing). flat_map writing l) none
         | inr one ↦ ap (λ (l : List Doing). flat_map writing l) one
       ];
-      settles = λ log shown g known h. elim did.either [
+      settles = λ log g known. elim did.either [
         | inl none ↦ subst (λ (l : List Doing). AreSettlings (IsOfRelease log) l) (sym none) tt
         | inr one ↦ subst (λ (l : List Doing). AreSettlings (IsOfRelease log) l) (sym one) (way_settles m w d.found.request d.way log free known, tt)
       ];
@@ -299,7 +351,7 @@ deals_left a b w d m n may free f =
         | inl none ↦ subst (λ (l : List Doing). AreLooks l) (sym none) tt
         | inr one ↦ subst (λ (l : List Doing). AreLooks l) (sym one) (way_looks m w d.found.request d.way free full, tt)
       ];
-      taken = λ shown h. taken_more did.doings shown n.files (f.taken shown h);
+      taken = λ t by shown h. taken_more t did.doings shown n.files (f.taken t shown h);
       released = λ log g known number e is. known number e (ap (λ l. entry_in l number) (sym f.released) ∙ is);
     }
 
@@ -339,9 +391,9 @@ deals_kept a b w r e m n same k = record {
   doings = [];
   does = does_nothing a b same;
   silent = refl;
-  settles = λ log shown g known h. tt;
+  settles = λ log g known. tt;
   none = λ full. tt;
-  taken = λ shown h. subst (λ (l : List Offer). WereRead shown l) (sym k.files) (landed_still shown r.number landings.Released 0 m.files h);
+  taken = λ t by shown h. subst (λ (l : List Offer). WereRead t shown l) (sym k.files) (landed_still t shown r.number landings.Released 0 m.files h);
   released = λ log g known number x is. elim (same_or_not number r.number) [
     | inl here ↦ record { release = r; released = g; number = sym here }
     | inr other ↦ known number x (sym (k.rest number other) ∙ is)

@@ -14,128 +14,130 @@ use Rattle.offers.specs.Book.{IsFresh}
 use Rattle.offers.specs.Rules.{Standing, entry_in}
 use Rattle.offers.specs.declared.offer.Offer.{Offer}
 use Rattle.plant_files.specs.Filing.{files_of}
+use Rattle.plant_files.specs.Standing.{Texts}
 use Rattle.exchange.specs.Events.{Event, took}
 use Rattle.command_ends.specs.declared.end.End.{End}
 use Rattle.command_ends.specs.declared.end.End.TheVariants as ends
 use Rattle.run_command.specs.Filing.{filing}
 use Rattle.run_command.specs.Minding.{IsReadOffer, WereRead, HaveReleases, Holds, onto}
 use Rattle.run_command.specs.Story.{Happened, stepped, did, events_of, doings_of, file_in, files_of_story, IsInOrder}
-use Rattle.run_command.specs.Working.{Follows, Deals, Releases, Writes, HandsOn}
+use Rattle.run_command.specs.Working.{Follows, DealsBy, Deals, Releases, Writes, HandsOn}
 use Rattle.run_command.proofs.Story.{among_front, among_behind, among_either, onto_then, events_did, doings_did, files_did, files_wrote, files_all, files_written, taken_more, releases_more, releases_here, in_order_then, in_order_looks, in_order_wrote, in_order_settled}
 
--- an event, whose files then wait behind the others
-pub holds_event : (past : List Happened) (waits : List File) (m : Standing) (e : Event) → Holds past waits m → Holds (stepped e ∷ past) (waits ++ filing e) m
-holds_event past waits m e h = record {
-  taken = h.taken;
-  known = releases_more e (events_of past) m h.known;
-  filed = λ f i. elim (among_either (filing e) (flat_map filing (events_of past)) f i) [
-    | inl here ↦ inr (among_behind waits (filing e) f here)
-    | inr there ↦ elim (h.filed f there) [ inl w ↦ inl w | inr w ↦ inr (among_front waits (filing e) f w) ]
-  ];
-  waiting = λ f i. elim (among_either waits (filing e) f i) [
-    | inl there ↦ among_behind (filing e) (flat_map filing (events_of past)) f (h.waiting f there)
-    | inr here ↦ among_front (filing e) (flat_map filing (events_of past)) f here
-  ];
-}
+module _ (t : Texts) where
+  -- an event, whose files then wait behind the others
+  pub holds_event : (past : List Happened) (waits : List File) (m : Standing) (e : Event) → Holds t past waits m → Holds t (stepped e ∷ past) (waits ++ filing e) m
+  holds_event past waits m e h = record {
+    taken = h.taken;
+    known = releases_more e (events_of past) m h.known;
+    filed = λ f i. elim (among_either (filing e) (flat_map filing (events_of past)) f i) [
+      | inl here ↦ inr (among_behind waits (filing e) f here)
+      | inr there ↦ elim (h.filed f there) [ inl w ↦ inl w | inr w ↦ inr (among_front waits (filing e) f w) ]
+    ];
+    waiting = λ f i. elim (among_either waits (filing e) f i) [
+      | inl there ↦ among_behind (filing e) (flat_map filing (events_of past)) f (h.waiting f there)
+      | inr here ↦ among_front (filing e) (flat_map filing (events_of past)) f here
+    ];
+  }
 
--- one that releases nothing
-pub holds_silent : (past : List Happened) (waits : List File) (m : Standing) (e : Event) → filing e ≡ [] → Holds past waits m → Holds (stepped e ∷ past) waits m
-holds_silent past waits m e none h =
-    subst (λ (l : List File). Holds (stepped e ∷ past) l m) (ap (λ (l : List File). waits ++ l) none ∙ append-nil waits)
-    (holds_event past waits m e h)
+  -- one that releases nothing
+  pub holds_silent : (past : List Happened) (waits : List File) (m : Standing) (e : Event) → filing e ≡ [] → Holds t past waits m → Holds t (stepped e ∷ past) waits m
+  holds_silent past waits m e none h =
+      subst (λ (l : List File). Holds t (stepped e ∷ past) l m) (ap (λ (l : List File). waits ++ l) none ∙ append-nil waits)
+      (holds_event past waits m e h)
 
--- what was done with the folders
-holds_did :
-    (ds : List Doing) (past : List Happened) (waits : List File) (was is : Standing)
-    → WereRead (onto ds (doings_of past)) is.files → HaveReleases (events_of past) is → Holds past waits was
-    → Holds (onto (map did ds) past) waits is
-holds_did ds past waits was is taken known h = record {
-  taken = subst (λ (l : List Doing). WereRead l is.files) (sym (doings_did ds past)) taken;
-  known = subst (λ (l : List Event). HaveReleases l is) (sym (events_did ds past)) known;
-  filed = λ f i. elim (h.filed f (subst (λ (l : List Event). IsAmong (flat_map filing l) f) (events_did ds past) i)) [
-    | inl w ↦ inl (files_did ds past f w)
-    | inr w ↦ inr w
-  ];
-  waiting = λ f i. subst (λ (l : List Event). IsAmong (flat_map filing l) f) (sym (events_did ds past)) (h.waiting f i);
-}
+  -- what was done with the folders
+  holds_did :
+      (ds : List Doing) (past : List Happened) (waits : List File) (was is : Standing)
+      → WereRead t (onto ds (doings_of past)) is.files → HaveReleases (events_of past) is → Holds t past waits was
+      → Holds t (onto (map did ds) past) waits is
+  holds_did ds past waits was is taken known h = record {
+    taken = subst (λ (l : List Doing). WereRead t l is.files) (sym (doings_did ds past)) taken;
+    known = subst (λ (l : List Event). HaveReleases l is) (sym (events_did ds past)) known;
+    filed = λ f i. elim (h.filed f (subst (λ (l : List Event). IsAmong (flat_map filing l) f) (events_did ds past) i)) [
+      | inl w ↦ inl (files_did ds past f w)
+      | inr w ↦ inr w
+    ];
+    waiting = λ f i. subst (λ (l : List Event). IsAmong (flat_map filing l) f) (sym (events_did ds past)) (h.waiting f i);
+  }
 
--- the first of what waits was written
-holds_wrote :
-    (fs : List File) (past : List Happened) (waits : List File) (m : Standing) → Holds past (fs ++ waits) m → Holds (onto (map did (map wrote_file fs)) past) waits m
-holds_wrote fs past waits m h = record {
-  taken =
-      subst (λ (l : List Doing). WereRead l m.files) (sym (doings_did (map wrote_file fs) past))
-      (taken_more (map wrote_file fs) (doings_of past) m.files h.taken);
-  known = subst (λ (l : List Event). HaveReleases l m) (sym (events_did (map wrote_file fs) past)) h.known;
-  filed = λ f i.
-      elim (h.filed f (subst (λ (l : List Event). IsAmong (flat_map filing l) f) (events_did (map wrote_file fs) past) i)) [
-        | inl w ↦ inl (files_did (map wrote_file fs) past f w)
-        | inr w ↦ elim (among_either fs waits f w) [ inl here ↦ inl (files_wrote fs past f here) | inr there ↦ inr there ]
-      ];
-  waiting = λ f i.
-      subst (λ (l : List Event). IsAmong (flat_map filing l) f) (sym (events_did (map wrote_file fs) past)) (h.waiting f (among_behind fs waits f i));
-}
+  -- the first of what waits was written
+  holds_wrote :
+      (fs : List File) (past : List Happened) (waits : List File) (m : Standing) → Holds t past (fs ++ waits) m → Holds t (onto (map did (map wrote_file fs)) past) waits m
+  holds_wrote fs past waits m h = record {
+    taken =
+        subst (λ (l : List Doing). WereRead t l m.files) (sym (doings_did (map wrote_file fs) past))
+        (taken_more t (map wrote_file fs) (doings_of past) m.files h.taken);
+    known = subst (λ (l : List Event). HaveReleases l m) (sym (events_did (map wrote_file fs) past)) h.known;
+    filed = λ f i.
+        elim (h.filed f (subst (λ (l : List Event). IsAmong (flat_map filing l) f) (events_did (map wrote_file fs) past) i)) [
+          | inl w ↦ inl (files_did (map wrote_file fs) past f w)
+          | inr w ↦ elim (among_either fs waits f w) [ inl here ↦ inl (files_wrote fs past f here) | inr there ↦ inr there ]
+        ];
+    waiting = λ f i.
+        subst (λ (l : List Event). IsAmong (flat_map filing l) f) (sym (events_did (map wrote_file fs) past)) (h.waiting f (among_behind fs waits f i));
+  }
 
--- nothing happened yet
+  -- nothing happened yet
 
-none_some : {A : Type 0} (x : A) → None ≡ Some x → ⊥
-none_some x e = cc
+  none_some : {A : Type 0} (x : A) → None ≡ Some x → ⊥
+  none_some x e = cc
 
-pub holds_first : (b : Standing) → IsFresh b → Holds [] [] b
-holds_first b fresh = record {
-  taken = subst (λ (l : List Offer). WereRead [] l) (sym fresh.files) (All-nil (IsReadOffer []));
-  known = λ n e is. absurd (none_some e (sym (fresh.released n) ∙ is));
-  filed = λ f i. absurd i;
-  waiting = λ f i. absurd i;
-}
+  pub holds_first : (b : Standing) → IsFresh b → Holds t [] [] b
+  holds_first b fresh = record {
+    taken = subst (λ (l : List Offer). WereRead t [] l) (sym fresh.files) (All-nil (IsReadOffer t []));
+    known = λ n e is. absurd (none_some e (sym (fresh.released n) ∙ is));
+    filed = λ f i. absurd i;
+    waiting = λ f i. absurd i;
+  }
 
--- no file was read, and no number released
-pub holds_follows : (past : List Happened) (waits : List File) (was is : Standing) → Follows was is → Holds past waits was → Holds past waits is
-holds_follows past waits was is f h = record {
-  taken = f.taken (doings_of past) h.taken;
-  known = λ n e found. h.known n e (ap (λ l. entry_in l n) (sym f.released) ∙ found);
-  filed = h.filed;
-  waiting = h.waiting;
-}
+  -- no file was read, and no number released
+  pub holds_follows : (past : List Happened) (waits : List File) (was is : Standing) → Follows was is → Holds t past waits was → Holds t past waits is
+  holds_follows past waits was is f h = record {
+    taken = f.taken t (doings_of past) h.taken;
+    known = λ n e found. h.known n e (ap (λ l. entry_in l n) (sym f.released) ∙ found);
+    filed = h.filed;
+    waiting = h.waiting;
+  }
 
--- what waited was written
+  -- what waited was written
 
-pub holds_out :
-    (past : List Happened) (a b : Option (List Doing)) (had waits : List File) (m : Standing) (w : WritesSome a b had waits)
-    → Holds past had m → Holds (onto (map did (map wrote_file w.files)) past) waits m
-holds_out past a b had waits m w h = holds_wrote w.files past waits m (subst (λ (l : List File). Holds past l m) w.rest h)
+  pub holds_out :
+      (past : List Happened) (a b : Option (List Doing)) (had waits : List File) (m : Standing) (w : WritesSome a b had waits)
+      → Holds t past had m → Holds t (onto (map did (map wrote_file w.files)) past) waits m
+  holds_out past a b had waits m w h = holds_wrote w.files past waits m (subst (λ (l : List File). Holds t past l m) w.rest h)
 
--- what was written was released
-pub out_released :
-    (past : List Happened) (a b : Option (List Doing)) (had waits : List File) (m : Standing) (w : WritesSome a b had waits)
-    → Holds past had m → (f : File) → IsAmong w.files f → IsAmong (flat_map filing (events_of past)) f
-out_released past a b had waits m w h f i =
-    h.waiting f (subst (λ (l : List File). IsAmong l f) (sym w.rest) (among_front w.files waits f i))
+  -- what was written was released
+  pub out_released :
+      (past : List Happened) (a b : Option (List Doing)) (had waits : List File) (m : Standing) (w : WritesSome a b had waits)
+      → Holds t past had m → (f : File) → IsAmong w.files f → IsAmong (flat_map filing (events_of past)) f
+  out_released past a b had waits m w h f i =
+      h.waiting f (subst (λ (l : List File). IsAmong l f) (sym w.rest) (among_front w.files waits f i))
 
--- something was done with files among the offers
+  -- something was done with files among the offers
 
-not_empty : {A : Type 0} (w : List A) (x : A) (xs : List A) → w ≡ x ∷ xs → w ≡ [] → ⊥
-not_empty w x xs e none = cc
+  not_empty : {A : Type 0} (w : List A) (x : A) (xs : List A) → w ≡ x ∷ xs → w ≡ [] → ⊥
+  not_empty w x xs e none = cc
 
-deals_by :
-    (Given : List Event → Type 0) (past : List Happened) (waits : List File) (a b : Option (List Doing)) (was is : Standing) (d : Deals Given a b waits was is)
-    (w : List File) → waits ≡ w → Given (events_of past) → Holds past waits was → IsInOrder past (map did d.doings)
-deals_by Given past waits a b was is d (x ∷ xs) e given h = in_order_looks d.doings past (d.none (λ none. not_empty waits x xs e none))
-deals_by Given past waits a b was is d [] e given h =
-    in_order_settled d.doings past
-    (λ f i. elim (h.filed f i) [ inl w ↦ w | inr w ↦ absurd (subst (λ (l : List File). IsAmong l f) e w) ])
-    (d.settles (events_of past) (doings_of past) given h.known h.taken)
+  deals_by :
+      {T : Texts → Type 0} (Given : List Event → Type 0) (past : List Happened) (waits : List File) (a b : Option (List Doing)) (was is : Standing) (d : DealsBy T Given a b waits was is)
+      (w : List File) → waits ≡ w → Given (events_of past) → Holds t past waits was → IsInOrder t past (map did d.doings)
+  deals_by Given past waits a b was is d (x ∷ xs) e given h = in_order_looks t d.doings past (d.none (λ none. not_empty waits x xs e none))
+  deals_by Given past waits a b was is d [] e given h =
+      in_order_settled t d.doings past
+      (λ f i. elim (h.filed f i) [ inl w ↦ w | inr w ↦ absurd (subst (λ (l : List File). IsAmong l f) e w) ])
+      (d.settles (events_of past) given h.known)
 
-pub deals_in_order :
-    (Given : List Event → Type 0) (past : List Happened) (waits : List File) (a b : Option (List Doing)) (was is : Standing) (d : Deals Given a b waits was is)
-    → Given (events_of past) → Holds past waits was → IsInOrder past (map did d.doings)
-deals_in_order Given past waits a b was is d given h = deals_by Given past waits a b was is d waits refl given h
+  pub deals_in_order :
+      {T : Texts → Type 0} (Given : List Event → Type 0) (past : List Happened) (waits : List File) (a b : Option (List Doing)) (was is : Standing) (d : DealsBy T Given a b waits was is)
+      → Given (events_of past) → Holds t past waits was → IsInOrder t past (map did d.doings)
+  deals_in_order Given past waits a b was is d given h = deals_by Given past waits a b was is d waits refl given h
 
-pub holds_deals :
-    (Given : List Event → Type 0) (past : List Happened) (waits : List File) (a b : Option (List Doing)) (was is : Standing) (d : Deals Given a b waits was is)
-    → Given (events_of past) → Holds past waits was → Holds (onto (map did d.doings) past) waits is
-holds_deals Given past waits a b was is d given h =
-    holds_did d.doings past waits was is (d.taken (doings_of past) h.taken) (d.released (events_of past) given h.known) h
+  pub holds_deals :
+      {T : Texts → Type 0} (Given : List Event → Type 0) (past : List Happened) (waits : List File) (a b : Option (List Doing)) (was is : Standing) (d : DealsBy T Given a b waits was is)
+      → T t → Given (events_of past) → Holds t past waits was → Holds t (onto (map did d.doings) past) waits is
+  holds_deals Given past waits a b was is d by given h =
+      holds_did d.doings past waits was is (d.taken t by (doings_of past) h.taken) (d.released (events_of past) given h.known) h
 
 -- an answer was handed on behind a change that reads nothing
 pub hands_after :
@@ -146,8 +148,8 @@ hands_after doings answer before after waited waits was mid is end f h = record 
   does = h.does;
   front = h.front;
   whole = h.whole;
-  ordered = λ past call s. h.ordered past call (holds_follows past waited was mid f s);
-  stands = λ done past call s. h.stands done past call (holds_follows past waited was mid f s);
+  ordered = λ t past call s. h.ordered t past call (holds_follows t past waited was mid f s);
+  stands = λ done t past call s. h.stands done t past call (holds_follows t past waited was mid f s);
 }
 
 -- the same from where the same folders and files stand
@@ -168,8 +170,8 @@ hands_nothing doings answer f waited waits m end badly = record {
   does = does_nothing (doings f) (doings f) refl;
   front = (waited ++ files_of answer.release, refl);
   whole = λ done. absurd (badly done);
-  ordered = λ past call s. tt;
-  stands = λ done past call s. absurd (badly done);
+  ordered = λ t past call s. tt;
+  stands = λ done t past call s. absurd (badly done);
 }
 
 -- an answer was handed on: its files wait behind the others, then the first of all were written, and then files left the offers
@@ -185,10 +187,10 @@ module _ {F : Type 0} (doings : F → Option (List Doing)) (answer : Answer) (be
   abbrev behind : Call → List Happened → List Happened
   behind call past = stepped (took call (Ok answer)) ∷ past
 
-  holds_mid : (past : List Happened) (call : Call) → Holds past waited was → Holds (onto (map did out) (behind call past)) waits was
-  holds_mid past call h =
-      holds_out (behind call past) (doings before) mid (waited ++ files_of answer.release) waits was w
-      (holds_event past waited was (took call (Ok answer)) h)
+  holds_mid : (t : Texts) (past : List Happened) (call : Call) → Holds t past waited was → Holds t (onto (map did out) (behind call past)) waits was
+  holds_mid t past call h =
+      holds_out t (behind call past) (doings before) mid (waited ++ files_of answer.release) waits was w
+      (holds_event t past waited was (took call (Ok answer)) h)
 
   given : (past : List Happened) (call : Call) → Releases answer.release (events_of (onto (map did out) (behind call past)))
   given past call =
@@ -209,15 +211,15 @@ module _ {F : Type 0} (doings : F → Option (List Doing)) (answer : Answer) (be
     does = does_then (doings before) mid (doings after) out d.doings w.does d.does;
     front = (waits, written);
     whole = λ done. written;
-    ordered = λ past call h.
-        subst (λ (l : List Happened). IsInOrder (behind call past) l) joined
-        (in_order_then (map did out) (map did d.doings) (behind call past)
-        (in_order_wrote w.files (behind call past)
-        (out_released (behind call past) (doings before) mid (waited ++ files_of answer.release) waits was w
-        (holds_event past waited was (took call (Ok answer)) h)))
-        (deals_in_order (Releases answer.release) (onto (map did out) (behind call past)) waits mid (doings after) was is d (given past call) (holds_mid past call h)));
-    stands = λ done past call h.
-        subst (λ (l : List Happened). Holds l waits is)
+    ordered = λ t past call h.
+        subst (λ (l : List Happened). IsInOrder t (behind call past) l) joined
+        (in_order_then t (map did out) (map did d.doings) (behind call past)
+        (in_order_wrote t w.files (behind call past)
+        (out_released t (behind call past) (doings before) mid (waited ++ files_of answer.release) waits was w
+        (holds_event t past waited was (took call (Ok answer)) h)))
+        (deals_in_order t (Releases answer.release) (onto (map did out) (behind call past)) waits mid (doings after) was is d (given past call) (holds_mid t past call h)));
+    stands = λ done t past call h.
+        subst (λ (l : List Happened). Holds t l waits is)
         (sym (onto_then (map did out) (map did d.doings) (behind call past)) ∙ ap (λ (l : List Happened). onto l (behind call past)) joined)
-        (holds_deals (Releases answer.release) (onto (map did out) (behind call past)) waits mid (doings after) was is d (given past call) (holds_mid past call h));
+        (holds_deals t (Releases answer.release) (onto (map did out) (behind call past)) waits mid (doings after) was is d tt (given past call) (holds_mid t past call h));
   }

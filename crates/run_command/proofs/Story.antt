@@ -7,7 +7,6 @@ use Rattle.protocol.specs.Refusals.{Call}
 use Rattle.station.specs.declared.answer.Answer.{Answer}
 use Rattle.station.specs.declared.answer.Release.{Release}
 use Rattle.folders.specs.Doings.{Doing, saw_file, read_file, wrote_file, moved_file, removed_file, writing}
-use Rattle.folders.specs.Standing.{LayThere}
 use Rattle.folders.specs.Written.{File}
 use Rattle.folders.specs.declared.leaving.Place.TheVariants as places
 use Rattle.folders.specs.declared.names.Kind.{Kind}
@@ -18,6 +17,7 @@ use Rattle.offers.specs.Rules.{Standing}
 use Rattle.offers.specs.Stages.{wish_of}
 use Rattle.offers.specs.declared.offer.Offer.{Offer}
 use Rattle.plant_files.specs.Filing.{files_of, release_files}
+use Rattle.plant_files.specs.Standing.{Texts, LayThere}
 use Rattle.exchange.specs.Events.{Event, took}
 use Rattle.run_command.specs.Filing.{filing}
 use Rattle.run_command.specs.Minding.{WasRead, IsRead, IsReadOffer, WereRead, HasRelease, HaveReleases, onto, IsOfRelease, IsLook, IsSettling, AreLooks, AreSettlings}
@@ -94,26 +94,29 @@ files_written (f ∷ fs) = ap (λ (l : List File). f ∷ l) (files_written fs)
 
 lay_more : (ds shown : List Doing) (kind : Kind) (name bytes : List ℕ) → LayThere shown kind name bytes → LayThere (onto ds shown) kind name bytes
 lay_more ds shown kinds.Tape name bytes i = among_onto ds shown (read_file (record { name = name; bytes = bytes })) i
+lay_more ds shown kinds.Text name bytes i = among_onto ds shown (read_file (record { name = name; bytes = bytes })) i
 lay_more ds shown kinds.Withdraw name bytes i = among_onto ds shown (saw_file name) i
 lay_more ds shown kinds.Seek name bytes i = among_onto ds shown (saw_file name) i
 
 -- so does what was read now
 lay_here : (ds shown : List Doing) (kind : Kind) (name bytes : List ℕ) → LayThere ds kind name bytes → LayThere (onto ds shown) kind name bytes
 lay_here ds shown kinds.Tape name bytes i = among_here ds shown (read_file (record { name = name; bytes = bytes })) i
+lay_here ds shown kinds.Text name bytes i = among_here ds shown (read_file (record { name = name; bytes = bytes })) i
 lay_here ds shown kinds.Withdraw name bytes i = among_here ds shown (saw_file name) i
 lay_here ds shown kinds.Seek name bytes i = among_here ds shown (saw_file name) i
 
-pub read_here : (ds shown : List Doing) (r : Request) (wish : Wish) → WasRead ds r wish → WasRead (onto ds shown) r wish
-read_here ds shown r wish w = record { bytes = w.bytes; lay_there = lay_here ds shown r.kind _ w.bytes w.lay_there; stands = w.stands }
+module _ (t : Texts) where
+  pub read_here : (ds shown : List Doing) (r : Request) (wish : Wish) → WasRead t ds r wish → WasRead t (onto ds shown) r wish
+  read_here ds shown r wish w = record { bytes = w.bytes; lay_there = lay_here ds shown r.kind _ w.bytes w.lay_there; stands = w.stands }
 
-read_more : (ds shown : List Doing) (r : Request) (wish : Option Wish) → IsRead shown r wish → IsRead (onto ds shown) r wish
-read_more ds shown r None w = tt
-read_more ds shown r (Some wish) w =
-    record { bytes = w.bytes; lay_there = lay_more ds shown r.kind _ w.bytes w.lay_there; stands = w.stands }
+  read_more : (ds shown : List Doing) (r : Request) (wish : Option Wish) → IsRead t shown r wish → IsRead t (onto ds shown) r wish
+  read_more ds shown r None w = tt
+  read_more ds shown r (Some wish) w =
+      record { bytes = w.bytes; lay_there = lay_more ds shown r.kind _ w.bytes w.lay_there; stands = w.stands }
 
-pub taken_more : (ds shown : List Doing) (files : List Offer) → WereRead shown files → WereRead (onto ds shown) files
-taken_more ds shown files all =
-    All-weaker (IsReadOffer shown) (IsReadOffer (onto ds shown)) (λ o r. read_more ds shown o.request (wish_of o.stage) r) files all
+  pub taken_more : (ds shown : List Doing) (files : List Offer) → WereRead t shown files → WereRead t (onto ds shown) files
+  taken_more ds shown files all =
+      All-weaker (IsReadOffer t shown) (IsReadOffer t (onto ds shown)) (λ o r. read_more ds shown o.request (wish_of o.stage) r) files all
 
 release_more : (e : Event) (log : List Event) (n : ℕ) → HasRelease log n → HasRelease (e ∷ log) n
 release_more e log n h = record {
@@ -143,9 +146,10 @@ of_release log r f it i =
 
 -- what happens is in order
 
-pub in_order_then : (xs ys past : List Happened) → IsInOrder past xs → IsInOrder (onto xs past) ys → IsInOrder past (xs ++ ys)
-in_order_then [] ys past p q = q
-in_order_then (x ∷ xs) ys past p q = (p.0, in_order_then xs ys (x ∷ past) p.1 q)
+module _ (t : Texts) where
+  pub in_order_then : (xs ys past : List Happened) → IsInOrder t past xs → IsInOrder t (onto xs past) ys → IsInOrder t past (xs ++ ys)
+  in_order_then [] ys past p q = q
+  in_order_then (x ∷ xs) ys past p q = (p.0, in_order_then xs ys (x ∷ past) p.1 q)
 
 may_look : (past : List Happened) (d : Doing) → IsLook d → MayBeDone past d
 may_look past (saw_file name) p = tt
@@ -156,15 +160,16 @@ may_look past (moved_file name places.Lost) p = absurd p
 may_look past (moved_file name places.Refused) p = tt
 may_look past (removed_file name) p = p
 
-pub in_order_looks : (ds : List Doing) (past : List Happened) → AreLooks ds → IsInOrder past (map did ds)
-in_order_looks [] past p = tt
-in_order_looks (d ∷ ds) past p = (may_look past d p.0, in_order_looks ds (did d ∷ past) p.1)
+module _ (t : Texts) where
+  pub in_order_looks : (ds : List Doing) (past : List Happened) → AreLooks ds → IsInOrder t past (map did ds)
+  in_order_looks [] past p = tt
+  in_order_looks (d ∷ ds) past p = (may_look past d p.0, in_order_looks ds (did d ∷ past) p.1)
 
-pub in_order_wrote :
-    (fs : List File) (past : List Happened) → ((f : File) → IsAmong fs f → IsAmong (flat_map filing (events_of past)) f)
-    → IsInOrder past (map did (map wrote_file fs))
-in_order_wrote [] past of = tt
-in_order_wrote (f ∷ fs) past of = (of f (inl refl), in_order_wrote fs (did (wrote_file f) ∷ past) (λ h i. of h (inr i)))
+  pub in_order_wrote :
+      (fs : List File) (past : List Happened) → ((f : File) → IsAmong fs f → IsAmong (flat_map filing (events_of past)) f)
+      → IsInOrder t past (map did (map wrote_file fs))
+  in_order_wrote [] past of = tt
+  in_order_wrote (f ∷ fs) past of = (of f (inl refl), in_order_wrote fs (did (wrote_file f) ∷ past) (λ h i. of h (inr i)))
 
 -- all files of what was released are written
 abbrev AllWritten : List Happened → Type 0
@@ -191,10 +196,11 @@ may_settle past (moved_file name places.Lost) all p = record {
 may_settle past (moved_file name places.Refused) all p = tt
 may_settle past (removed_file name) all p = p
 
-pub in_order_settled : (ds : List Doing) (past : List Happened) → AllWritten past → AreSettlings (IsOfRelease (events_of past)) ds → IsInOrder past (map did ds)
-in_order_settled [] past all p = tt
-in_order_settled (d ∷ ds) past all p =
-    (may_settle past d all p.0, in_order_settled ds (did d ∷ past) (λ f i. among_behind (writing d) (files_of_story past) f (all f i)) p.1)
+module _ (t : Texts) where
+  pub in_order_settled : (ds : List Doing) (past : List Happened) → AllWritten past → AreSettlings (IsOfRelease (events_of past)) ds → IsInOrder t past (map did ds)
+  in_order_settled [] past all p = tt
+  in_order_settled (d ∷ ds) past all p =
+      (may_settle past d all p.0, in_order_settled ds (did d ∷ past) (λ f i. among_behind (writing d) (files_of_story past) f (all f i)) p.1)
 
 -- doings, one after the other
 

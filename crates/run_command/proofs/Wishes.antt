@@ -4,12 +4,12 @@ use Rattle.std.proofs.lemmas.Bool.Decides.{nat_tests}
 use Rattle.std.proofs.lemmas.List.Elements.{All-nil, All-cons, All-head, All-tail}
 use Rattle.folders.specs.Doings.{Doing}
 use Rattle.folders.specs.declared.names.Kind.{Kind}
-use Rattle.folders.specs.declared.names.Kind.TheVariants.{Tape, Withdraw, Seek}
+use Rattle.folders.specs.declared.names.Kind.TheVariants.{Tape, Text, Withdraw, Seek}
 use Rattle.folders.specs.declared.names.Request.{Request}
 use Rattle.folders.specs.declared.wishes.Wish.{Wish}
 use Rattle.offers.specs.Looks.{seen, stage_after, is_same_stamp, looked}
 use Rattle.offers.specs.Order.{rank, kind_rank, file_at, rising}
-use Rattle.offers.specs.Stages.{after, anew, put_off, landed, change_at, changed, all_changed, wish_of, wish_at, news_of, tape_of, withdrawal_of, search_of}
+use Rattle.offers.specs.Stages.{after, anew, put_off, landed, change_at, changed, all_changed, wish_of, wish_at, news_of, tape_of, text_of, withdrawal_of, search_of}
 use Rattle.offers.specs.Turns.{files_after}
 use Rattle.offers.specs.declared.deed.Deed.{Deed}
 use Rattle.offers.specs.declared.deed.Deed.TheVariants as deeds
@@ -21,6 +21,7 @@ use Rattle.offers.specs.declared.stage.News.TheVariants as news
 use Rattle.offers.specs.declared.stage.Reason.{Reason}
 use Rattle.offers.specs.declared.stage.Stage.{Stage}
 use Rattle.offers.specs.declared.stage.Stage.TheVariants.{Watched, Waiting, UnderWay, Refused, Gone}
+use Rattle.plant_files.specs.Standing.{Texts}
 use Rattle.run_command.specs.Minding.{WasRead, IsRead, IsReadOffer, WereRead}
 
 -- what is known of a wish then was known before
@@ -28,9 +29,10 @@ abbrev Keeps : Option Wish → Option Wish → Type 0
 Keeps was None = Unit {0}
 Keeps was (Some wish) = was ≡ Some wish
 
-read_still : (shown : List Doing) (r : Request) (was is : Option Wish) → Keeps was is → IsRead shown r was → IsRead shown r is
-read_still shown r was None k h = tt
-read_still shown r was (Some wish) k h = subst (λ (o : Option Wish). IsRead shown r o) k h
+module _ (t : Texts) where
+  read_still : (shown : List Doing) (r : Request) (was is : Option Wish) → Keeps was is → IsRead t shown r was → IsRead t shown r is
+  read_still shown r was None k h = tt
+  read_still shown r was (Some wish) k h = subst (λ (o : Option Wish). IsRead t shown r o) k h
 
 anew_keeps : (now : ℕ) (s : Stage) → Keeps (wish_of s) (wish_of (anew now s))
 anew_keeps now (Watched at replaced) = tt
@@ -90,52 +92,64 @@ two_ways : (b : Bool) → (b ≡ true) ⊎ (b ≡ false)
 two_ways true = inl refl
 two_ways false = inr refl
 
-changed_one :
-    (shown : List Doing) (k : ℕ) (g : Stage → Stage) → ((s : Stage) → Keeps (wish_of s) (wish_of (g s))) → (o : Offer) → IsReadOffer shown o → IsReadOffer shown (change_at k g o)
-changed_one shown k g keeps o h = elim (two_ways (rank o.request == k)) [
-  | inl here ↦ rw here (read_still shown o.request (wish_of o.stage) (wish_of (g o.stage)) (keeps o.stage) h)
-  | inr apart ↦ rw apart h
-]
+module _ (t : Texts) where
+  changed_one :
+      (shown : List Doing) (k : ℕ) (g : Stage → Stage) → ((s : Stage) → Keeps (wish_of s) (wish_of (g s))) → (o : Offer) → IsReadOffer t shown o → IsReadOffer t shown (change_at k g o)
+  changed_one shown k g keeps o h = elim (two_ways (rank o.request == k)) [
+    | inl here ↦ rw here (read_still t shown o.request (wish_of o.stage) (wish_of (g o.stage)) (keeps o.stage) h)
+    | inr apart ↦ rw apart h
+  ]
 
--- one file has news that is no wish
-pub changed_still :
-    (shown : List Doing) (k : ℕ) (g : Stage → Stage) → ((s : Stage) → Keeps (wish_of s) (wish_of (g s))) → (files : List Offer) → WereRead shown files → WereRead shown (changed k g files)
-changed_still shown k g keeps [] h = All-nil (IsReadOffer shown)
-changed_still shown k g keeps (o ∷ files) h =
-    All-cons (IsReadOffer shown) (change_at k g o) (changed k g files) (changed_one shown k g keeps o (All-head (IsReadOffer shown) o files h))
-    (changed_still shown k g keeps files (All-tail (IsReadOffer shown) o files h))
+  -- one file has news that is no wish
+  pub changed_still :
+      (shown : List Doing) (k : ℕ) (g : Stage → Stage) → ((s : Stage) → Keeps (wish_of s) (wish_of (g s))) → (files : List Offer) → WereRead t shown files → WereRead t shown (changed k g files)
+  changed_still shown k g keeps [] h = All-nil (IsReadOffer t shown)
+  changed_still shown k g keeps (o ∷ files) h =
+      All-cons (IsReadOffer t shown) (change_at k g o) (changed k g files) (changed_one shown k g keeps o (All-head (IsReadOffer t shown) o files h))
+      (changed_still shown k g keeps files (All-tail (IsReadOffer t shown) o files h))
 
-pub put_off_still : (shown : List Doing) (k now : ℕ) (files : List Offer) → WereRead shown files → WereRead shown (changed k (after news.PutOff now) files)
-put_off_still shown k now files h = changed_still shown k (after news.PutOff now) (put_off_keeps now) files h
+  pub put_off_still : (shown : List Doing) (k now : ℕ) (files : List Offer) → WereRead t shown files → WereRead t shown (changed k (after news.PutOff now) files)
+  put_off_still shown k now files h = changed_still shown k (after news.PutOff now) (put_off_keeps now) files h
 
-pub moved_still : (shown : List Doing) (k now : ℕ) (files : List Offer) → WereRead shown files → WereRead shown (changed k (after news.Moved now) files)
-moved_still shown k now files h = changed_still shown k (after news.Moved now) (moved_keeps now) files h
+  pub moved_still : (shown : List Doing) (k now : ℕ) (files : List Offer) → WereRead t shown files → WereRead t shown (changed k (after news.Moved now) files)
+  moved_still shown k now files h = changed_still shown k (after news.Moved now) (moved_keeps now) files h
 
-pub landed_still : (shown : List Doing) (n : ℕ) (l : Landing) (now : ℕ) (files : List Offer) → WereRead shown files → WereRead shown (all_changed n (after (news.Landed l) now) files)
-landed_still shown n l now files h =
-    let g : Stage → Stage = after (news.Landed l) now in
-    let one = changed_still shown (rank (tape_of n)) g (landed_keeps l now) files h in
-    let two = changed_still shown (rank (withdrawal_of n)) g (landed_keeps l now) (changed (rank (tape_of n)) g files) one in
-    changed_still shown (rank (search_of n)) g (landed_keeps l now) (changed (rank (withdrawal_of n)) g (changed (rank (tape_of n)) g files)) two
+  pub landed_still : (shown : List Doing) (n : ℕ) (l : Landing) (now : ℕ) (files : List Offer) → WereRead t shown files → WereRead t shown (all_changed n (after (news.Landed l) now) files)
+  landed_still shown n l now files h =
+      let g : Stage → Stage = after (news.Landed l) now in
+      let taped = changed (rank (tape_of n)) g files in
+      let texted = changed (rank (text_of n)) g taped in
+      let withdrawn = changed (rank (withdrawal_of n)) g texted in
+      let one = changed_still shown (rank (tape_of n)) g (landed_keeps l now) files h in
+      let two = changed_still shown (rank (text_of n)) g (landed_keeps l now) taped one in
+      let three = changed_still shown (rank (withdrawal_of n)) g (landed_keeps l now) texted two in
+      changed_still shown (rank (search_of n)) g (landed_keeps l now) withdrawn three
 
--- the station is asked for one, or not
-pub asked_still : (shown : List Doing) (d : Option Deed) (files : List Offer) → WereRead shown files → WereRead shown (files_after d files)
-asked_still shown None files h = h
-asked_still shown (Some (deeds.Move r found to)) files h = h
-asked_still shown (Some (deeds.Ask r)) files h = changed_still shown (rank r) (after news.Asked 0) (asked_keeps 0) files h
-asked_still shown (Some (deeds.Read r found replaced)) files h = h
-asked_still shown (Some (deeds.Refuse r found why)) files h = h
+  -- the station is asked for one, or not
+  pub asked_still : (shown : List Doing) (d : Option Deed) (files : List Offer) → WereRead t shown files → WereRead t shown (files_after d files)
+  asked_still shown None files h = h
+  asked_still shown (Some (deeds.Move r found to)) files h = h
+  asked_still shown (Some (deeds.Ask r)) files h = changed_still shown (rank r) (after news.Asked 0) (asked_keeps 0) files h
+  asked_still shown (Some (deeds.Read r found replaced)) files h = h
+  asked_still shown (Some (deeds.Refuse r found why)) files h = h
 
 -- a place is that of one request
 
-same_rank : (n m : ℕ) (j k : Kind) → 3 * n + kind_rank j ≡ 3 * m + kind_rank k → (n ≡ m) × (j ≡ k)
+same_rank : (n m : ℕ) (j k : Kind) → 4 * n + kind_rank j ≡ 4 * m + kind_rank k → (n ≡ m) × (j ≡ k)
 same_rank n m Tape Tape e = (omega arith, refl)
+same_rank n m Tape Text e = absurd (omega arith)
 same_rank n m Tape Withdraw e = absurd (omega arith)
 same_rank n m Tape Seek e = absurd (omega arith)
+same_rank n m Text Tape e = absurd (omega arith)
+same_rank n m Text Text e = (omega arith, refl)
+same_rank n m Text Withdraw e = absurd (omega arith)
+same_rank n m Text Seek e = absurd (omega arith)
 same_rank n m Withdraw Tape e = absurd (omega arith)
+same_rank n m Withdraw Text e = absurd (omega arith)
 same_rank n m Withdraw Withdraw e = (omega arith, refl)
 same_rank n m Withdraw Seek e = absurd (omega arith)
 same_rank n m Seek Tape e = absurd (omega arith)
+same_rank n m Seek Text e = absurd (omega arith)
 same_rank n m Seek Withdraw e = absurd (omega arith)
 same_rank n m Seek Seek e = (omega arith, refl)
 
@@ -148,46 +162,49 @@ same_request a b e =
 
 -- one file was read
 
-took_wish : (shown : List Doing) (r : Request) (wish : Wish) (now : ℕ) (s : Stage) → IsRead shown r (wish_of s) → WasRead shown r wish → IsRead shown r (wish_of (after (news.Read wish) now s))
-took_wish shown r wish now (Watched at replaced) h w = w
-took_wish shown r wish now (Waiting own at pause) h w = h
-took_wish shown r wish now (UnderWay own pause) h w = h
-took_wish shown r wish now (Refused reason at pause) h w = h
-took_wish shown r wish now Gone h w = h
+module _ (t : Texts) where
+  took_wish : (shown : List Doing) (r : Request) (wish : Wish) (now : ℕ) (s : Stage) → IsRead t shown r (wish_of s) → WasRead t shown r wish → IsRead t shown r (wish_of (after (news.Read wish) now s))
+  took_wish shown r wish now (Watched at replaced) h w = w
+  took_wish shown r wish now (Waiting own at pause) h w = h
+  took_wish shown r wish now (UnderWay own pause) h w = h
+  took_wish shown r wish now (Refused reason at pause) h w = h
+  took_wish shown r wish now Gone h w = h
 
-read_one : (shown : List Doing) (r : Request) (wish : Wish) (now : ℕ) (o : Offer) → WasRead shown r wish → IsReadOffer shown o → IsReadOffer shown (change_at (rank r) (after (news.Read wish) now) o)
-read_one shown r wish now o w h = elim (two_ways (rank o.request == rank r)) [
-  | inl here ↦
-      let same : rank o.request ≡ rank r = grind (arith, nat_tests) in
-      rw here (took_wish shown o.request wish now o.stage h (subst (λ (q : Request). WasRead shown q wish) (sym (same_request o.request r same)) w))
-  | inr apart ↦ rw apart h
-]
+  read_one : (shown : List Doing) (r : Request) (wish : Wish) (now : ℕ) (o : Offer) → WasRead t shown r wish → IsReadOffer t shown o → IsReadOffer t shown (change_at (rank r) (after (news.Read wish) now) o)
+  read_one shown r wish now o w h = elim (two_ways (rank o.request == rank r)) [
+    | inl here ↦
+        let same : rank o.request ≡ rank r = grind (arith, nat_tests) in
+        rw here (took_wish shown o.request wish now o.stage h (subst (λ (q : Request). WasRead t shown q wish) (sym (same_request o.request r same)) w))
+    | inr apart ↦ rw apart h
+  ]
 
-read_wish : (shown : List Doing) (r : Request) (wish : Wish) (now : ℕ) (files : List Offer) → WasRead shown r wish → WereRead shown files → WereRead shown (changed (rank r) (after (news.Read wish) now) files)
-read_wish shown r wish now [] w h = All-nil (IsReadOffer shown)
-read_wish shown r wish now (o ∷ files) w h =
-    All-cons (IsReadOffer shown) (change_at (rank r) (after (news.Read wish) now) o) (changed (rank r) (after (news.Read wish) now) files)
-    (read_one shown r wish now o w (All-head (IsReadOffer shown) o files h)) (read_wish shown r wish now files w (All-tail (IsReadOffer shown) o files h))
+  read_wish : (shown : List Doing) (r : Request) (wish : Wish) (now : ℕ) (files : List Offer) → WasRead t shown r wish → WereRead t shown files → WereRead t shown (changed (rank r) (after (news.Read wish) now) files)
+  read_wish shown r wish now [] w h = All-nil (IsReadOffer t shown)
+  read_wish shown r wish now (o ∷ files) w h =
+      All-cons (IsReadOffer t shown) (change_at (rank r) (after (news.Read wish) now) o) (changed (rank r) (after (news.Read wish) now) files)
+      (read_one shown r wish now o w (All-head (IsReadOffer t shown) o files h)) (read_wish shown r wish now files w (All-tail (IsReadOffer t shown) o files h))
 
 -- this holds of what a file asks for, if it is an offer
 abbrev pub IfOffer : Result Wish Reason → (Wish → Type 0) → Type 0
 IfOffer (Ok wish) P = P wish
 IfOffer (Err why) P = Unit {0}
 
-pub read_now :
-    (shown : List Doing) (r : Request) (wish : Result Wish Reason) (now : ℕ) (files : List Offer) → IfOffer wish (WasRead shown r) → WereRead shown files → WereRead shown (changed (rank r) (after (news_of wish) now) files)
-read_now shown r (Ok wish) now files w h = read_wish shown r wish now files w h
-read_now shown r (Err why) now files w h = changed_still shown (rank r) (after (news.NoOffer why) now) (no_offer_keeps why now) files h
+module _ (t : Texts) where
+  pub read_now :
+      (shown : List Doing) (r : Request) (wish : Result Wish Reason) (now : ℕ) (files : List Offer) → IfOffer wish (WasRead t shown r) → WereRead t shown files → WereRead t shown (changed (rank r) (after (news_of wish) now) files)
+  read_now shown r (Ok wish) now files w h = read_wish t shown r wish now files w h
+  read_now shown r (Err why) now files w h = changed_still t shown (rank r) (after (news.NoOffer why) now) (no_offer_keeps why now) files h
 
 -- a file of the book
 
 no_wish : (wish : Wish) → None ≡ Some wish → ⊥
 no_wish wish e = cc
 
-found_here : (shown : List Doing) (p o : Offer) (k : ℕ) → IsReadOffer shown p → (rank p.request == k) ≡ true → p ≡ o → IsReadOffer shown o × (rank o.request ≡ k)
-found_here shown p o k h here same =
-    let at : rank p.request ≡ k = grind (arith, nat_tests) in
-    subst (λ (q : Offer). IsReadOffer shown q × (rank q.request ≡ k)) same (h, at)
+module _ (t : Texts) where
+  found_here : (shown : List Doing) (p o : Offer) (k : ℕ) → IsReadOffer t shown p → (rank p.request == k) ≡ true → p ≡ o → IsReadOffer t shown o × (rank o.request ≡ k)
+  found_here shown p o k h here same =
+      let at : rank p.request ≡ k = grind (arith, nat_tests) in
+      subst (λ (q : Offer). IsReadOffer t shown q × (rank q.request ≡ k)) same (h, at)
 
 first_of : (p o : Offer) → Some p ≡ Some o → p ≡ o
 first_of p o e = cc
@@ -195,49 +212,50 @@ first_of p o e = cc
 none_found : (o : Offer) → None ≡ Some o → ⊥
 none_found o e = cc
 
-at_place : (shown : List Doing) (files : List Offer) (k : ℕ) (o : Offer) → WereRead shown files → file_at files k ≡ Some o → IsReadOffer shown o × (rank o.request ≡ k)
-at_place shown [] k o h e = absurd (none_found o e)
-at_place shown (p ∷ files) k o h e = elim (two_ways (rank p.request == k)) [
-  | inl here ↦ found_here shown p o k (All-head (IsReadOffer shown) p files h) here (first_of p o (rw here at e))
-  | inr apart ↦ at_place shown files k o (All-tail (IsReadOffer shown) p files h) (rw apart at e)
-]
+module _ (t : Texts) where
+  at_place : (shown : List Doing) (files : List Offer) (k : ℕ) (o : Offer) → WereRead t shown files → file_at files k ≡ Some o → IsReadOffer t shown o × (rank o.request ≡ k)
+  at_place shown [] k o h e = absurd (none_found o e)
+  at_place shown (p ∷ files) k o h e = elim (two_ways (rank p.request == k)) [
+    | inl here ↦ found_here t shown p o k (All-head (IsReadOffer t shown) p files h) here (first_of p o (rw here at e))
+    | inr apart ↦ at_place shown files k o (All-tail (IsReadOffer t shown) p files h) (rw apart at e)
+  ]
 
--- what a file asks for that is known was read
-wish_of_place : (shown : List Doing) (files : List Offer) (r : Request) (x : Option Offer) (wish : Wish) → file_at files (rank r) ≡ x → WereRead shown files → wish_at x ≡ Some wish → WasRead shown r wish
-wish_of_place shown files r None wish e h is = absurd (no_wish wish is)
-wish_of_place shown files r (Some o) wish e h is =
-    let it = at_place shown files (rank r) o h e in
-    let read : WasRead shown o.request wish = subst (λ (x : Option Wish). IsRead shown o.request x) is it.0 in
-    subst (λ (q : Request). WasRead shown q wish) (same_request o.request r it.1) read
+  -- what a file asks for that is known was read
+  wish_of_place : (shown : List Doing) (files : List Offer) (r : Request) (x : Option Offer) (wish : Wish) → file_at files (rank r) ≡ x → WereRead t shown files → wish_at x ≡ Some wish → WasRead t shown r wish
+  wish_of_place shown files r None wish e h is = absurd (no_wish wish is)
+  wish_of_place shown files r (Some o) wish e h is =
+      let it = at_place shown files (rank r) o h e in
+      let read : WasRead t shown o.request wish = subst (λ (x : Option Wish). IsRead t shown o.request x) is it.0 in
+      subst (λ (q : Request). WasRead t shown q wish) (same_request o.request r it.1) read
 
-pub wish_read : (shown : List Doing) (files : List Offer) (r : Request) (wish : Wish) → WereRead shown files → wish_at (file_at files (rank r)) ≡ Some wish → WasRead shown r wish
-wish_read shown files r wish h is = wish_of_place shown files r (file_at files (rank r)) wish refl h is
+  pub wish_read : (shown : List Doing) (files : List Offer) (r : Request) (wish : Wish) → WereRead t shown files → wish_at (file_at files (rank r)) ≡ Some wish → WasRead t shown r wish
+  wish_read shown files r wish h is = wish_of_place shown files r (file_at files (rank r)) wish refl h is
 
--- a look
+  -- a look
 
--- where a file was known, what is known of its wish was read
-abbrev IfKnown : List Doing → Option Offer → Found → Type 0
-IfKnown shown None f = Unit {0}
-IfKnown shown (Some o) f = IsRead shown f.request (wish_of o.stage)
+  -- where a file was known, what is known of its wish was read
+  abbrev IfKnown : List Doing → Option Offer → Found → Type 0
+  IfKnown shown None f = Unit {0}
+  IfKnown shown (Some o) f = IsRead t shown f.request (wish_of o.stage)
 
-seen_stage : (shown : List Doing) (known : Option Offer) (now : ℕ) (f : Found) → IfKnown shown known f → IsRead shown f.request (wish_of (stage_after known now f))
-seen_stage shown None now f h = tt
-seen_stage shown (Some o) now f h = elim (two_ways (is_same_stamp o.stamp f.stamp)) [
-  | inl same ↦ rw same h
-  | inr changed ↦ rw changed (read_still shown f.request (wish_of o.stage) (wish_of (anew now o.stage)) (anew_keeps now o.stage) h)
-]
+  seen_stage : (shown : List Doing) (known : Option Offer) (now : ℕ) (f : Found) → IfKnown shown known f → IsRead t shown f.request (wish_of (stage_after known now f))
+  seen_stage shown None now f h = tt
+  seen_stage shown (Some o) now f h = elim (two_ways (is_same_stamp o.stamp f.stamp)) [
+    | inl same ↦ rw same h
+    | inr changed ↦ rw changed (read_still t shown f.request (wish_of o.stage) (wish_of (anew now o.stage)) (anew_keeps now o.stage) h)
+  ]
 
-known_of : (shown : List Doing) (old : List Offer) (f : Found) (x : Option Offer) → WereRead shown old → file_at old (rank f.request) ≡ x → IfKnown shown x f
-known_of shown old f None h e = tt
-known_of shown old f (Some o) h e =
-    let it = at_place shown old (rank f.request) o h e in
-    subst (λ (q : Request). IsRead shown q (wish_of o.stage)) (same_request o.request f.request it.1) it.0
+  known_of : (shown : List Doing) (old : List Offer) (f : Found) (x : Option Offer) → WereRead t shown old → file_at old (rank f.request) ≡ x → IfKnown shown x f
+  known_of shown old f None h e = tt
+  known_of shown old f (Some o) h e =
+      let it = at_place shown old (rank f.request) o h e in
+      subst (λ (q : Request). IsRead t shown q (wish_of o.stage)) (same_request o.request f.request it.1) it.0
 
-seen_all : (shown : List Doing) (old : List Offer) (now : ℕ) (found : List Found) → WereRead shown old → WereRead shown (map (seen old now) found)
-seen_all shown old now [] h = All-nil (IsReadOffer shown)
-seen_all shown old now (f ∷ found) h =
-    All-cons (IsReadOffer shown) (seen old now f) (map (seen old now) found)
-    (seen_stage shown (file_at old (rank f.request)) now f (known_of shown old f (file_at old (rank f.request)) h refl)) (seen_all shown old now found h)
+  seen_all : (shown : List Doing) (old : List Offer) (now : ℕ) (found : List Found) → WereRead t shown old → WereRead t shown (map (seen old now) found)
+  seen_all shown old now [] h = All-nil (IsReadOffer t shown)
+  seen_all shown old now (f ∷ found) h =
+      All-cons (IsReadOffer t shown) (seen old now f) (map (seen old now) found)
+      (seen_stage shown (file_at old (rank f.request)) now f (known_of shown old f (file_at old (rank f.request)) h refl)) (seen_all shown old now found h)
 
-pub looked_still : (shown : List Doing) (old : List Offer) (now : ℕ) (found : List Found) → WereRead shown old → WereRead shown (looked old now found)
-looked_still shown old now found h = seen_all shown old now (rising found) h
+  pub looked_still : (shown : List Doing) (old : List Offer) (now : ℕ) (found : List Found) → WereRead t shown old → WereRead t shown (looked old now found)
+  looked_still shown old now found h = seen_all shown old now (rising found) h

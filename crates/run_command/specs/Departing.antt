@@ -1,11 +1,24 @@
 -- What is to be done with files, and where those go that leave the offers.
-use Rattle.std.specs.Prelude.{◌≡◌, ℕ, List, [], Option, Some, None}
+use Rattle.std.specs.Prelude.{◌≡◌, ◌++◌, ℕ, Bool, true, List, [], Option, Some, None, IfSome, String, codes, string_bytes}
+use Rattle.std.specs.Global.{Global}
+use Rattle.command_ends.specs.EntryText.{entry_text}
+use Rattle.command_ends.specs.ReleaseText.{plain_line}
 use Rattle.folders.specs.Written.{File}
+use Rattle.folders.specs.declared.names.Request.{Request}
 use Rattle.folders.specs.declared.leaving.Place.{Place}
-use Rattle.folders.specs.declared.leaving.Place.TheVariants.{Refused}
+use Rattle.folders.specs.declared.leaving.Place.TheVariants.{Sent, Lost, Refused}
 use Rattle.offers.specs.declared.deed.Deed.{Deed}
 use Rattle.offers.specs.declared.deed.Deed.TheVariants as deeds
 use Rattle.offers.specs.Rules.{Standing, entry_of}
+use Rattle.offers.specs.declared.stage.Reason.{Reason}
+use Rattle.plant_log.specs.Words.{event_text, reason_text}
+use Rattle.plant_log.specs.Refusing.{TellsNoOffer}
+use Rattle.plant_log.specs.Stories.{IsHeard, IsTellingRefused}
+use Rattle.plant_log.specs.Telling.{TellsIf}
+use Rattle.plant_log.specs.declared.told.Told.{Told}
+use Rattle.plant_log.specs.declared.event.Event.{Event}
+use Rattle.plant_log.specs.declared.event.Event.TheVariants as events
+use Rattle.tape_frames.specs.Entries.{owned_entry}
 use Rattle.tape_frames.specs.declared.entry.Entry.{Entry}
 use Rattle.run_command.specs.declared.deeds.Task.{Task}
 use Rattle.run_command.specs.declared.deeds.Task.TheVariants.{Leave, Read, Ask}
@@ -49,3 +62,57 @@ abbrev pub IsFreeTask : Standing → List File → Task → Type 0
 IsFreeTask b waits (Leave d) = IsFree b waits d
 IsFreeTask b waits (Read found replaced) = Unit {0}
 IsFreeTask b waits (Ask r) = Unit {0}
+
+-- what befell the number of a file that has left the offers for what was released
+abbrev pub event_by : ℕ → Way → Option Event
+event_by n (Released Lost) = Some (events.Lost n)
+event_by n (Released to) = Some (events.Sent n)
+event_by n (NoOffer reason) = None
+
+abbrev pub left_event : Departure → Option Event
+left_event d = event_by d.found.request.number d.way
+
+-- a text, which reads so
+abbrev pub IsText : List ℕ → Option (String Global) → Type 0
+IsText words None = ⊥
+IsText words (Some text) = string_bytes text ≡ words
+
+-- a text that says why a file is no offer; of bytes that are no tape it is left open
+abbrev pub IsReason : Reason → List ℕ → Type 0
+IsReason reason text = IfSome (reason_text reason) (λ words. text ≡ words ++ codes "\n")
+
+abbrev pub IsSomeReason : Reason → Option (String Global) → Type 0
+IsSomeReason reason None = ⊥
+IsSomeReason reason (Some text) = IsReason reason (string_bytes text)
+
+-- a text that says what stands under a number
+abbrev pub IsStanding : Option Entry → ℕ → Option (String Global) → Type 0
+IsStanding None n text = ⊥
+IsStanding (Some e) n text = IsText (plain_line [] n (entry_text (owned_entry e))) text
+
+-- what lies beside a file of this number: of a lost one what stands under it, of one that is no offer why, and else nothing
+abbrev pub IsBesideBy : Option Entry → ℕ → Way → Option (String Global) → Type 0
+IsBesideBy entry n (Released Lost) text = IsStanding entry n text
+IsBesideBy entry n (Released to) text = text ≡ None
+IsBesideBy entry n (NoOffer reason) text = IsSomeReason reason text
+
+abbrev pub IsBeside : Standing → Departure → Option (String Global) → Type 0
+IsBeside b d text = IsBesideBy (entry_of b d.found.request.number) d.found.request.number d.way text
+
+-- what befell a number was told, as far as it is told
+abbrev pub TellsEvent : Event → ℕ → Told → Told → Option (List ℕ) → Option (List ℕ) → Type 0
+TellsEvent event now before after old new =
+    (is_told : Bool) × IsHeard before.loudness event now is_told before.stories.kept after.stories.kept × TellsIf (is_told ≡ true) (event_text event) old new
+
+-- why a file is no offer was told, unless faults alone are
+abbrev pub TellsRefused : Request → Reason → Told → Option (List ℕ) → Option (List ℕ) → Type 0
+TellsRefused r reason told old new = (IsTellingRefused told.loudness → TellsNoOffer r reason old new) × (¬ IsTellingRefused told.loudness → new ≡ old)
+
+-- that a file has left the offers was told
+abbrev pub TellsWay : Request → Way → ℕ → Told → Told → Option (List ℕ) → Option (List ℕ) → Type 0
+TellsWay r (Released Lost) now before after old new = TellsEvent (events.Lost r.number) now before after old new
+TellsWay r (Released to) now before after old new = TellsEvent (events.Sent r.number) now before after old new
+TellsWay r (NoOffer reason) now before after old new = TellsRefused r reason before old new
+
+abbrev pub TellsDeparture : Departure → ℕ → Told → Told → Option (List ℕ) → Option (List ℕ) → Type 0
+TellsDeparture d now before after old new = TellsWay d.found.request d.way now before after old new

@@ -1,12 +1,11 @@
 pub mod Departing
-pub mod Differing
 pub mod Filing
 pub mod Lives
 pub mod Living
+pub mod Looking
 pub mod Minding
 pub mod Noting
-pub mod Resting
 pub mod Running
 pub mod Story
-pub mod Words
+pub mod Straying
 pub mod Working

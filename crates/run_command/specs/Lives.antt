@@ -8,6 +8,7 @@ use Rattle.folders.specs.Doings.{Doing, Does}
 use Rattle.folders.specs.Written.{File}
 use Rattle.folders.proofs.Doings.{does_nothing, does_then}
 use Rattle.exchange.specs.Events.{Event, asked, took}
+use Rattle.plant_files.specs.Standing.{Texts}
 use Rattle.driver.specs.Fates.{Fates, NeedsNothing}
 use Rattle.offers.specs.Rules.{Standing}
 use Rattle.run_command.specs.Filing.{filing}
@@ -34,9 +35,9 @@ onto_then : {A : Type 0} (xs ys past : List A) → onto (xs ++ ys) past ≡ onto
 onto_then [] ys past = refl
 onto_then (x ∷ xs) ys past = onto_then xs ys (x ∷ past)
 
-in_order_then : (xs ys past : List Happened) → IsInOrder past xs → IsInOrder (onto xs past) ys → IsInOrder past (xs ++ ys)
-in_order_then [] ys past p q = q
-in_order_then (x ∷ xs) ys past p q = (p.0, in_order_then xs ys (x ∷ past) p.1 q)
+in_order_then : (t : Texts) (xs ys past : List Happened) → IsInOrder t past xs → IsInOrder t (onto xs past) ys → IsInOrder t past (xs ++ ys)
+in_order_then t [] ys past p q = q
+in_order_then t (x ∷ xs) ys past p q = (p.0, in_order_then t xs ys (x ∷ past) p.1 q)
 
 release_more : (e : Event) (log : List Event) (n : ℕ) → HasRelease log n → HasRelease (e ∷ log) n
 release_more e log n h = record {
@@ -48,8 +49,8 @@ release_more e log n h = record {
 releases_more : (e : Event) (log : List Event) (b : Standing) → HaveReleases log b → HaveReleases (e ∷ log) b
 releases_more e log b all = λ n entry is. release_more e log n (all n entry is)
 
-holds_event : (past : List Happened) (waits : List File) (m : Standing) (e : Event) → Holds past waits m → Holds (stepped e ∷ past) (waits ++ filing e) m
-holds_event past waits m e h = record {
+holds_event : (t : Texts) (past : List Happened) (waits : List File) (m : Standing) (e : Event) → Holds t past waits m → Holds t (stepped e ∷ past) (waits ++ filing e) m
+holds_event t past waits m e h = record {
   taken = h.taken;
   known = releases_more e (events_of past) m h.known;
   filed = λ f i. elim (among_either (filing e) (flat_map filing (events_of past)) f i) [
@@ -62,10 +63,10 @@ holds_event past waits m e h = record {
   ];
 }
 
-holds_silent : (past : List Happened) (waits : List File) (m : Standing) (e : Event) → filing e ≡ [] → Holds past waits m → Holds (stepped e ∷ past) waits m
-holds_silent past waits m e none h =
-    subst (λ (l : List File). Holds (stepped e ∷ past) l m) (ap (λ (l : List File). waits ++ l) none ∙ append-nil waits)
-    (holds_event past waits m e h)
+holds_silent : (t : Texts) (past : List Happened) (waits : List File) (m : Standing) (e : Event) → filing e ≡ [] → Holds t past waits m → Holds t (stepped e ∷ past) waits m
+holds_silent t past waits m e none h =
+    subst (λ (l : List File). Holds t (stepped e ∷ past) l m) (ap (λ (l : List File). waits ++ l) none ∙ append-nil waits)
+    (holds_event t past waits m e h)
 
 -- the first were written, and then the first of the others
 writes_join :
@@ -80,19 +81,19 @@ writes_then had mid rest xs ys ea eb p q =
     ∙ writes_join had mid rest (flat_map filing ea) (flat_map filing eb) (files_of_story xs) (files_of_story ys) p q
     ∙ ap (λ (l : List File). l ++ rest) (sym (flat_map-append file_in xs ys))
 
-module _ {F : Type 0} (doings : F → Option (List Doing)) where
+module _ {F : Type 0} (t : Texts) (doings : F → Option (List Doing)) where
   -- one event in which nothing is released, and nothing was done with the folders
-  pub silent : (s : Kept F) (e : Event) → filing e ≡ [] → ((past : List Happened) → Holds past s.waits s.book → IsInOrder past (stepped e ∷ [])) → Lived doings s s (e ∷ [])
+  pub silent : (s : Kept F) (e : Event) → filing e ≡ [] → ((past : List Happened) → Holds t past s.waits s.book → IsInOrder t past (stepped e ∷ [])) → Lived t doings s s (e ∷ [])
   silent s e none may = record {
     story = stepped e ∷ [];
     events = refl;
     does = does_nothing (doings s.folders) (doings s.folders) refl;
     whole = ap (λ (l : List File). s.waits ++ (l ++ [])) none ∙ append-nil s.waits;
     ordered = may;
-    stands = λ past st. holds_silent past s.waits s.book e none st;
+    stands = λ past st. holds_silent t past s.waits s.book e none st;
   }
 
-  pub joined : (a b c : Kept F) (ea eb : List Event) → Lived doings a b ea → Lived doings b c eb → Lived doings a c (ea ++ eb)
+  pub joined : (a b c : Kept F) (ea eb : List Event) → Lived t doings a b ea → Lived t doings b c eb → Lived t doings a c (ea ++ eb)
   joined a b c ea eb p q = record {
     story = p.story ++ q.story;
     events = flat_map-append event_in p.story q.story ∙ ap (λ (l : List Event). l ++ events_of q.story) p.events ∙ ap (λ (l : List Event). ea ++ l) q.events;
@@ -100,12 +101,12 @@ module _ {F : Type 0} (doings : F → Option (List Doing)) where
         subst (λ (l : List Doing). Does (doings a.folders) (doings c.folders) l) (sym (flat_map-append doing_in p.story q.story))
         (does_then (doings a.folders) (doings b.folders) (doings c.folders) (doings_of p.story) (doings_of q.story) p.does q.does);
     whole = writes_then a.waits b.waits c.waits p.story q.story ea eb p.whole q.whole;
-    ordered = λ past st. in_order_then p.story q.story past (p.ordered past st) (q.ordered (onto p.story past) (p.stands past st));
+    ordered = λ past st. in_order_then t p.story q.story past (p.ordered past st) (q.ordered (onto p.story past) (p.stands past st));
     stands = λ past st.
-        subst (λ (x : List Happened). Holds x c.waits c.book) (sym (onto_then p.story q.story past)) (q.stands (onto p.story past) (p.stands past st));
+        subst (λ (x : List Happened). Holds t x c.waits c.book) (sym (onto_then p.story q.story past)) (q.stands (onto p.story past) (p.stands past st));
   }
 
-  pub joined_front : (a b c : Kept F) (ea eb : List Event) → Lived doings a b ea → LivedFront doings b c eb → LivedFront doings a c (ea ++ eb)
+  pub joined_front : (a b c : Kept F) (ea eb : List Event) → Lived t doings a b ea → LivedFront t doings b c eb → LivedFront t doings a c (ea ++ eb)
   joined_front a b c ea eb p q = record {
     story = p.story ++ q.story;
     events = flat_map-append event_in p.story q.story ∙ ap (λ (l : List Event). l ++ events_of q.story) p.events ∙ ap (λ (l : List Event). ea ++ l) q.events;
@@ -113,11 +114,11 @@ module _ {F : Type 0} (doings : F → Option (List Doing)) where
         subst (λ (l : List Doing). Does (doings a.folders) (doings c.folders) l) (sym (flat_map-append doing_in p.story q.story))
         (does_then (doings a.folders) (doings b.folders) (doings c.folders) (doings_of p.story) (doings_of q.story) p.does q.does);
     front = (q.front.0, writes_then a.waits b.waits q.front.0 p.story q.story ea eb p.whole q.front.1);
-    ordered = λ past st. in_order_then p.story q.story past (p.ordered past st) (q.ordered (onto p.story past) (p.stands past st));
+    ordered = λ past st. in_order_then t p.story q.story past (p.ordered past st) (q.ordered (onto p.story past) (p.stands past st));
   }
 
   -- nothing happened, and nothing was done
-  pub stayed : (s : Kept F) → Lived doings s s []
+  pub stayed : (s : Kept F) → Lived t doings s s []
   stayed s = record {
     story = [];
     events = refl;
@@ -127,25 +128,43 @@ module _ {F : Type 0} (doings : F → Option (List Doing)) where
     stands = λ past st. st;
   }
 
-  pub begun : (a b : Kept F) (log : List Event) → Lived doings a b log → LivedFront doings a b log
+  pub begun : (a b : Kept F) (log : List Event) → Lived t doings a b log → LivedFront t doings a b log
   begun a b log p = record { story = p.story; events = p.events; does = p.does; front = (b.waits, p.whole); ordered = p.ordered }
 
-  free : (s : Kept F) (call : Call) → NeedsNothing call → MayAsk s call
+  free : (s : Kept F) (call : Call) → NeedsNothing call → MayAsk t s call
   free s (Offering n entry now) needs = absurd needs
   free s (Seeking n now) needs = λ past st. tt
   free s (Falling_due now) needs = λ past st. tt
   free s (Receiving bytes now) needs = λ past st. tt
 
-  -- and so the lives of a plant are those of a sink
-  pub plant_fates : {S : Type 0} (same : S → S → Type 0) (stay : (s : S) → same s s) (go_on : (a b c : S) → same a b → same b c → same a c) (at : S → Kept F)
-      → Fates (λ (a b : S) (log : List Event). same a b × Lived doings (at a) (at b) log) (λ (a b : S) (log : List Event). same a b × LivedFront doings (at a) (at b) log)
-      (λ (s : S) (call : Call). MayAsk (at s) call)
-  plant_fates same stay go_on at = record {
-    rests = λ s. (stay s, stayed (at s));
-    clock = λ s moment. (stay s, silent (at s) (asked moment) refl (λ past st. (tt, tt)));
-    refuses = λ s call refusal may. (stay s, silent (at s) (took call (Err refusal)) refl (λ past st. (may past st, tt)));
-    joins = λ a b c xs ys p q. (go_on a b c p.0 q.0, joined (at a) (at b) (at c) xs ys p.1 q.1);
-    begins = λ a b xs p. (p.0, begun (at a) (at b) xs p.1);
-    joins_front = λ a b c xs ys p q. (go_on a b c p.0 q.0, joined_front (at a) (at b) (at c) xs ys p.1 q.1);
-    free = λ s call needs. free (at s) call needs;
+-- and so the lives of a plant are those of a sink, which has one table
+module _ {F S : Type 0} (doings : F → Option (List Doing)) (same : S → S → Type 0) (stay : (s : S) → same s s)
+    (go_on : (a b c : S) → same a b → same b c → same a c) (texts : S → Texts) (still : (a b : S) → same a b → texts b ≡ texts a) (at : S → Kept F) where
+  abbrev Came : S → S → List Event → Type 0
+  Came a b log = same a b × Lived (texts a) doings (at a) (at b) log
+
+  abbrev CameSome : S → S → List Event → Type 0
+  CameSome a b log = same a b × LivedFront (texts a) doings (at a) (at b) log
+
+  came_then : (a b c : S) (xs ys : List Event) → Came a b xs → Came b c ys → Came a c (xs ++ ys)
+  came_then a b c xs ys p q = (
+    go_on a b c p.0 q.0,
+    joined (texts a) doings (at a) (at b) (at c) xs ys p.1 (subst (λ (t : Texts). Lived t doings (at b) (at c) ys) (still a b p.0) q.1),
+  )
+
+  came_some : (a b c : S) (xs ys : List Event) → Came a b xs → CameSome b c ys → CameSome a c (xs ++ ys)
+  came_some a b c xs ys p q = (
+    go_on a b c p.0 q.0,
+    joined_front (texts a) doings (at a) (at b) (at c) xs ys p.1 (subst (λ (t : Texts). LivedFront t doings (at b) (at c) ys) (still a b p.0) q.1),
+  )
+
+  pub plant_fates : Fates Came CameSome (λ (s : S) (call : Call). MayAsk (texts s) (at s) call)
+  plant_fates = record {
+    rests = λ s. (stay s, stayed (texts s) doings (at s));
+    clock = λ s moment. (stay s, silent (texts s) doings (at s) (asked moment) refl (λ past st. (tt, tt)));
+    refuses = λ s call refusal may. (stay s, silent (texts s) doings (at s) (took call (Err refusal)) refl (λ past st. (may past st, tt)));
+    joins = came_then;
+    begins = λ a b xs p. (p.0, begun (texts a) doings (at a) (at b) xs p.1);
+    joins_front = came_some;
+    free = λ s call needs. free (texts s) doings (at s) call needs;
   }

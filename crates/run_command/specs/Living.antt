@@ -8,6 +8,7 @@ use Rattle.exchange.specs.Events.{Event}
 use Rattle.run_command.specs.Filing.{filing}
 use Rattle.run_command.specs.Minding.{Holds, onto}
 use Rattle.run_command.specs.Story.{Happened, events_of, doings_of, MayBeCalled, IsInOrder}
+use Rattle.plant_files.specs.Standing.{Texts}
 use Rattle.run_command.specs.Working.{Writes}
 use Rattle.run_command.specs.declared.desk.PlantDesk.{PlantDesk}
 use Rattle.run_command.specs.declared.plant.Plant.{Plant}
@@ -28,34 +29,38 @@ kept_of p = kept p.folders.now p.papers.now.waits.items p.papers.now.book
 
 -- what a plant did while exactly these events happened: there is a story of them in which this was done with the folders, and nothing else;
 -- of what waited and of the files of what was released the first were written, and the rest waits; and behind whatever happened before of
--- which what is kept in mind holds each thing may happen, and what is kept in mind holds of all of it then
-pub record Lived {F : Type 0} (doings : F → Option (List Doing)) (old new : Kept F) (log : List Event) : Type 0 where
+-- which what is kept in mind holds each thing may happen, texts being read by this table, and what is kept in mind holds of all of it then
+pub record Lived {F : Type 0} (texts : Texts) (doings : F → Option (List Doing)) (old new : Kept F) (log : List Event) : Type 0 where
   pub story : List Happened
   pub events : events_of story ≡ log
   pub does : Does (doings old.folders) (doings new.folders) (doings_of story)
   pub whole : Writes (old.waits ++ flat_map filing log) story new.waits
-  pub ordered : (past : List Happened) → Holds past old.waits old.book → IsInOrder past story
-  pub stands : (past : List Happened) → Holds past old.waits old.book → Holds (onto story past) new.waits new.book
+  pub ordered : (past : List Happened) → Holds texts past old.waits old.book → IsInOrder texts past story
+  pub stands : (past : List Happened) → Holds texts past old.waits old.book → Holds texts (onto story past) new.waits new.book
 
 -- the same, up to where there was no memory
-pub record LivedFront {F : Type 0} (doings : F → Option (List Doing)) (old new : Kept F) (log : List Event) : Type 0 where
+pub record LivedFront {F : Type 0} (texts : Texts) (doings : F → Option (List Doing)) (old new : Kept F) (log : List Event) : Type 0 where
   pub story : List Happened
   pub events : events_of story ≡ log
   pub does : Does (doings old.folders) (doings new.folders) (doings_of story)
   pub front : (rest : List File) × Writes (old.waits ++ flat_map filing log) story rest
-  pub ordered : (past : List Happened) → Holds past old.waits old.book → IsInOrder past story
+  pub ordered : (past : List Happened) → Holds texts past old.waits old.book → IsInOrder texts past story
 
 -- behind whatever happened before the station may be called so
-abbrev pub MayAsk : {F : Type 0} → Kept F → Call → Type 0
-MayAsk old call = (past : List Happened) → Holds past old.waits old.book → MayBeCalled past call
+abbrev pub MayAsk : {F : Type 0} → Texts → Kept F → Call → Type 0
+MayAsk texts old call = (past : List Happened) → Holds texts past old.waits old.book → MayBeCalled texts past call
 
--- it is the desk of a plant that has the folders that it had
+-- the table by which texts are read at a desk
+abbrev pub texts_of : {F : Type 0} → PlantDesk F → Texts
+texts_of desk = desk.plant.papers.now.texts
+
+-- it is the desk of a plant that has the folders that it had, and texts are read by the same table
 abbrev pub IsSameDesk : {F : Type 0} → PlantDesk F → PlantDesk F → Type 0
-IsSameDesk old new = new.plant.folders.ghost_name ≡ old.plant.folders.ghost_name
+IsSameDesk old new = (new.plant.folders.ghost_name ≡ old.plant.folders.ghost_name) × (texts_of new ≡ texts_of old)
 
 -- the same, and its plant lived through these events; it came some way with them
 abbrev pub LivedOn : {F : Type 0} → (F → Option (List Doing)) → PlantDesk F → PlantDesk F → List Event → Type 0
-LivedOn doings old new log = IsSameDesk old new × Lived doings (kept_of old.plant) (kept_of new.plant) log
+LivedOn doings old new log = IsSameDesk old new × Lived (texts_of old) doings (kept_of old.plant) (kept_of new.plant) log
 
 abbrev pub CameOn : {F : Type 0} → (F → Option (List Doing)) → PlantDesk F → PlantDesk F → List Event → Type 0
-CameOn doings old new log = IsSameDesk old new × LivedFront doings (kept_of old.plant) (kept_of new.plant) log
+CameOn doings old new log = IsSameDesk old new × LivedFront (texts_of old) doings (kept_of old.plant) (kept_of new.plant) log

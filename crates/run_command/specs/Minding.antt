@@ -6,8 +6,6 @@ use Rattle.tape_frames.specs.declared.entry.Entry.{Entry}
 use Rattle.station.specs.declared.answer.Release.{Release}
 use Rattle.folders.specs.Doings.{Doing, saw_file, read_file, wrote_file, moved_file, removed_file}
 use Rattle.folders.specs.Offers.{IsNameOf, IsStop, kind_word}
-use Rattle.folders.specs.Standing.{wished, LayThere}
-use Rattle.folders.specs.Standing.{entry_of as entry_in_file}
 use Rattle.folders.specs.Written.{File}
 use Rattle.folders.specs.declared.leaving.Place.TheVariants as places
 use Rattle.folders.specs.declared.names.Kind.{Kind}
@@ -16,6 +14,7 @@ use Rattle.folders.specs.declared.wishes.Wish.{Wish}
 use Rattle.offers.specs.Rules.{Standing, entry_of}
 use Rattle.offers.specs.Stages.{wish_of}
 use Rattle.offers.specs.declared.offer.Offer.{Offer}
+use Rattle.plant_files.specs.Standing.{Texts, StandsFor, wished, LayThere}
 use Rattle.exchange.specs.Events.{Event}
 use Rattle.run_command.specs.Filing.{filing}
 use Rattle.run_command.specs.Story.{Happened, events_of, doings_of, files_of_story, IsReleasedIn}
@@ -24,24 +23,24 @@ use Rattle.run_command.specs.Story.{Happened, events_of, doings_of, files_of_sto
 abbrev pub name_of : Request → List ℕ
 name_of r = decimal r.number ++ kind_word r.kind
 
--- the file that asks for this lay among the offers, and stands for this wish
-pub record WasRead (doings : List Doing) (r : Request) (wish : Wish) : Type 0 where
+-- the file that asks for this lay among the offers, and stands for this wish, a text by this table
+pub record WasRead (texts : Texts) (doings : List Doing) (r : Request) (wish : Wish) : Type 0 where
   pub bytes : List ℕ
   pub lay_there : LayThere doings r.kind (name_of r) bytes
-  pub stands : entry_in_file r.kind r.number bytes ≡ wished wish
+  pub stands : StandsFor texts r.kind bytes (wished wish)
 
 -- what is known of the wish of a file was read
-abbrev pub IsRead : List Doing → Request → Option Wish → Type 0
-IsRead doings r None = Unit {0}
-IsRead doings r (Some wish) = WasRead doings r wish
+abbrev pub IsRead : Texts → List Doing → Request → Option Wish → Type 0
+IsRead texts doings r None = Unit {0}
+IsRead texts doings r (Some wish) = WasRead texts doings r wish
 
 -- the same of a file in the book
-abbrev pub IsReadOffer : List Doing → Offer → Type 0
-IsReadOffer doings o = IsRead doings o.request (wish_of o.stage)
+abbrev pub IsReadOffer : Texts → List Doing → Offer → Type 0
+IsReadOffer texts doings o = IsRead texts doings o.request (wish_of o.stage)
 
 -- each of them is such
-abbrev pub WereRead : List Doing → List Offer → Type 0
-WereRead doings files = All (IsReadOffer doings) files
+abbrev pub WereRead : Texts → List Doing → List Offer → Type 0
+WereRead texts doings files = All (IsReadOffer texts doings) files
 
 -- the number was released in one of these events
 pub record HasRelease (log : List Event) (n : ℕ) : Type 0 where
@@ -55,8 +54,8 @@ HaveReleases log b = (n : ℕ) (e : Entry) → entry_of b n ≡ Some e → HasRe
 
 -- what is kept in mind holds of what happened, of which the latest is told first: the files whose wish is known lay among the offers, the
 -- numbers whose entry is known were released, each file of a release is written or waits, and what waits is such a file
-pub record Holds (past : List Happened) (waits : List File) (book : Standing) : Type 0 where
-  pub taken : WereRead (doings_of past) book.files
+pub record Holds (texts : Texts) (past : List Happened) (waits : List File) (book : Standing) : Type 0 where
+  pub taken : WereRead texts (doings_of past) book.files
   pub known : HaveReleases (events_of past) book
   pub filed : (f : File) → IsAmong (flat_map filing (events_of past)) f → IsAmong (files_of_story past) f ⊎ IsAmong waits f
   pub waiting : (f : File) → IsAmong waits f → IsAmong (flat_map filing (events_of past)) f

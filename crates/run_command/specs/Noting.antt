@@ -2,8 +2,8 @@
 use Rattle.std.specs.Prelude.{ℕ, Bool, true, false, Option, Some, None}
 use Rattle.node_core.specs.declared.turn.Note.{Note}
 use Rattle.node_core.specs.declared.turn.Note.TheVariants as notes
-use Rattle.run_command.specs.declared.telling.Event.{Event}
-use Rattle.run_command.specs.declared.telling.Event.TheVariants as events
+use Rattle.plant_log.specs.declared.event.Event.{Event}
+use Rattle.plant_log.specs.declared.event.Event.TheVariants as events
 
 -- it closed a ballot: that was given up, or found nothing
 abbrev pub is_of_close : Note → Bool

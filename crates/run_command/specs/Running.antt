@@ -6,6 +6,7 @@ use Rattle.wire.specs.Passing.{Passed}
 use Rattle.command_ends.specs.declared.end.End.{End}
 use Rattle.folders.specs.Doings.{Doing, Does}
 use Rattle.folders.specs.Written.{File}
+use Rattle.plant_files.specs.Standing.{Texts}
 use Rattle.exchange.specs.Events.{Event}
 use Rattle.driver.specs.Driving.{Fate, known, post, Drove, Anyhow}
 use Rattle.run_command.specs.Filing.{filing}
@@ -17,21 +18,22 @@ WritesFront files story = (rest : List File) × (files ≡ files_of_story story 
 
 -- what was done with folders while exactly these events happened: there is a story of them in which this was done with the folders, and
 -- nothing else; among the releases were written the files of what was released, a front of them; and each thing may happen behind those
--- before it
-pub record Tells {F : Type 0} (doings : F → Option (List Doing)) (old new : F) (log : List Event) : Type 0 where
+-- before it, texts being read by this table
+pub record Tells {F : Type 0} (texts : Texts) (doings : F → Option (List Doing)) (old new : F) (log : List Event) : Type 0 where
   pub story : List Happened
   pub events : events_of story ≡ log
   pub does : Does (doings old) (doings new) (doings_of story)
   pub front : WritesFront (flat_map filing log) story
-  pub ordered : IsInOrder [] story
+  pub ordered : IsInOrder texts [] story
 
 -- what becomes of folders is told so, wherever it ends
-abbrev pub tells : {F : Type 0} → (F → Option (List Doing)) → Fate F
-tells doings = record { lived = Tells doings; front = Tells doings }
+abbrev pub tells : {F : Type 0} → Texts → (F → Option (List Doing)) → Fate F
+tells texts doings = record { lived = Tells texts doings; front = Tells texts doings }
 
 -- what `run` did up to this end, on a station, its wire and its folders, as they were and as they are: the station took the steps of its
--- events and no others; what passed over the wire is what came for them and what they handed out; and its folders are told of so
+-- events and no others; what passed over the wire is what came for them and what they handed out; and its folders are told of so, texts
+-- being read by this table
 abbrev pub RunsUpTo :
-    {R N F : Type 0} → End → Ghosts R → (N → Option (List Passed)) → (F → Option (List Doing))
+    {R N F : Type 0} → Texts → End → Ghosts R → (N → Option (List Passed)) → (F → Option (List Doing))
     → Station R → Station R → N → N → F → F → Type 0
-RunsUpTo end rows passed doings old new was is before after = Drove (known rows passed (tells doings)) (post old was before) (post new is after) end Anyhow
+RunsUpTo texts end rows passed doings old new was is before after = Drove (known rows passed (tells texts doings)) (post old was before) (post new is after) end Anyhow

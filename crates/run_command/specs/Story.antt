@@ -6,11 +6,11 @@ use Rattle.station.specs.declared.answer.Answer.{Answer}
 use Rattle.station.specs.declared.answer.Release.{Release}
 use Rattle.folders.specs.Doings.{Doing, saw_file, read_file, wrote_file, moved_file, removed_file, writing}
 use Rattle.folders.specs.Offers.{IsNameOf, IsStop}
-use Rattle.folders.specs.Standing.{WasLaid}
 use Rattle.folders.specs.Written.{File}
 use Rattle.folders.specs.declared.leaving.Place.TheVariants as places
 use Rattle.folders.specs.declared.names.Kind.{Kind}
 use Rattle.plant_files.specs.Filing.{release_files}
+use Rattle.plant_files.specs.Standing.{Texts, WasLaid}
 use Rattle.exchange.specs.Events.{Event, asked, took}
 use Rattle.run_command.specs.Filing.{filing}
 
@@ -70,20 +70,21 @@ MayBeDone before (moved_file name places.Lost) = IsBehindRelease before name
 MayBeDone before (moved_file name places.Refused) = Unit {0}
 MayBeDone before (removed_file name) = IsStop name
 
--- an entry is offered only where a file that lay among the offers stands for it; a search, what is due and what comes need no file
-abbrev pub MayBeCalled : List Happened → Call → Type 0
-MayBeCalled before (Offering n entry now) = WasLaid (doings_of before) n entry
-MayBeCalled before (Seeking n now) = Unit {0}
-MayBeCalled before (Falling_due now) = Unit {0}
-MayBeCalled before (Receiving bytes now) = Unit {0}
+-- an entry is offered only where a file that lay among the offers stands for it, a text by this table; a search, what is due and what comes
+-- need no file
+abbrev pub MayBeCalled : Texts → List Happened → Call → Type 0
+MayBeCalled texts before (Offering n entry now) = WasLaid texts (doings_of before) n entry
+MayBeCalled texts before (Seeking n now) = Unit {0}
+MayBeCalled texts before (Falling_due now) = Unit {0}
+MayBeCalled texts before (Receiving bytes now) = Unit {0}
 
 -- what may happen behind what happened before
-abbrev pub MayHappen : List Happened → Happened → Type 0
-MayHappen before (stepped (asked moment)) = Unit {0}
-MayHappen before (stepped (took call answer)) = MayBeCalled before call
-MayHappen before (did doing) = MayBeDone before doing
+abbrev pub MayHappen : Texts → List Happened → Happened → Type 0
+MayHappen texts before (stepped (asked moment)) = Unit {0}
+MayHappen texts before (stepped (took call answer)) = MayBeCalled texts before call
+MayHappen texts before (did doing) = MayBeDone before doing
 
 -- each of these may happen behind those before it, of which the latest is told first
-abbrev pub IsInOrder : List Happened → List Happened → Type 0
-IsInOrder before [] = Unit {0}
-IsInOrder before (x ∷ story) = MayHappen before x × IsInOrder (x ∷ before) story
+abbrev pub IsInOrder : Texts → List Happened → List Happened → Type 0
+IsInOrder texts before [] = Unit {0}
+IsInOrder texts before (x ∷ story) = MayHappen texts before x × IsInOrder texts (x ∷ before) story

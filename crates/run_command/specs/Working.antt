@@ -1,24 +1,31 @@
 -- What the parts of a run promise one another: what each did with the folders, and what is kept in mind then.
 use Rattle.std.specs.Prelude.{◌≡◌, ◌++◌, ℕ, List, [], ◌∷◌, map, flat_map, Option, Some, None, Result, Ok, Err}
 use Rattle.protocol.specs.Refusals.{Call}
+use Rattle.protocol.specs.Lists.{IsAmong}
+use Rattle.code_table.specs.Tables.{Places, mean}
+use Rattle.tape_frames.specs.Frames.{most_frames}
+use Rattle.text_tape.specs.Punching.{IsPunched, IsError}
 use Rattle.station.specs.declared.answer.Answer.{Answer}
 use Rattle.station.specs.declared.answer.Release.{Release}
 use Rattle.command_ends.specs.declared.end.End.{End}
 use Rattle.command_ends.specs.declared.end.End.TheVariants as ends
-use Rattle.folders.specs.Doings.{Doing, Does, writing, WritesSome}
-use Rattle.folders.specs.Standing.{entry_of, wished, LayThere}
+use Rattle.folders.specs.Doings.{Doing, read_file, Does, writing, WritesSome}
 use Rattle.folders.specs.Written.{File}
+use Rattle.folders.specs.declared.names.Kind.TheVariants as kinds
 use Rattle.folders.specs.declared.names.Request.{Request}
 use Rattle.folders.specs.declared.wishes.Wish.{Wish}
 use Rattle.offers.specs.Rules.{Standing}
+use Rattle.offers.specs.declared.stage.Reason.{Reason}
+use Rattle.offers.specs.declared.stage.Reason.TheVariants as reasons
 use Rattle.plant_files.specs.Filing.{files_of}
+use Rattle.plant_files.specs.Standing.{Texts, StandsFor, wished, LayThere}
 use Rattle.exchange.specs.Events.{Event, took}
 use Rattle.run_command.specs.Minding.{WereRead, HaveReleases, Holds, onto, IsOfRelease, AreLooks, AreSettlings}
 use Rattle.run_command.specs.Story.{Happened, did, stepped, files_of_story, IsReleasedIn, IsInOrder}
 
 -- no file was read, and no number released
 pub record Follows (was is : Standing) : Type 0 where
-  pub taken : (shown : List Doing) → WereRead shown was.files → WereRead shown is.files
+  pub taken : (texts : Texts) (shown : List Doing) → WereRead texts shown was.files → WereRead texts shown is.files
   pub released : is.released ≡ was.released
 
 -- files were found, read and refused, and this holds of what was done
@@ -34,23 +41,60 @@ IfRead (Ok (Ok x)) P = P x
 IfRead (Ok (Err e)) P = Unit {0}
 IfRead (Err d) P = Unit {0}
 
--- a file of this name, which asks for this, lay among the offers and stands for this wish
-pub record LaySo (doings : List Doing) (r : Request) (name : List ℕ) (wish : Wish) : Type 0 where
+-- a file of this name, which asks for this, lay among the offers and stands for this wish, a text by this table
+pub record LaySo (texts : Texts) (doings : List Doing) (r : Request) (name : List ℕ) (wish : Wish) : Type 0 where
   pub bytes : List ℕ
   pub lay_there : LayThere doings r.kind name bytes
-  pub stands : entry_of r.kind r.number bytes ≡ wished wish
+  pub stands : StandsFor texts r.kind bytes (wished wish)
 
--- what was done with files among the offers, where this is given of the events: nothing was written; files left for those that were sent or
--- lost only under released numbers, and none did where a file waits to be written; and what is known then was read, or was released
-pub record Deals (Given : List Event → Type 0) (old new : Option (List Doing)) (waits : List File) (was is : Standing) : Type 0 where
+-- texts are read by any table, or by this one
+abbrev pub ByAny : Texts → Type 0
+ByAny texts = Unit {0}
+
+abbrev pub By : Texts → Texts → Type 0
+By own texts = own ≡ texts
+
+-- a text of this name lay among the offers, and this holds of it
+pub record TextLay (doings : List Doing) (name : List ℕ) (P : List ℕ → Type 0) : Type 0 where
+  pub text : List ℕ
+  pub lay_there : IsAmong doings (read_file (record { name = name; bytes = text }))
+  pub holds : P text
+
+-- this is the tape of a text by a table, or its first fault
+abbrev pub IsTapeOrFault : {D : Type 0} → Places → List ℕ → Result (Result (List ℕ) Reason) D → Type 0
+IsTapeOrFault table text (Ok (Ok tape)) = IsPunched [] (mean table) text tape
+IsTapeOrFault table text (Ok (Err (reasons.Text e))) = IsError most_frames [] (mean table) text e
+IsTapeOrFault table text (Ok (Err _)) = ⊥
+IsTapeOrFault table text (Err d) = Unit {0}
+
+-- the same of the text of this name that lay among the offers; one that is too long was not read
+abbrev pub BecameTape : {D : Type 0} → Places → List Doing → List ℕ → Result (Result (List ℕ) Reason) D → Type 0
+BecameTape table doings name (Ok (Ok tape)) = TextLay doings name (λ text. IsPunched [] (mean table) text tape)
+BecameTape table doings name (Ok (Err (reasons.Text e))) = TextLay doings name (λ text. IsError most_frames [] (mean table) text e)
+BecameTape table doings name (Ok (Err reasons.LongText)) = Unit {0}
+BecameTape table doings name (Ok (Err _)) = ⊥
+BecameTape table doings name (Err d) = Unit {0}
+
+-- a text of this name lay among the offers and stands for this wish by this table
+abbrev pub IsWishOfText : Texts → List Doing → List ℕ → Wish → Type 0
+IsWishOfText texts doings name wish = TextLay doings name (λ text. StandsFor texts kinds.Text text (wished wish))
+
+-- what was done with files among the offers, texts being read by such a table, where this is given of the events: nothing was written; files
+-- left for those that were sent or lost only under released numbers, and none did where a file waits to be written; and what is known then was
+-- read, or was released
+pub record DealsBy (Table : Texts → Type 0) (Given : List Event → Type 0) (old new : Option (List Doing)) (waits : List File) (was is : Standing)
+    : Type 0 where
   pub doings : List Doing
   pub does : Does old new doings
   pub silent : flat_map writing doings ≡ []
-  pub settles :
-      (log : List Event) (shown : List Doing) → Given log → HaveReleases log was → WereRead shown was.files → AreSettlings (IsOfRelease log) doings
+  pub settles : (log : List Event) → Given log → HaveReleases log was → AreSettlings (IsOfRelease log) doings
   pub none : (waits ≡ [] → ⊥) → AreLooks doings
-  pub taken : (shown : List Doing) → WereRead shown was.files → WereRead (onto doings shown) is.files
+  pub taken : (texts : Texts) → Table texts → (shown : List Doing) → WereRead texts shown was.files → WereRead texts (onto doings shown) is.files
   pub released : (log : List Event) → Given log → HaveReleases log was → HaveReleases log is
+
+-- the same where no text is read
+abbrev pub Deals : (List Event → Type 0) → Option (List Doing) → Option (List Doing) → List File → Standing → Standing → Type 0
+Deals Given old new waits was is = DealsBy ByAny Given old new waits was is
 
 -- nothing need hold of the events
 abbrev pub Always : List Event → Type 0
@@ -79,7 +123,8 @@ pub record HandsOn {F : Type 0} (doings : F → Option (List Doing)) (answer : A
   pub front : (rest : List File) × Writes (waited ++ files_of answer.release) (map did done) rest
   pub whole : end ≡ ends.Done → Writes (waited ++ files_of answer.release) (map did done) waits
   pub ordered :
-      (past : List Happened) (call : Call) → Holds past waited was → IsInOrder (stepped (took call (Ok answer)) ∷ past) (map did done)
+      (texts : Texts) (past : List Happened) (call : Call) → Holds texts past waited was
+      → IsInOrder texts (stepped (took call (Ok answer)) ∷ past) (map did done)
   pub stands :
-      end ≡ ends.Done → (past : List Happened) (call : Call) → Holds past waited was
-      → Holds (onto (map did done) (stepped (took call (Ok answer)) ∷ past)) waits is
+      end ≡ ends.Done → (texts : Texts) (past : List Happened) (call : Call) → Holds texts past waited was
+      → Holds texts (onto (map did done) (stepped (took call (Ok answer)) ∷ past)) waits is

@@ -9,13 +9,13 @@ ghost use Rattle.run_command.specs.Story.{IsReleasedIn};
 ghost use Rattle.run_command.specs.Working.{Always, Deals, Follows, HandsOn, Releases};
 
 use crate::plant::Plant;
-use crate::telling::{Event, tell, tell_folders};
 use ballots::Number;
 use command_ends::Fault;
 use driver::{Log, Step};
 use folders::Folders;
 use node_core::Note;
 use plant_files::keep_any;
+use plant_log::{Event, tell_folders};
 use station::Release;
 use std::alloc::AllocError;
 use std::io::Write;
@@ -47,6 +47,7 @@ impl<'f, 'p, F: Folders> Plant<'f, 'p, F> {
         ensures folders { self.new.folders.ghost_name ≡ self.old.folders.ghost_name }
         ensures same { self.new.folders.now ≡ self.old.folders.now }
         ensures waits { self.new.papers.now.waits ≡ self.old.papers.now.waits }
+        ensures texts { self.new.papers.now.texts ≡ self.old.papers.now.texts }
         ensures book { Follows self.old.papers.now.book self.new.papers.now.book }
     {
         if is_of_close(&step.answer.note) {
@@ -61,11 +62,12 @@ impl<'f, 'p, F: Folders> Plant<'f, 'p, F> {
         ensures folders { self.new.folders.ghost_name ≡ self.old.folders.ghost_name }
         ensures same { self.new.folders.now ≡ self.old.folders.now }
         ensures waits { self.new.papers.now.waits ≡ self.old.papers.now.waits }
+        ensures texts { self.new.papers.now.texts ≡ self.old.papers.now.texts }
         ensures book { Follows self.old.papers.now.book self.new.papers.now.book }
     {
         if self.note(number, step) {
             if let Some(event) = event_of(number, &step.answer.note) {
-                tell(event, log);
+                self.papers.told.tell(event, step.moment, log.err);
             }
         }
     }
@@ -74,6 +76,7 @@ impl<'f, 'p, F: Folders> Plant<'f, 'p, F> {
     fn keep(&mut self, release: &Release, now: u64) -> Result<(), AllocError>
         ensures folders { self.new.folders.ghost_name ≡ self.old.folders.ghost_name }
         ensures waits { self.new.papers.now.waits ≡ self.old.papers.now.waits }
+        ensures texts { self.new.papers.now.texts ≡ self.old.papers.now.texts }
         ensures deals { Deals (λ log. IsReleasedIn log release.now) (F.doings self.old.folders.now) (F.doings self.new.folders.now) self.old.papers.now.waits.items self.old.papers.now.book self.new.papers.now.book }
     {
         let number = release.number;
@@ -86,12 +89,14 @@ impl<'f, 'p, F: Folders> Plant<'f, 'p, F> {
         }
     }
 
-    /// Lets the files of a number that was released leave the offers, at a moment: its tape, its withdrawal, its search.
+    /// Lets the files of a number that was released leave the offers, at a moment: its tape, its text, its withdrawal, its search.
     fn settle_all<E: Write>(&mut self, number: Number, now: u64, log: &mut Log<'_, E>)
         ensures folders { self.new.folders.ghost_name ≡ self.old.folders.ghost_name }
         ensures waits { self.new.papers.now.waits ≡ self.old.papers.now.waits }
+        ensures texts { self.new.papers.now.texts ≡ self.old.papers.now.texts }
         ensures deals { Deals Always (F.doings self.old.folders.now) (F.doings self.new.folders.now) self.old.papers.now.waits.items self.old.papers.now.book self.new.papers.now.book }
     {
+        self.settle(number, now, log);
         self.settle(number, now, log);
         self.settle(number, now, log);
         self.settle(number, now, log);
@@ -101,13 +106,16 @@ impl<'f, 'p, F: Folders> Plant<'f, 'p, F> {
     fn take_release<E: Write>(&mut self, release: &Release, now: u64, log: &mut Log<'_, E>)
         ensures folders { self.new.folders.ghost_name ≡ self.old.folders.ghost_name }
         ensures waits { self.new.papers.now.waits ≡ self.old.papers.now.waits }
+        ensures texts { self.new.papers.now.texts ≡ self.old.papers.now.texts }
         ensures deals { Deals (λ log. IsReleasedIn log release.now) (F.doings self.old.folders.now) (F.doings self.new.folders.now) self.old.papers.now.waits.items self.old.papers.now.book self.new.papers.now.book }
     {
         let number = release.number;
-        let told = number.get();
-        tell(Event::Released { number: told }, log);
+        let event = Event::Released {
+            number: number.get(),
+        };
+        self.papers.told.tell(event, now, log.err);
         if self.keep(release, now).is_err() {
-            tell_folders("no memory for releases", log);
+            tell_folders(self.alloc, "no memory for releases", log.err);
         }
         self.settle_all(number, now, log);
     }
@@ -116,6 +124,7 @@ impl<'f, 'p, F: Folders> Plant<'f, 'p, F> {
     fn close<E: Write>(&mut self, step: &Step, log: &mut Log<'_, E>)
         ensures folders { self.new.folders.ghost_name ≡ self.old.folders.ghost_name }
         ensures waits { self.new.papers.now.waits ≡ self.old.papers.now.waits }
+        ensures texts { self.new.papers.now.texts ≡ self.old.papers.now.texts }
         ensures deals { Deals (Releases step.now.answer.release) (F.doings self.old.folders.now) (F.doings self.new.folders.now) self.old.papers.now.waits.items self.old.papers.now.book self.new.papers.now.book }
     {
         match (&step.answer.release, step.answer.number) {
@@ -133,13 +142,14 @@ impl<'f, 'p, F: Folders> Plant<'f, 'p, F> {
         log: &mut Log<'_, E>,
     ) -> Result<(), Fault<'static>>
         ensures folders { self.new.folders.ghost_name ≡ self.old.folders.ghost_name }
+        ensures texts { self.new.papers.now.texts ≡ self.old.papers.now.texts }
         ensures hands { HandsOn F.doings step.now.answer self.old.folders.now self.new.folders.now self.old.papers.now.waits.items self.new.papers.now.waits.items self.old.papers.now.book self.new.papers.now.book (ended result) }
         ensures fault { IfErr result (λ fault. fault ≡ OutOfMemory) }
     {
         if keep_any(self.alloc, &step.answer.release, &mut self.papers.waits).is_err() {
             return Err(Fault::OutOfMemory);
         }
-        self.write(log);
+        self.write(step.moment, log);
         self.close(step, log);
         Ok(())
     }

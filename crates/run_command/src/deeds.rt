@@ -2,18 +2,16 @@
 
 ghost use Rattle.std.specs.Prelude.{◌≡◌, IfSome};
 ghost use Rattle.run_command.specs.Departing.{departure_of, task_of, IsFree, IsFreeTask};
-ghost use Rattle.run_command.specs.Working.{Always, Deals, Follows};
+ghost use Rattle.run_command.specs.Working.{Always, By, Deals, DealsBy, Follows};
 
 use crate::departures::{Departure, Way, tell_departure};
 use crate::plant::Plant;
 use crate::reading::read;
-use crate::strays::Stray;
-use crate::telling::{Event, tell, tell_file, tell_refused};
 use ballots::Number;
 use driver::Log;
-use folders::{FolderFault, Folders, Leaving, Place, Request};
+use folders::{Folders, Request};
 use offers::{Allowed, Deed, Found};
-use std::alloc::Global;
+use plant_log::{Event, Trouble};
 use std::io::Write;
 
 /// What is to be done with a file.
@@ -68,18 +66,12 @@ fn task_of(deed: &Deed) -> Option<Task>
     }
 }
 
-/// Tells that a file whose name asks for nothing can't be moved, unless that was told of it last, or it is gone, or another by now.
-fn tell_stuck<E: Write>(alloc: Global, stray: &Stray, fault: FolderFault, log: &mut Log<'_, E>) {
-    if stray.sighting.is_to_be_told(fault) {
-        tell_file(alloc, "cannot move", stray.name.as_str(), fault, log);
-    }
-}
-
 impl<'f, 'p, F: Folders> Plant<'f, 'p, F> {
     /// Moves a file from the offers, at a moment. One that can't be moved is put off, which is told.
     fn leave<E: Write>(&mut self, departure: &Departure, now: u64, log: &mut Log<'_, E>)
         ensures folders { self.new.folders.ghost_name ≡ self.old.folders.ghost_name }
         ensures waits { self.new.papers.now.waits ≡ self.old.papers.now.waits }
+        ensures texts { self.new.papers.now.texts ≡ self.old.papers.now.texts }
         ensures deals { IsFree self.old.papers.now.book self.old.papers.now.waits.items departure.now → Deals Always (F.doings self.old.folders.now) (F.doings self.new.folders.now) self.old.papers.now.waits.items self.old.papers.now.book self.new.papers.now.book }
     {
         let request = &departure.found.request;
@@ -87,30 +79,39 @@ impl<'f, 'p, F: Folders> Plant<'f, 'p, F> {
             Ok(()) => {
                 self.papers.book.moved(*request);
                 self.papers.told.is_done(request);
-                tell_departure(self.alloc, departure, log);
+                tell_departure(&mut self.papers.told, departure, now, log);
             }
             Err(fault) => {
-                self.papers.told.cannot_move(request, fault, log);
+                let trouble = Trouble {
+                    request: *request,
+                    fault,
+                };
+                self.papers.told.cannot_move(&trouble, now, log.err);
                 self.papers.book.could_not(*request, now);
             }
         }
     }
 
-    /// Reads a file, at a moment; whether it was read. One that can't be read is put off, which is told.
+    /// Reads a file; whether it was read. One that can't be read is put off, which is told.
     fn read_file<E: Write>(&mut self, found: &Found, now: u64, log: &mut Log<'_, E>) -> bool
         ensures folders { self.new.folders.ghost_name ≡ self.old.folders.ghost_name }
         ensures waits { self.new.papers.now.waits ≡ self.old.papers.now.waits }
-        ensures deals { Deals Always (F.doings self.old.folders.now) (F.doings self.new.folders.now) self.old.papers.now.waits.items self.old.papers.now.book self.new.papers.now.book }
+        ensures texts { self.new.papers.now.texts ≡ self.old.papers.now.texts }
+        ensures deals { DealsBy (By self.old.papers.now.texts) Always (F.doings self.old.folders.now) (F.doings self.new.folders.now) self.old.papers.now.waits.items self.old.papers.now.book self.new.papers.now.book }
     {
         let request = &found.request;
-        match read(self.alloc, self.folders, found) {
+        match read(self.alloc, self.folders, found, &self.papers.texts) {
             Ok(wish) => {
                 self.papers.book.was_read(*request, wish);
                 self.papers.told.is_done(request);
                 true
             }
             Err(fault) => {
-                self.papers.told.cannot_read(request, fault, log);
+                let trouble = Trouble {
+                    request: *request,
+                    fault,
+                };
+                self.papers.told.cannot_read(&trouble, now, log.err);
                 self.papers.book.could_not(*request, now);
                 false
             }
@@ -121,11 +122,14 @@ impl<'f, 'p, F: Folders> Plant<'f, 'p, F> {
     fn read_anew<E: Write>(&mut self, found: &Found, now: u64, log: &mut Log<'_, E>)
         ensures folders { self.new.folders.ghost_name ≡ self.old.folders.ghost_name }
         ensures waits { self.new.papers.now.waits ≡ self.old.papers.now.waits }
-        ensures deals { Deals Always (F.doings self.old.folders.now) (F.doings self.new.folders.now) self.old.papers.now.waits.items self.old.papers.now.book self.new.papers.now.book }
+        ensures texts { self.new.papers.now.texts ≡ self.old.papers.now.texts }
+        ensures deals { DealsBy (By self.old.papers.now.texts) Always (F.doings self.old.folders.now) (F.doings self.new.folders.now) self.old.papers.now.waits.items self.old.papers.now.book self.new.papers.now.book }
     {
         if self.read_file(found, now, log) {
             let number = found.request.number.get();
-            tell(Event::Replaced { number }, log);
+            self.papers
+                .told
+                .tell(Event::Replaced { number }, now, log.err);
         }
     }
 
@@ -136,6 +140,7 @@ impl<'f, 'p, F: Folders> Plant<'f, 'p, F> {
         ensures folders { self.new.folders.ghost_name ≡ self.old.folders.ghost_name }
         ensures same { self.new.folders.now ≡ self.old.folders.now }
         ensures waits { self.new.papers.now.waits ≡ self.old.papers.now.waits }
+        ensures texts { self.new.papers.now.texts ≡ self.old.papers.now.texts }
         ensures book { Follows self.old.papers.now.book self.new.papers.now.book }
         ensures free { IfSome result (IsFreeTask self.new.papers.now.book self.new.papers.now.waits.items) }
     {
@@ -149,61 +154,41 @@ impl<'f, 'p, F: Folders> Plant<'f, 'p, F> {
         }
     }
 
-    /// Does it, at a moment, or answers for which file the station is to be asked.
+    /// Does it, or answers for which file the station is to be asked.
     fn do_task<E: Write>(&mut self, task: &Task, now: u64, log: &mut Log<'_, E>) -> Option<Request>
         ensures folders { self.new.folders.ghost_name ≡ self.old.folders.ghost_name }
         ensures waits { self.new.papers.now.waits ≡ self.old.papers.now.waits }
-        ensures deals { IsFreeTask self.old.papers.now.book self.old.papers.now.waits.items task.now → Deals Always (F.doings self.old.folders.now) (F.doings self.new.folders.now) self.old.papers.now.waits.items self.old.papers.now.book self.new.papers.now.book }
+        ensures texts { self.new.papers.now.texts ≡ self.old.papers.now.texts }
+        ensures deals { IsFreeTask self.old.papers.now.book self.old.papers.now.waits.items task.now → DealsBy (By self.old.papers.now.texts) Always (F.doings self.old.folders.now) (F.doings self.new.folders.now) self.old.papers.now.waits.items self.old.papers.now.book self.new.papers.now.book }
     {
         match task {
-            Task::Ask(request) => return Some(*request),
-            Task::Leave(departure) => self.leave(departure, now, log),
-            Task::Read(found, true) => self.read_anew(found, now, log),
+            Task::Ask(request) => Some(*request),
+            Task::Leave(departure) => {
+                self.leave(departure, now, log);
+                None
+            }
+            Task::Read(found, true) => {
+                self.read_anew(found, now, log);
+                None
+            }
             Task::Read(found, false) => {
                 self.read_file(found, now, log);
-            }
-        }
-        None
-    }
-
-    /// Moves the next file whose name asks for nothing to those that are no offers, at a moment. One that can't be moved is put off, which
-    /// is told.
-    fn leave_stray<E: Write>(&mut self, now: u64, log: &mut Log<'_, E>)
-        ensures folders { self.new.folders.ghost_name ≡ self.old.folders.ghost_name }
-        ensures waits { self.new.papers.now.waits ≡ self.old.papers.now.waits }
-        ensures deals { Deals Always (F.doings self.old.folders.now) (F.doings self.new.folders.now) self.old.papers.now.waits.items self.old.papers.now.book self.new.papers.now.book }
-    {
-        let Some(stray) = self.papers.strays.first() else {
-            return;
-        };
-        let name = stray.name.as_str();
-        let leaving = Leaving {
-            name,
-            stamp: stray.sighting.stamp,
-            to: Place::Refused,
-        };
-        match self
-            .folders
-            .set_aside(self.alloc, leaving, Some("no number\n"))
-        {
-            Ok(()) => {
-                tell_refused(self.alloc, name, "no number", log);
-                self.papers.strays.moved();
-            }
-            Err(fault) => {
-                tell_stuck(self.alloc, stray, fault, log);
-                self.papers.strays.could_not(fault, now);
+                None
             }
         }
     }
 
-    /// Does what is to be done where the book knows of nothing, at a moment: a file whose name asks for nothing is moved, or a look goes on.
+    /// Does what is to be done where the book knows of nothing, at a moment: files whose names ask for nothing are taken in, or one of them is
+    /// moved, or a look goes on.
     fn do_other<E: Write>(&mut self, now: u64, log: &mut Log<'_, E>)
         ensures folders { self.new.folders.ghost_name ≡ self.old.folders.ghost_name }
         ensures waits { self.new.papers.now.waits ≡ self.old.papers.now.waits }
+        ensures texts { self.new.papers.now.texts ≡ self.old.papers.now.texts }
         ensures deals { Deals Always (F.doings self.old.folders.now) (F.doings self.new.folders.now) self.old.papers.now.waits.items self.old.papers.now.book self.new.papers.now.book }
     {
-        if self.papers.strays.find() {
+        if self.papers.unseen.is_some() {
+            self.see_unseen(now, log);
+        } else if self.papers.strays.find() {
             self.leave_stray(now, log);
         } else if self.papers.looking.goes_on() {
             self.look_at_offers(now, log);
@@ -219,7 +204,8 @@ impl<'f, 'p, F: Folders> Plant<'f, 'p, F> {
     ) -> Option<Request>
         ensures folders { self.new.folders.ghost_name ≡ self.old.folders.ghost_name }
         ensures waits { self.new.papers.now.waits ≡ self.old.papers.now.waits }
-        ensures deals { Deals Always (F.doings self.old.folders.now) (F.doings self.new.folders.now) self.old.papers.now.waits.items self.old.papers.now.book self.new.papers.now.book }
+        ensures texts { self.new.papers.now.texts ≡ self.old.papers.now.texts }
+        ensures deals { DealsBy (By self.old.papers.now.texts) Always (F.doings self.old.folders.now) (F.doings self.new.folders.now) self.old.papers.now.waits.items self.old.papers.now.book self.new.papers.now.book }
     {
         match self.next_task(may_ask) {
             Some(task) => self.do_task(&task, now, log),
@@ -240,7 +226,8 @@ impl<'f, 'p, F: Folders> Plant<'f, 'p, F> {
     ) -> Option<Request>
         ensures folders { self.new.folders.ghost_name ≡ self.old.folders.ghost_name }
         ensures waits { self.new.papers.now.waits ≡ self.old.papers.now.waits }
-        ensures deals { Deals Always (F.doings self.old.folders.now) (F.doings self.new.folders.now) self.old.papers.now.waits.items self.old.papers.now.book self.new.papers.now.book }
+        ensures texts { self.new.papers.now.texts ≡ self.old.papers.now.texts }
+        ensures deals { DealsBy (By self.old.papers.now.texts) Always (F.doings self.old.folders.now) (F.doings self.new.folders.now) self.old.papers.now.waits.items self.old.papers.now.book self.new.papers.now.book }
     {
         if self.papers.looking.takes_turn() {
             self.look_at_offers(now, log);
@@ -267,6 +254,7 @@ impl<'f, 'p, F: Folders> Plant<'f, 'p, F> {
     pub(crate) fn settle<E: Write>(&mut self, number: Number, now: u64, log: &mut Log<'_, E>)
         ensures folders { self.new.folders.ghost_name ≡ self.old.folders.ghost_name }
         ensures waits { self.new.papers.now.waits ≡ self.old.papers.now.waits }
+        ensures texts { self.new.papers.now.texts ≡ self.old.papers.now.texts }
         ensures deals { Deals Always (F.doings self.old.folders.now) (F.doings self.new.folders.now) self.old.papers.now.waits.items self.old.papers.now.book self.new.papers.now.book }
     {
         if let Some(departure) = self.next_departure(number) {

@@ -5,15 +5,15 @@ ghost use Rattle.tape_frames.specs.Entries.{lent_entry};
 ghost use Rattle.command_ends.specs.EntryText.{entry_text};
 ghost use Rattle.command_ends.specs.ReleaseText.{plain_line};
 ghost use Rattle.folders.specs.Doings.{moved_file, MayDo};
-ghost use Rattle.run_command.specs.Departing.{place_of};
+ghost use Rattle.run_command.specs.Departing.{IsBeside, IsReason, TellsDeparture, left_event, place_of};
 ghost use Rattle.run_command.specs.Minding.{name_of};
 
 use crate::plant::Plant;
-use crate::telling::{Event, ReasonText, tell, tell_refused};
 use command_ends::entry_text;
 use driver::Log;
 use folders::{FolderFault, Folders, Leaving, Place, name_of};
 use offers::{Found, Reason};
+use plant_log::{Event, ReasonText, Told};
 use std::alloc::{AllocError, Global};
 use std::io::Write;
 use tape_frames::EntryRef;
@@ -53,7 +53,9 @@ fn standing_text(alloc: Global, number: u32, entry: &EntryRef<'_>) -> Result<Str
 }
 
 /// The text beside a file that is no offer.
-fn reason_text(alloc: Global, reason: Reason) -> Result<String, AllocError> {
+fn reason_text(alloc: Global, reason: Reason) -> Result<String, AllocError>
+    ensures { IfOk result (λ t. IsReason reason (string_bytes t)) }
+{
     let why = ReasonText(reason);
     format!(in alloc; "{why}\n")
 }
@@ -76,17 +78,32 @@ fn set_aside<F: Folders>(
     folders.set_aside(alloc, leaving, beside)
 }
 
-/// Tells that a file has left the offers.
-pub(crate) fn tell_departure<E: Write>(alloc: Global, departure: &Departure, log: &mut Log<'_, E>) {
+/// What befell the number of a file that has left the offers for what was released; nothing where it was no offer.
+fn event_of(departure: &Departure) -> Option<Event>
+    ensures { result ≡ left_event departure.now }
+{
     let number = departure.found.request.number.get();
     match departure.way {
-        Way::Released(Place::Lost) => tell(Event::Lost { number }, log),
-        Way::Released(_) => tell(Event::Sent { number }, log),
-        Way::NoOffer(reason) => {
-            let why = format!(in alloc; "{}", ReasonText(reason));
-            let name = name_of(alloc, departure.found.request);
-            if let (Ok(name), Ok(why)) = (name, why) {
-                tell_refused(alloc, name.as_str(), why.as_str(), log);
+        Way::Released(Place::Lost) => Some(Event::Lost { number }),
+        Way::Released(_) => Some(Event::Sent { number }),
+        Way::NoOffer(_) => None,
+    }
+}
+
+/// Tells at a moment that a file has left the offers.
+pub(crate) fn tell_departure<E: Write>(
+    told: &mut Told,
+    departure: &Departure,
+    now: u64,
+    log: &mut Log<'_, E>,
+)
+    ensures tells { TellsDeparture departure.now now told.old told.new (E.contents log.old.err.now) (E.contents log.new.err.now) }
+{
+    match event_of(departure) {
+        Some(event) => told.tell(event, now, log.err),
+        None => {
+            if let Way::NoOffer(reason) = departure.way {
+                told.no_offer(departure.found.request, reason, log.err);
             }
         }
     }
@@ -94,7 +111,9 @@ pub(crate) fn tell_departure<E: Write>(alloc: Global, departure: &Departure, log
 
 impl<'f, 'p, F: Folders> Plant<'f, 'p, F> {
     /// What is to lie beside a file: nothing where it was sent.
-    fn text_beside(&self, departure: &Departure) -> Result<Option<String>, FolderFault> {
+    fn text_beside(&self, departure: &Departure) -> Result<Option<String>, FolderFault>
+        ensures { IfOk result (IsBeside self.now.papers.now.book departure.now) }
+    {
         match departure.way {
             Way::Released(Place::Lost) => {
                 let number = departure.found.request.number;
@@ -116,6 +135,7 @@ impl<'f, 'p, F: Folders> Plant<'f, 'p, F> {
     pub(crate) fn depart(&mut self, departure: &Departure) -> Result<(), FolderFault>
         ensures folders { self.new.folders.ghost_name ≡ self.old.folders.ghost_name }
         ensures waits { self.new.papers.now.waits ≡ self.old.papers.now.waits }
+        ensures texts { self.new.papers.now.texts ≡ self.old.papers.now.texts }
         ensures book { self.new.papers.now.book ≡ self.old.papers.now.book }
         ensures departs { MayDo (F.doings self.old.folders.now) (F.doings self.new.folders.now) (moved_file (name_of departure.now.found.request) (place_of departure.now.way)) }
     {

@@ -2,7 +2,7 @@
 
 ghost use Rattle.std.specs.Prelude.{◌≡◌};
 ghost use Rattle.std.proofs.Common.{refl, ◌∙◌};
-ghost use Rattle.run_command.specs.Living.{CameOn, IsSameDesk, LivedOn, MayAsk, kept_of};
+ghost use Rattle.run_command.specs.Living.{CameOn, IsSameDesk, LivedOn, MayAsk, kept_of, texts_of};
 ghost use Rattle.run_command.specs.Lives.{plant_fates};
 
 use crate::plant::Plant;
@@ -24,7 +24,7 @@ impl<F: Folders> Sink for PlantDesk<'_, '_, F> {
 
     ghost front = { λ old new log. CameOn F.doings old new log };
 
-    ghost may = { λ it call. MayAsk (kept_of it.plant) call };
+    ghost may = { λ it call. MayAsk (texts_of it) (kept_of it.plant) call };
 
     fn take<E: Write>(&mut self, step: &Step, log: &mut Log<'_, E>) -> Result<(), Fault<'static>> {
         self.plant.take(step, log)
@@ -34,7 +34,7 @@ impl<F: Folders> Sink for PlantDesk<'_, '_, F> {
         self.plant.hear_refusal(refusal, now, log);
     }
 
-    ghost fates = { plant_fates F.doings (λ a b. IsSameDesk a b) (λ _. refl) (λ _ _ _ p q. q ∙ p) (λ it. kept_of it.plant) };
+    ghost fates = { plant_fates F.doings (λ a b. IsSameDesk a b) (λ _. (refl, refl)) (λ _ _ _ p q. (q.0 ∙ p.0, q.1 ∙ p.1)) (λ it. texts_of it) (λ _ _ same. same.1) (λ it. kept_of it.plant) };
 }
 
 impl<F: Folders> Desk for PlantDesk<'_, '_, F> {

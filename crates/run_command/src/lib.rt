@@ -5,15 +5,10 @@ mod closing;
 mod deeds;
 mod departures;
 mod desk;
-mod differences;
-mod gathered;
 mod look;
-mod look_turns;
 mod plant;
 mod reading;
 mod strays;
-mod telling;
-mod told;
 mod turns;
 
 pub use turns::{Terms, run_station};

@@ -1,33 +1,87 @@
 //! A look at the folders: what waits is written, and what lies among the offers is found.
 
-ghost use Rattle.std.specs.Prelude.{◌≡◌};
+ghost use Rattle.std.specs.Prelude.{◌≡◌, IfOk, map};
+ghost use Rattle.run_command.specs.Looking.{passed_over};
 ghost use Rattle.run_command.specs.Working.{Follows, Deals, Always, WritesAndDeals};
 
-use crate::gathered::Seen;
-use crate::look_turns::MOST;
-use crate::plant::Plant;
-use crate::telling::tell_news;
+use crate::plant::{Plant, Unseen};
 use driver::Log;
-use folders::{FolderFault, Folders, Listing};
+use folders::{FolderFault, Folders, Listing, PassedOver, Stamp};
+use looks::{MOST_NAMES, Seen};
 use offers::Found;
-use std::alloc::AllocError;
+use plant_log::{Unread, tell_news};
+use std::alloc::{AllocError, Global};
+use std::collections::BTreeMap;
 use std::io::Write;
 
+/// What was passed over, in order of its names.
+fn passed_over(
+    alloc: Global,
+    others: BTreeMap<String, FolderFault>,
+) -> Result<Vec<PassedOver>, AllocError>
+    ensures { IfOk result (λ list. list.items ≡ map passed_over others.entries) }
+{
+    let mut list = Vec::with_capacity(alloc, others.len())?;
+    for (name, fault) in others {
+        list.push(PassedOver { name, fault })?;
+    }
+    Ok(list)
+}
+
 impl<'f, 'p, F: Folders> Plant<'f, 'p, F> {
+    /// Takes in the files whose names ask for nothing that a look found, at its moment: at once where they are few, and else in a turn of
+    /// their own. Where there is no memory for it, what is known of them stays as it was.
+    fn see_strays(&mut self, strays: BTreeMap<String, Stamp>, now: u64) -> Result<(), AllocError>
+        ensures folders { self.new.folders.ghost_name ≡ self.old.folders.ghost_name }
+        ensures same { self.new.folders.now ≡ self.old.folders.now }
+        ensures waits { self.new.papers.now.waits ≡ self.old.papers.now.waits }
+        ensures texts { self.new.papers.now.texts ≡ self.old.papers.now.texts }
+        ensures book { self.new.papers.now.book ≡ self.old.papers.now.book }
+    {
+        if strays.len() > MOST_NAMES {
+            self.papers.unseen = Some(Unseen {
+                strays,
+                looked: now,
+            });
+            return Ok(());
+        }
+        self.papers.unseen = None;
+        self.papers.strays.see(strays, now)
+    }
+
+    /// Takes in those of them that a look found, where that was left for a turn of their own.
+    pub(crate) fn see_unseen<E: Write>(&mut self, now: u64, log: &mut Log<'_, E>)
+        ensures folders { self.new.folders.ghost_name ≡ self.old.folders.ghost_name }
+        ensures same { self.new.folders.now ≡ self.old.folders.now }
+        ensures waits { self.new.papers.now.waits ≡ self.old.papers.now.waits }
+        ensures texts { self.new.papers.now.texts ≡ self.old.papers.now.texts }
+        ensures book { self.new.papers.now.book ≡ self.old.papers.now.book }
+    {
+        let Some(Unseen { strays, looked }) = self.papers.unseen.take() else {
+            return;
+        };
+        if self.papers.strays.see(strays, looked).is_err() {
+            self.papers
+                .told
+                .cannot_list(FolderFault::OutOfMemory, now, log.err);
+        }
+    }
+
     /// Takes in which files a look found, in order, at a moment. Where there is no memory for it, what is known stays as it was.
     fn see(
         &mut self,
         requests: Vec<Found>,
-        strays: Vec<folders::Found>,
+        strays: BTreeMap<String, Stamp>,
         now: u64,
     ) -> Result<(), AllocError>
         ensures folders { self.new.folders.ghost_name ≡ self.old.folders.ghost_name }
         ensures same { self.new.folders.now ≡ self.old.folders.now }
         ensures waits { self.new.papers.now.waits ≡ self.old.papers.now.waits }
+        ensures texts { self.new.papers.now.texts ≡ self.old.papers.now.texts }
         ensures book { Follows self.old.papers.now.book self.new.papers.now.book }
     {
         self.papers.book.see(requests.as_slice(), now)?;
-        self.papers.strays.see(strays, now)
+        self.see_strays(strays, now)
     }
 
     /// Takes in all that a look found, at a moment.
@@ -35,6 +89,7 @@ impl<'f, 'p, F: Folders> Plant<'f, 'p, F> {
         ensures folders { self.new.folders.ghost_name ≡ self.old.folders.ghost_name }
         ensures same { self.new.folders.now ≡ self.old.folders.now }
         ensures waits { self.new.papers.now.waits ≡ self.old.papers.now.waits }
+        ensures texts { self.new.papers.now.texts ≡ self.old.papers.now.texts }
         ensures book { Follows self.old.papers.now.book self.new.papers.now.book }
     {
         let Seen {
@@ -43,9 +98,20 @@ impl<'f, 'p, F: Folders> Plant<'f, 'p, F> {
             others,
             skipped,
         } = seen;
-        self.papers.told.listed(skipped, others, log);
-        if self.see(requests, strays, now).is_err() {
-            self.papers.told.cannot_list(FolderFault::OutOfMemory, log);
+        match passed_over(self.alloc, others) {
+            Ok(others) => {
+                let unread = Unread { skipped, others };
+                self.papers.told.listed(unread, now, log.err);
+                if self.see(requests, strays, now).is_err() {
+                    self.papers
+                        .told
+                        .cannot_list(FolderFault::OutOfMemory, now, log.err);
+                }
+            }
+            Err(_) => self
+                .papers
+                .told
+                .cannot_list(FolderFault::OutOfMemory, now, log.err),
         }
     }
 
@@ -54,12 +120,17 @@ impl<'f, 'p, F: Folders> Plant<'f, 'p, F> {
         ensures folders { self.new.folders.ghost_name ≡ self.old.folders.ghost_name }
         ensures same { self.new.folders.now ≡ self.old.folders.now }
         ensures waits { self.new.papers.now.waits ≡ self.old.papers.now.waits }
+        ensures texts { self.new.papers.now.texts ≡ self.old.papers.now.texts }
         ensures book { Follows self.old.papers.now.book self.new.papers.now.book }
     {
-        tell_news(listing.news.as_slice(), log);
+        tell_news(self.alloc, listing.news.as_slice(), log.err);
         match self.papers.looking.take(listing, now) {
             Some(Ok(seen)) => self.take_seen(seen, now, log),
-            Some(Err(_)) => self.papers.told.cannot_list(FolderFault::OutOfMemory, log),
+            Some(Err(_)) => {
+                self.papers
+                    .told
+                    .cannot_list(FolderFault::OutOfMemory, now, log.err);
+            }
             None => {}
         }
     }
@@ -68,13 +139,14 @@ impl<'f, 'p, F: Folders> Plant<'f, 'p, F> {
     pub(crate) fn look_at_offers<E: Write>(&mut self, now: u64, log: &mut Log<'_, E>)
         ensures folders { self.new.folders.ghost_name ≡ self.old.folders.ghost_name }
         ensures waits { self.new.papers.now.waits ≡ self.old.papers.now.waits }
+        ensures texts { self.new.papers.now.texts ≡ self.old.papers.now.texts }
         ensures deals { Deals Always (F.doings self.old.folders.now) (F.doings self.new.folders.now) self.old.papers.now.waits.items self.old.papers.now.book self.new.papers.now.book }
     {
-        match self.folders.list(self.alloc, MOST) {
+        match self.folders.list(self.alloc, MOST_NAMES) {
             Ok(listing) => self.take_listing(listing, now, log),
             Err(fault) => {
                 self.papers.looking.fail(now);
-                self.papers.told.cannot_list(fault, log);
+                self.papers.told.cannot_list(fault, now, log.err);
             }
         }
     }
@@ -83,6 +155,7 @@ impl<'f, 'p, F: Folders> Plant<'f, 'p, F> {
     fn look_if_due<E: Write>(&mut self, now: u64, log: &mut Log<'_, E>)
         ensures folders { self.new.folders.ghost_name ≡ self.old.folders.ghost_name }
         ensures waits { self.new.papers.now.waits ≡ self.old.papers.now.waits }
+        ensures texts { self.new.papers.now.texts ≡ self.old.papers.now.texts }
         ensures deals { Deals Always (F.doings self.old.folders.now) (F.doings self.new.folders.now) self.old.papers.now.waits.items self.old.papers.now.book self.new.papers.now.book }
     {
         if self.papers.looking.is_due(now) {
@@ -94,9 +167,10 @@ impl<'f, 'p, F: Folders> Plant<'f, 'p, F> {
     /// ends the run lies there, which is looked for each time.
     pub(crate) fn look<E: Write>(&mut self, now: u64, log: &mut Log<'_, E>) -> bool
         ensures folders { self.new.folders.ghost_name ≡ self.old.folders.ghost_name }
+        ensures texts { self.new.papers.now.texts ≡ self.old.papers.now.texts }
         ensures looks { WritesAndDeals (F.doings self.old.folders.now) (F.doings self.new.folders.now) self.old.papers.now.waits.items self.new.papers.now.waits.items self.old.papers.now.book self.new.papers.now.book }
     {
-        self.write(log);
+        self.write(now, log);
         self.look_if_due(now, log);
         self.folders.has_stop(self.alloc)
     }

@@ -2,20 +2,31 @@
 
 ghost use Rattle.std.specs.Prelude.{◌≡◌, [], if◌then◌else◌};
 ghost use Rattle.folders.specs.Doings.{WritesSome};
-ghost use Rattle.offers.specs.Book.{IsFresh};
+ghost use Rattle.offers.specs.Book.{IsFresh, still_for};
+ghost use Rattle.looks.specs.Strays.{none_known, still_for as strays_still};
 ghost use Rattle.run_command.specs.Working.{Follows};
 
-use crate::look_turns::Looking;
-use crate::strays::Strays;
-use crate::told::Told;
+use code_table::CodeTable;
 use driver::{Denied, Log, Tasks};
-use folders::{Folders, NamedFile, write_waiting};
+use folders::{Folders, NamedFile, Stamp, write_waiting};
+use log_terms::Loudness;
+use looks::{Looking, Strays};
 use offers::{Book, Reason};
 use pace::Deeds;
 use plant_files::is_of_offer;
+use plant_log::Told;
 use station::StepRefusal;
 use std::alloc::Global;
+use std::collections::BTreeMap;
 use std::io::Write;
+
+/// Files whose names ask for nothing, as a look found them, by their names.
+#[derive(Drop)]
+pub(crate) struct Unseen {
+    pub(crate) strays: BTreeMap<String, Stamp>,
+    /// The moment of the look.
+    pub(crate) looked: u64,
+}
 
 /// What is known of what lies in the folders of a plant.
 #[derive(Drop)]
@@ -26,8 +37,12 @@ pub(crate) struct Papers {
     pub(crate) book: Book,
     /// The files among the offers whose names ask for nothing.
     pub(crate) strays: Strays,
+    /// Those of them that the last look found, where it is left to take them in.
+    pub(crate) unseen: Option<Unseen>,
     pub(crate) looking: Looking,
     pub(crate) told: Told,
+    /// By which code table texts among the offers become tapes; by none where no text may be offered.
+    pub(crate) texts: Option<CodeTable>,
 }
 
 /// The folders of a plant, and what is known of what lies in them. Moments are in milliseconds.
@@ -46,31 +61,43 @@ fn deeds_of(deeds: Deeds, has_more: bool) -> Deeds
 }
 
 impl Papers {
-    /// Nothing waits, and nothing is known yet.
-    pub(crate) fn new(alloc: Global) -> Papers
+    /// Nothing waits, and nothing is known yet: of offers to which files come only by being renamed, or not only so. So much is told.
+    pub(crate) fn new(
+        alloc: Global,
+        texts: Option<CodeTable>,
+        renamed: bool,
+        loudness: Loudness,
+    ) -> Papers
         ensures waits { result.waits.items ≡ [] }
         ensures book { IsFresh result.book }
+        ensures still { result.book.still ≡ still_for renamed }
+        ensures strays { result.strays ≡ none_known (strays_still renamed) }
+        ensures loudness { result.told.loudness ≡ loudness }
+        ensures texts { result.texts ≡ texts }
     {
         Papers {
             waits: Vec::new(alloc),
-            book: Book::new(alloc),
-            strays: Strays::new(alloc),
+            book: Book::over(alloc, renamed),
+            strays: Strays::over(alloc, renamed),
+            unseen: None,
             looking: Looking::new(alloc),
-            told: Told::new(alloc),
+            told: Told::new(alloc, loudness),
+            texts,
         }
     }
 }
 
 impl<'f, 'p, F: Folders> Plant<'f, 'p, F> {
-    /// Writes the files that wait. That the folder of releases does not take them is told once.
-    pub(crate) fn write<E: Write>(&mut self, log: &mut Log<'_, E>)
+    /// Writes the files that wait, at a moment. That the folder of releases does not take them is told once, and again each hour.
+    pub(crate) fn write<E: Write>(&mut self, now: u64, log: &mut Log<'_, E>)
         ensures folders { self.new.folders.ghost_name ≡ self.old.folders.ghost_name }
+        ensures texts { self.new.papers.now.texts ≡ self.old.papers.now.texts }
         ensures book { self.new.papers.now.book ≡ self.old.papers.now.book }
         ensures writes { WritesSome (F.doings self.old.folders.now) (F.doings self.new.folders.now) self.old.papers.now.waits.items self.new.papers.now.waits.items }
     {
         match write_waiting(self.alloc, self.folders, &mut self.papers.waits) {
             Ok(()) => self.papers.told.written(),
-            Err(fault) => self.papers.told.cannot_write(fault, log),
+            Err(fault) => self.papers.told.cannot_write(fault, now, log.err),
         }
     }
 
@@ -79,11 +106,14 @@ impl<'f, 'p, F: Folders> Plant<'f, 'p, F> {
         ensures folders { self.new.folders.ghost_name ≡ self.old.folders.ghost_name }
         ensures same { self.new.folders.now ≡ self.old.folders.now }
         ensures waits { self.new.papers.now.waits ≡ self.old.papers.now.waits }
+        ensures texts { self.new.papers.now.texts ≡ self.old.papers.now.texts }
         ensures book { self.new.papers.now.book ≡ self.old.papers.now.book }
     {
         let is_all_written = self.papers.waits.is_empty();
         let deeds = self.papers.book.deeds(is_all_written);
-        let has_more = self.papers.strays.find() || self.papers.looking.goes_on();
+        let has_more = self.papers.unseen.is_some()
+            || self.papers.strays.find()
+            || self.papers.looking.goes_on();
         let under_way = self.papers.book.under_way();
         Tasks {
             deeds: deeds_of(deeds, has_more),
@@ -101,9 +131,10 @@ impl<'f, 'p, F: Folders> Plant<'f, 'p, F> {
         ensures folders { self.new.folders.ghost_name ≡ self.old.folders.ghost_name }
         ensures same { self.new.folders.now ≡ self.old.folders.now }
         ensures waits { self.new.papers.now.waits ≡ self.old.papers.now.waits }
+        ensures texts { self.new.papers.now.texts ≡ self.old.papers.now.texts }
         ensures book { self.new.papers.now.book ≡ self.old.papers.now.book }
     {
-        self.papers.told.hear_refusal(refusal, now, log);
+        self.papers.told.hear_refusal(refusal, now, log.err);
     }
 
     /// What becomes of a file for which the station did not take the step: another of its number is under way, it is no offer, or it waits.
@@ -111,6 +142,7 @@ impl<'f, 'p, F: Folders> Plant<'f, 'p, F> {
         ensures folders { self.new.folders.ghost_name ≡ self.old.folders.ghost_name }
         ensures same { self.new.folders.now ≡ self.old.folders.now }
         ensures waits { self.new.papers.now.waits ≡ self.old.papers.now.waits }
+        ensures texts { self.new.papers.now.texts ≡ self.old.papers.now.texts }
         ensures book { Follows self.old.papers.now.book self.new.papers.now.book }
     {
         let number = denied.request.number;

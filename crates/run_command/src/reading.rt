@@ -4,23 +4,33 @@ ghost use Rattle.std.specs.Prelude.{OnOk};
 ghost use Rattle.protocol.specs.Lists.{IsAmong};
 ghost use Rattle.folders.specs.Doings.{read_file, saw_file};
 ghost use Rattle.run_command.specs.Minding.{WasRead};
-ghost use Rattle.run_command.specs.Working.{IfRead, LaySo, Looks};
+ghost use Rattle.run_command.specs.Working.{BecameTape, IfRead, IsTapeOrFault, IsWishOfText, LaySo, Looks};
 
-use folders::{FolderFault, Folders, Kind, Stamp, Wish, name_of};
+use code_table::CodeTable;
+use folders::{FolderFault, Folders, Kind, Wish, name_of};
 use offers::{Found, Reason};
+use plant_files::{MAX_TEXT, tape_of_text};
 use std::alloc::Global;
 use tape_frames::{Entry, MAX_FRAMES, Tape, TapeFault};
+use text_tape::PunchError;
 
-/// The tape in a file of this stamp, or why it is none.
+/// A file among the offers, by its name, as it was found.
+#[derive(Clone, Copy)]
+struct NamedFound<'a> {
+    name: &'a str,
+    found: &'a Found,
+}
+
+/// The tape in a file, or why it is none.
 fn read_tape<F: Folders>(
     alloc: Global,
     folders: &mut F,
-    name: &str,
-    stamp: Stamp,
+    file: &NamedFound<'_>,
 ) -> Result<Result<Tape, TapeFault>, FolderFault>
-    ensures { Looks (F.doings folders.old) (F.doings folders.new) (λ doings. IfRead result (λ tape. IsAmong doings (read_file (record { name = name.now; bytes = tape })))) }
+    ensures { Looks (F.doings folders.old) (F.doings folders.new) (λ doings. IfRead result (λ tape. IsAmong doings (read_file (record { name = file.now.name.now; bytes = tape })))) }
 {
-    match folders.read(alloc, name, stamp, MAX_FRAMES)? {
+    let stamp = file.found.stamp;
+    match folders.read(alloc, file.name, stamp, MAX_FRAMES)? {
         Some(bytes) => Ok(Tape::from_vec(alloc, bytes)),
         None => {
             let len = usize::try_from(stamp.length).unwrap_or(usize::MAX);
@@ -29,42 +39,90 @@ fn read_tape<F: Folders>(
     }
 }
 
-/// Sees to it that a file of this name and stamp lies there, whatever it holds.
+/// The tape that a text becomes, or why it is no offer. Where there is no memory for it, it can't be read now.
+fn punched(
+    alloc: Global,
+    table: &CodeTable,
+    text: &[u8],
+) -> Result<Result<Tape, Reason>, FolderFault>
+    ensures { IsTapeOrFault table.now text.now result }
+{
+    match tape_of_text(alloc, table, text) {
+        Ok(tape) => Ok(Ok(tape)),
+        Err(PunchError::OutOfMemory) => Err(FolderFault::OutOfMemory),
+        Err(fault) => Ok(Err(Reason::Text(fault))),
+    }
+}
+
+/// The tape that the text in a file becomes by this table, or why the file is no offer.
+fn read_text<F: Folders>(
+    alloc: Global,
+    folders: &mut F,
+    file: &NamedFound<'_>,
+    table: &CodeTable,
+) -> Result<Result<Tape, Reason>, FolderFault>
+    ensures { Looks (F.doings folders.old) (F.doings folders.new) (λ doings. BecameTape table.now doings file.now.name.now result) }
+{
+    match folders.read(alloc, file.name, file.found.stamp, MAX_TEXT)? {
+        Some(text) => punched(alloc, table, text.as_slice()),
+        None => Ok(Err(Reason::LongText)),
+    }
+}
+
+/// What a text in a file asks for by this table, or why it is no offer; where no text may be offered, it is none.
+fn read_wish<F: Folders>(
+    alloc: Global,
+    folders: &mut F,
+    file: &NamedFound<'_>,
+    texts: &Option<CodeTable>,
+) -> Result<Result<Wish, Reason>, FolderFault>
+    ensures { Looks (F.doings folders.old) (F.doings folders.new) (λ doings. IfRead result (λ wish. IsWishOfText texts.now doings file.now.name.now wish)) }
+{
+    let Some(table) = texts else {
+        return Ok(Err(Reason::NoTexts));
+    };
+    match read_text(alloc, folders, file, table)? {
+        Ok(tape) => Ok(Ok(Wish::Offered(Entry::Tape(tape)))),
+        Err(reason) => Ok(Err(reason)),
+    }
+}
+
+/// Sees to it that a file lies there, whatever it holds.
 fn find<F: Folders>(
     alloc: Global,
     folders: &mut F,
-    name: &str,
-    stamp: Stamp,
+    file: &NamedFound<'_>,
 ) -> Result<(), FolderFault>
-    ensures { Looks (F.doings folders.old) (F.doings folders.new) (λ doings. OnOk result (IsAmong doings (saw_file name.now))) }
+    ensures { Looks (F.doings folders.old) (F.doings folders.new) (λ doings. OnOk result (IsAmong doings (saw_file file.now.name.now))) }
 {
-    let _ = folders.read(alloc, name, stamp, 0)?;
+    let _ = folders.read(alloc, file.name, file.found.stamp, 0)?;
     Ok(())
 }
 
-/// What a file of this name, as it was found, asks for, or why it is no offer. Where there is no memory for its tape, it can't be read now.
+/// What a file asks for, or why it is no offer. Where there is no memory for its tape, it can't be read now.
 fn read_named<F: Folders>(
     alloc: Global,
     folders: &mut F,
-    name: &str,
-    found: &Found,
+    file: &NamedFound<'_>,
+    texts: &Option<CodeTable>,
 ) -> Result<Result<Wish, Reason>, FolderFault>
-    ensures { Looks (F.doings folders.old) (F.doings folders.new) (λ doings. IfRead result (λ wish. LaySo doings found.now.request name.now wish)) }
+    ensures { Looks (F.doings folders.old) (F.doings folders.new) (λ doings. IfRead result (λ wish. LaySo texts.now doings file.now.found.now.request file.now.name.now wish)) }
 {
-    match found.request.kind {
+    match file.found.request.kind {
         Kind::Withdraw => {
-            find(alloc, folders, name, found.stamp)?;
+            find(alloc, folders, file)?;
             Ok(Ok(Wish::Offered(Entry::Void)))
         }
         Kind::Seek => {
-            find(alloc, folders, name, found.stamp)?;
+            find(alloc, folders, file)?;
             Ok(Ok(Wish::Sought))
         }
-        Kind::Tape => match read_tape(alloc, folders, name, found.stamp)? {
+        Kind::Tape => match read_tape(alloc, folders, file)? {
             Ok(tape) => Ok(Ok(Wish::Offered(Entry::Tape(tape)))),
             Err(TapeFault::OutOfMemory) => Err(FolderFault::OutOfMemory),
             Err(fault) => Ok(Err(Reason::Tape(fault))),
         },
+        Kind::Text => read_wish(alloc, folders, file, texts),
     }
 }
 
@@ -73,9 +131,14 @@ pub(crate) fn read<F: Folders>(
     alloc: Global,
     folders: &mut F,
     found: &Found,
+    texts: &Option<CodeTable>,
 ) -> Result<Result<Wish, Reason>, FolderFault>
-    ensures { Looks (F.doings folders.old) (F.doings folders.new) (λ doings. IfRead result (λ wish. WasRead doings found.now.request wish)) }
+    ensures { Looks (F.doings folders.old) (F.doings folders.new) (λ doings. IfRead result (λ wish. WasRead texts.now doings found.now.request wish)) }
 {
     let name = name_of(alloc, found.request)?;
-    read_named(alloc, folders, name.as_str(), found)
+    let file = NamedFound {
+        name: name.as_str(),
+        found,
+    };
+    read_named(alloc, folders, &file, texts)
 }

@@ -7,11 +7,13 @@ ghost use Rattle.run_command.specs.Running.{RunsUpTo};
 
 use crate::desk::PlantDesk;
 use crate::plant::{Papers, Plant};
-use crate::telling::tell_fault;
+use code_table::CodeTable;
 use command_ends::{End, Fault};
-use driver::{Driver, Log};
+use driver::Driver;
 use exchange::Intake;
 use folders::{FolderFault, Folders, STOP};
+use log_terms::Loudness;
+use plant_log::tell_fault;
 use saved_rows::Rows;
 use station::{Station, StepRefusal};
 use std::alloc::Global;
@@ -22,19 +24,23 @@ use wire::Wire;
 #[derive(Drop)]
 pub struct Terms<'a, E: Write> {
     pub alloc: Global,
-    /// Whether faults alone are told.
-    pub quiet: bool,
+    /// By which code table texts among the offers become tapes; by none where no text may be offered.
+    pub texts: Option<CodeTable>,
+    /// Whether files come into the folder of offers only by being renamed: then one that a look found is whole.
+    pub renamed: bool,
+    /// How much is told.
+    pub loudness: Loudness,
     /// What it tells goes there. That the writer fails is ignored.
     pub err: &'a mut E,
 }
 
 /// Takes away a file that ended the run before; one that can't be is told, and passed over.
-fn remove_stop<F: Folders, E: Write>(alloc: Global, folders: &mut F, log: &mut Log<'_, E>)
+fn remove_stop<F: Folders, E: Write>(alloc: Global, folders: &mut F, err: &mut E)
     ensures { MayDo (F.doings folders.old) (F.doings folders.new) (removed_file (codes "stop")) }
 {
     match folders.remove(alloc, STOP) {
         Ok(()) | Err(FolderFault::Missing | FolderFault::NoFile) => {}
-        Err(fault) => tell_fault("cannot remove stop", fault, None, log),
+        Err(fault) => tell_fault(alloc, "cannot remove stop", fault, err),
     }
 }
 
@@ -43,8 +49,8 @@ fn remove_stop<F: Folders, E: Write>(alloc: Global, folders: &mut F, log: &mut L
 /// taken away. The room for what comes is made before the first turn.
 ///
 /// What the station hands out is sent, what it releases is written among the releases, or waits to be where the folder does
-/// not take it. What lies among the offers is taken up once it is whole, and leaves them once its number is released, or
-/// where it is no offer. A folder that does not serve is told, and the station goes on.
+/// not take it. What lies among the offers is taken up once it is whole, a text as the tape that it becomes, and leaves them once
+/// its number is released, or where it is no offer. A folder that does not serve is told, and the station goes on.
 pub fn run_station<R: Rows, N: Wire, F: Folders, E: Write>(
     station: &mut Station<R>,
     wire: &mut N,
@@ -52,20 +58,21 @@ pub fn run_station<R: Rows, N: Wire, F: Folders, E: Write>(
     terms: Terms<'_, E>,
 ) -> End
     ensures was_kept { R.kept station.new.rows → R.kept station.old.rows }
-    ensures runs { RunsUpTo result R.Rows N.passed F.doings station.old station.new wire.old wire.new folders.old folders.new }
+    ensures runs { RunsUpTo terms.entry.texts result R.Rows N.passed F.doings station.old station.new wire.old wire.new folders.old folders.new }
     ensures goes_on { result ≡ Done → station.new.stopped ≡ false }
 {
     let alloc = terms.alloc;
-    let quiet = terms.quiet;
-    let mut log = Log::new(terms.err, quiet);
+    let texts = terms.texts;
+    let renamed = terms.renamed;
+    let loudness = terms.loudness;
     if station.stopped() {
-        return Fault::of_step(StepRefusal::Stopped).tell(log.err);
+        return Fault::of_step(StepRefusal::Stopped).tell(terms.err);
     }
     let Ok(mut intake) = Intake::new(alloc) else {
-        return Fault::OutOfMemory.tell(log.err);
+        return Fault::OutOfMemory.tell(terms.err);
     };
-    remove_stop(alloc, folders, &mut log);
-    let mut papers = Papers::new(alloc);
+    remove_stop(alloc, folders, terms.err);
+    let mut papers = Papers::new(alloc, texts, renamed, loudness);
     let plant = Plant {
         alloc,
         folders,
@@ -73,5 +80,5 @@ pub fn run_station<R: Rows, N: Wire, F: Folders, E: Write>(
     };
     let desk = PlantDesk { plant };
     let mut driver = Driver::new(station, wire, desk, &mut intake);
-    driver.run(&mut log)
+    driver.run(terms.err, loudness == Loudness::Faults)
 }

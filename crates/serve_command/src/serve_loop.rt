@@ -36,7 +36,7 @@ pub fn serve_turn<R: Rows, N: Wire, W: Write, E: Write>(
     ensures goes_on { result ≡ Done → station.new.stopped ≡ false }
 {
     let printer = Printer { alloc, out };
-    let mut log = Log::new(err, false);
+    let mut log = Log { err, quiet: false };
     let mut driver = Driver::new(station, wire, printer, intake);
     match driver.turn_at(now, &mut log) {
         Ok(()) => End::Done,
@@ -212,7 +212,7 @@ pub fn serve_run<R: Rows, N: Wire, W: Write, E: Write>(
         seek,
     };
     let printer = Printer { alloc, out };
-    let mut log = Log::new(err, false);
+    let mut log = Log { err, quiet: false };
     let mut driver = Driver::new(station, wire, printer, &mut intake);
     match ask_and_turn(&mut driver, asks, turns, &mut log) {
         Ok(()) => End::Done,

@@ -12,15 +12,32 @@ fn refuse<E: Write>(reason: Misplaced, err: &mut E) -> End {
     End::Input
 }
 
+/// The folders of a plant, held, whether texts may be offered in them, and whether files come into its offers only by being renamed.
+#[derive(Drop)]
+pub(crate) struct OpenPlant<'r> {
+    pub(crate) folders: HostFolders<'r>,
+    pub(crate) takes_texts: bool,
+    pub(crate) renamed: bool,
+}
+
 /// The folders at these paths, held.
 fn open_folders<'r, E: Write>(
     rt: &'r HostRuntime,
     folders: Folders,
     err: &mut E,
-) -> Result<HostFolders<'r>, End> {
-    let Folders { offers, releases } = folders;
+) -> Result<OpenPlant<'r>, End> {
+    let Folders {
+        offers,
+        releases,
+        text,
+        renamed,
+    } = folders;
     match HostFolders::open(rt, offers, releases) {
-        Ok(folders) => Ok(folders),
+        Ok(folders) => Ok(OpenPlant {
+            folders,
+            takes_texts: text,
+            renamed,
+        }),
         Err(reason) => Err(refuse(reason, err)),
     }
 }
@@ -35,7 +52,7 @@ pub(crate) fn open_plant<'r, E: Write>(
     config: &Config,
     folders: Option<Folders>,
     err: &mut E,
-) -> Result<Option<HostFolders<'r>>, End> {
+) -> Result<Option<OpenPlant<'r>>, End> {
     if let Some(limit) = file_limit() {
         let _ = writeln!(err, "limit: no file may have more than {limit} bytes");
         return Err(End::Input);

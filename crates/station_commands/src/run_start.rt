@@ -1,12 +1,14 @@
 //! The command `run`.
 
+ghost use Rattle.std.specs.Prelude.{◌≡◌, IfSome, IfNone, false};
 ghost use Rattle.configuration.specs.Stations.{IsCircuit};
 
-use crate::plant_start::open_plant;
+use crate::plant_start::{OpenPlant, open_plant};
+use code_table::CodeTable;
 use command_ends::End;
 use configuration::{Config, read_config};
 use folders::NoFolders;
-use host_folders::HostFolders;
+use log_terms::{LogTerms, Loudness};
 use row_files::{RowFiles, close_rows};
 use run_command::{Terms, run_station};
 use saved_rows::Rows;
@@ -14,36 +16,49 @@ use station::Station;
 use station_start::{Host, Started, ThisHost, start};
 use std::io::Write;
 use tape_frames::Version;
+use timed_lines::TimedLines;
 use wire::Wire;
 
-/// Runs a station over these folders; one that has none only votes.
+/// The table by which texts become tapes that are offered in a plant, where they may be.
+fn texts_by(plant: &Option<OpenPlant<'_>>, table: CodeTable) -> Option<CodeTable> {
+    match plant {
+        Some(plant) if plant.takes_texts => Some(table),
+        _ => None,
+    }
+}
+
+/// Whether files come into the offers of a plant only by being renamed.
+fn is_renamed(plant: &Option<OpenPlant<'_>>) -> bool
+    ensures some { IfSome plant.now (λ p. result ≡ p.renamed) }
+    ensures none { IfNone plant.now (result ≡ false) }
+{
+    match plant {
+        Some(plant) => plant.renamed,
+        None => false,
+    }
+}
+
+/// Runs a station over the folders of this plant; one that has none only votes.
 fn run_over<R: Rows, N: Wire, E: Write>(
-    rt: &HostRuntime,
     station: &mut Station<R>,
     wire: &mut N,
-    folders: &mut Option<HostFolders<'_>>,
-    quiet: bool,
-    err: &mut E,
+    plant: &mut Option<OpenPlant<'_>>,
+    terms: Terms<'_, E>,
 ) -> End {
-    let terms = Terms {
-        alloc: rt.alloc(),
-        quiet,
-        err,
-    };
-    match folders {
-        Some(folders) => run_station(station, wire, folders, terms),
+    match plant {
+        Some(plant) => run_station(station, wire, &mut plant.folders, terms),
         None => run_station(station, wire, &mut NoFolders, terms),
     }
 }
 
-/// Starts the station of a configuration, and runs it over these folders; at a good end its rows are closed. The folders are held until
+/// Starts the station of a configuration, and runs it over the folders of this plant; at a good end its rows are closed. The folders are held until
 /// then, so that whoever finds them free finds the rows closed.
 fn run_from<F: RowFiles, E: Write>(
     rt: &HostRuntime,
     making: Option<Version>,
     config: Config,
-    mut folders: Option<HostFolders<'_>>,
-    quiet: bool,
+    mut plant: Option<OpenPlant<'_>>,
+    loudness: Loudness,
     row_files: &F,
     err: &mut E,
 ) -> End
@@ -54,31 +69,34 @@ fn run_from<F: RowFiles, E: Write>(
         mut station,
         mut wire,
         offer: _,
+        table,
     } = match start(rt, &host, row_files, config, making, None, err) {
         Ok(started) => started,
         Err(end) => return end,
     };
-    let end = run_over(rt, &mut station, &mut wire, &mut folders, quiet, err);
+    let terms = Terms {
+        alloc: rt.alloc(),
+        texts: texts_by(&plant, table),
+        renamed: is_renamed(&plant),
+        loudness,
+        err: &mut *err,
+    };
+    let end = run_over(&mut station, &mut wire, &mut plant, terms);
     let end = close_rows(row_files, station.into_rows(), end, err);
-    drop(folders);
+    drop(plant);
     end
 }
 
-/// Runs the station of the configuration at a path until it is stopped, with its rows saved in one of the files, made in a
-/// version first where one is given. Where `quiet` is set faults alone are told.
-///
-/// What it starts from is looked for in this order, and the first fault ends it: the configuration, where its files and folders lie and
-/// who works with these, the code table, the widths, the saved rows, the socket. After a good end the rows are closed.
-pub fn run<F: RowFiles, E: Write>(
+/// Reads the configuration at a path, and runs its station.
+fn run_at<F: RowFiles, E: Write>(
     rt: &HostRuntime,
-    config: &str,
+    path: &str,
     making: Option<Version>,
-    quiet: bool,
+    loudness: Loudness,
     row_files: &F,
     err: &mut E,
 ) -> End {
     let host = ThisHost { rt };
-    let path = config;
     let mut input = host.open(path);
     let mut config = match read_config(rt.alloc(), &mut input, path, err) {
         Ok(config) => config,
@@ -86,7 +104,29 @@ pub fn run<F: RowFiles, E: Write>(
     };
     let paths = config.folders.take();
     match open_plant(rt, path, &config, paths, err) {
-        Ok(folders) => run_from(rt, making, config, folders, quiet, row_files, err),
+        Ok(plant) => run_from(rt, making, config, plant, loudness, row_files, err),
         Err(end) => end,
+    }
+}
+
+/// Runs the station of the configuration at a path until it is stopped, with its rows saved in one of the files, made in a
+/// version first where one is given. What it tells it tells on these terms.
+///
+/// What it starts from is looked for in this order, and the first fault ends it: the configuration, where its files and folders lie and
+/// who works with these, the code table, the widths, the saved rows, the socket. After a good end the rows are closed.
+pub fn run<F: RowFiles, E: Write>(
+    rt: &HostRuntime,
+    config: &str,
+    making: Option<Version>,
+    log: LogTerms,
+    row_files: &F,
+    err: &mut E,
+) -> End {
+    let LogTerms { loudness, times } = log;
+    if times {
+        let mut err = TimedLines::new(rt.alloc(), rt, err);
+        run_at(rt, config, making, loudness, row_files, &mut err)
+    } else {
+        run_at(rt, config, making, loudness, row_files, err)
     }
 }

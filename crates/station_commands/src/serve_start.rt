@@ -30,6 +30,7 @@ fn serve_from<F: RowFiles, W: Write, E: Write>(
         mut station,
         mut wire,
         offer,
+        table: _,
     } = match start(rt, host, row_files, config, making, offer, err) {
         Ok(started) => started,
         Err(end) => return end,

@@ -21,13 +21,15 @@ use tape_frames::{Tape, Version};
 use widths::Widths;
 use wire::Wire;
 
-/// A station over its saved rows, with its wire and what it offers first.
+/// A station over its saved rows, with its wire, what it offers first, and its code table once more.
 #[derive(Drop)]
 pub struct Started<R: Rows, N: Wire + Drop> {
     pub station: Station<R>,
     pub wire: N,
     /// The number and the tape that are offered, if any.
     pub offer: Option<(u32, Tape)>,
+    /// The same code table as the station's own.
+    pub table: CodeTable,
 }
 
 /// Whose rows a station of this configuration saves.
@@ -130,6 +132,7 @@ fn start_over<'f, H: Host, R: Rows>(
     requires { IsCircuit config.member config.stations.items }
     ensures station { IfOk result (λ s. IsStationOf (identity_of (file_of config)) s.station) }
     ensures table { IfOk result (λ s. s.station.table ≡ files.table) }
+    ensures same { IfOk result (λ s. s.table ≡ s.station.table) }
     ensures widths { IfOk result (λ s. s.station.widths ≡ files.widths) }
     ensures offer { IfOk result (λ s. s.offer ≡ files.offer) }
     ensures rows { IfOk result (λ s. s.station.rows ≡ rows) }
@@ -143,11 +146,15 @@ fn start_over<'f, H: Host, R: Rows>(
         widths,
         offer,
     } = files;
+    let Ok(copy) = table.copy(alloc) else {
+        return Err(Fault::OutOfMemory);
+    };
     let station = station_of(alloc, identity, table, widths, rows);
     Ok(Started {
         station,
         wire,
         offer,
+        table: copy,
     })
 }
 
@@ -168,6 +175,7 @@ pub fn start<H: Host, F: RowFiles, E: Write>(
     requires { IsCircuit config.member config.stations.items }
     ensures station { IfOk result (λ s. IsStationOf (identity_of (file_of config)) s.station) }
     ensures table { IfOk result (λ s. IsTableAt (H.text host.now) (string_bytes config.table) s.station.table) }
+    ensures same { IfOk result (λ s. s.table ≡ s.station.table) }
     ensures widths { IfOk result (λ s. AreWidthsAt (H.text host.now) (string_bytes config.widths) s.station.widths) }
     ensures offer { IfOk result (λ s. IsOffer (H.text host.now) (option_map (λ o. (o.0, o.1.now)) offer.entry) s.offer) }
     ensures rows { IfOk result (λ s. AreRowsAt (AreMade F.leaves F.takes_up F.Rows.version) F.takes_up row_files.now

@@ -8,6 +8,8 @@ mod circuits;
 #[cfg(test)]
 mod given;
 #[cfg(test)]
+mod look_turns;
+#[cfg(test)]
 mod notes;
 #[cfg(test)]
 mod offers_shelf;

@@ -139,7 +139,7 @@ impl Shelf {
     fn holds(&mut self, number: u32, kind: Kind) -> Option<bool> {
         let request = request(number, kind)?;
         let wish = match kind {
-            Kind::Tape => Wish::Offered(story(self.alloc)?),
+            Kind::Tape | Kind::Text => Wish::Offered(story(self.alloc)?),
             Kind::Withdraw => Wish::Offered(Entry::Void),
             Kind::Seek => Wish::Sought,
         };

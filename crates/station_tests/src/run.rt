@@ -3,11 +3,14 @@
 mod bursts;
 mod layouts;
 mod memory;
+mod night;
 mod offering;
 mod order;
 mod plant;
 mod refusing;
+mod renamed;
 mod replaced;
 mod stage;
+mod texts;
 mod waiting;
 mod wires;

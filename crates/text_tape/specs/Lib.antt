@@ -1,4 +1,5 @@
 pub mod Codes
+pub mod FaultTexts
 pub mod Keys
 pub mod Punching
 pub mod Spelling

@@ -1,5 +1,10 @@
 //! Why a text is not punched.
 
+ghost use Rattle.std.specs.Prelude.{◌≡◌, Some};
+ghost use Rattle.text_tape.specs.FaultTexts.{cause_word, error_text, fault_text};
+
+use std::fmt;
+
 /// What keeps a word from being punched.
 #[derive(Clone, Copy, PartialEq, Eq)]
 pub enum PunchCause {
@@ -32,4 +37,40 @@ pub enum PunchError {
     Empty,
     /// The frames could not be kept.
     OutOfMemory,
+}
+
+/// What keeps a word from being punched, in a few words.
+fn cause_word(cause: PunchCause) -> &'static str
+    ensures { result.now ≡ cause_word cause }
+{
+    match cause {
+        PunchCause::NoCode { .. } => "no code",
+        PunchCause::NoEnd => "no end of a word",
+        PunchCause::TooLong => "too long",
+    }
+}
+
+impl fmt::Display for PunchFault {
+    ghost output = { λ e. Some (fault_text e) };
+
+    fn fmt<W: fmt::Write>(&self, f: &mut fmt::Formatter<W>) -> fmt::Result {
+        let what = cause_word(self.cause);
+        write!(
+            f,
+            "text: {what} at line {} column {}",
+            self.line, self.column
+        )
+    }
+}
+
+impl fmt::Display for PunchError {
+    ghost output = { λ e. Some (error_text e) };
+
+    fn fmt<W: fmt::Write>(&self, f: &mut fmt::Formatter<W>) -> fmt::Result {
+        match self {
+            PunchError::Fault(fault) => write!(f, "{fault}"),
+            PunchError::Empty => write!(f, "text: empty"),
+            PunchError::OutOfMemory => write!(f, "out of memory"),
+        }
+    }
 }

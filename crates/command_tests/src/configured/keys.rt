@@ -8,6 +8,27 @@ use std::alloc::Global;
 /// Folders, and a key beside theirs, which says nothing.
 const FOLDERS: &str = "[folders]\noffers = \"in\"\nreleases = \"out\"\nsent = 1\n";
 
+/// Folders in which no text may be offered.
+const NO_TEXTS: &str = "[folders]\noffers = \"in\"\nreleases = \"out\"\ntext = false\n";
+
+/// Folders to which files come only by being renamed, and the same said of none.
+const RENAMED: &str = "[folders]\noffers = \"in\"\nreleases = \"out\"\nrenamed = true\n";
+
+const NOT_RENAMED: &str = "[folders]\noffers = \"in\"\nreleases = \"out\"\nrenamed = false\n";
+
+/// What is said of folders beside their paths: whether texts may be offered, and whether files come only by being renamed.
+#[derive(Clone, Copy)]
+struct Said {
+    text: bool,
+    renamed: bool,
+}
+
+/// What is said where the keys are absent.
+const NOTHING_SAID: Said = Said {
+    text: true,
+    renamed: false,
+};
+
 /// Whether it is what the text says, of member 1 alone.
 fn is_the_example(config: &Config) -> bool {
     let named = config.table.as_str() == "codes.toml"
@@ -29,14 +50,17 @@ fn example_with(alloc: Global, more: &str) -> Option<Config> {
     Config::read(alloc, &text).ok()
 }
 
-/// Whether the example with this behind it has these folders, or none.
-fn has_folders(alloc: Global, more: &str, wanted: Option<(&str, &str)>) -> bool {
+/// Whether the example with this behind it has the folders `in` and `out` of which this is said, or none.
+fn has_folders(alloc: Global, more: &str, wanted: Option<Said>) -> bool {
     let Some(config) = example_with(alloc, more) else {
         return false;
     };
     let same = match (&config.folders, wanted) {
-        (Some(folders), Some((offers, releases))) => {
-            folders.offers.as_str() == offers && folders.releases.as_str() == releases
+        (Some(folders), Some(said)) => {
+            folders.offers.as_str() == "in"
+                && folders.releases.as_str() == "out"
+                && folders.text == said.text
+                && folders.renamed == said.renamed
         }
         (None, None) => true,
         _ => false,
@@ -53,11 +77,33 @@ fn is_read(alloc: Global) -> bool {
     }
 }
 
+/// What stands behind the example, and what it says of the folders.
+const FOLDERS_SAID: &[(&str, Said)] = &[
+    (FOLDERS, NOTHING_SAID),
+    (
+        NO_TEXTS,
+        Said {
+            text: false,
+            ..NOTHING_SAID
+        },
+    ),
+    (
+        RENAMED,
+        Said {
+            renamed: true,
+            ..NOTHING_SAID
+        },
+    ),
+    (NOT_RENAMED, NOTHING_SAID),
+];
+
 #[test]
 fn the_example(rt: HostRuntime) {
     assert!(rt; is_read(rt.alloc()));
     assert!(rt; has_folders(rt.alloc(), "", None));
-    assert!(rt; has_folders(rt.alloc(), FOLDERS, Some(("in", "out"))));
+    for (more, said) in FOLDERS_SAID {
+        assert!(rt; has_folders(rt.alloc(), more, Some(*said)), "{more}");
+    }
 }
 
 /// A part of the example in whose place something else stands.
@@ -169,6 +215,21 @@ const FAULTS: &[(Part, &str, ConfigFault)] = &[
         Part::Stations,
         "[folders]\noffers = \"in\"\nreleases = [\"out\"]\n[[station]]",
         ConfigFault::WrongType(ConfigKey::Releases),
+    ),
+    (
+        Part::Stations,
+        "[folders]\noffers = \"in\"\nreleases = \"out\"\ntext = \"no\"\n[[station]]",
+        ConfigFault::WrongType(ConfigKey::Text),
+    ),
+    (
+        Part::Stations,
+        "[folders]\noffers = \"in\"\nreleases = \"out\"\nrenamed = 1\n[[station]]",
+        ConfigFault::WrongType(ConfigKey::Renamed),
+    ),
+    (
+        Part::Stations,
+        "[folders]\noffers = \"in\"\nreleases = \"out\"\nrenamed = 1\ntext = 1\n[[station]]",
+        ConfigFault::WrongType(ConfigKey::Text),
     ),
     (
         Part::Circuit,
@@ -304,6 +365,11 @@ const TEXTS: &[(Part, &str, &str)] = &[
         Part::Stations,
         "[folders]\noffers = \"in\"\nreleases = 1\n[[station]]",
         "config: wrong type releases\n",
+    ),
+    (
+        Part::Stations,
+        "[folders]\noffers = \"in\"\nreleases = \"out\"\nrenamed = \"yes\"\n[[station]]",
+        "config: wrong type renamed\n",
     ),
     (Part::Stations, "[station]", "config: wrong type station\n"),
     (Part::Stations, "[[stations]]", "config: missing station\n"),

@@ -3,6 +3,7 @@
 use super::splitting::words_of;
 use command_ends::End;
 use command_line::{Asked, Plan, parse};
+use log_terms::LogTerms;
 use std::alloc::Global;
 use tape_frames::Version;
 
@@ -23,9 +24,8 @@ pub enum Wanted<'a> {
     Punch(Option<&'a str>, Version),
     /// It asks to make the row file of `station.toml` in this version's layout.
     Create(Version),
-    /// It asks to run the station of `station.toml`, with rows that are made in this layout, if they are, and to tell faults alone
-    /// or not.
-    Run(Option<Version>, bool),
+    /// It asks to run the station of `station.toml`, with rows that are made in this layout, if they are, and to tell on these terms.
+    Run(Option<Version>, LogTerms),
 }
 
 /// Whether two plans are the same.
@@ -73,11 +73,11 @@ fn is_asked(asked: &Result<Asked<'_>, End>, wanted: &Wanted<'_>) -> bool {
                 Asked::Run {
                     config,
                     create,
-                    quiet,
+                    log,
                 },
             ),
-            Wanted::Run(made, faults_alone),
-        ) => *config == "station.toml" && *create == *made && *quiet == *faults_alone,
+            Wanted::Run(made, terms),
+        ) => *config == "station.toml" && *create == *made && *log == *terms,
         _ => false,
     }
 }

@@ -285,6 +285,8 @@ Options:
       --create      Make the row file: for the first start of a station, and never again
       --layout <L>  The layout of the row file that is made: in layout 2 a number may be withdrawn; goes with --create [default: 1] [possible values: 1, 2]
       --quiet       Tell faults alone, and not what becomes of each number
+      --verbose     Tell each ballot of each number, and each file that was sent, too
+      --times       Put the moment before each line, in Coordinated Universal Time
   -h, --help        Print help
 
 Example: the first start of a station, and then each later one:
@@ -292,10 +294,10 @@ Example: the first start of a station, and then each later one:
   $ circuitd run station1.toml --create --layout 2
   $ circuitd run station1.toml
 
-Where the configuration names folders, the file `12.tape` among the offers is offered under number 12,
-`14.withdraw` withdraws number 14, and `13.seek` asks for number 13. What the circuit has agreed on is put
-among the releases: `12.tape` and `12.galley`, or `14.void`. The file `stop` among the offers ends the
-station, and is taken away at its next start.
+Where the configuration names folders, the file `12.tape` among the offers is offered under number 12, and
+`12.text` as the tape that `punch` makes of it. `14.withdraw` withdraws number 14, and `13.seek` asks for
+number 13. What the circuit has agreed on is put among the releases: `12.tape` and `12.galley`, or
+`14.void`. The file `stop` among the offers ends the station, and is taken away at its next start.
 % circuitd stop --help
 Ends the station that runs with this configuration, and waits until it has ended
 

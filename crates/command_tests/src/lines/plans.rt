@@ -3,6 +3,7 @@
 use super::asking::{Wanted, comes_to};
 use command_ends::End;
 use command_line::{Plan, print_version};
+use log_terms::{LogTerms, Loudness};
 use std::alloc::Global;
 use tape_frames::Version;
 
@@ -115,32 +116,66 @@ fn layouts_of_create(rt: HostRuntime) {
     }
 }
 
-/// Lines that ask to run a station, the layout in which its rows are made, if they are, and whether faults alone are told.
-const RUNS: &[(&str, Option<Version>, bool)] = &[
-    ("circuitd run station.toml", None, false),
+/// As a station tells where nothing is said of it.
+const USUAL: LogTerms = LogTerms {
+    loudness: Loudness::Usual,
+    times: false,
+};
+
+/// Where faults alone are told, and where all is.
+const FAULTS: LogTerms = LogTerms {
+    loudness: Loudness::Faults,
+    ..USUAL
+};
+
+const ALL: LogTerms = LogTerms {
+    loudness: Loudness::All,
+    ..USUAL
+};
+
+/// Lines that ask to run a station, the layout in which its rows are made, if they are, and how it tells.
+const RUNS: &[(&str, Option<Version>, LogTerms)] = &[
+    ("circuitd run station.toml", None, USUAL),
     (
         "circuitd run station.toml --create",
         Some(Version::One),
-        false,
+        USUAL,
     ),
     (
         "circuitd run --create --layout=2 station.toml",
         Some(Version::Two),
-        false,
+        USUAL,
     ),
     (
         "circuitd run station.toml --quiet --layout 1 --create",
         Some(Version::One),
-        true,
+        FAULTS,
     ),
-    ("circuitd run --quiet station.toml", None, true),
+    ("circuitd run --quiet station.toml", None, FAULTS),
+    ("circuitd run station.toml --verbose", None, ALL),
+    (
+        "circuitd run station.toml --times",
+        None,
+        LogTerms {
+            times: true,
+            ..USUAL
+        },
+    ),
+    (
+        "circuitd run --times --quiet station.toml",
+        None,
+        LogTerms {
+            times: true,
+            ..FAULTS
+        },
+    ),
 ];
 
 #[test]
 fn plans_of_run(rt: HostRuntime) {
-    for (line, made, faults_alone) in RUNS {
+    for (line, made, terms) in RUNS {
         assert!(rt;
-            comes_to(rt.alloc(), line, Wanted::Run(*made, *faults_alone)),
+            comes_to(rt.alloc(), line, Wanted::Run(*made, *terms)),
             "{line}"
         );
     }

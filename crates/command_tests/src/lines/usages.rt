@@ -170,6 +170,14 @@ Usage: circuitd run --create --layout <L> <CONFIG>
 $ circuitd run station.toml --create --layout 3
 invalid value '3' for '--layout <L>'
   [possible values: 1, 2]
+$ circuitd run station.toml --quiet --verbose
+the argument '--quiet' cannot be used with '--verbose'
+
+Usage: circuitd run --quiet <CONFIG>
+$ circuitd run --verbose station.toml --quiet
+the argument '--verbose' cannot be used with '--quiet'
+
+Usage: circuitd run --verbose <CONFIG>
 $ circuitd run one.toml two.toml
 unexpected argument 'two.toml' found
 
@@ -194,5 +202,5 @@ fn lines_that_are_usage(rt: HostRuntime) {
     for row in rows.split("$ ").skip(1) {
         assert!(rt; is_row(rt.alloc(), row) == Some(true), "{row}");
     }
-    assert!(rt; rows.split("$ ").count() == 47);
+    assert!(rt; rows.split("$ ").count() == 49);
 }

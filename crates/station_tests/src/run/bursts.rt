@@ -7,6 +7,7 @@ use crate::run::stage::What::{Burst, Laid};
 use crate::run::stage::{Act, Stage};
 use crate::run::wires::{Flooded, Threesome, Ticking};
 use command_ends::End;
+use log_terms::Loudness;
 use run_command::run_station;
 use std::alloc::Global;
 use std::str;
@@ -70,7 +71,7 @@ fn three(alloc: Global, acts: &'static [Act], slowness: u32) -> Option<Came> {
         &mut station,
         &mut wire,
         &mut stage,
-        terms(alloc, false, &mut err),
+        terms(alloc, Loudness::All, &mut err),
     );
     Some(Came {
         end,
@@ -147,7 +148,7 @@ fn unanswered(alloc: Global) -> Option<Vec<u8>> {
         &mut station,
         &mut wire,
         &mut stage,
-        terms(alloc, false, &mut err),
+        terms(alloc, Loudness::All, &mut err),
     );
     Some(err)
 }
@@ -190,7 +191,7 @@ fn hears(alloc: Global) -> Option<bool> {
         &mut station,
         &mut wire,
         &mut stage,
-        terms(alloc, false, &mut err),
+        terms(alloc, Loudness::All, &mut err),
     );
     let told = err.as_slice() == "socket: 7 datagrams found no place in memory\n".as_bytes();
     Some(end == End::Done && told && wire.left > 3_000)

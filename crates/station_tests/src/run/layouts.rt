@@ -5,6 +5,7 @@ use crate::stations::{rows_with, station_over};
 use ballots::Member;
 use command_ends::End;
 use folders::NoFolders;
+use log_terms::Loudness;
 use run_command::run_station;
 use std::alloc::Global;
 use tape_frames::Version;
@@ -54,7 +55,7 @@ fn told(alloc: Global, count: u32) -> Option<Vec<u8>> {
         &mut station,
         &mut wire,
         &mut NoFolders,
-        terms(alloc, true, &mut err),
+        terms(alloc, Loudness::Faults, &mut err),
     );
     (end == End::Socket).then_some(err)
 }

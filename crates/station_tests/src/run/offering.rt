@@ -5,8 +5,9 @@ use crate::run::stage::Held::{Flood, Harvest, Nothing, Start, Why};
 use crate::run::stage::Name::{Seek12, Stop, Tape12, Withdraw14};
 use crate::run::stage::What::{Laid, LaidAt, Left};
 use crate::run::stage::{Act, Call};
+use log_terms::Loudness;
 
-/// An offer is released and sent; quietly, and beside so many files that a look takes two turns, too.
+/// An offer is released and sent; as it is usually told, quietly, and beside so many files that a look takes two turns, too.
 const LOUD: Run = Run {
     acts: &[Act(1, Laid(Tape12, Flood)), Act(20, Laid(Stop, Nothing))],
     folders: "wrote 12.tape 7\nwrote 12.galley 25\nsent 12.tape\n",
@@ -17,7 +18,12 @@ const LOUD: Run = Run {
 const SENT: &[Run] = &[
     LOUD,
     Run {
-        quiet: true,
+        loudness: Loudness::Usual,
+        err: "12 released\n",
+        ..LOUD
+    },
+    Run {
+        loudness: Loudness::Faults,
         err: "",
         ..LOUD
     },

@@ -9,6 +9,7 @@ use crate::run::wires::Ticking;
 use crate::stations::{rows_with, station_over};
 use command_ends::End;
 use folders::Act;
+use log_terms::Loudness;
 use run_command::run_station;
 use std::alloc::Global;
 use std::io::Write;
@@ -50,7 +51,7 @@ fn done(alloc: Global) -> Option<Vec<u8>> {
         &mut station,
         &mut wire,
         &mut stage,
-        terms(alloc, true, &mut err),
+        terms(alloc, Loudness::Faults, &mut err),
     ) != End::Done
     {
         return None;

@@ -4,9 +4,11 @@ use crate::run::stage::{Act, Stage};
 use crate::run::wires::Ticking;
 use crate::stations::{ballot, rows_with, station_over};
 use ballots::{Number, Row, Vote};
+use code_table::CodeTable;
 use command_ends::End;
 use fixtures::FLOOD;
 use folders::{Act as Doing, MemoryFolders, Place};
+use log_terms::Loudness;
 use run_command::{Terms, run_station};
 use saved_rows::{MemoryRows, Rows};
 use station::Station;
@@ -24,16 +26,18 @@ pub enum Saved {
     LastPromise,
 }
 
-/// A run: what the station saved before, what happens to its folders, after how many quarters of a second the network fails, how it
-/// has to end, what the folders have to hold, and what has to be told.
+/// A run: what the station saved before, how files come into its folders, what happens to these, after how many quarters of a second the
+/// network fails, how it has to end, what the folders have to hold, and what has to be told.
 #[derive(Clone, Copy)]
 pub struct Run {
     pub members: u8,
     pub version: Version,
     pub saved: Saved,
+    /// Whether files come into the folder of offers only by being renamed.
+    pub renamed: bool,
     pub acts: &'static [Act],
     pub quarters: u64,
-    pub quiet: bool,
+    pub loudness: Loudness,
     pub end: End,
     /// A line for each file that was written among the releases, for each that left the offers, and for each text.
     pub folders: &'static str,
@@ -45,9 +49,10 @@ pub const RUN: Run = Run {
     members: 1,
     version: Version::Two,
     saved: Saved::Nothing,
+    renamed: false,
     acts: &[],
     quarters: 60,
-    quiet: false,
+    loudness: Loudness::All,
     end: End::Done,
     folders: "",
     err: "",
@@ -146,14 +151,31 @@ fn write_folders(folders: &MemoryFolders, text: &mut Vec<u8>) -> bool {
 }
 
 /// Whether the folders hold what they have to.
-fn holds(alloc: Global, folders: &MemoryFolders, expected: &str) -> bool {
+pub fn holds(alloc: Global, folders: &MemoryFolders, expected: &str) -> bool {
     let mut text = Vec::new(alloc);
     write_folders(folders, &mut text) && text.as_slice() == expected.as_bytes()
 }
 
-/// The terms of a run that tells this writer.
-pub fn terms(alloc: Global, quiet: bool, err: &mut Vec<u8>) -> Terms<'_, Vec<u8>> {
-    Terms { alloc, quiet, err }
+/// The terms of a run that tells this writer, and takes no texts.
+pub fn terms(alloc: Global, loudness: Loudness, err: &mut Vec<u8>) -> Terms<'_, Vec<u8>> {
+    Terms {
+        alloc,
+        texts: None,
+        renamed: false,
+        loudness,
+        err,
+    }
+}
+
+/// The same terms, where texts become tapes by this table, if by any.
+pub fn terms_by(alloc: Global, texts: Option<CodeTable>, err: &mut Vec<u8>) -> Terms<'_, Vec<u8>> {
+    Terms {
+        alloc,
+        texts,
+        renamed: false,
+        loudness: Loudness::All,
+        err,
+    }
 }
 
 /// Whether a run ends and tells as it has to.
@@ -167,12 +189,9 @@ fn ends(alloc: Global, stage: &mut Stage, run: &Run) -> bool {
         until: run.quarters.saturating_mul(250),
     };
     let mut err = Vec::new(alloc);
-    let end = run_station(
-        &mut station,
-        &mut wire,
-        stage,
-        terms(alloc, run.quiet, &mut err),
-    );
+    let mut terms = terms(alloc, run.loudness, &mut err);
+    terms.renamed = run.renamed;
+    let end = run_station(&mut station, &mut wire, stage, terms);
     end == run.end && err.as_slice() == run.err.as_bytes()
 }
 

@@ -7,16 +7,17 @@ use crate::run::stage::What::{Laid, Strays, Taken};
 use crate::run::stage::{Act, Stage};
 use crate::run::wires::Ticking;
 use command_ends::End;
+use log_terms::Loudness;
 use run_command::run_station;
 use std::alloc::Global;
 
 /// Where nobody answers, a file that is replaced while it is under way is read once its ballots are given up, and not before; one that is
-/// taken away is not asked for again.
+/// taken away is not asked for again. In the usual log the second ballot is told, and that they are given up.
 const GIVEN_UP: &[Run] = &[
     Run {
         members: 3,
         acts: &[Act(1, Laid(Tape12, Flood)), Act(10, Laid(Tape12, Harvest))],
-        quarters: 43,
+        quarters: 45,
         end: End::Socket,
         err: "\
 12 began 1.1\n12 began 2.1\n12 began 3.1\n12 began 4.1\n12 began 5.1\n12 began 6.1\n\
@@ -25,6 +26,15 @@ const GIVEN_UP: &[Run] = &[
 12 began 19.1\n12 began 20.1\n12 began 21.1\n12 began 22.1\n12 began 23.1\n12 began 24.1\n\
 12 began 25.1\n12 began 26.1\n12 began 27.1\n12 began 28.1\n12 began 29.1\n12 began 30.1\n\
 12 began 31.1\n12 began 32.1\n12 gave-up 32.1\n12 replaced while it was under way\n12 began 33.1\nsocket: receive failed\n",
+        ..RUN
+    },
+    Run {
+        members: 3,
+        acts: &[Act(1, Laid(Tape12, Flood)), Act(10, Laid(Tape12, Harvest))],
+        quarters: 45,
+        loudness: Loudness::Usual,
+        end: End::Socket,
+        err: "12 began 2.1\n12 gave-up 32.1\n12 replaced while it was under way\nsocket: receive failed\n",
         ..RUN
     },
     Run {
@@ -90,7 +100,7 @@ fn among_strays(alloc: Global) -> Option<(usize, bool)> {
         &mut station,
         &mut wire,
         &mut stage,
-        terms(alloc, false, &mut err),
+        terms(alloc, Loudness::All, &mut err),
     );
     let text = str::from_utf8(&err).ok()?;
     let refused = text

@@ -10,6 +10,7 @@ use std::alloc::{AllocError, Global};
 #[derive(Clone, Copy)]
 pub enum Name {
     Tape12,
+    Text12,
     Tape13,
     Tape14,
     Seek12,
@@ -30,6 +31,7 @@ pub enum Name {
 fn text_of(name: Name) -> &'static str {
     match name {
         Name::Tape12 => "12.tape",
+        Name::Text12 => "12.text",
         Name::Tape13 => "13.tape",
         Name::Tape14 => "14.tape",
         Name::Seek12 => "12.seek",
@@ -51,6 +53,9 @@ pub enum Held {
     Nothing,
     /// A word.
     Why,
+    /// The flood story as a text, and the same with a last line in which a letter has no code.
+    FloodText,
+    LastLine,
     /// The tapes of the examples.
     Flood,
     Harvest,
@@ -68,6 +73,8 @@ fn bytes_of(held: Held) -> &'static [u8] {
     match held {
         Held::Nothing => &[],
         Held::Why => b"why",
+        Held::FloodText => b"ab a b\n",
+        Held::LastLine => b"ab a b\nab?\n",
         Held::Flood => FLOOD,
         Held::Harvest => HARVEST,
         Held::Ligature => LIGATURE,
@@ -95,6 +102,8 @@ pub enum What {
     LaidAt(Call, Name, Held),
     /// A file is taken from the offers.
     Taken(Name),
+    /// A text of so many letters in one line is laid among the offers.
+    Letters(Name, usize),
     /// The flood story is laid among the offers for each of so many numbers, from 1 on.
     Burst(u32),
     /// So many files are laid among the offers whose names ask for nothing.
@@ -172,6 +181,17 @@ impl Stage {
             .lay_within_read(alloc, text_of(name), bytes_of(held), changed)
     }
 
+    /// Lays a text of so many letters.
+    fn lay_letters(&mut self, alloc: Global, name: Name, count: usize) -> Result<(), AllocError> {
+        let mut text = Vec::new(alloc);
+        for _ in 0..count {
+            if text.push(b'a').is_err() {
+                return Err(AllocError);
+            }
+        }
+        self.folders.lay(alloc, text_of(name), text.as_slice(), 0)
+    }
+
     /// Lays what is laid before this call, or within it.
     fn lay_before(&mut self, alloc: Global, call: Call) -> Result<(), AllocError> {
         let laid = self.next;
@@ -191,6 +211,7 @@ impl Stage {
 
     fn act(&mut self, alloc: Global, what: What) -> Result<(), AllocError> {
         match what {
+            What::Letters(name, count) => self.lay_letters(alloc, name, count),
             What::Burst(last) => self.lay_all(alloc, last),
             What::Strays(count) => self.lay_strays(alloc, count, ""),
             What::Left(count) => self.lay_strays(alloc, count, ".part"),

@@ -13,7 +13,7 @@ use std::alloc::Global;
 use std::io::Write;
 use tape_frames::Version;
 
-/// A desk that has a station asked twice to withdraw number 13, and whose third look ends the run. It counts what it is told.
+/// A desk that has a station asked twice to withdraw number 13, and whose sixth look ends the run. It counts what it is told.
 #[derive(Drop)]
 struct Counting {
     asks: usize,
@@ -64,7 +64,7 @@ impl Desk for Counting {
 
     fn look<E: Write>(&mut self, _now: u64, _log: &mut Log<'_, E>) -> bool {
         self.looks = self.looks.saturating_add(1);
-        self.looks > 2
+        self.looks > 5
     }
 
     fn deed<E: Write>(
@@ -106,9 +106,8 @@ fn counts(alloc: Global) -> Option<(usize, usize)> {
         looks: 0,
     };
     let mut told = Vec::new(alloc);
-    let mut log = Log::new(&mut told, false);
     let mut driver = Driver::new(&mut station, &mut wire, desk, &mut intake);
-    if driver.run(&mut log) != End::Done {
+    if driver.run(&mut told, false) != End::Done {
         return None;
     }
     let desk = driver.sink();

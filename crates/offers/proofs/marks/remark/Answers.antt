@@ -6,18 +6,21 @@ returns-clause-moves c =
     let one = rw (c.rank.ensures.rank, c.request_of.ensures) at c.remark_at.ensures.moves in
     let two = rw (c.rank-2.ensures.rank, c.request_of-2.ensures) at c.remark_at-2.ensures.moves in
     let three = rw (c.rank-3.ensures.rank, c.request_of-3.ensures) at c.remark_at-3.ensures.moves in
-    of_places _ c.args.offers.now c.args.number _ _ _ _ one two three
+    let four = rw (c.rank-4.ensures.rank, c.request_of-4.ensures) at c.remark_at-4.ensures.moves in
+    of_places _ c.args.offers.now c.args.number _ _ _ _ _ one two three four
 
 pub returns-clause-others : goal.returns-clause-others
 returns-clause-others c =
     let one = rw (c.rank.ensures.rank, c.request_of.ensures) at c.remark_at.ensures.others in
     let two = rw (c.rank-2.ensures.rank, c.request_of-2.ensures) at c.remark_at-2.ensures.others in
     let three = rw (c.rank-3.ensures.rank, c.request_of-3.ensures) at c.remark_at-3.ensures.others in
-    of_places _ c.args.offers.now c.args.number _ _ _ _ one two three
+    let four = rw (c.rank-4.ensures.rank, c.request_of-4.ensures) at c.remark_at-4.ensures.others in
+    of_places _ c.args.offers.now c.args.number _ _ _ _ _ one two three four
 
 pub returns-clause-asks : goal.returns-clause-asks
 returns-clause-asks c =
     let one = rw (c.rank.ensures.rank, c.request_of.ensures) at c.remark_at.ensures.asks in
     let two = rw (c.rank-2.ensures.rank, c.request_of-2.ensures) at c.remark_at-2.ensures.asks in
     let three = rw (c.rank-3.ensures.rank, c.request_of-3.ensures) at c.remark_at-3.ensures.asks in
-    of_places _ c.args.offers.now c.args.number _ _ _ _ one two three
+    let four = rw (c.rank-4.ensures.rank, c.request_of-4.ensures) at c.remark_at-4.ensures.asks in
+    of_places _ c.args.offers.now c.args.number _ _ _ _ _ one two three four

@@ -4,6 +4,7 @@ use Rattle.command_ends.specs.declared.end.End.TheVariants as ends
 use Rattle.folders.specs.Doings.{removed_file}
 use Rattle.driver.specs.Driving.{known, post, post_of, Anyhow}
 use Rattle.driver.proofs.Driven.{answered, came_from, left_so, seen_from}
+use Rattle.plant_files.specs.Standing.{Texts}
 use Rattle.run_command.specs.Living.{kept, kept_of}
 use Rattle.run_command.specs.Running.{tells}
 use Rattle.run_command.specs.Working.{Deals, Always}
@@ -14,21 +15,24 @@ use Rattle.run_command.proofs.turns.run_station.Goals as goal
 
 pub returns-then-stopped-clause-runs : goal.returns-then-stopped-clause-runs
 returns-then-stopped-clause-runs g c =
-    let k = known g.R.Rows g.N.Wire.passed (tells g.F.Folders.doings) in
+    let texts : Texts = c.args.terms.texts in
+    let k = known g.R.Rows g.N.Wire.passed (tells texts g.F.Folders.doings) in
     let old = post c.args.station.now c.args.wire.now c.args.folders.now in
     answered k old old ends.Input c.tell.result Anyhow (c.tell.ensures.end ∙ c.of_step.ensures)
-    (idle g.R.Rows g.N.Wire.passed g.F.Folders.doings c.args.station.now c.args.wire.now c.args.folders.now ends.Input refl)
+    (idle texts g.R.Rows g.N.Wire.passed g.F.Folders.doings c.args.station.now c.args.wire.now c.args.folders.now ends.Input refl)
 
 pub returns-in_default-clause-runs : goal.returns-in_default-clause-runs
 returns-in_default-clause-runs g c =
-    let k = known g.R.Rows g.N.Wire.passed (tells g.F.Folders.doings) in
+    let texts : Texts = c.args.terms.texts in
+    let k = known g.R.Rows g.N.Wire.passed (tells texts g.F.Folders.doings) in
     let old = post c.args.station.now c.args.wire.now c.args.folders.now in
     answered k old old ends.Memory c.tell-in_default.result Anyhow c.tell-in_default.ensures.end
-    (idle g.R.Rows g.N.Wire.passed g.F.Folders.doings c.args.station.now c.args.wire.now c.args.folders.now ends.Memory (inl refl))
+    (idle texts g.R.Rows g.N.Wire.passed g.F.Folders.doings c.args.station.now c.args.wire.now c.args.folders.now ends.Memory (inl refl))
 
 pub returns-clause-runs : goal.returns-clause-runs
 returns-clause-runs g c =
     let doings = g.F.Folders.doings in
+    let texts : Texts = c.args.terms.texts in
     let last = c.run.new.self in
     let f = c.args.folders.now in
     let mid = c.remove_stop.new.folders in
@@ -41,9 +45,10 @@ returns-clause-runs g c =
     let stop = removed_file (codes "stop") in
     let gone : Deals Always (doings f) (doings mid) q m m =
     deals_looked Always (doings f) (doings mid) q (λ doings. Unit {0}) m m (looks_may (doings f) (doings mid) stop refl c.remove_stop.ensures) (follows_same m m refl) in
+    let own : Texts = c.new-papers.result.texts in
     let came = came_from _ _ (post_of last) _ _ _ c.run.result Anyhow c.new-driver.ensures.is c.run.ensures.drove in
-    let same : last.sink.plant.folders.ghost_name ≡ _ = came.1.0 in
-    let seen = seen_from _ (tells doings) _ (post_of last) _ _ _ c.run.result Anyhow f h c.new-driver.ensures.is c.run.ensures.drove
-    (λ log p. tells_start doings f mid h q r m n log (kept mid q m) none c.new-papers.ensures.book gone refl p.1)
-    (λ log p. tells_start doings f mid h q r m n log (kept mid q m) none c.new-papers.ensures.book gone refl (begun doings (kept mid q m) (kept_of last.sink.plant) log p.1)) in
+    let same : last.sink.plant.folders.ghost_name ≡ _ = came.1.0.0 in
+    let seen = seen_from _ (tells texts doings) _ (post_of last) _ _ _ c.run.result Anyhow f h c.new-driver.ensures.is c.run.ensures.drove
+    (λ log p. tells_start texts doings own f mid h q r m n log (kept mid q m) c.new-papers.ensures.texts none c.new-papers.ensures.book gone refl p.1)
+    (λ log p. tells_start texts doings own f mid h q r m n log (kept mid q m) c.new-papers.ensures.texts none c.new-papers.ensures.book gone refl (begun own doings (kept mid q m) (kept_of last.sink.plant) log p.1)) in
     left_so _ _ last.station.now _ last.wire.now _ h _ c.run.result Anyhow (search rules) (search rules) (search rules) seen

@@ -4,6 +4,7 @@ use Rattle.protocol.specs.Refusals.{Call}
 use Rattle.plant_files.specs.Asking.{call_of}
 use Rattle.offers.specs.Order.{rank, file_at}
 use Rattle.offers.specs.Stages.{wish_at}
+use Rattle.run_command.specs.Living.{texts_of}
 use Rattle.run_command.specs.Story.{doings_of, MayBeCalled}
 use Rattle.run_command.proofs.Wishes.{wish_read}
 use Rattle.run_command.proofs.Lives.{may_be_called}
@@ -14,6 +15,6 @@ returns-in-Some g c = λ now past st.
     let request = c.args.request.now in
     let wish = c.in-Some.wish.now in
     let known : wish_at (file_at c.args.self.now.plant.papers.now.book.files (rank request)) ≡ Some wish = search rules in
-    subst (λ (x : Call). MayBeCalled past x) (sym (c.call_for.ensures now))
-    (subst (λ (n : ℕ). MayBeCalled past (call_of wish n now)) (sym c.get.ensures.value)
-    (may_be_called past request now wish (wish_read (doings_of past) c.args.self.now.plant.papers.now.book.files request wish st.taken known)))
+    subst (λ (x : Call). MayBeCalled (texts_of c.args.self.now) past x) (sym (c.call_for.ensures now))
+    (subst (λ (n : ℕ). MayBeCalled (texts_of c.args.self.now) past (call_of wish n now)) (sym c.get.ensures.value)
+    (may_be_called (texts_of c.args.self.now) past request now wish (wish_read (texts_of c.args.self.now) (doings_of past) c.args.self.now.plant.papers.now.book.files request wish st.taken known)))

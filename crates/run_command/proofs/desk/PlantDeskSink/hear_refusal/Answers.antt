@@ -2,6 +2,7 @@
 use Rattle.std.proofs.Common.{ap, Vec, Global}
 use Rattle.folders.specs.Written.{File}
 use Rattle.run_command.proofs.Looking.{follows_same}
+use Rattle.run_command.specs.Living.{texts_of}
 use Rattle.run_command.proofs.Lives.{beside}
 use Rattle.run_command.proofs.desk.PlantDeskSink.hear_refusal.Goals as goal
 
@@ -9,7 +10,7 @@ pub returns : goal.returns
 returns g c =
     let old = c.args.self.now.plant in
     let new = c.hear_refusal.new.self in (
-      c.hear_refusal.ensures.folders,
-      beside g.F.Folders.doings old.folders.now new.folders.now old.papers.now.waits.items new.papers.now.waits.items old.papers.now.book new.papers.now.book c.hear_refusal.ensures.same
+      (c.hear_refusal.ensures.folders, c.hear_refusal.ensures.texts),
+      beside (texts_of c.args.self.now) g.F.Folders.doings old.folders.now new.folders.now old.papers.now.waits.items new.papers.now.waits.items old.papers.now.book new.papers.now.book c.hear_refusal.ensures.same
           (ap (λ (v : Vec File Global). v.items) c.hear_refusal.ensures.waits) (follows_same old.papers.now.book new.papers.now.book c.hear_refusal.ensures.book),
     )

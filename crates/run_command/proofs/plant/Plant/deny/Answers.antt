@@ -8,7 +8,7 @@ pub returns-in-AlreadyOpen-clause-book : goal.returns-in-AlreadyOpen-clause-book
 returns-in-AlreadyOpen-clause-book g c = follows_landed _ _ _ Busy _ c.busy.ensures.same
 
 pub returns-in_default : goal.returns-in_default
-returns-in_default g c = record { folders = refl; same = refl; waits = refl; book = follows_landed _ _ _ (Barred _) 0 c.barred.ensures.same }
+returns-in_default g c = record { folders = refl; same = refl; waits = refl; texts = refl; book = follows_landed _ _ _ (Barred _) 0 c.barred.ensures.same }
 
 pub returns-in_default-2 : goal.returns-in_default-2
-returns-in_default-2 g c = record { folders = refl; same = refl; waits = refl; book = follows_landed _ _ _ Ended _ c.ended.ensures.same }
+returns-in_default-2 g c = record { folders = refl; same = refl; waits = refl; texts = refl; book = follows_landed _ _ _ Ended _ c.ended.ensures.same }

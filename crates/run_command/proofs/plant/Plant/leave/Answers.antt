@@ -16,7 +16,7 @@ returns-in-Ok-clause-deals g c = λ free.
     let k = rank d.found.request in
     deals_left _ _ c.args.self.now.papers.now.waits.items d m new c.depart.ensures.departs free
     (follows_then m mid new (follows_same m mid c.depart.ensures.book)
-    (follows_of mid new (changed k (after Moved 0) mid.files) (ap (λ b. b.files) c.moved.ensures) (λ shown h. moved_still shown k 0 mid.files h) (ap (λ b. b.released) c.moved.ensures)))
+    (follows_of mid new (changed k (after Moved 0) mid.files) (ap (λ b. b.files) c.moved.ensures) (λ t shown h. moved_still t shown k 0 mid.files h) (ap (λ b. b.released) c.moved.ensures)))
 
 pub returns-in-Err-clause-deals : goal.returns-in-Err-clause-deals
 returns-in-Err-clause-deals g c = λ free.
@@ -27,4 +27,4 @@ returns-in-Err-clause-deals g c = λ free.
     let k = rank d.found.request in
     deals_left _ _ c.args.self.now.papers.now.waits.items d m new c.depart.ensures.departs free
     (follows_then m mid new (follows_same m mid c.depart.ensures.book)
-    (follows_of mid new (changed k (after PutOff c.args.now) mid.files) (ap (λ b. b.files) c.could_not.ensures) (λ shown h. put_off_still shown k c.args.now mid.files h) (ap (λ b. b.released) c.could_not.ensures)))
+    (follows_of mid new (changed k (after PutOff c.args.now) mid.files) (ap (λ b. b.files) c.could_not.ensures) (λ t shown h. put_off_still t shown k c.args.now mid.files h) (ap (λ b. b.released) c.could_not.ensures)))

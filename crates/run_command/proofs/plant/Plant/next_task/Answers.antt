@@ -10,7 +10,7 @@ use Rattle.run_command.proofs.plant.Plant.next_task.Goals as goal
 pub returns-in-Some-clause-book : goal.returns-in-Some-clause-book
 returns-in-Some-clause-book g c =
     let m = c.args.self.now.papers.now.book in
-    follows_of m c.next.new.self (files_after c.next.result m.files) (ap (λ b. b.files) c.next.ensures.same) (λ shown h. asked_still shown c.next.result m.files h)
+    follows_of m c.next.new.self (files_after c.next.result m.files) (ap (λ b. b.files) c.next.ensures.same) (λ t shown h. asked_still t shown c.next.result m.files h)
     (ap (λ b. b.released) c.next.ensures.same)
 
 pub returns-in-Some-clause-free : goal.returns-in-Some-clause-free

@@ -1,0 +1,5 @@
+pub mod Steps
+pub mod Marks
+pub mod Naming
+pub mod Taking
+pub mod Texts

@@ -1,0 +1,116 @@
+-- The steps of a look at the files whose names ask for nothing.
+use Rattle.std.proofs.Common.{◌≡◌, ℕ, List, [], ◌∷◌, map, true, false, cond, None, Some, String, sym, ap, ◌∙◌, refl, string_bytes}
+use Rattle.std.specs.declared.cmp.Ordering.TheVariants.{Less}
+use Rattle.std.specs.Cmp.Lexicographic.{slice_cmp}
+use Rattle.std.specs.Ordering.{nat_cmp}
+use Rattle.std.specs.Str.{bytes_eq}
+use Rattle.std.specs.String.{string_cmp}
+use Rattle.std.specs.Global.{Global}
+use Rattle.std.specs.List.{AllByRecursion}
+use Rattle.std.specs.List.Sorted.{IsStrictlySortedBy}
+use Rattle.std.specs.Map.{keys_of}
+use Rattle.folders.specs.declared.stamp.Stamp.{Stamp}
+use Rattle.looks.specs.declared.sighting.Stray.{Stray}
+use Rattle.looks.specs.Names.{is_before}
+use Rattle.looks.specs.Strays.{AreInOrder, first_known, from, known_of, looked, starts_before}
+use Rattle.looks.proofs.Texts.{before_from, apart, apart_back, before_more, behind}
+
+-- what stands before a name is none of those that are no such name: of the files from there on the same is known
+known_from :
+    (low q : List ℕ) (ss : List Stray) → ((x : List ℕ) → slice_cmp nat_cmp x low ≡ Less → bytes_eq x q ≡ false)
+    → known_of (from low ss) q ≡ known_of ss q
+known_from low q [] h = refl
+known_from low q (s ∷ ss) h =
+    elim (is_before (string_bytes s.name) low) as (λ b. b ≡ is_before (string_bytes s.name) low → known_of (cond b (from low ss) (s ∷ ss)) q ≡ known_of (s ∷ ss) q) [
+      | true ↦ λ e. rw (h (string_bytes s.name) (before_from (string_bytes s.name) low (sym e))) (known_from low q ss h)
+      | false ↦ λ e. refl
+    ] refl
+
+-- of the name itself, and of those behind it
+pub known_from_own : (low : List ℕ) (ss : List Stray) → known_of (from low ss) low ≡ known_of ss low
+known_from_own low ss = known_from low low ss (λ x h. apart x low h)
+
+pub known_from_later : (low q : List ℕ) (ss : List Stray) → slice_cmp nat_cmp low q ≡ Less → known_of (from low ss) q ≡ known_of ss q
+known_from_later low q ss later = known_from low q ss (λ x h. apart x q (before_more x low q h later))
+
+-- behind a name that stands behind this one this one is not
+none_behind :
+    (low x : List ℕ) (ss : List Stray) → slice_cmp nat_cmp low x ≡ Less
+    → AllByRecursion (λ (y : String Global). slice_cmp nat_cmp x (string_bytes y) ≡ Less) (map (λ (s : Stray). s.name) ss)
+    → known_of ss low ≡ None
+none_behind low x [] e h = refl
+none_behind low x (s ∷ ss) e h = rw (apart_back low (string_bytes s.name) (before_more low x (string_bytes s.name) e h.0)) (none_behind low x ss e h.1)
+
+-- what is known of a name is known of the first, where that does not stand before it
+first_is_known : (low : List ℕ) (ss : List Stray) → AreInOrder ss → starts_before low ss ≡ false → first_known low ss ≡ known_of ss low
+unfolding IsStrictlySortedBy
+first_is_known low [] r e = refl
+first_is_known low (s ∷ ss) r e =
+    elim (bytes_eq (string_bytes s.name) low) as (λ b. b ≡ bytes_eq (string_bytes s.name) low → cond b (Some s.sighting) None ≡ cond b (Some s.sighting) (known_of ss low)) [
+      | true ↦ λ f. refl
+      | false ↦ λ f. sym (none_behind low (string_bytes s.name) ss (behind (string_bytes s.name) low e (sym f)) r.0)
+    ] refl
+
+-- those from a name on do not start before it, and are in order
+from_stops : (low : List ℕ) (ss : List Stray) → starts_before low (from low ss) ≡ false
+from_stops low [] = refl
+from_stops low (s ∷ ss) =
+    elim (is_before (string_bytes s.name) low) as (λ b. b ≡ is_before (string_bytes s.name) low → starts_before low (cond b (from low ss) (s ∷ ss)) ≡ false) [
+      | true ↦ λ e. from_stops low ss
+      | false ↦ λ e. sym e
+    ] refl
+
+pub from_in_order : (low : List ℕ) (ss : List Stray) → AreInOrder ss → AreInOrder (from low ss)
+unfolding IsStrictlySortedBy
+from_in_order low [] r = r
+from_in_order low (s ∷ ss) r =
+    elim (is_before (string_bytes s.name) low) as (λ b. AreInOrder (cond b (from low ss) (s ∷ ss))) [
+      | true ↦ from_in_order low ss r.1
+      | false ↦ r
+    ]
+
+-- what is known of a name is met first
+pub met : (name : List ℕ) (rest : List Stray) → AreInOrder rest → first_known name (from name rest) ≡ known_of rest name
+met name rest r = first_is_known name (from name rest) (from_in_order name rest r) (from_stops name rest) ∙ known_from_own name rest
+
+-- of what is still to come the same is known
+pub still_known :
+    (known rest : List Stray) (name : String Global) (es : List (String Global × Stamp))
+    → AllByRecursion (λ (y : String Global). string_cmp name y ≡ Less) (keys_of es)
+    → AllByRecursion (λ (e : String Global × Stamp). known_of rest (string_bytes e.0) ≡ known_of known (string_bytes e.0)) es
+    → AllByRecursion (λ (e : String Global × Stamp). known_of (from (string_bytes name) rest) (string_bytes e.0) ≡ known_of known (string_bytes e.0)) es
+still_known known rest name [] l h = h
+still_known known rest name (e ∷ es) l h = (known_from_later (string_bytes name) (string_bytes e.0) rest l.0 ∙ h.0, still_known known rest name es l.1 h.1)
+
+-- at the start
+pub all_known :
+    (known : List Stray) (es : List (String Global × Stamp))
+    → AllByRecursion (λ (e : String Global × Stamp). known_of known (string_bytes e.0) ≡ known_of known (string_bytes e.0)) es
+all_known known [] = tt
+all_known known (e ∷ es) = (refl, all_known known es)
+
+-- the names are those that were found
+names_looked : (known : List Stray) (now : ℕ) (es : List (String Global × Stamp)) → map (λ (s : Stray). s.name) (looked known now es) ≡ keys_of es
+names_looked known now [] = refl
+names_looked known now (e ∷ es) = ap (λ names. e.0 ∷ names) (names_looked known now es)
+
+pub looked_in_order :
+    (known : List Stray) (now : ℕ) (es : List (String Global × Stamp)) → IsStrictlySortedBy string_cmp (keys_of es) → AreInOrder (looked known now es)
+looked_in_order known now es r = rw (names_looked known now es) r
+
+-- the front and the rest of what is found in order
+pub first_sorted :
+    (e : String Global × Stamp) (es : List (String Global × Stamp)) → IsStrictlySortedBy string_cmp (keys_of (e ∷ es))
+    → AllByRecursion (λ (y : String Global). string_cmp e.0 y ≡ Less) (keys_of es)
+unfolding IsStrictlySortedBy
+first_sorted e es r = r.0
+
+pub rest_sorted :
+    (e : String Global × Stamp) (es : List (String Global × Stamp)) → IsStrictlySortedBy string_cmp (keys_of (e ∷ es)) → IsStrictlySortedBy string_cmp (keys_of es)
+unfolding IsStrictlySortedBy
+rest_sorted e es r = r.1
+
+-- none are in order
+pub empty_in_order : AreInOrder []
+unfolding IsStrictlySortedBy
+empty_in_order = tt

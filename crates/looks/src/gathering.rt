@@ -1,0 +1,196 @@
+//! What a look found so far.
+
+ghost use Rattle.std.specs.Prelude.{◌≡◌, false, IfOk, OnOk, string_bytes};
+ghost use Rattle.std.specs.Map.{values_of};
+ghost use Rattle.offers.specs.Order.{rank, rising};
+ghost use Rattle.looks.specs.Names.{IsRequest, IsStray};
+ghost use Rattle.looks.specs.Gathering.{nothing_found, ArePlaced, PutsRequest, PutsStray, Takes, TakesFile, TakesFiles, TakesOther, TakesOthers};
+ghost use Rattle.looks.specs.Handing.{Hands};
+
+use folders::{FolderFault, Listing, PassedOver, Request, Stamp, is_left, named};
+use offers::{Found, rank};
+use std::alloc::{AllocError, Global};
+use std::collections::BTreeMap;
+use std::marker::Model;
+
+/// What a look found so far, in order as it comes, so that no turn sorts all of it. What comes twice counts once, as it was found last.
+#[derive(Drop)]
+pub(crate) struct Gathering {
+    alloc: Global,
+    /// The files whose names ask for something, by their places.
+    requests: BTreeMap<u32, Found>,
+    /// The files whose names ask for nothing, by their names.
+    strays: BTreeMap<String, Stamp>,
+    /// Why something is passed over, by its name.
+    others: BTreeMap<String, FolderFault>,
+    /// How many names are not UTF-8.
+    skipped: usize,
+    /// Whether there was no memory for some of it.
+    is_broken: bool,
+}
+
+impl Model for Gathering {
+    ghost use Rattle.looks.specs.Gathering.{GatheringValue, IsGathering};
+
+    ghost Value = { GatheringValue };
+
+    ghost view = { λ g. record { requests = g.requests.entries; strays = g.strays.entries; others = g.others.entries; skipped = g.skipped; is_broken = g.is_broken } };
+
+    ghost invariant = { λ g. IsGathering g.requests.entries g.strays.entries };
+}
+
+/// What a look found that has come to its end.
+#[derive(Drop)]
+pub struct Seen {
+    /// The files whose names ask for something, in order of their places.
+    pub requests: Vec<Found>,
+    /// The files whose names ask for nothing, by their names.
+    pub strays: BTreeMap<String, Stamp>,
+    /// Why something is passed over, by its name.
+    pub others: BTreeMap<String, FolderFault>,
+    /// How many names are not UTF-8.
+    pub skipped: usize,
+}
+
+/// The place of a file among all files that there can be, whose number is one of a circuit.
+fn place_of(request: Request) -> u32
+    ensures place { result ≡ rank request }
+    ensures request { IsRequest request }
+{
+    let _number = request.number.get();
+    rank(request)
+}
+
+/// The files whose names ask for something, in order of their places.
+fn requests_of(alloc: Global, found: BTreeMap<u32, Found>) -> Result<Vec<Found>, AllocError>
+    requires { ArePlaced found.entries }
+    ensures all { IfOk result (λ requests. requests.items ≡ values_of found.entries) }
+    ensures order { IfOk result (λ requests. rising requests.items ≡ requests.items) }
+{
+    let mut requests = Vec::with_capacity(alloc, found.len())?;
+    for (_, file) in found {
+        requests.push(file)?;
+    }
+    Ok(requests)
+}
+
+impl Gathering {
+    /// Nothing was found yet.
+    pub(crate) fn new(alloc: Global) -> Gathering
+        ensures { result ≡ nothing_found }
+    {
+        Gathering {
+            alloc,
+            requests: BTreeMap::new(alloc),
+            strays: BTreeMap::new(alloc),
+            others: BTreeMap::new(alloc),
+            skipped: 0,
+            is_broken: false,
+        }
+    }
+
+    /// Puts a file to those that ask for something.
+    fn put_request(&mut self, found: Found) -> Result<(), AllocError>
+        ensures ok { OnOk result (PutsRequest found self.old self.new) }
+        ensures broken { self.new.is_broken ≡ self.old.is_broken }
+    {
+        let place = place_of(found.request);
+        match self.requests.insert(place, found) {
+            Ok(_) => Ok(()),
+            Err(_) => Err(AllocError),
+        }
+    }
+
+    /// Puts a file to those that ask for nothing.
+    fn put_stray(&mut self, name: String, stamp: Stamp) -> Result<(), AllocError>
+        requires { IsStray (string_bytes name) }
+        ensures ok { OnOk result (PutsStray (string_bytes name) stamp self.old self.new) }
+        ensures broken { self.new.is_broken ≡ self.old.is_broken }
+    {
+        match self.strays.insert(name, stamp) {
+            Ok(_) => Ok(()),
+            Err(_) => Err(AllocError),
+        }
+    }
+
+    /// Puts a file to one or the other, unless it is left alone.
+    fn put(&mut self, file: folders::Found) -> Result<(), AllocError>
+        ensures ok { OnOk result (self.old.is_broken ≡ false → TakesFile file self.old self.new) }
+        ensures broken { self.new.is_broken ≡ self.old.is_broken }
+    {
+        let folders::Found { name, stamp } = file;
+        match named(self.alloc, name.as_str())? {
+            Some(request) => self.put_request(Found { request, stamp }),
+            None if is_left(name.as_str()) => Ok(()),
+            None => self.put_stray(name, stamp),
+        }
+    }
+
+    /// Takes in a file.
+    fn take_file(&mut self, file: folders::Found)
+        ensures { self.new.is_broken ≡ false → TakesFile file self.old self.new }
+    {
+        if self.put(file).is_err() {
+            self.is_broken = true;
+        }
+    }
+
+    /// Takes in files.
+    fn take_files(&mut self, files: Vec<folders::Found>)
+        ensures { self.new.is_broken ≡ false → TakesFiles files.items self.old self.new }
+    {
+        for file in files {
+            self.take_file(file);
+        }
+    }
+
+    /// Takes in what is passed over.
+    fn take_other(&mut self, other: PassedOver)
+        ensures { self.new.is_broken ≡ false → TakesOther other self.old self.new }
+    {
+        if self.others.insert(other.name, other.fault).is_err() {
+            self.is_broken = true;
+        }
+    }
+
+    /// Takes in all that is passed over.
+    fn take_others(&mut self, others: Vec<PassedOver>)
+        ensures { self.new.is_broken ≡ false → TakesOthers others.items self.old self.new }
+    {
+        for other in others {
+            self.take_other(other);
+        }
+    }
+
+    /// Takes in what was found now.
+    pub(crate) fn take(&mut self, listing: Listing)
+        ensures { self.new.is_broken ≡ false → Takes listing self.old self.new }
+    {
+        self.take_files(listing.files);
+        self.take_others(listing.others);
+        self.skipped = self.skipped.saturating_add(listing.skipped);
+    }
+
+    /// All of it, once the look has come to its end; where there was no memory for some of it, `AllocError`.
+    pub(crate) fn finish(self) -> Result<Seen, AllocError>
+        ensures { IfOk result (λ seen. Hands self seen) }
+    {
+        let Gathering {
+            alloc,
+            requests,
+            strays,
+            others,
+            skipped,
+            is_broken,
+        } = self;
+        if is_broken {
+            return Err(AllocError);
+        }
+        Ok(Seen {
+            requests: requests_of(alloc, requests)?,
+            strays,
+            others,
+            skipped,
+        })
+    }
+}

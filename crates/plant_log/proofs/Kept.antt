@@ -1,0 +1,57 @@
+-- What is kept in mind of names that are passed over.
+use Rattle.std.proofs.Common.{◌≡◌, ◌⊎◌, ◌∷◌, ◌++◌, [], ℕ, Bool, true, false, List, Option, Some, None, IfSome, Result, Ok, Err, OnOk, OnErr, cond, inl, inr, refl, sym, subst, ap}
+use Rattle.std.specs.Prelude.{String, string_bytes}
+use Rattle.std.specs.BTreeMap.{BTreeMap, get_by_text, is_at, IsUnchanged, Updates}
+use Rattle.std.specs.Cmp.Lexicographic.{slice_cmp}
+use Rattle.std.specs.Global.{Global}
+use Rattle.std.specs.Map.{lookup}
+use Rattle.std.specs.Ordering.{nat_cmp}
+use Rattle.std.specs.Str.{bytes_eq}
+use Rattle.std.specs.String.{string_cmp}
+use Rattle.std.proofs.lemmas.Map.Text.{btree_map_updates_text}
+use Rattle.std.proofs.lemmas.Slice.Eq.{bytes_eq-Decides}
+use Rattle.protocol.specs.Lists.{IsAmong}
+use Rattle.folders.specs.declared.folders.PassedOver.{PassedOver}
+use Rattle.plant_log.specs.declared.standing.Standing.{Standing}
+use Rattle.plant_log.specs.Standing.{StandsAfter}
+use Rattle.plant_log.specs.Passing.{IsKeptOf, IsKeptOfOne, KeepsOne, Remembers}
+
+picked : (last old new : BTreeMap (String Global) Standing) (now : ℕ) (each : PassedOver) (s : Standing) (name : List ℕ) (b : Bool) → bytes_eq (string_bytes each.name) name ≡ b
+    → StandsAfter (get_by_text last (string_bytes each.name)) each.fault now s → get_by_text new name ≡ cond b (Some s) (get_by_text old name)
+    → (get_by_text new name ≡ get_by_text old name) ⊎ ((s : Standing) × (get_by_text new name ≡ Some s) × IsKeptOf last now name each s)
+picked last old new now each s name true is after sets =
+    let same : string_bytes each.name ≡ name = (bytes_eq-Decides (string_bytes each.name) name).0 is in
+    inr (s, sets, (same, subst (λ bs. StandsAfter (get_by_text last bs) each.fault now s) same after))
+picked last old new now each s name false is after sets = inl sets
+
+-- it was put in under its name, or there was no memory for it
+pub inserted : {E : Type 0} (last old new : BTreeMap (String Global) Standing) (now : ℕ) (each : PassedOver) (s : Standing) (r : Result (Option Standing) E)
+    → StandsAfter (get_by_text last (string_bytes each.name)) each.fault now s → OnOk r (Updates string_cmp old new each.name (Some s)) → OnErr r (IsUnchanged old new)
+    → KeepsOne last now each old new
+inserted last old new now each s (Ok was) after sets same = λ name.
+    picked last old new now each s name (bytes_eq (string_bytes each.name) name) refl after (btree_map_updates_text (string_bytes each.name) old new (Some s) sets name)
+inserted last old new now each s (Err e) after sets same = λ name.
+    inl (ap (λ es. lookup (is_at (λ k. slice_cmp nat_cmp name (string_bytes k))) es) same)
+
+weaker : (P Q : Standing → Type 0) (r : Option Standing) → IfSome r P → ((s : Standing) → P s → Q s) → IfSome r Q
+weaker P Q None p f = tt
+weaker P Q (Some s) p f = f s p
+
+stays : (xs : List PassedOver) (x y : PassedOver) → IsAmong xs y → IsAmong (xs ++ (x ∷ [])) y
+stays [] x y p = absurd p
+stays (z ∷ zs) x y (inl is) = inl is
+stays (z ∷ zs) x y (inr p) = inr (stays zs x y p)
+
+comes : (xs : List PassedOver) (x : PassedOver) → IsAmong (xs ++ (x ∷ [])) x
+comes [] x = inl refl
+comes (z ∷ zs) x = inr (comes zs x)
+
+-- one more is
+pub one_more_kept : (last old new : BTreeMap (String Global) Standing) (now : ℕ) (xs : List PassedOver) (x : PassedOver) → Remembers last now xs old → KeepsOne last now x old new
+    → Remembers last now (xs ++ (x ∷ [])) new
+one_more_kept last old new now xs x kept one = λ name.
+    elim (one name) [
+      | inl same ↦ subst (λ r. IfSome r (IsKeptOfOne last now (xs ++ (x ∷ [])) name)) (sym same)
+          (weaker (IsKeptOfOne last now xs name) (IsKeptOfOne last now (xs ++ (x ∷ [])) name) (get_by_text old name) (kept name) (λ s p. (p.0, stays xs x p.0 p.1, p.2)))
+      | inr put ↦ subst (λ r. IfSome r (IsKeptOfOne last now (xs ++ (x ∷ [])) name)) (sym put.1) (x, comes xs x, put.2)
+    ]

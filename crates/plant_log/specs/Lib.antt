@@ -1,0 +1,10 @@
+pub mod Words
+pub mod Telling
+pub mod Standing
+pub mod Skipping
+pub mod Differing
+pub mod Stories
+pub mod Passing
+pub mod Troubles
+pub mod Refusing
+pub mod Night

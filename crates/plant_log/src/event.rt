@@ -1,0 +1,62 @@
+//! What befalls the numbers of a plant.
+
+ghost use Rattle.std.specs.Prelude.{◌≡◌, Some};
+ghost use Rattle.plant_log.specs.Words.{ballot_text, event_text};
+
+use ballots::Ballot;
+use std::fmt;
+
+/// Something that an operator may want to know, with its number.
+#[derive(Clone, Copy)]
+pub enum Event {
+    /// A ballot was begun.
+    Began { number: u32, ballot: Ballot },
+    /// The ballots came to no end.
+    GaveUp { number: u32, ballot: Ballot },
+    /// A majority knows of nothing.
+    Nothing { number: u32, ballot: Ballot },
+    /// The number was released.
+    Released { number: u32 },
+    /// What a file asked for is what stands under its number.
+    Sent { number: u32 },
+    /// It is not.
+    Lost { number: u32 },
+    /// What was read of a file is in place of what its number is under way for, or was.
+    Replaced { number: u32 },
+}
+
+/// A ballot, as `1.2`.
+#[derive(Clone, Copy)]
+struct BallotText(Ballot);
+
+impl fmt::Display for BallotText {
+    ghost output = { λ b. Some (ballot_text b.0) };
+
+    fn fmt<W: fmt::Write>(&self, f: &mut fmt::Formatter<W>) -> fmt::Result {
+        write!(f, "{}.{}", self.0.round(), self.0.owner().get())
+    }
+}
+
+impl fmt::Display for Event {
+    ghost output = { λ e. Some (event_text e) };
+
+    fn fmt<W: fmt::Write>(&self, f: &mut fmt::Formatter<W>) -> fmt::Result {
+        match *self {
+            Event::Began { number, ballot } => write!(f, "{number} began {}", BallotText(ballot)),
+            Event::GaveUp { number, ballot } => write!(
+                f,
+                "{number} gave-up {}",
+                BallotText(ballot)
+            ),
+            Event::Nothing { number, ballot } => write!(
+                f,
+                "{number} nothing {}",
+                BallotText(ballot)
+            ),
+            Event::Released { number } => write!(f, "{number} released"),
+            Event::Sent { number } => write!(f, "{number} sent"),
+            Event::Lost { number } => write!(f, "{number} lost"),
+            Event::Replaced { number } => write!(f, "{number} replaced while it was under way"),
+        }
+    }
+}

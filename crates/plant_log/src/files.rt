@@ -1,0 +1,83 @@
+//! Faults of files that go on.
+
+ghost use Rattle.std.specs.Prelude.{◌≡◌, ◌≤◌, [], None};
+ghost use Rattle.std.specs.Ordering.{nat_cmp};
+ghost use Rattle.std.specs.BTreeMap.{btree_map_len, get, Updates};
+ghost use Rattle.offers.specs.Order.{rank};
+ghost use Rattle.plant_log.specs.Troubles.{is_gone, Notices};
+
+use crate::room::keep;
+use crate::standing::{Standing, is_told_anew};
+use folders::{FolderFault, Request};
+use offers::rank;
+use std::alloc::Global;
+use std::collections::BTreeMap;
+
+/// What can't be done with the file that asks for this, and why.
+#[derive(Clone, Copy)]
+pub struct Trouble {
+    pub request: Request,
+    pub fault: FolderFault,
+}
+
+/// Why files were not read or moved, as it was told last, by their places among all files that there can be: of 65,536 at most.
+#[derive(Drop)]
+pub(crate) struct Files {
+    kept: BTreeMap<u32, Standing>,
+}
+
+/// Whether it is a fault of a file that is gone, or another by now: it is found anew.
+fn is_gone(fault: FolderFault) -> bool
+    ensures { result ≡ is_gone fault }
+{
+    matches!(fault, FolderFault::Missing | FolderFault::Changed)
+}
+
+impl Files {
+    /// Nothing was told of any.
+    pub(crate) fn new(alloc: Global) -> Files
+        ensures { result.kept.entries ≡ [] }
+    {
+        Files {
+            kept: BTreeMap::new(alloc),
+        }
+    }
+
+    /// What was told last of the file at this place.
+    fn last(&self, key: u32) -> Option<Standing>
+        ensures { result ≡ get nat_cmp self.now.kept key }
+    {
+        match self.kept.get(&key) {
+            Some(standing) => Some(*standing),
+            None => None,
+        }
+    }
+
+    /// Whether a fault of the file at this place is told, at a moment in milliseconds.
+    fn notice(&mut self, key: u32, fault: FolderFault, now: u64) -> bool
+        ensures notices { Notices key fault now result self.old.kept self.new.kept }
+        ensures bound { btree_map_len self.old.kept ≤ 65_536 → btree_map_len self.new.kept ≤ 65_536 }
+    {
+        if is_gone(fault) || !is_told_anew(self.last(key), fault, now) {
+            return false;
+        }
+        let _ = keep(&mut self.kept, key, Standing { fault, at: now });
+        true
+    }
+
+    /// Whether a trouble with a file is told, at a moment in milliseconds.
+    pub(crate) fn is_told(&mut self, trouble: &Trouble, now: u64) -> bool
+        ensures notices { Notices (rank trouble.now.request) trouble.now.fault now result self.old.kept self.new.kept }
+        ensures bound { btree_map_len self.old.kept ≤ 65_536 → btree_map_len self.new.kept ≤ 65_536 }
+    {
+        self.notice(rank(trouble.request), trouble.fault, now)
+    }
+
+    /// The file that asks for this was read, or moved: what was told of it is forgotten.
+    pub(crate) fn done(&mut self, request: Request)
+        ensures forgets { Updates nat_cmp self.old.kept self.new.kept (rank request) None }
+        ensures bound { btree_map_len self.new.kept ≤ btree_map_len self.old.kept }
+    {
+        self.kept.remove(&rank(request));
+    }
+}

@@ -1,0 +1,72 @@
+//! The lines of the log.
+
+ghost use Rattle.std.specs.Prelude.{◌≡◌, Some};
+ghost use Rattle.plant_log.specs.Words.{file_text, line_text, news_text};
+
+use crate::event::Event;
+use command_ends::RefusalText;
+use folders::{FolderFault, News};
+use refusals::StepRefusal;
+use std::fmt;
+
+/// A folder does not serve for a file.
+#[derive(Clone, Copy)]
+pub struct FileFault<'a> {
+    /// What can't be done, as `cannot read`.
+    pub what: &'a str,
+    /// The name of the file.
+    pub name: &'a str,
+    /// Why.
+    pub fault: FolderFault,
+}
+
+/// A line of the log. Names in it are as the log shows them.
+#[derive(Clone, Copy)]
+pub(crate) enum Line<'a> {
+    /// What befell a number.
+    Event(Event),
+    /// A file is no offer.
+    Refused { name: &'a str, why: &'a str },
+    /// A datagram shows that its sender has another configuration.
+    Differs(StepRefusal),
+    /// There is something to tell of the folders.
+    Folders(&'a str),
+    /// A folder does not serve.
+    Folder { what: &'a str, fault: FolderFault },
+    /// A folder does not serve for a file.
+    File(FileFault<'a>),
+}
+
+/// What befell a folder.
+pub(crate) fn news_text(news: News) -> &'static str
+    ensures { result.now ≡ news_text news }
+{
+    match news {
+        News::OtherOffers => "offers is another folder now",
+        News::OtherReleases => "releases is another folder now",
+        News::WrittenAnew => "a release was written anew",
+    }
+}
+
+impl<'a> fmt::Display for FileFault<'a> {
+    ghost output = { λ l. Some (file_text l.what.now l.name.now l.fault) };
+
+    fn fmt<W: fmt::Write>(&self, f: &mut fmt::Formatter<W>) -> fmt::Result {
+        write!(f, "folders: {} {}: {}", self.what, self.name, self.fault)
+    }
+}
+
+impl<'a> fmt::Display for Line<'a> {
+    ghost output = { λ l. Some (line_text l) };
+
+    fn fmt<W: fmt::Write>(&self, f: &mut fmt::Formatter<W>) -> fmt::Result {
+        match *self {
+            Line::Event(event) => write!(f, "{event}"),
+            Line::Refused { name, why } => write!(f, "refused {name}: {why}"),
+            Line::Differs(refusal) => write!(f, "refused {}", RefusalText(refusal)),
+            Line::Folders(what) => write!(f, "folders: {what}"),
+            Line::Folder { what, fault } => write!(f, "folders: {what}: {fault}"),
+            Line::File(file) => write!(f, "{file}"),
+        }
+    }
+}

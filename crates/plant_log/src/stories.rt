@@ -1,0 +1,79 @@
+//! Which of the things that befall numbers are told in the usual log.
+
+ghost use Rattle.std.specs.Prelude.{◌≡◌, ◌≤◌, [], None};
+ghost use Rattle.std.specs.Ordering.{nat_cmp};
+ghost use Rattle.std.specs.BTreeMap.{btree_map_len, get, Updates};
+ghost use Rattle.plant_log.specs.Stories.{known, Hears, HearsOf};
+
+use crate::event::Event;
+use crate::room::keep;
+use crate::story::{Story, Turn};
+use std::alloc::Global;
+use std::collections::BTreeMap;
+
+/// What is kept in mind of the numbers that are under way: of 65,536 at most.
+#[derive(Drop)]
+pub(crate) struct Stories {
+    kept: BTreeMap<u32, Story>,
+}
+
+impl Stories {
+    /// Of none is anything.
+    pub(crate) fn new(alloc: Global) -> Stories
+        ensures { result.kept.entries ≡ [] }
+    {
+        Stories {
+            kept: BTreeMap::new(alloc),
+        }
+    }
+
+    /// What is kept in mind of a number.
+    fn story(&self, number: u32) -> Story
+        ensures { result ≡ known (get nat_cmp self.now.kept number) }
+    {
+        match self.kept.get(&number) {
+            Some(story) => *story,
+            None => Story::first(),
+        }
+    }
+
+    /// Whether this is told of the ballots of a number, at a moment in milliseconds. Where nothing more can be kept in mind, it is.
+    fn hear(&mut self, number: u32, turn: Turn, now: u64) -> bool
+        ensures hears { HearsOf number turn now result self.old.kept self.new.kept }
+        ensures bound { btree_map_len self.old.kept ≤ 65_536 → btree_map_len self.new.kept ≤ 65_536 }
+    {
+        let heard = self.story(number).hear(turn, now);
+        if keep(&mut self.kept, number, heard.story) {
+            heard.is_told
+        } else {
+            true
+        }
+    }
+
+    /// What was kept in mind of a number is forgotten.
+    fn forget(&mut self, number: u32)
+        ensures forgets { Updates nat_cmp self.old.kept self.new.kept number None }
+        ensures bound { btree_map_len self.new.kept ≤ btree_map_len self.old.kept }
+    {
+        self.kept.remove(&number);
+    }
+
+    /// Whether something is told in the usual log, at a moment in milliseconds.
+    pub(crate) fn are_told(&mut self, event: Event, now: u64) -> bool
+        ensures hears { Hears event now result self.old.kept self.new.kept }
+        ensures bound { btree_map_len self.old.kept ≤ 65_536 → btree_map_len self.new.kept ≤ 65_536 }
+    {
+        match event {
+            Event::Began { number, .. } => self.hear(number, Turn::Begins, now),
+            Event::GaveUp { number, .. } | Event::Nothing { number, .. } => {
+                self.hear(number, Turn::Ends, now)
+            }
+            Event::Released { number } => {
+                self.forget(number);
+                true
+            }
+            Event::Sent { .. } => false,
+            Event::Lost { .. } | Event::Replaced { .. } => true,
+        }
+    }
+}

@@ -1,0 +1,252 @@
+//! What a station that stays up tells, and what it told last, so that it is not told again at each look.
+
+ghost use Rattle.std.specs.Prelude.{◌≡◌, ◌≤◌, [], Bool, None, codes, true};
+ghost use Rattle.std.specs.Ordering.{nat_cmp};
+ghost use Rattle.std.specs.BTreeMap.{btree_map_len, Updates};
+ghost use Rattle.folders.specs.LogNames.{shown_name};
+ghost use Rattle.offers.specs.Order.{rank};
+ghost use Rattle.plant_log.specs.Words.{differs_text, event_text, file_text, folder_text, folders_text, refused_text};
+ghost use Rattle.plant_log.specs.Telling.{TellsIf, WasTold};
+ghost use Rattle.plant_log.specs.Standing.{IsToldAnew, Stands};
+ghost use Rattle.plant_log.specs.Skipping.{is_skipping_told, skipped_after};
+ghost use Rattle.plant_log.specs.Passing.{Remembers, TellsListed};
+ghost use Rattle.plant_log.specs.Differing.{differ_after, differ_told};
+ghost use Rattle.plant_log.specs.Stories.{IsHeard, IsTellingRefused};
+ghost use Rattle.plant_log.specs.Refusing.{TellsNoOffer};
+ghost use Rattle.plant_log.specs.Troubles.{Notices, TellsTrouble, TellsTroubleIf};
+
+use crate::differences::Differences;
+use crate::event::Event;
+use crate::files::{Files, Trouble};
+use crate::line::{FileFault, Line};
+use crate::passed::Passed;
+use crate::skipped::Skipped;
+use crate::standing::{Standing, is_told_anew, told_after};
+use crate::stories::Stories;
+use crate::writing::{
+    tell_event, tell_fault, tell_file, tell_folders, tell_line, tell_no_memory, tell_no_offer,
+    tell_refused,
+};
+use folders::{FolderFault, PassedOver, Request, name_of};
+use log_terms::Loudness;
+use offers::Reason;
+use refusals::StepRefusal;
+use std::alloc::Global;
+use std::io::Write;
+
+/// What a look could not read among the offers.
+#[derive(Drop)]
+pub struct Unread {
+    /// How many names are not UTF-8.
+    pub skipped: usize,
+    /// What else was passed over.
+    pub others: Vec<PassedOver>,
+}
+
+/// What is told, and what was told last. Moments are in milliseconds.
+#[derive(Drop)]
+pub struct Told {
+    alloc: Global,
+    loudness: Loudness,
+    /// What is kept in mind of the numbers that are under way.
+    stories: Stories,
+    /// Why the folder of offers, or that of releases, does not serve.
+    unread: Option<Standing>,
+    unwritten: Option<Standing>,
+    /// What was passed over among the offers at the last look.
+    skipped: Skipped,
+    passed: Passed,
+    /// Why files were not read or moved.
+    files: Files,
+    /// That other stations have other configurations.
+    differences: Differences,
+}
+
+impl Told {
+    /// Nothing was told yet; so much is told.
+    pub fn new(alloc: Global, loudness: Loudness) -> Told
+        ensures loudness { result.loudness ≡ loudness }
+        ensures stories { result.stories.kept.entries ≡ [] }
+        ensures files { result.files.kept.entries ≡ [] }
+    {
+        Told {
+            alloc,
+            loudness,
+            stories: Stories::new(alloc),
+            unread: None,
+            unwritten: None,
+            skipped: Skipped::new(),
+            passed: Passed::new(alloc),
+            files: Files::new(alloc),
+            differences: Differences::new(),
+        }
+    }
+
+    /// Whether something is told that befell a number, at a moment.
+    fn are_told(&mut self, event: &Event, now: u64) -> bool
+        ensures hears { IsHeard self.old.loudness event.now now result self.old.stories.kept self.new.stories.kept }
+        ensures bound { btree_map_len self.old.stories.kept ≤ 65_536 → btree_map_len self.new.stories.kept ≤ 65_536 }
+        ensures rest { self.new ≡ record self.old { stories = self.new.stories } }
+    {
+        match self.loudness {
+            Loudness::Faults => false,
+            Loudness::Usual => self.stories.are_told(*event, now),
+            Loudness::All => true,
+        }
+    }
+
+    /// Tells what befell a number at a moment, as far as it is told.
+    pub fn tell<E: Write>(&mut self, event: Event, now: u64, err: &mut E)
+        ensures tells { (told : Bool) × IsHeard self.old.loudness event now told self.old.stories.kept self.new.stories.kept × TellsIf (told ≡ true) (event_text event) (E.contents err.old) (E.contents err.new) }
+        ensures bound { btree_map_len self.old.stories.kept ≤ 65_536 → btree_map_len self.new.stories.kept ≤ 65_536 }
+        ensures rest { self.new ≡ record self.old { stories = self.new.stories } }
+    {
+        if self.are_told(&event, now) {
+            tell_event(self.alloc, &event, err);
+        }
+    }
+
+    /// Tells why the file of this name is no offer, unless faults alone are told.
+    pub fn refused<E: Write>(&self, name: &str, why: &str, err: &mut E)
+        ensures { TellsIf (IsTellingRefused self.now.loudness) (refused_text (shown_name name.now) why.now) (E.contents err.old) (E.contents err.new) }
+    {
+        match self.loudness {
+            Loudness::Faults => {}
+            Loudness::Usual | Loudness::All => tell_refused(self.alloc, name, why, err),
+        }
+    }
+
+    /// Tells why the file that asks for this is no offer, unless faults alone are told.
+    pub fn no_offer<E: Write>(&self, request: Request, reason: Reason, err: &mut E)
+        ensures told { IsTellingRefused self.now.loudness → TellsNoOffer request reason (E.contents err.old) (E.contents err.new) }
+        ensures quiet { ¬ IsTellingRefused self.now.loudness → E.contents err.new ≡ E.contents err.old }
+    {
+        match self.loudness {
+            Loudness::Faults => {}
+            Loudness::Usual | Loudness::All => tell_no_offer(self.alloc, request, reason, err),
+        }
+    }
+
+    /// Tells that a datagram was refused, at a moment, where that shows that its sender has another configuration, each once in a while.
+    pub fn hear_refusal<E: Write>(&mut self, refusal: StepRefusal, now: u64, err: &mut E)
+        ensures tells { TellsIf (differ_told self.old.differences refusal now ≡ true) (differs_text refusal) (E.contents err.old) (E.contents err.new) }
+        ensures rest { self.new ≡ record self.old { differences = differ_after self.old.differences refusal now } }
+    {
+        if self.differences.are_told_by(refusal, now) {
+            tell_line(self.alloc, &Line::Differs(refusal), err);
+        }
+    }
+
+    /// Tells that the folder of offers can't be read, at a moment, where that is told anew.
+    pub fn cannot_list<E: Write>(&mut self, fault: FolderFault, now: u64, err: &mut E)
+        ensures tells { TellsIf (IsToldAnew self.old.unread fault now) (folder_text (codes "cannot read offers") fault) (E.contents err.old) (E.contents err.new) }
+        ensures stands { Stands self.old.unread fault now self.new.unread }
+        ensures rest { self.new ≡ record self.old { unread = self.new.unread } }
+    {
+        let last = self.unread;
+        self.unread = Some(told_after(last, fault, now));
+        if is_told_anew(last, fault, now) {
+            tell_fault(self.alloc, "cannot read offers", fault, err);
+        }
+    }
+
+    /// Tells that the folder of releases does not take what is to be written, at a moment, where that is told anew.
+    pub fn cannot_write<E: Write>(&mut self, fault: FolderFault, now: u64, err: &mut E)
+        ensures tells { TellsIf (IsToldAnew self.old.unwritten fault now) (folder_text (codes "cannot write releases") fault) (E.contents err.old) (E.contents err.new) }
+        ensures stands { Stands self.old.unwritten fault now self.new.unwritten }
+        ensures rest { self.new ≡ record self.old { unwritten = self.new.unwritten } }
+    {
+        let last = self.unwritten;
+        self.unwritten = Some(told_after(last, fault, now));
+        if is_told_anew(last, fault, now) {
+            tell_fault(self.alloc, "cannot write releases", fault, err);
+        }
+    }
+
+    /// All that was to be written among the releases is.
+    pub fn written(&mut self)
+        ensures { self.new ≡ record self.old { unwritten = None } }
+    {
+        self.unwritten = None;
+    }
+
+    /// Tells that names are passed over that are not UTF-8, at a moment, where that is told anew.
+    fn skipped<E: Write>(&mut self, names: usize, now: u64, err: &mut E)
+        ensures tells { TellsIf (is_skipping_told self.old.skipped names now ≡ true) (folders_text (codes "cannot read a name that is not UTF-8")) (E.contents err.old) (E.contents err.new) }
+        ensures rest { self.new ≡ record self.old { skipped = skipped_after self.old.skipped names now } }
+    {
+        if self.skipped.is_told(names, now) {
+            tell_folders(self.alloc, "cannot read a name that is not UTF-8", err);
+        }
+    }
+
+    /// The folder of offers can be read. Tells what of it can't, at a moment, where that is told anew.
+    pub fn listed<E: Write>(&mut self, unread: Unread, now: u64, err: &mut E)
+        ensures tells { TellsListed self.old.passed.kept self.old.skipped now unread.others.items unread.skipped (E.contents err.old) (E.contents err.new) }
+        ensures skipped { self.new.skipped ≡ skipped_after self.old.skipped unread.skipped now }
+        ensures kept { Remembers self.old.passed.kept now unread.others.items self.new.passed.kept }
+        ensures rest { self.new ≡ record self.old { unread = None; skipped = self.new.skipped; passed = self.new.passed } }
+    {
+        let Unread { skipped, others } = unread;
+        self.passed.see(others, now, err);
+        self.skipped(skipped, now, err);
+        self.unread = None;
+    }
+
+    /// Tells what can't be done with the file that asks for this.
+    fn tell_trouble<E: Write>(&self, what: &str, trouble: &Trouble, err: &mut E)
+        ensures { TellsTrouble what.now trouble.now (E.contents err.old) (E.contents err.new) }
+    {
+        match name_of(self.alloc, trouble.request) {
+            Ok(name) => {
+                let file = FileFault {
+                    what,
+                    name: name.as_str(),
+                    fault: trouble.fault,
+                };
+                tell_file(self.alloc, &file, err);
+            }
+            Err(_) => tell_no_memory(err),
+        }
+    }
+
+    /// Tells that a file can't be read, at a moment, where that is told anew.
+    pub fn cannot_read<E: Write>(&mut self, trouble: &Trouble, now: u64, err: &mut E)
+        ensures tells { (told : Bool) × Notices (rank trouble.now.request) trouble.now.fault now told self.old.files.kept self.new.files.kept × TellsTroubleIf told (codes "cannot read") trouble.now (E.contents err.old) (E.contents err.new) }
+        ensures rest { self.new ≡ record self.old { files = self.new.files } }
+    {
+        if self.files.is_told(trouble, now) {
+            self.tell_trouble("cannot read", trouble, err);
+        }
+    }
+
+    /// Tells that a file can't be moved, at a moment, where that is told anew.
+    pub fn cannot_move<E: Write>(&mut self, trouble: &Trouble, now: u64, err: &mut E)
+        ensures tells { (told : Bool) × Notices (rank trouble.now.request) trouble.now.fault now told self.old.files.kept self.new.files.kept × TellsTroubleIf told (codes "cannot move") trouble.now (E.contents err.old) (E.contents err.new) }
+        ensures rest { self.new ≡ record self.old { files = self.new.files } }
+    {
+        if self.files.is_told(trouble, now) {
+            self.tell_trouble("cannot move", trouble, err);
+        }
+    }
+
+    /// Tells that a file of this name can't be moved.
+    pub fn stuck<E: Write>(&self, name: &str, fault: FolderFault, err: &mut E)
+        ensures { WasTold (file_text (codes "cannot move") (shown_name name.now) fault) (E.contents err.old) (E.contents err.new) }
+    {
+        let file = FileFault {
+            what: "cannot move",
+            name,
+            fault,
+        };
+        tell_file(self.alloc, &file, err);
+    }
+
+    /// A file was read, or moved.
+    pub fn is_done(&mut self, request: &Request)
+        ensures forgets { Updates nat_cmp self.old.files.kept self.new.files.kept (rank request.now) None }
+        ensures rest { self.new ≡ record self.old { files = self.new.files } }
+    {
+        self.files.done(*request);
+    }
+}

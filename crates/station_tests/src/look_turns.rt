@@ -1,0 +1,186 @@
+//! A look over several turns, and files whose names ask for nothing, on ample memory.
+
+use folders::{FileId, FolderFault, Found, Listing, Stamp};
+use looks::{Looking, Strays};
+use std::alloc::Global;
+use std::collections::BTreeMap;
+
+/// A piece of a look that has taken a millisecond so far.
+#[derive(Clone, Copy)]
+struct Piece {
+    /// The names that it found, each with the inode of its file.
+    files: &'static [(&'static str, u64)],
+    /// Whether the look has come to its end, at this moment in milliseconds.
+    is_end: bool,
+    now: u64,
+    /// How many requests and how many other files the look has found then; none where it has not come to its end.
+    found: Option<(usize, usize)>,
+}
+
+/// A look of two turns: a name that comes twice counts once, and one that is left alone does not count.
+const TWO_TURNS: &[Piece] = &[
+    Piece {
+        files: &[("13.tape", 1), ("story.tape", 2), (".12.tape", 3)],
+        is_end: false,
+        now: 10,
+        found: None,
+    },
+    Piece {
+        files: &[
+            ("12.seek", 4),
+            ("13.tape", 5),
+            ("story.tape", 2),
+            ("stop", 6),
+        ],
+        is_end: true,
+        now: 20,
+        found: Some((2, 1)),
+    },
+    Piece {
+        files: &[],
+        is_end: true,
+        now: 520,
+        found: Some((0, 0)),
+    },
+];
+
+fn stamp_of(inode: u64) -> Stamp {
+    Stamp {
+        file: FileId { device: 1, inode },
+        length: 3,
+        changed: (1, 0),
+        touched: (1, 0),
+    }
+}
+
+fn listing_of(alloc: Global, piece: &Piece) -> Option<Listing> {
+    let mut listing = Listing::new(alloc);
+    listing.is_end = piece.is_end;
+    listing.took = 1;
+    for (name, inode) in piece.files {
+        let name = String::from_str(alloc, name).ok()?;
+        let stamp = stamp_of(*inode);
+        listing.files.push(Found { name, stamp }).ok()?;
+    }
+    Some(listing)
+}
+
+/// How many requests and how many other files a look has found; none where it goes on.
+fn found_by(looking: &mut Looking, listing: Listing, now: u64) -> Option<Option<(usize, usize)>> {
+    match looking.take(listing, now) {
+        Some(Ok(seen)) => Some(Some((seen.requests.len(), seen.strays.len()))),
+        Some(Err(_)) => None,
+        None => Some(None),
+    }
+}
+
+/// The place of the first piece that finds anything else than it has to, or that comes before it is due.
+fn wrong_piece(alloc: Global, pieces: &[Piece]) -> usize {
+    let mut looking = Looking::new(alloc);
+    for (place, piece) in pieces.iter().enumerate() {
+        let Some(listing) = listing_of(alloc, piece) else {
+            return place;
+        };
+        let is_due = looking.is_due(piece.now);
+        if !is_due || found_by(&mut looking, listing, piece.now) != Some(piece.found) {
+            return place;
+        }
+    }
+    pieces.len()
+}
+
+#[test]
+fn a_look_goes_on_where_it_left_off(rt: HostRuntime) {
+    assert!(rt; wrong_piece(rt.alloc(), TWO_TURNS) == TWO_TURNS.len());
+}
+
+/// What happens to a file whose name asks for nothing. Moments are in milliseconds.
+#[derive(Clone, Copy)]
+enum Event {
+    /// A look at a moment finds it, with this inode, alone.
+    Seen(u64, u64),
+    /// It is to be moved, or is not.
+    Ripe(bool),
+    /// It can't be moved at a moment, which is to be told, or is not.
+    Stuck(u64, bool),
+    /// It is moved.
+    Moved,
+}
+
+use Event::{Moved, Ripe, Seen, Stuck};
+
+/// It is moved once it has stayed half a second, is tried again each minute, and what keeps it is told again after an hour.
+const STORY: &[Event] = &[
+    Ripe(false),
+    Seen(100, 1),
+    Ripe(false),
+    Seen(599, 1),
+    Ripe(false),
+    Seen(600, 2),
+    Ripe(false),
+    Seen(1100, 2),
+    Ripe(true),
+    Stuck(1100, true),
+    Ripe(false),
+    Seen(61_100, 2),
+    Ripe(true),
+    Stuck(61_100, false),
+    Seen(3_601_099, 2),
+    Ripe(true),
+    Stuck(3_601_099, false),
+    Seen(3_661_100, 2),
+    Ripe(true),
+    Stuck(3_661_100, true),
+    Seen(3_721_100, 2),
+    Ripe(true),
+    Moved,
+    Ripe(false),
+    Seen(3_731_100, 2),
+    Ripe(false),
+];
+
+fn is_seen(alloc: Global, strays: &mut Strays, now: u64, inode: u64) -> bool {
+    let mut found = BTreeMap::new(alloc);
+    let Ok(name) = String::from_str(alloc, "story.tape") else {
+        return false;
+    };
+    found.insert(name, stamp_of(inode)).is_ok() && strays.see(found, now).is_ok()
+}
+
+/// Whether it is told that the next file can't be moved; none where there is no such file.
+fn is_told(strays: &Strays, now: u64) -> Option<bool> {
+    let sighting = strays.first()?.sighting;
+    Some(sighting.is_to_be_told(FolderFault::NotAllowed, now))
+}
+
+fn goes_so(alloc: Global, strays: &mut Strays, event: Event) -> bool {
+    match event {
+        Seen(now, inode) => is_seen(alloc, strays, now, inode),
+        Ripe(is_ripe) => strays.find() == is_ripe && strays.first().is_some() == is_ripe,
+        Stuck(now, told) => {
+            let is_right = is_told(strays, now) == Some(told);
+            strays.could_not(FolderFault::NotAllowed, now);
+            is_right
+        }
+        Moved => {
+            strays.moved();
+            true
+        }
+    }
+}
+
+/// The place of the first event that goes otherwise.
+fn wrong_event(alloc: Global, events: &[Event]) -> usize {
+    let mut strays = Strays::new(alloc);
+    for (place, event) in events.iter().enumerate() {
+        if !goes_so(alloc, &mut strays, *event) {
+            return place;
+        }
+    }
+    events.len()
+}
+
+#[test]
+fn a_file_of_no_number_is_moved_and_told(rt: HostRuntime) {
+    assert!(rt; wrong_event(rt.alloc(), STORY) == STORY.len());
+}
