@@ -1,11 +1,14 @@
 -- What comes of asking a station for a file.
-use Rattle.std.specs.Prelude.{◌≡◌, ℕ, Result, Ok, Err}
+use Rattle.std.specs.Prelude.{◌≡◌, ℕ, Option, None, Result, Ok, Err}
+use Rattle.protocol.specs.Ballots.{Ballot}
 use Rattle.protocol.specs.Refusals.{Call as StationCall}
 use Rattle.saved_rows.specs.declared.rows.Rows.{Ghosts}
 use Rattle.station.specs.declared.answer.Answer.{Answer}
 use Rattle.refusals.specs.declared.refusal.StepRefusal.{StepRefusal}
 use Rattle.station.specs.declared.station.Station.{Station}
 use Rattle.station.specs.Steps.{IsStep}
+use Rattle.folders.specs.declared.names.Kind.{Kind}
+use Rattle.folders.specs.declared.names.Kind.TheVariants as kinds
 use Rattle.driver.specs.declared.calls.Call.{Call}
 use Rattle.driver.specs.declared.run_loop.Reply.{Reply}
 use Rattle.driver.specs.declared.run_loop.Reply.TheVariants as replies
@@ -21,3 +24,8 @@ abbrev pub IsAskedBy : {R : Type 0} → Ghosts R → (StationCall → Type 0) �
 IsAskedBy g may now old new replies.Unknown = new ≡ old
 IsAskedBy g may now old new (replies.Done answer length) = (call : Call) × may (call_of call now) × IsStep g (call_of call now) old new (Ok answer)
 IsAskedBy g may now old new (replies.Refused refusal) = (call : Call) × may (call_of call now) × IsStep g (call_of call now) old new (Err refusal)
+
+-- the ballot of what a file of this kind asks for, where votes are awaited of it: a search may find nothing, and then none come
+abbrev pub awaited : Kind → Option Ballot → Option Ballot
+awaited kinds.Seek ballot = None
+awaited kind ballot = ballot

@@ -3,7 +3,7 @@
 ghost use Rattle.std.specs.Prelude.{◌≡◌, []};
 ghost use Rattle.wire.specs.Passing.{Passes};
 ghost use Rattle.exchange.specs.Events.{ended};
-ghost use Rattle.driver.specs.Replies.{IsAskedBy, reply_of};
+ghost use Rattle.driver.specs.Replies.{IsAskedBy, awaited, reply_of};
 ghost use Rattle.driver.specs.Driving.{Anyhow, Drove, DroveUpTo, fate_of, known, post_of};
 
 use crate::calls::ask;
@@ -12,9 +12,10 @@ use crate::driver::Driver;
 use crate::log::Log;
 use crate::pacing::asking_of;
 use crate::sink::Step;
+use ballots::Ballot;
 use command_ends::{End, Fault};
 use exchange::{pass_over, tell_lost, tell_strangers};
-use folders::Request;
+use folders::{Kind, Request};
 use pace::Work;
 use saved_rows::Rows;
 use station::{Answer, Station, StepRefusal};
@@ -62,6 +63,16 @@ fn reply_of(length: usize, answer: Result<Answer, StepRefusal>) -> Reply
     }
 }
 
+/// The ballot of what was asked for, where votes are awaited of it: of a search none may come, so it keeps no other work waiting.
+fn awaited(request: &Request, ballot: Option<Ballot>) -> Option<Ballot>
+    ensures { result ≡ awaited request.now.kind ballot }
+{
+    match request.kind {
+        Kind::Seek => None,
+        Kind::Tape | Kind::Text | Kind::Withdraw => ballot,
+    }
+}
+
 /// Asks the station for a file, at a moment in milliseconds.
 fn ask_by<R: Rows, S: Desk>(
     station: &mut Station<R>,
@@ -95,7 +106,7 @@ impl<'a, R: Rows, N: Wire, S: Desk> Driver<'a, R, N, S> {
     {
         match ask_by(self.station, &self.sink, request, now) {
             Reply::Done { answer, length } => {
-                let ballot = self.station.open_ballot(request.number);
+                let ballot = awaited(request, self.station.open_ballot(request.number));
                 self.pacing
                     .begin(asking_of(ballot, request.number, length), now);
                 let step = Step {
