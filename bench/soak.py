@@ -26,25 +26,16 @@ import sys
 import tempfile
 import time
 
+from corrections import CONFIG, LINES
 from kills import EXAMPLES, MEMBERS, Network, Wrong
 
 LOSS = 0.05
-# two lines that set by the examples' table and widths: a story is some of them, as the binary digits of its own number
-LINES = (bytes.fromhex('01020301030204'), bytes.fromhex('01010101010104'))
+# a story is some of the two lines, as the binary digits of its own number
 DIGITS = 17
 # how much more memory a plant may have at the end of a life than a third into it
 FLAT = 1.04
 # how long what waits may take at the end, in seconds
 SECONDS = 120
-CONFIG = """circuit = 7
-member = {member}
-table = "codes.toml"
-widths = "widths.toml"
-rows = "station.db"
-[folders]
-offers = "offers"
-releases = "releases"
-{stations}"""
 
 
 def story(number):

@@ -128,4 +128,21 @@ def given_up_and_begun_again(at):
     stage.wants('13 replaced while it was under way' in told(at, 'log1'), f'{told(at, "log1")}')
 
 
-PLAYS = [sent, late, refused, replaced_while_under_way, given_up_and_begun_again]
+# how many searches, and how long a story behind them may take, in seconds: where no vote of a search is awaited they take less than one
+SEARCHES = 40
+BEHIND = 8
+
+
+def a_story_behind_searches(at):
+    """Searches that find nothing keep a story waiting that is laid behind them only until each of them was made once."""
+    ports = plants.configure(at)
+    plants.bring_up(at, ports, (1, 2, 3))
+    search(at, (1,), range(101, 101 + SEARCHES))
+    time.sleep(LOOKS)
+    lay_at_first(at, '12.tape', at.read(STORY))
+    stage.within(BEHIND, lambda: os.path.lexists(at.path('offers1/sent/12.tape')), '12.tape was sent')
+    for member in (1, 2, 3):
+        come(at, f'releases{member}/12.galley')
+
+
+PLAYS = [sent, late, refused, replaced_while_under_way, given_up_and_begun_again, a_story_behind_searches]
