@@ -1,7 +1,7 @@
 #!/usr/bin/env python3
 """Bursts of stories: how many plants hear of each, with how many ballots, and how long it takes beside the work alone.
 
-    bench/burst.py [--runs N] [--loss P] [--etcd] PROGRAM [CASE ..]
+    bench/burst.py [--runs N] [--loss P] [--rows] [--etcd] PROGRAM [CASE ..]
 
 For each case plants `run` on 127.0.0.1, stories are laid among their offers all at once, and it is waited until each offer has left
 and each story stands in all folders `releases`, or 10 s after the last offer left. A line is printed for each run:
@@ -10,6 +10,7 @@ and each story stands in all folders `releases`, or 10 s after the last offer le
     dropped    datagrams that a plant's own receive buffer had no room for, of all that the plants' sockets were handed (the column
                `drops` of the host's table of UDP sockets)
     lacks      how many stories each plant lacks at the end
+    rows       with --rows: of how many numbers each plant has a saved row and no story, and the first of them
     took       from the first `N began B` to the last galley anywhere
     alone      the work alone, on the same disk right after the run: the same row saves, and the same files written and synced, by
                as many processes at once as there are plants, the median of three; and how many times that the burst took
@@ -33,6 +34,8 @@ Cases (all where none is named):
     member-flood         200 at one of two while the third member's address sends nonsense, short and long, as fast as it can
 
 With --loss the plants stand in namespaces, over the switch of net.py, and each datagram is lost with that chance (root is needed).
+With --rows `circuitd rows` lists the rows of each plant once it was killed, and the status is 1 where a number has a row at a plant whose
+story is not there 10 s after the last offer left.
 With --etcd, where etcd and etcdctl are installed: how long 1,000 puts take that are watched on three nodes on the same disk.
 """
 import argparse
@@ -187,15 +190,18 @@ class Plant:
         with open(os.path.join(self.home, 'station.toml'), 'w') as config:
             config.write(f'circuit = 7\nmember = {member}\ntable = "codes.toml"\nwidths = "widths.toml"\nrows = "station.db"\n'
                          f'[folders]\noffers = "offers"\nreleases = "releases"\n{stations}')
-        env = dict(os.environ, LD_PRELOAD=preload) if preload else None
-        self.process = subprocess.Popen([*words, program, 'run', 'station.toml', '--create', '--layout', layout, '--verbose'], cwd=self.home, env=env,
-                                        stdout=subprocess.DEVNULL, stderr=subprocess.PIPE)
+        self.env = dict(os.environ, LD_PRELOAD=preload) if preload else None
+        self.words = [*words, program, 'run', 'station.toml', '--verbose']
         self.ballots, self.given_up, self.began, self.other = 0, set(), {}, []
-        self.reader = threading.Thread(target=self.read, daemon=True)
+        self.start('--create', '--layout', layout)
+
+    def start(self, *making):
+        self.process = subprocess.Popen([*self.words, *making], cwd=self.home, env=self.env, stdout=subprocess.DEVNULL, stderr=subprocess.PIPE)
+        self.reader = threading.Thread(target=self.read, args=(self.process.stderr,), daemon=True)
         self.reader.start()
 
-    def read(self):
-        for line in self.process.stderr:
+    def read(self, lines):
+        for line in lines:
             now = time.time()
             words = line.split()
             if len(words) == 3 and words[1] == b'began':
@@ -255,6 +261,17 @@ def handed(plants):
     return count
 
 
+def write_files(home, number, frames):
+    """The files of a release, written, synced and named as a plant does it."""
+    for kind, text in (('tape', frames), ('galley', b'0001 J 0 0 a b _4 a _4 b\n' * (len(frames) // 7))):
+        part = os.path.join(home, f'.{kind}')
+        file = os.open(part, os.O_CREAT | os.O_WRONLY | os.O_TRUNC)
+        os.write(file, text)
+        os.fsync(file)
+        os.close(file)
+        os.rename(part, os.path.join(home, f'{number}.{kind}'))
+
+
 def save_alone(folder, place, count, frames, moves):
     """The saves and the files of so many stories at one plant, one after the other."""
     home = os.path.join(folder, f'alone{place}')
@@ -273,13 +290,7 @@ def save_alone(folder, place, count, frames, moves):
             os.pwrite(log, b'\1', at + size * PAGE)
             os.fdatasync(log)
             at += size * PAGE
-        for kind, text in (('tape', frames), ('galley', b'0001 J 0 0 a b _4 a _4 b\n' * (len(frames) // 7))):
-            part = os.path.join(home, f'.{kind}')
-            file = os.open(part, os.O_CREAT | os.O_WRONLY | os.O_TRUNC)
-            os.write(file, text)
-            os.fsync(file)
-            os.close(file)
-            os.rename(part, os.path.join(home, f'{number}.{kind}'))
+        write_files(home, number, frames)
         if number % moves == 0:
             os.fsync(room)
     os.close(log)
@@ -340,7 +351,7 @@ def probe(case, plants, laid):
         time.sleep(0.3 + case.count / 4000)
 
 
-def run(program, case, folder, preload, net):
+def run(program, case, folder, preload, net, lists_rows):
     """One burst; what became of it."""
     addresses = [('127.0.0.1', port) for port in free_ports(case.members)]
     if net:
@@ -407,7 +418,14 @@ def run(program, case, folder, preload, net):
         for plant in plants:
             plant.process.kill()
             plant.process.wait()
+    told['rows'] = [sorted(rows_of(program, plant.home) - plant.released()) for plant in plants] if lists_rows else []
     return told
+
+
+def rows_of(program, home):
+    """The numbers that a plant that has ended has a saved row of."""
+    listed = subprocess.run([program, 'rows', 'station.db'], cwd=home, capture_output=True, text=True, check=True)
+    return {int(line.split()[0]) for line in listed.stdout.splitlines()[1:]}
 
 
 def differing(plants, wanted):
@@ -454,14 +472,14 @@ def etcd(folder):
             each.wait()
 
 
-def measured(program, case, folder, loss):
+def measured(program, case, folder, loss, lists_rows):
     """One burst in a folder, and how long the work alone takes there."""
     preload = None
     if case.trouble == 'slow':
         preload = os.path.join(folder, 'slow.so')
         subprocess.run(['cc', '-shared', '-fPIC', '-O2', '-x', 'c', '-', '-o', preload, '-ldl'], input=SLOW.encode(), check=True)
     with Net(case.members, loss) if loss else contextlib.nullcontext() as net:
-        told = run(program, case, folder, preload, net)
+        told = run(program, case, folder, preload, net, lists_rows)
     return told, alone(folder, case)
 
 
@@ -472,6 +490,7 @@ def line_of(name, told, floor):
              f'elsewhere {statistics.median(elsewhere):.0f}, at most {max(elsewhere):.0f} ms of {len(elsewhere)}' if elsewhere else 'elsewhere none',
              f'processor {told["processor"]:.2f} s']
     parts += [f'{what} {told[what]}' for what in ('stay', 'differ', 'strangers') if told[what]]
+    parts += [f'rows without a story {[len(each) for each in told["rows"]]}, {[each[:9] for each in told["rows"]]}'] if any(told['rows']) else []
     parts += [f'said {told["said"][:2]}'] if told['said'] else []
     return ' | '.join(parts)
 
@@ -480,6 +499,7 @@ def main():
     parser = argparse.ArgumentParser(description=__doc__, formatter_class=argparse.RawDescriptionHelpFormatter)
     parser.add_argument('--runs', type=int, default=1)
     parser.add_argument('--loss', type=float, default=0.0)
+    parser.add_argument('--rows', action='store_true')
     parser.add_argument('--etcd', action='store_true')
     parser.add_argument('program')
     parser.add_argument('cases', nargs='*', metavar='CASE')
@@ -490,19 +510,24 @@ def main():
     program = os.path.abspath(asked.program)
     # Fifteen plants and their watches hold some hundred files.
     resource.setrlimit(resource.RLIMIT_NOFILE, (4096, resource.getrlimit(resource.RLIMIT_NOFILE)[1]))
-    all_elsewhere = {}
+    all_elsewhere, runs, lacking = {}, 0, 0
     # All is removed at the end: a file system that has just removed files takes longer to make new ones.
     with tempfile.TemporaryDirectory(dir=os.getcwd()) as room:
         for name in asked.cases or CASES:
             for _ in range(asked.runs):
-                told, floor = measured(program, CASES[name], tempfile.mkdtemp(dir=room), asked.loss)
+                told, floor = measured(program, CASES[name], tempfile.mkdtemp(dir=room), asked.loss, asked.rows)
                 print(line_of(name, told, floor), flush=True)
+                runs, lacking = runs + 1, lacking + any(told['rows'])
                 all_elsewhere.setdefault(name, []).extend(told['elsewhere'])
             if asked.runs > 1 and all_elsewhere[name]:
                 print(f'{name:14} | elsewhere, median of {len(all_elsewhere[name])}: {statistics.median(all_elsewhere[name]):.0f} ms', flush=True)
+    if asked.rows:
+        print(f'in {runs - lacking} of {runs} runs each number that has a row at a plant has its story there')
     if asked.etcd:
         with tempfile.TemporaryDirectory(dir=os.getcwd()) as folder:
             etcd(folder)
+    return 1 if lacking else 0
 
 
-main()
+if __name__ == '__main__':
+    sys.exit(main())

@@ -204,7 +204,7 @@ class Plant:
 
     def see_own_names(self):
         own = [os.path.join(where, name) for each in ('offers', 'releases') for where, folders, names in os.walk(self.path(each))
-               for name in folders + names if name.startswith('.')]
+               for name in folders + names if name.startswith('.') and not name.startswith('.released')]
         if len(own) > 2 or any(not name.startswith(self.path('releases')) for name in own):
             raise Wrong(f'left under names of its own: {own}')
 

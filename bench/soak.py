@@ -14,7 +14,7 @@ Told are, and the status is 1 where one of them does not hold:
     memory     what each plant had of memory a third into its longest life and at the end of it, in kB (VmRSS): at most 4 % more, and how
                many bytes more that is for each story that was released there meanwhile
 
-How many stories the plants lack that did not offer them is told and not judged: nothing asks for what the network lost for good.
+How many stories the plants lack that did not offer them is told and not judged: a plant asks for what it heard of, and for nothing else.
 """
 import argparse
 import os
@@ -46,8 +46,12 @@ def story(number):
 class Lossy(Network):
     """A network that loses some datagrams, and passes the others on at once."""
 
+    def __init__(self, chance, loss=LOSS):
+        super().__init__(chance)
+        self.loss = loss
+
     def take(self, pair, datagram):
-        self.counts['lost'] += (lost := not self.calm and self.chance.random() < LOSS)
+        self.counts['lost'] += (lost := not self.calm and self.chance.random() < self.loss)
         if not lost:
             was, self.calm = self.calm, True
             super().take(pair, datagram)
@@ -84,8 +88,7 @@ class Plant:
         with open(f'/proc/{self.process.pid}/status') as status:
             for line in status:
                 if line.startswith('VmRSS:'):
-                    released = sum(name.endswith('.tape') for name in os.listdir(self.path('releases')))
-                    self.lives[-1].append((int(line.split()[1]), released))
+                    self.lives[-1].append((int(line.split()[1]), len(self.released())))
 
     def kill(self):
         if self.process.poll() is not None:
@@ -100,6 +103,10 @@ class Plant:
             file.write(story(number))
         os.rename(part, self.path('offers', f'{number}.tape'))
         self.laid.append(number)
+
+    def released(self):
+        """The numbers whose story lies among the releases."""
+        return {int(name[:-len('.tape')]) for name in os.listdir(self.path('releases')) if name.endswith('.tape') and not name.startswith('.')}
 
     def waiting(self):
         return [name for name in os.listdir(self.path('offers')) if name.endswith('.tape') and not name.startswith('.')]
@@ -145,11 +152,22 @@ def live(plants, network, words):
 
 def settle(plants, network):
     """Waits until all offers have left, and ends the plants."""
-    network.calm, until = True, time.monotonic() + SECONDS
+    network.calm = True
+    empty(plants, network)
+    end(plants, network)
+
+
+def empty(plants, network):
+    """Waits until all offers have left."""
+    until = time.monotonic() + SECONDS
     while any(plant.waiting() for plant in plants):
         if time.monotonic() > until:
             raise Wrong(f'these wait: {[plant.waiting()[:9] for plant in plants]}')
         network.pass_on_until(time.monotonic() + 0.1)
+
+
+def end(plants, network):
+    """Ends the plants well."""
     for plant in plants:
         with open(plant.path('offers', 'stop'), 'w'):
             pass
@@ -168,7 +186,7 @@ def tell(plants, count):
         lines = sum(1 for _ in open(plant.path('log'), 'rb'))
         life = max(plant.lives, key=len)
         (early, before), (late, after) = life[len(life) // 3], life[-1]
-        lacks = count - sum(name.endswith('.tape') for name in os.listdir(plant.path('releases')))
+        lacks = count - len(plant.released())
         more = 1024 * (late - early) / max(1, after - before)
         print(f'plant {member}: {len(plant.laid)} stories laid, all sent; {lines} lines, {lines / count:.2f} a story; memory {early} kB, then {late} kB, '
               f'{more:.0f} bytes a story; lacks {lacks}', flush=True)

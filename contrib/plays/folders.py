@@ -95,7 +95,7 @@ def releases_replaced_by_a_copy(at):
     at.plant('plant.toml', 'plant.db')
     plant = up(at)
     for number in (12, 13, 14):
-        stage.within(10, lambda: len(os.listdir(at.path('releases'))) >= 2, 'files lie ready')
+        stage.within(10, lambda: len(own_names(at)) >= 2, 'files lie ready')
         subprocess.run(['cp', '-a', at.path('releases'), at.path('copy')], check=True)
         os.rename(at.path('releases'), at.path(f'old{number}'))
         os.rename(at.path('copy'), at.path('releases'))
@@ -354,14 +354,15 @@ def a_stop_that_can_not_be_removed(at):
 
 
 def a_folder_that_is_not_searched(at):
-    """Offers that may be listed, and no more: that is told."""
+    """Offers that may be listed, and no more: that is told, and that it can't be seen what was sent before."""
     how = nobodys(at)
     lay(at, '12.tape', tape(at))
     os.chmod(at.path('offers'), 0o444)
     up(at, **how)
     tells(at, 'folders: cannot read offers: it is not allowed')
+    tells(at, 'folders: cannot read .released: it is not allowed; what is missing here is not asked for until the next start')
     time.sleep(0.6)
-    stage.wants(len(told(at)) == 1, f'{told(at)}')
+    stage.wants(len(told(at)) == 2, f'{told(at)}')
     os.chmod(at.path('offers'), 0o777)
     lies(at, 'offers/sent/12.tape')
 

@@ -134,7 +134,7 @@ BEHIND = 8
 
 
 def a_story_behind_searches(at):
-    """Searches that find nothing keep a story waiting that is laid behind them only until each of them was made once."""
+    """A story is asked for before searches that find nothing, laid behind them as it is."""
     ports = plants.configure(at)
     plants.bring_up(at, ports, (1, 2, 3))
     search(at, (1,), range(101, 101 + SEARCHES))

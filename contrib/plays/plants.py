@@ -35,14 +35,17 @@ def configure(at):
     return ports
 
 
-def bring_up(at, ports, members, words='--verbose'):
-    """Starts these for the first time, each with a log, of all where nothing else is said, and waits until they are up."""
+def bring_up(at, ports, members, words='--verbose', making='--create --layout 2'):
+    """Starts these, for the first time where nothing else is said, each with a log, of all where nothing else is said, waits until they are
+    up, and gives their processes."""
+    started = []
     for member in members:
         with open(at.path(f'log{member}'), 'wb') as log:
-            at.start(f'run plant{member}.toml --create --layout 2 {words}', stderr=log)
+            started.append(at.start(f'run plant{member}.toml {making} {words}', stderr=log))
     for member in members:
         at.port = ports[member - 1]
         stage.within(10, at.serves, 'each plant is up')
+    return started
 
 
 def three(at):

@@ -47,6 +47,7 @@ end_of_step steps.WrongCircuit = Input
 end_of_step steps.NotForMe = Input
 end_of_step steps.Stranger = Input
 end_of_step steps.BadNumber = Input
+end_of_step steps.NoSuchMember = Input
 end_of_step steps.AlreadyReleased = Input
 end_of_step steps.AlreadyOpen = Input
 end_of_step steps.WireTooOld = Input

@@ -39,6 +39,7 @@ fn refusal_word(refusal: StepRefusal) -> &'static str
         StepRefusal::NotForMe => Refusal::NotForMe.word(),
         StepRefusal::Stranger => "stranger",
         StepRefusal::BadNumber => "bad-number",
+        StepRefusal::NoSuchMember => "no-such-member",
         StepRefusal::AlreadyReleased => "already-released",
         StepRefusal::AlreadyOpen => "already-open",
         StepRefusal::WireTooOld => "wire-too-old",

@@ -5,3 +5,4 @@ mod host;
 mod plant_folders;
 mod row_file;
 mod starting;
+mod went_out;

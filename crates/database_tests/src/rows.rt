@@ -6,6 +6,7 @@ pub mod databases;
 pub mod deeds;
 mod entries;
 pub mod identities;
+mod known;
 mod listings;
 pub mod memory;
 pub mod samples;

@@ -10,7 +10,7 @@ use Rattle.protocol.specs.Packets.{Packet}
 use Rattle.protocol.specs.Versions.{Version}
 use Rattle.protocol.specs.Marks.{Mark}
 use Rattle.protocol.specs.Turn.{Event, number_of}
-use Rattle.protocol.specs.Refusals.{Call, Offering, Seeking, Falling_due, Receiving}
+use Rattle.protocol.specs.Refusals.{Call, Offering, Seeking, Falling_due, Receiving, Recalling}
 use Rattle.protocol.specs.Circuit as circuit
 use Rattle.protocol.specs.Circuit.{Datagram, with_at, saved, offers_with, releases_with, History, goes_on, is_done, StepsTo}
 use Rattle.protocol.proofs.Places.{among_left, among_right}
@@ -27,7 +27,7 @@ use Rattle.station.specs.declared.answer.Answer.{Answer}
 use Rattle.station.specs.declared.answer.Release.{Release}
 use Rattle.station.specs.declared.station.Station.{Station}
 use Rattle.refusals.specs.declared.refusal.StepRefusal.{StepRefusal}
-use Rattle.refusals.specs.declared.refusal.StepRefusal.TheVariants.{Stopped, BadDatagram, WrongCircuit, NotForMe, Stranger, BadNumber, AlreadyReleased, AlreadyOpen, WireTooOld, TapeFaulty, RoundsSpent, Store, OutOfMemory}
+use Rattle.refusals.specs.declared.refusal.StepRefusal.TheVariants.{Stopped, BadDatagram, WrongCircuit, NotForMe, Stranger, BadNumber, NoSuchMember, AlreadyReleased, AlreadyOpen, WireTooOld, TapeFaulty, RoundsSpent, Store, OutOfMemory}
 use Rattle.station.specs.Readiness.{IsReleased, SetsEntry, slugs_of}
 use Rattle.station.specs.Stations.{sight, setup_of, wire_at}
 use Rattle.station.specs.Steps.{TakesStep, Steps, Asks, Done, Spent, IsStep, tears}
@@ -217,6 +217,7 @@ module _ {R : Type 0} (g : Ghosts R) (p : Plants) (z : StationCircuit) (is : IsO
     answered (Err NotForMe) d = refused NotForMe d.1
     answered (Err Stranger) d = refused Stranger d.1
     answered (Err BadNumber) d = refused BadNumber d.1
+    answered (Err NoSuchMember) d = refused NoSuchMember d.1
     answered (Err AlreadyReleased) d = refused AlreadyReleased d.1
     answered (Err AlreadyOpen) d = refused AlreadyOpen d.1
     answered (Err WireTooOld) d = refused WireTooOld d.1
@@ -231,6 +232,7 @@ sent_of w day m sent (Offering n entry now) it = tt
 sent_of w day m sent (Seeking n now) it = tt
 sent_of w day m sent (Falling_due now) it = tt
 sent_of w day m sent (Receiving bytes now) it = sent bytes it
+sent_of w day m sent (Recalling n to) it = tt
 
 pub was_sent : {R : Type 0} (g : Ghosts R) (p : Plants) (z : StationCircuit) (day : List Happened) (at : ℕ → Member R) (st : Stands g p z day at) (m : ℕ) (call : Call) → Came day m call → WasSent st.w.sent m call
 was_sent g p z day at st m call it = sent_of st.w day m (st.sent m) call it

@@ -6,7 +6,7 @@ use Rattle.protocol.specs.Packets.{Packet}
 use Rattle.protocol.specs.Marks.{Mark}
 use Rattle.protocol.specs.Proposals.{next_due}
 use Rattle.protocol.specs.Turn.{Event}
-use Rattle.protocol.specs.Refusals.{Setup, Call, Offering, Seeking, Falling_due, Receiving, due_event, arrival, event_of}
+use Rattle.protocol.specs.Refusals.{Setup, Call, Offering, Seeking, Falling_due, Receiving, Recalling, due_event, arrival, event_of}
 use Rattle.protocol.specs.Circuit as circuit
 use Rattle.protocol.specs.Circuit.{Datagram, Offer, IsTask, delivery, datagram_at, offers_with}
 use Rattle.protocol.proofs.Places.{among-append}
@@ -34,6 +34,7 @@ WasSent sent m (Offering n entry now) = Unit {0}
 WasSent sent m (Seeking n now) = Unit {0}
 WasSent sent m (Falling_due now) = Unit {0}
 WasSent sent m (Receiving bytes now) = IsAmong sent (record { to = m; bytes = bytes })
+WasSent sent m (Recalling n to) = Unit {0}
 
 -- a call is what some step of the circuit asks
 pub task_for : (sent : List Datagram) (m : ℕ) (call : Call) → WasSent sent m call → (s : circuit.Step) × IsTask sent s m call
@@ -43,6 +44,7 @@ task_for sent m (Falling_due now) came = (circuit.Falls_due m now, refl)
 task_for sent m (Receiving bytes now) came =
     let at = sent_at sent (record { to = m; bytes = bytes }) came in
     (circuit.Delivers at.0 now, ap (λ (o : Option Datagram). delivery o now) at.1)
+task_for sent m (Recalling n to) came = (circuit.Recalls m n to, refl)
 
 none_some : {A : Type 0} {a : A} → None ≡ Some a → ⊥
 none_some e = cc
@@ -68,3 +70,4 @@ call_adds s marks m os (Offering n entry now) e is = λ x i. elim (among-append 
 call_adds s marks m os (Seeking n now) e is = λ x i. inl (subst (λ (f : Event). IsAmong (offers_with os m f) x) (sym (some_is is)) i)
 call_adds s marks m os (Falling_due now) e is = due_adds m os e now (next_due s.seat.me now marks) is
 call_adds s marks m os (Receiving bytes now) e is = arrival_adds m os e bytes now (s.reads bytes) is
+call_adds s marks m os (Recalling n to) e is = λ x i. inl (subst (λ (f : Event). IsAmong (offers_with os m f) x) (sym (some_is is)) i)

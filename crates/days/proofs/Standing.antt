@@ -6,7 +6,7 @@ use Rattle.protocol.specs.Lists.{IsAmong}
 use Rattle.protocol.specs.Ballots.{IsMember}
 use Rattle.protocol.specs.Entries.{Entry}
 use Rattle.protocol.specs.Marks.{Mark}
-use Rattle.protocol.specs.Refusals.{Call, Offering, Seeking, Falling_due, Receiving}
+use Rattle.protocol.specs.Refusals.{Call, Offering, Seeking, Falling_due, Receiving, Recalling}
 use Rattle.protocol.specs.Circuit as circuit
 use Rattle.protocol.specs.Circuit.{Datagram, Offer, with_at, History}
 use Rattle.code_table.specs.Tables.{mean}
@@ -42,6 +42,7 @@ came_later y day m (Offering n entry now) it = tt
 came_later y day m (Seeking n now) it = tt
 came_later y day m (Falling_due now) it = tt
 came_later y day m (Receiving bytes now) it = (it.0, inr it.1, it.2)
+came_later y day m (Recalling n to) it = tt
 
 pub came_in_later : (y : Happened) (day : List Happened) (m : ℕ) (ending : Ending) → CameIn day m ending → CameIn (y ∷ day) m ending
 came_in_later y day m At_rest it = tt

@@ -2,7 +2,7 @@
 use Rattle.std.specs.Prelude.{◌≡◌, ℕ, List, Some, Result, Ok, Err, true}
 use Rattle.protocol.specs.Lists.{IsAmong}
 use Rattle.protocol.specs.Entries.{Entry}
-use Rattle.protocol.specs.Refusals.{Call, Offering, Seeking, Falling_due, Receiving}
+use Rattle.protocol.specs.Refusals.{Call, Offering, Seeking, Falling_due, Receiving, Recalling}
 use Rattle.station.specs.declared.answer.Answer.{Answer}
 use Rattle.station.specs.declared.answer.Release.{Release}
 use Rattle.refusals.specs.declared.refusal.StepRefusal.{StepRefusal}
@@ -45,6 +45,7 @@ IsOffering n entry (Offering k u now) = (n ≡ k) × (entry ≡ u)
 IsOffering n entry (Seeking k now) = ⊥
 IsOffering n entry (Falling_due now) = ⊥
 IsOffering n entry (Receiving bytes now) = ⊥
+IsOffering n entry (Recalling k to) = ⊥
 
 -- a process that ended so was in the call that offers this entry for this number
 abbrev pub OffersIn : ℕ → Entry → Ending → Type 0
@@ -77,6 +78,7 @@ Came day m (Offering n entry now) = Unit {0}
 Came day m (Seeking n now) = Unit {0}
 Came day m (Falling_due now) = Unit {0}
 Came day m (Receiving bytes now) = WasHandedOut day m bytes
+Came day m (Recalling n to) = Unit {0}
 
 -- so was that of the call that a process was in as it ended
 abbrev pub CameIn : List Happened → ℕ → Ending → Type 0

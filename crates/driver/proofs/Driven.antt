@@ -7,13 +7,15 @@ use Rattle.station.specs.declared.answer.Answer.{Answer}
 use Rattle.refusals.specs.declared.refusal.StepRefusal.{StepRefusal}
 use Rattle.station.specs.declared.station.Station.{Station}
 use Rattle.station.specs.Steps.{IsStep, tears, stopped_after}
-use Rattle.wire.specs.Passing.{Passed, told, Passes}
+use Rattle.recalls.specs.Recalls.{Recall}
+use Rattle.recalls.specs.Spelling.{spelling}
+use Rattle.wire.specs.Passing.{Passed, sent, told, Passes}
 use Rattle.command_ends.specs.Ends.{end_of, end_of_step, IsOfWriting}
 use Rattle.command_ends.specs.declared.end.End.{End}
 use Rattle.command_ends.specs.declared.end.End.TheVariants as ends
 use Rattle.command_ends.specs.declared.fault.Fault.{Fault}
 use Rattle.exchange.specs.Driving.{Rests}
-use Rattle.exchange.specs.Events.{Event, asked, took, coming, sending, going, passing, HasCause, ended}
+use Rattle.exchange.specs.Events.{Event, Aside, asked, took, aside, hailed, coming, sending, going, passing, passing_by, HasCause, ended}
 use Rattle.exchange.proofs.Stretches.{Passes-nil, Passes-then, takes_then, ends_badly, cause_then, refused_cause}
 use Rattle.driver.specs.declared.calls.Call.{Call}
 use Rattle.driver.specs.declared.calls.Call.TheVariants.{Offer, Withdraw, Seek}
@@ -39,6 +41,13 @@ pub asked_passes : (call : Call) (now : ℕ) (a : Option (List Passed)) → Pass
 asked_passes (Offer number tape) now a = Passes-nil a
 asked_passes (Withdraw number) now a = Passes-nil a
 asked_passes (Seek number) now a = Passes-nil a
+
+-- bytes that spell a recall, sent to the member that it is to, are what passes where it is sent
+pub hailing_passes : {N : Type 0} (passed : N → Option (List Passed)) (was is : N) (to : ℕ) (bytes : List ℕ) (r : Recall) → bytes ≡ spelling r → r.to ≡ to
+    → Passes (passed was) (passed is) (sent to bytes ∷ []) → Passes (passed was) (passed is) (passing_by (hailed r))
+hailing_passes passed was is to bytes r spelled same p =
+    subst (λ (l : List ℕ). Passes (passed was) (passed is) (sent r.to l ∷ [])) spelled
+    (subst (λ (m : ℕ). Passes (passed was) (passed is) (sent m bytes ∷ [])) (sym same) p)
 
 module _ {R N S : Type 0} (k : Known R N S) where
   -- the form of a log that ended well, seen as another
@@ -138,6 +147,39 @@ module _ {R N S : Type 0} (k : Known R N S) (may : S → StationCall → Type 0)
       → Rests k.passed s t w v → (end ≡ ends.Done → F []) → HasCause [] s.stopped s.stopped end → Drove k (post s w o) (post t v o) end F
   rested s t w v o end F rests form cause =
       subst (λ (x : Station R). Drove k (post s w o) (post x v o) end F) (sym rests.same) (nothing s w v o end F rests.passes form cause)
+
+  -- the sink rested before
+  pub behind_rest : (s : Station R) (w : N) (o u : S) (new : Post R N S) (end : End) (F : List Event → Type 0)
+      → k.fate.lived o u [] → Drove k (post s w u) new end F → Drove k (post s w o) new end F
+  behind_rest s w o u new end F q a = record {
+    log = a.log;
+    driven = record {
+      steps = a.driven.steps;
+      passes = a.driven.passes;
+      front = fates.joins_front o u new.sink [] a.log q a.driven.front;
+      whole = λ done. fates.joins o u new.sink [] a.log q (a.driven.whole done);
+      cause = a.driven.cause;
+    };
+    form = a.form;
+  }
+
+  -- something passed beside the packets of the station, which stayed
+  pub passed_by : (what : Aside) (s t : Station R) (w v : N) (o u : S) (end : End) (F : List Event → Type 0)
+      → t ≡ s → Passes (k.passed w) (k.passed v) (passing_by what) → k.fate.lived o u [] → (end ≡ ends.Done → F (aside what ∷ []))
+      → HasCause (aside what ∷ []) s.stopped s.stopped end → Drove k (post s w o) (post t v u) end F
+  passed_by what s t w v o u end F same p q form cause =
+      let lived = fates.joins o o u (aside what ∷ []) [] (fates.besides o what) q in
+      subst (λ (x : Station R). Drove k (post s w o) (post x v u) end F) (sym same) (record {
+        log = aside what ∷ [];
+        driven = record {
+          steps = λ kept. refl;
+          passes = subst (λ (l : List Passed). Passes (k.passed w) (k.passed v) l) (sym (append-nil (passing_by what))) p;
+          front = fates.begins o u (aside what ∷ []) lived;
+          whole = λ done. lived;
+          cause = cause;
+        };
+        form = form;
+      })
 
   -- one step was taken, and what it handed out was handed on
   one : (call : StationCall) (answer : Result Answer StepRefusal) (old new : Post R N S) (mid : N) (end : End) (F : List Event → Type 0)

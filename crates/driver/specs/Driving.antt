@@ -10,7 +10,7 @@ use Rattle.wire.specs.Passing.{Passed, Passes}
 use Rattle.command_ends.specs.declared.end.End.{End}
 use Rattle.command_ends.specs.declared.end.End.TheVariants as ends
 use Rattle.command_ends.specs.declared.fault.Fault.{Fault}
-use Rattle.exchange.specs.Events.{Event, asked, took, passing, Takes, HasCause, ended}
+use Rattle.exchange.specs.Events.{Event, asked, took, aside, heard, passing, Takes, HasCause, ended}
 use Rattle.driver.specs.declared.driver.Driver.{Driver}
 use Rattle.driver.specs.declared.sink.Sink.{Ghosts as SinkGhosts}
 
@@ -62,9 +62,11 @@ pub record Drove {R N S : Type 0} (k : Known R N S) (old new : Post R N S) (end 
   pub driven : Driven k old new end log
   pub form : end ≡ ends.Done → Form log
 
--- one datagram at most was taken in
+-- one datagram at most was taken in, by the station or, where it has the mark of a recall, beside it
 abbrev pub IsTakingIn : ℕ → List Event → Type 0
-IsTakingIn now log = (log ≡ []) ⊎ ((bytes : List ℕ) × (answer : Result Answer StepRefusal) × (log ≡ took (Receiving bytes now) answer ∷ []))
+IsTakingIn now log =
+    (log ≡ []) ⊎ ((bytes : List ℕ) × (answer : Result Answer StepRefusal) × (log ≡ took (Receiving bytes now) answer ∷ []))
+    ⊎ ((rest : List ℕ) × (log ≡ aside (heard rest) ∷ []))
 
 -- it was seen to what is due
 abbrev pub IsSeeingToDue : ℕ → List Event → Type 0

@@ -1,9 +1,9 @@
 -- What becomes of a sink while its station takes steps, as a type that is one says it, and what has to hold of that.
 use Rattle.std.specs.Prelude.{ℕ, List, [], ◌∷◌, ◌++◌, Ok, Err}
-use Rattle.protocol.specs.Refusals.{Call, Offering, Seeking, Falling_due, Receiving}
+use Rattle.protocol.specs.Refusals.{Call, Offering, Seeking, Falling_due, Receiving, Recalling}
 use Rattle.station.specs.declared.answer.Answer.{Answer}
 use Rattle.refusals.specs.declared.refusal.StepRefusal.{StepRefusal}
-use Rattle.exchange.specs.Events.{Event, asked, took}
+use Rattle.exchange.specs.Events.{Event, Aside, asked, aside, took}
 
 -- a search, what is due and what comes need nothing of a sink; an offer may
 abbrev pub NeedsNothing : Call → Type 0
@@ -11,6 +11,7 @@ NeedsNothing (Offering n entry now) = ⊥
 NeedsNothing (Seeking n now) = Unit {0}
 NeedsNothing (Falling_due now) = Unit {0}
 NeedsNothing (Receiving bytes now) = Unit {0}
+NeedsNothing (Recalling n to) = Unit {0}
 
 -- this became of it by the step of whichever call may have been answered so
 abbrev pub ByAnswer : {S : Type 0} → (S → S → List Event → Type 0) → (S → Call → Type 0) → S → S → Answer → Type 0
@@ -20,8 +21,11 @@ ByAnswer fate may old new answer = (call : Call) → may old call → fate old n
 pub record Fates {S : Type 0} (lived front : S → S → List Event → Type 0) (may : S → Call → Type 0) : Type 0 where
   -- where nothing happens it stays
   pub rests : (s : S) → lived s s []
-  -- that the clock is asked is nothing to it, nor that the station refuses what it may be asked
+  -- that the clock is asked is nothing to it
   pub clock : (s : S) (moment : ℕ) → lived s s (asked moment ∷ [])
+  -- nor what passes beside the station's packets
+  pub besides : (s : S) (what : Aside) → lived s s (aside what ∷ [])
+  -- nor that the station refuses what it may be asked
   pub refuses : (s : S) (call : Call) (refusal : StepRefusal) → may s call → lived s s (took call (Err refusal) ∷ [])
   -- it lives through what happens one after the other
   pub joins : (a b c : S) (xs ys : List Event) → lived a b xs → lived b c ys → lived a c (xs ++ ys)

@@ -3,3 +3,4 @@ pub mod Fates
 pub mod Driving
 pub mod Pacing
 pub mod Replies
+pub mod Todos

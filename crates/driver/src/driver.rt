@@ -11,7 +11,7 @@ ghost use Rattle.driver.specs.Driving.{DroveUpTo, post, post_of, IsTakingIn, IsS
 use crate::calls::{Call, ask};
 use crate::log::Log;
 use crate::pacing::Pacing;
-use crate::sink::{Sink, Step};
+use crate::sink::{Heard, Sink, Step};
 use command_ends::Fault;
 use exchange::{Intake, Outcome, pass_over, send_answer, take_datagram, tell_strangers};
 use saved_rows::Rows;
@@ -91,7 +91,9 @@ impl<'a, R: Rows, N: Wire, S: Sink> Driver<'a, R, N, S> {
             Outcome::Nothing => Ok(()),
             Outcome::Failed => Err(Fault::Socket("receive failed")),
             Outcome::Done { answer, said } => {
-                self.pacing.hear(said, now);
+                let heard = Heard::Taken(said);
+                self.pacing.hear(heard.said(), now);
+                self.sink.hear(&heard, now, log);
                 let step = Step {
                     answer,
                     moment: now,
@@ -99,10 +101,17 @@ impl<'a, R: Rows, N: Wire, S: Sink> Driver<'a, R, N, S> {
                 self.hand_on(&step, log)
             }
             Outcome::Refused { refusal, newer } => {
-                self.pacing.hear(None, now);
+                let heard = Heard::Refused(refusal);
+                self.pacing.hear(heard.said(), now);
                 self.intake.newer.tell(newer, now, log.err);
-                self.sink.hear_refusal(refusal, now, log);
+                self.sink.hear(&heard, now, log);
                 pass_over(refusal)
+            }
+            Outcome::Heard(found) => {
+                let heard = Heard::Recall(found);
+                self.pacing.hear(heard.said(), now);
+                self.sink.hear(&heard, now, log);
+                Ok(())
             }
         }
     }

@@ -4,14 +4,15 @@
 mod calls;
 mod desk;
 mod driver;
+mod errands;
 mod log;
 mod pacing;
 mod run_loop;
 mod sink;
 
 pub use calls::Call;
-pub use desk::{Denied, Desk};
+pub use desk::{Chance, Declined, Denied, Desk, Todo};
 pub use driver::Driver;
 pub use log::Log;
 pub use pacing::Tasks;
-pub use sink::{Sink, Step};
+pub use sink::{Heard, Sink, Step};

@@ -5,9 +5,10 @@ ghost use Rattle.wire.specs.Passing.{Passes};
 ghost use Rattle.exchange.specs.Events.{ended};
 ghost use Rattle.driver.specs.Replies.{IsAskedBy, awaited, reply_of};
 ghost use Rattle.driver.specs.Driving.{Anyhow, Drove, DroveUpTo, fate_of, known, post_of};
+ghost use Rattle.driver.specs.Todos.{IsGoodTodo};
 
 use crate::calls::ask;
-use crate::desk::{Denied, Desk};
+use crate::desk::{Chance, Denied, Desk, Todo};
 use crate::driver::Driver;
 use crate::log::Log;
 use crate::pacing::asking_of;
@@ -30,6 +31,13 @@ fn find<N: Wire, E: Write>(wire: &mut N, now: u64, log: &mut Log<'_, E>) -> bool
     tell_strangers(wire, now, log.err);
     tell_lost(wire, now, log.err);
     is_waiting
+}
+
+/// What a work finds: the moment in milliseconds, and whether a datagram waits in memory.
+#[derive(Clone, Copy)]
+struct Found {
+    now: u64,
+    waits: bool,
 }
 
 /// The run is not over by this.
@@ -128,12 +136,29 @@ impl<'a, R: Rows, N: Wire, S: Desk> Driver<'a, R, N, S> {
         }
     }
 
-    /// Does what there is to do with one file, at a moment in milliseconds: the station is asked for it, where it may be, or the desk does
-    /// it.
+    /// Does for the desk what is to be done, at a moment in milliseconds.
+    fn do_todo<E: Write>(
+        &mut self,
+        todo: &Todo,
+        now: u64,
+        log: &mut Log<'_, E>,
+    ) -> Result<(), Fault<'static>>
+        requires good { IsGoodTodo todo.now }
+        ensures station { self.new.station.ghost_name ≡ self.old.station.ghost_name }
+        ensures wire { self.new.wire.ghost_name ≡ self.old.wire.ghost_name }
+        ensures was_kept { R.kept self.new.station.now.rows → R.kept self.old.station.now.rows }
+        ensures drove { DroveUpTo Anyhow result R.Rows N.passed S.Sink self.old self.new }
+    {
+        match todo {
+            Todo::Ask(request) => self.ask_for(request, now, log),
+            Todo::Run(errand) => self.run_errand(errand, now, log),
+        }
+    }
+
+    /// Does a deed: the desk does it, or says what is to be done.
     fn do_deed<E: Write>(
         &mut self,
-        may_ask: bool,
-        now: u64,
+        chance: Chance,
         log: &mut Log<'_, E>,
     ) -> Result<(), Fault<'static>>
         ensures station { self.new.station.ghost_name ≡ self.old.station.ghost_name }
@@ -141,17 +166,17 @@ impl<'a, R: Rows, N: Wire, S: Desk> Driver<'a, R, N, S> {
         ensures was_kept { R.kept self.new.station.now.rows → R.kept self.old.station.now.rows }
         ensures drove { DroveUpTo Anyhow result R.Rows N.passed S.Sink self.old self.new }
     {
-        match self.sink.deed(may_ask, now, log) {
-            Some(request) => self.ask_for(&request, now, log),
+        match self.sink.deed(chance, log) {
+            Some(todo) => self.do_todo(&todo, chance.moment, log),
             None => Ok(()),
         }
     }
 
-    /// Does this work, at a moment in milliseconds; whether the run is over.
+    /// Does this work, where a datagram waits in memory or none does, at a moment in milliseconds; whether the run is over.
     fn work<E: Write>(
         &mut self,
         work: Work,
-        now: u64,
+        found: Found,
         log: &mut Log<'_, E>,
     ) -> Result<bool, Fault<'static>>
         ensures station { self.new.station.ghost_name ≡ self.old.station.ghost_name }
@@ -159,11 +184,19 @@ impl<'a, R: Rows, N: Wire, S: Desk> Driver<'a, R, N, S> {
         ensures was_kept { R.kept self.new.station.now.rows → R.kept self.old.station.now.rows }
         ensures drove { DroveUpTo Anyhow result R.Rows N.passed S.Sink self.old self.new }
     {
+        let now = found.now;
         match work {
             Work::Look => Ok(self.sink.look(now, log)),
             Work::TakeIn | Work::Wait => going_on(self.take_in(now, log)),
             Work::Due => going_on(self.see_to_due(now, log)),
-            Work::Deed { may_ask } => going_on(self.do_deed(may_ask, now, log)),
+            Work::Deed { may_ask } => {
+                let chance = Chance {
+                    may_ask,
+                    waits: found.waits,
+                    moment: now,
+                };
+                going_on(self.do_deed(chance, log))
+            }
         }
     }
 
@@ -175,10 +208,10 @@ impl<'a, R: Rows, N: Wire, S: Desk> Driver<'a, R, N, S> {
         ensures drove { DroveUpTo Anyhow result R.Rows N.passed S.Sink self.old self.new }
     {
         let now = self.wire.now();
-        let is_waiting = find(self.wire, now, log);
+        let waits = find(self.wire, now, log);
         let tasks = self.sink.tasks();
-        let work = self.pacing.next(is_waiting, tasks, now);
-        self.work(work, now, log)
+        let work = self.pacing.next(waits, tasks, now);
+        self.work(work, Found { now, waits }, log)
     }
 
     /// One work after the other, until the run is over.

@@ -1,13 +1,16 @@
 //! What becomes of the releases of a station.
 
-ghost use Rattle.std.specs.Prelude.{[], List, OnOk, OnErr, IfErr};
+ghost use Rattle.std.specs.Prelude.{◌≡◌, [], List, OnOk, OnErr, IfErr};
 ghost use Rattle.command_ends.specs.Ends.{IsOfWriting};
 ghost use Rattle.protocol.specs.Refusals.{Call};
 ghost use Rattle.exchange.specs.Events.{Event};
 ghost use Rattle.driver.specs.Fates.{ByAnswer, Fates};
+ghost use Rattle.driver.specs.Pacing.{said_of};
 
 use crate::log::Log;
 use command_ends::Fault;
+use exchange::Said;
+use recalls::{Recall, RecallFault};
 use station::{Answer, StepRefusal};
 use std::io::Write;
 
@@ -18,6 +21,29 @@ pub struct Step {
     pub answer: Answer,
     /// When it was taken, in milliseconds.
     pub moment: u64,
+}
+
+/// What a datagram was that was taken in.
+#[derive(Drop)]
+pub enum Heard {
+    /// A packet that the station took in; what its head says.
+    Taken(Option<Said>),
+    /// One that the station refused, and passed over unless it stopped the station.
+    Refused(StepRefusal),
+    /// One that has the mark of a recall, as it was read. The station was not called.
+    Recall(Result<Recall, RecallFault>),
+}
+
+impl Heard {
+    /// What the head of a packet says that the station took in; of any other datagram nothing.
+    pub(crate) fn said(&self) -> Option<Said>
+        ensures { result ≡ said_of self.now }
+    {
+        match self {
+            Heard::Taken(said) => *said,
+            Heard::Refused(_) | Heard::Recall(_) => None,
+        }
+    }
 }
 
 /// Where the releases of a station go, as they are printed, or written as files. Moments are in milliseconds.
@@ -38,8 +64,8 @@ pub trait Sink: Drop {
         ensures err { OnErr result (ByAnswer front may self.old self.new step.now.answer) }
         ensures fault { IfErr result IsOfWriting };
 
-    /// A datagram was refused, and passed over unless it stopped the station.
-    fn hear_refusal<E: Write>(&mut self, refusal: StepRefusal, now: u64, log: &mut Log<'_, E>)
+    /// A datagram was taken in.
+    fn hear<E: Write>(&mut self, heard: &Heard, now: u64, log: &mut Log<'_, E>)
         ensures { lived self.old self.new [] };
 
     ghost fates: { Fates lived front may };

@@ -13,7 +13,7 @@ use Rattle.command_ends.specs.declared.end.End.{End}
 use Rattle.command_ends.specs.declared.end.End.TheVariants as ends
 use Rattle.command_ends.specs.declared.fault.Fault.{Fault}
 use Rattle.command_ends.specs.declared.fault.Fault.TheVariants as faults
-use Rattle.exchange.specs.Events.{Event, asked, took, Takes, IsByStore, IsForMemory, Stops, HasCause}
+use Rattle.exchange.specs.Events.{Event, asked, took, aside, Takes, IsByStore, IsForMemory, Stops, HasCause}
 
 pub Passes-nil : (a : Option (List Passed)) → Passes a a []
 Passes-nil None = tt
@@ -28,6 +28,7 @@ Passes-then (Some x) (Some y) (Some z) bs cs p q = q ∙ ap (λ (l : List Passed
 pub takes_then : {R : Type 0} (g : Ghosts R) (a b c : Station R) (xs ys : List Event) → Takes g a b xs → Takes g b c ys → Takes g a c (xs ++ ys)
 takes_then {R = R} g a b c [] ys p q = subst (λ (s : Station R). Takes g s c ys) p q
 takes_then g a b c (asked m ∷ xs) ys p q = takes_then g a b c xs ys p q
+takes_then g a b c (aside what ∷ xs) ys p q = takes_then g a b c xs ys p q
 takes_then g a b c (took call answer ∷ xs) ys p q = (p.0, p.1, takes_then g p.0 b c xs ys p.2 q)
 
 stops_then : (xs ys : List Event) (new : Bool) (Kind : StepRefusal → Type 0) → Stops ys new Kind → Stops (xs ++ ys) new Kind
@@ -81,6 +82,7 @@ refused_cause call steps.WrongCircuit old new p = p
 refused_cause call steps.NotForMe old new p = p
 refused_cause call steps.Stranger old new p = p
 refused_cause call steps.BadNumber old new p = p
+refused_cause call steps.NoSuchMember old new p = p
 refused_cause call steps.AlreadyReleased old new p = p
 refused_cause call steps.AlreadyOpen old new p = p
 refused_cause call steps.WireTooOld old new p = p

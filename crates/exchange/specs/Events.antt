@@ -1,7 +1,7 @@
 -- What happened to a station on a wire, as a list: which steps it took, what passed over its wire for them, and why it came to an end.
 use Rattle.std.specs.Prelude.{◌≡◌, ◌⊎◌, ℕ, List, [], ◌∷◌, ◌++◌, map, Bool, true, Result, Ok, Err}
 use Rattle.protocol.specs.Circuit.{Datagram}
-use Rattle.protocol.specs.Refusals.{Call, Offering, Seeking, Falling_due, Receiving}
+use Rattle.protocol.specs.Refusals.{Call, Offering, Seeking, Falling_due, Receiving, Recalling}
 use Rattle.saved_rows.specs.declared.fault.RowsFault.TheVariants as row_faults
 use Rattle.saved_rows.specs.declared.rows.Rows.{Ghosts}
 use Rattle.station.specs.declared.answer.Answer.{Answer}
@@ -10,15 +10,28 @@ use Rattle.refusals.specs.declared.refusal.StepRefusal.TheVariants.{Store, OutOf
 use Rattle.station.specs.declared.station.Station.{Station}
 use Rattle.station.specs.Steps.{IsStep}
 use Rattle.wire.specs.Passing.{Passed, came, sent, told}
+use Rattle.recalls.specs.Recalls.{Recall}
+use Rattle.recalls.specs.Spelling.{spelling}
 use Rattle.command_ends.specs.Ends.{end_of}
 use Rattle.command_ends.specs.declared.end.End.{End}
 use Rattle.command_ends.specs.declared.end.End.TheVariants as ends
 use Rattle.command_ends.specs.declared.fault.Fault.{Fault}
 
--- the clock was asked, or the station was called and answered
+-- what passes over the wire beside the station's packets, which have another mark: bytes with the mark TR came, which no station is called
+-- with; or a recall was sent to the member that it is to
+pub data Aside : Type 0 where
+  heard : (rest : List ℕ) → Aside
+  hailed : (recall : Recall) → Aside
+
+-- the clock was asked, the station was called and answered, or something passed beside its packets
 pub data Event : Type 0 where
   asked : (moment : ℕ) → Event
   took : (call : Call) (answer : Result Answer StepRefusal) → Event
+  aside : (what : Aside) → Event
+
+-- these bytes have the mark of a recall
+abbrev pub HasMark : List ℕ → Type 0
+HasMark bytes = (rest : List ℕ) × (bytes ≡ 84 ∷ 82 ∷ rest)
 
 -- a datagram that comes is the one that the station is called with
 abbrev pub coming : Call → List Passed
@@ -26,6 +39,7 @@ coming (Offering n entry now) = []
 coming (Seeking n now) = []
 coming (Falling_due now) = []
 coming (Receiving bytes now) = came bytes ∷ []
+coming (Recalling n to) = []
 
 -- each datagram that the station hands out is sent to its addressee, once, in order
 abbrev pub sending : List Datagram → List Passed
@@ -36,15 +50,22 @@ abbrev pub going : Result Answer StepRefusal → List Passed
 going (Ok answer) = sending answer.out.items
 going (Err refusal) = []
 
+-- what passes over the wire beside the packets
+abbrev pub passing_by : Aside → List Passed
+passing_by (heard rest) = came (84 ∷ 82 ∷ rest) ∷ []
+passing_by (hailed recall) = sent recall.to (spelling recall) ∷ []
+
 -- what passes over the wire in an event
 abbrev pub passing : Event → List Passed
 passing (asked moment) = told moment ∷ []
 passing (took call answer) = coming call ++ going answer
+passing (aside what) = passing_by what
 
 -- these calls, one after the other, and nothing else changed the station
 abbrev pub Takes : {R : Type 0} → Ghosts R → Station R → Station R → List Event → Type 0
 Takes g old new [] = new ≡ old
 Takes g old new (asked moment ∷ rest) = Takes g old new rest
+Takes g old new (aside what ∷ rest) = Takes g old new rest
 Takes {R = R} g old new (took call answer ∷ rest) = (mid : Station R) × IsStep g call old mid answer × Takes g mid new rest
 
 -- the station was stopped by its rows, otherwise than for memory

@@ -4,19 +4,26 @@ ghost use Rattle.std.specs.Prelude.{[], ◌∷◌};
 ghost use Rattle.wire.specs.Passing.{sent, Passes};
 ghost use Rattle.exchange.specs.Events.{sending};
 
+use ballots::Member;
 use command_ends::Fault;
 use station::Datagram;
 use std::io::Write;
 use wire::Wire;
 
-/// Sends a datagram to its addressee. One that the wire does not take is lost, and `err` has it.
+/// Sends bytes to a member. Those that the wire does not take are lost, and `err` has it.
+pub fn send_bytes<N: Wire, E: Write>(to: Member, bytes: &[u8], wire: &mut N, err: &mut E)
+    ensures { Passes (N.passed wire.old) (N.passed wire.new) (sent to bytes.now ∷ []) }
+{
+    if !wire.send(to, bytes) {
+        let _ = Fault::SendFailed(to.get()).tell(err);
+    }
+}
+
+/// Sends a datagram to its addressee.
 fn send<N: Wire, E: Write>(datagram: &Datagram, wire: &mut N, err: &mut E)
     ensures { Passes (N.passed wire.old) (N.passed wire.new) (sent datagram.now.to datagram.now.bytes ∷ []) }
 {
-    let to = datagram.to();
-    if !wire.send(to, datagram.bytes()) {
-        let _ = Fault::SendFailed(to.get()).tell(err);
-    }
+    send_bytes(datagram.to(), datagram.bytes(), wire, err);
 }
 
 /// Sends datagrams, each once, in order.

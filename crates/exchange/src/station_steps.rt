@@ -1,10 +1,10 @@
 //! The steps that a station on a wire is driven by, whoever takes what it releases.
 
-ghost use Rattle.std.specs.Prelude.{◌≡◌, false, OnOk, IfErr};
+ghost use Rattle.std.specs.Prelude.{◌≡◌, true, false, OnOk, IfErr};
 ghost use Rattle.station.specs.Steps.{tears};
 ghost use Rattle.wire.specs.Passing.{Passes};
-ghost use Rattle.exchange.specs.Driving.{IsTakenIn};
-ghost use Rattle.exchange.specs.Events.{sending};
+ghost use Rattle.exchange.specs.Driving.{IsPacketTaken, IsTakenIn};
+ghost use Rattle.exchange.specs.Events.{sending, HasMark};
 ghost use Rattle.command_ends.specs.Ends.{end_of, end_of_step};
 
 use crate::layouts::newer_in;
@@ -12,6 +12,7 @@ use crate::said::{Said, said_in};
 use crate::sending::send_all;
 use ballots::Member;
 use command_ends::Fault;
+use recalls::{Recall, RecallFault, decode};
 use saved_rows::Rows;
 use station::{Answer, Station, StepRefusal};
 use std::io::Write;
@@ -34,6 +35,32 @@ pub enum Outcome {
         refusal: StepRefusal,
         newer: Option<Member>,
     },
+    /// One came that has the mark of a recall, as it was read. The station was not called.
+    Heard(Result<Recall, RecallFault>),
+}
+
+/// Whether bytes have the mark of a recall, as no packet has.
+fn has_mark(bytes: &[u8]) -> bool
+    ensures some { result ≡ true → HasMark bytes.now }
+    ensures none { result ≡ false → ¬ HasMark bytes.now }
+{
+    bytes.starts_with(b"TR")
+}
+
+/// The station takes in a packet, at a moment in milliseconds.
+fn take_packet<R: Rows>(station: &mut Station<R>, bytes: &[u8], now: u64) -> Outcome
+    ensures { IsPacketTaken R.Rows bytes.now now station.old station.new result }
+{
+    match station.receive(bytes, now) {
+        Ok(answer) => Outcome::Done {
+            answer,
+            said: said_in(bytes),
+        },
+        Err(refusal) => Outcome::Refused {
+            refusal,
+            newer: newer_in(refusal, bytes),
+        },
+    }
 }
 
 /// Takes in what comes, one datagram at most, at a moment in milliseconds. What the station hands out is not sent yet.
@@ -51,16 +78,11 @@ pub fn take_datagram<R: Rows, N: Wire>(
         Arrival::Datagram { length } => length,
         Arrival::Failed => return Outcome::Failed,
     };
-    match station.receive(&buffer[..length], now) {
-        Ok(answer) => Outcome::Done {
-            answer,
-            said: said_in(&buffer[..length]),
-        },
-        Err(refusal) => Outcome::Refused {
-            refusal,
-            newer: newer_in(refusal, &buffer[..length]),
-        },
+    let bytes = &buffer[..length];
+    if has_mark(bytes) {
+        return Outcome::Heard(decode(bytes));
     }
+    take_packet(station, bytes, now)
 }
 
 /// Sends what a step of the station hands out, each datagram once, in order. `err` has those that the wire does not take.

@@ -1,3 +1,5 @@
+pub mod Among
 pub mod Doings
+pub mod Ledgers
 pub mod NameEnds
 pub mod Steps

@@ -1,10 +1,13 @@
 pub mod Acting
+pub mod Changes
 pub mod Doings
 pub mod FaultWords
+pub mod GoneOut
 pub mod Leaving
 pub mod LogNames
 pub mod Offers
 pub mod OwnNames
+pub mod ReleaseNames
 pub mod Stamps
 pub mod Steps
 pub mod Written

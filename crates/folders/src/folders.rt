@@ -2,11 +2,14 @@
 
 ghost use Rattle.std.specs.Prelude.{◌≡◌, ◌≤◌, ◌<◌, List, [], ◌∷◌, Option, None, OnOk, OnErr, IfOk, IfErr, IfSome, IfNone, length, map, take};
 ghost use Rattle.folders.specs.Doings.{Doing, saw_file, read_file, wrote_file, moved_file, removed_file, Does, MayDo};
+ghost use Rattle.folders.specs.GoneOut.{StartsWith};
 
 use crate::fault::FolderFault;
 use crate::leaving::Leaving;
 use crate::named_file::NamedFile;
 use crate::stamp::Stamp;
+use ballots::Number;
+use gone_out::{Numbers, Origin};
 use std::alloc::Global;
 
 /// A plain file among the offers.
@@ -74,6 +77,17 @@ pub struct Unwritten {
     pub fault: FolderFault,
 }
 
+/// What went out at a plant.
+#[derive(Drop)]
+pub struct WentOut {
+    /// The numbers that went out.
+    pub numbers: Numbers,
+    /// At the first start that keeps it: the numbers that have a row and no file among the releases or among what was sent; none later.
+    pub missing: Option<Numbers>,
+    /// Whether a file of another station lay there, and was set aside.
+    pub set_aside: bool,
+}
+
 /// The folders of a plant. A call that fails leaves a file as it was, or not there.
 pub trait Folders {
     // What was done with them, in order, where that is known: which files of the offers were found and read, and which left them, and what
@@ -126,4 +140,25 @@ pub trait Folders {
     fn remove(&mut self, alloc: Global, name: &str) -> Result<(), FolderFault>
         ensures ok { OnOk result (Does (doings self.old) (doings self.new) (removed_file name.now ∷ [])) }
         ensures err { OnErr result (MayDo (doings self.old) (doings self.new) (removed_file name.now)) };
+
+    /// What went out here, as the file `.released` among the releases has it for this station. Where there is none of this station, it is
+    /// made whole: it is the first start that keeps it, and what has a row counts as gone out. `None` where nothing is kept of it, as by a
+    /// station without folders.
+    fn went_out(
+        &mut self,
+        alloc: Global,
+        own: &Origin,
+        known: &Numbers,
+    ) -> Result<Option<WentOut>, FolderFault>
+        ensures same { doings self.new ≡ doings self.old }
+        ensures starts { IfOk result (λ kept. IfSome kept (λ w. StartsWith known.now w.numbers w.missing)) };
+
+    /// These numbers went out: their files were written before. Their records are added once the disk has those files' names, at the next
+    /// look or before at the latest.
+    fn note_gone(&mut self, alloc: Global, numbers: &[Number]) -> Result<(), FolderFault>
+        ensures { doings self.new ≡ doings self.old };
+
+    /// The disk has the names of all files that were written, and the records of all numbers that were noted.
+    fn settle(&mut self, alloc: Global) -> Result<(), FolderFault>
+        ensures { doings self.new ≡ doings self.old };
 }

@@ -1,17 +1,26 @@
 //! Folders in memory, for tests.
 
-ghost use Rattle.std.specs.Prelude.{◌≡◌, ◌++◌, ◌∷◌, [], OnOk, OnErr, IfOk};
+ghost use Rattle.std.specs.Prelude.{◌≡◌, ◌++◌, ◌∷◌, [], Bool, List, OnOk, OnErr, IfOk};
 ghost use Rattle.folders.specs.Acting.{acts_of, act_of};
+ghost use Rattle.folders.specs.Changes.{after};
 ghost use Rattle.folders.specs.Doings.{wrote_file};
+ghost use Rattle.folders.specs.GoneOut.{StartsWith, IsOwnFile, AreThoseOf, HaveSame};
 
 use crate::acts::{Act, Noted};
+use crate::change::Change;
 use crate::fault::FolderFault;
-use crate::folders::{Folders, Found, Listing, Unwritten};
+use crate::first_start::{first_went_out, went_before};
+use crate::folders::{Folders, Found, Listing, Unwritten, WentOut};
 use crate::leaving::{Leaving, Place, text_name};
+use crate::ledger::Ledger;
 use crate::named_file::NamedFile;
 use crate::names::STOP;
 use crate::reading::{Opened, read_between, test_same};
+use crate::release_names::{release_number, sent_number};
+use crate::released::{Kept, copy_of, kept_of};
 use crate::stamp::{FileId, Stamp};
+use ballots::Number;
+use gone_out::{Numbers, Origin};
 use std::alloc::{AllocError, Global};
 
 /// A file among the offers.
@@ -70,6 +79,13 @@ impl Opened for OpenOffer {
     }
 }
 
+/// A station that keeps what went out.
+#[derive(Drop)]
+struct Keeper {
+    own: Origin,
+    ledger: Ledger,
+}
+
 /// Folders in memory. They can be told to refuse what is written among the releases, and to write an offer anew while it is read.
 #[derive(Drop)]
 pub struct MemoryFolders {
@@ -81,6 +97,10 @@ pub struct MemoryFolders {
     /// What was done, in order.
     acts: Vec<Act>,
     is_full: bool,
+    /// The bytes of the file `.released`; none where there is no file.
+    released: Vec<u8>,
+    /// Who keeps it.
+    keeper: Option<Keeper>,
 }
 
 impl MemoryFolders {
@@ -92,7 +112,111 @@ impl MemoryFolders {
             coming: None,
             acts: Vec::new(alloc),
             is_full: false,
+            released: Vec::new(alloc),
+            keeper: None,
         }
+    }
+
+    /// The bytes of the file `.released` among the releases; none where there is no file.
+    pub fn released(&self) -> &[u8]
+        ensures { result.now ≡ self.now.released.items }
+    {
+        &self.released
+    }
+
+    /// Lays the file `.released` among the releases, as a start before left it, in place of what is there. It is read at the next start.
+    pub fn lay_released(&mut self, alloc: Global, bytes: &[u8]) -> Result<(), AllocError>
+        ensures acts { self.new.acts ≡ self.old.acts }
+        ensures bytes { OnOk result (self.new.released.items ≡ bytes.now) }
+    {
+        self.released = Vec::from_slice(alloc, bytes)?;
+        self.keeper = None;
+        Ok(())
+    }
+
+    /// The numbers of which a file was written among the releases, or was sent.
+    fn files(&self, alloc: Global) -> Result<Numbers, AllocError> {
+        let mut found = Numbers::new(alloc)?;
+        for act in self.acts.iter() {
+            let number = match act {
+                Act::Wrote(file) => release_number(alloc, file.name())?,
+                Act::SetAside(name, Place::Sent) => sent_number(alloc, name)?,
+                _ => None,
+            };
+            if let Some(number) = number {
+                found.insert(number);
+            }
+        }
+        Ok(found)
+    }
+
+    /// Keeps what went out from now on, over what the file holds of this station. One whose head is damaged is written anew.
+    fn go_on(&mut self, alloc: Global, own: &Origin, kept: Kept) -> Result<WentOut, FolderFault>
+        ensures acts { self.new.acts ≡ self.old.acts }
+        ensures starts { IfOk result (λ w. (known : List Bool) → StartsWith known w.numbers w.missing) }
+        ensures same { IfOk result (λ w. HaveSame w.numbers kept.numbers) }
+    {
+        let went = went_before(alloc, &kept.numbers)?;
+        if !kept.has_head {
+            self.released.clear();
+        }
+        self.keeper = Some(Keeper {
+            own: *own,
+            ledger: Ledger::new(alloc, kept.numbers),
+        });
+        Ok(went)
+    }
+
+    /// Begins to keep what went out. What lay there goes aside.
+    fn begin(
+        &mut self,
+        alloc: Global,
+        own: &Origin,
+        known: &Numbers,
+    ) -> Result<WentOut, FolderFault>
+        ensures acts { self.new.acts ≡ self.old.acts }
+        ensures starts { IfOk result (λ w. StartsWith known.now w.numbers w.missing) }
+    {
+        let mut went = first_went_out(alloc, known, &self.files(alloc)?)?;
+        let ledger = Ledger::new(alloc, copy_of(alloc, known)?);
+        went.set_aside = !self.released.is_empty();
+        self.released.clear();
+        self.keeper = Some(Keeper { own: *own, ledger });
+        Ok(went)
+    }
+
+    /// Reads what went out, or begins to keep it where the file is not this station's.
+    fn start_keeping(
+        &mut self,
+        alloc: Global,
+        own: &Origin,
+        known: &Numbers,
+    ) -> Result<WentOut, FolderFault>
+        ensures acts { self.new.acts ≡ self.old.acts }
+        ensures starts { IfOk result (λ w. StartsWith known.now w.numbers w.missing) }
+        ensures kept { IsOwnFile self.old.released.items own.now → IfOk result (λ w. AreThoseOf w.numbers own.now self.old.released.items) }
+    {
+        match kept_of(alloc, &self.released, own)? {
+            Some(kept) => self.go_on(alloc, own, kept),
+            None => self.begin(alloc, own, known),
+        }
+    }
+
+    /// Adds the records of the numbers that wait for them.
+    fn write_records(&mut self, alloc: Global) -> Result<(), FolderFault>
+        ensures acts { self.new.acts ≡ self.old.acts }
+    {
+        let Some(keeper) = &mut self.keeper else {
+            return Ok(());
+        };
+        if self.is_full {
+            return Err(FolderFault::Full);
+        }
+        let len = self.released.len() as u64;
+        let change = keeper.ledger.change(alloc, &keeper.own, len)?;
+        changed(&mut self.released, change)?;
+        keeper.ledger.made();
+        Ok(())
     }
 
     /// Whether what is written among the releases is refused from now on.
@@ -220,9 +344,27 @@ impl MemoryFolders {
     }
 }
 
+/// The bytes of a file after a change.
+fn changed(bytes: &mut Vec<u8>, change: Change) -> Result<(), AllocError>
+    ensures { OnOk result (bytes.new.items ≡ after change bytes.old.items) }
+{
+    match change {
+        Change::Stays => Ok(()),
+        Change::Adds(records) => {
+            bytes.truncate(records.place as usize);
+            bytes.extend_from_slice(&records.bytes)
+        }
+        Change::Anew(whole) => {
+            *bytes = whole;
+            Ok(())
+        }
+    }
+}
+
 impl Folders for MemoryFolders {
-    ghost use Rattle.std.specs.Prelude.{Some};
+    ghost use Rattle.std.specs.Prelude.{◌≡◌, Some, IfOk, IfSome};
     ghost use Rattle.folders.specs.Acting.{acts_of};
+    ghost use Rattle.folders.specs.GoneOut.{StartsWith, IsOwnFile, AreThoseOf};
 
     ghost doings = { λ m. Some (acts_of m.acts.items) };
 
@@ -295,5 +437,33 @@ impl Folders for MemoryFolders {
     fn remove(&mut self, alloc: Global, name: &str) -> Result<(), FolderFault> {
         let own = String::from_str(alloc, name)?;
         self.leave(name, Act::TakenAway(own))
+    }
+
+    fn went_out(
+        &mut self,
+        alloc: Global,
+        own: &Origin,
+        known: &Numbers,
+    ) -> Result<Option<WentOut>, FolderFault>
+        ensures same { self.new.acts ≡ self.old.acts }
+        ensures starts { IfOk result (λ kept. IfSome kept (λ w. StartsWith known.now w.numbers w.missing)) }
+        ensures kept { IsOwnFile self.old.released.items own.now → IfOk result (λ kept. IfSome kept (λ w. AreThoseOf w.numbers own.now self.old.released.items)) }
+    {
+        let went = self.start_keeping(alloc, own, known)?;
+        self.write_records(alloc)?;
+        Ok(Some(went))
+    }
+
+    fn note_gone(&mut self, alloc: Global, numbers: &[Number]) -> Result<(), FolderFault> {
+        if let Some(keeper) = &mut self.keeper {
+            keeper.ledger.note(numbers)?;
+        }
+        // One that is refused is tried again as they are settled.
+        let _ = self.write_records(alloc);
+        Ok(())
+    }
+
+    fn settle(&mut self, alloc: Global) -> Result<(), FolderFault> {
+        self.write_records(alloc)
     }
 }

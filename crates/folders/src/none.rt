@@ -1,10 +1,12 @@
 //! No folders.
 
 use crate::fault::FolderFault;
-use crate::folders::{Folders, Listing, Unwritten};
+use crate::folders::{Folders, Listing, Unwritten, WentOut};
 use crate::leaving::Leaving;
 use crate::named_file::NamedFile;
 use crate::stamp::Stamp;
+use ballots::Number;
+use gone_out::{Numbers, Origin};
 use std::alloc::Global;
 
 /// The folders of a plant that has none: nothing lies among the offers, and what is written goes nowhere.
@@ -45,5 +47,22 @@ impl Folders for NoFolders {
 
     fn remove(&mut self, _alloc: Global, _name: &str) -> Result<(), FolderFault> {
         Err(FolderFault::Missing)
+    }
+
+    fn went_out(
+        &mut self,
+        _alloc: Global,
+        _own: &Origin,
+        _known: &Numbers,
+    ) -> Result<Option<WentOut>, FolderFault> {
+        Ok(None)
+    }
+
+    fn note_gone(&mut self, _alloc: Global, _numbers: &[Number]) -> Result<(), FolderFault> {
+        Ok(())
+    }
+
+    fn settle(&mut self, _alloc: Global) -> Result<(), FolderFault> {
+        Ok(())
     }
 }

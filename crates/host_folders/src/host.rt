@@ -1,11 +1,14 @@
 //! What a station asks of two folders of the host, call by call.
 
+use crate::gone::{GoneOut, Plant};
 use crate::maker::Maker;
 use crate::moving::set_aside;
 use crate::offers::Offers;
 use crate::places::Misplaced;
 use crate::releases::Releases;
-use folders::{FolderFault, Folders, Leaving, Listing, NamedFile, News, Stamp, Unwritten};
+use ballots::Number;
+use folders::{FolderFault, Folders, Leaving, Listing, NamedFile, News, Stamp, Unwritten, WentOut};
+use gone_out::{Numbers, Origin};
 use std::alloc::Global;
 use std::mem;
 
@@ -15,6 +18,7 @@ pub struct HostFolders<'a> {
     maker: Maker<'a>,
     offers: Offers,
     releases: Releases,
+    gone: GoneOut,
 }
 
 impl<'a> HostFolders<'a> {
@@ -39,6 +43,7 @@ impl<'a> HostFolders<'a> {
             maker,
             offers,
             releases,
+            gone: GoneOut::Early(Vec::new(rt.alloc())),
         })
     }
 
@@ -50,11 +55,17 @@ impl<'a> HostFolders<'a> {
         Ok(())
     }
 
+    /// Adds the records of what went out, once the disk has the names of its files.
+    fn settle_gone(&mut self) -> Result<(), FolderFault> {
+        self.releases.settle_names()?;
+        self.gone.write(&mut self.maker, &self.releases)
+    }
+
     /// Readies the folder of releases for what is written next.
     fn ready_releases(&mut self) {
         if self.releases.check(self.maker.rt).is_ok() {
             // Where the disk refuses the names, no file leaves the offers.
-            let _ = self.releases.settle_names();
+            let _ = self.settle_gone();
             self.releases.make_spares(&mut self.maker);
         }
     }
@@ -96,11 +107,40 @@ impl<'a> Folders for HostFolders<'a> {
         beside: Option<&str>,
     ) -> Result<(), FolderFault> {
         self.releases.settle_names()?;
+        // A record that is refused is tried again at the next look.
+        let _ = self.gone.write(&mut self.maker, &self.releases);
         self.check_offers()?;
         set_aside(&mut self.maker, self.offers.path(), leaving, beside)
     }
 
     fn remove(&mut self, _alloc: Global, name: &str) -> Result<(), FolderFault> {
         self.offers.remove(self.maker.rt, name)
+    }
+
+    fn went_out(
+        &mut self,
+        _alloc: Global,
+        own: &Origin,
+        known: &Numbers,
+    ) -> Result<Option<WentOut>, FolderFault> {
+        self.releases.check(self.maker.rt)?;
+        self.settle_gone()?;
+        let mut plant = Plant {
+            maker: &mut self.maker,
+            releases: &self.releases,
+            offers: self.offers.path(),
+        };
+        let went = self.gone.start(&mut plant, own, known)?;
+        Ok(Some(went))
+    }
+
+    fn note_gone(&mut self, _alloc: Global, numbers: &[Number]) -> Result<(), FolderFault> {
+        self.gone.note(numbers)
+    }
+
+    fn settle(&mut self, _alloc: Global) -> Result<(), FolderFault> {
+        self.releases.check(self.maker.rt)?;
+        self.settle_gone()?;
+        self.gone.sync()
     }
 }

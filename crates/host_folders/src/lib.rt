@@ -2,7 +2,9 @@
 #![tactic(auto)]
 
 mod copies;
+mod gone;
 mod guard;
+mod held;
 mod host;
 mod looks;
 mod maker;

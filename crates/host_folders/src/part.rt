@@ -1,5 +1,6 @@
 //! Files that are written under a name of their own until they are whole.
 
+use crate::held::Held;
 use crate::looks::{id_of, stamp_of, stands_at, within};
 use crate::maker::Maker;
 use folders::{FileId, FolderFault, is_own_name};
@@ -95,11 +96,20 @@ impl Part {
     /// Gives it its name once the disk has what it holds, or takes it away. It is seen to be the very file that was filled before and
     /// after: where another stands under either name, `Changed`. For the host renames by path, and the folder may be another by now.
     pub(crate) fn name_as(self, rt: &HostRuntime, path: &str) -> Result<(), FolderFault> {
-        let named = self.rename(rt, path);
-        if named.is_err() {
+        self.keep_as(rt, path)?;
+        Ok(())
+    }
+
+    /// The same, and the file stays open.
+    pub(crate) fn keep_as(self, rt: &HostRuntime, path: &str) -> Result<Held, FolderFault> {
+        if let Err(fault) = self.rename(rt, path) {
             self.discard(rt);
+            return Err(fault);
         }
-        named
+        Ok(Held {
+            file: self.file,
+            id: self.id,
+        })
     }
 
     /// Takes it away, where it has its own name still.

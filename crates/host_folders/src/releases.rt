@@ -56,6 +56,15 @@ impl Releases {
         Ok(())
     }
 
+    pub(crate) fn path(&self) -> &str {
+        self.guarded.path()
+    }
+
+    /// Waits until the disk has the names that are in the folder now.
+    pub(crate) fn sync(&self) -> Result<(), FolderFault> {
+        self.guarded.sync()
+    }
+
     /// Waits until the disk has the names of all files that were written.
     pub(crate) fn settle_names(&mut self) -> Result<(), FolderFault> {
         if self.has_new_names {

@@ -14,12 +14,15 @@ use crate::database::{Task, close_database, done_over};
 use crate::life::{begin_at, end_at};
 use crate::look::{test_begun, test_opening};
 use crate::making::make_at;
-use acceptor_store::SqliteRows;
+use acceptor_store::{FileFault, SqliteRows};
 use command_ends::End;
+use gone_out::Known;
+use known_rows::known_rows;
 use row_files::{Mark, RefusedRows, RowFiles};
 use saved_rows::Identity;
 use sqlite::{FileFrom, FileStore, Wary};
 use sqlite_disk::Disk;
+use std::alloc::Global;
 use std::io::Write;
 use tape_frames::Version;
 
@@ -123,6 +126,13 @@ impl RowFiles for HostFiles {
         match taken_in_life(rt, path, identity) {
             Ok(rows) => Ok(rows),
             Err(refused) => Err(refused),
+        }
+    }
+
+    fn known(&self, alloc: Global, rows: &mut Database) -> Result<Known, RefusedRows> {
+        match known_rows(alloc, rows) {
+            Ok(known) => Ok(known),
+            Err(fault) => Err(refused_by(FileFault::Rows(fault))),
         }
     }
 

@@ -165,6 +165,8 @@ module _ (s : Seat) where
         omega arith
     few_sent letters.Vote low high most None = omega arith
     few_sent letters.Vote low high most (Some v) = let e : length (to_others s n b (Accepted v.entry)) + 1 ≡ s.members = many_sent (Accepted v.entry) low high in omega arith
+    few_sent (letters.VoteTo to) low high most None = omega arith
+    few_sent (letters.VoteTo to) low high most (Some v) = omega arith
     few_sent (letters.Promise to) low high most vote = omega arith
     few_sent (letters.Nack to promised) low high most vote = omega arith
 

@@ -33,6 +33,7 @@ abbrev pub letter_sends : Seat → ℕ → Ballot → Option Vote → Letter →
 letter_sends s n b vote letters.Prepare = to_others s n b Prepare
 letter_sends s n b vote letters.Proposal = of_entry (proposal_to_others s n b) vote
 letter_sends s n b vote letters.Vote = of_entry (λ entry. to_others s n b (Accepted entry)) vote
+letter_sends s n b vote (letters.VoteTo to) = of_entry (λ entry. packet_to s n b (Accepted entry) to ∷ []) vote
 letter_sends s n b vote (letters.Promise to) = packet_to s n b (Promise (vote_below b vote)) to ∷ []
 letter_sends s n b vote (letters.Nack to promised) = packet_to s n b (Nack promised) to ∷ []
 
@@ -46,6 +47,7 @@ abbrev pub MayGo : Seat → ℕ → Ballot → Letter → Type 0
 MayGo s n b letters.Prepare = b.owner ≡ s.me
 MayGo s n b letters.Proposal = b.owner ≡ s.me
 MayGo s n b letters.Vote = Unit {0}
+MayGo s n b (letters.VoteTo to) = ¬ (s.me ≡ to)
 MayGo s n b (letters.Promise to) = IsTrue (keeps_rules (packet_to s n b (Promise None) to))
 MayGo s n b (letters.Nack to promised) = IsTrue (keeps_rules (packet_to s n b (Nack promised) to))
 

@@ -11,6 +11,8 @@ pub enum Letter {
     Proposal,
     /// The news of the row's vote, to all others.
     Vote,
+    /// The news of the row's vote, to this member.
+    VoteTo { to: Member },
     /// A Promise that reports the row's vote, to this member.
     Promise { to: Member },
     /// A Nack with the higher promise, to this member.

@@ -1,16 +1,17 @@
 //! The packets of a letter, each at its place.
 
 ghost use Rattle.std.specs.Prelude.{◌≡◌, ℕ, ◌≤◌, ◌<◌, ◌+◌, ◌∷◌, [], Some, IsTrue, length, slice_get};
+ghost use Rattle.protocol.specs.Packets.{Accepted};
 ghost use Rattle.protocol.specs.Turn.{packet_to, to_others, proposal_to_others, others};
 ghost use Rattle.protocol.specs.Limits.{most_members};
 ghost use Rattle.messages.specs.Bodies.{said};
 ghost use Rattle.tape_frames.specs.Entries.{lent_entry};
 ghost use Rattle.messages.specs.Rules.{keeps_rules, may_send, kind_of, may_say};
-ghost use Rattle.mail.specs.Mails.{MayGo, IsFew};
+ghost use Rattle.mail.specs.Mails.{MayGo, IsFew, of_entry};
 
 use crate::letter::Letter;
 use crate::seat::Seat;
-use ballots::{Ballot, Member, Number};
+use ballots::{Ballot, Member, Number, VoteRef};
 use messages::{BodyRef, PacketRef};
 use std::marker::Model;
 use tape_frames::EntryRef;
@@ -50,7 +51,8 @@ fn member(number: u8) -> Member
 
 impl Mail {
     /// The mail of this letter, whose packets have to keep the rules of packets: a Prepare or an Accept is at a ballot of the
-    /// sender's own; a Promise or a Nack goes to another member, at a ballot of that member's, and a Nack's promise is above it.
+    /// sender's own; a Promise or a Nack goes to another member, at a ballot of that member's, and a Nack's promise is above it;
+    /// the news of a vote goes to another member.
     /// It sends two packets to each of 14 others at most.
     pub fn new(seat: Seat, number: Number, ballot: Ballot, letter: Letter) -> Mail
         requires { MayGo seat number ballot letter }
@@ -158,6 +160,30 @@ impl Mail {
             return None;
         }
         Some(self.packet_to(to, body))
+    }
+
+    /// The packet at this place of the news of the vote, if there is one, to this member: there is only one.
+    pub(crate) fn news<'a>(
+        &self,
+        place: usize,
+        to: Member,
+        vote: &Option<VoteRef<'a>>,
+    ) -> Option<PacketRef<'a>>
+        requires { ¬ (self.now.seat.me ≡ to) }
+        ensures { result ≡ slice_get (of_entry (λ entry. packet_to self.now.seat self.now.number self.now.ballot (Accepted entry) to ∷ []) vote.now) place }
+    {
+        match vote {
+            None => None,
+            Some(vote) => {
+                self.reply(
+                    place,
+                    to,
+                    BodyRef::Accepted {
+                        entry: vote.entry(),
+                    },
+                )
+            }
+        }
     }
 
     /// The packet at this place of those that propose the entry, and then tell of the vote for it.

@@ -69,7 +69,8 @@ impl<'a> Outgoing<'a> {
             Letter::Prepare => others,
             Letter::Proposal if self.vote.is_some() => 2 * others,
             Letter::Vote if self.vote.is_some() => others,
-            Letter::Proposal | Letter::Vote => 0,
+            Letter::VoteTo { .. } if self.vote.is_some() => 1,
+            Letter::Proposal | Letter::Vote | Letter::VoteTo { .. } => 0,
             Letter::Promise { .. } | Letter::Nack { .. } => 1,
         }
     }
@@ -93,6 +94,7 @@ impl<'a> Outgoing<'a> {
                 )
             }
             (Letter::Proposal, None) | (Letter::Vote, None) => None,
+            (Letter::VoteTo { to }, vote) => mail.news(place, to, vote),
             (Letter::Promise { to }, vote) => {
                 let report = report_below(vote, mail.ballot());
                 mail.reply(place, to, BodyRef::Promise { report })

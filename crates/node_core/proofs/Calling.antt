@@ -5,7 +5,7 @@ use Rattle.protocol.specs.Rows.{Row}
 use Rattle.protocol.specs.Marks.{Mark}
 use Rattle.protocol.specs.Ballots.{Ballot, next}
 use Rattle.protocol.specs.Turn as said
-use Rattle.protocol.specs.Turn.{begin, due_turn, packet_turn}
+use Rattle.protocol.specs.Turn.{begin, due_turn, packet_turn, recall_turn}
 use Rattle.protocol.specs.Proposals.{open_proposal}
 use Rattle.protocol.specs.Packets.{Packet}
 use Rattle.tape_frames.specs.Entries.{owned_entry}
@@ -33,6 +33,9 @@ came_due s n j now marks row P same h = subst (λ i. TurnIs s (events.Due i now)
 
 pub packet_came : (s : Seat) (p : Packet) (now : ℕ) (marks : List Mark) (row : Row) (P : said.Turn → Type 0) → P (packet_turn s now marks row p p.body) → TurnIs s (events.Arrived p now) marks row P
 packet_came s p now marks row P h = record { free = tt; turn = packet_turn s now marks row p p.body; is_the_turn = refl; holds = h }
+
+pub recalled : (s : Seat) (n j to : ℕ) (marks : List Mark) (row : Row) (P : said.Turn → Type 0) → j ≡ n → P (recall_turn s n to marks row row.vote) → TurnIs s (events.Recall j to) marks row P
+recalled s n j to marks row P same h = subst (λ i. TurnIs s (events.Recall i to) marks row P) (sym same) (record { free = tt; turn = recall_turn s n to marks row row.vote; is_the_turn = refl; holds = h })
 
 -- a turn of which P holds is one of which Q holds
 pub turn_so :
@@ -62,6 +65,7 @@ module _ (A B : Type 0) (P Q : List Mark → Type 0) (stay : A → B) (stand : (
   refused_told (events.Seek n now) e h = start_refused e n h
   refused_told (events.Due n now) e h = h
   refused_told (events.Arrived p now) e h = h
+  refused_told (events.Recall n to) e h = h
 
 -- whether there is a next ballot
 pub next_told : (p q : Option Ballot) (m n : ℕ) (o : Option Ballot) (b : Bool) → p ≡ q → m ≡ n → o ≡ next p m → is_some o ≡ not b → is_some (next q n) ≡ not b

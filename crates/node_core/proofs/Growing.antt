@@ -11,7 +11,7 @@ use Rattle.protocol.specs.Marks.{Mark, Began, Promised, Proposed, Denied, Heard,
 use Rattle.protocol.specs.Proposals.{Opening, was_released, open_proposal, gathering_at, proposal_at, since_began, counted, is_counted, pick, is_due}
 use Rattle.protocol.specs.Learner.{ripe}
 use Rattle.protocol.specs.Turn as said
-use Rattle.protocol.specs.Turn.{hear, propose, begin, start_turn, renew, next_ballot, due_turn, promise_turn, nack_turn, reply_turn, take_vote, packet_turn}
+use Rattle.protocol.specs.Turn.{hear, propose, begin, start_turn, renew, next_ballot, due_turn, promise_turn, nack_turn, reply_turn, take_vote, packet_turn, recall_turn}
 use Rattle.node_core.specs.Standing.{Grows, marked_number}
 
 pub stays : (n : ℕ) (marks : List Mark) → Grows n marks marks
@@ -93,6 +93,15 @@ receives s now marks row p (Accept t) = replies s marks (next_row row (Accepts p
 receives s now marks row p (Accepted t) = hears s.members p.number p.from p.ballot t marks marks (stays p.number marks)
 receives s now marks row p (Nack a) = denies marks row p a (proposal_at p.number p.ballot marks)
 
+-- what is told again
+recalls : (s : Seat) (n to : ℕ) (marks : List Mark) (row : Row) (o : Option Vote) → Grows n marks (recall_turn s n to marks row o).marks
+recalls s n to marks row None = stays n marks
+recalls s n to marks row (Some v) = go (to == s.me) refl
+  where
+    go : (x : Bool) → (to == s.me) ≡ x → Grows n marks (recall_turn s n to marks row (Some v)).marks
+    go true e = rw e (hears s.members n s.me v.ballot v.entry marks marks (stays n marks))
+    go false e = rw e (stays n marks)
+
 -- the turn of any event
 starts : (s : Seat) (n : ℕ) (own : Option Entry) (now : ℕ) (marks : List Mark) (row : Row) (o : Option Ballot) (t : said.Turn) → start_turn s n own now marks row o ≡ Some t → Grows n marks t.marks
 starts s n own now marks row None t e = absurd cc
@@ -103,3 +112,4 @@ grows s marks row (said.Offered n entry now) t e = starts s n (Some entry) now m
 grows s marks row (said.Sought n now) t e = starts s n None now marks row (next row.promised s.me) t e
 grows s marks row (said.Came_due n now) t e = let is : due_turn s n now marks row (open_proposal n marks) ≡ t = cc in subst (λ (u : said.Turn). Grows n marks u.marks) is (falls_due s n now marks row (open_proposal n marks))
 grows s marks row (said.Arrived p now) t e = let is : packet_turn s now marks row p p.body ≡ t = cc in subst (λ (u : said.Turn). Grows p.number marks u.marks) is (receives s now marks row p p.body)
+grows s marks row (said.Recalled n to) t e = let is : recall_turn s n to marks row row.vote ≡ t = cc in subst (λ (u : said.Turn). Grows n marks u.marks) is (recalls s n to marks row row.vote)

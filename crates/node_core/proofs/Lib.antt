@@ -3,6 +3,7 @@ pub mod Passing
 pub mod Growing
 pub mod Accepting
 pub mod Calling
+pub mod Telling
 pub mod Stirring
 pub mod Keeping
 pub mod Dueing

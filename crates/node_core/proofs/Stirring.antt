@@ -10,7 +10,7 @@ use Rattle.protocol.specs.Marks.{Mark, Began, Promised}
 use Rattle.protocol.specs.Proposals.{Opening, was_released, open_proposal, gathering_at, since_began, counted, pick, is_due, is_due_number}
 use Rattle.protocol.specs.Acceptor.{Prepares, Accepts, Reply, Promises, Nacks, Says_nothing, Votes, Votes_again, reply_of, next_row, is_above, vote_is_at, nack_of}
 use Rattle.protocol.specs.Turn as said
-use Rattle.protocol.specs.Turn.{propose, begin, start_turn, renew, next_ballot, due_turn, promise_turn, prepare_turn, accept_turn, accepted_turn, packet_turn, reply_turn, take_vote}
+use Rattle.protocol.specs.Turn.{propose, begin, start_turn, renew, next_ballot, due_turn, promise_turn, prepare_turn, accept_turn, accepted_turn, packet_turn, reply_turn, take_vote, recall_turn}
 use Rattle.proposer.specs.Answers.{IsNew, completes}
 use Rattle.node_core.specs.Turns.{Stirs, is_quiet}
 use Rattle.node_core.proofs.Phases.{counts_so, completes_so, none_gathers}
@@ -92,6 +92,14 @@ accept_stirs s marks row p t = reply_stirs s marks (next_row row (Accepts p.ball
 pub accepted_stirs : (s : Seat) (marks : List Mark) (row : Row) (p : Packet) (t : Entry) → was_released p.number marks ≡ false → Stirs (accepted_turn s marks row p t)
 accepted_stirs s marks row p t u = rw u refl
 
+-- a vote that is told again is not quiet
+pub recall_stirs : (s : Seat) (n to : ℕ) (marks : List Mark) (row : Row) (v : Vote) → Stirs (recall_turn s n to marks row (Some v))
+recall_stirs s n to marks row v = go (to == s.me) refl
+  where
+    go : (x : Bool) → (to == s.me) ≡ x → Stirs (recall_turn s n to marks row (Some v))
+    go true e = rw e refl
+    go false e = rw e refl
+
 -- where no proposal is open, a quiet turn takes nothing in
 module _ (s : Seat) (marks : List Mark) (row : Row) where
   abbrev Keeps : said.Turn → Type 0
@@ -115,8 +123,13 @@ module _ (s : Seat) (marks : List Mark) (row : Row) where
       go false e q = stirred (accepted_turn s marks row p t) (accepted_stirs s marks row p t e) q
   received p now (Nack a) h q = rw h refl
 
+  recalled : (n to : ℕ) (o : Option Vote) → Keeps (recall_turn s n to marks row o)
+  recalled n to None q = refl
+  recalled n to (Some v) q = stirred (recall_turn s n to marks row (Some v)) (recall_stirs s n to marks row v) q
+
   pub quiet_keeps : (event : said.Event) (t : said.Turn) → said.turn s marks row event ≡ Some t → open_proposal (said.number_of event) marks ≡ None → is_quiet t.note ≡ true → t.marks ≡ marks
   quiet_keeps (said.Offered n entry now) t e h q = started n (Some entry) now (next row.promised s.me) t e q
   quiet_keeps (said.Sought n now) t e h q = started n None now (next row.promised s.me) t e q
   quiet_keeps (said.Came_due n now) t e h q = let is : due_turn s n now marks row (open_proposal n marks) ≡ t = cc in subst Keeps is (λ _. rw h refl) q
   quiet_keeps (said.Arrived p now) t e h q = let is : packet_turn s now marks row p p.body ≡ t = cc in subst Keeps is (received p now p.body h) q
+  quiet_keeps (said.Recalled n to) t e h q = let is : recall_turn s n to marks row row.vote ≡ t = cc in subst Keeps is (recalled n to row.vote) q

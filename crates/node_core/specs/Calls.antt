@@ -28,6 +28,7 @@ MayCome me c (events.Offer number entry now) = Unit {0}
 MayCome me c (events.Seek number now) = Unit {0}
 MayCome me c (events.Due number now) = Unit {0}
 MayCome me c (events.Arrived packet now) = IsForMember me c packet
+MayCome me c (events.Recall number to) = Unit {0}
 
 -- n was not released, and no proposal of it is open
 pub record IsFree (n : ℕ) (marks : List Mark) : Type 0 where
@@ -59,6 +60,7 @@ IsFreeFor (events.Offer number entry now) marks = IsFree number marks
 IsFreeFor (events.Seek number now) marks = IsFree number marks
 IsFreeFor (events.Due number now) marks = Unit {0}
 IsFreeFor (events.Arrived packet now) marks = Unit {0}
+IsFreeFor (events.Recall number to) marks = Unit {0}
 
 -- the code's turn is that of the definitions, from these marks and this row
 pub record TookTurn (old : Core) (event : Event) (marks : List Mark) (row : Row) (x : Turn) (new : Core) : Type 0 where
@@ -80,6 +82,7 @@ IsRefused (events.Offer number entry now) e same stands m row = RefusesToStart e
 IsRefused (events.Seek number now) e same stands m row = RefusesToStart e same stands m number row
 IsRefused (events.Due number now) e same stands m row = e ≡ refusals.OutOfMemory
 IsRefused (events.Arrived packet now) e same stands m row = e ≡ refusals.OutOfMemory
+IsRefused (events.Recall number to) e same stands m row = e ≡ refusals.OutOfMemory
 
 -- why the core refused the event
 abbrev pub RefusesEvent : Event → CoreRefusal → Core → Row → Core → Type 0

@@ -14,14 +14,15 @@ use Rattle.tape_frames.specs.declared.entry.EntryRef.{EntryRef}
 use Rattle.node_core.specs.declared.instance.Instance.{Instance}
 use Rattle.node_core.specs.declared.event.Event.{Event}
 use Rattle.node_core.specs.declared.turn.Turn.{Turn}
+use Rattle.node_core.specs.declared.turn.Note.TheVariants as notes
 use Rattle.node_core.specs.declared.turn.CoreRefusal.{CoreRefusal}
 use Rattle.node_core.specs.declared.turn.CoreRefusal.TheVariants as refusals
 use Rattle.protocol.specs.Seats.{Seat}
 use Rattle.node_core.specs.Standing.{Core, StandsFor, InstanceStands, AllStand, AreInstancesOf, IsInstanceOf, IsLeastPassing, IsLeft, Answers, Settles, seat_of}
 use Rattle.node_core.specs.Calls.{StartIs, TurnIs, MayTakeMemory}
-use Rattle.node_core.specs.Turns.{IsTurn, IsRowAfter, event_value, note_value, Stirs, sent}
+use Rattle.node_core.specs.Turns.{IsTurn, IsRowAfter, HandsNothing, event_value, note_value, Stirs, sent}
 use Rattle.protocol.specs.Packets.{Packet, Accepted}
-use Rattle.protocol.specs.Turn.{accept_turn, vote_turn, to_others}
+use Rattle.protocol.specs.Turn.{accept_turn, vote_turn, recall_turn, to_others}
 
 -- it was taken by the turn that is read from the marks, or memory was refused to it where that turn is not quiet
 abbrev pub Handles : {E : Type 0} → Row → (List Mark → said.Turn) → Result Turn E → Instance → Instance → Type 0
@@ -158,3 +159,15 @@ pub record IsVote (s : Seat) (row : Row) (p : Packet) (entry : Entry) (x : Turn)
 abbrev pub IsVoting : Seat → Row → Packet → Entry → Turn → Option EntryRef → Type 0
 IsVoting s row p entry x None = (marks : List Mark) → IsTurnAlone row marks (accept_turn s marks row p entry) x
 IsVoting s row p entry x (Some voted) = IsVote s row p entry x (lent_entry voted)
+
+-- the station is to hear this vote of its row from itself, and the code hands out nothing but the note of that
+pub record TellsItself (s : Seat) (to : ℕ) (row : Row) (x : Turn) (own : Vote) : Type 0 where
+  pub itself : to ≡ s.me
+  pub vote : row.vote ≡ Some own
+  pub nothing : HandsNothing x
+  pub noted : x.note ≡ notes.Recalled own.ballot
+
+-- the row's vote is told again to another member, or there is none; or the station is to hear it from itself
+abbrev pub IsTelling : Seat → ℕ → ℕ → Row → Turn → Option Vote → Type 0
+IsTelling s n to row x None = (marks : List Mark) → IsTurnAlone row marks (recall_turn s n to marks row row.vote) x
+IsTelling s n to row x (Some own) = TellsItself s to row x own

@@ -17,6 +17,7 @@ event_value (events.Offer number entry now) = said.Offered number (owned_entry e
 event_value (events.Seek number now) = said.Sought number now
 event_value (events.Due number now) = said.Came_due number now
 event_value (events.Arrived packet now) = said.Arrived packet now
+event_value (events.Recall number to) = said.Recalled number to
 
 -- what the turn did
 abbrev pub note_value : Note → said.Note
@@ -37,6 +38,8 @@ note_value (notes.Counted b) = said.Note_counted b
 note_value (notes.Denied p) = said.Note_denied p
 note_value notes.Settled = said.Note_settled
 note_value (notes.Heard b) = said.Note_heard b
+note_value (notes.Recalled b) = said.Note_recalled b
+note_value notes.Blank = said.Note_blank
 
 -- a turn with this note finds that nothing is to be done, but that a Nack may be kept: it saves, sends and releases nothing
 abbrev pub is_quiet : said.Note → Bool
@@ -47,6 +50,7 @@ is_quiet (said.Note_overtaken b) = true
 is_quiet (said.Note_denied p) = true
 is_quiet said.Note_settled = true
 is_quiet said.Note_idle = true
+is_quiet said.Note_blank = true
 is_quiet _ = false
 
 -- the turn is not quiet

@@ -4,7 +4,7 @@ ghost use Rattle.std.specs.Prelude.{◌≡◌};
 ghost use Rattle.protocol.specs.Turn.{number_of};
 ghost use Rattle.node_core.specs.Turns.{event_value};
 
-use ballots::Number;
+use ballots::{Member, Number};
 use messages::PacketRef;
 use tape_frames::Entry;
 
@@ -32,6 +32,11 @@ pub enum Event<'a> {
         packet: PacketRef<'a>,
         now: u64,
     },
+    /// The vote of the number's row is to be told again, to another member or by the station to itself.
+    Recall {
+        number: Number,
+        to: Member,
+    },
 }
 
 impl Event<'_> {
@@ -44,6 +49,7 @@ impl Event<'_> {
             Event::Seek { number, .. } => *number,
             Event::Due { number, .. } => *number,
             Event::Arrived { packet, .. } => packet.number(),
+            Event::Recall { number, .. } => *number,
         }
     }
 }

@@ -8,7 +8,7 @@ ghost use Rattle.protocol.specs.Rows.{Row as RowValue};
 ghost use Rattle.tape_frames.specs.Entries.{owned_entry, lent_entry};
 ghost use Rattle.protocol.specs.Marks.{Mark, Closed};
 ghost use Rattle.protocol.specs.Proposals.{open_ballot};
-ghost use Rattle.protocol.specs.Turn.{number_of, accept_turn, accepted_turn, packet_turn};
+ghost use Rattle.protocol.specs.Turn.{number_of, accept_turn, accepted_turn, packet_turn, recall_turn};
 ghost use Rattle.node_core.specs.Standing.{InstanceStands, IsFresh, fresh, IsInstanceOf};
 ghost use Rattle.node_core.specs.Calls.{IsForMember, MayCome, RefusesToStart, IsRefused};
 ghost use Rattle.node_core.specs.Handling.{Handles, HandlesPromise, HandlesDue, AnswersNack, IsPicked, TellsDue, ReleasesHeard, LeavesHeard, VotesFor, Proposes, Begins, BeginsFirst, Starts, Takes};
@@ -18,7 +18,7 @@ ghost use Rattle.node_core.specs.Turns.{event_value, note_value, is_quiet, HasPr
 use crate::event::Event;
 use crate::rows::{copied, is_promised, raise, vote};
 use crate::turn::{CoreRefusal, Note, Turn};
-use crate::voting::{self, Voting};
+use crate::voting::{self, Telling, Voting};
 use ballots::{Ballot, Member, Number, Row, VoteRef};
 use learner::Heard;
 use mail::{Letter, Mail, Seat};
@@ -445,6 +445,24 @@ impl Instance {
         }
     }
 
+    /// Tells the vote of the number's row again. One that the station tells itself is heard.
+    fn recall(&mut self, seat: Seat, to: Member, row: &Row) -> Result<Turn, AllocError>
+        requires { IsInstanceOf seat self.old }
+        ensures turn { Handles row.now (λ marks. recall_turn seat self.old.number to marks row.now row.now.vote) result self.old self.new }
+        ensures orderly { IfOk result (λ x. IsOrderly x) }
+        ensures of { IsInstanceOf seat self.new }
+        ensures number { self.new.number ≡ self.old.number }
+    {
+        let Telling { turn, own } = voting::tell_again(seat, self.number, to, row);
+        match own {
+            None => Ok(turn),
+            Some(vote) => {
+                let release = self.hear(seat.me(), vote.ballot(), vote.entry())?;
+                Ok(Turn { release, ..turn })
+            }
+        }
+    }
+
     /// Takes an event of the number, where `row` is its saved row. What is refused for another cause than memory leaves all as it was.
     pub fn take(
         &mut self,
@@ -467,6 +485,7 @@ impl Instance {
             Event::Seek { now, .. } => self.start(alloc, seat, None, now, row),
             Event::Due { now, .. } => Ok(self.due(alloc, seat, now, row)?),
             Event::Arrived { packet, now } => Ok(self.receive(alloc, seat, &packet, now, row)?),
+            Event::Recall { to, .. } => Ok(self.recall(seat, to, row)?),
         }
     }
 }

@@ -242,8 +242,8 @@ impl NodeCore {
     /// `Failed` where memory was refused before and the core was not cleared since. To an offer or a search:
     /// `AlreadyReleased` and `AlreadyOpen` for a number that is, and `RoundsSpent` where there is no ballot above
     /// the row's promise. These change nothing. `OutOfMemory` leaves the core failed, and comes only where none of these
-    /// does and the turn is not quiet: one that is `Silent`, `Stale`, `Repeated`, `Overtaken`, `Denied`, `Settled` or `Idle`
-    /// takes no memory.
+    /// does and the turn is not quiet: one that is `Silent`, `Stale`, `Repeated`, `Overtaken`, `Denied`, `Settled`, `Idle`
+    /// or `Blank` takes no memory.
     /// A packet that comes has to be for this member, from a member of its circuit.
     pub fn handle(&mut self, event: Event<'_>, row: &Row) -> Result<Turn, CoreRefusal>
         requires arrived { MayCome self.old.me self.old.members event }

@@ -46,6 +46,10 @@ pub enum Note {
     Settled,
     /// The vote was heard.
     Heard { ballot: Ballot },
+    /// The row's vote, which is at this ballot, was told again.
+    Recalled { ballot: Ballot },
+    /// The row has no vote to tell again.
+    Blank,
 }
 
 /// What a turn hands out.

@@ -9,12 +9,12 @@ ghost use Rattle.messages.specs.Rules.{keeps_rules};
 ghost use Rattle.node_core.specs.Calls.{IsForMember};
 ghost use Rattle.mail.specs.Mails.{MayGo, IsFew};
 ghost use Rattle.node_core.specs.Turns.{IsTurn, IsSending, IsOrderly, Stirs};
-ghost use Rattle.node_core.specs.Handling.{IsVoting};
+ghost use Rattle.node_core.specs.Handling.{IsVoting, IsTelling};
 
 use crate::rows::raise;
 use crate::turn::{Note, Turn};
 use acceptor::{AcceptAnswer, PrepareAnswer};
-use ballots::Row;
+use ballots::{Member, Number, Row, VoteRef};
 use mail::{Letter, Mail, Seat};
 use messages::PacketRef;
 use std::alloc::{AllocError, Global};
@@ -25,6 +25,13 @@ use tape_frames::EntryRef;
 pub(crate) struct Voting<'a> {
     pub turn: Turn,
     pub vote: Option<EntryRef<'a>>,
+}
+
+/// The answer to a recall: what goes out, and the vote that the station tells itself, if it does. That vote is still to be heard.
+#[derive(Drop)]
+pub(crate) struct Telling<'a> {
+    pub turn: Turn,
+    pub own: Option<VoteRef<'a>>,
 }
 
 /// A turn that sends this letter about the packet's ballot, and releases nothing.
@@ -115,5 +122,35 @@ pub(crate) fn accept<'a>(
                 vote: Some(entry),
             })
         }
+    }
+}
+
+/// Tells the row's vote again, to another member or to the station itself. A row that has no vote has nothing to tell, whatever it has promised.
+pub(crate) fn tell_again<'a>(seat: Seat, number: Number, to: Member, row: &'a Row) -> Telling<'a>
+    ensures telling { IsTelling seat number to row.now result.turn result.own }
+    ensures orderly { IsOrderly result.turn }
+{
+    let Some(vote) = row.vote() else {
+        let turn = Turn::quiet(Note::Blank);
+        return Telling { turn, own: None };
+    };
+    let ballot = vote.ballot();
+    let note = Note::Recalled { ballot };
+    if to.get() == seat.me().get() {
+        let turn = Turn::quiet(note);
+        return Telling {
+            turn,
+            own: Some(vote.lend()),
+        };
+    }
+    let mail = Mail::new(seat, number, ballot, Letter::VoteTo { to });
+    Telling {
+        turn: Turn {
+            row: None,
+            mail: Some(mail),
+            release: None,
+            note,
+        },
+        own: None,
     }
 }

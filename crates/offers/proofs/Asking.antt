@@ -5,7 +5,7 @@ use Rattle.pace.specs.UnderWay.{with_one}
 use Rattle.offers.specs.declared.deed.Deed.{Deed}
 use Rattle.offers.specs.declared.deed.Deed.TheVariants.{Ask}
 use Rattle.offers.specs.declared.offer.Offer.{Offer}
-use Rattle.offers.specs.Left.{IsSoonest}
+use Rattle.offers.specs.Asks.{IsFirstAsk}
 use Rattle.offers.specs.Rules.{Standing, MayDo, AreApart, is_under_way}
 use Rattle.offers.specs.Order.{rank}
 use Rattle.offers.specs.Stages.{after, changed}
@@ -25,7 +25,7 @@ standing_at (o ∷ os) (suc i) h = let rest = standing_at os i (omega arith) in 
 abbrev pub asked_if : Bool → Request → Option Deed
 asked_if found r = cond found (Some (Ask r)) None
 
-pub asked_may : (b : Standing) (i : ℕ) (o : Offer) (found : Bool) → IsSoonest b i → o ≡ get_or b.files i o → (found ≡ true → length b.window < 16) → IfSome (asked_if found o.request) (MayDo b)
+pub asked_may : (b : Standing) (i : ℕ) (o : Offer) (found : Bool) → IsFirstAsk b i → o ≡ get_or b.files i o → (found ≡ true → length b.window < 16) → IfSome (asked_if found o.request) (MayDo b)
 asked_may b i o true s is room = soonest_may b i o s is (room refl)
 asked_may b i o false s is room = tt
 
@@ -47,13 +47,13 @@ alone_if_asked w q true os held alone none = alone_asked w q os held alone none
 alone_if_asked w q false os held alone none = alone
 
 -- the same of the file at an index, by what it asks for
-pub may_if : (b : Standing) (i : ℕ) (r : Request) (found : Bool) → IsSoonest b i → ((d : Offer) → (get_or b.files i d).request ≡ r) → (found ≡ true → length b.window < 16) → IfSome (asked_if found r) (MayDo b)
+pub may_if : (b : Standing) (i : ℕ) (r : Request) (found : Bool) → IsFirstAsk b i → ((d : Offer) → (get_or b.files i d).request ≡ r) → (found ≡ true → length b.window < 16) → IfSome (asked_if found r) (MayDo b)
 may_if b i r found s is room =
     let file = standing_at b.files i s.1.within in
     let asks : file.0.request ≡ r = ap (λ (o : Offer). o.request) file.1 ∙ is file.0 in
     rw (sym asks) (asked_may b i file.0 found s file.1 room)
 
-pub alone_if : (b : Standing) (i : ℕ) (r : Request) → IsSoonest b i → ((d : Offer) → (get_or b.files i d).request ≡ r) → is_under_way r.number b.window ≡ false
+pub alone_if : (b : Standing) (i : ℕ) (r : Request) → IsFirstAsk b i → ((d : Offer) → (get_or b.files i d).request ≡ r) → is_under_way r.number b.window ≡ false
 alone_if b i r s is =
     let file = standing_at b.files i s.1.within in
     let asks : file.0.request ≡ r = ap (λ (o : Offer). o.request) file.1 ∙ is file.0 in

@@ -3,7 +3,7 @@ use Rattle.std.proofs.Common.{◌≡◌, ◌≢◌, ℕ, ◌+◌, ◌*◌, ◌<�
 use Rattle.std.proofs.lemmas.Bool.{cases_lt}
 use Rattle.std.proofs.lemmas.Bool.Decides.{nat_tests}
 use Rattle.std.proofs.lemmas.List.{get_or-set_same, get_or-set_other, get_or_past, length-set}
-use Rattle.offers.specs.Moments.{moment_at, MatchIn, sooner, earlier, AreBlocks}
+use Rattle.offers.specs.Moments.{moment_at, NoneFrom, MatchIn, sooner, earlier, AreBlocks}
 use Rattle.offers.proofs.Editing.{two_ways}
 
 -- ---- of one moment, which may be none
@@ -19,6 +19,15 @@ from_none (Some m) low e = cc
 from_some : (x : Option ℕ) (low own : ℕ) → x ≡ Some own → low ≤ own → IfSome x (λ m. low ≤ m)
 from_some None low own e le = cc
 from_some (Some m) low own e le = let same : m ≡ own = cc in omega arith
+
+-- one that is none, or no sooner than a later one, comes later
+later_none : (x : Option ℕ) (low : ℕ) → x ≡ None → IfSome x (λ m. low < m)
+later_none None low e = tt
+later_none (Some m) low e = cc
+
+later_than : (x : Option ℕ) (low high : ℕ) → low < high → IfSome x (λ m. high ≤ m) → IfSome x (λ m. low < m)
+later_than None low high lt h = tt
+later_than (Some m) low high lt h = omega arith
 
 -- ---- the first of some and one more
 
@@ -39,21 +48,24 @@ one_more moments low i None (Some own) from h is = record {
   within = omega arith;
   is = sym is;
   first = more moments low i own (λ j above lt. from_none _ own (h j above lt)) (from_some _ own own (sym is) (omega arith));
+  least = λ j above lt. later_none _ own (h j above lt);
 }
 one_more moments low i (Some first) None from h is = record {
   above = h.above;
   within = omega (arith, h.within);
   is = h.is;
   first = more moments low i first.1 h.first (from_none _ first.1 (sym is));
+  least = h.least;
 }
 one_more moments low i (Some first) (Some own) from h is = elim (nat_lt own first.1) as (λ t. t ≡ nat_lt own first.1 → MatchIn moments low (i + 1) (cond t (Some (i, own)) (Some first))) [
   | true ↦ λ e.
-      let sooner_is : own ≤ first.1 = grind (arith, nat_tests) in
+      let sooner_is : own < first.1 = grind (arith, nat_tests) in
       record {
         above = from;
         within = omega arith;
         is = sym is;
-        first = more moments low i own (λ j above lt. weaker _ own first.1 sooner_is (h.first j above lt)) (from_some _ own own (sym is) (omega arith));
+        first = more moments low i own (λ j above lt. weaker _ own first.1 (omega arith) (h.first j above lt)) (from_some _ own own (sym is) (omega arith));
+        least = λ j above lt. later_than _ own first.1 sooner_is (h.first j above lt);
       }
   | false ↦ λ e.
       let later_is : first.1 ≤ own = grind (arith, nat_tests) in
@@ -62,6 +74,7 @@ one_more moments low i (Some first) (Some own) from h is = elim (nat_lt own firs
         within = omega (arith, h.within);
         is = h.is;
         first = more moments low i first.1 h.first (from_some _ first.1 own (sym is) later_is);
+        least = h.least;
       }
 ] refl
 
@@ -69,6 +82,13 @@ one_more moments low i (Some first) (Some own) from h is = elim (nat_lt own firs
 
 both : (moments : List (Option ℕ)) (k l m : ℕ) → ((j : ℕ) → 0 ≤ j → j < k → IfSome (moment_at moments j) (λ own. m ≤ own)) → ((j : ℕ) → k ≤ j → j < l → IfSome (moment_at moments j) (λ own. m ≤ own)) → (j : ℕ) → 0 ≤ j → j < l → IfSome (moment_at moments j) (λ own. m ≤ own)
 both moments k l m before here j from lt = elim (cases_lt j k) [
+  | inl below ↦ before j from below
+  | inr behind ↦ here j behind lt
+]
+
+-- the same of those that come before one of the block
+both_later : (moments : List (Option ℕ)) (k l m : ℕ) → ((j : ℕ) → 0 ≤ j → j < k → IfSome (moment_at moments j) (λ own. m < own)) → ((j : ℕ) → k ≤ j → j < l → IfSome (moment_at moments j) (λ own. m < own)) → (j : ℕ) → 0 ≤ j → j < l → IfSome (moment_at moments j) (λ own. m < own)
+both_later moments k l m before here j from lt = elim (cases_lt j k) [
   | inl below ↦ before j from below
   | inr behind ↦ here j behind lt
 ]
@@ -83,21 +103,24 @@ join moments k l (Some first) None le h g = record {
   within = omega (arith, h.within);
   is = h.is;
   first = both moments k l first.1 h.first (λ j above lt. from_none _ first.1 (g j above lt));
+  least = h.least;
 }
 join moments k l None (Some other) le h g = record {
   above = omega arith;
   within = g.within;
   is = g.is;
   first = both moments k l other.1 (λ j above lt. from_none _ other.1 (h j above lt)) g.first;
+  least = both_later moments k other.0 other.1 (λ j above lt. later_none _ other.1 (h j above lt)) g.least;
 }
 join moments k l (Some first) (Some other) le h g = elim (nat_lt other.1 first.1) as (λ t. t ≡ nat_lt other.1 first.1 → MatchIn moments 0 l (cond t (Some (other.0, other.1)) (Some first))) [
   | true ↦ λ e.
-      let sooner_is : other.1 ≤ first.1 = grind (arith, nat_tests) in
+      let sooner_is : other.1 < first.1 = grind (arith, nat_tests) in
       record {
         above = omega arith;
         within = g.within;
         is = g.is;
-        first = both moments k l other.1 (λ j above lt. weaker _ other.1 first.1 sooner_is (h.first j above lt)) g.first;
+        first = both moments k l other.1 (λ j above lt. weaker _ other.1 first.1 (omega arith) (h.first j above lt)) g.first;
+        least = both_later moments k other.0 other.1 (λ j above lt. later_than _ other.1 first.1 sooner_is (h.first j above lt)) g.least;
       }
   | false ↦ λ e.
       let later_is : first.1 ≤ other.1 = grind (arith, nat_tests) in
@@ -106,6 +129,7 @@ join moments k l (Some first) (Some other) le h g = elim (nat_lt other.1 first.1
         within = omega (arith, h.within);
         is = h.is;
         first = both moments k l first.1 h.first (λ j above lt. weaker _ first.1 other.1 later_is (g.first j above lt));
+        least = h.least;
       }
 ] refl
 
@@ -123,6 +147,7 @@ outside moments low high index m (Some first) apart h = record {
   within = h.within;
   is = other_is moments index first.0 m (apart first.0 h.above h.within) ∙ h.is;
   first = λ i above lt. rw (other_is moments index i m (apart i above lt)) (h.first i above lt);
+  least = λ i above lt. rw (other_is moments index i m (apart i above (omega (arith, h.within)))) (h.least i above lt);
 }
 
 -- one of those among which it is, where it was none
@@ -136,45 +161,60 @@ put_first moments low high index own m inside le rest i above lt = elim (two_way
       rw (other_is moments index i (Some m) other) (rest i above lt other)
 ]
 
-not_none : (moments : List (Option ℕ)) (index i m : ℕ) → moment_at moments index ≡ None → moment_at moments i ≡ Some m → i ≢ index
-not_none moments index i m none some = λ e. let same : moment_at moments i ≡ None = rw e none in cc
+-- one before it is as it was
+before_is : (moments : List (Option ℕ)) (index i : ℕ) (m : Option ℕ) → i < index → moment_at (set moments index m) i ≡ moment_at moments i
+before_is moments index i m lt = other_is moments index i m (omega arith)
 
-pub put_in : (moments : List (Option ℕ)) (low high index : ℕ) (m : Option ℕ) (x : Option (ℕ × ℕ)) → index < length moments → low ≤ index → index < high → moment_at moments index ≡ None → MatchIn moments low high x → MatchIn (set moments index m) low high (sooner x index m)
+-- where there was none from there on, the first stands before it
+stands_before : (moments : List (Option ℕ)) (index i m : ℕ) → NoneFrom moments index → moment_at moments i ≡ Some m → i < index
+stands_before moments index i m none is = elim (cases_lt i index) [
+  | inl before ↦ before
+  | inr behind ↦ let no = none i behind in cc
+]
+
+pub put_in : (moments : List (Option ℕ)) (low high index : ℕ) (m : Option ℕ) (x : Option (ℕ × ℕ)) → index < length moments → low ≤ index → index < high → NoneFrom moments index → MatchIn moments low high x → MatchIn (set moments index m) low high (sooner x index m)
 put_in moments low high index None None inside above lt none h = λ i from to. elim (two_ways (i == index)) [
   | inl here ↦ let same : i ≡ index = grind (arith, nat_tests) in rw (same, get_or-set_same moments index None None inside) refl
   | inr apart ↦ let other : i ≢ index = grind (arith, nat_tests) in other_is moments index i None other ∙ h i from to
 ]
-put_in moments low high index None (Some first) inside above lt none h = record {
-  above = h.above;
-  within = h.within;
-  is = other_is moments index first.0 None (not_none moments index first.0 first.1 none h.is) ∙ h.is;
-  first = λ i from to. elim (two_ways (i == index)) [
-    | inl here ↦ let same : i ≡ index = grind (arith, nat_tests) in rw (same, get_or-set_same moments index None None inside) tt
-    | inr apart ↦ let other : i ≢ index = grind (arith, nat_tests) in rw (other_is moments index i None other) (h.first i from to)
-  ];
-}
+put_in moments low high index None (Some first) inside above lt none h =
+    let before = stands_before moments index first.0 first.1 none h.is in
+    record {
+      above = h.above;
+      within = h.within;
+      is = before_is moments index first.0 None before ∙ h.is;
+      first = λ i from to. elim (two_ways (i == index)) [
+        | inl here ↦ let same : i ≡ index = grind (arith, nat_tests) in rw (same, get_or-set_same moments index None None inside) tt
+        | inr apart ↦ let other : i ≢ index = grind (arith, nat_tests) in rw (other_is moments index i None other) (h.first i from to)
+      ];
+      least = λ i from to. rw (before_is moments index i None (omega arith)) (h.least i from to);
+    }
 put_in moments low high index (Some m) None inside above lt none h = record {
   above = above;
   within = lt;
   is = get_or-set_same moments index (Some m) None inside;
   first = put_first moments low high index m m inside (omega arith) (λ i from to apart. from_none _ m (h i from to));
+  least = λ i from to. rw (before_is moments index i (Some m) to) (later_none _ m (h i from (omega arith)));
 }
 put_in moments low high index (Some m) (Some first) inside above lt none h = elim (nat_lt m first.1) as (λ t. t ≡ nat_lt m first.1 → MatchIn (set moments index (Some m)) low high (cond t (Some (index, m)) (Some first))) [
   | true ↦ λ e.
-      let sooner_is : m ≤ first.1 = grind (arith, nat_tests) in
+      let sooner_is : m < first.1 = grind (arith, nat_tests) in
       record {
         above = above;
         within = lt;
         is = get_or-set_same moments index (Some m) None inside;
-        first = put_first moments low high index m m inside (omega arith) (λ i from to apart. weaker _ m first.1 sooner_is (h.first i from to));
+        first = put_first moments low high index m m inside (omega arith) (λ i from to apart. weaker _ m first.1 (omega arith) (h.first i from to));
+        least = λ i from to. rw (before_is moments index i (Some m) to) (later_than _ m first.1 sooner_is (h.first i from (omega arith)));
       }
   | false ↦ λ e.
       let later_is : first.1 ≤ m = grind (arith, nat_tests) in
+      let before = stands_before moments index first.0 first.1 none h.is in
       record {
         above = h.above;
         within = h.within;
-        is = other_is moments index first.0 (Some m) (not_none moments index first.0 first.1 none h.is) ∙ h.is;
+        is = before_is moments index first.0 (Some m) before ∙ h.is;
         first = put_first moments low high index first.1 m inside later_is (λ i from to apart. h.first i from to);
+        least = λ i from to. rw (before_is moments index i (Some m) (omega arith)) (h.least i from to);
       }
 ] refl
 
@@ -194,6 +234,7 @@ widen moments low high end (Some first) le past h = record {
     | inl below ↦ h.first i above below
     | inr from ↦ from_none _ first.1 (get_or_past moments i None (past i from lt))
   ];
+  least = h.least;
 }
 
 pub set_block : (moments : List (Option ℕ)) (blocks : List (Option (ℕ × ℕ))) (index k : ℕ) (m : Option ℕ) (x : Option (ℕ × ℕ)) → AreBlocks moments blocks → index < length moments → 256 * k ≤ index → index < 256 * k + 256 → MatchIn (set moments index m) (256 * k) (256 * k + 256) x → AreBlocks (set moments index m) (set blocks k x)

@@ -1,11 +1,14 @@
 pub mod Airborne
 pub mod Asking
 pub mod Blocks
+pub mod Choosing
 pub mod Doing
 pub mod Editing
+pub mod Fair
 pub mod Flying
 pub mod Looking
 pub mod Marking
 pub mod Merging
+pub mod Places
 pub mod Soonest
 pub mod Turning

@@ -9,16 +9,17 @@ use Rattle.folders.specs.declared.names.Request.{Request}
 use Rattle.offers.specs.declared.marks.Marks.{Marks}
 use Rattle.offers.specs.declared.offer.Offer.{Offer}
 use Rattle.offers.specs.declared.stage.Stage.{Stage}
-use Rattle.offers.specs.Left.{NoMoves, NoOthers, MatchSoonest}
+use Rattle.offers.specs.Asks.{MatchSoonest}
+use Rattle.offers.specs.Left.{NoMoves}
 use Rattle.offers.specs.Marks.{flag, move_mark, other_mark, ask_mark, AreMarks, IsMarked, HasRoom, RemarksPlace, RemarksNumber}
-use Rattle.offers.specs.Moments.{moment_at, NoneIn, MatchIn}
+use Rattle.offers.specs.Moments.{moment_at, NoneIn, NoneFrom, MatchIn}
 use Rattle.pace.specs.UnderWay.{with_one, without}
 use Rattle.tape_frames.specs.declared.entry.Entry.{Entry}
 use Rattle.offers.specs.declared.offer.Found.{Found}
 use Rattle.offers.specs.declared.stage.News.TheVariants as news
 use Rattle.offers.specs.Looks.{seen, looked}
 use Rattle.offers.specs.Order.{rank, file_at, rising_from, Rises, IsPlaceOf}
-use Rattle.offers.specs.Rules.{Standing, entry_in, is_under_way, is_leaving_of, has_other_of}
+use Rattle.offers.specs.Rules.{Standing, entry_in, is_under_way, is_leaving_of}
 use Rattle.offers.specs.Stages.{after, change_at, changed, all_changed, tape_of, text_of, withdrawal_of, search_of}
 use Rattle.offers.proofs.Airborne.{same_number, other_stays, other_joins}
 use Rattle.offers.proofs.Asking.{standing_at}
@@ -53,45 +54,42 @@ flag_some false e h = none_is h
 pub none_move : (b : Standing) (m : Marks) (low high : ℕ) → IsMarked b m → high ≤ length b.files → NoneIn m.moves low high → NoMoves b low high
 none_move b m low high marked le none = λ i d from lt. flag_none _ (sym (marked.moves.is i d (omega arith)) ∙ none i from lt)
 
-pub none_other : (b : Standing) (m : Marks) (low high : ℕ) → IsMarked b m → high ≤ length b.files → NoneIn m.others low high → NoOthers b low high
-none_other b m low high marked le none = λ i d from lt. flag_none _ (sym (marked.others.is i d (omega arith)) ∙ none i from lt)
-
 fewer : (moments : List (Option ℕ)) (low high end : ℕ) → high ≤ end → NoneIn moments low end → NoneIn moments low high
 fewer moments low high end le none = λ i from lt. none i from (omega arith)
 
 pub no_move_left : (b : Standing) (m : Marks) (low : ℕ) → IsMarked b m → NoneIn m.moves low (length m.moves) → NoMoves b low (length b.files)
 no_move_left b m low marked none = none_move b m low (length b.files) marked (omega arith) (fewer m.moves low (length b.files) (length m.moves) marked.moves.room none)
 
-pub no_other_left : (b : Standing) (m : Marks) (low : ℕ) → IsMarked b m → NoneIn m.others low (length m.others) → NoOthers b low (length b.files)
-no_other_left b m low marked none = none_other b m low (length b.files) marked (omega arith) (fewer m.others low (length b.files) (length m.others) marked.others.room none)
+-- none leaves before the first that is marked
+pub move_before : (b : Standing) (m : Marks) (low i : ℕ) → IsMarked b m → IsSome (moment_at m.moves i) → NoneIn m.moves low i → NoMoves b low i
+move_before b m low i marked some none = let within = inside_some _ b.files m.moves i marked.moves some in none_move b m low i marked (omega arith) none
 
--- one that is marked leaves, or is read or refused
+-- one that is marked leaves
 pub is_move : (b : Standing) (m : Marks) (i : ℕ) → IsMarked b m → IsSome (moment_at m.moves i) → NoMoves b i (i + 1) → ⊥
 is_move b m i marked some none =
     let within = inside_some _ b.files m.moves i marked.moves some in
     let file = standing_at b.files i within in
     flag_some (is_leaving_of b (get_or b.files i file.0)) (none i file.0 (omega arith) (omega arith)) (rw (marked.moves.is i file.0 within) at some)
 
-pub is_other : (b : Standing) (m : Marks) (i : ℕ) → IsMarked b m → IsSome (moment_at m.others i) → NoOthers b i (i + 1) → ⊥
-is_other b m i marked some none =
-    let within = inside_some _ b.files m.others i marked.others some in
-    let file = standing_at b.files i within in
-    flag_some (has_other_of b (get_or b.files i file.0)) (none i file.0 (omega arith) (omega arith)) (rw (marked.others.is i file.0 within) at some)
-
 -- the first of the moments is the one of the file whose moment came first
-pub soonest_of : (b : Standing) (m : Marks) (x : Option (ℕ × ℕ)) → IsMarked b m → MatchIn m.asks 0 (length m.asks) x → MatchSoonest b (length b.files) x
-soonest_of b m None marked h = λ i d lt. sym (marked.asks.is i d lt) ∙ h i (omega arith) (omega (arith, marked.asks.room))
-soonest_of b m (Some first) marked h = record {
-  within = inside _ b.files m.asks first.0 first.1 marked.asks h.is;
-  is = λ d. sym (marked.asks.is first.0 d (inside _ b.files m.asks first.0 first.1 marked.asks h.is)) ∙ h.is;
-  first = λ i d lt. rw (sym (marked.asks.is i d lt)) (h.first i (omega arith) (omega (arith, marked.asks.room)));
-}
+pub soonest_of : (f : Offer → Option ℕ) (files : List Offer) (marks : List (Option ℕ)) (x : Option (ℕ × ℕ)) → AreMarks f files marks → MatchIn marks 0 (length marks) x → MatchSoonest f files x
+soonest_of f files marks None are h = λ i d lt. sym (are.is i d lt) ∙ h i (omega arith) (omega (arith, are.room))
+soonest_of f files marks (Some first) are h =
+    let within = inside f files marks first.0 first.1 are h.is in
+    record {
+      within = within;
+      is = λ d. sym (are.is first.0 d within) ∙ h.is;
+      first = λ i d lt. rw (sym (are.is i d lt)) (h.first i (omega arith) (omega (arith, are.room)));
+      least = λ i d lt. rw (sym (are.is i d (omega arith))) (h.least i (omega arith) lt);
+    }
 
 pub has_room : (b : Standing) (files : List Offer) (m : Marks) → IsMarked b m → length files ≡ length b.files → HasRoom files m
 has_room b files m marked e = record {
   moves = rw e marked.moves.room;
   others = rw e marked.others.room;
-  asks = rw e marked.asks.room;
+  sought = rw e marked.sought.room;
+  entries = rw e marked.entries.room;
+  searches = rw e marked.searches.room;
 }
 
 -- ---- the files of a number are marked anew
@@ -188,24 +186,26 @@ moves_apart n b new a i d within apart =
     let other : (get_or b.files i d).request.number ≢ n = rw same at apart in
     rw (same, a.looked, a.still, a.entries (get_or b.files i d).request.number other) refl
 
-others_apart : (n : ℕ) (b new : Standing) → IsApart n b new → (i : ℕ) (d : Offer) → i < length b.files → (get_or new.files i d).request.number ≢ n → other_mark new.window new.still new.looked (get_or new.files i d) ≡ other_mark b.window b.still b.looked (get_or b.files i d)
-others_apart n b new a i d within apart =
+others_apart : (s : Bool) (n : ℕ) (b new : Standing) → IsApart n b new → (i : ℕ) (d : Offer) → i < length b.files → (get_or new.files i d).request.number ≢ n → other_mark s new.window new.still new.looked (get_or new.files i d) ≡ other_mark s b.window b.still b.looked (get_or b.files i d)
+others_apart s n b new a i d within apart =
     let same = a.files i d within apart in
     let other : (get_or b.files i d).request.number ≢ n = rw same at apart in
     rw (same, a.looked, a.still, a.numbers (get_or b.files i d).request.number other) refl
 
-asks_apart : (n : ℕ) (b new : Standing) → IsApart n b new → (i : ℕ) (d : Offer) → i < length b.files → (get_or new.files i d).request.number ≢ n → ask_mark new.released new.window new.still new.looked (get_or new.files i d) ≡ ask_mark b.released b.window b.still b.looked (get_or b.files i d)
-asks_apart n b new a i d within apart =
+asks_apart : (s : Bool) (n : ℕ) (b new : Standing) → IsApart n b new → (i : ℕ) (d : Offer) → i < length b.files → (get_or new.files i d).request.number ≢ n → ask_mark s new.released new.window new.still new.looked (get_or new.files i d) ≡ ask_mark s b.released b.window b.still b.looked (get_or b.files i d)
+asks_apart s n b new a i d within apart =
     let same = a.files i d within apart in
     let other : (get_or b.files i d).request.number ≢ n = rw same at apart in
     rw (same, a.looked, a.still, a.entries (get_or b.files i d).request.number other, a.numbers (get_or b.files i d).request.number other) refl
 
 -- then the marks are right where those of its files were made anew
-pub remarked : (n : ℕ) (b new : Standing) (m marks : Marks) → IsMarked b m → IsApart n b new → RemarksNumber (move_mark new.released new.still new.looked) new.files n m.moves marks.moves → RemarksNumber (other_mark new.window new.still new.looked) new.files n m.others marks.others → RemarksNumber (ask_mark new.released new.window new.still new.looked) new.files n m.asks marks.asks → IsMarked new marks
-remarked n b new m marks marked a moves others asks = record {
+pub remarked : (n : ℕ) (b new : Standing) (m marks : Marks) → IsMarked b m → IsApart n b new → RemarksNumber (move_mark new.released new.still new.looked) new.files n m.moves marks.moves → RemarksNumber (other_mark false new.window new.still new.looked) new.files n m.others marks.others → RemarksNumber (other_mark true new.window new.still new.looked) new.files n m.sought marks.sought → RemarksNumber (ask_mark false new.released new.window new.still new.looked) new.files n m.entries marks.entries → RemarksNumber (ask_mark true new.released new.window new.still new.looked) new.files n m.searches marks.searches → IsMarked new marks
+remarked n b new m marks marked a moves others sought entries searches = record {
   moves = settle _ _ n b.files new.files m.moves marks.moves marked.moves a.many (moves_apart n b new a) moves;
-  others = settle _ _ n b.files new.files m.others marks.others marked.others a.many (others_apart n b new a) others;
-  asks = settle _ _ n b.files new.files m.asks marks.asks marked.asks a.many (asks_apart n b new a) asks;
+  others = settle _ _ n b.files new.files m.others marks.others marked.others a.many (others_apart false n b new a) others;
+  sought = settle _ _ n b.files new.files m.sought marks.sought marked.sought a.many (others_apart true n b new a) sought;
+  entries = settle _ _ n b.files new.files m.entries marks.entries marked.entries a.many (asks_apart false n b new a) entries;
+  searches = settle _ _ n b.files new.files m.searches marks.searches marked.searches a.many (asks_apart true n b new a) searches;
 }
 
 -- ---- which files change
@@ -253,8 +253,8 @@ all_apart n g os i d within apart =
 -- ---- what each change leaves
 
 -- a file was told news
-pub told_marked : (b : Standing) (r : Request) (g : Stage → Stage) (m marks : Marks) → IsMarked b m → RemarksNumber (move_mark b.released b.still b.looked) (changed (rank r) g b.files) r.number m.moves marks.moves → RemarksNumber (other_mark b.window b.still b.looked) (changed (rank r) g b.files) r.number m.others marks.others → RemarksNumber (ask_mark b.released b.window b.still b.looked) (changed (rank r) g b.files) r.number m.asks marks.asks → IsMarked (record b { files = changed (rank r) g b.files }) marks
-told_marked b r g m marks marked moves others asks =
+pub told_marked : (b : Standing) (r : Request) (g : Stage → Stage) (m marks : Marks) → IsMarked b m → RemarksNumber (move_mark b.released b.still b.looked) (changed (rank r) g b.files) r.number m.moves marks.moves → RemarksNumber (other_mark false b.window b.still b.looked) (changed (rank r) g b.files) r.number m.others marks.others → RemarksNumber (other_mark true b.window b.still b.looked) (changed (rank r) g b.files) r.number m.sought marks.sought → RemarksNumber (ask_mark false b.released b.window b.still b.looked) (changed (rank r) g b.files) r.number m.entries marks.entries → RemarksNumber (ask_mark true b.released b.window b.still b.looked) (changed (rank r) g b.files) r.number m.searches marks.searches → IsMarked (record b { files = changed (rank r) g b.files }) marks
+told_marked b r g m marks marked moves others sought entries searches =
     let apart : IsApart r.number b (record b { files = changed (rank r) g b.files }) = record {
       entries = λ x e. refl;
       numbers = λ x e. refl;
@@ -263,23 +263,23 @@ told_marked b r g m marks marked moves others asks =
       looked = refl;
       still = refl;
     } in
-    remarked r.number b (record b { files = changed (rank r) g b.files }) m marks marked apart moves others asks
+    remarked r.number b (record b { files = changed (rank r) g b.files }) m marks marked apart moves others sought entries searches
 
 -- a number is no longer under way, and may have been released
 abbrev pub landed_files : (b : Standing) (n : ℕ) (g : Stage → Stage) (released : List (ℕ × Entry)) → Standing
 landed_files b n g released = record b { files = all_changed n g b.files; window = without n b.window; released = released }
 
-pub landed_marked : (b : Standing) (n : ℕ) (g : Stage → Stage) (released : List (ℕ × Entry)) (m marks : Marks) → IsMarked b m → ((x : ℕ) → x ≢ n → entry_in released x ≡ entry_in b.released x) → RemarksNumber (move_mark released b.still b.looked) (all_changed n g b.files) n m.moves marks.moves → RemarksNumber (other_mark (without n b.window) b.still b.looked) (all_changed n g b.files) n m.others marks.others → RemarksNumber (ask_mark released (without n b.window) b.still b.looked) (all_changed n g b.files) n m.asks marks.asks → IsMarked (landed_files b n g released) marks
-landed_marked b n g released m marks marked entries moves others asks =
+pub landed_marked : (b : Standing) (n : ℕ) (g : Stage → Stage) (released : List (ℕ × Entry)) (m marks : Marks) → IsMarked b m → ((x : ℕ) → x ≢ n → entry_in released x ≡ entry_in b.released x) → RemarksNumber (move_mark released b.still b.looked) (all_changed n g b.files) n m.moves marks.moves → RemarksNumber (other_mark false (without n b.window) b.still b.looked) (all_changed n g b.files) n m.others marks.others → RemarksNumber (other_mark true (without n b.window) b.still b.looked) (all_changed n g b.files) n m.sought marks.sought → RemarksNumber (ask_mark false released (without n b.window) b.still b.looked) (all_changed n g b.files) n m.entries marks.entries → RemarksNumber (ask_mark true released (without n b.window) b.still b.looked) (all_changed n g b.files) n m.searches marks.searches → IsMarked (landed_files b n g released) marks
+landed_marked b n g released m marks marked same moves others sought entries searches =
     let apart : IsApart n b (landed_files b n g released) = record {
-      entries = entries;
+      entries = same;
       numbers = λ x e. other_stays x n b.window e;
       files = all_apart n g b.files;
       many = many_all n g b.files;
       looked = refl;
       still = refl;
     } in
-    remarked n b (landed_files b n g released) m marks marked apart moves others asks
+    remarked n b (landed_files b n g released) m marks marked apart moves others sought entries searches
 
 -- a file is asked for, where there is room
 abbrev pub asked_files : Standing → Request → Bool → Standing
@@ -307,8 +307,8 @@ pub many_asked : (q : Request) (found : Bool) (os : List Offer) → length (cond
 many_asked q true os = many_changed (rank q) (after news.Asked 0) os
 many_asked q false os = refl
 
-pub asked_marked : (b : Standing) (q : Request) (found : Bool) (m marks : Marks) → IsMarked b m → RemarksNumber (move_mark b.released b.still b.looked) (asked_files b q found).files q.number m.moves marks.moves → RemarksNumber (other_mark (asked_files b q found).window b.still b.looked) (asked_files b q found).files q.number m.others marks.others → RemarksNumber (ask_mark b.released (asked_files b q found).window b.still b.looked) (asked_files b q found).files q.number m.asks marks.asks → IsMarked (asked_files b q found) marks
-asked_marked b q found m marks marked moves others asks = remarked q.number b (asked_files b q found) m marks marked (asked_apart b q found) moves others asks
+pub asked_marked : (b : Standing) (q : Request) (found : Bool) (m marks : Marks) → IsMarked b m → RemarksNumber (move_mark b.released b.still b.looked) (asked_files b q found).files q.number m.moves marks.moves → RemarksNumber (other_mark false (asked_files b q found).window b.still b.looked) (asked_files b q found).files q.number m.others marks.others → RemarksNumber (other_mark true (asked_files b q found).window b.still b.looked) (asked_files b q found).files q.number m.sought marks.sought → RemarksNumber (ask_mark false b.released (asked_files b q found).window b.still b.looked) (asked_files b q found).files q.number m.entries marks.entries → RemarksNumber (ask_mark true b.released (asked_files b q found).window b.still b.looked) (asked_files b q found).files q.number m.searches marks.searches → IsMarked (asked_files b q found) marks
+asked_marked b q found m marks marked moves others sought entries searches = remarked q.number b (asked_files b q found) m marks marked (asked_apart b q found) moves others sought entries searches
 
 -- a look finds no more than was found
 few_rising : (low : ℕ) (found : List Found) → length (rising_from low found) ≤ length found
@@ -321,14 +321,14 @@ few_rising low (f ∷ fs) = elim (two_ways (nat_lt (rank f.request) low)) [
 pub few_looked : (old : List Offer) (now : ℕ) (found : List Found) → length (looked old now found) ≤ length found
 few_looked old now found = rw (length-map (rising_from 0 found) (seen old now)) (few_rising 0 found)
 
-pub room_for : (files : List Offer) (m : Marks) (n : ℕ) → length files ≤ n → length m.moves ≡ n → length m.others ≡ n → length m.asks ≡ n → HasRoom files m
-room_for files m n le a b c = record { moves = omega arith; others = omega arith; asks = omega arith }
+pub room_for : (files : List Offer) (m : Marks) (n : ℕ) → length files ≤ n → length m.moves ≡ n → length m.others ≡ n → length m.sought ≡ n → length m.entries ≡ n → length m.searches ≡ n → HasRoom files m
+room_for files m n le a b c d e = record { moves = omega arith; others = omega arith; sought = omega arith; entries = omega arith; searches = omega arith }
 
 -- ---- all are marked, one after the other
 
 pub record AreMarksUpTo (f : Offer → Option ℕ) (files : List Offer) (k : ℕ) (marks : List (Option ℕ)) : Type 0 where
   pub is : (i : ℕ) (d : Offer) → i < k → moment_at marks i ≡ f (get_or files i d)
-  pub rest : (i : ℕ) → k ≤ i → moment_at marks i ≡ None
+  pub rest : NoneFrom marks k
   pub room : length files ≤ length marks
 
 pub none_yet : (f : Offer → Option ℕ) (files : List Offer) (marks : List (Option ℕ)) → ((i : ℕ) → moment_at marks i ≡ None) → length files ≤ length marks → AreMarksUpTo f files 0 marks

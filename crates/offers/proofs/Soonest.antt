@@ -1,4 +1,4 @@
--- The file whose moment came first.
+-- The file that comes first of those for which the station may be asked.
 use Rattle.std.proofs.Common.{◌≡◌, ℕ, ◌<◌, ◌≤◌, Option, Some, None, Bool, true, false, length, get_or, cond, nat_le, is_some, not, ◌&&◌, refl, sym, arith}
 use Rattle.std.proofs.lemmas.Bool.Decides.{nat_tests}
 use Rattle.tape_frames.specs.declared.entry.Entry.{Entry}
@@ -6,7 +6,7 @@ use Rattle.offers.specs.declared.deed.Deed.TheVariants.{Ask}
 use Rattle.offers.specs.declared.offer.Offer.{Offer}
 use Rattle.offers.specs.declared.stage.Stage.{Stage}
 use Rattle.offers.specs.declared.stage.Stage.TheVariants.{Watched, Waiting, UnderWay, Refused, Gone}
-use Rattle.offers.specs.Left.{IsSoonest}
+use Rattle.offers.specs.Asks.{Turn, turn_at, IsFirstAsk}
 use Rattle.offers.specs.Rules.{Standing, entry_of, is_under_way, IsWhole, IsReady, MayDo, is_whole, moment_of, ask_moment_of}
 
 -- a file that has a moment waits, and that moment has come
@@ -34,16 +34,21 @@ go_asked still looked moment o true (Some x) true w e = cc
 go_asked still looked moment o true None true w e = cc
 go_asked still looked moment o true None false w e = record { whole = grind (arith, nat_tests); ready = ready_from looked moment o.stage e; unreleased = refl; one = refl }
 
--- the station may be asked for the file whose moment came first, where there is room
-pub soonest_may : (b : Standing) (i : ℕ) (o : Offer) → IsSoonest b i → o ≡ get_or b.files i o → length b.window < 16 → MayDo b (Ask o.request)
+-- what goes by a turn has its moment
+pub turn_has : (group place : ℕ) (m : Option ℕ) (t : Turn) → turn_at group place m ≡ Some t → m ≡ Some t.moment
+turn_has group place None t e = cc
+turn_has group place (Some moment) t e = cc
+
+-- the station may be asked for the file that comes first, where there is room
+pub soonest_may : (b : Standing) (i : ℕ) (o : Offer) → IsFirstAsk b i → o ≡ get_or b.files i o → length b.window < 16 → MayDo b (Ask o.request)
 soonest_may b i o s is room =
-    let own : ask_moment_of b o ≡ Some s.0 = rw (sym is) at (s.1.is o) in
-    let asked = go_asked b.still b.looked s.0 o (is_whole b.still b.looked o) (entry_of b o.request.number) (is_under_way o.request.number b.window) refl own in
+    let own : ask_moment_of b o ≡ Some s.0.moment = turn_has _ _ _ s.0 (rw (sym is) at (s.1.is o)) in
+    let asked = go_asked b.still b.looked s.0.moment o (is_whole b.still b.looked o) (entry_of b o.request.number) (is_under_way o.request.number b.window) refl own in
     (i, o, s.1.within, sym is, record { file = refl; whole = asked.whole; ready = asked.ready; unreleased = asked.unreleased; one = asked.one; window = room })
 
 -- and no other of its number is under way
-pub soonest_alone : (b : Standing) (i : ℕ) (o : Offer) → IsSoonest b i → o ≡ get_or b.files i o → is_under_way o.request.number b.window ≡ false
+pub soonest_alone : (b : Standing) (i : ℕ) (o : Offer) → IsFirstAsk b i → o ≡ get_or b.files i o → is_under_way o.request.number b.window ≡ false
 soonest_alone b i o s is =
-    let own : ask_moment_of b o ≡ Some s.0 = rw (sym is) at (s.1.is o) in
-    let asked = go_asked b.still b.looked s.0 o (is_whole b.still b.looked o) (entry_of b o.request.number) (is_under_way o.request.number b.window) refl own in
+    let own : ask_moment_of b o ≡ Some s.0.moment = turn_has _ _ _ s.0 (rw (sym is) at (s.1.is o)) in
+    let asked = go_asked b.still b.looked s.0.moment o (is_whole b.still b.looked o) (entry_of b o.request.number) (is_under_way o.request.number b.window) refl own in
     asked.one

@@ -1,11 +1,11 @@
 -- The order of deeds, from what each part of the choice says.
-use Rattle.std.proofs.Common.{◌≡◌, inl, inr, ℕ, Option, Some, None, IfSome, Bool, length, arith}
-use Rattle.std.proofs.lemmas.Bool.{cases_lt}
+use Rattle.std.proofs.Common.{◌≡◌, inl, inr, ℕ, ◌<◌, ◌*◌, Option, Some, None, IfSome, Bool, true, false, length, arith}
 use Rattle.folders.specs.declared.names.Request.{Request}
 use Rattle.offers.specs.declared.deed.Allowed.{Allowed}
 use Rattle.offers.specs.declared.deed.Deed.{Deed}
 use Rattle.offers.specs.declared.deed.Deed.TheVariants.{Move, Ask, Read, Refuse}
-use Rattle.offers.specs.Left.{NoOthers, IsSoonestBefore}
+use Rattle.offers.specs.Asks.{Turn, IsFirstBy}
+use Rattle.offers.specs.Left.{NoOthers, read_place}
 use Rattle.offers.specs.Rules.{Standing}
 use Rattle.offers.specs.Turns.{IsAskOrOther, IsBehindMoves, IsInTurn, IsEarly, IsHeld, NoOthersLeft, NoMovesLeft, OthersWait, AdvancesOther}
 
@@ -18,24 +18,24 @@ early_left : (b : Standing) (k : ℕ) → IsEarly b (record b { others = k }) �
 early_left b k (inl early) h = rw early.1 at h
 early_left b k (inr late) h = late.0
 
--- what the first is hangs on the files and the numbers alone
-soonest_of_others : (b : Standing) (k high index moment : ℕ) → IsSoonestBefore (record b { others = k }) high index moment → IsSoonestBefore b high index moment
-soonest_of_others b k high index moment h = record { within = h.within; is = h.is; first = h.first }
+-- which comes first hangs on the files and the numbers alone
+first_of_others : (b : Standing) (k index : ℕ) (turn : Turn) → IsFirstBy (record b { others = k }) index turn → IsFirstBy b index turn
+first_of_others b k index turn h = record { within = h.within; is = h.is; first = h.first }
 
-soonest_of_moves : (b : Standing) (k high index moment : ℕ) → IsSoonestBefore (record b { moves = k }) high index moment → IsSoonestBefore b high index moment
-soonest_of_moves b k high index moment h = record { within = h.within; is = h.is; first = h.first }
+first_of_moves : (b : Standing) (k index : ℕ) (turn : Turn) → IsFirstBy (record b { moves = k }) index turn → IsFirstBy b index turn
+first_of_moves b k index turn h = record { within = h.within; is = h.is; first = h.first }
 
 held_of_others : (b : Standing) (k : ℕ) (asks : Bool) → IsHeld (record b { others = k }) asks → IsHeld b asks
-held_of_others b k asks h = ((h.0.0, (h.0.1.0, soonest_of_others b k _ _ _ h.0.1.1)), h.1)
+held_of_others b k asks h = ((h.0.0, (h.0.1.0, first_of_others b k _ _ h.0.1.1)), h.1)
 
 held_of_moves : (b : Standing) (k : ℕ) (asks : Bool) → IsHeld (record b { moves = k }) asks → IsHeld b asks
-held_of_moves b k asks h = ((h.0.0, (h.0.1.0, soonest_of_moves b k _ _ _ h.0.1.1)), h.1)
+held_of_moves b k asks h = ((h.0.0, (h.0.1.0, first_of_moves b k _ _ h.0.1.1)), h.1)
 
 asks_of_others : (b : Standing) (k : ℕ) (asks : Bool) (r : Request) → IsAskOrOther (record b { others = k }) asks (Some (Ask r)) → IsAskOrOther b asks (Some (Ask r))
-asks_of_others b k asks r h = (h.0, (h.1.0, (h.1.1.0, soonest_of_others b k _ _ _ h.1.1.1), h.1.2))
+asks_of_others b k asks r h = (h.0, (h.1.0, (h.1.1.0, first_of_others b k _ _ h.1.1.1), h.1.2))
 
 asks_of_moves : (b : Standing) (k : ℕ) (asks : Bool) (r : Request) → IsAskOrOther (record b { moves = k }) asks (Some (Ask r)) → IsAskOrOther b asks (Some (Ask r))
-asks_of_moves b k asks r h = (h.0, (h.1.0, (h.1.1.0, soonest_of_moves b k _ _ _ h.1.1.1), h.1.2))
+asks_of_moves b k asks r h = (h.0, (h.1.0, (h.1.1.0, first_of_moves b k _ _ h.1.1.1), h.1.2))
 
 none_of_moves : (b : Standing) (k : ℕ) (asks : Bool) → IsAskOrOther (record b { moves = k }) asks None → IsAskOrOther b asks None
 none_of_moves b k asks (inl none) = inl none
@@ -67,13 +67,15 @@ behind_via b mid asks r same early h =
 pub in_turn_via : (b mid : Standing) (allowed : Allowed) (r : Option Deed) → mid ≡ record b { moves = mid.moves } → NoMovesLeft b allowed.moves → IsBehindMoves mid allowed.asks r → IsInTurn b allowed r
 in_turn_via b mid allowed r same none h = let so = rw same at h in in_turn b allowed mid.moves r none so
 
+-- each place is before the end
+within_end : (many i : ℕ) (search : Bool) → i < many → read_place many i search < 2 * many
+within_end many i true lt = omega arith
+within_end many i false lt = omega arith
+
 -- none that was passed over is read or refused, where no file is overdue
 passed_go : (b : Standing) (k high : ℕ) → IsEarly b (record b { others = k }) → NoOthers (record b { others = k }) k high → NoOthers b b.others high
-passed_go b k high (inl early) h = λ i d low lt. h i d (omega (arith, early.1)) lt
-passed_go b k high (inr late) h = λ i d low lt. elim (cases_lt i (length b.files)) [
-  | inl within ↦ late.0 i d low within
-  | inr behind ↦ h i d (omega (arith, late.1)) lt
-]
+passed_go b k high (inl early) h = λ i d within low lt. h i d within (omega (arith, early.1)) lt
+passed_go b k high (inr late) h = λ i d within low lt. late.0 i d within low (within_end (length b.files) i _ within)
 
 pub passed_via : (b mid : Standing) (high : ℕ) → mid ≡ record b { others = mid.others } → IsEarly b mid → NoOthers mid mid.others high → NoOthers b b.others high
 passed_via b mid high same early h =

@@ -28,4 +28,5 @@ pub record Releases (n : ℕ) (entry : Entry) (old new : Standing) : Type 0 wher
   pub moves : new.moves ≡ old.moves
   pub asks : new.asks ≡ true
   pub row : new.row ≡ old.row
+  pub since_search : new.since_search ≡ old.since_search
   pub others : new.others ≡ old.others

@@ -13,8 +13,9 @@ pub record IsFresh (b : Standing) : Type 0 where
   pub window : b.window ≡ []
   pub released : (n : ℕ) → entry_of b n ≡ None
   pub row : b.row ≡ 0
+  pub since_search : b.since_search ≡ 0
 
--- an index that begins with the first again, where it has come to the end
+-- a place that begins with the first again, where it has come to the searches or to the end
 abbrev pub begun_again : ℕ → ℕ → ℕ
 begun_again index end = if nat_le end index then 0 else index
 

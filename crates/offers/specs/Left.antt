@@ -1,40 +1,44 @@
 -- What is left to be done with the files of the book.
-use Rattle.std.specs.Prelude.{◌≡◌, ◌<◌, ◌≤◌, ℕ, false, Option, Some, None, length, slice_index_or, IfSome}
+use Rattle.std.specs.Prelude.{◌≡◌, ◌<◌, ◌≤◌, ◌+◌, ℕ, Bool, false, if◌then◌else◌, List, Option, None, length, slice_index_or, IfSome, true}
 use Rattle.folders.specs.declared.names.Request.{Request}
 use Rattle.offers.specs.declared.offer.Offer.{Offer}
-use Rattle.offers.specs.Order.{rank, file_at}
-use Rattle.offers.specs.Rules.{Standing, is_leaving_of, ask_moment_of, has_other_of}
+use Rattle.offers.specs.Order.{rank, file_at, is_search}
+use Rattle.offers.specs.Rules.{Standing, is_leaving_of, ask_moment_of, ask_moment_among, has_other_of}
 
 -- none of the files from one index to another leaves the offers now
 abbrev pub NoMoves : Standing → ℕ → ℕ → Type 0
 NoMoves b low high = (i : ℕ) (d : Offer) → low ≤ i → i < high → is_leaving_of b (slice_index_or b.files i d) ≡ false
 
--- none of them is read or refused now
-abbrev pub NoOthers : Standing → ℕ → ℕ → Type 0
-NoOthers b low high = (i : ℕ) (d : Offer) → low ≤ i → i < high → has_other_of b (slice_index_or b.files i d) ≡ false
+-- the place of a file in the order in which files are read or refused: those that are no searches come first, then the searches
+abbrev pub read_place : ℕ → ℕ → Bool → ℕ
+read_place many i search = if search then many + i else i
 
--- the station may be asked for none of the files before an index
-abbrev pub NoAsksBefore : Standing → ℕ → Type 0
-NoAsksBefore b high = (i : ℕ) (d : Offer) → i < high → ask_moment_of b (slice_index_or b.files i d) ≡ None
+-- the same of a file of the book
+abbrev pub place_of : Standing → ℕ → Offer → ℕ
+place_of b i o = read_place (length b.files) i (is_search o.request.kind)
+
+-- none of the files at the places from one to another is read or refused now
+abbrev pub NoOthers : Standing → ℕ → ℕ → Type 0
+NoOthers b low high =
+    (i : ℕ) (d : Offer) → i < length b.files → low ≤ place_of b i (slice_index_or b.files i d) → place_of b i (slice_index_or b.files i d) < high → has_other_of b (slice_index_or b.files i d) ≡ false
+
+-- the file at an index is read or refused now, and its place is this one
+pub record IsOtherAt (b : Standing) (at index : ℕ) : Type 0 where
+  pub within : index < length b.files
+  pub place : (d : Offer) → place_of b index (slice_index_or b.files index d) ≡ at
+  pub has : (d : Offer) → has_other_of b (slice_index_or b.files index d) ≡ true
+
+-- none of the files has such a moment
+abbrev pub NoneAmong : (Offer → Option ℕ) → List Offer → Type 0
+NoneAmong moment_of files = (i : ℕ) (d : Offer) → i < length files → moment_of (slice_index_or files i d) ≡ None
 
 -- the station may be asked for none of the files
 abbrev pub NoAsks : Standing → Type 0
-NoAsks b = NoAsksBefore b (length b.files)
+NoAsks b = NoneAmong (ask_moment_of b) b.files
 
--- of the files before an index the station may be asked for the one that stands here, since this moment, and for none since an earlier one
-pub record IsSoonestBefore (b : Standing) (high index moment : ℕ) : Type 0 where
-  pub within : index < high
-  pub is : (d : Offer) → ask_moment_of b (slice_index_or b.files index d) ≡ Some moment
-  pub first : (i : ℕ) (d : Offer) → i < high → IfSome (ask_moment_of b (slice_index_or b.files i d)) (λ own. moment ≤ own)
-
--- the same of all files: its moment came first
-abbrev pub IsSoonest : Standing → ℕ → Type 0
-IsSoonest b index = (moment : ℕ) × IsSoonestBefore b (length b.files) index moment
-
--- what was found of the files before an index
-abbrev pub MatchSoonest : Standing → ℕ → Option (ℕ × ℕ) → Type 0
-MatchSoonest b high None = NoAsksBefore b high
-MatchSoonest b high (Some first) = IsSoonestBefore b high first.0 first.1
+-- the station may be asked for none of the searches
+abbrev pub NoSearches : Standing → Type 0
+NoSearches b = NoneAmong (ask_moment_among true b) b.files
 
 -- the file that asks for this does not leave the offers now; or there is no such file
 abbrev pub HasLeft : Standing → Request → Type 0

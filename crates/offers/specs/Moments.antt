@@ -13,12 +13,17 @@ AreNone moments = (i : ℕ) → moment_at moments i ≡ None
 abbrev pub NoneIn : List (Option ℕ) → ℕ → ℕ → Type 0
 NoneIn moments low high = (i : ℕ) → low ≤ i → i < high → moment_at moments i ≡ None
 
--- of those from one index to another this moment stands at this index, and none comes before it
+-- there is none from one index on
+abbrev pub NoneFrom : List (Option ℕ) → ℕ → Type 0
+NoneFrom moments low = (i : ℕ) → low ≤ i → moment_at moments i ≡ None
+
+-- of those from one index to another this moment stands at this index, none comes before it, and of those that are the same it is the first
 pub record IsFirstIn (moments : List (Option ℕ)) (low high index moment : ℕ) : Type 0 where
   pub above : low ≤ index
   pub within : index < high
   pub is : moment_at moments index ≡ Some moment
   pub first : (i : ℕ) → low ≤ i → i < high → IfSome (moment_at moments i) (λ own. moment ≤ own)
+  pub least : (i : ℕ) → low ≤ i → i < index → IfSome (moment_at moments i) (λ own. moment < own)
 
 -- what was found of those from one index to another
 abbrev pub MatchIn : List (Option ℕ) → ℕ → ℕ → Option (ℕ × ℕ) → Type 0

@@ -1,5 +1,5 @@
 -- The order of the files among the offers.
-use Rattle.std.specs.Prelude.{◌≡◌, ◌<◌, length, slice_index_or, ℕ, ◌+◌, ◌*◌, ◌≤◌, ◌==◌, suc, List, [], ◌∷◌, Option, Some, None, Bool, false, nat_lt, if◌then◌else◌}
+use Rattle.std.specs.Prelude.{◌≡◌, ◌<◌, length, slice_index_or, ℕ, ◌+◌, ◌*◌, ◌≤◌, ◌==◌, suc, List, [], ◌∷◌, Option, Some, None, Bool, true, false, nat_lt, if◌then◌else◌}
 use Rattle.folders.specs.declared.names.Kind.{Kind}
 use Rattle.folders.specs.declared.names.Kind.TheVariants.{Tape, Text, Withdraw, Seek}
 use Rattle.folders.specs.declared.names.Request.{Request}
@@ -12,6 +12,13 @@ kind_rank Tape = 0
 kind_rank Text = 1
 kind_rank Withdraw = 2
 kind_rank Seek = 3
+
+-- a search asks for what stands under a number; each other file offers an entry for it
+abbrev pub is_search : Kind → Bool
+is_search Tape = false
+is_search Text = false
+is_search Withdraw = false
+is_search Seek = true
 
 -- the place of a file among all files that there can be
 abbrev pub rank : Request → ℕ

@@ -1,5 +1,5 @@
 -- The rules: what is done with the files among the offers, and when.
-use Rattle.std.specs.Prelude.{◌≡◌, ◌≢◌, ◌<◌, ◌≤◌, ◌+◌, ℕ, List, Bool, false, nat_le, ◌==◌, ◌&&◌, Option, Some, None, is_some, length, not, if◌then◌else◌}
+use Rattle.std.specs.Prelude.{◌≡◌, ◌≢◌, ◌<◌, ◌≤◌, ◌+◌, ℕ, List, Bool, true, false, nat_le, ◌==◌, ◌&&◌, Option, Some, None, is_some, length, not, if◌then◌else◌}
 use Rattle.std.specs.List.{Any, AllPairs, list_any}
 use Rattle.std.specs.Ordering.{nat_cmp}
 use Rattle.std.specs.BTreeMap.{is_at}
@@ -14,13 +14,14 @@ use Rattle.tape_frames.specs.Entries.{owned_entry}
 use Rattle.offers.specs.declared.deed.Deed.{Deed}
 use Rattle.offers.specs.declared.deed.Deed.TheVariants.{Move, Ask, Read, Refuse}
 use Rattle.offers.specs.declared.offer.Offer.{Offer}
+use Rattle.offers.specs.Order.{is_search}
 use Rattle.offers.specs.declared.stage.Reason.{Reason}
 use Rattle.offers.specs.declared.stage.Stage.{Stage}
 use Rattle.offers.specs.declared.stage.Stage.TheVariants.{Watched, Waiting, UnderWay, Refused, Gone}
 
 -- what the book knows: the files among the offers, in order; the numbers under way; the entries of the numbers that were released; the
--- moment of the last look, and how long a file has to stay as it was found until it is whole; from which file on it is left to see whether it leaves the offers, and whether it is read or refused; whether it
--- is left to see for which the station may be asked; and how many were asked for in a row, eight at most
+-- moment of the last look, and how long a file has to stay as it was found until it is whole; from which file on it is left to see whether it leaves the offers, and from which place on whether it is read or refused; whether it
+-- is left to see for which the station may be asked; how many were asked for in a row; and how many that are no searches since the last that is one, each eight at most
 pub record Standing : Type 0 where
   pub files : List Offer
   pub window : List ℕ
@@ -31,6 +32,7 @@ pub record Standing : Type 0 where
   pub others : ℕ
   pub asks : Bool
   pub row : ℕ
+  pub since_search : ℕ
 
 -- the entry of a number among these
 abbrev pub entry_in : List (ℕ × Entry) → ℕ → Option Entry
@@ -152,6 +154,13 @@ is_leaving entry still looked o = is_whole still looked o && is_some (moment_of 
 abbrev pub ask_moment : Option Entry → Bool → ℕ → ℕ → Offer → Option ℕ
 ask_moment entry flies still looked o = if is_whole still looked o && not (is_some entry) && not flies then moment_of looked o.stage else None
 
+-- a moment of one of the searches, or of one of the others, and of no other file
+abbrev pub only_of : Bool → Bool → Option ℕ → Option ℕ
+only_of true true moment = moment
+only_of true false moment = None
+only_of false true moment = None
+only_of false false moment = moment
+
 -- whether a file was not read and is to be, or is to be refused, where its number is under way or is not
 abbrev pub is_other : Bool → ℕ → Stage → Bool
 is_other flies looked (Watched at replaced) = nat_le at looked && not flies
@@ -169,6 +178,9 @@ is_leaving_of b o = is_leaving (entry_of b o.request.number) b.still b.looked o
 
 abbrev pub ask_moment_of : Standing → Offer → Option ℕ
 ask_moment_of b o = ask_moment (entry_of b o.request.number) (is_under_way o.request.number b.window) b.still b.looked o
+
+abbrev pub ask_moment_among : Bool → Standing → Offer → Option ℕ
+ask_moment_among searches b o = only_of searches (is_search o.request.kind) (ask_moment_of b o)
 
 abbrev pub has_other_of : Standing → Offer → Bool
 has_other_of b o = has_other (is_under_way o.request.number b.window) b.still b.looked o

@@ -1,5 +1,5 @@
 -- In which order deeds come, and what each makes of the book.
-use Rattle.std.specs.Prelude.{◌≡◌, ◌⊎◌, ◌<◌, ◌≤◌, ◌+◌, ℕ, List, [], ◌∷◌, ◌++◌, Bool, true, false, nat_lt, nat_le, not, ◌&&◌, ◌||◌, min, Option, Some, None, length, slice_index_or, if◌then◌else◌}
+use Rattle.std.specs.Prelude.{◌≡◌, ◌⊎◌, ◌<◌, ◌≤◌, ◌+◌, ◌*◌, ℕ, List, [], ◌∷◌, ◌++◌, Bool, true, false, nat_lt, nat_le, not, ◌&&◌, ◌||◌, min, Option, Some, None, length, slice_index_or, if◌then◌else◌}
 use Rattle.pace.specs.declared.turns.Deeds.{Deeds}
 use Rattle.pace.specs.declared.turns.Deeds.TheVariants as deeds
 use Rattle.pace.specs.Order.{is_allowed}
@@ -8,9 +8,11 @@ use Rattle.offers.specs.declared.deed.Deed.{Deed}
 use Rattle.offers.specs.declared.deed.Deed.TheVariants.{Move, Ask, Read, Refuse}
 use Rattle.offers.specs.declared.offer.Offer.{Offer}
 use Rattle.offers.specs.declared.stage.News.TheVariants as news
-use Rattle.offers.specs.Order.{rank}
+use Rattle.folders.specs.declared.names.Kind.{Kind}
+use Rattle.offers.specs.Order.{rank, is_search}
 use Rattle.offers.specs.Rules.{Standing}
-use Rattle.offers.specs.Left.{NoMoves, NoOthers, NoAsks, IsSoonest}
+use Rattle.offers.specs.Asks.{IsFirstAsk}
+use Rattle.offers.specs.Left.{NoMoves, NoOthers, NoAsks, NoSearches}
 use Rattle.offers.specs.Stages.{after, changed}
 
 -- it moves a file for what was released
@@ -34,23 +36,23 @@ IsAskOf b index (Ask r) = (d : Offer) → (slice_index_or b.files index d).reque
 IsAskOf b index (Read r found replaced) = ⊥
 IsAskOf b index (Refuse r found why) = ⊥
 
--- the station is asked for the file whose moment came first
-abbrev pub AsksSoonest : Standing → Deed → Type 0
-AsksSoonest b deed = (index : ℕ) × IsSoonest b index × IsAskOf b index deed
+-- the station is asked for the file that comes first
+abbrev pub AsksFirst : Standing → Deed → Type 0
+AsksFirst b deed = (index : ℕ) × IsFirstAsk b index × IsAskOf b index deed
 
 -- a file might be asked for, and is not: that is not allowed now, or as many as may be are under way
 abbrev pub IsHeld : Standing → Bool → Type 0
-IsHeld b asks = ((index : ℕ) × IsSoonest b index) × ((asks ≡ false) ⊎ (16 ≤ length b.window))
+IsHeld b asks = ((index : ℕ) × IsFirstAsk b index) × ((asks ≡ false) ⊎ (16 ≤ length b.window))
 
 -- no file that is left is read or refused now
 abbrev pub NoOthersLeft : Standing → Type 0
-NoOthersLeft b = NoOthers b b.others (length b.files)
+NoOthersLeft b = NoOthers b b.others (2 * length b.files)
 
 -- what comes behind the moves: the station is asked, if there is a file to ask for; where there is none, a file is read or refused
 abbrev pub IsAskOrOther : Standing → Bool → Option Deed → Type 0
 IsAskOrOther b asks None = (NoAsks b × NoOthersLeft b) ⊎ IsHeld b asks
 IsAskOrOther b asks (Some (Move r found to)) = ⊥
-IsAskOrOther b asks (Some (Ask r)) = (asks ≡ true) × AsksSoonest b (Ask r)
+IsAskOrOther b asks (Some (Ask r)) = (asks ≡ true) × AsksFirst b (Ask r)
 IsAskOrOther b asks (Some (Read r found replaced)) = NoAsks b
 IsAskOrOther b asks (Some (Refuse r found why)) = NoAsks b
 
@@ -62,7 +64,7 @@ OthersWait b = (b.row < 8) ⊎ NoOthersLeft b
 abbrev pub OthersCome : Standing → Type 0
 OthersCome b = (8 ≤ b.row) ⊎ NoAsks b
 
--- the order of what comes behind the moves: asks, the one whose moment came first; then the others, but one of these after eight asks
+-- the order of what comes behind the moves: asks, in their own order; then the others, but one of these after eight asks
 abbrev pub IsBehindMoves : Standing → Bool → Option Deed → Type 0
 IsBehindMoves b asks None = OthersWait b × IsAskOrOther b asks None
 IsBehindMoves b asks (Some (Move r found to)) = ⊥
@@ -90,6 +92,25 @@ row_after (Some (Ask r)) row = min (row + 1) 8
 row_after (Some (Read r found replaced)) row = 0
 row_after (Some (Refuse r found why)) row = 0
 
+-- how many that are no searches were asked for since the last that is one, as far as that matters, once one of a kind is asked for
+abbrev pub since_ask : Kind → ℕ → ℕ
+since_ask kind since = if is_search kind then 0 else min (since + 1) 8
+
+-- the same once this is done
+abbrev pub since_after : Option Deed → ℕ → ℕ
+since_after None since = since
+since_after (Some (Move r found to)) since = since
+since_after (Some (Ask r)) since = since_ask r.kind since
+since_after (Some (Read r found replaced)) since = since
+since_after (Some (Refuse r found why)) since = since
+
+-- a file that is no search goes before the searches only where fewer than eight did since the last, or the station may be asked for no search
+abbrev pub PassesFew : Standing → Deed → Type 0
+PassesFew b (Move r found to) = Unit {0}
+PassesFew b (Ask r) = (is_search r.kind ≡ true) ⊎ ((b.since_search < 8) ⊎ NoSearches b)
+PassesFew b (Read r found replaced) = Unit {0}
+PassesFew b (Refuse r found why) = Unit {0}
+
 -- the number of the file that the station is asked for is under way
 abbrev pub window_after : Option Deed → List ℕ → List ℕ
 window_after None window = window
@@ -106,12 +127,12 @@ files_after (Some (Ask r)) files = changed (rank r) (after news.Asked 0) files
 files_after (Some (Read r found replaced)) files = files
 files_after (Some (Refuse r found why)) files = files
 
--- where a file is read or refused, the work goes on behind it, and no further than the last file
+-- where a file is read or refused, the work goes on behind it, and no further than the last place
 abbrev pub AdvancesOther : Standing → Standing → Deed → Type 0
 AdvancesOther old new (Move r found to) = ⊥
 AdvancesOther old new (Ask r) = Unit {0}
-AdvancesOther old new (Read r found replaced) = (old.others < new.others) × (new.others ≤ length old.files)
-AdvancesOther old new (Refuse r found why) = (old.others < new.others) × (new.others ≤ length old.files)
+AdvancesOther old new (Read r found replaced) = (old.others < new.others) × (new.others ≤ 2 * length old.files)
+AdvancesOther old new (Refuse r found why) = (old.others < new.others) × (new.others ≤ 2 * length old.files)
 
 -- the same of all work: nothing is handed out twice
 abbrev pub Advances : Standing → Standing → Deed → Type 0
@@ -122,19 +143,19 @@ Advances old new (Refuse r found why) = old.others < new.others
 
 -- where no file is overdue, nothing has changed; or no file is left that is read or refused
 abbrev pub IsEarly : Standing → Standing → Type 0
-IsEarly old new = ((old.row < 8) × (new.others ≡ old.others)) ⊎ (NoOthersLeft old × (new.others ≡ length old.files))
+IsEarly old new = ((old.row < 8) × (new.others ≡ old.others)) ⊎ (NoOthersLeft old × (new.others ≡ 2 * length old.files))
 
 -- where nothing comes behind the moves, it was seen of all files, or a file is held
 abbrev pub IsStill : Standing → Standing → Bool → Type 0
 IsStill old new asks =
-    ((new.asks ≡ false) × (length old.files ≤ new.others))
+    ((new.asks ≡ false) × (2 * length old.files ≤ new.others))
     ⊎ ((new.asks ≡ true) × (new.others ≡ old.others) × ((asks ≡ false) ⊎ (16 ≤ length old.window)))
 
 -- what is left to be done with files, as far as it was seen: others where one may be left whose turn it is, asks where one may be left
 abbrev pub deeds_left : Bool → Standing → Deeds
 deeds_left moves b =
     if moves && nat_lt b.moves (length b.files) then deeds.Others
-    else if nat_lt b.others (length b.files) && (nat_le 8 b.row || not b.asks) then deeds.Others
+    else if nat_lt b.others (2 * length b.files) && (nat_le 8 b.row || not b.asks) then deeds.Others
     else if b.asks then deeds.Asks
     else deeds.Nothing
 

@@ -31,6 +31,11 @@ const STILL: u64 = 500;
 /// How many files are asked for in a row, though something else is to be done.
 pub(crate) const MOST_IN_A_ROW: usize = 8;
 
+/// How many files that are no searches are asked for in a row, though a search waits. Somebody waits for a story, so it goes before
+/// thousands of searches; eight is half of the numbers that may be under way, so a search waits for no more, and costs a burst of stories
+/// one ask of nine.
+pub(crate) const MOST_WITHOUT_A_SEARCH: usize = 8;
+
 /// What is known of the files among the offers of a plant, and what is to be done with them. It does none of it: it is told what was
 /// found and what came of each deed, in the order in which that happened. Times are in milliseconds.
 #[derive(Drop)]
@@ -41,12 +46,14 @@ pub struct Book {
     pub(crate) known: Known,
     /// From which file on it is left to see whether it leaves the offers.
     pub(crate) moves: usize,
-    /// From which file on it is left to see whether it is read or refused.
+    /// From which place on it is left to see whether its file is read or refused: those that are no searches come first, then the searches.
     pub(crate) others: usize,
     /// Whether it is left to see for which the station may be asked.
     pub(crate) asks: bool,
     /// How many files were asked for in a row, as far as that matters.
     pub(crate) row: usize,
+    /// How many files that are no searches were asked for since the last search, as far as that matters.
+    pub(crate) since_search: usize,
     /// What may be done with each file.
     pub(crate) marks: Marks,
 }
@@ -57,12 +64,12 @@ impl Model for Book {
 
     ghost Value = { Standing };
 
-    ghost view = { λ b. record { files = b.offers.items; window = b.known.window; released = b.known.released.entries; looked = b.known.looked; still = b.known.still; moves = b.moves; others = b.others; asks = b.asks; row = b.row } };
+    ghost view = { λ b. record { files = b.offers.items; window = b.known.window; released = b.known.released.entries; looked = b.known.looked; still = b.known.still; moves = b.moves; others = b.others; asks = b.asks; row = b.row; since_search = b.since_search } };
 
-    ghost invariant = { λ b. IsBook (record { files = b.offers.items; window = b.known.window; released = b.known.released.entries; looked = b.known.looked; still = b.known.still; moves = b.moves; others = b.others; asks = b.asks; row = b.row }) b.marks };
+    ghost invariant = { λ b. IsBook (record { files = b.offers.items; window = b.known.window; released = b.known.released.entries; looked = b.known.looked; still = b.known.still; moves = b.moves; others = b.others; asks = b.asks; row = b.row; since_search = b.since_search }) b.marks };
 }
 
-/// An index that begins with the first again, where it has come to the end.
+/// A place that begins with the first again, where it has come to the searches or to the end.
 fn begun_again(index: usize, end: usize) -> usize
     ensures { result ≡ begun_again index end }
 {
@@ -103,13 +110,14 @@ impl Book {
             others: 0,
             asks: true,
             row: 0,
+            since_search: 0,
             marks: Marks::new(alloc),
         }
     }
 
     /// Takes in what a look found among the offers, at a moment: in the order of [`rank`](crate::rank), each file once. What stands out of
-    /// order is passed over. A file that is no longer found is forgotten, and one that was changed is watched anew. Where there is no
-    /// memory, the book stays as it was.
+    /// order is passed over. A file that is no longer found is forgotten, and one that was changed is watched anew. Where searches were
+    /// being read, files that are no searches come first again. Where there is no memory, the book stays as it was.
     pub fn see(&mut self, found: &[Found], now: u64) -> Result<(), AllocError>
         ensures ok { OnOk result (self.new ≡ record self.old { files = looked self.old.files now found.now; looked = now; moves = 0; others = begun_again self.old.others (length self.old.files); asks = true }) }
         ensures err { OnErr result (self.new ≡ self.old) }
@@ -134,7 +142,7 @@ impl Book {
         let end = self.offers.len();
         if moves && self.moves < end {
             Deeds::Others
-        } else if self.others < end && (self.row >= MOST_IN_A_ROW || !self.asks) {
+        } else if self.others < 2 * end && (self.row >= MOST_IN_A_ROW || !self.asks) {
             Deeds::Others
         } else if self.asks {
             Deeds::Asks

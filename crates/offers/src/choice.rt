@@ -1,20 +1,21 @@
 //! Which deed comes next.
 
-ghost use Rattle.std.specs.Prelude.{◌≡◌, ◌≤◌, ◌<◌, ◌+◌, ◌-◌, ◌↔◌, Some, None, IsTrue, if◌then◌else◌, IfSome, length, is_some, min, true, slice_index_or};
+ghost use Rattle.std.specs.Prelude.{◌≡◌, ◌≤◌, ◌<◌, ◌+◌, ◌-◌, ◌*◌, ◌↔◌, Some, None, IsTrue, if◌then◌else◌, IfSome, length, is_some, min, true, false, slice_index_or};
 ghost use Rattle.offers.specs.declared.offer.Offer.{Offer};
-ghost use Rattle.offers.specs.Rules.{MayDo};
+ghost use Rattle.offers.specs.Rules.{MayDo, ask_moment_among, has_other_of};
 ghost use Rattle.offers.specs.Stages.{after, changed, tape_of, text_of, withdrawal_of, search_of};
 ghost use Rattle.offers.specs.Order.{rank, Rises};
 ghost use Rattle.pace.specs.UnderWay.{with_one};
-ghost use Rattle.offers.specs.Left.{NoMoves, NoOthers, NoAsks, IsSoonest, MatchSoonest, HasLeft};
-ghost use Rattle.offers.specs.Turns.{IsMove, IsOtherDeed, IsAskOf, NoMovesLeft, IsAskOrOther, IsEarly, IsStill, IsBehindMoves, IsInTurn, Rests, RestsButMoves, Advances, AdvancesOther, row_after, window_after, files_after};
+ghost use Rattle.offers.specs.Asks.{IsFirstAsk, MatchFirstAsk, MatchSoonest};
+ghost use Rattle.offers.specs.Left.{NoMoves, NoOthers, NoAsks, IsOtherAt, HasLeft};
+ghost use Rattle.offers.specs.Turns.{IsMove, IsOtherDeed, IsAskOf, NoMovesLeft, IsAskOrOther, IsEarly, IsStill, IsBehindMoves, IsInTurn, Rests, RestsButMoves, Advances, AdvancesOther, PassesFew, row_after, since_ask, since_after, window_after, files_after};
 
-use crate::book::{Book, MOST_IN_A_ROW};
+use crate::book::{Book, MOST_IN_A_ROW, MOST_WITHOUT_A_SEARCH};
 use crate::deed::{Allowed, Deed};
 use crate::edits::{index_of, request_of, tell};
 use crate::marks::remark;
 use crate::offer::Offer;
-use crate::order::rank;
+use crate::order::{is_search, rank};
 use crate::rules::{leaving, other};
 use crate::stage::News;
 use ballots::Number;
@@ -27,6 +28,26 @@ fn count_if(row: &mut usize, is_asked: bool)
 {
     if is_asked {
         *row = row.saturating_add(1).min(MOST_IN_A_ROW);
+    }
+}
+
+/// How many that are no searches were asked for since the last that is one, as far as that matters, once one of a kind is asked for.
+fn since_ask(since: usize, kind: Kind) -> usize
+    ensures { result ≡ since_ask kind since }
+{
+    if is_search(kind) {
+        0
+    } else {
+        since.saturating_add(1).min(MOST_WITHOUT_A_SEARCH)
+    }
+}
+
+/// Where a file of a kind is asked for, counts how many that are no searches were since the last that is one.
+fn count_kind(since: &mut usize, is_asked: bool, kind: Kind)
+    ensures { since.new ≡ (if is_asked then since_ask kind since.old else since.old) }
+{
+    if is_asked {
+        *since = since_ask(*since, kind);
     }
 }
 
@@ -126,22 +147,60 @@ impl Book {
         requires { index < length self.now.files }
         ensures some { IfSome result (MayDo self.now) }
         ensures kind { IfSome result IsOtherDeed }
-        ensures none { result ≡ None → NoOthers self.now index (index + 1) }
+        ensures none { result ≡ None → (d : Offer) → has_other_of self.now (slice_index_or self.now.files index d) ≡ false }
     {
         other(&self.offers[index], &self.known)
     }
 
-    /// The first file of those that are left that is read or refused.
+    /// The index of the first file of those that are no searches and are left that is marked, by its place.
+    fn next_entry(&self) -> Option<usize>
+        ensures some { IfSome result (λ i. IsOtherAt self.now i i) }
+        ensures from { IfSome result (λ i. self.now.others ≤ i) }
+        ensures before { IfSome result (λ i. NoOthers self.now self.now.others i) }
+        ensures none { result ≡ None → NoOthers self.now self.now.others (length self.now.files) }
+    {
+        self.marks.others.next(self.others)
+    }
+
+    /// The same of the searches, whose places stand behind those of all files.
+    fn next_search(&self) -> Option<usize>
+        ensures some { IfSome result (λ i. IsOtherAt self.now (length self.now.files + i) i) }
+        ensures from { IfSome result (λ i. self.now.others ≤ length self.now.files + i) }
+        ensures before { NoOthers self.now self.now.others (length self.now.files) → IfSome result (λ i. NoOthers self.now self.now.others (length self.now.files + i)) }
+        ensures none { NoOthers self.now self.now.others (length self.now.files) → result ≡ None → NoOthers self.now self.now.others (2 * length self.now.files) }
+    {
+        let from = self.others.saturating_sub(self.offers.len());
+        self.marks.sought.next(from)
+    }
+
+    /// The first place of those that are left at which a file is read or refused, with the index of the file.
+    fn next_place(&self) -> Option<(usize, usize)>
+        ensures some { IfSome result (λ p. IsOtherAt self.now p.0 p.1) }
+        ensures from { IfSome result (λ p. self.now.others ≤ p.0) }
+        ensures within { IfSome result (λ p. p.0 < 2 * length self.now.files) }
+        ensures before { IfSome result (λ p. NoOthers self.now self.now.others p.0) }
+        ensures none { result ≡ None → NoOthers self.now self.now.others (2 * length self.now.files) }
+    {
+        match self.next_entry() {
+            Some(index) => Some((index, index)),
+            None => match self.next_search() {
+                Some(index) => Some((self.offers.len() + index, index)),
+                None => None,
+            },
+        }
+    }
+
+    /// The first place of those that are left whose file is read or refused.
     fn first_other(&self) -> Option<(usize, Deed)>
-        ensures within { IfSome result (λ p. (self.now.others ≤ p.0) × (p.0 < length self.now.files)) }
+        ensures within { IfSome result (λ p. (self.now.others ≤ p.0) × (p.0 < 2 * length self.now.files)) }
         ensures before { IfSome result (λ p. NoOthers self.now self.now.others p.0) }
         ensures rules { IfSome result (λ p. MayDo self.now p.1) }
         ensures kind { IfSome result (λ p. IsOtherDeed p.1) }
-        ensures none { result ≡ None → NoOthers self.now self.now.others (length self.now.files) }
+        ensures none { result ≡ None → NoOthers self.now self.now.others (2 * length self.now.files) }
     {
-        match self.marks.others.next(self.others) {
-            Some(index) => match self.other_at(index) {
-                Some(deed) => Some((index, deed)),
+        match self.next_place() {
+            Some((place, index)) => match self.other_at(index) {
+                Some(deed) => Some((place, deed)),
                 None => None,
             },
             None => None,
@@ -154,35 +213,50 @@ impl Book {
         ensures kind { IfSome result IsOtherDeed }
         ensures passed { NoOthers self.old self.old.others (self.new.others - 1) }
         ensures forward { IfSome result (λ _. self.old.others < self.new.others) }
-        ensures within { IfSome result (λ _. self.new.others ≤ length self.old.files) }
-        ensures none { result ≡ None → NoOthers self.old self.old.others (length self.old.files) }
-        ensures done { result ≡ None → self.new.others ≡ length self.old.files }
+        ensures within { IfSome result (λ _. self.new.others ≤ 2 * length self.old.files) }
+        ensures none { result ≡ None → NoOthers self.old self.old.others (2 * length self.old.files) }
+        ensures done { result ≡ None → self.new.others ≡ 2 * length self.old.files }
         ensures same { self.new ≡ record self.old { others = self.new.others; row = row_after result self.old.row } }
     {
         match self.first_other() {
-            Some((index, deed)) => {
-                self.others = index + 1;
+            Some((place, deed)) => {
+                self.others = place + 1;
                 self.row = 0;
                 Some(deed)
             }
             None => {
-                self.others = self.offers.len();
+                self.others = 2 * self.offers.len();
                 None
             }
         }
     }
 
-    /// The file for which the station may be asked whose moment came first, with that moment.
-    fn soonest(&self) -> Option<(usize, u64)>
-        ensures { MatchSoonest self.now (length self.now.files) result }
+    /// The file for which the station may be asked whose moment came first, of the searches or of the others, with that moment.
+    fn soonest_of(&self, searches: bool) -> Option<(usize, u64)>
+        ensures { MatchSoonest (ask_moment_among searches self.now) self.now.files result }
     {
-        self.marks.asks.first()
+        if searches {
+            self.marks.searches.first()
+        } else {
+            self.marks.entries.first()
+        }
+    }
+
+    /// The file that comes first of those for which the station may be asked: the searches go last, or first, where it is their turn.
+    fn soonest(&self) -> Option<(usize, u64)>
+        ensures { MatchFirstAsk self.now result }
+    {
+        let searches = self.since_search >= MOST_WITHOUT_A_SEARCH;
+        match self.soonest_of(searches) {
+            Some(first) => Some(first),
+            None => self.soonest_of(!searches),
+        }
     }
 
     /// The same, where it is left to see for which the station may be asked.
     fn first_ask(&self) -> Option<usize>
         ensures within { IfSome result (λ index. index < length self.now.files) }
-        ensures some { IfSome result (λ index. IsSoonest self.now index) }
+        ensures some { IfSome result (λ index. IsFirstAsk self.now index) }
         ensures none { result ≡ None → NoAsks self.now }
         ensures asks { IfSome result (λ _. self.now.asks ≡ true) }
     {
@@ -208,12 +282,12 @@ impl Book {
     fn ask_at(&mut self, index: usize, request: Request) -> Option<Deed>
         requires within { index < length self.old.files }
         requires request { (d : Offer) → (slice_index_or self.old.files index d).request ≡ request }
-        requires soonest { IsSoonest self.old index }
+        requires first { IsFirstAsk self.old index }
         requires left { self.old.asks ≡ true }
         ensures rules { IfSome result (MayDo self.old) }
         ensures kind { IfSome result (IsAskOf self.old index) }
         ensures none { result ≡ None → 16 ≤ length self.old.window }
-        ensures same { self.new ≡ record self.old { asks = self.new.asks; row = row_after result self.old.row; window = window_after result self.old.window; files = files_after result self.old.files } }
+        ensures same { self.new ≡ record self.old { asks = self.new.asks; row = row_after result self.old.row; since_search = since_after result self.old.since_search; window = window_after result self.old.window; files = files_after result self.old.files } }
         ensures asks { self.new.asks ≡ true }
     {
         let found = take_off(&mut self.known.window, &mut self.offers, &request);
@@ -224,18 +298,18 @@ impl Book {
             request.number,
         );
         count_if(&mut self.row, found);
+        count_kind(&mut self.since_search, found, request.kind);
         ask_if(found, &request)
     }
 
-    /// Asks for the file whose moment came first, where that is allowed and there is room; where there is none, another is read or
-    /// refused.
+    /// Asks for the file that comes first, where that is allowed and there is room; where there is none, another is read or refused.
     fn ask_or_other(&mut self, asks: bool) -> Option<Deed>
         ensures rules { IfSome result (MayDo self.old) }
         ensures turn { IsAskOrOther self.old asks result }
         ensures still { result ≡ None → IsStill self.old self.new asks }
         ensures passed { NoOthers self.old self.old.others (self.new.others - 1) }
         ensures forward { IfSome result (AdvancesOther self.old self.new) }
-        ensures same { self.new ≡ record self.old { others = self.new.others; asks = self.new.asks; row = row_after result self.old.row; window = window_after result self.old.window; files = files_after result self.old.files } }
+        ensures same { self.new ≡ record self.old { others = self.new.others; asks = self.new.asks; row = row_after result self.old.row; since_search = since_after result self.old.since_search; window = window_after result self.old.window; files = files_after result self.old.files } }
     {
         match self.first_ask() {
             Some(index) => {
@@ -261,7 +335,7 @@ impl Book {
         ensures early { result ≡ None → IsEarly self.old self.new }
         ensures passed { NoOthers self.old self.old.others (self.new.others - 1) }
         ensures forward { IfSome result (λ _. self.old.others < self.new.others) }
-        ensures within { IfSome result (λ _. self.new.others ≤ length self.old.files) }
+        ensures within { IfSome result (λ _. self.new.others ≤ 2 * length self.old.files) }
         ensures same { self.new ≡ record self.old { others = self.new.others; row = row_after result self.old.row } }
     {
         if self.row >= MOST_IN_A_ROW {
@@ -278,7 +352,7 @@ impl Book {
         ensures rests { result ≡ None → RestsButMoves self.new asks }
         ensures passed { NoOthers self.old self.old.others (self.new.others - 1) }
         ensures forward { IfSome result (AdvancesOther self.old self.new) }
-        ensures same { self.new ≡ record self.old { others = self.new.others; asks = self.new.asks; row = row_after result self.old.row; window = window_after result self.old.window; files = files_after result self.old.files } }
+        ensures same { self.new ≡ record self.old { others = self.new.others; asks = self.new.asks; row = row_after result self.old.row; since_search = since_after result self.old.since_search; window = window_after result self.old.window; files = files_after result self.old.files } }
     {
         match self.overdue() {
             Some(deed) => Some(deed),
@@ -287,16 +361,18 @@ impl Book {
     }
 
     /// What is to be done next, of what is allowed, if anything is left since the last look: first, files are moved whose numbers were
-    /// released; then the station is asked for files, for the one first whose moment came first; then files are read, or refused, but one
-    /// of these after eight that were asked for. A file that is asked for is under way, until it is told what became of its number.
+    /// released; then the station is asked for files, in the order of their moments, for the searches behind the others; then files are
+    /// read, or refused, searches behind the others too, but one of these after eight that were asked for. One search is asked for first
+    /// after eight others that were. A file that is asked for is under way, until it is told what became of its number.
     pub fn next(&mut self, allowed: Allowed) -> Option<Deed>
         ensures rules { IfSome result (MayDo self.old) }
         ensures turn { IsInTurn self.old allowed result }
+        ensures fair { IfSome result (PassesFew self.old) }
         ensures rests { result ≡ None → Rests self.new allowed }
         ensures moves { NoMoves self.old self.old.moves (self.new.moves - 1) }
         ensures others { NoOthers self.old self.old.others (self.new.others - 1) }
         ensures forward { IfSome result (Advances self.old self.new) }
-        ensures same { self.new ≡ record self.old { moves = self.new.moves; others = self.new.others; asks = self.new.asks; row = row_after result self.old.row; window = window_after result self.old.window; files = files_after result self.old.files } }
+        ensures same { self.new ≡ record self.old { moves = self.new.moves; others = self.new.others; asks = self.new.asks; row = row_after result self.old.row; since_search = since_after result self.old.since_search; window = window_after result self.old.window; files = files_after result self.old.files } }
     {
         match self.move_if(allowed.moves) {
             Some(deed) => Some(deed),

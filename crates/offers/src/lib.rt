@@ -8,6 +8,7 @@ mod choice;
 mod deed;
 mod edits;
 mod known;
+pub mod laws;
 mod look;
 mod marks;
 mod moments;

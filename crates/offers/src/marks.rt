@@ -1,15 +1,16 @@
 //! What may be done with each file now. It is kept up as each changes, so that what comes next is found without a walk over all.
 
-ghost use Rattle.std.specs.Prelude.{◌≡◌, ◌<◌, ◌≤◌, None, [], IfOk, length, slice_set};
+ghost use Rattle.std.specs.Prelude.{◌≡◌, ◌<◌, ◌≤◌, [], true, false, IfOk, length, slice_set};
 ghost use Rattle.offers.specs.Marks.{flag, move_mark, other_mark, ask_mark, AreMarks, HasRoom, RemarksPlace, RemarksNumber};
-ghost use Rattle.offers.specs.Moments.{moment_at, AreNone};
+ghost use Rattle.offers.specs.Moments.{AreNone, NoneFrom};
 ghost use Rattle.offers.specs.Order.{rank, Rises};
+ghost use Rattle.offers.specs.Rules.{only_of};
 
 use crate::edits::{index_of, request_of};
 use crate::known::Known;
 use crate::moments::Moments;
 use crate::offer::Offer;
-use crate::order::rank;
+use crate::order::{is_search, rank};
 use crate::rules::{ask_moment, has_other, is_leaving};
 use ballots::Number;
 use folders::Kind;
@@ -20,10 +21,14 @@ use std::alloc::{AllocError, Global};
 pub(crate) struct Mark {
     /// It leaves the offers.
     pub(crate) moves: Option<u64>,
-    /// It is read or refused.
+    /// It is no search, and is read or refused.
     pub(crate) others: Option<u64>,
-    /// The station may be asked for it, since this moment.
-    pub(crate) asks: Option<u64>,
+    /// It is a search, and is read or refused.
+    pub(crate) sought: Option<u64>,
+    /// It is no search, and the station may be asked for it, since this moment.
+    pub(crate) entries: Option<u64>,
+    /// It is a search, and the station may be asked for it, since this moment.
+    pub(crate) searches: Option<u64>,
 }
 
 /// The same of all files, by their index.
@@ -31,7 +36,9 @@ pub(crate) struct Mark {
 pub(crate) struct Marks {
     pub(crate) moves: Moments,
     pub(crate) others: Moments,
-    pub(crate) asks: Moments,
+    pub(crate) sought: Moments,
+    pub(crate) entries: Moments,
+    pub(crate) searches: Moments,
 }
 
 /// Marks what holds.
@@ -41,16 +48,30 @@ fn flag(holds: bool) -> Option<u64>
     if holds { Some(0) } else { None }
 }
 
+/// A moment of one of the searches, or of one of the others, and of no other file.
+fn only_of(searches: bool, is_search: bool, moment: Option<u64>) -> Option<u64>
+    ensures { result ≡ only_of searches is_search moment }
+{
+    if searches == is_search { moment } else { None }
+}
+
 /// What may be done with a file.
 fn mark_of(offer: &Offer, known: &Known) -> Mark
     ensures moves { result.moves ≡ move_mark known.now.released.entries known.now.still known.now.looked offer.now }
-    ensures others { result.others ≡ other_mark known.now.window known.now.still known.now.looked offer.now }
-    ensures asks { result.asks ≡ ask_mark known.now.released.entries known.now.window known.now.still known.now.looked offer.now }
+    ensures others { result.others ≡ other_mark false known.now.window known.now.still known.now.looked offer.now }
+    ensures sought { result.sought ≡ other_mark true known.now.window known.now.still known.now.looked offer.now }
+    ensures entries { result.entries ≡ ask_mark false known.now.released.entries known.now.window known.now.still known.now.looked offer.now }
+    ensures searches { result.searches ≡ ask_mark true known.now.released.entries known.now.window known.now.still known.now.looked offer.now }
 {
+    let other = has_other(offer, known);
+    let asks = ask_moment(offer, known);
+    let is_search = is_search(offer.request.kind);
     Mark {
         moves: flag(is_leaving(offer, known)),
-        others: flag(has_other(offer, known)),
-        asks: ask_moment(offer, known),
+        others: flag(!is_search && other),
+        sought: flag(is_search && other),
+        entries: only_of(false, is_search, asks),
+        searches: only_of(true, is_search, asks),
     }
 }
 
@@ -59,12 +80,16 @@ impl Marks {
     pub(crate) fn new(alloc: Global) -> Marks
         ensures moves { result.moves ≡ [] }
         ensures others { result.others ≡ [] }
-        ensures asks { result.asks ≡ [] }
+        ensures sought { result.sought ≡ [] }
+        ensures entries { result.entries ≡ [] }
+        ensures searches { result.searches ≡ [] }
     {
         Marks {
             moves: Moments::new(alloc),
             others: Moments::new(alloc),
-            asks: Moments::new(alloc),
+            sought: Moments::new(alloc),
+            entries: Moments::new(alloc),
+            searches: Moments::new(alloc),
         }
     }
 
@@ -72,15 +97,21 @@ impl Marks {
     pub(crate) fn none(alloc: Global, len: usize) -> Result<Marks, AllocError>
         ensures moves { IfOk result (λ m. (length m.moves ≡ len) × AreNone m.moves) }
         ensures others { IfOk result (λ m. (length m.others ≡ len) × AreNone m.others) }
-        ensures asks { IfOk result (λ m. (length m.asks ≡ len) × AreNone m.asks) }
+        ensures sought { IfOk result (λ m. (length m.sought ≡ len) × AreNone m.sought) }
+        ensures entries { IfOk result (λ m. (length m.entries ≡ len) × AreNone m.entries) }
+        ensures searches { IfOk result (λ m. (length m.searches ≡ len) × AreNone m.searches) }
     {
         let moves = Moments::none(alloc, len)?;
         let others = Moments::none(alloc, len)?;
-        let asks = Moments::none(alloc, len)?;
+        let sought = Moments::none(alloc, len)?;
+        let entries = Moments::none(alloc, len)?;
+        let searches = Moments::none(alloc, len)?;
         Ok(Marks {
             moves,
             others,
-            asks,
+            sought,
+            entries,
+            searches,
         })
     }
 
@@ -88,31 +119,45 @@ impl Marks {
     fn set(&mut self, index: usize, mark: Mark)
         requires moves { index < length self.old.moves }
         requires others { index < length self.old.others }
-        requires asks { index < length self.old.asks }
+        requires sought { index < length self.old.sought }
+        requires entries { index < length self.old.entries }
+        requires searches { index < length self.old.searches }
         ensures moves { self.new.moves ≡ slice_set self.old.moves index mark.moves }
         ensures others { self.new.others ≡ slice_set self.old.others index mark.others }
-        ensures asks { self.new.asks ≡ slice_set self.old.asks index mark.asks }
+        ensures sought { self.new.sought ≡ slice_set self.old.sought index mark.sought }
+        ensures entries { self.new.entries ≡ slice_set self.old.entries index mark.entries }
+        ensures searches { self.new.searches ≡ slice_set self.old.searches index mark.searches }
     {
         self.moves.set(index, mark.moves);
         self.others.set(index, mark.others);
-        self.asks.set(index, mark.asks);
+        self.sought.set(index, mark.sought);
+        self.entries.set(index, mark.entries);
+        self.searches.set(index, mark.searches);
     }
 
-    /// The same where nothing was marked.
+    /// The same where nothing is marked from there on.
     fn put(&mut self, index: usize, mark: Mark)
         requires moves { index < length self.old.moves }
         requires others { index < length self.old.others }
-        requires asks { index < length self.old.asks }
-        requires no_moves { moment_at self.old.moves index ≡ None }
-        requires no_others { moment_at self.old.others index ≡ None }
-        requires no_asks { moment_at self.old.asks index ≡ None }
+        requires sought { index < length self.old.sought }
+        requires entries { index < length self.old.entries }
+        requires searches { index < length self.old.searches }
+        requires no_moves { NoneFrom self.old.moves index }
+        requires no_others { NoneFrom self.old.others index }
+        requires no_sought { NoneFrom self.old.sought index }
+        requires no_entries { NoneFrom self.old.entries index }
+        requires no_searches { NoneFrom self.old.searches index }
         ensures moves { self.new.moves ≡ slice_set self.old.moves index mark.moves }
         ensures others { self.new.others ≡ slice_set self.old.others index mark.others }
-        ensures asks { self.new.asks ≡ slice_set self.old.asks index mark.asks }
+        ensures sought { self.new.sought ≡ slice_set self.old.sought index mark.sought }
+        ensures entries { self.new.entries ≡ slice_set self.old.entries index mark.entries }
+        ensures searches { self.new.searches ≡ slice_set self.old.searches index mark.searches }
     {
         self.moves.put(index, mark.moves);
         self.others.put(index, mark.others);
-        self.asks.put(index, mark.asks);
+        self.sought.put(index, mark.sought);
+        self.entries.put(index, mark.entries);
+        self.searches.put(index, mark.searches);
     }
 }
 
@@ -121,10 +166,14 @@ pub(crate) fn mark_all(marks: &mut Marks, offers: &[Offer], known: &Known)
     requires room { HasRoom offers.now marks.old }
     requires no_moves { AreNone marks.old.moves }
     requires no_others { AreNone marks.old.others }
-    requires no_asks { AreNone marks.old.asks }
+    requires no_sought { AreNone marks.old.sought }
+    requires no_entries { AreNone marks.old.entries }
+    requires no_searches { AreNone marks.old.searches }
     ensures moves { AreMarks (move_mark known.now.released.entries known.now.still known.now.looked) offers.now marks.new.moves }
-    ensures others { AreMarks (other_mark known.now.window known.now.still known.now.looked) offers.now marks.new.others }
-    ensures asks { AreMarks (ask_mark known.now.released.entries known.now.window known.now.still known.now.looked) offers.now marks.new.asks }
+    ensures others { AreMarks (other_mark false known.now.window known.now.still known.now.looked) offers.now marks.new.others }
+    ensures sought { AreMarks (other_mark true known.now.window known.now.still known.now.looked) offers.now marks.new.sought }
+    ensures entries { AreMarks (ask_mark false known.now.released.entries known.now.window known.now.still known.now.looked) offers.now marks.new.entries }
+    ensures searches { AreMarks (ask_mark true known.now.released.entries known.now.window known.now.still known.now.looked) offers.now marks.new.searches }
 {
     for index in 0..offers.len() {
         let mark = mark_of(&offers[index], known);
@@ -137,8 +186,10 @@ fn remark_at(marks: &mut Marks, offers: &[Offer], known: &Known, place: u32)
     requires rises { Rises offers.now }
     requires room { HasRoom offers.now marks.old }
     ensures moves { RemarksPlace (move_mark known.now.released.entries known.now.still known.now.looked) offers.now place marks.old.moves marks.new.moves }
-    ensures others { RemarksPlace (other_mark known.now.window known.now.still known.now.looked) offers.now place marks.old.others marks.new.others }
-    ensures asks { RemarksPlace (ask_mark known.now.released.entries known.now.window known.now.still known.now.looked) offers.now place marks.old.asks marks.new.asks }
+    ensures others { RemarksPlace (other_mark false known.now.window known.now.still known.now.looked) offers.now place marks.old.others marks.new.others }
+    ensures sought { RemarksPlace (other_mark true known.now.window known.now.still known.now.looked) offers.now place marks.old.sought marks.new.sought }
+    ensures entries { RemarksPlace (ask_mark false known.now.released.entries known.now.window known.now.still known.now.looked) offers.now place marks.old.entries marks.new.entries }
+    ensures searches { RemarksPlace (ask_mark true known.now.released.entries known.now.window known.now.still known.now.looked) offers.now place marks.old.searches marks.new.searches }
 {
     if let Some(index) = index_of(offers, place) {
         let mark = mark_of(&offers[index], known);
@@ -151,8 +202,10 @@ pub(crate) fn remark(marks: &mut Marks, offers: &[Offer], known: &Known, number:
     requires rises { Rises offers.now }
     requires room { HasRoom offers.now marks.old }
     ensures moves { RemarksNumber (move_mark known.now.released.entries known.now.still known.now.looked) offers.now number marks.old.moves marks.new.moves }
-    ensures others { RemarksNumber (other_mark known.now.window known.now.still known.now.looked) offers.now number marks.old.others marks.new.others }
-    ensures asks { RemarksNumber (ask_mark known.now.released.entries known.now.window known.now.still known.now.looked) offers.now number marks.old.asks marks.new.asks }
+    ensures others { RemarksNumber (other_mark false known.now.window known.now.still known.now.looked) offers.now number marks.old.others marks.new.others }
+    ensures sought { RemarksNumber (other_mark true known.now.window known.now.still known.now.looked) offers.now number marks.old.sought marks.new.sought }
+    ensures entries { RemarksNumber (ask_mark false known.now.released.entries known.now.window known.now.still known.now.looked) offers.now number marks.old.entries marks.new.entries }
+    ensures searches { RemarksNumber (ask_mark true known.now.released.entries known.now.window known.now.still known.now.looked) offers.now number marks.old.searches marks.new.searches }
 {
     remark_at(marks, offers, known, rank(request_of(number, Kind::Tape)));
     remark_at(marks, offers, known, rank(request_of(number, Kind::Text)));

@@ -2,7 +2,7 @@
 //! over all.
 
 ghost use Rattle.std.specs.Prelude.{◌≡◌, ◌≤◌, ◌<◌, ◌+◌, ◌*◌, [], None, IfOk, IfSome, IsSome, length, slice_set};
-ghost use Rattle.offers.specs.Moments.{moment_at, sooner, earlier, MatchIn, AreNone, NoneIn, AreBlocks};
+ghost use Rattle.offers.specs.Moments.{moment_at, sooner, earlier, MatchIn, AreNone, NoneIn, NoneFrom, AreBlocks};
 
 use std::alloc::{AllocError, Global};
 use std::marker::Model;
@@ -104,10 +104,10 @@ impl Moments {
         self.blocks[block] = first;
     }
 
-    /// The same where there was none.
+    /// The same where there was none from there on.
     pub(crate) fn put(&mut self, index: usize, moment: Option<u64>)
         requires within { index < length self.old }
-        requires none { moment_at self.old index ≡ None }
+        requires none { NoneFrom self.old index }
         ensures { self.new ≡ slice_set self.old index moment }
     {
         self.each[index] = moment;
@@ -115,7 +115,7 @@ impl Moments {
         self.blocks[block] = sooner(self.blocks[block], index, moment);
     }
 
-    /// The first of all, with its index.
+    /// The first of all, with its index: of those that are the same the one of the least index.
     pub(crate) fn first(&self) -> Option<(usize, u64)>
         ensures { MatchIn self.now 0 (length self.now) result }
     {

@@ -1,7 +1,7 @@
 //! The order of the files among the offers.
 
 ghost use Rattle.std.specs.Prelude.{◌≡◌, ◌≤◌};
-ghost use Rattle.offers.specs.Order.{kind_rank, rank};
+ghost use Rattle.offers.specs.Order.{kind_rank, rank, is_search};
 
 use folders::{Kind, Request};
 
@@ -15,6 +15,16 @@ fn kind_rank(kind: Kind) -> u32
         Kind::Text => 1,
         Kind::Withdraw => 2,
         Kind::Seek => 3,
+    }
+}
+
+/// Whether a file of a kind is a search. Each other file offers an entry.
+pub(crate) fn is_search(kind: Kind) -> bool
+    ensures { result ≡ is_search kind }
+{
+    match kind {
+        Kind::Tape | Kind::Text | Kind::Withdraw => false,
+        Kind::Seek => true,
     }
 }
 

@@ -23,6 +23,7 @@ IsOfOffer (steps.BadDatagram fault) = ⊥
 IsOfOffer steps.WrongCircuit = ⊥
 IsOfOffer steps.NotForMe = ⊥
 IsOfOffer steps.Stranger = ⊥
+IsOfOffer steps.NoSuchMember = ⊥
 IsOfOffer steps.AlreadyReleased = ⊥
 IsOfOffer steps.AlreadyOpen = ⊥
 IsOfOffer (steps.Store fault) = ⊥

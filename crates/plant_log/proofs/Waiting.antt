@@ -7,7 +7,7 @@ use Rattle.plant_log.specs.declared.story.Begun.TheVariants.{Never, Once, Often}
 use Rattle.plant_log.specs.declared.story.Story.{Story}
 use Rattle.plant_log.specs.declared.story.Turn.{Turn}
 use Rattle.plant_log.specs.declared.story.Turn.TheVariants.{Begins, Ends}
-use Rattle.plant_log.specs.Stories.{first_story, heard, is_second, one_more}
+use Rattle.plant_log.specs.Stories.{first_story, is_second, one_more}
 use Rattle.plant_log.specs.Night.{AreWithin, lines}
 
 -- how many ballots may still be told

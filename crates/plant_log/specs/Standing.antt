@@ -1,9 +1,6 @@
 -- Faults that go on, and when they are told again.
-use Rattle.std.specs.Prelude.{◌≡◌, ◌+◌, ◌≤◌, ◌⊎◌, ℕ, Bool, true, false, Option, Some, None}
-use Rattle.std.specs.Ordering.{nat_cmp}
-use Rattle.std.specs.BTreeMap.{BTreeMap, get, Updates}
+use Rattle.std.specs.Prelude.{◌≡◌, ◌+◌, ◌≤◌, ◌⊎◌, ℕ, Option, Some, None}
 use Rattle.folders.specs.declared.fault.FolderFault.{FolderFault}
-use Rattle.folders.specs.declared.fault.FolderFault.TheVariants as faults
 use Rattle.plant_log.specs.declared.standing.Standing.{Standing}
 
 -- a fault is told where nothing was told before, where another was, or where an hour has passed since

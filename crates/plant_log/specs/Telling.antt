@@ -1,5 +1,5 @@
 -- What a writer was given that tells of itself. One that does not may have been given anything.
-use Rattle.std.specs.Prelude.{◌≡◌, ◌++◌, ◌⊎◌, ℕ, List, [], ◌∷◌, Option, codes, map}
+use Rattle.std.specs.Prelude.{◌≡◌, ◌++◌, ◌⊎◌, ℕ, List, [], ◌∷◌, Option, codes}
 use Rattle.streams.specs.Fronts.{AppendsFront}
 use Rattle.folders.specs.declared.folders.News.{News}
 use Rattle.plant_log.specs.Words.{folders_text, news_text, no_memory}

@@ -1,5 +1,5 @@
 -- Faults of files that go on, and when they are told.
-use Rattle.std.specs.Prelude.{◌≡◌, ◌⊎◌, ℕ, List, Bool, true, false, Option, Some, None, codes}
+use Rattle.std.specs.Prelude.{◌≡◌, ◌⊎◌, ℕ, List, Bool, true, false, Option, Some, None}
 use Rattle.std.specs.Ordering.{nat_cmp}
 use Rattle.std.specs.BTreeMap.{BTreeMap, get, Updates}
 use Rattle.folders.specs.LogNames.{shown_name}
@@ -8,7 +8,7 @@ use Rattle.folders.specs.declared.fault.FolderFault.{FolderFault}
 use Rattle.folders.specs.declared.fault.FolderFault.TheVariants as faults
 use Rattle.plant_log.specs.declared.files.Trouble.{Trouble}
 use Rattle.plant_log.specs.declared.standing.Standing.{Standing}
-use Rattle.plant_log.specs.Words.{file_text, no_memory}
+use Rattle.plant_log.specs.Words.{file_text}
 use Rattle.plant_log.specs.Telling.{WasTold}
 use Rattle.plant_log.specs.Standing.{IsToldAnew}
 

@@ -17,7 +17,7 @@ use Rattle.station.specs.Readiness.{slugs_of, IsNumber}
 use Rattle.folders.specs.Doings.{Doing, saw_file, read_file, wrote_file, moved_file, removed_file}
 use Rattle.folders.specs.Written.{File}
 use Rattle.plant_files.specs.Filing.{entry_files, files_of, release_files}
-use Rattle.exchange.specs.Events.{Event, asked, took}
+use Rattle.exchange.specs.Events.{Event, asked, took, aside}
 use Rattle.run_command.specs.Filing.{filing}
 use Rattle.run_command.specs.Story.{stepped, events_of, doings_of, files_of_story}
 use Rattle.run_command.specs.Story.{Happened as Run}
@@ -131,6 +131,7 @@ among_either (y ∷ xs) ys x (inr i) = elim (among_either xs ys x i) [ inl k ↦
 stays : (order : Order) (day : List Happened) (m : ℕ) (r : Release) → WasReleased day m r → WasReleased (day_after day order) m r
 stays [] day m r it = it
 stays ((k, asked moment) ∷ rest) day m r it = stays rest day m r it
+stays ((k, aside what) ∷ rest) day m r it = stays rest day m r it
 stays ((k, took call answer) ∷ rest) day m r it = stays rest (did k call answer ∷ day) m r (it.0, inr it.1, it.2)
 
 -- a file of an answer is one of what it releases
@@ -147,6 +148,7 @@ answered m call (Err refusal) day f i = absurd i
 module _ (k : ℕ) (e : Event) (rest : Order) (day : List Happened) (m : ℕ) (f : File) where
   now_filed : (event : Event) → IsAmong (filing event) f → IsFiled (day_with k event day) k f
   now_filed (asked moment) i = absurd i
+  now_filed (aside what) i = absurd i
   now_filed (took call answer) i = answered k call answer day f i
 
   -- of an event, or of one behind it

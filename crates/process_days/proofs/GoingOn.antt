@@ -11,7 +11,7 @@ use Rattle.station.specs.declared.station.Station.{Station}
 use Rattle.station.specs.Steps.{tears, IsStep}
 use Rattle.refusals.specs.declared.refusal.StepRefusal.{StepRefusal}
 use Rattle.protocol.proofs.Places.{with_at-same}
-use Rattle.exchange.specs.Events.{Event, asked, took, Takes}
+use Rattle.exchange.specs.Events.{Event, asked, took, aside, Aside, Takes}
 use Rattle.days.specs.Happening.{In_call, Happened, did, Came}
 use Rattle.days.specs.Handing.{Plants, Member, runs, over, after_call}
 use Rattle.days.specs.Days.{Day, answers, refuses, DaysAgree}
@@ -39,6 +39,7 @@ module _ {R : Type 0} (g : Ghosts R) where
   was_kept : (s last : Station R) (log : List Event) → Takes g s last log → g.kept last.rows → g.kept s.rows
   was_kept s last [] it kept = subst (λ (t : Station R). g.kept t.rows) it kept
   was_kept s last (asked moment ∷ rest) it kept = was_kept s last rest it kept
+  was_kept s last (aside what ∷ rest) it kept = was_kept s last rest it kept
   was_kept s last (took call answer ∷ rest) it kept = it.1.was_kept (was_kept it.0 last rest it.2 kept)
 
   -- a process that is over tells nothing more, or goes on with a station that has stopped
@@ -59,6 +60,12 @@ module _ {R : Type 0} (g : Ghosts R) where
   clock_asked (runs s) last moment log it = it
   clock_asked (over ending s) last moment log (inl it) = inl it
   clock_asked (over ending s) last moment log (inr none) = absurd (no_more none)
+
+  -- something passed beside the packets
+  passed_by : (u : Member R) (last : Station R) (what : Aside) (log : List Event) → Goes u last (aside what ∷ log) → Goes u last log
+  passed_by (runs s) last what log it = it
+  passed_by (over ending s) last what log (inl it) = inl it
+  passed_by (over ending s) last what log (inr none) = absurd (no_more none)
 
   refused_on :
       (b : Bool) (call : Call) (old mid last : Station R) (log : List Event) → mid.stopped ≡ (b || old.stopped) → g.kept last.rows → Takes g mid last log
@@ -137,6 +144,8 @@ module _ {R : Type 0} (g : Ghosts R) where
     goes [] day at d all turn = (at, d, λ m member. left_so (at m) (last m) (all m member))
     goes ((k, asked moment) ∷ rest) day at d all turn =
         goes rest day at d (all_stay at k (asked moment) rest all (clock_asked (at k) (last k) moment (log_of k rest) (log_first at k (asked moment) rest turn.0 all))) turn.2
+    goes ((k, aside what) ∷ rest) day at d all turn =
+        goes rest day at d (all_stay at k (aside what) rest all (passed_by (at k) (last k) what (log_of k rest) (log_first at k (aside what) rest turn.0 all))) turn.2
     goes ((k, took call answer) ∷ rest) day at d all turn =
         let next = by_call day at k call answer rest d turn.0 turn.1 all (at k) refl (log_first at k (took call answer) rest turn.0 all) in
         goes rest (did k call answer ∷ day) next.0 next.1 next.2 turn.2

@@ -5,7 +5,7 @@ use Rattle.saved_rows.specs.declared.rows.Rows.{Ghosts}
 use Rattle.station.specs.declared.station.Station.{Station}
 use Rattle.wire.specs.Passing.{Passed}
 use Rattle.command_ends.specs.declared.end.End.{End}
-use Rattle.exchange.specs.Events.{Event, asked, took}
+use Rattle.exchange.specs.Events.{Event, asked, took, aside}
 use Rattle.driver.specs.declared.sink.Sink.{Ghosts as SinkGhosts}
 use Rattle.driver.specs.Driving.{Post, Driven, Stepped, known, fate_of}
 use Rattle.days.specs.Happening.{Happened, did, Came}
@@ -21,9 +21,10 @@ abbrev pub log_of : ℕ → Order → List Event
 log_of m [] = []
 log_of m (x ∷ rest) = if x.0 == m then x.1 ∷ log_of m rest else log_of m rest
 
--- the day after an event of a member's process: where the clock was asked, nothing happened
+-- the day after an event of a member's process: where the clock was asked, or something passed beside the packets, nothing happened
 abbrev pub day_with : ℕ → Event → List Happened → List Happened
 day_with m (asked moment) day = day
+day_with m (aside what) day = day
 day_with m (took call answer) day = did m call answer ∷ day
 
 -- the day after all these events
@@ -34,6 +35,7 @@ day_after day (x ∷ rest) = day_after (day_with x.0 x.1 day) rest
 -- the datagram that an event takes in was handed out to this member before, in the day
 abbrev pub CameWith : List Happened → ℕ → Event → Type 0
 CameWith day m (asked moment) = Unit {0}
+CameWith day m (aside what) = Unit {0}
 CameWith day m (took call answer) = Came day m call
 
 -- each event is of a member, and what it takes in was handed out before it

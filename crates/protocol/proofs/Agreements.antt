@@ -4,13 +4,13 @@ use Rattle.std.specs.Prelude.{Ok}
 use Rattle.protocol.specs.Ballots.{Ballot, IsBelow, IsAtMost, Majority}
 use Rattle.protocol.specs.Entries.{Entry}
 use Rattle.protocol.specs.Rows.{Vote, vote_for}
-use Rattle.protocol.specs.Packets.{Packet, Body, Accept}
+use Rattle.protocol.specs.Packets.{Packet, Body, Accept, Accepted}
 use Rattle.protocol.specs.Marks.{Heard}
 use Rattle.protocol.specs.Lists.{IsAmong}
 use Rattle.protocol.specs.Readings.{Latest}
 use Rattle.protocol.specs.Versions.{Two}
 use Rattle.protocol.specs.Circuit.{State, Circuit, hears, Datagram, Release, Step, Outcome, StepsTo, is_refused, is_idle, is_spent, is_done, is_torn, restarts, upgrades, upgrade_is_torn, is_armed, History, goes_on}
-use Rattle.protocol.specs.Agreement.{WasVoted, IsChosen, IsCarried, by_vote, by_accept, BallotsHaveOneEntry, VotesAreOffered, WasPromised, PromisesBind, ReportsAreGreatest, IsBoundAbove, VotesAreBacked, HeardIsVoted, RipeIsChosen, ChosenIsOne, ReleasesAreChosen, HistoriesAgree}
+use Rattle.protocol.specs.Agreement.{WasVoted, IsChosen, IsCarried, by_vote, by_accept, BallotsHaveOneEntry, VotesAreOffered, WasPromised, PromisesBind, ReportsAreGreatest, IsBoundAbove, VotesAreBacked, HeardIsVoted, ToldIsVoted, RipeIsChosen, ChosenIsOne, ReleasesAreChosen, HistoriesAgree}
 use Rattle.protocol.proofs.Below.{compare_ballots, both_at_most}
 use Rattle.protocol.proofs.Majorities.{weaker, shared, some_member}
 use Rattle.protocol.proofs.Sound.{PromiseHolds, PacketHolds, BodyHolds, Backs}
@@ -56,6 +56,12 @@ votes_are_backed z w h m n b a t v l = weaker (λ k i x. turned k x) (((history_
 
 pub heard_is_voted : {D G F : Type 0} → HeardIsVoted D G F
 heard_is_voted z w h m n k b t i = (history_sound h).sound.marked m (Heard n k b t) i
+
+pub told_is_voted : {D G F : Type 0} → ToldIsVoted D G F
+told_is_voted {D = D} {G = G} {F = F} z w h d p t i spelled body =
+    let holds : BodyHolds (WasVoted h) w.rows p.from p.number p.ballot (Accepted t) =
+    subst (λ (x : Body). BodyHolds (WasVoted h) w.rows p.from p.number p.ballot x) body (packet_held h d p i spelled) in
+    holds
 
 pub ripe_is_chosen : {D G F : Type 0} → RipeIsChosen D G F
 ripe_is_chosen z w h m n b t ripe =

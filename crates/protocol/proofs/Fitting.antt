@@ -10,8 +10,8 @@ use Rattle.protocol.specs.Versions.{Version}
 use Rattle.protocol.specs.Packets.{Packet, Body, Prepare, Promise, Accept, Accepted, Nack}
 use Rattle.protocol.specs.Marks.{Mark, Began, Promised, Proposed, Denied, Heard, Closed, Released}
 use Rattle.protocol.specs.Readings.{IsOpen, IsCounted, Picks, the_reported, the_own}
-use Rattle.protocol.specs.Turn.{Turn, stays, packet_to, to_others, others, Note, Event, Offered, Sought, Came_due, Arrived}
-use Rattle.protocol.specs.Table.{Hears, was_settled, waits, releases, Proposes, nothing, proposes, Begins, asks, alone, StartTurn, starts, DueTurn, is_idle, gives_up, begins_anew, PrepareTurn, promises, is_silent, AcceptTurn, votes_again, votes, PromiseTurn, is_overtaken, is_repeated, counts, completes, NackTurn, is_denied, AcceptedTurn, settles, hears, AnswerTurn, IsTurn}
+use Rattle.protocol.specs.Turn.{Turn, stays, packet_to, to_others, others, Note, Event, Offered, Sought, Came_due, Arrived, Recalled}
+use Rattle.protocol.specs.Table.{Hears, was_settled, waits, releases, Proposes, nothing, proposes, Begins, asks, alone, StartTurn, starts, DueTurn, is_idle, gives_up, begins_anew, PrepareTurn, promises, is_silent, AcceptTurn, votes_again, votes, PromiseTurn, is_overtaken, is_repeated, counts, completes, NackTurn, is_denied, AcceptedTurn, settles, hears, RecallTurn, is_blank, tells_again, hears_again, AnswerTurn, IsTurn}
 use Rattle.protocol.specs.Table as table
 use Rattle.protocol.specs.Fitting.{Fits, VoteFits, MarkFits, MarksFit, BodyFits, EventFits, TurnFits, TurnsFit}
 use Rattle.protocol.proofs.Places.{among_split, among_left, among-append, among-map}
@@ -134,6 +134,17 @@ module _ (v : Version) where
   answer_fits seat now marks row p (Nack a) t (table.NackTurn.is_stale i e) r h f = stays_fit e r h
   answer_fits seat now marks row p (Nack a) t (is_denied own mine since o e) r h f = stays_fit e r (and_mark (Denied p.number a) tt h)
 
+  recall_fits :
+      {seat : Seat} {n to : ℕ} {marks : List Mark} {row : Row} {t : Turn}
+      → RecallTurn seat n to marks row t → VoteFits v row.vote → MarksFit v marks → TurnFits v t
+  recall_fits (is_blank none e) r h = stays_fit e r h
+  recall_fits (tells_again b own other at_it e) r h =
+      let f : Fits v own = subst (λ (o : Option Vote). VoteFits v o) at_it r in
+      subst (λ (t : Turn). TurnFits v t) (sym e) (record { row = r; marks = h; out = one_fits f; release = tt })
+  recall_fits (hears_again b own release after mine at_it hearing e) r h =
+      let x = hears_fit hearing h (subst (λ (o : Option Vote). VoteFits v o) at_it r) in
+      subst (λ (t : Turn). TurnFits v t) (sym e) (record { row = r; marks = x.0; out = λ p i. absurd i; release = x.1 })
+
   turn_fits :
       (seat : Seat) (marks : List Mark) (row : Row) (e : Event) (t : Turn)
       → IsTurn seat marks row e t → VoteFits v row.vote → MarksFit v marks → EventFits v e → TurnFits v t
@@ -141,6 +152,7 @@ module _ (v : Version) where
   turn_fits seat marks row (Sought n now) t (starts b i begins) r h f = begins_fit begins tt r h
   turn_fits seat marks row (Came_due n now) t taken r h f = due_fits taken r h
   turn_fits seat marks row (Arrived p now) t taken r h f = answer_fits seat now marks row p p.body t taken r h f
+  turn_fits seat marks row (Recalled n to) t taken r h f = recall_fits taken r h
 
 pub turns_fit : TurnsFit
 turns_fit v seat marks row e t member is h r f = turn_fits v seat marks row e t (is_turn seat marks row e t member is) r h f

@@ -8,8 +8,8 @@ use Rattle.protocol.specs.Versions.{Version, One, Two}
 use Rattle.protocol.specs.Packets.{Packet, Body, Prepare, Promise, Accept, Accepted, Nack}
 use Rattle.protocol.specs.Marks.{Mark}
 use Rattle.protocol.specs.Proposals.{next_due}
-use Rattle.protocol.specs.Turn.{Turn, turn, Event, Offered, Sought, Came_due, Arrived, number_of}
-use Rattle.protocol.specs.Refusals.{Call, Offering, Seeking, Falling_due, Receiving, Refusal, Stopped, wire_refusal, number_refusal, call_refusal, early_refusal, due_event, arrival, event_of}
+use Rattle.protocol.specs.Turn.{Turn, turn, Event, Offered, Sought, Came_due, Arrived, Recalled, number_of}
+use Rattle.protocol.specs.Refusals.{Call, Offering, Seeking, Falling_due, Receiving, Recalling, Refusal, Stopped, wire_refusal, number_refusal, call_refusal, early_refusal, due_event, arrival, event_of}
 use Rattle.protocol.specs.Circuit.{Circuit, hears, setup_of, seat_at, State, IsSameState, fresh, Outcome, with_at, saved, MayLeave, Leaves, store_before_save, memory_before_save, at_save, StepsTo, is_refused, is_idle, is_spent, is_done, is_torn, restarts, upgrades, upgrade_is_torn, is_armed, History, starts, goes_on}
 use Rattle.protocol.specs.Circuit as circuit
 use Rattle.protocol.specs.Fitting.{Fits, VoteFits, MarksFit, BodyFits, EventFits, TurnFits, SpellsWhatFits, MembersFit, HistoriesFit}
@@ -76,6 +76,11 @@ module _ {D G F : Type 0} (z : Circuit D G F) (spells : SpellsWhatFits z) where
       due_offers : (o : Option ℕ) → due_event o now ≡ Some (Offered n t i) → ⊥
       due_offers None h = cc
       due_offers (Some k) h = cc
+  event_fits v m stopped marks (Falling_due now) (Recalled n to) un is = tt
+  event_fits v m stopped marks (Recalling n to) e un is = subst (λ (x : Event). EventFits v x) (inj is) tt
+    where
+      inj : {x y : Event} → Some x ≡ Some y → x ≡ y
+      inj h = cc
   event_fits v m stopped marks (Receiving bytes now) e un is = arrives (hears z v bytes) refl is
     where
       arrives : (r : Result Packet D) → hears z v bytes ≡ r → arrival r now ≡ Some e → EventFits v e

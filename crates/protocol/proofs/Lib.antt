@@ -15,12 +15,14 @@ pub mod Meeting
 pub mod Proposing
 pub mod Turns
 pub mod Once
+pub mod Telling
 pub mod Fitting
 pub mod Steps
 pub mod Agreements
 pub mod Holding
 pub mod Rehearsing
 pub mod Contending
+pub mod Recalling
 pub mod Tearing
 pub mod Missing
 pub mod Upgrading

@@ -11,8 +11,8 @@ use Rattle.protocol.specs.Acceptor.{is_above, is_at, vote_is_at}
 use Rattle.protocol.specs.Marks.{Mark, Began, Promised, Proposed, Heard}
 use Rattle.protocol.specs.Readings.{IsReleased, IsOpen, Gathers, IsCounted, Picks, IsDue}
 use Rattle.protocol.specs.Proposals.{begun, Opening, was_released, since_began, open_proposal, proposal_at, gathering_at, counted, is_counted, pick, denied, due_moment}
-use Rattle.protocol.specs.Turn.{Event, Offered, Sought, Came_due, Arrived, Note_silent, Turn, stays, settle, hear, propose, begin, start_turn, greater_ballot, renew, due_turn, prepare_turn, accept_turn, is_promised, promise_turn, nack_turn, accepted_turn, packet_turn, turn}
-use Rattle.protocol.specs.Table.{Hears, was_settled, waits, releases, Proposes, nothing, proposes, Begins, asks, alone, StartTurn, starts, IsGreater, DueTurn, is_idle, gives_up, begins_anew, PrepareTurn, promises, is_silent, VotedAt, AcceptTurn, votes_again, votes, PromiseTurn, is_stale, is_overtaken, is_repeated, counts, completes, NackTurn, is_denied, AcceptedTurn, settles, hears, AnswerTurn, IsTurn, IsSpent, TurnsAreOfTheTable}
+use Rattle.protocol.specs.Turn.{Event, Offered, Sought, Came_due, Arrived, Recalled, Note_silent, Turn, stays, settle, hear, propose, begin, start_turn, greater_ballot, renew, due_turn, prepare_turn, accept_turn, is_promised, promise_turn, nack_turn, accepted_turn, recall_turn, packet_turn, turn}
+use Rattle.protocol.specs.Table.{Hears, was_settled, waits, releases, Proposes, nothing, proposes, Begins, asks, alone, StartTurn, starts, IsGreater, DueTurn, is_idle, gives_up, begins_anew, PrepareTurn, promises, is_silent, VotedAt, AcceptTurn, votes_again, votes, PromiseTurn, is_stale, is_overtaken, is_repeated, counts, completes, NackTurn, is_denied, AcceptedTurn, settles, hears, RecallTurn, is_blank, tells_again, hears_again, AnswerTurn, IsTurn, IsSpent, TurnsAreOfTheTable}
 use Rattle.protocol.specs.Table as table
 use Rattle.protocol.specs.Learner.{ripe}
 use Rattle.protocol.proofs.Order.{below_where}
@@ -215,6 +215,21 @@ promise_is seat now marks row p r (Some o) e = here (gathering_is p.number p.bal
             (λ k u (s, t). one-is_counted seat.me p.number p.ballot o (Promised p.number p.from p.ballot r ∷ since_began p.number marks) k s f t) j)
             refl)
 
+-- a vote is told again
+
+pub recall_is : (seat : Seat) (n to : ℕ) (marks : List Mark) (row : Row) → RecallTurn seat n to marks row (recall_turn seat n to marks row row.vote)
+recall_is seat n to marks row = at row.vote refl
+  where
+    at : (o : Option Vote) → row.vote ≡ o → RecallTurn seat n to marks row (recall_turn seat n to marks row o)
+    at None e = is_blank e refl
+    at (Some v) e = go (to == seat.me) refl
+      where
+        go : (s : Bool) → (to == seat.me) ≡ s → RecallTurn seat n to marks row (recall_turn seat n to marks row (Some v))
+        go true f =
+            rw f (hears_again v.ballot v.entry (hear seat.members n seat.me v.ballot v.entry marks).release (hear seat.members n seat.me v.ballot v.entry marks).marks
+            (eqb-true to seat.me f) e (hear_is seat.members n seat.me v.ballot v.entry marks) refl)
+        go false f = rw f (tells_again v.ballot v.entry (eqb-false to seat.me f) e refl)
+
 pub packet_is : (seat : Seat) (now : ℕ) (marks : List Mark) (row : Row) (p : Packet) (body : Body) → AnswerTurn seat now marks row p body (packet_turn seat now marks row p body)
 packet_is seat now marks row p Prepare = prepare_is seat marks row p
 packet_is seat now marks row p (Promise r) = promise_is seat now marks row p r (gathering_at p.number p.ballot marks) refl
@@ -227,6 +242,7 @@ turns_are_of_the_table seat marks row (Offered n entry now) i = start_is seat n 
 turns_are_of_the_table seat marks row (Sought n now) i = start_is seat n None now marks row (let l : 1 ≤ seat.members = omega (arith, i.0, i.1) in l) (next row.promised seat.me) refl
 turns_are_of_the_table seat marks row (Came_due n now) i = due_is seat n now marks row (let l : 1 ≤ seat.members = omega (arith, i.0, i.1) in l)
 turns_are_of_the_table seat marks row (Arrived p now) i = packet_is seat now marks row p p.body
+turns_are_of_the_table seat marks row (Recalled n to) i = recall_is seat n to marks row
 
 -- what the function gives is a turn
 pub is_turn : (seat : Seat) (marks : List Mark) (row : Row) (e : Event) (t : Turn) → IsMember seat.members seat.me → turn seat marks row e ≡ Some t → IsTurn seat marks row e t

@@ -3,7 +3,7 @@ use Rattle.std.proofs.Common.{◌≡◌, ℕ, zero, suc, refl, sym, ap, subst, �
 use Rattle.std.specs.Prelude.{◌==◌, ◌-◌, ◌&&◌, nat_le, slice_get, length}
 use Rattle.std.proofs.lemmas.Bool.{ne_eqb, le-leb, leb-true, and_parts}
 use Rattle.protocol.specs.Ballots.{IsMember}
-use Rattle.protocol.specs.Circuit.{Datagram, Offers, Seeks, Falls_due, Delivers, Restarts, Upgrades, Balks, datagram_at, No_such_member, No_such_datagram, member_missing, datagram_missing}
+use Rattle.protocol.specs.Circuit.{Datagram, Offers, Seeks, Falls_due, Delivers, Restarts, Upgrades, Balks, Recalls, datagram_at, No_such_member, No_such_datagram, member_missing, datagram_missing}
 use Rattle.protocol.specs.Missing.{WasSentAs, HasStep, MissingIsExact}
 
 none_some : {A : Type 0} {a : A} → None ≡ Some a → ⊥
@@ -65,3 +65,4 @@ missing_is_exact c sent (Delivers k now) = (λ e. there (datagram_at sent k) ref
 missing_is_exact c sent (Restarts m) = (is_member c m, no_member_missing c m)
 missing_is_exact c sent (Upgrades m) = (is_member c m, no_member_missing c m)
 missing_is_exact c sent (Balks m saved) = (is_member c m, no_member_missing c m)
+missing_is_exact c sent (Recalls m n to) = (is_member c m, no_member_missing c m)

@@ -7,8 +7,8 @@ use Rattle.protocol.specs.Rows.{Vote, Row}
 use Rattle.protocol.specs.Packets.{Packet, Body, Prepare, Promise, Accept, Accepted, Nack}
 use Rattle.protocol.specs.Marks.{Mark, Began, Promised, Proposed, Denied, Heard, Closed, Released}
 use Rattle.protocol.specs.Readings.{IsReleased}
-use Rattle.protocol.specs.Turn.{Turn, Event, Offered, Sought, Came_due, Arrived, number_of}
-use Rattle.protocol.specs.Table.{Hears, was_settled, waits, releases, Proposes, nothing, proposes, Begins, asks, alone, StartTurn, starts, DueTurn, is_idle, gives_up, begins_anew, PrepareTurn, promises, is_silent, AcceptTurn, votes_again, votes, PromiseTurn, is_overtaken, is_repeated, counts, completes, NackTurn, is_denied, AcceptedTurn, settles, hears, AnswerTurn, IsTurn, ReleasesOnce, NumbersAreReleasedOnce}
+use Rattle.protocol.specs.Turn.{Turn, Event, Offered, Sought, Came_due, Arrived, Recalled, number_of}
+use Rattle.protocol.specs.Table.{Hears, was_settled, waits, releases, Proposes, nothing, proposes, Begins, asks, alone, StartTurn, starts, DueTurn, is_idle, gives_up, begins_anew, PrepareTurn, promises, is_silent, AcceptTurn, votes_again, votes, PromiseTurn, is_overtaken, is_repeated, counts, completes, NackTurn, is_denied, AcceptedTurn, settles, hears, RecallTurn, is_blank, tells_again, hears_again, AnswerTurn, IsTurn, ReleasesOnce, NumbersAreReleasedOnce}
 use Rattle.protocol.specs.Table as table
 use Rattle.protocol.proofs.Meeting.{is_turn}
 
@@ -96,11 +96,17 @@ answer_once seat now marks row p (Accepted entry) t (hears release after i heari
 answer_once seat now marks row p (Nack a) t (table.NackTurn.is_stale i e) = by_turn _ e (same_marks p.number)
 answer_once seat now marks row p (Nack a) t (is_denied own mine since o e) = by_turn _ e (one_more p.number (Denied p.number a))
 
+recall_once : {seat : Seat} {n to : ℕ} {marks : List Mark} {row : Row} {t : Turn} → RecallTurn seat n to marks row t → ReleasesOnce marks n t
+recall_once {n = n} (is_blank none e) = by_turn _ e (same_marks n)
+recall_once {n = n} (tells_again b own other at_it e) = by_turn _ e (same_marks n)
+recall_once (hears_again b own release after mine at_it hearing e) = by_turn _ e (hears_once hearing)
+
 turn_once : (seat : Seat) (marks : List Mark) (row : Row) (e : Event) (t : Turn) → IsTurn seat marks row e t → ReleasesOnce marks (number_of e) t
 turn_once seat marks row (Offered n entry now) t (starts b i begins) = begins_once begins
 turn_once seat marks row (Sought n now) t (starts b i begins) = begins_once begins
 turn_once seat marks row (Came_due n now) t taken = due_once taken
 turn_once seat marks row (Arrived p now) t taken = answer_once seat now marks row p p.body t taken
+turn_once seat marks row (Recalled n to) t taken = recall_once taken
 
 pub numbers_are_released_once : NumbersAreReleasedOnce
 numbers_are_released_once seat marks row e t member is = turn_once seat marks row e t (is_turn seat marks row e t member is)

@@ -10,7 +10,7 @@ use Rattle.protocol.specs.Rows.{Vote, Row, vote_for}
 use Rattle.protocol.specs.Versions.{Version}
 use Rattle.protocol.specs.Packets.{Packet}
 use Rattle.protocol.specs.Marks.{Mark}
-use Rattle.protocol.specs.Turn.{Event, Offered, Sought, Came_due, Arrived, number_of, Turn, packet_turn, turn}
+use Rattle.protocol.specs.Turn.{Event, Offered, Sought, Came_due, Arrived, Recalled, number_of, Turn, packet_turn, turn}
 use Rattle.protocol.specs.Refusals.{Call, Receiving, packet_refusal, early_refusal, refusal, event_of}
 use Rattle.protocol.specs.Circuit.{Circuit, hears, Datagram, Offer, Release, State, IsSameState, Step, Delivers, Restarts, Done, Torn_by_store, Restarted, Carries, Task, IsTask, datagram_at, delivery, seat_at, setup_of, with_at, saved, offers_with, releases_with, MayLeave, at_save, StepsTo, is_done, is_torn, restarts, History, goes_on}
 use Rattle.protocol.specs.Agreement.{WasOffered}
@@ -63,6 +63,7 @@ Brings entries (Offered k t now) = entries t
 Brings entries (Sought k now) = Unit {0}
 Brings entries (Came_due k now) = Unit {0}
 Brings entries (Arrived p now) = Unit {0}
+Brings entries (Recalled k to) = Unit {0}
 
 -- what a turn of member k about n leaves
 pub record Stepped {D G F : Type 0} (z : Circuit D G F) (v : Version) (n : ℕ) (entries : Entry → Type 0) (k : ℕ) (row : Row) (marks : List Mark) (out : List Packet) (offers : List Offer) (w after : State G F) : Type 0 where
@@ -147,6 +148,7 @@ module _
   more_offered offers m (Sought i now) brings known t j = known t j
   more_offered offers m (Came_due i now) brings known t j = known t j
   more_offered offers m (Arrived p now) brings known t j = known t j
+  more_offered offers m (Recalled i to) brings known t j = known t j
 
   -- a member takes a turn: it releases the number, or goes on from what the turn leaves. What the turn votes for was offered
   pub take :

@@ -13,10 +13,10 @@ use Rattle.protocol.specs.Marks.{Mark, Began, Promised, Proposed, Denied, Heard,
 use Rattle.protocol.specs.Proposals.{Opening, was_released, open_proposal, next_due}
 use Rattle.protocol.specs.Readings.{IsReleased}
 use Rattle.protocol.specs.Learner.{vote_of, latest, ripe}
-use Rattle.protocol.specs.Turn.{Turn, stays, Note, Event, Offered, Sought, Came_due, Arrived, number_of, turn}
-use Rattle.protocol.specs.Table.{Hears, was_settled, waits, releases, Proposes, nothing, proposes, Begins, asks, alone, starts, DueTurn, gives_up, begins_anew, promises, is_silent, votes_again, votes, PromiseTurn, is_overtaken, is_repeated, counts, completes, is_denied, settles, hears, AnswerTurn, IsTurn}
+use Rattle.protocol.specs.Turn.{Turn, stays, Note, Event, Offered, Sought, Came_due, Arrived, Recalled, number_of, turn}
+use Rattle.protocol.specs.Table.{Hears, was_settled, waits, releases, Proposes, nothing, proposes, Begins, asks, alone, starts, DueTurn, gives_up, begins_anew, promises, is_silent, votes_again, votes, PromiseTurn, is_overtaken, is_repeated, counts, completes, is_denied, settles, hears, RecallTurn, is_blank, tells_again, hears_again, AnswerTurn, IsTurn}
 use Rattle.protocol.specs.Table as table
-use Rattle.protocol.specs.Refusals.{Call, Offering, Seeking, Falling_due, Receiving, Bad_number, number_refusal, wire_refusal, call_refusal, early_refusal, tape_refusal, refusal, due_event, arrival, event_of}
+use Rattle.protocol.specs.Refusals.{Call, Offering, Seeking, Falling_due, Receiving, Recalling, Bad_number, number_refusal, wire_refusal, call_refusal, early_refusal, tape_refusal, refusal, due_event, arrival, event_of}
 use Rattle.protocol.specs.Circuit.{Circuit, hears as takes_for, State, Step, Outcome, with_at, seat_at, setup_of, StepsTo, is_refused, is_idle as is_idle_step, is_spent, is_done, is_torn, restarts, upgrades, upgrade_is_torn, is_armed, History, starts as starts_fresh, goes_on}
 use Rattle.protocol.proofs.Places.{with_at_cases, with_at-self}
 use Rattle.protocol.proofs.Looking.{among_has, filter_map_among, greatest_none}
@@ -221,12 +221,19 @@ module _ (c : ℕ) where
   answer_so seat now marks row p (Nack a) t (table.NackTurn.is_stale i e) h = stays_so e h
   answer_so seat now marks row p (Nack a) t (is_denied own mine since o e) h = stays_so e (and_mark (Denied p.number a) tt h)
 
+  recall_so :
+      {seat : Seat} {n to : ℕ} {marks : List Mark} {row : Row} {t : Turn} → RecallTurn seat n to marks row t → Opens Good marks → Opens Good t.marks
+  recall_so (is_blank none e) h = stays_so e h
+  recall_so (tells_again b own other at_it e) h = subst (λ (t : Turn). Opens Good t.marks) (sym e) h
+  recall_so (hears_again b own release after mine at_it hearing e) h = subst (λ (t : Turn). Opens Good t.marks) (sym e) (hears_so hearing h)
+
   -- the number that is offered or sought is one that there is
   abbrev Asks : Event → Type 0
   Asks (Offered n entry now) = is_number n ≡ true
   Asks (Sought n now) = is_number n ≡ true
   Asks (Came_due n now) = Unit {0}
   Asks (Arrived p now) = Unit {0}
+  Asks (Recalled n to) = Unit {0}
 
   turn_so :
       (seat : Seat) (marks : List Mark) (row : Row) (e : Event) (t : Turn) → seat.members ≡ c → IsMember c seat.me → IsTurn seat marks row e t → Asks e
@@ -235,6 +242,7 @@ module _ (c : ℕ) where
   turn_so seat marks row (Sought n now) t size me (starts b i begins) number h = begins_so size me number begins h
   turn_so seat marks row (Came_due n now) t size me taken number h = due_so size me taken h
   turn_so seat marks row (Arrived p now) t size me taken number h = answer_so seat now marks row p p.body t taken h
+  turn_so seat marks row (Recalled n to) t size me taken number h = recall_so taken h
 
 some_same : {A : Type 0} {x y : A} → Some x ≡ Some y → x ≡ y
 some_same e = cc
@@ -269,6 +277,7 @@ module _ {D G F : Type 0} (z : Circuit D G F) where
       by : (r : Option ℕ) → due_event r now ≡ Some e → Asks z.count e
       by None f = absurd (none_some f)
       by (Some n) f = subst (λ (x : Event). Asks z.count x) (some_same f) tt
+  asked w m (Recalling n to) e free event = subst (λ (x : Event). Asks z.count x) (some_same event) tt
   asked w m (Receiving bytes now) e free event = by (takes_for z (w.version m) bytes) event
     where
       by : (r : Result Packet D) → arrival r now ≡ Some e → Asks z.count e

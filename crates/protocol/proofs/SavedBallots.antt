@@ -10,8 +10,8 @@ use Rattle.protocol.specs.Rows.{Vote, Row}
 use Rattle.protocol.specs.Packets.{Packet, Body, Prepare, Promise, Accept, Accepted, Nack}
 use Rattle.protocol.specs.Marks.{Mark, Began, Promised, Proposed, Denied, Heard, Closed, Released}
 use Rattle.protocol.specs.Readings.{Gathers}
-use Rattle.protocol.specs.Turn.{Turn, stays, packet_to, to_others, others, Note, Event, Offered, Sought, Came_due, Arrived, number_of, turn}
-use Rattle.protocol.specs.Table.{Hears, was_settled, waits, releases, Proposes, nothing, proposes, Begins, asks, alone, StartTurn, starts, DueTurn, is_idle, gives_up, begins_anew, PrepareTurn, promises, is_silent, AcceptTurn, votes_again, votes, PromiseTurn, is_overtaken, is_repeated, counts, completes, NackTurn, is_denied, AcceptedTurn, settles, hears, AnswerTurn, IsTurn}
+use Rattle.protocol.specs.Turn.{Turn, stays, packet_to, to_others, others, Note, Event, Offered, Sought, Came_due, Arrived, Recalled, number_of, turn}
+use Rattle.protocol.specs.Table.{Hears, was_settled, waits, releases, Proposes, nothing, proposes, Begins, asks, alone, StartTurn, starts, DueTurn, is_idle, gives_up, begins_anew, PrepareTurn, promises, is_silent, AcceptTurn, votes_again, votes, PromiseTurn, is_overtaken, is_repeated, counts, completes, NackTurn, is_denied, AcceptedTurn, settles, hears, RecallTurn, is_blank, tells_again, hears_again, AnswerTurn, IsTurn}
 use Rattle.protocol.specs.Table as table
 use Rattle.protocol.specs.Refusals.{Call, event_of}
 use Rattle.protocol.specs.Circuit.{Circuit, State, Step, Outcome, with_at, saved, IsTask, seat_at, setup_of, MayLeave, Leaves, store_before_save, memory_before_save, at_save, StepsTo, is_refused, is_idle as is_idle_step, is_spent, is_done, is_torn, restarts, upgrades, upgrade_is_torn, is_armed, History, starts as starts_fresh, goes_on}
@@ -57,6 +57,7 @@ module _ (c : ℕ) where
   EventRises (Sought n now) = Unit {0}
   EventRises (Came_due n now) = Unit {0}
   EventRises (Arrived p now) = PacketRises p
+  EventRises (Recalled n to) = Unit {0}
 
   record TurnRises (t : Turn) : Type 0 where
     row : RowRises t.row
@@ -164,6 +165,14 @@ module _ (c : ℕ) where
   answer_rises seat now marks row p (Nack a) t (table.NackTurn.is_stale i e) r h f = stays_rise e r h
   answer_rises seat now marks row p (Nack a) t (is_denied own mine since o e) r h f = stays_rise e r (and_mark (Denied p.number a) tt h)
 
+  recall_rises :
+      {seat : Seat} {n to : ℕ} {marks : List Mark} {row : Row} {t : Turn}
+      → RecallTurn seat n to marks row t → RowRises row → MarksRise marks → TurnRises t
+  recall_rises (is_blank none e) r h = stays_rise e r h
+  recall_rises (tells_again b own other at_it e) r h = subst (λ (t : Turn). TurnRises t) (sym e) (record { row = r; marks = h; out = one_rises tt })
+  recall_rises (hears_again b own release after mine at_it hearing e) r h =
+      subst (λ (t : Turn). TurnRises t) (sym e) (record { row = r; marks = hears_rise hearing h; out = λ p i. absurd i })
+
   turn_rises :
       (seat : Seat) (marks : List Mark) (row : Row) (e : Event) (t : Turn) → IsMember c seat.me → IsTurn seat marks row e t → RowRises row
       → MarksRise marks → EventRises e → TurnRises t
@@ -171,6 +180,7 @@ module _ (c : ℕ) where
   turn_rises seat marks row (Sought n now) t me (starts b i begins) r h f = begins_rise begins (next_rises row.promised seat.me b me i) r h
   turn_rises seat marks row (Came_due n now) t me taken r h f = due_rises me taken r h
   turn_rises seat marks row (Arrived p now) t me taken r h f = answer_rises seat now marks row p p.body t taken r h f
+  turn_rises seat marks row (Recalled n to) t me taken r h f = recall_rises taken r h
 
 module _ {D G F : Type 0} (z : Circuit D G F) where
   record StateRises (w : State G F) : Type 0 where
@@ -206,6 +216,7 @@ module _ {D G F : Type 0} (z : Circuit D G F) where
   event_rises w h s m call (Offered n entry now) task event = tt
   event_rises w h s m call (Sought n now) task event = tt
   event_rises w h s m call (Came_due n now) task event = tt
+  event_rises w h s m call (Recalled n to) task event = tt
   event_rises w h s m call (Arrived p now) task event = h.asked p (arrived_sent z w s m call p now h.packets h.spelled task event)
 
   -- what a turn leaves

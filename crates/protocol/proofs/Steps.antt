@@ -10,10 +10,10 @@ use Rattle.protocol.specs.Versions.{Version, One, Two}
 use Rattle.protocol.specs.Marks.{Mark, Began}
 use Rattle.protocol.specs.Lists.{IsAmong}
 use Rattle.protocol.specs.Proposals.{next_due}
-use Rattle.protocol.specs.Turn.{Turn, Event, Offered, Sought, Came_due, Arrived, number_of}
+use Rattle.protocol.specs.Turn.{Turn, Event, Offered, Sought, Came_due, Arrived, Recalled, number_of}
 use Rattle.protocol.specs.Table.{VotedAt, IsTurn}
-use Rattle.protocol.specs.Refusals.{Call, Offering, Seeking, Falling_due, Receiving, due_event, arrival, event_of}
-use Rattle.protocol.specs.Circuit.{Circuit, hears, setup_of, Datagram, Offer, Release, seat_at, State, IsSameState, fresh, Step, Offers, Seeks, Falls_due, Delivers, Restarts, Upgrades, Balks, Outcome, with_at, saved, Carries, datagram_at, Task, delivery, task_of, offers_with, releases_with, MayLeave, Leaves, store_before_save, memory_before_save, at_save, StepsTo, is_refused, is_idle, is_spent, is_done, is_torn, restarts, upgrades, upgrade_is_torn, is_armed, History, starts, goes_on}
+use Rattle.protocol.specs.Refusals.{Call, Offering, Seeking, Falling_due, Receiving, Recalling, due_event, arrival, event_of}
+use Rattle.protocol.specs.Circuit.{Circuit, hears, setup_of, Datagram, Offer, Release, seat_at, State, IsSameState, fresh, Step, Offers, Seeks, Falls_due, Delivers, Restarts, Upgrades, Balks, Recalls, Outcome, with_at, saved, Carries, datagram_at, Task, delivery, task_of, offers_with, releases_with, MayLeave, Leaves, store_before_save, memory_before_save, at_save, StepsTo, is_refused, is_idle, is_spent, is_done, is_torn, restarts, upgrades, upgrade_is_torn, is_armed, History, starts, goes_on}
 use Rattle.protocol.specs.Agreement.{HoldsVote, WasVoted}
 use Rattle.protocol.proofs.Meeting.{is_turn}
 use Rattle.protocol.proofs.Sound.{Votes, Releases, Rows, PacketHolds, Sound}
@@ -109,6 +109,7 @@ more_offers offers m (Offered n entry now) x i = among_left offers (record { mem
 more_offers offers m (Sought n now) x i = i
 more_offers offers m (Came_due n now) x i = i
 more_offers offers m (Arrived p now) x i = i
+more_offers offers m (Recalled n to) x i = i
 
 more_releases :
     {D G F : Type 0} (z : Circuit D G F) (releases : List (Release G F)) (m n : ℕ) (r : Option Entry) (x : Release G F) → IsAmong (releases_with z releases m n r) x
@@ -166,6 +167,7 @@ received_sent sent (Delivers k i) m bytes j e = delivered sent (datagram_at sent
 received_sent sent (Restarts k) m bytes j e = cc
 received_sent sent (Upgrades k) m bytes j e = cc
 received_sent sent (Balks k b) m bytes j e = cc
+received_sent sent (Recalls k n to) m bytes j e = let other : Recalling n to ≡ Receiving bytes j = ap (λ (x : Task). x.call) (some_inj e) in cc
 
 -- a packet that arrives is one that the received bytes spell
 pub arrived_read : {D : Type 0} (r : Result Packet D) (i : ℕ) (p : Packet) (now : ℕ) → arrival r i ≡ Some (Arrived p now) → r ≡ Ok p
@@ -183,6 +185,7 @@ pub arrived_sent :
 arrived_sent z w s m (Offering n entry i) p now ps e task event = cc
 arrived_sent z w s m (Seeking n i) p now ps e task event = cc
 arrived_sent z w s m (Falling_due i) p now ps e task event = absurd (due_arrives (next_due m i (w.marks m)) i p now event)
+arrived_sent z w s m (Recalling n to) p now ps e task event = cc
 arrived_sent z w s m (Receiving bytes i) p now ps e task event =
     let (d, among, same) = received_sent w.sent s m bytes i task in
     read_among z ps w.sent d p e among (ap (hears z Two) same ∙ heard_alike z (w.version m) bytes p (arrived_read (hears z (w.version m) bytes) i p now event))
@@ -199,6 +202,7 @@ event_holds :
 event_holds z V w s m call (Offered n entry now) rows ps same task event sent = (m, among_right w.offers (record { member = m; number = n; entry = entry } ∷ []) (record { member = m; number = n; entry = entry }) (inl refl))
 event_holds z V w s m call (Sought n now) rows ps same task event sent = tt
 event_holds z V w s m call (Came_due n now) rows ps same task event sent = tt
+event_holds z V w s m call (Recalled n to) rows ps same task event sent = tt
 event_holds z V w s m call (Arrived p now) rows ps same task event sent = sent p (arrived_sent z w s m call p now ps same task event)
 
 start_at : {D G F : Type 0} {z : Circuit D G F} {V : Votes} (w : State G F) (m : ℕ) (e : Event) (h : SoundState z V w) → At (setting z w h.packets m e) V (w.rows m (number_of e)) (w.marks m)

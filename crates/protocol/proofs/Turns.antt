@@ -8,8 +8,8 @@ use Rattle.protocol.specs.Packets.{Packet, Body, Prepare, Promise, Accept, Accep
 use Rattle.protocol.specs.Marks.{Mark, Began, Promised, Proposed, Denied, Closed}
 use Rattle.protocol.specs.Lists.{IsAmong}
 use Rattle.protocol.specs.Readings.{IsCounted}
-use Rattle.protocol.specs.Turn.{Turn, stays, packet_to, to_others, others, Event, Offered, Sought, Came_due, Arrived, number_of}
-use Rattle.protocol.specs.Table.{VotedAt, Hears, Proposes, Begins, asks, alone, StartTurn, starts, IsGreater, DueTurn, is_idle, gives_up, begins_anew, PrepareTurn, promises, is_silent, AcceptTurn, votes_again, votes, PromiseTurn, is_overtaken, is_repeated, counts, completes, NackTurn, is_denied, AcceptedTurn, settles, hears, AnswerTurn, IsTurn}
+use Rattle.protocol.specs.Turn.{Turn, stays, packet_to, to_others, others, Event, Offered, Sought, Came_due, Arrived, Recalled, number_of}
+use Rattle.protocol.specs.Table.{VotedAt, Hears, Proposes, Begins, asks, alone, StartTurn, starts, IsGreater, DueTurn, is_idle, gives_up, begins_anew, PrepareTurn, promises, is_silent, AcceptTurn, votes_again, votes, PromiseTurn, is_overtaken, is_repeated, counts, completes, NackTurn, is_denied, AcceptedTurn, settles, hears, RecallTurn, is_blank, tells_again, hears_again, AnswerTurn, IsTurn}
 use Rattle.protocol.specs.Circuit.{Offer, with_at}
 use Rattle.protocol.proofs.Below.{at_most_below}
 use Rattle.protocol.proofs.Sound.{Votes, Rows, PromiseHolds, IsOffered, BodyHolds, PacketHolds, NotProposed}
@@ -204,12 +204,24 @@ answer_sound z now p (Accept entry) t h holds turn = accept_sound z p entry t h 
 answer_sound z now p (Accepted entry) t h holds turn = accepted_sound z p entry t h holds turn
 answer_sound z now p (Nack a) t h holds turn = nack_sound z p a t h turn
 
+recall_sound :
+    {z : Setting} {V : Votes} {row : Row} {ms : List Mark} (to : ℕ) (t : Turn)
+    → At z V row ms → RecallTurn z.seat z.number to ms row t → TurnSound z V t
+recall_sound {z = z} {V = V} to t h (is_blank none e) = subst (λ (x : Turn). TurnSound z V x) (sym e) (silent (stays _ _ _) refl refl h)
+recall_sound {z = z} {V = V} {row = row} to t h (tells_again b own other at_it e) =
+    subst (λ (x : Turn). TurnSound z V x) (sym e)
+    (quiet _ h (λ q i. one_packet V (rows_with z row) _ q (row_kept (record { ballot = b; entry = own }) h at_it) i) (λ u f. cc))
+recall_sound {z = z} {V = V} to t h (hears_again b own release after mine at_it hearing e) =
+    let heard = at_hear z.seat.me b own release after h (row_kept (record { ballot = b; entry = own }) h at_it) hearing in
+    subst (λ (x : Turn). TurnSound z V x) (sym e) (quiet _ heard.0 (λ q i. absurd i) heard.1)
+
 -- what an event brings: an offer is among the offers, a packet_to was sent
 abbrev pub EventHolds : Votes → Rows → List Offer → Event → Type 0
 EventHolds V rows offers (Offered n entry now) = IsOffered offers n entry
 EventHolds V rows offers (Sought n now) = Unit {0}
 EventHolds V rows offers (Came_due n now) = Unit {0}
 EventHolds V rows offers (Arrived p now) = PacketHolds V rows p
+EventHolds V rows offers (Recalled n to) = Unit {0}
 
 pub turn_sound :
     (z : Setting) {V : Votes} {row : Row} {ms : List Mark} (e : Event) (t : Turn)
@@ -220,3 +232,4 @@ turn_sound z (Offered n entry now) t h member holds turn =
 turn_sound z (Sought n now) t h member holds turn = start_sound None now t h member (λ u f. let no : None ≡ Some u = f in cc) turn
 turn_sound z (Came_due n now) t h member holds turn = due_sound now t h member turn
 turn_sound z (Arrived p now) t h member holds turn = answer_sound z now p p.body t h holds turn
+turn_sound z (Recalled n to) t h member holds turn = recall_sound to t h turn

@@ -4,7 +4,7 @@ use Rattle.protocol.specs.Lists.{IsAmong}
 use Rattle.protocol.specs.Ballots.{Ballot, IsBelow, IsAtMost, Majority}
 use Rattle.protocol.specs.Entries.{Entry}
 use Rattle.protocol.specs.Rows.{Vote, vote_for}
-use Rattle.protocol.specs.Packets.{Packet, Promise, Accept}
+use Rattle.protocol.specs.Packets.{Packet, Promise, Accept, Accepted}
 use Rattle.protocol.specs.Marks.{Heard}
 use Rattle.protocol.specs.Readings.{Ripe}
 use Rattle.protocol.specs.Versions.{Two}
@@ -101,6 +101,12 @@ abbrev pub HeardIsVoted : (D G F : Type 0) → Type 0
 HeardIsVoted D G F =
     (z : Circuit D G F) (w : State G F) (h : History z w) (m n k : ℕ) (b : Ballot) (t : Entry)
     → IsAmong (w.marks m) (Heard n k b t) → WasVoted h k n b t
+
+-- each vote that was told, for the first time or again, was taken before
+abbrev pub ToldIsVoted : (D G F : Type 0) → Type 0
+ToldIsVoted D G F =
+    (z : Circuit D G F) (w : State G F) (h : History z w) (d : Datagram) (p : Packet) (t : Entry)
+    → IsAmong w.sent d → hears z Two d.bytes ≡ Ok p → p.body ≡ Accepted t → WasVoted h p.from p.number p.ballot t
 
 -- what is ripe at some member is chosen
 abbrev pub RipeIsChosen : (D G F : Type 0) → Type 0

@@ -8,8 +8,8 @@ use Rattle.protocol.specs.Rows.{Row, blank}
 use Rattle.protocol.specs.Packets.{Packet}
 use Rattle.protocol.specs.Versions.{Version, One, Two, fits}
 use Rattle.protocol.specs.Marks.{Mark}
-use Rattle.protocol.specs.Turn.{Event, Offered, Sought, Came_due, Arrived, number_of, Note, Note_idle, Turn, turn}
-use Rattle.protocol.specs.Refusals.{Setup, Call, Offering, Seeking, Falling_due, Receiving, Refusal, Rounds_spent, refusal, early_refusal, event_of}
+use Rattle.protocol.specs.Turn.{Event, Offered, Sought, Came_due, Arrived, Recalled, number_of, Note, Note_idle, Turn, turn}
+use Rattle.protocol.specs.Refusals.{Setup, Call, Offering, Seeking, Falling_due, Receiving, Recalling, Refusal, Rounds_spent, refusal, early_refusal, event_of}
 
 -- what a circuit is given: its number, how many members it has, which packet bytes spell in a version or why they spell none in it,
 -- of which version bytes say that they are, and what each member's table and widths make of an entry.
@@ -92,7 +92,8 @@ fresh version = record {
 }
 
 -- a step: a member is asked something, the k-th datagram ever sent (from 1) is delivered to its addressee,
--- a member starts again, goes over to version 2, or its store is armed to refuse the next save
+-- a member starts again, goes over to version 2, its store is armed to refuse the next save,
+-- or a member is to tell its vote for a number again to one of them
 pub data Step : Type 0 where
   Offers : (member : ℕ) → (number : ℕ) → (entry : Entry) → (now : ℕ) → Step
   Seeks : (member : ℕ) → (number : ℕ) → (now : ℕ) → Step
@@ -101,6 +102,7 @@ pub data Step : Type 0 where
   Restarts : (member : ℕ) → Step
   Upgrades : (member : ℕ) → Step
   Balks : (member : ℕ) → (saved : Bool) → Step
+  Recalls : (member : ℕ) → (number : ℕ) → (to : ℕ) → Step
 
 -- how a step ended: done with a note, refused, torn by the member's own store, as its store was armed to refuse, or by want of memory,
 -- restarted, gone over to version 2, armed
@@ -147,6 +149,7 @@ task_of sent (Delivers k now) = delivery (datagram_at sent k) now
 task_of sent (Restarts m) = None
 task_of sent (Upgrades m) = None
 task_of sent (Balks m saved) = None
+task_of sent (Recalls m n to) = Some (record { member = m; call = Recalling n to })
 
 -- what the step asks is this call of member m
 abbrev pub IsTask : List Datagram → Step → ℕ → Call → Type 0
@@ -158,6 +161,7 @@ offers_with offers m (Offered n entry now) = offers ++ record { member = m; numb
 offers_with offers m (Sought n now) = offers
 offers_with offers m (Came_due n now) = offers
 offers_with offers m (Arrived p now) = offers
+offers_with offers m (Recalled n to) = offers
 
 -- the releases with that of a turn, if it has one
 abbrev pub releases_with : {D G F : Type 0} → Circuit D G F → List (Release G F) → ℕ → ℕ → Option Entry → List (Release G F)
@@ -292,3 +296,4 @@ missing c sent (Delivers k now) = datagram_missing c (datagram_at sent k)
 missing c sent (Restarts m) = member_missing c m
 missing c sent (Upgrades m) = member_missing c m
 missing c sent (Balks m saved) = member_missing c m
+missing c sent (Recalls m n to) = member_missing c m

@@ -10,7 +10,7 @@ use Rattle.protocol.specs.Versions.{Version, Two, fits}
 use Rattle.protocol.specs.Packets.{Packet, Body, Prepare, Promise, Accept, Accepted, Nack}
 use Rattle.protocol.specs.Marks.{Mark, Began, Promised, Proposed, Denied, Heard, Closed, Released}
 use Rattle.protocol.specs.Circuit.{Circuit, hears, State, History}
-use Rattle.protocol.specs.Turn.{Event, Offered, Sought, Came_due, Arrived, Turn, turn}
+use Rattle.protocol.specs.Turn.{Event, Offered, Sought, Came_due, Arrived, Recalled, Turn, turn}
 
 -- what spells a packet in either version, a station of version 2 takes for that packet
 abbrev pub VersionTwoReadsBoth : (D G F : Type 0) → Type 0
@@ -52,6 +52,7 @@ EventFits v (Offered n entry now) = Fits v entry
 EventFits v (Sought n now) = Unit {0}
 EventFits v (Came_due n now) = Unit {0}
 EventFits v (Arrived p now) = BodyFits v p.body
+EventFits v (Recalled n to) = Unit {0}
 
 -- the entries that a turn saves, keeps in mind, sends and releases fit
 pub record TurnFits (v : Version) (t : Turn) : Type 0 where

@@ -1,7 +1,7 @@
 -- Which steps a circuit has: those of its members, and the delivery to a member of what was sent.
 use Rattle.std.specs.Prelude.{◌≡◌, ℕ, suc, List, ◌∷◌, ◌++◌, length, None}
 use Rattle.protocol.specs.Ballots.{IsMember}
-use Rattle.protocol.specs.Circuit.{Datagram, Step, Offers, Seeks, Falls_due, Delivers, Restarts, Upgrades, Balks, missing}
+use Rattle.protocol.specs.Circuit.{Datagram, Step, Offers, Seeks, Falls_due, Delivers, Restarts, Upgrades, Balks, Recalls, missing}
 
 -- the datagram was sent as the k-th, from 1
 abbrev pub WasSentAs : List Datagram → ℕ → Datagram → Type 0
@@ -16,6 +16,7 @@ HasStep c sent (Delivers k now) = (d : Datagram) × WasSentAs sent k d × IsMemb
 HasStep c sent (Restarts m) = IsMember c m
 HasStep c sent (Upgrades m) = IsMember c m
 HasStep c sent (Balks m saved) = IsMember c m
+HasStep c sent (Recalls m n to) = IsMember c m
 
 -- nothing is missing exactly where the circuit has the step
 abbrev pub MissingIsExact : Type 0

@@ -1,12 +1,12 @@
 -- What a station is asked, and when it refuses: the first refusal that holds, in the order of the checks.
-use Rattle.std.specs.Prelude.{ℕ, List, Option, Some, None, Result, Ok, Err, Bool, false, ◌==◌, ◌||◌, not, nat_lt, is_some, if◌then◌else◌}
+use Rattle.std.specs.Prelude.{ℕ, List, Option, Some, None, Result, Ok, Err, Bool, false, ◌==◌, ◌||◌, ◌&&◌, not, nat_le, nat_lt, is_some, if◌then◌else◌}
 use Rattle.protocol.specs.Lists.{or_else}
 use Rattle.protocol.specs.Seats.{Seat}
 use Rattle.protocol.specs.Entries.{Entry}
 use Rattle.protocol.specs.Packets.{Packet, Body, Prepare, Promise, Accept, Accepted, Nack}
 use Rattle.protocol.specs.Marks.{Mark}
 use Rattle.protocol.specs.Proposals.{was_released, open_proposal, next_due}
-use Rattle.protocol.specs.Turn.{Event, Offered, Sought, Came_due, Arrived}
+use Rattle.protocol.specs.Turn.{Event, Offered, Sought, Came_due, Arrived, Recalled}
 use Rattle.protocol.specs.Limits.{is_number}
 
 -- how a station is set up: where it sits,
@@ -18,19 +18,21 @@ pub record Setup (D G F : Type 0) : Type 0 where
   pub fits : Entry → Bool
   pub sets : Entry → Result G F
 
--- what a station is asked: to offer an entry for a number, to seek a number's entry, to see to what is due, to receive bytes
+-- what a station is asked: to offer an entry for a number, to seek a number's entry, to see to what is due, to receive bytes,
+-- to tell its vote for a number again to a member
 pub data Call : Type 0 where
   Offering : (number : ℕ) → (entry : Entry) → (now : ℕ) → Call
   Seeking : (number : ℕ) → (now : ℕ) → Call
   Falling_due : (now : ℕ) → Call
   Receiving : (bytes : List ℕ) → (now : ℕ) → Call
+  Recalling : (number : ℕ) → (to : ℕ) → Call
 
 -- why a station refuses a call; each but the last before it asks its store
 pub data Refusal (D F : Type 0) : Type 0 where
   Stopped : Refusal D F
   Bad_datagram : (fault : D) → Refusal D F
   Wrong_circuit Not_for_me Stranger : Refusal D F
-  Bad_number Already_released Already_open : Refusal D F
+  Bad_number No_such_member Already_released Already_open : Refusal D F
   Wire_too_old : Refusal D F
   Tape_faulty : (fault : F) → Refusal D F
   Rounds_spent : Refusal D F
@@ -69,6 +71,13 @@ number_refusal n marks =
     else if is_some (open_proposal n marks) then Some Already_open
     else None
 
+-- why a station of c members refuses to tell its vote for n again to a member
+abbrev pub recall_refusal : {D F : Type 0} → ℕ → ℕ → ℕ → Option (Refusal D F)
+recall_refusal c n to =
+    if not (is_number n) then Some Bad_number
+    else if not (nat_le 1 to && nat_le to c) then Some No_such_member
+    else None
+
 -- why it refuses to offer an entry, by whether its version has a spelling for it
 abbrev pub wire_refusal : {D F : Type 0} → Bool → Option (Refusal D F)
 wire_refusal fits = if fits then None else Some Wire_too_old
@@ -79,6 +88,7 @@ call_refusal s marks (Offering n entry now) = or_else (number_refusal n marks) (
 call_refusal s marks (Seeking n now) = number_refusal n marks
 call_refusal s marks (Falling_due now) = None
 call_refusal s marks (Receiving bytes now) = reading_refusal s.seat (s.reads bytes)
+call_refusal s marks (Recalling n to) = recall_refusal s.seat.members n to
 
 -- the first refusal that holds before an offered entry is set: a station that is stopped refuses each call
 abbrev pub early_refusal : {D G F : Type 0} → Setup D G F → Bool → List Mark → Call → Option (Refusal D F)
@@ -95,6 +105,7 @@ tape_refusal s (Offering n entry now) = setting_refusal (s.sets entry)
 tape_refusal s (Seeking n now) = None
 tape_refusal s (Falling_due now) = None
 tape_refusal s (Receiving bytes now) = None
+tape_refusal s (Recalling n to) = None
 
 -- the first refusal that holds before the store is asked
 abbrev pub refusal : {D G F : Type 0} → Setup D G F → Bool → List Mark → Call → Option (Refusal D F)
@@ -116,3 +127,4 @@ event_of s marks (Offering n entry now) = Some (Offered n entry now)
 event_of s marks (Seeking n now) = Some (Sought n now)
 event_of s marks (Falling_due now) = due_event (next_due s.seat.me now marks) now
 event_of s marks (Receiving bytes now) = arrival (s.reads bytes) now
+event_of s marks (Recalling n to) = Some (Recalled n to)

@@ -5,11 +5,11 @@ use Rattle.protocol.specs.Seats.{sits}
 use Rattle.protocol.specs.Entries.{Entry, Void, Taped}
 use Rattle.protocol.specs.Rows.{vote_for}
 use Rattle.protocol.specs.Packets.{Packet, Prepare, Promise, Accept, Accepted, Nack}
-use Rattle.protocol.specs.Turn.{Offered, Note_began, Note_nothing, Note_promised, Note_silent, Note_nacked, Note_denied, Note_idle, Note_proposed, Note_heard, Note_voted, packet_to}
+use Rattle.protocol.specs.Turn.{Offered, Note_began, Note_nothing, Note_promised, Note_silent, Note_nacked, Note_denied, Note_idle, Note_proposed, Note_heard, Note_voted, Note_recalled, Note_blank, packet_to}
 use Rattle.protocol.specs.Runs.{ballot, run_of}
-use Rattle.protocol.specs.Refusals.{Setup, Offering, Receiving, Stopped, Wrong_circuit, Not_for_me, Stranger, Bad_number, Already_released, Already_open, Wire_too_old, Tape_faulty, Bad_datagram, packet_refusal, number_refusal, early_refusal, refusal}
+use Rattle.protocol.specs.Refusals.{Setup, Offering, Receiving, Recalling, Stopped, Wrong_circuit, Not_for_me, Stranger, Bad_number, No_such_member, Already_released, Already_open, Wire_too_old, Tape_faulty, Bad_datagram, packet_refusal, number_refusal, recall_refusal, early_refusal, refusal}
 use Rattle.protocol.specs.Versions.{Version, One, Two, fits}
-use Rattle.protocol.specs.Circuit.{Circuit, setup_of, Carries, Datagram, Offer, Release, State, with_at, Step, Offers, Seeks, Falls_due, Delivers, Restarts, Upgrades, Balks, Outcome, Done, Refused, Torn_by_store, Torn_as_armed, Torn_by_memory, Restarted, Upgraded, Armed, History, starts, goes_on}
+use Rattle.protocol.specs.Circuit.{Circuit, setup_of, Carries, Datagram, Offer, Release, State, with_at, Step, Offers, Seeks, Falls_due, Delivers, Restarts, Upgrades, Balks, Recalls, Outcome, Done, Refused, Torn_by_store, Torn_as_armed, Torn_by_memory, Restarted, Upgraded, Armed, History, starts, goes_on}
 
 -- a member of 3 refuses packets of another circuit, for another, and of strangers: the sender, the owner of the ballot, of a reported vote, of a Nack's promise
 pub record PacketsAreRefused (D F : Type 0) : Type 0 where
@@ -34,6 +34,18 @@ pub record NumbersAreRefused (D F : Type 0) : Type 0 where
   pub open_one : (entry : Entry) → number_refusal {D = D} {F = F} 12 (run_of (sits 7 1 3) (Offered 12 entry 0 ∷ [])).marks ≡ Some Already_open
   pub other : (entry : Entry) → number_refusal {D = D} {F = F} 13 (run_of (sits 7 1 3) (Offered 12 entry 0 ∷ [])).marks ≡ None
 
+-- a vote is told again for numbers there are alone, and to members of the circuit; a number out of range is told first
+pub record RecallsAreRefused (D F : Type 0) : Type 0 where
+  pub low : recall_refusal {D = D} {F = F} 3 0 2 ≡ Some Bad_number
+  pub least : recall_refusal {D = D} {F = F} 3 1 2 ≡ None
+  pub most : recall_refusal {D = D} {F = F} 3 999999 2 ≡ None
+  pub high : recall_refusal {D = D} {F = F} 3 1000000 2 ≡ Some Bad_number
+  pub nobody : recall_refusal {D = D} {F = F} 3 12 0 ≡ Some No_such_member
+  pub first : recall_refusal {D = D} {F = F} 3 12 1 ≡ None
+  pub last : recall_refusal {D = D} {F = F} 3 12 3 ≡ None
+  pub beyond : recall_refusal {D = D} {F = F} 3 12 4 ≡ Some No_such_member
+  pub both : recall_refusal {D = D} {F = F} 3 0 4 ≡ Some Bad_number
+
 -- 2 of 3 to which no bytes spell a packet and at which no entry sets; its version has a spelling for each entry, or for none
 abbrev pub faulty_setup : {D G F : Type 0} → D → F → Bool → Setup D G F
 faulty_setup d f fits = record { seat = sits 7 2 3; reads = λ bytes. Err d; fits = λ entry. fits; sets = λ entry. Err f }
@@ -44,6 +56,7 @@ StoppedIsToldFirst D G F =
     (d : D) (f : F) (entry : Entry)
     → (refusal {G = G} (faulty_setup d f true) true [] (Receiving [] 0) ≡ Some Stopped)
     × (refusal {G = G} (faulty_setup d f true) true [] (Offering 12 entry 0) ≡ Some Stopped)
+    × (refusal {G = G} (faulty_setup d f true) true [] (Recalling 0 4) ≡ Some Stopped)
     × (refusal {G = G} (faulty_setup d f true) false [] (Receiving [] 0) ≡ Some (Bad_datagram d))
     × (refusal {G = G} (faulty_setup d f true) false [] (Offering 12 entry 0) ≡ Some (Tape_faulty f))
 
@@ -368,3 +381,36 @@ FightsForOne {D = D} {G = G} {F = F} z =
 -- each circuit of three is such
 abbrev pub TwoProposersFight : (D G F : Type 0) → Type 0
 TwoProposersFight D G F = (z : Circuit D G F) → z.count ≡ 3 → FightsForOne z
+
+-- what goes out as 1 of 3 is offered an entry, 2 promises and votes, and both tell 3 of their votes again
+abbrev pub packets_told_again : ℕ → Entry → List Packet
+packets_told_again k entry =
+    packets_of_three k entry ++ packet_to (sits k 1 3) 12 (ballot 1 1) (Accepted entry) 3 ∷ packet_to (sits k 2 3) 12 (ballot 1 1) (Accepted entry) 3 ∷ []
+
+-- 1 and 2 of three vote for the entry of 1, and nothing of that gets to 3, which then has nothing to tell. 1 starts again.
+-- Each of them tells 3 its vote again, and 3 releases the entry. 1 hears the vote of 2, and as it hears its own again it releases the entry too
+abbrev pub LostVotesAreTold : {D G F : Type 0} → Circuit D G F → Type 0
+LostVotesAreTold {D = D} {G = G} {F = F} z =
+    (v : Version) (spell : Packet → List ℕ) (entry : Entry) (slugs : G)
+    → fits v entry ≡ true → z.sets 1 entry ≡ Ok slugs
+    → AllZip (Carries z v) (packets_told_again z.number entry) (map (datagram_of spell) (packets_told_again z.number entry))
+    → (w : State G F) × (h : History z w) × ((m : ℕ) → started_at h m ≡ v)
+    × (w.releases ≡ release_by z 3 entry ∷ release_by z 1 entry ∷ [])
+    × (w.sent ≡ map (datagram_of spell) (packets_told_again z.number entry))
+    × (steps_of h
+    ≡ record { step = Offers 1 12 entry 0; outcome = Done (Note_began (ballot 1 1)) }
+    ∷ record { step = Delivers 1 0; outcome = Done (Note_promised (ballot 1 1)) }
+    ∷ record { step = Delivers 3 0; outcome = Done (Note_proposed (ballot 1 1)) }
+    ∷ record { step = Delivers 4 0; outcome = Done (Note_voted (ballot 1 1)) }
+    ∷ record { step = Recalls 3 12 3; outcome = Done Note_blank }
+    ∷ record { step = Restarts 1; outcome = Restarted }
+    ∷ record { step = Recalls 1 12 3; outcome = Done (Note_recalled (ballot 1 1)) }
+    ∷ record { step = Recalls 2 12 3; outcome = Done (Note_recalled (ballot 1 1)) }
+    ∷ record { step = Delivers 10 0; outcome = Done (Note_heard (ballot 1 1)) }
+    ∷ record { step = Delivers 11 0; outcome = Done (Note_heard (ballot 1 1)) }
+    ∷ record { step = Delivers 8 0; outcome = Done (Note_heard (ballot 1 1)) }
+    ∷ record { step = Recalls 1 12 1; outcome = Done (Note_recalled (ballot 1 1)) } ∷ [])
+
+-- each circuit of three is such
+abbrev pub VotesAreToldAgain : (D G F : Type 0) → Type 0
+VotesAreToldAgain D G F = (z : Circuit D G F) → z.count ≡ 3 → LostVotesAreTold z

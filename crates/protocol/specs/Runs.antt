@@ -4,11 +4,11 @@ use Rattle.std.specs.Prelude.{◌≡◌, ℕ, zero, suc, ◌*◌, List, [], ◌�
 use Rattle.protocol.specs.Seats.{Seat, sits}
 use Rattle.protocol.specs.Ballots.{Ballot}
 use Rattle.protocol.specs.Entries.{Entry}
-use Rattle.protocol.specs.Rows.{Row, vote_for, raised, blank}
+use Rattle.protocol.specs.Rows.{Row, vote_for, raised, voted, blank}
 use Rattle.protocol.specs.Packets.{Packet, Body, Prepare, Promise, Accept, Accepted, Nack}
 use Rattle.protocol.specs.Marks.{Mark}
 use Rattle.protocol.specs.Proposals.{open_ballot}
-use Rattle.protocol.specs.Turn.{Event, Offered, Sought, Came_due, Arrived, number_of, Note, Note_began, Note_nothing, Note_proposed, Note_idle, Note_gave_up, Note_promised, Note_silent, Note_nacked, Note_voted_again, Note_voted, Note_overtaken, Note_denied, Note_settled, Note_heard, Turn, packet_to, turn}
+use Rattle.protocol.specs.Turn.{Event, Offered, Sought, Came_due, Arrived, Recalled, number_of, Note, Note_began, Note_nothing, Note_proposed, Note_idle, Note_gave_up, Note_promised, Note_silent, Note_nacked, Note_voted_again, Note_voted, Note_overtaken, Note_denied, Note_settled, Note_heard, Note_recalled, Note_blank, Turn, packet_to, turn}
 
 -- what a turn shows to the outside
 pub record Shown : Type 0 where
@@ -304,3 +304,34 @@ LastRoundIsBegun =
     ≡ Note_began (ballot 4294967295 1) ∷ Note_gave_up (ballot 4294967295 1) ∷ [])
     × (notes_of (run_of (sits 7 1 3) (Offered 12 entry 0 ∷ gets 2 (ballot 1 1) (Nack (ballot 4294967295 2)) 1 ∷ Came_due 12 290 ∷ []))
     ≡ Note_began (ballot 1 1) ∷ Note_denied (ballot 4294967295 2) ∷ Note_gave_up (ballot 1 1) ∷ [])
+
+-- 2 of 3 is to tell its vote again as it has promised 1.1, and again as it has voted there and then promised 2.3
+abbrev pub recalled_run : Entry → Run
+recalled_run entry =
+    run_of (sits 7 2 3) (
+    gets 1 (ballot 1 1) Prepare 2 ∷ Recalled 12 3 ∷ Recalled 12 2
+    ∷ gets 1 (ballot 1 1) (Accept entry) 2 ∷ gets 3 (ballot 2 3) Prepare 2 ∷ Recalled 12 3 ∷ Recalled 12 2 ∷ []
+    )
+
+-- it has nothing to tell before it votes, whatever it promised. From then on it tells that vote to whom it is asked to,
+-- and its row stays as it is
+abbrev pub PromisesAreNotRecalled : Type 0
+PromisesAreNotRecalled =
+    (entry : Entry)
+    → ((recalled_run entry).shown
+    ≡ shows (Note_promised (ballot 1 1)) (sends 2 (ballot 1 1) (Promise None) 1 ∷ [])
+    ∷ shows Note_blank [] ∷ shows Note_blank []
+    ∷ shows (Note_voted (ballot 1 1)) (sends 2 (ballot 1 1) (Accepted entry) 1 ∷ sends 2 (ballot 1 1) (Accepted entry) 3 ∷ [])
+    ∷ shows (Note_promised (ballot 2 3)) (sends 2 (ballot 2 3) (Promise (Some (vote_for (ballot 1 1) entry))) 3 ∷ [])
+    ∷ shows (Note_recalled (ballot 1 1)) (sends 2 (ballot 1 1) (Accepted entry) 3 ∷ [])
+    ∷ shows (Note_recalled (ballot 1 1)) [] ∷ [])
+    × ((recalled_run entry).row ≡ raised (voted (ballot 1 1) entry) (ballot 2 3))
+
+-- 2 of 3, which started again with a vote, hears the vote of 1, and releases the entry as it hears its own again; it does so once
+abbrev pub OwnVoteIsHeardAgain : Type 0
+OwnVoteIsHeardAgain =
+    (entry : Entry)
+    → (run_from (sits 7 2 3) (voted (ballot 1 1) entry) (gets 1 (ballot 1 1) (Accepted entry) 2 ∷ Recalled 12 2 ∷ Recalled 12 2 ∷ [])).shown
+    ≡ shows (Note_heard (ballot 1 1)) []
+    ∷ record { note = Note_recalled (ballot 1 1); out = []; release = Some entry }
+    ∷ shows (Note_recalled (ballot 1 1)) [] ∷ []

@@ -10,7 +10,7 @@ use Rattle.protocol.specs.Acceptor.{Request, Prepares, Accepts, Reply, Promises,
 use Rattle.protocol.specs.Marks.{Mark, Began, Promised, Proposed, Denied, Heard, Closed, Released}
 use Rattle.protocol.specs.Proposals.{begun}
 use Rattle.protocol.specs.Readings.{IsReleased, IsOpen, Gathers, IsCounted, Picks, Ripe, GreatestDenied, IsDue}
-use Rattle.protocol.specs.Turn.{Event, Offered, Sought, Came_due, Arrived, number_of, Note, Note_began, Note_proposed, Note_nothing, Note_gave_up, Note_promised, Note_voted_again, Note_voted, Note_counted, Note_heard, Note_denied, Note_nacked, Note_overtaken, Note_idle, Note_silent, Note_stale, Note_repeated, Note_settled, Turn, stays, packet_to, to_others, proposal_to_others, answer, packet_turn, turn}
+use Rattle.protocol.specs.Turn.{Event, Offered, Sought, Came_due, Arrived, Recalled, number_of, Note, Note_began, Note_proposed, Note_nothing, Note_gave_up, Note_promised, Note_voted_again, Note_voted, Note_counted, Note_heard, Note_denied, Note_nacked, Note_overtaken, Note_idle, Note_silent, Note_stale, Note_repeated, Note_settled, Note_recalled, Note_blank, Turn, stays, packet_to, to_others, proposal_to_others, answer, packet_turn, turn}
 
 -- the vote of a member for n is heard
 pub data Hears (c n j : ℕ) (b : Ballot) (t : Entry) (marks : List Mark) (release : Option Entry) (after : List Mark) : Type 0 where
@@ -160,6 +160,19 @@ pub data AcceptedTurn (s : Seat) (marks : List Mark) (row : Row) (p : Packet) (e
       → t ≡ record { row = row; marks = after; out = []; release = release; note = Note_heard p.ballot }
       → AcceptedTurn s marks row p entry t
 
+-- a recall of n to a member
+pub data RecallTurn (s : Seat) (n to : ℕ) (marks : List Mark) (row : Row) (t : Turn) : Type 0 where
+  is_blank : row.vote ≡ None → t ≡ stays row marks Note_blank → RecallTurn s n to marks row t
+  tells_again :
+      (b : Ballot) (own : Entry) → ¬ (to ≡ s.me) → VotedAt row b own
+      → t ≡ record { row = row; marks = marks; out = packet_to s n b (Accepted own) to ∷ []; release = None; note = Note_recalled b }
+      → RecallTurn s n to marks row t
+  hears_again :
+      (b : Ballot) (own : Entry) (release : Option Entry) (after : List Mark) → to ≡ s.me → VotedAt row b own
+      → Hears s.members n s.me b own marks release after
+      → t ≡ record { row = row; marks = after; out = []; release = release; note = Note_recalled b }
+      → RecallTurn s n to marks row t
+
 -- a packet, by its body
 abbrev pub AnswerTurn : Seat → ℕ → List Mark → Row → Packet → Body → Turn → Type 0
 AnswerTurn s now marks row p Prepare t = PrepareTurn s marks row p t
@@ -174,6 +187,7 @@ IsTurn s marks row (Offered n entry now) t = StartTurn s n (Some entry) now mark
 IsTurn s marks row (Sought n now) t = StartTurn s n None now marks row t
 IsTurn s marks row (Came_due n now) t = DueTurn s n now marks row t
 IsTurn s marks row (Arrived p now) t = AnswerTurn s now marks row p p.body t
+IsTurn s marks row (Recalled n to) t = RecallTurn s n to marks row t
 
 -- an offer or a search to which no ballot is left
 abbrev pub IsSpent : ℕ → Row → Event → Type 0
@@ -181,6 +195,7 @@ IsSpent m row (Offered n entry now) = next row.promised m ≡ None
 IsSpent m row (Sought n now) = next row.promised m ≡ None
 IsSpent m row (Came_due n now) = ⊥
 IsSpent m row (Arrived p now) = ⊥
+IsSpent m row (Recalled n to) = ⊥
 
 -- the turn that is computed is one that the table has, and there is none only where no ballot is left
 abbrev pub TurnsAreOfTheTable : Type 0
@@ -233,3 +248,18 @@ abbrev pub NumbersAreReleasedOnce : Type 0
 NumbersAreReleasedOnce =
     (s : Seat) (marks : List Mark) (row : Row) (e : Event) (t : Turn)
     → IsMember s.members s.me → turn s marks row e ≡ Some t → ReleasesOnce marks (number_of e) t
+
+-- a recall of n to a member leaves the row, and what it tells is the row's vote, whose ballot its note names: to another member in one packet,
+-- with nothing taken in, and by the station to itself in none. Where the row has no vote, it does nothing, whatever the row has promised
+pub record TellsTheVote (s : Seat) (n to : ℕ) (marks : List Mark) (row : Row) (t : Turn) : Type 0 where
+  pub saves_nothing : t.row ≡ row
+  pub blank : row.vote ≡ None → t ≡ stays row marks Note_blank
+  pub noted : (v : Vote) → row.vote ≡ Some v → t.note ≡ Note_recalled v.ballot
+  pub told : (v : Vote) → row.vote ≡ Some v → ¬ (to ≡ s.me) → (t.out ≡ packet_to s n v.ballot (Accepted v.entry) to ∷ []) × (t.marks ≡ marks) × (t.release ≡ None)
+  pub heard : (v : Vote) → row.vote ≡ Some v → to ≡ s.me → (t.out ≡ []) × Hears s.members n s.me v.ballot v.entry marks t.release t.marks
+
+-- so does every recall
+abbrev pub RecallsTellTheVote : Type 0
+RecallsTellTheVote =
+    (s : Seat) (marks : List Mark) (row : Row) (n to : ℕ) (t : Turn)
+    → turn s marks row (Recalled n to) ≡ Some t → TellsTheVote s n to marks row t

@@ -12,12 +12,14 @@ use Rattle.protocol.specs.Proposals.{Opening, Counted, was_released, open_propos
 use Rattle.protocol.specs.Learner.{ripe}
 
 -- what comes to a station: an offer of an entry for a number, a search for a number's entry,
--- the due moment of a number, a packet; each at a moment in milliseconds
+-- the due moment of a number, a packet; each at a moment in milliseconds;
+-- and that the own vote for a number is to be told again to a member, which may be the station itself
 pub data Event : Type 0 where
   Offered : (number : ℕ) → (entry : Entry) → (now : ℕ) → Event
   Sought : (number : ℕ) → (now : ℕ) → Event
   Came_due : (number : ℕ) → (now : ℕ) → Event
   Arrived : (packet : Packet) → (now : ℕ) → Event
+  Recalled : (number : ℕ) → (to : ℕ) → Event
 
 -- the number that an event is about
 abbrev pub number_of : Event → ℕ
@@ -25,6 +27,7 @@ number_of (Offered n entry now) = n
 number_of (Sought n now) = n
 number_of (Came_due n now) = n
 number_of (Arrived p now) = p.number
+number_of (Recalled n to) = n
 
 -- what a turn did, in a word
 pub data Note : Type 0 where
@@ -32,6 +35,8 @@ pub data Note : Type 0 where
   Note_voted_again Note_voted Note_overtaken Note_counted Note_heard : (ballot : Ballot) → Note
   Note_nacked Note_denied : (promised : Ballot) → Note
   Note_idle Note_silent Note_stale Note_repeated Note_settled : Note
+  Note_recalled : (ballot : Ballot) → Note
+  Note_blank : Note
 
 -- a turn: the row after it, the marks after it, the packets that go out, the entry that is released
 pub record Turn : Type 0 where
@@ -187,6 +192,18 @@ abbrev pub accepted_turn : Seat → List Mark → Row → Packet → Entry → T
 accepted_turn s marks row p entry =
     after_hearing row [] (if was_released p.number marks then Note_settled else Note_heard p.ballot) (hear s.members p.number p.from p.ballot entry marks)
 
+-- a saved vote is told again: to another member in an Accepted, and by the station to itself, which hears it
+-- (Lamport, section 2.3: a learner that missed a message could ask the acceptors what proposals they have accepted)
+abbrev pub tell_again : Seat → ℕ → ℕ → List Mark → Row → Vote → Turn
+tell_again s n to marks row v =
+    if to == s.me then after_hearing row [] (Note_recalled v.ballot) (hear s.members n s.me v.ballot v.entry marks)
+    else record { row = row; marks = marks; out = packet_to s n v.ballot (Accepted v.entry) to ∷ []; release = None; note = Note_recalled v.ballot }
+
+-- a recall of n to a member: a row without a vote has nothing to tell, whatever it has promised
+abbrev pub recall_turn : Seat → ℕ → ℕ → List Mark → Row → Option Vote → Turn
+recall_turn s n to marks row None = stays row marks Note_blank
+recall_turn s n to marks row (Some v) = tell_again s n to marks row v
+
 -- a packet, by its body
 abbrev pub packet_turn : Seat → ℕ → List Mark → Row → Packet → Body → Turn
 packet_turn s now marks row p Prepare = prepare_turn s marks row p
@@ -202,3 +219,4 @@ turn s marks row (Offered n entry now) = start_turn s n (Some entry) now marks r
 turn s marks row (Sought n now) = start_turn s n None now marks row (next row.promised s.me)
 turn s marks row (Came_due n now) = Some (due_turn s n now marks row (open_proposal n marks))
 turn s marks row (Arrived p now) = Some (packet_turn s now marks row p p.body)
+turn s marks row (Recalled n to) = Some (recall_turn s n to marks row row.vote)

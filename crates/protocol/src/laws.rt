@@ -2,15 +2,15 @@
 //! Those over histories are for any circuit: `D` is what a datagram's fault is, `G` what setting an entry gives, `F` its fault.
 
 ghost use Rattle.protocol.specs.Acceptor.{StepsAreOfTheWhole};
-ghost use Rattle.protocol.specs.Agreement.{BallotsHaveOneEntry, ChosenIsOne, HeardIsVoted, HistoriesAgree, PromisesBind, ReleasesAreChosen, ReportsAreGreatest, RipeIsChosen, VotesAreBacked, VotesAreOffered};
+ghost use Rattle.protocol.specs.Agreement.{BallotsHaveOneEntry, ChosenIsOne, HeardIsVoted, HistoriesAgree, PromisesBind, ReleasesAreChosen, ReportsAreGreatest, RipeIsChosen, ToldIsVoted, VotesAreBacked, VotesAreOffered};
 ghost use Rattle.protocol.specs.Fitting.{HistoriesFit, TurnsFit, VersionTwoReadsBoth};
 ghost use Rattle.protocol.specs.Missing.{MissingIsExact};
 ghost use Rattle.protocol.specs.NextDue.{NextDueIsLeastNumber};
 ghost use Rattle.protocol.specs.Progress.{BusyNeedNotRestart, ChosenIsFound, CircuitIsNeverStuck, DeniedNeedNotRestart, EveryMemberReleases, HalfAnUpgradeIsNoDeadEnd, RunningNeedNotRestart};
 ghost use Rattle.protocol.specs.Readings.{NextDueIsLeast};
-ghost use Rattle.protocol.specs.Rehearsals.{AddresseeIsToldFirst, LowerIsDenied, MixedMembersRelease, NumberIsToldFirst, NumberIsWithdrawn, NumbersAreRefused, OneMemberReleases, PacketsAreRefused, ReadingLeavesArmed, SavedVoteIsReleased, SettingWantsMemory, StoppedIsToldFirst, StoreRefusesToo, ThreeMembersRelease, TornUpgrades, TwoProposersFight, UnsavedVoteIsLost, VersionIsToldFirst, VoteOutlivesUpgrades, WithdrawalWantsVersionTwo};
-ghost use Rattle.protocol.specs.Runs.{BallotsStandApart, BeginsAbovePromise, ClosedIsForgotten, FallsDueAbove, FirstAcceptStands, FirstOfTwoReleases, GivesUp, GreaterReportIsTaken, LastRoundIsBegun, LastRoundIsSpent, LeastMemberDecides, LowerIsNacked, NumbersStandApart, OfferedAfterGivingUp, OneFindsNothing, OneReleases, PassedIsOvertaken, ReleasedIsSettled, RepeatedVoteCountsOnce, SecondOfTwoReleases, ThirdTakesOver, VoteIsReported};
-ghost use Rattle.protocol.specs.Table.{NumbersAreReleasedOnce, TurnsAreAnAcceptors, TurnsAreOfTheTable};
+ghost use Rattle.protocol.specs.Rehearsals.{AddresseeIsToldFirst, LowerIsDenied, MixedMembersRelease, NumberIsToldFirst, NumberIsWithdrawn, NumbersAreRefused, OneMemberReleases, PacketsAreRefused, ReadingLeavesArmed, RecallsAreRefused, SavedVoteIsReleased, SettingWantsMemory, StoppedIsToldFirst, StoreRefusesToo, ThreeMembersRelease, TornUpgrades, TwoProposersFight, UnsavedVoteIsLost, VersionIsToldFirst, VoteOutlivesUpgrades, VotesAreToldAgain, WithdrawalWantsVersionTwo};
+ghost use Rattle.protocol.specs.Runs.{BallotsStandApart, BeginsAbovePromise, ClosedIsForgotten, FallsDueAbove, FirstAcceptStands, FirstOfTwoReleases, GivesUp, GreaterReportIsTaken, LastRoundIsBegun, LastRoundIsSpent, LeastMemberDecides, LowerIsNacked, NumbersStandApart, OfferedAfterGivingUp, OneFindsNothing, OneReleases, OwnVoteIsHeardAgain, PassedIsOvertaken, PromisesAreNotRecalled, ReleasedIsSettled, RepeatedVoteCountsOnce, SecondOfTwoReleases, ThirdTakesOver, VoteIsReported};
+ghost use Rattle.protocol.specs.Table.{NumbersAreReleasedOnce, RecallsTellTheVote, TurnsAreAnAcceptors, TurnsAreOfTheTable};
 ghost use Rattle.protocol.specs.Tearing.{StoreTearsTheUnrefused, TornAsItWasArmed, UpgradesKeepRows, ArmedStoresSaveNothing};
 
 /// An acceptor that keeps one row answers as the whole list of its requests says.
@@ -27,6 +27,12 @@ pub fn turns_are_an_acceptors()
 /// Where a number was released since a station's start, no turn of it releases the number again.
 pub fn numbers_are_released_once()
     ensures { NumbersAreReleasedOnce }
+{}
+
+/// A recall leaves the row as it is, and what it tells is the row's vote: to another member, or by the station to itself.
+/// A row that has no vote has nothing to tell, whatever it has promised.
+pub fn recalls_tell_the_vote()
+    ensures { RecallsTellTheVote }
 {}
 
 /// What is due next is the least number that is due.
@@ -99,9 +105,10 @@ pub fn votes_are_backed<D, G, F>()
     ensures { VotesAreBacked D G F }
 {}
 
-/// Each vote that was heard was taken.
+/// Each vote that was heard was taken, and so was each that was told, for the first time or again.
 pub fn heard_is_voted<D, G, F>()
-    ensures { HeardIsVoted D G F }
+    ensures heard { HeardIsVoted D G F }
+    ensures told { ToldIsVoted D G F }
 {}
 
 /// What is ripe is chosen, and two chosen entries of one number are equal.
@@ -156,10 +163,17 @@ pub fn turns_at_an_end()
     ensures last { LastRoundIsBegun }
 {}
 
+/// Worked examples of votes that are told again.
+pub fn turns_that_tell_again()
+    ensures promised { PromisesAreNotRecalled }
+    ensures own { OwnVoteIsHeardAgain }
+{}
+
 /// Worked examples of refusals.
 pub fn refusals<D, F>()
     ensures packets { PacketsAreRefused D F }
     ensures numbers { NumbersAreRefused D F }
+    ensures recalls { RecallsAreRefused D F }
 {}
 
 /// Worked examples of calls that a station has two reasons to refuse.
@@ -197,6 +211,11 @@ pub fn torn_otherwise<D, G, F>()
 pub fn two_proposers<D, G, F>()
     ensures denied { LowerIsDenied D G F }
     ensures fight { TwoProposersFight D G F }
+{}
+
+/// Votes that got lost are told again: by whom they are missed, and by a member that started again, their entry is released.
+pub fn votes_are_told_again<D, G, F>()
+    ensures { VotesAreToldAgain D G F }
 {}
 
 /// Three members at one version release what one of them is offered.

@@ -22,6 +22,8 @@ pub enum StepRefusal {
     Stranger,
     /// The number is not 1 to 999,999.
     BadNumber,
+    /// The member that is to be told a vote again is none of the circuit's.
+    NoSuchMember,
     /// The number's entry was released since the station started.
     AlreadyReleased,
     /// The number has an open proposal.

@@ -25,6 +25,7 @@ refused_text steps.WrongCircuit = codes "refused " ++ refusal_text steps.WrongCi
 refused_text steps.NotForMe = codes "refused " ++ refusal_text steps.NotForMe
 refused_text steps.Stranger = codes "refused " ++ refusal_text steps.Stranger
 refused_text steps.BadNumber = codes "refused " ++ refusal_text steps.BadNumber
+refused_text steps.NoSuchMember = codes "refused " ++ refusal_text steps.NoSuchMember
 refused_text steps.AlreadyReleased = codes "refused " ++ refusal_text steps.AlreadyReleased
 refused_text steps.AlreadyOpen = codes "refused " ++ refusal_text steps.AlreadyOpen
 refused_text steps.WireTooOld = codes "refused " ++ refusal_text steps.WireTooOld

@@ -123,6 +123,7 @@ fn step_of(order: Order, now: u64) -> Option<Step>
         Order::Restart { member } => Some(Step::Restart { member }),
         Order::Upgrade { member } => Some(Step::Upgrade { member }),
         Order::Balk { member, saved } => Some(Step::Balk { member, saved }),
+        Order::Recall { member, number, to } => Some(Step::Recall { member, number, to }),
     }
 }
 

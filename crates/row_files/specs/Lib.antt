@@ -1,3 +1,4 @@
 pub mod Causes
 pub mod Creating
 pub mod Found
+pub mod Knowing

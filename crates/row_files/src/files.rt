@@ -1,16 +1,20 @@
 //! Files that saved rows lie in: made at the first start of a station, and taken up at every other.
 
-ghost use Rattle.std.specs.Prelude.{◌≡◌, ℕ, List, Option, IfOk, OnOk, codes};
+ghost use Rattle.std.specs.Prelude.{◌≡◌, ◌≤◌, ℕ, List, Option, IfOk, OnOk, codes};
 ghost use Rattle.std.specs.Io.KnownBytes.{Appends};
 ghost use Rattle.saved_rows.specs.Identity.{IsIdentity};
+ghost use Rattle.saved_rows.specs.Saved.{SameRows};
 ghost use Rattle.saved_rows.specs.declared.identity.Identity.{Identity as IdentityValue};
 ghost use Rattle.tape_frames.specs.declared.version.Version.{Version as VersionValue};
 ghost use Rattle.command_ends.specs.Ends.{IsOfRows};
 ghost use Rattle.command_ends.specs.declared.end.End.TheVariants.{Done};
+ghost use Rattle.row_files.specs.Knowing.{KnowsAll};
 
 use crate::causes::RefusedRows;
 use command_ends::End;
+use gone_out::Known;
 use saved_rows::{Identity, Rows};
+use std::alloc::Global;
 use std::io::Write;
 use tape_frames::Version;
 
@@ -58,6 +62,23 @@ pub trait RowFiles {
     ) -> Result<Self::Rows, RefusedRows>
         ensures taken { IfOk result (takes_up self.now path.now identity) }
         ensures open { IfOk result (λ rows. Self.Rows.kept rows → Self.Rows.is_open rows) };
+
+    /// Which numbers have a saved row, and which of these rows have a vote. All rows are read, and none is changed.
+    ///
+    /// It is refused as a reading of rows is; with `OutOfMemory` also where there is no room for the numbers.
+    fn known(&self, alloc: Global, rows: &mut Self::Rows) -> Result<Known, RefusedRows>
+        ensures known { Self.Rows.kept rows.new → IfOk result (KnowsAll (Self.Rows.saved rows.old)) }
+        ensures open { Self.Rows.kept rows.new → OnOk result (Self.Rows.is_open rows.new) }
+        ensures same { Self.Rows.kept rows.new → Self.Rows.is_open rows.new → SameRows (Self.Rows.saved rows.old) (Self.Rows.saved rows.new) }
+        ensures version { Self.Rows.version rows.new ≡ Self.Rows.version rows.old }
+        ensures counts { Self.Rows.refusals rows.old ≤ Self.Rows.refusals rows.new }
+
+        // The store's half, told forwards: rows that lie in what was made for them stay there.
+        ensures made { Self.Rows.made rows.old → Self.Rows.made rows.new }
+
+        // What held as the call ended held before.
+        ensures was_kept { Self.Rows.kept rows.new → Self.Rows.kept rows.old }
+        ensures was_open { Self.Rows.kept rows.new → Self.Rows.is_open rows.new → Self.Rows.is_open rows.old };
 
     /// Closes the file of these rows, as a good end does: what its log holds is copied into it, so that a copy of the file
     /// alone has them all.

@@ -151,13 +151,18 @@ module _ {F : Type 0} (t : Texts) (doings : F → Option (List Doing)) where
       tells_behind f g h q r m n log none fresh d
       (subst (λ (v : Texts). LivedFront v doings (kept g q m) (kept h r n) log) by (subst (λ (s : Kept F). LivedFront u doings s (kept h r n) log) is p))
 
--- a run in which nothing happened
-pub idle : {R N F : Type 0} (t : Texts) (rows : Ghosts R) (passed : N → Option (List Passed)) (doings : F → Option (List Doing)) (s : Station R) (w : N) (f : F) (end : End)
-    → HasCause [] s.stopped s.stopped end → Drove (known rows passed (tells t doings)) (post s w f) (post s w f) end Anyhow
-idle t rows passed doings s w f end cause =
-    let none : Tells t doings f f [] = record { story = []; events = refl; does = does_nothing (doings f) (doings f) refl; front = ([], refl); ordered = tt } in
+-- a run in which nothing happened, and nothing was done with its folders but what they don't tell of
+pub idle_behind : {R N F : Type 0} (t : Texts) (rows : Ghosts R) (passed : N → Option (List Passed)) (doings : F → Option (List Doing)) (s : Station R) (w : N) (f g : F) (end : End)
+    → doings g ≡ doings f → HasCause [] s.stopped s.stopped end → Drove (known rows passed (tells t doings)) (post s w f) (post s w g) end Anyhow
+idle_behind t rows passed doings s w f g end same cause =
+    let none : Tells t doings f g [] = record { story = []; events = refl; does = does_nothing (doings f) (doings g) same; front = ([], refl); ordered = tt } in
     record {
       log = [];
       driven = record { steps = λ kept. refl; passes = Passes-nil (passed w); front = none; whole = λ done. none; cause = cause };
       form = λ done. tt;
     }
+
+-- a run in which nothing happened
+pub idle : {R N F : Type 0} (t : Texts) (rows : Ghosts R) (passed : N → Option (List Passed)) (doings : F → Option (List Doing)) (s : Station R) (w : N) (f : F) (end : End)
+    → HasCause [] s.stopped s.stopped end → Drove (known rows passed (tells t doings)) (post s w f) (post s w f) end Anyhow
+idle t rows passed doings s w f end cause = idle_behind t rows passed doings s w f f end refl cause

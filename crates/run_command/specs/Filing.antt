@@ -4,7 +4,7 @@ use Rattle.station.specs.declared.answer.Answer.{Answer}
 use Rattle.refusals.specs.declared.refusal.StepRefusal.{StepRefusal}
 use Rattle.folders.specs.Written.{File}
 use Rattle.plant_files.specs.Filing.{files_of}
-use Rattle.exchange.specs.Events.{Event, asked, took}
+use Rattle.exchange.specs.Events.{Event, asked, took, aside}
 
 -- the files of what a step answered; of a refusal there are none
 abbrev pub answer_files : Result Answer StepRefusal → List File
@@ -14,4 +14,5 @@ answer_files (Err refusal) = []
 -- the files of an event
 abbrev pub filing : Event → List File
 filing (asked moment) = []
+filing (aside what) = []
 filing (took call answer) = answer_files answer

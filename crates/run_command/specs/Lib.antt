@@ -9,3 +9,4 @@ pub mod Running
 pub mod Story
 pub mod Straying
 pub mod Working
+pub mod Caring

@@ -3,11 +3,11 @@ use Rattle.std.specs.Prelude.{◌≡◌, ◌⊎◌, ◌++◌, ℕ, List, [], ◌
 use Rattle.std.proofs.Common.{◌∙◌, inl, inr, sym, ap, subst, append_assoc, append-nil}
 use Rattle.std.proofs.lemmas.Grind.{flat_map-append}
 use Rattle.protocol.specs.Lists.{IsAmong}
-use Rattle.protocol.specs.Refusals.{Call, Offering, Seeking, Falling_due, Receiving}
+use Rattle.protocol.specs.Refusals.{Call, Offering, Seeking, Falling_due, Receiving, Recalling}
 use Rattle.folders.specs.Doings.{Doing, Does}
 use Rattle.folders.specs.Written.{File}
 use Rattle.folders.proofs.Doings.{does_nothing, does_then}
-use Rattle.exchange.specs.Events.{Event, asked, took}
+use Rattle.exchange.specs.Events.{Event, asked, took, aside}
 use Rattle.plant_files.specs.Standing.{Texts}
 use Rattle.driver.specs.Fates.{Fates, NeedsNothing}
 use Rattle.offers.specs.Rules.{Standing}
@@ -136,6 +136,7 @@ module _ {F : Type 0} (t : Texts) (doings : F → Option (List Doing)) where
   free s (Seeking n now) needs = λ past st. tt
   free s (Falling_due now) needs = λ past st. tt
   free s (Receiving bytes now) needs = λ past st. tt
+  free s (Recalling n to) needs = λ past st. tt
 
 -- and so the lives of a plant are those of a sink, which has one table
 module _ {F S : Type 0} (doings : F → Option (List Doing)) (same : S → S → Type 0) (stay : (s : S) → same s s)
@@ -162,6 +163,7 @@ module _ {F S : Type 0} (doings : F → Option (List Doing)) (same : S → S →
   plant_fates = record {
     rests = λ s. (stay s, stayed (texts s) doings (at s));
     clock = λ s moment. (stay s, silent (texts s) doings (at s) (asked moment) refl (λ past st. (tt, tt)));
+    besides = λ s what. (stay s, silent (texts s) doings (at s) (aside what) refl (λ past st. (tt, tt)));
     refuses = λ s call refusal may. (stay s, silent (texts s) doings (at s) (took call (Err refusal)) refl (λ past st. (may past st, tt)));
     joins = came_then;
     begins = λ a b xs p. (p.0, begun (texts a) doings (at a) (at b) xs p.1);

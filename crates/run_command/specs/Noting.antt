@@ -1,7 +1,8 @@
 -- What a step with a note tells of the ballots of its number.
-use Rattle.std.specs.Prelude.{ℕ, Bool, true, false, Option, Some, None}
+use Rattle.std.specs.Prelude.{ℕ, List, Bool, true, false, ◌&&◌, Option, Some, None}
 use Rattle.node_core.specs.declared.turn.Note.{Note}
 use Rattle.node_core.specs.declared.turn.Note.TheVariants as notes
+use Rattle.offers.specs.Rules.{is_under_way}
 use Rattle.plant_log.specs.declared.event.Event.{Event}
 use Rattle.plant_log.specs.declared.event.Event.TheVariants as events
 
@@ -10,6 +11,17 @@ abbrev pub is_of_close : Note → Bool
 is_of_close (notes.GaveUp ballot) = true
 is_of_close (notes.Nothing ballot) = true
 is_of_close note = false
+
+-- it opened one: a ballot was begun, or an entry was voted for at once
+abbrev pub is_of_opening : Note → Bool
+is_of_opening (notes.Began ballot) = true
+is_of_opening (notes.Proposed ballot) = true
+is_of_opening note = false
+
+-- and that was of a number under way, so for a file among the offers
+abbrev pub is_opened : Option ℕ → Note → List ℕ → Bool
+is_opened None note window = false
+is_opened (Some n) note window = is_of_opening note && is_under_way n window
 
 -- the line that is told of it, if the number was under way: a ballot was begun, given up, or found nothing
 abbrev pub event_of : ℕ → Note → Option Event

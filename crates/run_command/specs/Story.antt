@@ -1,7 +1,7 @@
 -- The story of a run: what happened in it, in order, and what may happen behind what happened before.
 use Rattle.std.specs.Prelude.{◌≡◌, ℕ, List, [], ◌∷◌, flat_map, Some, Ok}
 use Rattle.protocol.specs.Lists.{IsAmong}
-use Rattle.protocol.specs.Refusals.{Call, Offering, Seeking, Falling_due, Receiving}
+use Rattle.protocol.specs.Refusals.{Call, Offering, Seeking, Falling_due, Receiving, Recalling}
 use Rattle.station.specs.declared.answer.Answer.{Answer}
 use Rattle.station.specs.declared.answer.Release.{Release}
 use Rattle.folders.specs.Doings.{Doing, saw_file, read_file, wrote_file, moved_file, removed_file, writing}
@@ -11,10 +11,10 @@ use Rattle.folders.specs.declared.leaving.Place.TheVariants as places
 use Rattle.folders.specs.declared.names.Kind.{Kind}
 use Rattle.plant_files.specs.Filing.{release_files}
 use Rattle.plant_files.specs.Standing.{Texts, WasLaid}
-use Rattle.exchange.specs.Events.{Event, asked, took}
+use Rattle.exchange.specs.Events.{Event, asked, took, aside}
 use Rattle.run_command.specs.Filing.{filing}
 
--- the clock was asked or the station was called; or something was done with the folders
+-- the clock was asked, the station was called or something passed beside its packets; or something was done with the folders
 pub data Happened : Type 0 where
   stepped : (event : Event) → Happened
   did : (doing : Doing) → Happened
@@ -70,17 +70,19 @@ MayBeDone before (moved_file name places.Lost) = IsBehindRelease before name
 MayBeDone before (moved_file name places.Refused) = Unit {0}
 MayBeDone before (removed_file name) = IsStop name
 
--- an entry is offered only where a file that lay among the offers stands for it, a text by this table; a search, what is due and what comes
--- need no file
+-- an entry is offered only where a file that lay among the offers stands for it, a text by this table; a search, what is due, what comes
+-- and a vote that is told again need no file
 abbrev pub MayBeCalled : Texts → List Happened → Call → Type 0
 MayBeCalled texts before (Offering n entry now) = WasLaid texts (doings_of before) n entry
 MayBeCalled texts before (Seeking n now) = Unit {0}
 MayBeCalled texts before (Falling_due now) = Unit {0}
 MayBeCalled texts before (Receiving bytes now) = Unit {0}
+MayBeCalled texts before (Recalling n to) = Unit {0}
 
 -- what may happen behind what happened before
 abbrev pub MayHappen : Texts → List Happened → Happened → Type 0
 MayHappen texts before (stepped (asked moment)) = Unit {0}
+MayHappen texts before (stepped (aside what)) = Unit {0}
 MayHappen texts before (stepped (took call answer)) = MayBeCalled texts before call
 MayHappen texts before (did doing) = MayBeDone before doing
 

@@ -4,7 +4,7 @@ ghost use Rattle.std.specs.Prelude.{◌≡◌, IfErr};
 ghost use Rattle.command_ends.specs.declared.fault.Fault.TheVariants.{OutOfMemory};
 ghost use Rattle.exchange.specs.Events.{ended};
 ghost use Rattle.offers.specs.Rules.{is_under_way};
-ghost use Rattle.run_command.specs.Noting.{event_of, is_of_close};
+ghost use Rattle.run_command.specs.Noting.{event_of, is_of_close, is_of_opening, is_opened};
 ghost use Rattle.run_command.specs.Story.{IsReleasedIn};
 ghost use Rattle.run_command.specs.Working.{Always, Deals, Follows, HandsOn, Releases};
 
@@ -40,7 +40,26 @@ fn event_of(number: Number, note: &Note) -> Option<Event>
     }
 }
 
+/// Whether a step with this note opened a ballot.
+fn is_of_opening(note: &Note) -> bool
+    ensures { result ≡ is_of_opening note.now }
+{
+    matches!(note, Note::Began { .. } | Note::Proposed { .. })
+}
+
 impl<'f, 'p, F: Folders> Plant<'f, 'p, F> {
+    /// Whether a step opened a ballot for a file among the offers.
+    fn is_opened(&self, step: &Step) -> bool
+        ensures { result ≡ is_opened step.now.answer.number step.now.answer.note self.now.papers.now.book.window }
+    {
+        match step.answer.number {
+            Some(number) => {
+                is_of_opening(&step.answer.note) && self.papers.book.is_under_way(number)
+            }
+            None => false,
+        }
+    }
+
     /// Where a step about a number closed a ballot, its file is no longer under way. Whether it was before.
     fn note(&mut self, number: Number, step: &Step) -> bool
         ensures told { result ≡ is_under_way number self.old.papers.now.book.window }
@@ -149,6 +168,8 @@ impl<'f, 'p, F: Folders> Plant<'f, 'p, F> {
         if keep_any(self.alloc, &step.answer.release, &mut self.papers.waits).is_err() {
             return Err(Fault::OutOfMemory);
         }
+        let opened = self.is_opened(step);
+        self.papers.care.did(step, opened);
         self.write(step.moment, log);
         self.close(step, log);
         Ok(())

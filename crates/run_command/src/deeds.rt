@@ -1,6 +1,7 @@
 //! What is done with a file among the offers.
 
 ghost use Rattle.std.specs.Prelude.{◌≡◌, IfSome};
+ghost use Rattle.driver.specs.Todos.{IsGoodTodo};
 ghost use Rattle.run_command.specs.Departing.{departure_of, task_of, IsFree, IsFreeTask};
 ghost use Rattle.run_command.specs.Working.{Always, By, Deals, DealsBy, Follows};
 
@@ -8,7 +9,7 @@ use crate::departures::{Departure, Way, tell_departure};
 use crate::plant::Plant;
 use crate::reading::read;
 use ballots::Number;
-use driver::Log;
+use driver::{Chance, Log, Todo};
 use folders::{Folders, Request};
 use offers::{Allowed, Deed, Found};
 use plant_log::{Event, Trouble};
@@ -216,24 +217,25 @@ impl<'f, 'p, F: Folders> Plant<'f, 'p, F> {
         }
     }
 
-    /// Does a deed, at a moment, or answers for which file the station is to be asked, where it may be. While a look goes on, each second
-    /// deed is a part of it.
-    pub(crate) fn deed<E: Write>(
-        &mut self,
-        may_ask: bool,
-        now: u64,
-        log: &mut Log<'_, E>,
-    ) -> Option<Request>
+    /// Does a deed, or answers what the driver is to do: while a look goes on, each second deed is a part of it; of the others each second
+    /// is an errand of catching up, where there is one.
+    pub(crate) fn deed<E: Write>(&mut self, chance: Chance, log: &mut Log<'_, E>) -> Option<Todo>
+        ensures good { IfSome result IsGoodTodo }
         ensures folders { self.new.folders.ghost_name ≡ self.old.folders.ghost_name }
         ensures waits { self.new.papers.now.waits ≡ self.old.papers.now.waits }
         ensures texts { self.new.papers.now.texts ≡ self.old.papers.now.texts }
         ensures deals { DealsBy (By self.old.papers.now.texts) Always (F.doings self.old.folders.now) (F.doings self.new.folders.now) self.old.papers.now.waits.items self.old.papers.now.book self.new.papers.now.book }
     {
         if self.papers.looking.takes_turn() {
-            self.look_at_offers(now, log);
-            None
-        } else {
-            self.deed_with_file(may_ask, now, log)
+            self.look_at_offers(chance.moment, log);
+            return None;
+        }
+        if let Some(errand) = self.papers.care.next(chance) {
+            return Some(Todo::Run(errand));
+        }
+        match self.deed_with_file(chance.may_ask, chance.moment, log) {
+            Some(request) => Some(Todo::Ask(request)),
+            None => None,
         }
     }
 

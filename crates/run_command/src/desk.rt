@@ -7,10 +7,9 @@ ghost use Rattle.run_command.specs.Lives.{plant_fates};
 
 use crate::plant::Plant;
 use command_ends::Fault;
-use driver::{Call, Denied, Desk, Log, Sink, Step, Tasks};
+use driver::{Call, Chance, Declined, Denied, Desk, Heard, Log, Sink, Step, Tasks, Todo};
 use folders::{Folders, Request};
 use plant_files::call_for;
-use station::StepRefusal;
 use std::io::Write;
 
 /// The plant of a station, as its driver works with it.
@@ -30,8 +29,8 @@ impl<F: Folders> Sink for PlantDesk<'_, '_, F> {
         self.plant.take(step, log)
     }
 
-    fn hear_refusal<E: Write>(&mut self, refusal: StepRefusal, now: u64, log: &mut Log<'_, E>) {
-        self.plant.hear_refusal(refusal, now, log);
+    fn hear<E: Write>(&mut self, heard: &Heard, now: u64, log: &mut Log<'_, E>) {
+        self.plant.hear(heard, now, log);
     }
 
     ghost fates = { plant_fates F.doings (λ a b. IsSameDesk a b) (λ _. (refl, refl)) (λ _ _ _ p q. (q.0 ∙ p.0, q.1 ∙ p.1)) (λ it. texts_of it) (λ _ _ same. same.1) (λ it. kept_of it.plant) };
@@ -46,8 +45,8 @@ impl<F: Folders> Desk for PlantDesk<'_, '_, F> {
         self.plant.look(now, log)
     }
 
-    fn deed<E: Write>(&mut self, may_ask: bool, now: u64, log: &mut Log<'_, E>) -> Option<Request> {
-        self.plant.deed(may_ask, now, log)
+    fn deed<E: Write>(&mut self, chance: Chance, log: &mut Log<'_, E>) -> Option<Todo> {
+        self.plant.deed(chance, log)
     }
 
     fn call(&self, request: &Request) -> Option<Call<'_>> {
@@ -59,5 +58,9 @@ impl<F: Folders> Desk for PlantDesk<'_, '_, F> {
 
     fn deny<E: Write>(&mut self, denied: Denied, _log: &mut Log<'_, E>) {
         self.plant.deny(&denied);
+    }
+
+    fn decline<E: Write>(&mut self, declined: Declined, _log: &mut Log<'_, E>) {
+        self.plant.decline(declined);
     }
 }

@@ -1,6 +1,8 @@
 //! The command `run`: a station that stays up, and works with the folders of its plant.
 #![tactic(auto)]
 
+mod beginning;
+mod care;
 mod closing;
 mod deeds;
 mod departures;

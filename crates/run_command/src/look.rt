@@ -163,6 +163,21 @@ impl<'f, 'p, F: Folders> Plant<'f, 'p, F> {
         }
     }
 
+    /// Whether the file that ends the run lies among the offers. Where it does, the disk has all that was written, and what went out is noted.
+    fn is_over<E: Write>(&mut self, now: u64, log: &mut Log<'_, E>) -> bool
+        ensures folders { self.new.folders.ghost_name ≡ self.old.folders.ghost_name }
+        ensures texts { self.new.papers.now.texts ≡ self.old.papers.now.texts }
+        ensures book { self.new.papers.now.book ≡ self.old.papers.now.book }
+        ensures waits { self.new.papers.now.waits ≡ self.old.papers.now.waits }
+        ensures does { F.doings self.new.folders.now ≡ F.doings self.old.folders.now }
+    {
+        let is_over = self.folders.has_stop(self.alloc);
+        if is_over {
+            self.settle_notes(now, log);
+        }
+        is_over
+    }
+
     /// A look at the folders, at a moment: writes the files that wait, and looks at the offers where it is time for it. Whether the file that
     /// ends the run lies there, which is looked for each time.
     pub(crate) fn look<E: Write>(&mut self, now: u64, log: &mut Log<'_, E>) -> bool
@@ -172,6 +187,7 @@ impl<'f, 'p, F: Folders> Plant<'f, 'p, F> {
     {
         self.write(now, log);
         self.look_if_due(now, log);
-        self.folders.has_stop(self.alloc)
+        self.papers.care.catch_up.look();
+        self.is_over(now, log)
     }
 }

@@ -6,8 +6,9 @@ ghost use Rattle.offers.specs.Book.{IsFresh, still_for};
 ghost use Rattle.looks.specs.Strays.{none_known, still_for as strays_still};
 ghost use Rattle.run_command.specs.Working.{Follows};
 
+use crate::care::Care;
 use code_table::CodeTable;
-use driver::{Denied, Log, Tasks};
+use driver::{Declined, Denied, Heard, Log, Tasks};
 use folders::{Folders, NamedFile, Stamp, write_waiting};
 use log_terms::Loudness;
 use looks::{Looking, Strays};
@@ -41,8 +42,20 @@ pub(crate) struct Papers {
     pub(crate) unseen: Option<Unseen>,
     pub(crate) looking: Looking,
     pub(crate) told: Told,
+    pub(crate) care: Box<Care>,
     /// By which code table texts among the offers become tapes; by none where no text may be offered.
     pub(crate) texts: Option<CodeTable>,
+}
+
+/// How a plant is run.
+#[derive(Drop)]
+pub(crate) struct Manner {
+    /// By which code table texts among the offers become tapes; by none where no text may be offered.
+    pub(crate) texts: Option<CodeTable>,
+    /// Whether files come into the offers only by being renamed.
+    pub(crate) renamed: bool,
+    /// How much is told.
+    pub(crate) loudness: Loudness,
 }
 
 /// The folders of a plant, and what is known of what lies in them. Moments are in milliseconds.
@@ -61,20 +74,21 @@ fn deeds_of(deeds: Deeds, has_more: bool) -> Deeds
 }
 
 impl Papers {
-    /// Nothing waits, and nothing is known yet: of offers to which files come only by being renamed, or not only so. So much is told.
-    pub(crate) fn new(
-        alloc: Global,
-        texts: Option<CodeTable>,
-        renamed: bool,
-        loudness: Loudness,
-    ) -> Papers
+    /// Nothing waits, and nothing is known yet of the offers.
+    pub(crate) fn new(alloc: Global, manner: Manner, care: Box<Care>) -> Papers
         ensures waits { result.waits.items ≡ [] }
         ensures book { IsFresh result.book }
-        ensures still { result.book.still ≡ still_for renamed }
-        ensures strays { result.strays ≡ none_known (strays_still renamed) }
-        ensures loudness { result.told.loudness ≡ loudness }
-        ensures texts { result.texts ≡ texts }
+        ensures still { result.book.still ≡ still_for manner.renamed }
+        ensures strays { result.strays ≡ none_known (strays_still manner.renamed) }
+        ensures loudness { result.told.loudness ≡ manner.loudness }
+        ensures texts { result.texts ≡ manner.texts }
+        ensures care { result.care ≡ care }
     {
+        let Manner {
+            texts,
+            renamed,
+            loudness,
+        } = manner;
         Papers {
             waits: Vec::new(alloc),
             book: Book::over(alloc, renamed),
@@ -82,12 +96,50 @@ impl Papers {
             unseen: None,
             looking: Looking::new(alloc),
             told: Told::new(alloc, loudness),
+            care,
             texts,
         }
     }
 }
 
 impl<'f, 'p, F: Folders> Plant<'f, 'p, F> {
+    /// Notes which numbers went out whose files were written, at a moment. That it can't be noted is told once, and again each hour.
+    fn note_gone<E: Write>(&mut self, now: u64, log: &mut Log<'_, E>)
+        ensures folders { self.new.folders.ghost_name ≡ self.old.folders.ghost_name }
+        ensures texts { self.new.papers.now.texts ≡ self.old.papers.now.texts }
+        ensures book { self.new.papers.now.book ≡ self.old.papers.now.book }
+        ensures waits { self.new.papers.now.waits ≡ self.old.papers.now.waits }
+        ensures does { F.doings self.new.folders.now ≡ F.doings self.old.folders.now }
+    {
+        let care = &mut self.papers.care;
+        if care.unnoted.is_empty() {
+            return;
+        }
+        match self.folders.note_gone(self.alloc, care.unnoted.as_slice()) {
+            Ok(()) => {
+                care.unnoted.clear();
+                care.notes.noted();
+            }
+            Err(fault) => care.notes.cannot_note(self.alloc, fault, now, log.err),
+        }
+    }
+
+    /// Sees to it that the disk has the names of all files that were written, and what went out, at a moment.
+    pub(crate) fn settle_notes<E: Write>(&mut self, now: u64, log: &mut Log<'_, E>)
+        ensures folders { self.new.folders.ghost_name ≡ self.old.folders.ghost_name }
+        ensures texts { self.new.papers.now.texts ≡ self.old.papers.now.texts }
+        ensures book { self.new.papers.now.book ≡ self.old.papers.now.book }
+        ensures waits { self.new.papers.now.waits ≡ self.old.papers.now.waits }
+        ensures does { F.doings self.new.folders.now ≡ F.doings self.old.folders.now }
+    {
+        if let Err(fault) = self.folders.settle(self.alloc) {
+            self.papers
+                .care
+                .notes
+                .cannot_note(self.alloc, fault, now, log.err);
+        }
+    }
+
     /// Writes the files that wait, at a moment. That the folder of releases does not take them is told once, and again each hour.
     pub(crate) fn write<E: Write>(&mut self, now: u64, log: &mut Log<'_, E>)
         ensures folders { self.new.folders.ghost_name ≡ self.old.folders.ghost_name }
@@ -96,7 +148,10 @@ impl<'f, 'p, F: Folders> Plant<'f, 'p, F> {
         ensures writes { WritesSome (F.doings self.old.folders.now) (F.doings self.new.folders.now) self.old.papers.now.waits.items self.new.papers.now.waits.items }
     {
         match write_waiting(self.alloc, self.folders, &mut self.papers.waits) {
-            Ok(()) => self.papers.told.written(),
+            Ok(()) => {
+                self.papers.told.written();
+                self.note_gone(now, log);
+            }
             Err(fault) => self.papers.told.cannot_write(fault, now, log.err),
         }
     }
@@ -113,7 +168,8 @@ impl<'f, 'p, F: Folders> Plant<'f, 'p, F> {
         let deeds = self.papers.book.deeds(is_all_written);
         let has_more = self.papers.unseen.is_some()
             || self.papers.strays.find()
-            || self.papers.looking.goes_on();
+            || self.papers.looking.goes_on()
+            || self.papers.care.has_errand();
         let under_way = self.papers.book.under_way();
         Tasks {
             deeds: deeds_of(deeds, has_more),
@@ -121,20 +177,29 @@ impl<'f, 'p, F: Folders> Plant<'f, 'p, F> {
         }
     }
 
-    /// A datagram was refused, at a moment.
-    pub(crate) fn hear_refusal<E: Write>(
-        &mut self,
-        refusal: StepRefusal,
-        now: u64,
-        log: &mut Log<'_, E>,
-    )
+    /// A datagram was taken in, at a moment.
+    pub(crate) fn hear<E: Write>(&mut self, heard: &Heard, now: u64, log: &mut Log<'_, E>)
         ensures folders { self.new.folders.ghost_name ≡ self.old.folders.ghost_name }
         ensures same { self.new.folders.now ≡ self.old.folders.now }
         ensures waits { self.new.papers.now.waits ≡ self.old.papers.now.waits }
         ensures texts { self.new.papers.now.texts ≡ self.old.papers.now.texts }
         ensures book { self.new.papers.now.book ≡ self.old.papers.now.book }
     {
-        self.papers.told.hear_refusal(refusal, now, log.err);
+        if let Heard::Refused(refusal) = heard {
+            self.papers.told.hear_refusal(*refusal, now, log.err);
+        }
+        self.papers.care.hear(heard, now, log);
+    }
+
+    /// The station took no search of catching up.
+    pub(crate) fn decline(&mut self, declined: Declined)
+        ensures folders { self.new.folders.ghost_name ≡ self.old.folders.ghost_name }
+        ensures same { self.new.folders.now ≡ self.old.folders.now }
+        ensures waits { self.new.papers.now.waits ≡ self.old.papers.now.waits }
+        ensures texts { self.new.papers.now.texts ≡ self.old.papers.now.texts }
+        ensures book { self.new.papers.now.book ≡ self.old.papers.now.book }
+    {
+        self.papers.care.decline(declined);
     }
 
     /// What becomes of a file for which the station did not take the step: another of its number is under way, it is no offer, or it waits.

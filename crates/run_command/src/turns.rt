@@ -5,13 +5,15 @@ ghost use Rattle.command_ends.specs.declared.end.End.TheVariants.{Done};
 ghost use Rattle.folders.specs.Doings.{removed_file, MayDo};
 ghost use Rattle.run_command.specs.Running.{RunsUpTo};
 
+use crate::beginning::{Start, begin};
 use crate::desk::PlantDesk;
-use crate::plant::{Papers, Plant};
+use crate::plant::{Manner, Papers, Plant};
 use code_table::CodeTable;
 use command_ends::{End, Fault};
 use driver::Driver;
 use exchange::Intake;
 use folders::{FolderFault, Folders, STOP};
+use gone_out::{Known, Origin};
 use log_terms::Loudness;
 use plant_log::tell_fault;
 use saved_rows::Rows;
@@ -24,6 +26,10 @@ use wire::Wire;
 #[derive(Drop)]
 pub struct Terms<'a, E: Write> {
     pub alloc: Global,
+    /// Whose station it is.
+    pub own: Origin,
+    /// The numbers that have a saved row; not known of a station without folders, which catches up with nothing.
+    pub known: Option<Known>,
     /// By which code table texts among the offers become tapes; by none where no text may be offered.
     pub texts: Option<CodeTable>,
     /// Whether files come into the folder of offers only by being renamed: then one that a look found is whole.
@@ -49,8 +55,9 @@ fn remove_stop<F: Folders, E: Write>(alloc: Global, folders: &mut F, err: &mut E
 /// taken away. The room for what comes is made before the first turn.
 ///
 /// What the station hands out is sent, what it releases is written among the releases, or waits to be where the folder does
-/// not take it. What lies among the offers is taken up once it is whole, a text as the tape that it becomes, and leaves them once
-/// its number is released, or where it is no offer. A folder that does not serve is told, and the station goes on.
+/// not take it. What went out before is read of the folders, and what is missing is caught up with. What lies among the offers is taken
+/// up once it is whole, a text as the tape that it becomes, and leaves them once its number is released, or where it is no offer. A folder
+/// that does not serve is told, and the station goes on.
 pub fn run_station<R: Rows, N: Wire, F: Folders, E: Write>(
     station: &mut Station<R>,
     wire: &mut N,
@@ -62,17 +69,28 @@ pub fn run_station<R: Rows, N: Wire, F: Folders, E: Write>(
     ensures goes_on { result ≡ Done → station.new.stopped ≡ false }
 {
     let alloc = terms.alloc;
-    let texts = terms.texts;
-    let renamed = terms.renamed;
     let loudness = terms.loudness;
+    let start = Start {
+        alloc,
+        own: terms.own,
+        known: terms.known,
+    };
+    let manner = Manner {
+        texts: terms.texts,
+        renamed: terms.renamed,
+        loudness,
+    };
     if station.stopped() {
         return Fault::of_step(StepRefusal::Stopped).tell(terms.err);
     }
     let Ok(mut intake) = Intake::new(alloc) else {
         return Fault::OutOfMemory.tell(terms.err);
     };
+    let Ok(care) = begin(start, folders, terms.err) else {
+        return Fault::OutOfMemory.tell(terms.err);
+    };
     remove_stop(alloc, folders, terms.err);
-    let mut papers = Papers::new(alloc, texts, renamed, loudness);
+    let mut papers = Papers::new(alloc, manner, care);
     let plant = Plant {
         alloc,
         folders,

@@ -2,7 +2,7 @@
 
 ghost use Rattle.std.specs.Prelude.{◌≡◌, IfOk, OnErr, codes};
 ghost use Rattle.script_lines.specs.Words.{version_word, written};
-ghost use Rattle.script_lines.specs.declared.script.Order.TheVariants.{Upgrade};
+ghost use Rattle.script_lines.specs.declared.script.Order.TheVariants.{Recall, Upgrade};
 
 use ballots::Member;
 use hex::FromHexError;
@@ -29,6 +29,8 @@ pub enum Order {
     /// The member goes over to version 2.
     Upgrade { member: u8 },
     Balk { member: u8, saved: bool },
+    /// The member is to tell its vote for the number again to another member, or to itself.
+    Recall { member: u8, number: u32, to: u8 },
 }
 
 /// Why a line asks for nothing.
@@ -73,7 +75,9 @@ fn member(word: &str) -> Result<u8, LineFault>
     u8::try_from(number(word)?).map_err(|_| LineFault::BadLine)
 }
 
-fn small(word: &str) -> Result<u32, LineFault> {
+fn small(word: &str) -> Result<u32, LineFault>
+    ensures { IfOk result (λ n. n ≡ written word.now) }
+{
     u32::try_from(number(word)?).map_err(|_| LineFault::BadLine)
 }
 
@@ -161,23 +165,37 @@ fn order_of_two(name: &str, who: &str, word: &str) -> Result<Order, LineFault> {
     }
 }
 
-/// What a name with a member, a number and a tape behind it asks for.
+/// What `recall` with a member, a number and another member behind it asks for.
+fn recall(who: &str, what: &str, whom: &str) -> Result<Order, LineFault>
+    ensures { IfOk result (λ order. order ≡ Recall (written who.now) (written what.now) (written whom.now)) }
+{
+    Ok(Order::Recall {
+        member: member(who)?,
+        number: small(what)?,
+        to: member(whom)?,
+    })
+}
+
+/// What a name with a member, a number and one word more behind it asks for.
 fn order_of_three(
     alloc: Global,
     name: &str,
     who: &str,
     what: &str,
-    frames: &str,
+    last: &str,
 ) -> Result<Order, LineFault> {
-    if name != "offer" {
-        return Err(LineFault::BadLine);
+    match name {
+        "offer" => {
+            let (member, number) = (member(who)?, small(what)?);
+            Ok(Order::Offer {
+                member,
+                number,
+                tape: tape(alloc, last)?,
+            })
+        }
+        "recall" => recall(who, what, last),
+        _ => Err(LineFault::BadLine),
     }
-    let (member, number) = (member(who)?, small(what)?);
-    Ok(Order::Offer {
-        member,
-        number,
-        tape: tape(alloc, frames)?,
-    })
 }
 
 /// A word as text.
@@ -197,12 +215,12 @@ pub fn order_of(alloc: Global, line: &[u8]) -> Result<Order, LineFault> {
     };
     match (words.next(), words.next()) {
         (None, _) => order_of_two(text(name)?, text(first)?, text(second)?),
-        (Some(frames), None) => order_of_three(
+        (Some(last), None) => order_of_three(
             alloc,
             text(name)?,
             text(first)?,
             text(second)?,
-            text(frames)?,
+            text(last)?,
         ),
         (Some(_), Some(_)) => Err(LineFault::BadLine),
     }

@@ -23,6 +23,7 @@ pub printing_fates : {W : Type 0} (contents : W → Option (List ℕ)) → Fates
 printing_fates contents = record {
   rests = λ s. Appends-nil (contents s);
   clock = λ s moment. Appends-nil (contents s);
+  besides = λ s what. Appends-nil (contents s);
   refuses = λ s call refusal may. Appends-nil (contents s);
   joins = λ a b c xs ys p q.
       subst (λ (l : List ℕ). Appends (contents a) (contents c) l) (sym (flat_map-append writing xs ys))
@@ -44,6 +45,7 @@ printed name contents =
     record {
       rests = λ s. (refl, f.rests s);
       clock = λ s moment. (refl, f.clock s moment);
+      besides = λ s what. (refl, f.besides s what);
       refuses = λ s call refusal may. (refl, f.refuses s call refusal tt);
       joins = λ a b c xs ys p q. (q.0 ∙ p.0, f.joins a b c xs ys p.1 q.1);
       begins = λ a b xs p. (p.0, f.begins a b xs p.1);

@@ -14,7 +14,7 @@ use Rattle.station.specs.Readiness.{slugs_of}
 use Rattle.wire.specs.Passing.{Passed}
 use Rattle.command_ends.specs.ReleaseText.{release_text}
 use Rattle.command_ends.specs.declared.end.End.{End}
-use Rattle.exchange.specs.Events.{Event, asked, took}
+use Rattle.exchange.specs.Events.{Event, asked, took, aside}
 use Rattle.driver.specs.Driving.{Fate, known, post, Drove, AtClock, Then, IsTurn}
 
 -- a release is written as its line, and its galley where its tape sets
@@ -34,6 +34,7 @@ written (Err refusal) = []
 -- what is written in an event
 abbrev pub writing : Event → List ℕ
 writing (asked moment) = []
+writing (aside what) = []
 writing (took call answer) = written answer
 
 -- what was printed of these events: the text of each release, in order; a front of it

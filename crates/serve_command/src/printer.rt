@@ -10,9 +10,9 @@ ghost use Rattle.serve_command.specs.Serving.{release_of, printing};
 ghost use Rattle.serve_command.specs.Printed.{Printed, PrintedFront, printed};
 
 use command_ends::{Fault, put_release};
-use driver::{Log, Sink, Step};
+use driver::{Heard, Log, Sink, Step};
 use line_check::{SetFault, Slug};
-use station::{Release, StepRefusal};
+use station::Release;
 use std::alloc::Global;
 use std::io::Write;
 
@@ -83,7 +83,7 @@ impl<W: Write> Sink for Printer<'_, W> {
         announce_any(self.alloc, step.answer.release.as_ref(), self.out)
     }
 
-    fn hear_refusal<E: Write>(&mut self, _refusal: StepRefusal, _now: u64, _log: &mut Log<'_, E>) {}
+    fn hear<E: Write>(&mut self, _heard: &Heard, _now: u64, _log: &mut Log<'_, E>) {}
 
     ghost fates = { printed (λ it. it.out.ghost_name) (λ it. W.contents it.out.now) };
 }

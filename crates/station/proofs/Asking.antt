@@ -11,7 +11,7 @@ use Rattle.protocol.specs.Marks.{Mark, Began}
 use Rattle.protocol.specs.Rows.{Row, raised}
 use Rattle.protocol.specs.Ballots.{Ballot, next}
 use Rattle.protocol.specs.Proposals.{Opening, pick, was_released, open_proposal, opening_ballot, open_ballot, next_due}
-use Rattle.protocol.specs.Turn.{Event, Offered, Sought, Came_due, Arrived, propose, begin, start_turn}
+use Rattle.protocol.specs.Turn.{Event, Offered, Sought, Came_due, Arrived, Recalled, propose, begin, start_turn}
 use Rattle.protocol.specs.Turn as said
 use Rattle.protocol.specs.Refusals as refusals
 use Rattle.protocol.specs.Limits.{is_number}
@@ -24,7 +24,7 @@ use Rattle.node_core.specs.Standing.{Core, StandsFor, IsSameSeat, seat_of}
 use Rattle.station.specs.declared.answer.Answer.{Answer}
 use Rattle.station.specs.declared.station.Station.{Station}
 use Rattle.refusals.specs.declared.refusal.StepRefusal.{StepRefusal}
-use Rattle.refusals.specs.declared.refusal.StepRefusal.TheVariants.{Stopped, BadDatagram, WrongCircuit, NotForMe, Stranger, BadNumber, AlreadyReleased, AlreadyOpen, WireTooOld, TapeFaulty, RoundsSpent, Store, OutOfMemory}
+use Rattle.refusals.specs.declared.refusal.StepRefusal.TheVariants.{Stopped, BadDatagram, WrongCircuit, NotForMe, Stranger, BadNumber, NoSuchMember, AlreadyReleased, AlreadyOpen, WireTooOld, TapeFaulty, RoundsSpent, Store, OutOfMemory}
 use Rattle.station.specs.Refusing.{Refusal, IsRefusal, Checks}
 use Rattle.station.specs.Speaking.{is_lower}
 use Rattle.station.specs.Stations.{Sight, setup_of, sets_entry, unless_faulty, IsFixed, wire_at, Follows}
@@ -56,6 +56,7 @@ stepped x call e old new marks (Err WrongCircuit) h s = absurd s
 stepped x call e old new marks (Err NotForMe) h s = absurd s
 stepped x call e old new marks (Err Stranger) h s = absurd s
 stepped x call e old new marks (Err BadNumber) h s = absurd s
+stepped x call e old new marks (Err NoSuchMember) h s = absurd s
 stepped x call e old new marks (Err AlreadyReleased) h s = absurd s
 stepped x call e old new marks (Err AlreadyOpen) h s = absurd s
 stepped x call e old new marks (Err WireTooOld) h s = absurd s
@@ -186,6 +187,17 @@ sought s marks n m now goes h same = record {
   event = λ i. Some (Sought (sym same i) now);
 }
 
+-- a vote that is told again, where nothing refuses that
+pub recalled :
+    {R : Type 0} (s : Station R) (marks : List Mark) (c n m to k : ℕ)
+    → s.stopped ≡ false → c ≡ s.speaker.core.members → refusals.recall_refusal {D = PacketFault} {F = SetFault} c n to ≡ None → m ≡ n → k ≡ to
+    → Asks s marks (refusals.Recalling n to) (Recalled m k)
+recalled s marks c n m to k goes members h same him = record {
+  unrefused = last_refusal (setup_of s) s.stopped marks (refusals.Recalling n to) goes
+      (subst (λ (x : ℕ). refusals.recall_refusal {D = PacketFault} {F = SetFault} x n to ≡ None) members h);
+  event = λ i. Some (Recalled (sym same i) (sym him i));
+}
+
 -- a number that is due
 pub came_due :
     {R : Type 0} (s : Station R) (marks : List Mark) (n now : ℕ) → s.stopped ≡ false → next_due s.speaker.core.me now marks ≡ Some n → Asks s marks (refusals.Falling_due now) (Came_due n now)
@@ -269,6 +281,7 @@ refused x call s marks WrongCircuit h = (h, refl)
 refused x call s marks NotForMe h = (h, refl)
 refused x call s marks Stranger h = (h, refl)
 refused x call s marks BadNumber h = (h, refl)
+refused x call s marks NoSuchMember h = (h, refl)
 refused x call s marks AlreadyReleased h = (h, refl)
 refused x call s marks AlreadyOpen h = (h, refl)
 refused x call s marks WireTooOld h = (h, refl)
@@ -286,6 +299,7 @@ known_refusal None p WrongCircuit h = cc
 known_refusal None p NotForMe h = cc
 known_refusal None p Stranger h = cc
 known_refusal None p BadNumber h = cc
+known_refusal None p NoSuchMember h = cc
 known_refusal None p AlreadyReleased h = cc
 known_refusal None p AlreadyOpen h = cc
 known_refusal None p WireTooOld h = cc
@@ -305,6 +319,13 @@ refused_early x call s marks r goes h =
     ap (λ (o : Option Refusal). or_else o (refusals.tape_refusal (setup_of s) call)) first
     ∙ known_refusal (refusals.call_refusal (setup_of s) marks call) (refusals.tape_refusal (setup_of s) call) r h in
     refused x call s marks r (subst (λ (o : Option Refusal). IsRefusal o r) (sym whole) h)
+
+-- a recall that is refused
+pub recall_refused :
+    {R : Type 0} (x : Sight R) (s : Station R) (marks : List Mark) (c n to : ℕ) (r : StepRefusal)
+    → s.stopped ≡ false → c ≡ s.speaker.core.members → IsRefusal (refusals.recall_refusal c n to) r → Steps x (refusals.Recalling n to) s s marks (Err r)
+recall_refused x s marks c n to r goes members h =
+    refused_early x (refusals.Recalling n to) s marks r goes (subst (λ (k : ℕ). IsRefusal (refusals.recall_refusal k n to) r) members h)
 
 -- an offer that is refused for its number
 pub refused_number :

@@ -13,7 +13,7 @@ use Rattle.node_core.specs.Standing.{StandsFor}
 use Rattle.station.specs.declared.answer.Answer.{Answer}
 use Rattle.station.specs.declared.station.Station.{Station}
 use Rattle.refusals.specs.declared.refusal.StepRefusal.{StepRefusal}
-use Rattle.refusals.specs.declared.refusal.StepRefusal.TheVariants.{Stopped, BadDatagram, WrongCircuit, NotForMe, Stranger, BadNumber, AlreadyReleased, AlreadyOpen, WireTooOld, TapeFaulty, RoundsSpent, Store, OutOfMemory}
+use Rattle.refusals.specs.declared.refusal.StepRefusal.TheVariants.{Stopped, BadDatagram, WrongCircuit, NotForMe, Stranger, BadNumber, NoSuchMember, AlreadyReleased, AlreadyOpen, WireTooOld, TapeFaulty, RoundsSpent, Store, OutOfMemory}
 use Rattle.station.specs.Readiness.{IsNumbered}
 use Rattle.station.specs.Stations.{sight, Follows}
 use Rattle.station.specs.Steps.{Ends, Asks, Steps, TakesStep, OnStore, IfStore, IsBlamed, tears, stopped_after, is_early, IfEarly, IsStep}
@@ -27,6 +27,7 @@ not_of_store WrongCircuit goes P Q = (tt, tt)
 not_of_store NotForMe goes P Q = (tt, tt)
 not_of_store Stranger goes P Q = (tt, tt)
 not_of_store BadNumber goes P Q = (tt, tt)
+not_of_store NoSuchMember goes P Q = (tt, tt)
 not_of_store AlreadyReleased goes P Q = (tt, tt)
 not_of_store AlreadyOpen goes P Q = (tt, tt)
 not_of_store WireTooOld goes P Q = (tt, tt)

@@ -20,6 +20,7 @@ spent_core (events.Offer number entry now) old new row h = h.0
 spent_core (events.Seek number now) old new row h = h.0
 spent_core (events.Due number now) old new row h = absurd cc
 spent_core (events.Arrived packet now) old new row h = absurd cc
+spent_core (events.Recall number to) old new row h = absurd cc
 
 pub spent_stays : (event : Event) (old new : Speaking) (row : Row) → new.wire ≡ old.wire → RefusesEvent event refusals.RoundsSpent old.core row new.core → new ≡ old
 spent_stays event old new row wire h = λ i. record { core = spent_core event old.core new.core row h i; wire = wire i }
@@ -31,6 +32,7 @@ spent_none (events.Offer number entry now) old new row marks h = rw h.2 refl
 spent_none (events.Seek number now) old new row marks h = rw h.2 refl
 spent_none (events.Due number now) old new row marks h = absurd cc
 spent_none (events.Arrived packet now) old new row marks h = absurd cc
+spent_none (events.Recall number to) old new row marks h = absurd cc
 
 -- a free number is not refused as released
 pub not_released :
@@ -40,6 +42,7 @@ not_released (events.Offer number entry now) old new row marks stands free h = l
 not_released (events.Seek number now) old new row marks stands free h = let e : true ≡ false = sym (h.1 marks stands) ∙ free.0 in cc
 not_released (events.Due number now) old new row marks stands free h = cc
 not_released (events.Arrived packet now) old new row marks stands free h = cc
+not_released (events.Recall number to) old new row marks stands free h = cc
 
 -- nor as open
 pub not_open :
@@ -51,6 +54,7 @@ not_open (events.Seek number now) old new row marks stands free h =
     let e : true ≡ false = sym (h.1 marks stands).1 ∙ ap (λ (o : Option Opening). is_some o) free.1 in cc
 not_open (events.Due number now) old new row marks stands free h = cc
 not_open (events.Arrived packet now) old new row marks stands free h = cc
+not_open (events.Recall number to) old new row marks stands free h = cc
 
 -- nor because the core had failed
 pub not_failed : (event : Event) (old new : Core) (row : Row) → RefusesEvent event refusals.Failed old row new → ⊥
@@ -58,3 +62,4 @@ not_failed (events.Offer number entry now) old new row h = h
 not_failed (events.Seek number now) old new row h = h
 not_failed (events.Due number now) old new row h = cc
 not_failed (events.Arrived packet now) old new row h = cc
+not_failed (events.Recall number to) old new row h = cc

@@ -86,6 +86,7 @@ core_stays e (events.Offer number entry now) old new row other h = starts_same e
 core_stays e (events.Seek number now) old new row other h = starts_same e (new ≡ old) (StandsFor old) old.me number row other h
 core_stays e (events.Due number now) old new row other h = absurd (other h)
 core_stays e (events.Arrived packet now) old new row other h = absurd (other h)
+core_stays e (events.Recall number to) old new row other h = absurd (other h)
 
 -- want of memory may leave any core
 pub wants_memory : (event : Event) (old new : Core) (row : Row) → RefusesEvent event refusals.OutOfMemory old row new
@@ -93,6 +94,7 @@ wants_memory (events.Offer number entry now) old new row = tt
 wants_memory (events.Seek number now) old new row = tt
 wants_memory (events.Due number now) old new row = refl
 wants_memory (events.Arrived packet now) old new row = refl
+wants_memory (events.Recall number to) old new row = refl
 
 -- a core that stands for marks has not failed
 pub refused_event : (e : CoreRefusal) (event : Event) (old new : Core) (row : Row) (marks : List Mark) → StandsFor old marks → Refuses e event old row new → RefusesEvent event e old row new

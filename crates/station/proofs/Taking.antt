@@ -19,7 +19,7 @@ use Rattle.node_core.specs.Calls.{MayTakeMemory}
 use Rattle.station.specs.declared.answer.Answer.{Answer}
 use Rattle.station.specs.declared.station.Station.{Station}
 use Rattle.refusals.specs.declared.refusal.StepRefusal.{StepRefusal}
-use Rattle.refusals.specs.declared.refusal.StepRefusal.TheVariants.{Stopped, BadDatagram, WrongCircuit, NotForMe, Stranger, BadNumber, AlreadyReleased, AlreadyOpen, WireTooOld, TapeFaulty, RoundsSpent, Store, OutOfMemory}
+use Rattle.refusals.specs.declared.refusal.StepRefusal.TheVariants.{Stopped, BadDatagram, WrongCircuit, NotForMe, Stranger, BadNumber, NoSuchMember, AlreadyReleased, AlreadyOpen, WireTooOld, TapeFaulty, RoundsSpent, Store, OutOfMemory}
 use Rattle.station.specs.Speaking.{Speaking}
 use Rattle.station.specs.Stations.{Sight, IsFixed}
 use Rattle.station.specs.Readiness.{Carries, IsReleased, RowSaved, RowBalked, Saves}
@@ -164,6 +164,7 @@ module _ {R : Type 0} (x : Sight R) (e : said.Event) (old : Station R) (marks : 
   torn after NotForMe fixed stops none rows s = absurd s
   torn after Stranger fixed stops none rows s = absurd s
   torn after BadNumber fixed stops none rows s = absurd s
+  torn after NoSuchMember fixed stops none rows s = absurd s
   torn after AlreadyReleased fixed stops none rows s = absurd s
   torn after AlreadyOpen fixed stops none rows s = absurd s
   torn after WireTooOld fixed stops none rows s = absurd s

@@ -10,7 +10,7 @@ use Rattle.protocol.specs.Refusals as refusals
 use Rattle.packets.specs.declared.fault.PacketFault.{PacketFault}
 use Rattle.line_check.specs.declared.fault.SetFault.{SetFault}
 use Rattle.refusals.specs.declared.refusal.StepRefusal.{StepRefusal}
-use Rattle.refusals.specs.declared.refusal.StepRefusal.TheVariants.{Stopped, BadDatagram, WrongCircuit, NotForMe, Stranger, BadNumber, AlreadyReleased, AlreadyOpen, WireTooOld, TapeFaulty, RoundsSpent, Store, OutOfMemory}
+use Rattle.refusals.specs.declared.refusal.StepRefusal.TheVariants.{Stopped, BadDatagram, WrongCircuit, NotForMe, Stranger, BadNumber, NoSuchMember, AlreadyReleased, AlreadyOpen, WireTooOld, TapeFaulty, RoundsSpent, Store, OutOfMemory}
 
 -- why the protocol has a station refuse
 abbrev pub Refusal : Type 0
@@ -24,6 +24,7 @@ IsRefusal o WrongCircuit = o ≡ Some refusals.Wrong_circuit
 IsRefusal o NotForMe = o ≡ Some refusals.Not_for_me
 IsRefusal o Stranger = o ≡ Some refusals.Stranger
 IsRefusal o BadNumber = o ≡ Some refusals.Bad_number
+IsRefusal o NoSuchMember = o ≡ Some refusals.No_such_member
 IsRefusal o AlreadyReleased = o ≡ Some refusals.Already_released
 IsRefusal o AlreadyOpen = o ≡ Some refusals.Already_open
 IsRefusal o WireTooOld = o ≡ Some refusals.Wire_too_old
@@ -48,3 +49,7 @@ ChecksNumber n marks r = Checks (refusals.number_refusal n marks) r
 -- a number for which an entry is offered, checked by a station that speaks this version
 abbrev pub ChecksOffer : {A : Type 0} → Version → ℕ → Entry → List Mark → Result A StepRefusal → Type 0
 ChecksOffer v n entry marks r = Checks (or_else (refusals.number_refusal n marks) (refusals.wire_refusal (fits v entry))) r
+
+-- a number and a member to which a vote is to be told again by one of c members, checked
+abbrev pub ChecksRecall : {A : Type 0} → (c n to : ℕ) → Result A StepRefusal → Type 0
+ChecksRecall c n to r = Checks (refusals.recall_refusal c n to) r

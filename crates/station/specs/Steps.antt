@@ -5,7 +5,7 @@ use Rattle.protocol.specs.Rows.{Row}
 use Rattle.protocol.specs.Limits.{most_sent}
 use Rattle.protocol.specs.Marks.{Mark}
 use Rattle.protocol.specs.Proposals.{was_released, open_proposal}
-use Rattle.protocol.specs.Turn.{Event, Offered, Sought, Came_due, Arrived, number_of, Note_idle, Turn, turn}
+use Rattle.protocol.specs.Turn.{Event, Offered, Sought, Came_due, Arrived, Recalled, number_of, Note_idle, Turn, turn}
 use Rattle.protocol.specs.Refusals.{Call, refusal, early_refusal, event_of}
 use Rattle.saved_rows.specs.Saved.{SameRows, WithRow, IsEither, Rises}
 use Rattle.saved_rows.specs.declared.fault.RowsFault.{RowsFault}
@@ -15,7 +15,7 @@ use Rattle.node_core.specs.Turns.{note_value, Stirs}
 use Rattle.station.specs.declared.answer.Answer.{Answer}
 use Rattle.station.specs.declared.station.Station.{Station}
 use Rattle.refusals.specs.declared.refusal.StepRefusal.{StepRefusal}
-use Rattle.refusals.specs.declared.refusal.StepRefusal.TheVariants.{Stopped, BadDatagram, WrongCircuit, NotForMe, Stranger, BadNumber, AlreadyReleased, AlreadyOpen, WireTooOld, TapeFaulty, RoundsSpent, Store, OutOfMemory}
+use Rattle.refusals.specs.declared.refusal.StepRefusal.TheVariants.{Stopped, BadDatagram, WrongCircuit, NotForMe, Stranger, BadNumber, NoSuchMember, AlreadyReleased, AlreadyOpen, WireTooOld, TapeFaulty, RoundsSpent, Store, OutOfMemory}
 use Rattle.station.specs.Refusing.{IsRefusal}
 use Rattle.station.specs.Stations.{Sight, sight, setup_of, IsFixed, wire_at, Follows}
 use Rattle.station.specs.Readiness.{Carries, IsReleased, IsNumbered}
@@ -99,6 +99,7 @@ IsFree marks (Offered n entry now) = (was_released n marks ≡ false) × (open_p
 IsFree marks (Sought n now) = (was_released n marks ≡ false) × (open_proposal n marks ≡ None)
 IsFree marks (Came_due n now) = Unit {0}
 IsFree marks (Arrived p now) = Unit {0}
+IsFree marks (Recalled n to) = Unit {0}
 
 -- how an event ends that nothing refused
 abbrev pub Ends : {R : Type 0} → Sight R → Event → Station R → Station R → List Mark → Result Answer StepRefusal → Type 0
@@ -144,6 +145,7 @@ Steps x call old new marks (Err WrongCircuit) = Refuses old new marks call Wrong
 Steps x call old new marks (Err NotForMe) = Refuses old new marks call NotForMe
 Steps x call old new marks (Err Stranger) = Refuses old new marks call Stranger
 Steps x call old new marks (Err BadNumber) = Refuses old new marks call BadNumber
+Steps x call old new marks (Err NoSuchMember) = Refuses old new marks call NoSuchMember
 Steps x call old new marks (Err AlreadyReleased) = Refuses old new marks call AlreadyReleased
 Steps x call old new marks (Err AlreadyOpen) = Refuses old new marks call AlreadyOpen
 Steps x call old new marks (Err WireTooOld) = Refuses old new marks call WireTooOld
@@ -177,6 +179,7 @@ tears WrongCircuit = false
 tears NotForMe = false
 tears Stranger = false
 tears BadNumber = false
+tears NoSuchMember = false
 tears AlreadyReleased = false
 tears AlreadyOpen = false
 tears WireTooOld = false
@@ -198,6 +201,7 @@ is_early WrongCircuit = true
 is_early NotForMe = true
 is_early Stranger = true
 is_early BadNumber = true
+is_early NoSuchMember = true
 is_early AlreadyReleased = true
 is_early AlreadyOpen = true
 is_early WireTooOld = true
@@ -211,7 +215,7 @@ abbrev pub IfEarly : {A : Type 0} → Result A StepRefusal → Type 0 → Type 0
 IfEarly (Ok x) P = Unit {0}
 IfEarly (Err r) P = is_early r ≡ true → P
 
--- a call of a station, answered so: what `Station::offer`, `withdraw`, `seek`, `due` and `receive` promise, each of its own call
+-- a call of a station, answered so: what `Station::offer`, `withdraw`, `seek`, `due`, `receive` and `recall` promise, each of its own call
 pub record IsStep {R : Type 0} (g : Ghosts R) (call : Call) (old new : Station R) (answer : Result Answer StepRefusal) : Type 0 where
   -- over rows that are kept it is a step of the protocol's
   pub steps : g.kept new.rows → TakesStep (sight g) call old new answer

@@ -1,14 +1,15 @@
-//! Whether a packet is one for this station.
+//! Whether a packet is one for this station, and whether it can tell a vote again.
 
-ghost use Rattle.std.specs.Prelude.{◌≡◌, ◌≤◌, OnOk, IfErr, true, false};
+ghost use Rattle.std.specs.Prelude.{◌≡◌, ◌≤◌, OnOk, IfOk, IfErr, true, false};
+ghost use Rattle.protocol.specs.Limits.{most_members};
 ghost use Rattle.node_core.specs.Calls.{IsForMember};
 ghost use Rattle.protocol.specs.Seats.{sits};
 ghost use Rattle.protocol.specs.Refusals.{names_stranger, is_of_stranger};
 ghost use Rattle.messages.specs.Bodies.{said};
-ghost use Rattle.station.specs.Refusing.{ChecksPacket};
+ghost use Rattle.station.specs.Refusing.{ChecksPacket, ChecksRecall};
 ghost use Rattle.station.specs.Steps.{tears};
 
-use ballots::Member;
+use ballots::{Member, Number};
 use packets::{BodyRef, PacketRef};
 use refusals::StepRefusal;
 
@@ -53,4 +54,26 @@ pub(crate) fn check_packet(
         return Err(StepRefusal::Stranger);
     }
     Ok(())
+}
+
+/// The number and the member to which its vote is to be told again. Refused where there is no such number, and then where the circuit has no
+/// such member.
+pub(crate) fn check_recall(
+    members: u8,
+    number: u32,
+    to: u8,
+) -> Result<(Number, Member), StepRefusal>
+    requires { members ≤ most_members }
+    ensures number { IfOk result (λ asked. asked.0 ≡ number) }
+    ensures to { IfOk result (λ asked. asked.1 ≡ to) }
+    ensures checks { ChecksRecall members number to result }
+    ensures goes_on { IfErr result (λ r. tears r ≡ false) }
+{
+    let Some(number) = Number::new(number) else {
+        return Err(StepRefusal::BadNumber);
+    };
+    match Member::new(to) {
+        Some(to) if to.get() <= members => Ok((number, to)),
+        _ => Err(StepRefusal::NoSuchMember),
+    }
 }

@@ -5,7 +5,7 @@ ghost use Rattle.protocol.specs.Entries.{Void, Taped};
 ghost use Rattle.protocol.specs.Versions.{fits};
 ghost use Rattle.protocol.specs.Marks.{Mark};
 ghost use Rattle.protocol.specs.Turn.{number_of};
-ghost use Rattle.protocol.specs.Refusals.{Offering, Seeking, Falling_due, Receiving};
+ghost use Rattle.protocol.specs.Refusals.{Offering, Seeking, Falling_due, Receiving, Recalling};
 ghost use Rattle.protocol.specs.Fitting.{EventFits};
 ghost use Rattle.protocol.specs.Limits.{most_sent};
 ghost use Rattle.tape_frames.specs.Entries.{lent_entry};
@@ -19,7 +19,7 @@ ghost use Rattle.station.specs.Stations.{sight, IsFixed};
 ghost use Rattle.station.specs.Steps.{Ends, IsFree, IsStep, OnStore, IfStore, IsBlamed, tears, is_early, stopped_after};
 
 use crate::answer::Answer;
-use crate::checks::check_packet;
+use crate::checks::{check_packet, check_recall};
 use crate::save::save;
 use crate::setting::{Checked, setting};
 use crate::station::Station;
@@ -126,6 +126,21 @@ impl<R: Rows> Station<R> {
         check_packet(circuit, members, me, &packet)?;
         let number = packet.number();
         self.take(number, Event::Arrived { packet, now }, None)
+    }
+
+    /// Tells the vote of a number's row again to a member: to another in a datagram, and to the station itself by hearing it, which
+    /// may release the number's entry. The row stays as it is, and nothing is saved. Where it has no vote, the note is `Blank`.
+    ///
+    /// Refused, in this order: `Stopped`, `BadNumber`, `NoSuchMember`; `Store` and `OutOfMemory` stop the station.
+    pub fn recall(&mut self, number: u32, to: u8) -> Result<Answer, StepRefusal>
+        ensures { IsStep R.Rows (Recalling number to) self.old self.new result }
+    {
+        if self.stopped {
+            return Err(StepRefusal::Stopped);
+        }
+        self.follow_rows();
+        let (number, to) = check_recall(self.speaker.core().members(), number, to)?;
+        self.take(number, Event::Recall { number, to }, None)
     }
 
     /// The number, where it is one that can be asked for.

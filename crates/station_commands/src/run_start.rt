@@ -1,19 +1,22 @@
 //! The command `run`.
 
-ghost use Rattle.std.specs.Prelude.{◌≡◌, IfSome, IfNone, false};
+ghost use Rattle.std.specs.Prelude.{◌≡◌, Ok, None, IfOk, IfSome, IfNone, IsSome, false, length};
 ghost use Rattle.configuration.specs.Stations.{IsCircuit};
+ghost use Rattle.row_files.specs.Knowing.{KnowsAll};
 
 use crate::plant_start::{OpenPlant, open_plant};
 use code_table::CodeTable;
 use command_ends::End;
 use configuration::{Config, read_config};
 use folders::NoFolders;
+use gone_out::{Known, Origin};
 use log_terms::{LogTerms, Loudness};
-use row_files::{RowFiles, close_rows};
+use row_files::{RefusedRows, RowFiles, close_rows};
 use run_command::{Terms, run_station};
 use saved_rows::Rows;
 use station::Station;
 use station_start::{Host, Started, ThisHost, start};
+use std::alloc::Global;
 use std::io::Write;
 use tape_frames::Version;
 use timed_lines::TimedLines;
@@ -35,6 +38,37 @@ fn is_renamed(plant: &Option<OpenPlant<'_>>) -> bool
     match plant {
         Some(plant) => plant.renamed,
         None => false,
+    }
+}
+
+/// The station of a configuration, as the file of what went out at it names it.
+fn origin_of(config: &Config) -> Origin
+    requires { IsCircuit config.now.member config.now.stations.items }
+    ensures circuit { result.circuit ≡ config.now.circuit }
+    ensures member { result.member ≡ config.now.member }
+    ensures count { result.count ≡ length config.now.stations.items }
+{
+    Origin {
+        circuit: config.circuit,
+        member: config.member,
+        count: config.stations.len() as u8,
+    }
+}
+
+/// What rows a station has at its start. One without a plant only votes, and no row is read.
+fn known_at<F: RowFiles>(
+    alloc: Global,
+    row_files: &F,
+    plant: &Option<OpenPlant<'_>>,
+    rows: &mut F::Rows,
+) -> Result<Option<Known>, RefusedRows>
+    ensures none { IfNone plant.now (result ≡ Ok None) }
+    ensures some { IfSome plant.now (λ _. IfOk result IsSome) }
+    ensures known { F.Rows.kept rows.new → IfOk result (λ any. IfSome any (KnowsAll (F.Rows.saved rows.old))) }
+{
+    match plant {
+        Some(_) => Ok(Some(row_files.known(alloc, rows)?)),
+        None => Ok(None),
     }
 }
 
@@ -65,6 +99,7 @@ fn run_from<F: RowFiles, E: Write>(
     requires { IsCircuit config.member config.stations.items }
 {
     let host = ThisHost { rt };
+    let own = origin_of(&config);
     let Started {
         mut station,
         mut wire,
@@ -74,10 +109,16 @@ fn run_from<F: RowFiles, E: Write>(
         Ok(started) => started,
         Err(end) => return end,
     };
+    let known = match known_at(rt.alloc(), row_files, &plant, station.rows_mut()) {
+        Ok(known) => known,
+        Err(refused) => return refused.tell(err),
+    };
     let terms = Terms {
         alloc: rt.alloc(),
         texts: texts_by(&plant, table),
         renamed: is_renamed(&plant),
+        own,
+        known,
         loudness,
         err: &mut *err,
     };

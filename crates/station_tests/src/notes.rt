@@ -23,6 +23,8 @@ pub enum Noted {
     Denied(u32, u8),
     Settled,
     Heard(u32, u8),
+    Recalled(u32, u8),
+    Blank,
 }
 
 fn owner(ballot: Ballot) -> u8 {
@@ -49,6 +51,8 @@ fn as_told(note: Note) -> Noted {
         Note::Denied { promised } => Noted::Denied(promised.round(), owner(promised)),
         Note::Settled => Noted::Settled,
         Note::Heard { ballot } => Noted::Heard(ballot.round(), owner(ballot)),
+        Note::Recalled { ballot } => Noted::Recalled(ballot.round(), owner(ballot)),
+        Note::Blank => Noted::Blank,
     }
 }
 

@@ -6,7 +6,7 @@ use crate::offers_shelf::Event::{
 };
 use crate::offers_shelf::Told::{Ask, Lost, Nothing, Read, ReadAnew, Refuse, Sent};
 use crate::offers_shelf::{Event, first_fault};
-use folders::Kind::{Seek, Tape, Withdraw};
+use folders::Kind::{Seek, Tape, Text, Withdraw};
 
 /// A file is read once two looks, half a second apart, found it as it is; one that is changed is watched anew, also where it waits; one that
 /// could not be read is read a minute later; one that is taken away is forgotten.
@@ -127,7 +127,7 @@ const REPLACED: &[Event] = &[
     Leaving(Lost, 12),
 ];
 
-/// The station is asked first for the file whose moment came first, and not for the least number; moves come before, others behind, and
+/// Of searches the station is asked first for the one whose moment came first, and not for the least number; moves come before, others behind, and
 /// one of them after eight asks.
 const ORDER: &[Event] = &[
     Lay(10, Seek),
@@ -253,6 +253,101 @@ const BESIDE_A_SEARCH: &[Event] = &[
     Leaving(Sent, 12),
 ];
 
+/// A story that is laid behind three searches goes first, though their moments came first.
+const BEHIND_SEARCHES: &[Event] = &[
+    Lay(1, Seek),
+    Lay(2, Seek),
+    Lay(3, Seek),
+    Look(0),
+    Lay(9, Tape),
+    Look(250),
+    Look(1000),
+    Holds(1, Seek),
+    Holds(2, Seek),
+    Holds(3, Seek),
+    Holds(9, Tape),
+    Next(Ask, 9),
+    Next(Ask, 1),
+    Next(Ask, 2),
+    Next(Ask, 3),
+    Next(Nothing, 0),
+];
+
+/// Files that are no searches are read before the searches, also where some of these were read already.
+const READ_FIRST: &[Event] = &[
+    Lay(1, Seek),
+    Lay(2, Seek),
+    Lay(3, Seek),
+    Look(0),
+    Lay(9, Tape),
+    Look(250),
+    Look(1000),
+    Next(Read, 9),
+    Holds(9, Tape),
+    Next(Ask, 9),
+    Next(Read, 1),
+    Holds(1, Seek),
+    Next(Ask, 1),
+    Next(Read, 2),
+    Holds(2, Seek),
+    Next(Ask, 2),
+    Lay(10, Tape),
+    Look(1250),
+    Look(1750),
+    Next(Read, 10),
+    Holds(10, Tape),
+    Next(Ask, 10),
+    Next(Read, 3),
+];
+
+/// Tapes, texts and withdrawals are asked for in the order of their moments, of one moment in the order of their numbers; after eight of
+/// them one search goes first, and then the next of them.
+const NINTH: &[Event] = &[
+    Lay(1, Seek),
+    Lay(2, Seek),
+    Lay(11, Tape),
+    Lay(12, Tape),
+    Lay(13, Text),
+    Lay(14, Withdraw),
+    Lay(15, Tape),
+    Lay(16, Tape),
+    Lay(17, Tape),
+    Lay(18, Tape),
+    Lay(19, Tape),
+    Lay(20, Tape),
+    Look(0),
+    // The moment of tape 11 is this one, which comes last.
+    Change(2, 7),
+    Look(500),
+    Look(1500),
+    Holds(1, Seek),
+    Holds(2, Seek),
+    Holds(11, Tape),
+    Holds(12, Tape),
+    Holds(13, Text),
+    Holds(14, Withdraw),
+    Holds(15, Tape),
+    Holds(16, Tape),
+    Holds(17, Tape),
+    Holds(18, Tape),
+    Holds(19, Tape),
+    Holds(20, Tape),
+    Next(Ask, 12),
+    Next(Ask, 13),
+    Next(Ask, 14),
+    Next(Ask, 15),
+    Next(Ask, 16),
+    Next(Ask, 17),
+    Next(Ask, 18),
+    Next(Ask, 19),
+    Next(Ask, 1),
+    Next(Ask, 20),
+    Next(Ask, 11),
+    Next(Ask, 2),
+    UnderWay(12),
+    Next(Nothing, 0),
+];
+
 /// What is no offer leaves the offers at once, and is tried again after a pause where it could not be moved.
 const NO_OFFERS: &[Event] = &[
     Lay(5, Tape),
@@ -301,6 +396,9 @@ const STORIES: &[&[Event]] = &[
     ORDER,
     MANY,
     BESIDE_A_SEARCH,
+    BEHIND_SEARCHES,
+    READ_FIRST,
+    NINTH,
     NO_OFFERS,
 ];
 

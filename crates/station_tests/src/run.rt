@@ -3,10 +3,11 @@
 mod bursts;
 mod layouts;
 mod memory;
+mod missing;
 mod night;
 mod offering;
 mod order;
-mod plant;
+pub mod plant;
 mod refusing;
 mod renamed;
 mod replaced;

@@ -2,6 +2,7 @@
 
 mod agreeing;
 mod driven;
+mod errands;
 mod failing;
 mod layouts;
 mod longest;

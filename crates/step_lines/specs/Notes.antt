@@ -27,6 +27,8 @@ note_word (notes.Counted b) = codes "counted"
 note_word (notes.Denied p) = codes "denied"
 note_word notes.Settled = codes "settled"
 note_word (notes.Heard b) = codes "heard"
+note_word (notes.Recalled b) = codes "recalled"
+note_word notes.Blank = codes "blank"
 
 -- the ballot of a note, if it has one
 abbrev pub note_ballot : Note → Option Ballot
@@ -47,6 +49,8 @@ note_ballot (notes.Counted b) = Some b
 note_ballot (notes.Denied p) = Some p
 note_ballot notes.Settled = None
 note_ballot (notes.Heard b) = Some b
+note_ballot (notes.Recalled b) = Some b
+note_ballot notes.Blank = None
 
 -- a word, and a ballot behind it, if there is one
 abbrev pub with_ballot : List ℕ → Option Ballot → List ℕ

@@ -29,6 +29,8 @@ fn word_of(note: Note) -> &'static str
         Note::Denied { .. } => "denied",
         Note::Settled => "settled",
         Note::Heard { .. } => "heard",
+        Note::Recalled { .. } => "recalled",
+        Note::Blank => "blank",
     }
 }
 
@@ -54,6 +56,8 @@ fn ballot_of(note: Note) -> Option<Ballot>
         Note::Denied { promised } => Some(promised),
         Note::Settled => None,
         Note::Heard { ballot } => Some(ballot),
+        Note::Recalled { ballot } => Some(ballot),
+        Note::Blank => None,
     }
 }
 

@@ -1,6 +1,6 @@
 -- Lines that are written.
-use Rattle.std.proofs.Common.{◌≡◌, ℕ, ◌+◌, ◌-◌, ◌≤◌, Bool, not, List, length, take, Option, arith, sym, subst, ◌∙◌}
-use Rattle.std.specs.Prelude.{◌≢◌, All, IfOk, Result, Ok, Err}
+use Rattle.std.proofs.Common.{◌≡◌, ℕ, ◌-◌, ◌≤◌, Bool, not, List, length, take, Option, arith, sym, subst}
+use Rattle.std.specs.Prelude.{◌≢◌, IfOk, Result, Ok, Err}
 use Rattle.std.specs.Io.{WritesAtMost}
 use Rattle.std.proofs.lemmas.List.{take-take, length-take}
 use Rattle.std.proofs.lemmas.List.Elements.{All-take}

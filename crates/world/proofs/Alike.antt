@@ -5,7 +5,7 @@ use Rattle.protocol.specs.Lists.{or_else}
 use Rattle.protocol.specs.Entries.{Entry, Void, Taped}
 use Rattle.protocol.specs.Marks.{Mark}
 use Rattle.protocol.specs.Proposals.{next_due}
-use Rattle.protocol.specs.Refusals.{Setup, Call, Offering, Seeking, Falling_due, Receiving, Refusal, Stopped, reading_refusal, number_refusal, wire_refusal, call_refusal, early_refusal, setting_refusal, tape_refusal, refusal, due_event, arrival, event_of}
+use Rattle.protocol.specs.Refusals.{Setup, Call, Offering, Seeking, Falling_due, Receiving, Recalling, Refusal, Stopped, reading_refusal, number_refusal, wire_refusal, recall_refusal, call_refusal, early_refusal, setting_refusal, tape_refusal, refusal, due_event, arrival, event_of}
 use Rattle.packets.specs.declared.fault.PacketFault.{PacketFault}
 use Rattle.code_table.specs.Tables.{Places, mean}
 use Rattle.widths.specs.Widths.{WidthFile}
@@ -43,6 +43,7 @@ module _ {D F G H : Type 0} (a : Setup D G F) (b : Setup D H F) (seat : a.seat �
   call_alike marks (Seeking n now) = refl
   call_alike marks (Falling_due now) = refl
   call_alike marks (Receiving bytes now) = λ i. reading_refusal (seat i) (reads bytes i)
+  call_alike marks (Recalling n to) = λ i. recall_refusal (seat i).members n to
 
   pub early_alike : (stopped : Bool) (marks : List Mark) (call : Call) → early_refusal a stopped marks call ≡ early_refusal b stopped marks call
   early_alike stopped marks call = ap (λ (r : Option (Refusal D F)). if stopped then Some Stopped else r) (call_alike marks call)
@@ -52,6 +53,7 @@ module _ {D F G H : Type 0} (a : Setup D G F) (b : Setup D H F) (seat : a.seat �
   tape_alike (Seeking n now) = refl
   tape_alike (Falling_due now) = refl
   tape_alike (Receiving bytes now) = refl
+  tape_alike (Recalling n to) = refl
 
   pub refusal_alike : (stopped : Bool) (marks : List Mark) (call : Call) → refusal a stopped marks call ≡ refusal b stopped marks call
   refusal_alike stopped marks call = λ i. or_else (early_alike stopped marks call i) (tape_alike call i)
@@ -61,6 +63,7 @@ module _ {D F G H : Type 0} (a : Setup D G F) (b : Setup D H F) (seat : a.seat �
   event_alike marks (Seeking n now) = refl
   event_alike marks (Falling_due now) = λ i. due_event (next_due (seat i).me now marks) now
   event_alike marks (Receiving bytes now) = λ i. arrival (reads bytes i) now
+  event_alike marks (Recalling n to) = refl
 
 some_none : {A : Type 0} {a : A} → Some a ≡ None → ⊥
 some_none e = cc

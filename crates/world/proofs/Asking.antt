@@ -6,7 +6,7 @@ use Rattle.std.proofs.lemmas.Option.{slice_get-get_or}
 use Rattle.protocol.specs.Entries.{Entry, Void, Taped}
 use Rattle.protocol.specs.Versions.{Version}
 use Rattle.protocol.specs.Marks.{Mark}
-use Rattle.protocol.specs.Refusals.{Call, Offering, Seeking, Falling_due, Receiving}
+use Rattle.protocol.specs.Refusals.{Call, Offering, Seeking, Falling_due, Receiving, Recalling}
 use Rattle.protocol.specs.Circuit as circuit
 use Rattle.protocol.specs.Circuit.{Datagram, Task, Missing, task_of, delivery, datagram_at, member_missing, datagram_missing}
 use Rattle.packets.specs.declared.fault.PacketFault.{PacketFault}
@@ -21,7 +21,7 @@ use Rattle.station.specs.declared.station.Station.{Station}
 use Rattle.station.specs.declared.answer.Answer.{Answer}
 use Rattle.station.specs.declared.answer.Release.{Release}
 use Rattle.refusals.specs.declared.refusal.StepRefusal.{StepRefusal}
-use Rattle.refusals.specs.declared.refusal.StepRefusal.TheVariants.{Stopped, BadDatagram, WrongCircuit, NotForMe, Stranger, BadNumber, AlreadyReleased, AlreadyOpen, WireTooOld, TapeFaulty, RoundsSpent, Store, OutOfMemory}
+use Rattle.refusals.specs.declared.refusal.StepRefusal.TheVariants.{Stopped, BadDatagram, WrongCircuit, NotForMe, Stranger, BadNumber, NoSuchMember, AlreadyReleased, AlreadyOpen, WireTooOld, TapeFaulty, RoundsSpent, Store, OutOfMemory}
 use Rattle.station.specs.Stations.{Sight, sight, wire_at}
 use Rattle.station.specs.Steps.{Steps, TakesStep, IfStore, IsBlamed}
 use Rattle.world.specs.declared.world.World.{World}
@@ -113,6 +113,9 @@ seek_brings v m n now there = record { task = refl; acts = refl; there = there; 
 pub due_brings : {R : Type 0} (v : World R) (m now : ℕ) → member_missing (count_of v) m ≡ None → Brings v (steps.Due m now) m (Falling_due now)
 due_brings v m now there = record { task = refl; acts = refl; there = there; logs = λ os r. append-nil os }
 
+pub recall_brings : {R : Type 0} (v : World R) (m n to : ℕ) → member_missing (count_of v) m ≡ None → Brings v (steps.Recall m n to) m (Recalling n to)
+recall_brings v m n to there = record { task = refl; acts = refl; there = there; logs = λ os r. append-nil os }
+
 -- the k-th datagram is that of the place before
 pub datagram_is : (sent : List Datagram) (k : ℕ) → 1 ≤ k → datagram_at sent k ≡ slice_get sent (k - 1)
 datagram_is sent k low = go (k == 0) refl
@@ -155,6 +158,7 @@ refused_more WrongCircuit P Q f o e = e
 refused_more NotForMe P Q f o e = e
 refused_more Stranger P Q f o e = e
 refused_more BadNumber P Q f o e = e
+refused_more NoSuchMember P Q f o e = e
 refused_more AlreadyReleased P Q f o e = e
 refused_more AlreadyOpen P Q f o e = e
 refused_more WireTooOld P Q f o e = e
@@ -179,6 +183,7 @@ seen_torn (Err WrongCircuit) P Q f e = tt
 seen_torn (Err NotForMe) P Q f e = tt
 seen_torn (Err Stranger) P Q f e = tt
 seen_torn (Err BadNumber) P Q f e = tt
+seen_torn (Err NoSuchMember) P Q f e = tt
 seen_torn (Err AlreadyReleased) P Q f e = tt
 seen_torn (Err AlreadyOpen) P Q f e = tt
 seen_torn (Err WireTooOld) P Q f e = tt

@@ -12,7 +12,7 @@ use Rattle.saved_rows.specs.declared.balky.Balky.{Balky}
 use Rattle.saved_rows.specs.declared.fault.RowsFault.{RowsFault}
 use Rattle.saved_rows.specs.declared.rows.Rows.{Ghosts}
 use Rattle.refusals.specs.declared.refusal.StepRefusal.{StepRefusal}
-use Rattle.refusals.specs.declared.refusal.StepRefusal.TheVariants.{Stopped, BadDatagram, WrongCircuit, NotForMe, Stranger, BadNumber, AlreadyReleased, AlreadyOpen, WireTooOld, TapeFaulty, RoundsSpent, Store, OutOfMemory}
+use Rattle.refusals.specs.declared.refusal.StepRefusal.TheVariants.{Stopped, BadDatagram, WrongCircuit, NotForMe, Stranger, BadNumber, NoSuchMember, AlreadyReleased, AlreadyOpen, WireTooOld, TapeFaulty, RoundsSpent, Store, OutOfMemory}
 use Rattle.node_core.specs.Standing.{StandsFor as CoreStandsFor}
 use Rattle.station.specs.declared.station.Station.{Station}
 use Rattle.station.specs.Stations.{Sight, sight}
@@ -150,6 +150,7 @@ module _ {R : Type 0} (x : Sight R) (refusals : R → ℕ) (z : StationCircuit) 
   ended (Err NotForMe) stops e = absurd e
   ended (Err Stranger) stops e = absurd e
   ended (Err BadNumber) stops e = absurd e
+  ended (Err NoSuchMember) stops e = absurd e
   ended (Err AlreadyReleased) stops e = absurd e
   ended (Err AlreadyOpen) stops e = absurd e
   ended (Err WireTooOld) stops e = absurd e
@@ -185,6 +186,7 @@ module _ {R : Type 0} (g : Ghosts R) (v v' : World R) (i m : ℕ) (s s' : Statio
   torn_why (Err NotForMe) e = tt
   torn_why (Err Stranger) e = tt
   torn_why (Err BadNumber) e = tt
+  torn_why (Err NoSuchMember) e = tt
   torn_why (Err AlreadyReleased) e = tt
   torn_why (Err AlreadyOpen) e = tt
   torn_why (Err WireTooOld) e = tt

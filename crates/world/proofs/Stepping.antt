@@ -5,7 +5,7 @@ use Rattle.protocol.specs.Packets.{Packet}
 use Rattle.protocol.specs.Marks.{Mark}
 use Rattle.protocol.specs.Proposals.{next_due}
 use Rattle.protocol.specs.Turn.{Event}
-use Rattle.protocol.specs.Refusals.{Setup, Call, Offering, Seeking, Falling_due, Receiving, due_event, arrival, event_of}
+use Rattle.protocol.specs.Refusals.{Setup, Call, Offering, Seeking, Falling_due, Receiving, Recalling, due_event, arrival, event_of}
 use Rattle.protocol.specs.Refusals as refusals
 use Rattle.protocol.specs.Circuit as circuit
 use Rattle.protocol.specs.Circuit.{offers_with}
@@ -19,7 +19,7 @@ use Rattle.line_check.specs.declared.fault.SetFault.{SetFault}
 use Rattle.station.specs.declared.answer.Answer.{Answer}
 use Rattle.station.specs.declared.answer.Release.{Release}
 use Rattle.refusals.specs.declared.refusal.StepRefusal.{StepRefusal}
-use Rattle.refusals.specs.declared.refusal.StepRefusal.TheVariants.{Stopped, BadDatagram, WrongCircuit, NotForMe, Stranger, BadNumber, AlreadyReleased, AlreadyOpen, WireTooOld, TapeFaulty, RoundsSpent, Store, OutOfMemory}
+use Rattle.refusals.specs.declared.refusal.StepRefusal.TheVariants.{Stopped, BadDatagram, WrongCircuit, NotForMe, Stranger, BadNumber, NoSuchMember, AlreadyReleased, AlreadyOpen, WireTooOld, TapeFaulty, RoundsSpent, Store, OutOfMemory}
 use Rattle.node_core.specs.Turns.{note_value}
 use Rattle.station.specs.Stations.{Sight, setup_of}
 use Rattle.station.specs.Steps.{Steps}
@@ -37,6 +37,7 @@ offers_of m (Offering n entry now) r = offered_of m n entry (outcome_of r)
 offers_of m (Seeking n now) r = []
 offers_of m (Falling_due now) r = []
 offers_of m (Receiving bytes now) r = []
+offers_of m (Recalling n to) r = []
 
 no_event : {X : Type 0} {a : X} → None ≡ Some a → ⊥
 no_event e = cc
@@ -59,18 +60,21 @@ module _ {R : Type 0} (s : Station R) (marks : List Mark) (os : List circuit.Off
   with_done (Seeking n now) e a is = append-nil os ∙ ap (offers_with os m) (some_is is)
   with_done (Falling_due now) e a is = due_offers os m now (next_due s.speaker.core.me now marks) e is
   with_done (Receiving bytes now) e a is = arrived_offers os m now (packet_at s.speaker.wire bytes) e is
+  with_done (Recalling n to) e a is = append-nil os ∙ ap (offers_with os m) (some_is is)
 
   with_store : (call : Call) (e : Event) (fault : RowsFault) → event_of (setup_of s) marks call ≡ Some e → os ++ offers_of m call (Err (Store fault)) ≡ offers_with os m e
   with_store (Offering n entry now) e fault is = ap (offers_with os m) (some_is is)
   with_store (Seeking n now) e fault is = append-nil os ∙ ap (offers_with os m) (some_is is)
   with_store (Falling_due now) e fault is = due_offers os m now (next_due s.speaker.core.me now marks) e is
   with_store (Receiving bytes now) e fault is = arrived_offers os m now (packet_at s.speaker.wire bytes) e is
+  with_store (Recalling n to) e fault is = append-nil os ∙ ap (offers_with os m) (some_is is)
 
   with_memory : (call : Call) (e : Event) → event_of (setup_of s) marks call ≡ Some e → os ++ offers_of m call (Err OutOfMemory) ≡ offers_with os m e
   with_memory (Offering n entry now) e is = ap (offers_with os m) (some_is is)
   with_memory (Seeking n now) e is = append-nil os ∙ ap (offers_with os m) (some_is is)
   with_memory (Falling_due now) e is = due_offers os m now (next_due s.speaker.core.me now marks) e is
   with_memory (Receiving bytes now) e is = arrived_offers os m now (packet_at s.speaker.wire bytes) e is
+  with_memory (Recalling n to) e is = append-nil os ∙ ap (offers_with os m) (some_is is)
 
   -- a refused offer is not logged
   with_refused : (call : Call) (q : StepRefusal) → is_torn q ≡ false → os ++ offers_of m call (Err q) ≡ os
@@ -78,6 +82,7 @@ module _ {R : Type 0} (s : Station R) (marks : List Mark) (os : List circuit.Off
   with_refused (Seeking n now) q un = append-nil os
   with_refused (Falling_due now) q un = append-nil os
   with_refused (Receiving bytes now) q un = append-nil os
+  with_refused (Recalling n to) q un = append-nil os
 
   -- a step without an event is no offer
   with_none : (call : Call) (a : Answer) → event_of (setup_of s) marks call ≡ None → os ++ offers_of m call (Ok a) ≡ os
@@ -85,6 +90,7 @@ module _ {R : Type 0} (s : Station R) (marks : List Mark) (os : List circuit.Off
   with_none (Seeking n now) a is = append-nil os
   with_none (Falling_due now) a is = append-nil os
   with_none (Receiving bytes now) a is = append-nil os
+  with_none (Recalling n to) a is = append-nil os
 
 module _ {R : Type 0} (x : Sight R) (count : R → ℕ) (one : OneSetting) (z : StationCircuit) (v v' : World R) (w : StationState) (i m : ℕ) (s s' : Station (Balky R))
     (ch : Changes v v' i m s s') (h : StandsFor x.is_open x.saved x.version z v w) (at : IsAt x.version (w.version m) s') (step : circuit.Step) (call : Call)
@@ -130,6 +136,7 @@ module _ {R : Type 0} (x : Sight R) (count : R → ℕ) (one : OneSetting) (z : 
   answered kept (Err NotForMe) d l = (_, refl, refused refusals.Not_for_me NotForMe refl d.0 d.1 l)
   answered kept (Err Stranger) d l = (_, refl, refused refusals.Stranger Stranger refl d.0 d.1 l)
   answered kept (Err BadNumber) d l = (_, refl, refused refusals.Bad_number BadNumber refl d.0 d.1 l)
+  answered kept (Err NoSuchMember) d l = (_, refl, refused refusals.No_such_member NoSuchMember refl d.0 d.1 l)
   answered kept (Err AlreadyReleased) d l = (_, refl, refused refusals.Already_released AlreadyReleased refl d.0 d.1 l)
   answered kept (Err AlreadyOpen) d l = (_, refl, refused refusals.Already_open AlreadyOpen refl d.0 d.1 l)
   answered kept (Err WireTooOld) d l = (_, refl, refused refusals.Wire_too_old WireTooOld refl d.0 d.1 l)

@@ -4,7 +4,7 @@ use Rattle.saved_rows.specs.declared.fault.RowsFault.{RowsFault}
 use Rattle.saved_rows.specs.declared.fault.RowsFault.TheVariants as row_faults
 use Rattle.saved_rows.specs.declared.rows.Rows.{Ghosts}
 use Rattle.refusals.specs.declared.refusal.StepRefusal.{StepRefusal}
-use Rattle.refusals.specs.declared.refusal.StepRefusal.TheVariants.{Stopped, BadDatagram, WrongCircuit, NotForMe, Stranger, BadNumber, AlreadyReleased, AlreadyOpen, WireTooOld, TapeFaulty, RoundsSpent, Store, OutOfMemory}
+use Rattle.refusals.specs.declared.refusal.StepRefusal.TheVariants.{Stopped, BadDatagram, WrongCircuit, NotForMe, Stranger, BadNumber, NoSuchMember, AlreadyReleased, AlreadyOpen, WireTooOld, TapeFaulty, RoundsSpent, Store, OutOfMemory}
 use Rattle.world.specs.declared.step.Outcome.{Outcome}
 use Rattle.world.specs.declared.step.Outcome.TheVariants as outcomes
 use Rattle.world.specs.Taking.{IfTorn, WasTorn, WasArmed, TearsForMemory}
@@ -17,6 +17,7 @@ refused_less WrongCircuit P Q f e = tt
 refused_less NotForMe P Q f e = tt
 refused_less Stranger P Q f e = tt
 refused_less BadNumber P Q f e = tt
+refused_less NoSuchMember P Q f e = tt
 refused_less AlreadyReleased P Q f e = tt
 refused_less AlreadyOpen P Q f e = tt
 refused_less WireTooOld P Q f e = tt

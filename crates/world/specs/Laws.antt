@@ -9,7 +9,7 @@ use Rattle.protocol.specs.Circuit.{Release, History}
 use Rattle.protocol.specs.Proposals.{Opening, was_released, open_proposal}
 use Rattle.protocol.specs.Progress.{with_offer, IsTheChosen, round_of, CanServe, AreAt, HasRoundsToGiveUp, CanRelease, LeadsByUpgrades, AllCanRelease, HaveRoundsLeft}
 use Rattle.tape_frames.specs.Entries.{IsEntry}
-use Rattle.protocol.specs.Agreement.{BallotsHaveOneEntry, ChosenIsOne, HeardIsVoted, PromisesBind, ReleasesAreChosen, ReportsAreGreatest, RipeIsChosen, VotesAreBacked, VotesAreOffered, WasOffered, IsChosen}
+use Rattle.protocol.specs.Agreement.{BallotsHaveOneEntry, ChosenIsOne, HeardIsVoted, PromisesBind, ReleasesAreChosen, ReportsAreGreatest, RipeIsChosen, ToldIsVoted, VotesAreBacked, VotesAreOffered, WasOffered, IsChosen}
 use Rattle.packets.specs.declared.fault.PacketFault.{PacketFault}
 use Rattle.code_table.specs.Tables.{Places, mean}
 use Rattle.widths.specs.Widths.{WidthFile}
@@ -41,6 +41,10 @@ VotesBacked = VotesAreBacked PacketFault (List Slug) SetFault
 -- each vote that was heard was taken
 abbrev pub HeardVoted : Type 0
 HeardVoted = HeardIsVoted PacketFault (List Slug) SetFault
+
+-- each vote that was told, for the first time or again, was taken
+abbrev pub ToldVoted : Type 0
+ToldVoted = ToldIsVoted PacketFault (List Slug) SetFault
 
 -- what is ripe at some member is chosen
 abbrev pub RipeChosen : Type 0

@@ -15,7 +15,7 @@ use Rattle.station.specs.declared.station.Station.{Station}
 use Rattle.station.specs.Stations.{sight}
 use Rattle.station.specs.Steps.{IsBlamed}
 use Rattle.refusals.specs.declared.refusal.StepRefusal.{StepRefusal}
-use Rattle.refusals.specs.declared.refusal.StepRefusal.TheVariants.{Stopped, BadDatagram, WrongCircuit, NotForMe, Stranger, BadNumber, AlreadyReleased, AlreadyOpen, WireTooOld, TapeFaulty, RoundsSpent, Store, OutOfMemory}
+use Rattle.refusals.specs.declared.refusal.StepRefusal.TheVariants.{Stopped, BadDatagram, WrongCircuit, NotForMe, Stranger, BadNumber, NoSuchMember, AlreadyReleased, AlreadyOpen, WireTooOld, TapeFaulty, RoundsSpent, Store, OutOfMemory}
 use Rattle.world.specs.declared.step.Step.{Step}
 use Rattle.world.specs.declared.step.Step.TheVariants as steps
 use Rattle.world.specs.declared.step.Outcome.{Outcome}
@@ -37,6 +37,7 @@ step_value (steps.Deliver k now) = circuit.Delivers k now
 step_value (steps.Restart member) = circuit.Restarts member
 step_value (steps.Upgrade member) = circuit.Upgrades member
 step_value (steps.Balk member saved) = circuit.Balks member saved
+step_value (steps.Recall member number to) = circuit.Recalls member number to
 
 -- how the circuit's step ended where the station refused it for this reason. Where the store tore it: as it was armed,
 -- or by the member's own rows, which then did refuse
@@ -47,6 +48,7 @@ RefusedAs WrongCircuit own o = o ≡ circuit.Refused refusals.Wrong_circuit
 RefusedAs NotForMe own o = o ≡ circuit.Refused refusals.Not_for_me
 RefusedAs Stranger own o = o ≡ circuit.Refused refusals.Stranger
 RefusedAs BadNumber own o = o ≡ circuit.Refused refusals.Bad_number
+RefusedAs NoSuchMember own o = o ≡ circuit.Refused refusals.No_such_member
 RefusedAs AlreadyReleased own o = o ≡ circuit.Refused refusals.Already_released
 RefusedAs AlreadyOpen own o = o ≡ circuit.Refused refusals.Already_open
 RefusedAs WireTooOld own o = o ≡ circuit.Refused refusals.Wire_too_old
@@ -111,6 +113,7 @@ is_torn WrongCircuit = false
 is_torn NotForMe = false
 is_torn Stranger = false
 is_torn BadNumber = false
+is_torn NoSuchMember = false
 is_torn AlreadyReleased = false
 is_torn AlreadyOpen = false
 is_torn WireTooOld = false
@@ -142,6 +145,7 @@ offers_after offers (steps.Deliver k now) o = offers
 offers_after offers (steps.Restart member) o = offers
 offers_after offers (steps.Upgrade member) o = offers
 offers_after offers (steps.Balk member saved) o = offers
+offers_after offers (steps.Recall member number to) o = offers
 
 -- who acts in a step: of a delivery the addressee
 abbrev pub actor : List circuit.Datagram → Step → Option ℕ
@@ -153,6 +157,7 @@ actor sent (steps.Deliver k now) = option_map (λ d. d.to) (circuit.datagram_at 
 actor sent (steps.Restart member) = Some member
 actor sent (steps.Upgrade member) = Some member
 actor sent (steps.Balk member saved) = Some member
+actor sent (steps.Recall member number to) = Some member
 
 -- what is seen is what the step added
 pub record Adds {R : Type 0} (step : Step) (old new : World R) (seen : Seen) : Type 0 where

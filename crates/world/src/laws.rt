@@ -2,7 +2,7 @@
 //! The functions do nothing but cite the laws that they rest on.
 
 ghost use Rattle.world.specs.Taking.{TearsForMemory};
-ghost use Rattle.world.specs.Laws.{OneEntry, VotesOffered, PromisesKept, ReportsGreatest, VotesBacked, HeardVoted, RipeChosen, OneChosen, ReleasesChosen, CircuitsExist, StationsAgree, StationsAreNeverStuck, RunningStationsNeedNotRestart, BusyStationsNeedNotRestart, DeniedStationsNeedNotRestart, ChosenIsFoundByStations, HalfAnUpgradeIsNoDeadEndOfStations, EveryStationReleases};
+ghost use Rattle.world.specs.Laws.{OneEntry, VotesOffered, PromisesKept, ReportsGreatest, VotesBacked, HeardVoted, ToldVoted, RipeChosen, OneChosen, ReleasesChosen, CircuitsExist, StationsAgree, StationsAreNeverStuck, RunningStationsNeedNotRestart, BusyStationsNeedNotRestart, DeniedStationsNeedNotRestart, ChosenIsFoundByStations, HalfAnUpgradeIsNoDeadEndOfStations, EveryStationReleases};
 
 use crate::slugs::Slugs;
 use line_check::SetFault;
@@ -39,9 +39,10 @@ pub fn votes_are_backed()
     laws::votes_are_backed::<PacketFault, Slugs, SetFault>();
 }
 
-/// Each vote that was heard was taken.
+/// Each vote that was heard was taken, and so was each that was told, for the first time or again.
 pub fn heard_is_voted()
-    ensures { HeardVoted }
+    ensures heard { HeardVoted }
+    ensures told { ToldVoted }
 {
     laws::heard_is_voted::<PacketFault, Slugs, SetFault>();
 }

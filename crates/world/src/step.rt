@@ -50,6 +50,12 @@ pub enum Step {
         member: u8,
         saved: bool,
     },
+    /// A member is to tell its vote for a number again, to another member or to itself.
+    Recall {
+        member: u8,
+        number: u32,
+        to: u8,
+    },
 }
 
 /// How a step ended.

@@ -65,6 +65,7 @@ impl<R: Rows> World<R> {
             Step::Restart { member } => self.restart(*member),
             Step::Upgrade { member } => self.upgrade(*member),
             Step::Balk { member, saved } => self.balk(*member, *saved),
+            Step::Recall { member, number, to } => self.recall(*member, *number, *to),
         }
     }
 
@@ -183,6 +184,21 @@ impl<R: Rows> World<R> {
         let place = self.place(member)?;
         self.make_room()?;
         let step = self.stations[place].due(now);
+        Ok(self.take_in(member, step))
+    }
+
+    /// A member is to tell its vote again.
+    fn recall(&mut self, member: u8, number: u32, to: u8) -> Result<Seen, WorldRefusal>
+        ensures steps { FollowsStep R.Rows (Step.Recall member number to) self.old self.new result }
+        ensures tells { Tells (Step.Recall member number to) self.old self.new result }
+        ensures why { TellsWhy R.Rows self.old self.new result }
+        ensures was_kept { AllKept R.kept self.new → AllKept R.kept self.old }
+        ensures made { AllMade R.made self.old → AllMade R.made self.new }
+    {
+        one_setting();
+        let place = self.place(member)?;
+        self.make_room()?;
+        let step = self.stations[place].recall(number, to);
         Ok(self.take_in(member, step))
     }
 

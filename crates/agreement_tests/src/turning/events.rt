@@ -62,5 +62,9 @@ pub fn event_of(alloc: Global, step: &Step, me: Member, members: u8) -> Option<E
             packet: packet_of(member_of(members, from)?, me, number, at, says)?,
             now,
         },
+        Coming::Recall(to) => Event::Recall {
+            number,
+            to: Member::new(to)?,
+        },
     })
 }

@@ -28,6 +28,8 @@ pub enum Coming {
     Due,
     /// From this member, at this ballot.
     Packet(u8, At, Says),
+    /// The vote is to be told again, to this member.
+    Recall(u8),
 }
 
 /// A note, in the word of the rehearsals.
@@ -50,6 +52,8 @@ pub enum Word {
     Denied,
     Settled,
     Heard,
+    Recalled,
+    Blank,
 }
 
 /// What comes of it.

@@ -252,6 +252,12 @@ pub const ANSWERING: &[Step] = &[
         did: Did::Note(Word::Silent, NONE),
         ..IDLE
     },
+    // a promise is nothing to tell again
+    Step {
+        coming: Coming::Recall(3),
+        did: Did::Note(Word::Blank, NONE),
+        ..IDLE
+    },
     Step {
         coming: Coming::Packet(1, (1, 1), Says::Accept(Flood)),
         did: Did::Note(Word::Voted, (1, 1)),
@@ -286,11 +292,25 @@ pub const ANSWERING: &[Step] = &[
         out: Few::One((1, Says::Nack((1, 3)))),
         ..IDLE
     },
+    // its vote at 1.1 is told again to another, and its row stays
+    Step {
+        coming: Coming::Recall(3),
+        did: Did::Note(Word::Recalled, (1, 1)),
+        out: Few::One((3, Says::Accepted(Flood))),
+        ..IDLE
+    },
     // with its own vote at 1.1, which it heard, a majority of three
     Step {
         releases: Some(Flood),
         released: true,
         ..VOTE
+    },
+    // of a released number it hears nothing again
+    Step {
+        coming: Coming::Recall(2),
+        did: Did::Note(Word::Recalled, (1, 1)),
+        released: true,
+        ..IDLE
     },
     // it votes on after the release
     Step {
@@ -299,6 +319,19 @@ pub const ANSWERING: &[Step] = &[
         out: Few::Two((1, Says::Accepted(Flood)), (3, Says::Accepted(Flood))),
         at: (1, 3),
         saves: Some(((1, 3), Some(((1, 3), Flood)))),
+        released: true,
+        ..IDLE
+    },
+    // one that started again with a vote releases as it hears that vote from itself
+    Step {
+        starts: Some((2, 3)),
+        saved: Saved::Promised((1, 1), Some(((1, 1), Flood))),
+        ..VOTE
+    },
+    Step {
+        coming: Coming::Recall(2),
+        did: Did::Note(Word::Recalled, (1, 1)),
+        releases: Some(Flood),
         released: true,
         ..IDLE
     },

@@ -29,6 +29,8 @@ pub fn words_of(note: Note) -> (Word, At) {
         Note::Denied { promised } => (Word::Denied, parts(promised)),
         Note::Settled => (Word::Settled, NONE),
         Note::Heard { ballot } => (Word::Heard, parts(ballot)),
+        Note::Recalled { ballot } => (Word::Recalled, parts(ballot)),
+        Note::Blank => (Word::Blank, NONE),
     }
 }
 

@@ -5,8 +5,10 @@ use command_ends::End;
 use command_line::parse;
 use commands::carry_out;
 use fixtures::{CODES, FLOOD, WIDTHS};
+use gone_out::Known;
 use row_files::{RefusedRows, RowFiles, RowsCause};
 use saved_rows::{Identity, MemoryRows, RowsFault};
+use std::alloc::Global;
 use std::fs;
 use std::io::Write;
 use tape_frames::Version;
@@ -61,6 +63,10 @@ impl RowFiles for NoRows {
             "made.db" => Err(RefusedRows::by(RowsFault::WrongStation)),
             _ => Err(refused(RowsFault::Store, RowsCause::Missing)),
         }
+    }
+
+    fn known(&self, _alloc: Global, _rows: &mut MemoryRows) -> Result<Known, RefusedRows> {
+        Err(refused(RowsFault::Store, RowsCause::Unread))
     }
 
     fn close(&self, _rows: MemoryRows) -> Result<(), RefusedRows> {

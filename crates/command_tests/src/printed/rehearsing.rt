@@ -380,6 +380,89 @@ due 1
 1 refused already-released
 1 refused already-released
 1 idle
+== Votes that got lost are told again: to one that missed them, and by one that started again to itself.
+members 3
+offer 1 12 01020301030204
+deliver 1
+recall 2 12 3
+deliver 3
+deliver 4
+recall 3 12 3
+restart 1
+recall 1 12 3
+recall 2 12 3
+deliver 10
+deliver 11
+deliver 8
+recall 1 12 1
+recall 1 12 1
+recall 1 0 4
+recall 1 12 4
+--
+1 began 1.1
+ #1 prepare 1>2 12 1.1
+ #2 prepare 1>3 12 1.1
+2 promised 1.1
+ #3 promise 2>1 12 1.1
+2 blank
+1 proposed 1.1
+ #4 accept 1>2 12 1.1
+ #5 accept 1>3 12 1.1
+ #6 accepted 1>2 12 1.1
+ #7 accepted 1>3 12 1.1
+2 voted 1.1
+ #8 accepted 2>1 12 1.1
+ #9 accepted 2>3 12 1.1
+3 blank
+1 restarted
+1 recalled 1.1
+ #10 accepted 1>3 12 1.1
+2 recalled 1.1
+ #11 accepted 2>3 12 1.1
+3 heard 1.1
+3 heard 1.1
+ release 12 01020301030204
+0001 J 0 0 a b _4 a _4 b
+1 heard 1.1
+1 recalled 1.1
+ release 12 01020301030204
+0001 J 0 0 a b _4 a _4 b
+1 recalled 1.1
+1 refused bad-number
+1 refused no-such-member
+== A vote is told once it is saved, and not before.
+members 3
+offer 1 12 01020301030204
+deliver 1
+deliver 3
+balk 2 unsaved
+deliver 4
+restart 2
+recall 2 12 3
+balk 2 saved
+deliver 4
+restart 2
+recall 2 12 3
+--
+1 began 1.1
+ #1 prepare 1>2 12 1.1
+ #2 prepare 1>3 12 1.1
+2 promised 1.1
+ #3 promise 2>1 12 1.1
+1 proposed 1.1
+ #4 accept 1>2 12 1.1
+ #5 accept 1>3 12 1.1
+ #6 accepted 1>2 12 1.1
+ #7 accepted 1>3 12 1.1
+2 armed unsaved
+2 stopped store
+2 restarted
+2 blank
+2 armed saved
+2 stopped store
+2 restarted
+2 recalled 1.1
+ #8 accepted 2>3 12 1.1
 == A step that one of three refuses.
 members 3
 offer 1 12 01020301030204
@@ -408,7 +491,7 @@ fn printed_texts(rt: HostRuntime) {
     for story in stories.split("== ").skip(1) {
         assert!(rt; is_story(rt.alloc(), story) == Some(true), "{story}");
     }
-    assert!(rt; stories.split("== ").count() == 19);
+    assert!(rt; stories.split("== ").count() == 21);
 }
 
 /// Lines that are ignored.

@@ -123,6 +123,9 @@ const FAULTY: &[(&str, Faulty)] = &[
         (5, BadLine),
     ),
     ("members 3\nrestart 0\n", (2, NoSuchMember)),
+    ("members 3\nrecall 4 12 1\n", (2, NoSuchMember)),
+    ("members 3\nrecall 1 12\n", (2, BadLine)),
+    ("members 3\nrecall 1 12 256\n", (2, BadLine)),
     ("members 3\ndeliver 0\n", (2, NoSuchDatagram)),
     ("members 3\ndeliver 1\n", (2, NoSuchDatagram)),
 ];

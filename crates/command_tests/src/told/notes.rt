@@ -26,11 +26,13 @@ const NOTES: &[&str] = &[
     "denied 3.2",
     "settled",
     "heard 3.2",
+    "recalled 3.2",
+    "blank",
 ];
 
 /// The place of a note among the texts.
 fn place_of(note: Note) -> usize
-    ensures { result ≤ 16 }
+    ensures { result ≤ 18 }
 {
     match note {
         Note::Began { .. } => 0,
@@ -50,6 +52,8 @@ fn place_of(note: Note) -> usize
         Note::Denied { .. } => 14,
         Note::Settled => 15,
         Note::Heard { .. } => 16,
+        Note::Recalled { .. } => 17,
+        Note::Blank => 18,
     }
 }
 
@@ -73,6 +77,8 @@ fn notes_of(alloc: Global, ballot: Ballot) -> Option<Vec<Note>> {
         Note::Denied { promised: ballot },
         Note::Settled,
         Note::Heard { ballot },
+        Note::Recalled { ballot },
+        Note::Blank,
     ];
     Vec::from_slice(alloc, &notes).ok()
 }
@@ -100,5 +106,5 @@ fn shown_notes(alloc: Global) -> Option<usize> {
 
 #[test]
 fn notes(rt: HostRuntime) {
-    assert!(rt; shown_notes(rt.alloc()) == Some(17));
+    assert!(rt; shown_notes(rt.alloc()) == Some(19));
 }

@@ -152,6 +152,7 @@ const STEPS: &[(StepRefusal, &str)] = &[
     (StepRefusal::NotForMe, "refused not-for-me"),
     (StepRefusal::Stranger, "refused stranger"),
     (StepRefusal::BadNumber, "refused bad-number"),
+    (StepRefusal::NoSuchMember, "refused no-such-member"),
     (StepRefusal::AlreadyReleased, "refused already-released"),
     (StepRefusal::AlreadyOpen, "refused already-open"),
     (StepRefusal::WireTooOld, "refused wire-too-old"),
@@ -166,7 +167,7 @@ const STEPS: &[(StepRefusal, &str)] = &[
 
 /// The place of a refusal in the table.
 fn place_of_step(refusal: StepRefusal) -> usize
-    ensures { result ≤ 12 }
+    ensures { result ≤ 13 }
 {
     match refusal {
         StepRefusal::Stopped => 0,
@@ -175,13 +176,14 @@ fn place_of_step(refusal: StepRefusal) -> usize
         StepRefusal::NotForMe => 3,
         StepRefusal::Stranger => 4,
         StepRefusal::BadNumber => 5,
-        StepRefusal::AlreadyReleased => 6,
-        StepRefusal::AlreadyOpen => 7,
-        StepRefusal::WireTooOld => 8,
-        StepRefusal::TapeFaulty(_) => 9,
-        StepRefusal::RoundsSpent => 10,
-        StepRefusal::Store(_) => 11,
-        StepRefusal::OutOfMemory => 12,
+        StepRefusal::NoSuchMember => 6,
+        StepRefusal::AlreadyReleased => 7,
+        StepRefusal::AlreadyOpen => 8,
+        StepRefusal::WireTooOld => 9,
+        StepRefusal::TapeFaulty(_) => 10,
+        StepRefusal::RoundsSpent => 11,
+        StepRefusal::Store(_) => 12,
+        StepRefusal::OutOfMemory => 13,
     }
 }
 
@@ -195,7 +197,7 @@ fn is_step(alloc: Global, refusal: StepRefusal, text: &str) -> bool {
 #[test]
 fn refused_steps(rt: HostRuntime) {
     let rows = STEPS;
-    assert!(rt; rows.len() == 13);
+    assert!(rt; rows.len() == 14);
     for (place, (refusal, text)) in rows.iter().enumerate() {
         assert!(rt;
             place_of_step(*refusal) == place && is_step(rt.alloc(), *refusal, text),

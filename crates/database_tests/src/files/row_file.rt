@@ -4,6 +4,7 @@ use crate::files::host::{Task, comes_of_host};
 use crate::rows::deeds::{Deed, are_done};
 use crate::rows::identities::{OTHER, STATION};
 use crate::rows::samples::HIGHER;
+use ballots::Number;
 use host_row_files::{RefusedRows, RowFiles, RowsCause};
 use saved_rows::{Identity, Rows, RowsFault};
 use std::fs;
@@ -30,6 +31,13 @@ fn saves<R: Rows>(rt: &HostRuntime, rows: &mut R) -> bool {
 /// Whether they have it.
 fn has_it<R: Rows>(rt: &HostRuntime, rows: &mut R) -> bool {
     are_done(rt.alloc(), rows, &[Deed::Get(12, Some(HIGHER))])
+}
+
+/// Whether 12 is the one number that they are known to have, without a vote.
+fn knows_it<F: RowFiles>(rt: &HostRuntime, files: &F, rows: &mut F::Rows) -> Option<bool> {
+    let known = files.known(rt.alloc(), rows).ok()?;
+    let twelve = Number::new(12)?;
+    Some(known.rows.contains(twelve) && known.rows.len() == 1 && known.votes.is_empty())
 }
 
 /// How the file is refused to this station, or to whoever asks, if it is.
@@ -75,10 +83,12 @@ fn is_kept<F: RowFiles>(rt: &HostRuntime, files: &F) -> bool {
         && making_of(rt, files) == by(RowsCause::Made)
 }
 
-/// Whether it is taken up with the promise, and closes.
+/// Whether it is taken up with the promise, by which its number is known, and closes.
 fn is_taken_up<F: RowFiles>(rt: &HostRuntime, files: &F, path: &str) -> bool {
     match files.open(rt, path, Some(STATION)) {
-        Ok(mut rows) => has_it(rt, &mut rows) && files.close(rows).is_ok(),
+        Ok(mut rows) => has_it(rt, &mut rows)
+            && knows_it(rt, files, &mut rows) == Some(true)
+            && files.close(rows).is_ok(),
         Err(_) => false,
     }
 }

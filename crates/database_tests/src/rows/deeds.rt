@@ -13,6 +13,8 @@ use tape_frames::Version;
 pub enum Deed {
     /// A row is saved under this number, or the save is refused so.
     Put(u32, Sample, Option<RowsFault>),
+    /// Such a row is saved under each number up to this.
+    PutEach(u32, Sample),
     /// A row is read under this number; the blank one with `None`.
     Get(u32, Option<Sample>),
     /// The row under this number is read, and copied.
@@ -52,6 +54,16 @@ fn puts_long<R: Rows>(alloc: Global, rows: &mut R, number: u32, frames: usize) -
     Some(rows.put(number, &row).is_ok())
 }
 
+/// Whether such a row is saved under each number up to this.
+fn puts_each<R: Rows>(alloc: Global, rows: &mut R, last: u32, sample: &Sample) -> bool {
+    for number in 1..=last {
+        if refusal_of(alloc, rows, number, sample) != Some(None) {
+            return false;
+        }
+    }
+    true
+}
+
 /// Whether the row that was read is the one of this deed.
 fn is_read(alloc: Global, row: &Row, deed: &Deed) -> bool {
     match deed {
@@ -80,6 +92,7 @@ fn is_done<R: Rows>(alloc: Global, rows: &mut R, deed: &Deed) -> bool {
         Deed::Put(number, sample, refusal) => {
             refusal_of(alloc, rows, *number, sample) == Some(*refusal)
         }
+        Deed::PutEach(last, sample) => puts_each(alloc, rows, *last, sample),
         Deed::PutLong(number, frames) => puts_long(alloc, rows, *number, *frames) == Some(true),
         Deed::Upgrade(refusal, version) => {
             rows.upgrade().err() == *refusal && rows.version() == *version

@@ -2,6 +2,7 @@
 
 use crate::rows::deeds::{Deed, are_done};
 use crate::rows::identities::STATION;
+use crate::rows::known::is_known;
 use crate::rows::samples::{Sample, is_row};
 use crate::tables::statements::{Found, finds, save_long};
 use crate::tables::takers::are_shown;
@@ -32,6 +33,8 @@ pub enum Listing {
     Rows(&'static [(u32, Sample)]),
     /// So many rows.
     Count(usize),
+    /// A row of each number from 1 on, so many, and so many of the first of them with a vote.
+    First { rows: u32, votes: u32 },
     /// Nothing: it is refused so.
     Refused(RowsFault),
 }
@@ -55,7 +58,7 @@ pub struct Print {
 
 /// What is done to a database: statements, one that saves a tape of so many frames 63 under 12, if of any, and some that
 /// find so many rows each; then the rows made or taken up, at this version, which may be refused; and, where they are not,
-/// deeds, a listing, what commands print, each time, and whether the rows 3 and 12 are shown until it is enough.
+/// deeds, a listing, which numbers are known of it, what commands print, each time, and whether the rows 3 and 12 are shown until it is enough.
 #[derive(Clone, Copy)]
 pub struct Session {
     pub statements: &'static str,
@@ -116,6 +119,7 @@ fn is_listed(listed: Result<Vec<(Number, Row)>, RowsFault>, wanted: &Listing) ->
     match (listed, wanted) {
         (Ok(rows), Listing::Rows(wanted)) => are_rows(rows.as_slice(), wanted),
         (Ok(rows), Listing::Count(count)) => rows.len() == *count,
+        (Ok(rows), Listing::First { rows: count, .. }) => rows.len() == *count as usize,
         (Err(fault), Listing::Refused(wanted)) => fault == *wanted,
         _ => false,
     }
@@ -182,6 +186,7 @@ fn serves<S: Alter + Drop>(alloc: Global, rows: &mut SqliteRows<S>, session: &Se
         && rows.version() == session.version
         && are_done(alloc, rows, session.deeds)
         && is_listed(rows.all(), &session.listing)
+        && is_known(alloc, rows, &session.listing)
         && are_printed(alloc, rows, session.prints)
         && (!session.shows || are_shown(rows))
 }

@@ -71,7 +71,7 @@ fn three(alloc: Global, acts: &'static [Act], slowness: u32) -> Option<Came> {
         &mut station,
         &mut wire,
         &mut stage,
-        terms(alloc, Loudness::All, &mut err),
+        terms(alloc, Loudness::All, &mut err)?,
     );
     Some(Came {
         end,
@@ -148,7 +148,7 @@ fn unanswered(alloc: Global) -> Option<Vec<u8>> {
         &mut station,
         &mut wire,
         &mut stage,
-        terms(alloc, Loudness::All, &mut err),
+        terms(alloc, Loudness::All, &mut err)?,
     );
     Some(err)
 }
@@ -191,7 +191,7 @@ fn hears(alloc: Global) -> Option<bool> {
         &mut station,
         &mut wire,
         &mut stage,
-        terms(alloc, Loudness::All, &mut err),
+        terms(alloc, Loudness::All, &mut err)?,
     );
     let told = err.as_slice() == "socket: 7 datagrams found no place in memory\n".as_bytes();
     Some(end == End::Done && told && wire.left > 3_000)

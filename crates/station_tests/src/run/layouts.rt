@@ -55,7 +55,7 @@ fn told(alloc: Global, count: u32) -> Option<Vec<u8>> {
         &mut station,
         &mut wire,
         &mut NoFolders,
-        terms(alloc, Loudness::Faults, &mut err),
+        terms(alloc, Loudness::Faults, &mut err)?,
     );
     (end == End::Socket).then_some(err)
 }

@@ -51,7 +51,7 @@ fn done(alloc: Global) -> Option<Vec<u8>> {
         &mut station,
         &mut wire,
         &mut stage,
-        terms(alloc, Loudness::Faults, &mut err),
+        terms(alloc, Loudness::Faults, &mut err)?,
     ) != End::Done
     {
         return None;

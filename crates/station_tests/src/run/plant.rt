@@ -3,11 +3,12 @@
 use crate::run::stage::{Act, Stage};
 use crate::run::wires::Ticking;
 use crate::stations::{ballot, rows_with, station_over};
-use ballots::{Number, Row, Vote};
+use ballots::{Member, Number, Row, Vote};
 use code_table::CodeTable;
 use command_ends::End;
 use fixtures::FLOOD;
 use folders::{Act as Doing, MemoryFolders, Place};
+use gone_out::Origin;
 use log_terms::Loudness;
 use run_command::{Terms, run_station};
 use saved_rows::{MemoryRows, Rows};
@@ -156,26 +157,43 @@ pub fn holds(alloc: Global, folders: &MemoryFolders, expected: &str) -> bool {
     write_folders(folders, &mut text) && text.as_slice() == expected.as_bytes()
 }
 
+/// Member 1 of a circuit, alone: whose station each is.
+pub fn own() -> Option<Origin> {
+    Some(Origin {
+        circuit: 7,
+        member: Member::new(1)?,
+        count: 1,
+    })
+}
+
 /// The terms of a run that tells this writer, and takes no texts.
-pub fn terms(alloc: Global, loudness: Loudness, err: &mut Vec<u8>) -> Terms<'_, Vec<u8>> {
-    Terms {
+pub fn terms(alloc: Global, loudness: Loudness, err: &mut Vec<u8>) -> Option<Terms<'_, Vec<u8>>> {
+    Some(Terms {
         alloc,
+        own: own()?,
+        known: None,
         texts: None,
         renamed: false,
         loudness,
         err,
-    }
+    })
 }
 
 /// The same terms, where texts become tapes by this table, if by any.
-pub fn terms_by(alloc: Global, texts: Option<CodeTable>, err: &mut Vec<u8>) -> Terms<'_, Vec<u8>> {
-    Terms {
+pub fn terms_by(
+    alloc: Global,
+    texts: Option<CodeTable>,
+    err: &mut Vec<u8>,
+) -> Option<Terms<'_, Vec<u8>>> {
+    Some(Terms {
         alloc,
+        own: own()?,
+        known: None,
         texts,
         renamed: false,
         loudness: Loudness::All,
         err,
-    }
+    })
 }
 
 /// Whether a run ends and tells as it has to.
@@ -189,7 +207,9 @@ fn ends(alloc: Global, stage: &mut Stage, run: &Run) -> bool {
         until: run.quarters.saturating_mul(250),
     };
     let mut err = Vec::new(alloc);
-    let mut terms = terms(alloc, run.loudness, &mut err);
+    let Some(mut terms) = terms(alloc, run.loudness, &mut err) else {
+        return false;
+    };
     terms.renamed = run.renamed;
     let end = run_station(&mut station, &mut wire, stage, terms);
     end == run.end && err.as_slice() == run.err.as_bytes()

@@ -100,7 +100,7 @@ fn among_strays(alloc: Global) -> Option<(usize, bool)> {
         &mut station,
         &mut wire,
         &mut stage,
-        terms(alloc, Loudness::All, &mut err),
+        terms(alloc, Loudness::All, &mut err)?,
     );
     let text = str::from_utf8(&err).ok()?;
     let refused = text

@@ -1,9 +1,12 @@
 //! Folders in memory in which something happens at some look.
 
+use ballots::Number;
 use fixtures::{FLOOD, HARVEST, LIGATURE, OVERSET};
 use folders::{
     FolderFault, Folders, Leaving, Listing, MemoryFolders, NamedFile, PassedOver, Stamp, Unwritten,
+    WentOut,
 };
+use gone_out::{Numbers, Origin};
 use std::alloc::{AllocError, Global};
 
 /// The name of a file among the offers.
@@ -314,5 +317,22 @@ impl Folders for Stage {
 
     fn remove(&mut self, alloc: Global, name: &str) -> Result<(), FolderFault> {
         self.folders.remove(alloc, name)
+    }
+
+    fn went_out(
+        &mut self,
+        alloc: Global,
+        own: &Origin,
+        known: &Numbers,
+    ) -> Result<Option<WentOut>, FolderFault> {
+        self.folders.went_out(alloc, own, known)
+    }
+
+    fn note_gone(&mut self, alloc: Global, numbers: &[Number]) -> Result<(), FolderFault> {
+        self.folders.note_gone(alloc, numbers)
+    }
+
+    fn settle(&mut self, alloc: Global) -> Result<(), FolderFault> {
+        self.folders.settle(alloc)
     }
 }

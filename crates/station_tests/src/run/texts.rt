@@ -50,12 +50,10 @@ fn ends(alloc: Global, stage: &mut Stage, run: &Run, texts: Option<CodeTable>) -
         until: run.quarters.saturating_mul(250),
     };
     let mut err = Vec::new(alloc);
-    let end = run_station(
-        &mut station,
-        &mut wire,
-        stage,
-        terms_by(alloc, texts, &mut err),
-    );
+    let Some(terms) = terms_by(alloc, texts, &mut err) else {
+        return false;
+    };
+    let end = run_station(&mut station, &mut wire, stage, terms);
     end == run.end && err.as_slice() == run.err.as_bytes()
 }
 

@@ -149,7 +149,7 @@ fn alone(rt: HostRuntime) {
 const GIVEN_UP: Run = Run {
     members: 3,
     acts: &[Act(1, Laid(Seek12, Nothing))],
-    quarters: 49,
+    quarters: 50,
     end: End::Socket,
     err: "\
 12 began 1.1\n12 began 2.1\n12 began 3.1\n12 began 4.1\n12 began 5.1\n12 began 6.1\n\

@@ -4,7 +4,7 @@ use crate::serve::wires::{Manner, Scripted};
 use crate::stations::{rows_with, station_over};
 use ballots::Number;
 use command_ends::{End, Fault};
-use driver::{Call, Denied, Desk, Driver, Log, Sink, Step, Tasks};
+use driver::{Call, Chance, Declined, Denied, Desk, Driver, Heard, Log, Sink, Step, Tasks, Todo};
 use exchange::Intake;
 use folders::{Kind, Request};
 use pace::Deeds;
@@ -36,11 +36,12 @@ impl Sink for Counting {
         Ok(())
     }
 
-    fn hear_refusal<E: Write>(&mut self, _refusal: StepRefusal, _now: u64, _log: &mut Log<'_, E>) {}
+    fn hear<E: Write>(&mut self, _heard: &Heard, _now: u64, _log: &mut Log<'_, E>) {}
 
     ghost fates = { record {
       rests = λ _. tt;
       clock = λ _ _. tt;
+      besides = λ _ _. tt;
       refuses = λ _ _ _ _. tt;
       joins = λ _ _ _ _ _ _ _. tt;
       begins = λ _ _ _ _. tt;
@@ -67,18 +68,13 @@ impl Desk for Counting {
         self.looks > 5
     }
 
-    fn deed<E: Write>(
-        &mut self,
-        _may_ask: bool,
-        _now: u64,
-        _log: &mut Log<'_, E>,
-    ) -> Option<Request> {
+    fn deed<E: Write>(&mut self, _chance: Chance, _log: &mut Log<'_, E>) -> Option<Todo> {
         self.asks = self.asks.saturating_add(1);
         let number = Number::new(13)?;
-        Some(Request {
+        Some(Todo::Ask(Request {
             number,
             kind: Kind::Withdraw,
-        })
+        }))
     }
 
     fn call(&self, request: &Request) -> Option<Call<'_>> {
@@ -91,6 +87,8 @@ impl Desk for Counting {
             self.denied = self.denied.saturating_add(1);
         }
     }
+
+    fn decline<E: Write>(&mut self, _declined: Declined, _log: &mut Log<'_, E>) {}
 }
 
 /// How many releases and refusals a desk counts whose member is alone, where the run comes to its end.

@@ -1,16 +1,43 @@
--- What came is taken in by one step of the station.
+-- What came is taken in by one step of the station, unless it has the mark of a recall.
+use Rattle.std.proofs.Common.{◌≡◌, ℕ, List, [], ◌∷◌, Option, Result, refl, subst}
+use Rattle.wire.specs.Passing.{Passed, Passes, came}
+use Rattle.saved_rows.specs.declared.rows.Rows.{Ghosts}
+use Rattle.station.specs.declared.station.Station.{Station}
+use Rattle.exchange.specs.Events.{HasMark}
+use Rattle.exchange.specs.Driving.{IsPacketTaken, IsTakenIn}
+use Rattle.exchange.specs.declared.station_steps.Outcome.{Outcome}
+use Rattle.exchange.specs.declared.station_steps.Outcome.TheVariants.{Nothing, Failed, Done, Refused, Heard}
+use Rattle.recalls.specs.Recalls.{Recall}
+use Rattle.recalls.specs.Reading.{recall_at}
+use Rattle.recalls.specs.declared.fault.RecallFault.{RecallFault}
 use Rattle.exchange.proofs.station_steps.take_datagram.Goals as goal
 
-pub returns-in-Ok-clause-takes : goal.returns-in-Ok-clause-takes
-returns-in-Ok-clause-takes g c = (
-  _,
-  record { step = λ kept. c.in-Ok.ensures; passes = c.in-Datagram.ensures.passes; stops = c.in-Ok.ensures.stops },
-  c.said_in.ensures,
+-- what the station took in came
+taken : {R N : Type 0} (g : Ghosts R) (passed : N → Option (List Passed)) (now : ℕ) (old new : Station R) (was is : N) (bytes : List ℕ) (o : Outcome)
+    → Passes (passed was) (passed is) (came bytes ∷ []) → ¬ HasMark bytes → IsPacketTaken g bytes now old new o → IsTakenIn g passed now old new was is o
+taken g passed now old new was is bytes Nothing p m t = absurd t
+taken g passed now old new was is bytes Failed p m t = absurd t
+taken g passed now old new was is bytes (Done answer said) p m t = (bytes, record { step = λ kept. t.0; passes = p; stops = t.0.stops }, t.1, m)
+taken g passed now old new was is bytes (Refused refusal newer) p m t = (bytes, record { step = λ kept. t.0; passes = p; stops = t.0.stops }, t.1, m)
+taken g passed now old new was is bytes (Heard found) p m t = absurd t
+
+-- what has the mark of a recall came, and was read
+heard_so : {S N : Type 0} (passed : N → Option (List Passed)) (now : ℕ) (s : S) (was is : N) (bytes : List ℕ) (found : Result Recall RecallFault) → HasMark bytes
+    → Passes (passed was) (passed is) (came bytes ∷ []) → found ≡ recall_at bytes
+    → (rest : List ℕ) × (s ≡ s) × Passes (passed was) (passed is) (came (84 ∷ 82 ∷ rest) ∷ []) × (found ≡ recall_at (84 ∷ 82 ∷ rest))
+heard_so passed now s was is bytes found m p e = (
+  m.0,
+  refl,
+  subst (λ (l : List ℕ). Passes (passed was) (passed is) (came l ∷ [])) m.1 p,
+  subst (λ (l : List ℕ). found ≡ recall_at l) m.1 e,
 )
 
-pub returns-in-Err-clause-takes : goal.returns-in-Err-clause-takes
-returns-in-Err-clause-takes g c = (
-  _,
-  record { step = λ kept. c.in-Err.ensures; passes = c.in-Datagram.ensures.passes; stops = c.in-Err.ensures.stops },
-  c.newer_in.ensures,
-)
+pub returns-clause-takes : goal.returns-clause-takes
+returns-clause-takes g c =
+    taken g.R.Rows g.N.Wire.passed c.args.now c.args.station.now c.take_packet.new.station c.args.wire.now c.receive.new.self _ c.take_packet.result
+    c.in-Datagram.ensures.passes (c.has_mark.ensures.none c.if-has_mark.false) c.take_packet.ensures
+
+pub returns-then-has_mark-clause-takes : goal.returns-then-has_mark-clause-takes
+returns-then-has_mark-clause-takes g c =
+    heard_so g.N.Wire.passed c.args.now c.args.station.now c.args.wire.now c.receive.new.self _ c.decode.result (c.has_mark.ensures.some c.if-has_mark.true)
+    c.in-Datagram.ensures.passes c.decode.ensures.exact

@@ -7,7 +7,8 @@ use Rattle.node_core.specs.declared.event.Event.{Event}
 use Rattle.node_core.specs.Calls.{TurnIs}
 use Rattle.node_core.specs.Handling.{IsTurnAlone}
 use Rattle.node_core.specs.Turns.{event_value, Stirs}
-use Rattle.node_core.proofs.Calling.{came_due, packet_came}
+use Rattle.node_core.proofs.Calling.{came_due, packet_came, recalled}
+use Rattle.node_core.proofs.Telling.{telling_alone}
 use Rattle.node_core.proofs.Phases.{idle_alone}
 use Rattle.node_core.proofs.settled.take.Goals as goal
 
@@ -31,3 +32,11 @@ returns-in_err-receive-in-Arrived-clause-turn c = λ marks released.
     subst (λ (y : Event). TurnIs c.args.seat y marks c.args.row.now Stirs) (sym c.in-Arrived.is)
     (packet_came c.args.seat c.in-Arrived.packet c.in-Arrived.now marks c.args.row.now Stirs
     (c.in_err-receive-in-Arrived.ensures.turn c.in-Arrived.now marks (subst (λ (y : Event). was_released (number_of (event_value y)) marks ≡ true) c.in-Arrived.is released))))
+
+pub returns-in-Recall-clause-turn : goal.returns-in-Recall-clause-turn
+returns-in-Recall-clause-turn c = λ marks released.
+    let told = c.tell_again-turn.result in
+    subst (λ (y : Event). TurnIs c.args.seat y marks c.args.row.now (λ t. IsTurnAlone c.args.row.now marks t told.turn)) (sym c.in-Recall.is)
+    (recalled c.args.seat c.in-Recall.number c.in-Recall.number c.in-Recall.to marks c.args.row.now (λ t. IsTurnAlone c.args.row.now marks t told.turn) refl
+    (telling_alone c.args.seat c.in-Recall.number c.in-Recall.to c.args.row.now marks told.turn told.own c.tell_again-turn.ensures.telling
+    (subst (λ (y : Event). was_released (number_of (event_value y)) marks ≡ true) c.in-Recall.is released)))

@@ -1,7 +1,7 @@
 -- What lies there at the start is taken away, and then the station is driven until the run is over.
-use Rattle.std.proofs.Common.{rules, ◌≡◌, ◌∙◌, [], codes, inl, refl}
+use Rattle.std.proofs.Common.{rules, ◌≡◌, ◌∙◌, [], codes, inl, refl, subst}
 use Rattle.command_ends.specs.declared.end.End.TheVariants as ends
-use Rattle.folders.specs.Doings.{removed_file}
+use Rattle.folders.specs.Doings.{removed_file, MayDo}
 use Rattle.driver.specs.Driving.{known, post, post_of, Anyhow}
 use Rattle.driver.proofs.Driven.{answered, came_from, left_so, seen_from}
 use Rattle.plant_files.specs.Standing.{Texts}
@@ -9,7 +9,7 @@ use Rattle.run_command.specs.Living.{kept, kept_of}
 use Rattle.run_command.specs.Running.{tells}
 use Rattle.run_command.specs.Working.{Deals, Always}
 use Rattle.run_command.specs.Lives.{begun}
-use Rattle.run_command.proofs.Lives.{idle, tells_start}
+use Rattle.run_command.proofs.Lives.{idle, idle_behind, tells_start}
 use Rattle.run_command.proofs.Looking.{deals_looked, follows_same, looks_may}
 use Rattle.run_command.proofs.turns.run_station.Goals as goal
 
@@ -29,6 +29,15 @@ returns-in_default-clause-runs g c =
     answered k old old ends.Memory c.tell-in_default.result Anyhow c.tell-in_default.ensures.end
     (idle texts g.R.Rows g.N.Wire.passed g.F.Folders.doings c.args.station.now c.args.wire.now c.args.folders.now ends.Memory (inl refl))
 
+pub returns-in_default-begin-clause-runs : goal.returns-in_default-begin-clause-runs
+returns-in_default-begin-clause-runs g c =
+    let texts : Texts = c.args.terms.texts in
+    let k = known g.R.Rows g.N.Wire.passed (tells texts g.F.Folders.doings) in
+    let f = c.args.folders.now in
+    let h = c.begin.new.folders in
+    answered k (post c.args.station.now c.args.wire.now f) (post c.args.station.now c.args.wire.now h) ends.Memory c.tell-in_default-begin.result Anyhow c.tell-in_default-begin.ensures.end
+    (idle_behind texts g.R.Rows g.N.Wire.passed g.F.Folders.doings c.args.station.now c.args.wire.now f h ends.Memory c.begin.ensures (inl refl))
+
 pub returns-clause-runs : goal.returns-clause-runs
 returns-clause-runs g c =
     let doings = g.F.Folders.doings in
@@ -44,7 +53,8 @@ returns-clause-runs g c =
     let none : q ≡ [] = c.new-papers.ensures.waits in
     let stop = removed_file (codes "stop") in
     let gone : Deals Always (doings f) (doings mid) q m m =
-    deals_looked Always (doings f) (doings mid) q (λ doings. Unit {0}) m m (looks_may (doings f) (doings mid) stop refl c.remove_stop.ensures) (follows_same m m refl) in
+    deals_looked Always (doings f) (doings mid) q (λ doings. Unit {0}) m m
+    (looks_may (doings f) (doings mid) stop refl (subst (λ d. MayDo d (doings mid) stop) c.begin.ensures c.remove_stop.ensures)) (follows_same m m refl) in
     let own : Texts = c.new-papers.result.texts in
     let came = came_from _ _ (post_of last) _ _ _ c.run.result Anyhow c.new-driver.ensures.is c.run.ensures.drove in
     let same : last.sink.plant.folders.ghost_name ≡ _ = came.1.0.0 in

@@ -1,4 +1,4 @@
--- The desk did what it did, and then the station was asked, if it was.
+-- The desk did what it did, and then what is to be done for it was done.
 use Rattle.std.proofs.Common.{refl}
 use Rattle.command_ends.specs.declared.end.End.TheVariants.{Done}
 use Rattle.exchange.specs.Events.{ended}
@@ -12,12 +12,12 @@ returns-in-Some-clause-drove g c =
     let k = known g.R.Rows g.N.Wire.passed (fate_of g.S.Sink) in
     let s = c.args.self.now.station.now in
     let wire = c.args.self.now.wire.now in
-    then_any k g.S.Sink.may g.met.S.Sink.fates (post_of c.args.self.now) (post s wire c.deed.new.self) (post_of c.ask_for.new.self) (ended c.ask_for.result) c.ask_for.ensures.was_kept
-    (moved k g.S.Sink.may g.met.S.Sink.fates s wire wire c.args.self.now.sink c.deed.new.self Done Anyhow (Passes-nil (g.N.Wire.passed wire)) c.deed.ensures (λ done. tt) refl)
-    c.ask_for.ensures.drove
+    then_any k g.S.Sink.may g.met.S.Sink.fates (post_of c.args.self.now) (post s wire c.deed.new.self) (post_of c.do_todo.new.self) (ended c.do_todo.result) c.do_todo.ensures.was_kept
+    (moved k g.S.Sink.may g.met.S.Sink.fates s wire wire c.args.self.now.sink c.deed.new.self Done Anyhow (Passes-nil (g.N.Wire.passed wire)) c.deed.ensures.lived (λ done. tt) refl)
+    c.do_todo.ensures.drove
 
 pub returns-in-None-clause-drove : goal.returns-in-None-clause-drove
 returns-in-None-clause-drove g c =
     let wire = c.args.self.now.wire.now in
     moved (known g.R.Rows g.N.Wire.passed (fate_of g.S.Sink)) g.S.Sink.may g.met.S.Sink.fates c.args.self.now.station.now wire wire c.args.self.now.sink c.deed.new.self Done Anyhow
-    (Passes-nil (g.N.Wire.passed wire)) c.deed.ensures (λ done. tt) refl
+    (Passes-nil (g.N.Wire.passed wire)) c.deed.ensures.lived (λ done. tt) refl

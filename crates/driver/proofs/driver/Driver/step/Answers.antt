@@ -16,5 +16,5 @@ returns-clause-drove g c =
     let end = ended c.work.result in
     of_form k (post_of c.args.self.now) new end (AtClock (λ now. Anyhow)) Anyhow (λ log done form. tt)
     (clocked k g.S.Sink.may g.met.S.Sink.fates s c.args.self.now.wire.now wire sink new c.now-now.result end (λ now. Anyhow) c.now-now.ensures.passes
-    (then_any k g.S.Sink.may g.met.S.Sink.fates (post s wire sink) (post s c.find-is_waiting.new.wire c.tasks-tasks.new.self) new end c.work.ensures.was_kept
-    (moved k g.S.Sink.may g.met.S.Sink.fates s wire c.find-is_waiting.new.wire sink c.tasks-tasks.new.self Done Anyhow c.find-is_waiting.ensures c.tasks-tasks.ensures (λ done. tt) refl) c.work.ensures.drove))
+    (then_any k g.S.Sink.may g.met.S.Sink.fates (post s wire sink) (post s c.find-waits.new.wire c.tasks-tasks.new.self) new end c.work.ensures.was_kept
+    (moved k g.S.Sink.may g.met.S.Sink.fates s wire c.find-waits.new.wire sink c.tasks-tasks.new.self Done Anyhow c.find-waits.ensures c.tasks-tasks.ensures (λ done. tt) refl) c.work.ensures.drove))

@@ -19,7 +19,7 @@ returns-in-TakeIn-clause-drove g c =
     let old = post_of c.args.self.now in
     let new = post_of c.take_in.new.self in
     answered k old new (ended c.take_in.result) (ended c.going_on.result) Anyhow c.going_on.ensures
-    (of_form k old new (ended c.take_in.result) (IsTakingIn c.args.now) Anyhow (λ log done form. tt) c.take_in.ensures.drove)
+    (of_form k old new (ended c.take_in.result) (IsTakingIn c.args.found.now) Anyhow (λ log done form. tt) c.take_in.ensures.drove)
 
 pub returns-in-Due-clause-drove : goal.returns-in-Due-clause-drove
 returns-in-Due-clause-drove g c =
@@ -27,4 +27,4 @@ returns-in-Due-clause-drove g c =
     let old = post_of c.args.self.now in
     let new = post_of c.see_to_due.new.self in
     answered k old new (ended c.see_to_due.result) (ended c.going_on-in-Due.result) Anyhow c.going_on-in-Due.ensures
-    (of_form k old new (ended c.see_to_due.result) (IsSeeingToDue c.args.now) Anyhow (λ log done form. tt) c.see_to_due.ensures.drove)
+    (of_form k old new (ended c.see_to_due.result) (IsSeeingToDue c.args.found.now) Anyhow (λ log done form. tt) c.see_to_due.ensures.drove)

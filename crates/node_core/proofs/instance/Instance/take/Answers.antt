@@ -14,7 +14,7 @@ use Rattle.node_core.specs.Calls.{TurnIs}
 use Rattle.protocol.specs.Seats.{Seat}
 use Rattle.node_core.specs.Standing.{Answers}
 use Rattle.node_core.specs.Turns.{event_value, Stirs}
-use Rattle.node_core.proofs.Calling.{offered, sought, came_due, packet_came}
+use Rattle.node_core.proofs.Calling.{offered, sought, came_due, packet_came, recalled}
 use Rattle.node_core.proofs.instance.Instance.take.Goals as goal
 
 abbrev Taken : Seat → Event → List Mark → Row → Instance → Result Turn CoreRefusal → Type 0
@@ -60,3 +60,19 @@ returns-in_err-receive-in-Arrived-clause-turn c = λ marks stands.
     (λ _ _.
     subst (λ (y : Event). TurnIs c.args.seat y marks c.args.row.now Stirs) (sym c.in-Arrived.is)
     (packet_came c.args.seat c.in-Arrived.packet c.in-Arrived.now marks c.args.row.now Stirs (c.in_err-receive-in-Arrived.ensures.turn marks stands)))
+
+pub returns-in_ok-recall-in-Recall-clause-turn : goal.returns-in_ok-recall-in-Recall-clause-turn
+returns-in_ok-recall-in-Recall-clause-turn c = λ marks stands.
+    let same = its_number c.args.event _ c.args.self.now.number c.in-Recall.is c.requires.number in
+    subst (λ (y : Event). TurnIs c.args.seat y marks c.args.row.now (λ t. Answers c.args.row.now t c.in_ok-recall-in-Recall.field-0 c.recall.new.self)) (sym c.in-Recall.is)
+    (recalled c.args.seat c.args.self.now.number c.in-Recall.number c.in-Recall.to marks c.args.row.now (λ t. Answers c.args.row.now t c.in_ok-recall-in-Recall.field-0 c.recall.new.self) same
+    (c.in_ok-recall-in-Recall.ensures.turn marks stands))
+
+pub returns-in_err-recall-in-Recall-clause-turn : goal.returns-in_err-recall-in-Recall-clause-turn
+returns-in_err-recall-in-Recall-clause-turn c = λ marks stands.
+    let same = its_number c.args.event _ c.args.self.now.number c.in-Recall.is c.requires.number in
+    MatchResult-from_err c.from_residual-in_err-recall-in-Recall.result _ _ c.from_residual-in_err-recall-in-Recall.ensures.0
+    (λ _ _.
+    subst (λ (y : Event). TurnIs c.args.seat y marks c.args.row.now Stirs) (sym c.in-Recall.is)
+    (recalled c.args.seat c.args.self.now.number c.in-Recall.number c.in-Recall.to marks c.args.row.now Stirs same
+    (c.in_err-recall-in-Recall.ensures.turn marks stands)))

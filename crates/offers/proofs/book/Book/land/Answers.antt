@@ -12,14 +12,16 @@ invariant_of-self c =
     let g = after (news.Landed c.args.landing) c.args.now in
     let moves = rw (c.as_slice.ensures.value, c.tell_all.ensures.news) at c.remark.ensures.moves in
     let others = rw (c.as_slice.ensures.value, c.tell_all.ensures.news, c.leave.ensures) at c.remark.ensures.others in
-    let asks = rw (c.as_slice.ensures.value, c.tell_all.ensures.news, c.leave.ensures) at c.remark.ensures.asks in
+    let sought = rw (c.as_slice.ensures.value, c.tell_all.ensures.news, c.leave.ensures) at c.remark.ensures.sought in
+    let entries = rw (c.as_slice.ensures.value, c.tell_all.ensures.news, c.leave.ensures) at c.remark.ensures.entries in
+    let searches = rw (c.as_slice.ensures.value, c.tell_all.ensures.news, c.leave.ensures) at c.remark.ensures.searches in
     record {
       rises = c.tell_all.ensures.rises;
       apart = rw c.leave.ensures (apart_fewer c.args.number c.self.inside.known.window c.self.invariant.apart);
       few = rw c.leave.ensures (omega (arith, c.self.invariant.few));
       held = rw (c.leave.ensures, c.tell_all.ensures.news) (held_landed c.self.inside.known.window c.args.number c.args.landing c.args.now c.self.inside.offers.items c.self.invariant.held);
       alone = rw c.tell_all.ensures.news (alone_still _ c.self.inside.offers.items (landed_fewer c.args.number c.args.landing c.args.now c.self.inside.offers.items) c.self.invariant.alone);
-      marked = rw (c.leave.ensures, c.tell_all.ensures.news) (let told = landed_marked _ c.args.number g c.self.inside.known.released.entries c.self.inside.marks c.remark.new.marks c.self.invariant.marked (λ x e. refl) moves others asks in record { moves = told.moves; others = told.others; asks = told.asks });
+      marked = rw (c.leave.ensures, c.tell_all.ensures.news) (let told = landed_marked _ c.args.number g c.self.inside.known.released.entries c.self.inside.marks c.remark.new.marks c.self.invariant.marked (λ x e. refl) moves others sought entries searches in record { moves = told.moves; others = told.others; sought = told.sought; entries = told.entries; searches = told.searches });
       idle = λ e. absurd (left e);
     }
 

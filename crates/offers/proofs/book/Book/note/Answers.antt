@@ -10,14 +10,16 @@ invariant_of-self c =
     let fewer = told_fewer (rank c.args.request) c.args.news c.args.now c.self.inside.offers.items c.requires in
     let moves = rw (c.as_slice.ensures.value, c.tell.ensures.news) at c.remark.ensures.moves in
     let others = rw (c.as_slice.ensures.value, c.tell.ensures.news) at c.remark.ensures.others in
-    let asks = rw (c.as_slice.ensures.value, c.tell.ensures.news) at c.remark.ensures.asks in
+    let sought = rw (c.as_slice.ensures.value, c.tell.ensures.news) at c.remark.ensures.sought in
+    let entries = rw (c.as_slice.ensures.value, c.tell.ensures.news) at c.remark.ensures.entries in
+    let searches = rw (c.as_slice.ensures.value, c.tell.ensures.news) at c.remark.ensures.searches in
     record {
       rises = c.tell.ensures.rises;
       apart = c.self.invariant.apart;
       few = c.self.invariant.few;
       held = rw c.tell.ensures.news (held_still c.self.inside.known.window _ c.self.inside.offers.items fewer c.self.invariant.held);
       alone = rw c.tell.ensures.news (alone_still _ c.self.inside.offers.items fewer c.self.invariant.alone);
-      marked = rw c.tell.ensures.news (let told = told_marked _ c.args.request (after c.args.news c.args.now) c.self.inside.marks c.remark.new.marks c.self.invariant.marked moves others asks in record { moves = told.moves; others = told.others; asks = told.asks });
+      marked = rw c.tell.ensures.news (let told = told_marked _ c.args.request (after c.args.news c.args.now) c.self.inside.marks c.remark.new.marks c.self.invariant.marked moves others sought entries searches in record { moves = told.moves; others = told.others; sought = told.sought; entries = told.entries; searches = told.searches });
       idle = λ e. absurd (left e);
     }
 

@@ -18,7 +18,9 @@ invariant_of-self c =
       marked = record {
         moves = rw c.as_slice.ensures.value at c.mark_all.ensures.moves;
         others = rw c.as_slice.ensures.value at c.mark_all.ensures.others;
-        asks = rw c.as_slice.ensures.value at c.mark_all.ensures.asks;
+        sought = rw c.as_slice.ensures.value at c.mark_all.ensures.sought;
+        entries = rw c.as_slice.ensures.value at c.mark_all.ensures.entries;
+        searches = rw c.as_slice.ensures.value at c.mark_all.ensures.searches;
       };
       idle = λ e. absurd (left e);
     }
@@ -26,4 +28,4 @@ invariant_of-self c =
 pub mark_all-requires-clause-room : goal.mark_all-requires-clause-room
 mark_all-requires-clause-room c =
     rw (c.as_slice.ensures.value, c.merge.ensures)
-    (room_for _ c.in_ok-marks.marks _ (few_looked c.from.result.items c.args.now c.args.found.now) c.in_ok-marks.ensures.moves.0 c.in_ok-marks.ensures.others.0 c.in_ok-marks.ensures.asks.0)
+    (room_for _ c.in_ok-marks.marks _ (few_looked c.from.result.items c.args.now c.args.found.now) c.in_ok-marks.ensures.moves.0 c.in_ok-marks.ensures.others.0 c.in_ok-marks.ensures.sought.0 c.in_ok-marks.ensures.entries.0 c.in_ok-marks.ensures.searches.0)

@@ -1,7 +1,6 @@
 -- Each was told behind those before it.
-use Rattle.std.proofs.Common.{◌≡◌, arith, get_or, refl}
+use Rattle.std.proofs.Common.{◌≡◌, get_or, refl}
 use Rattle.folders.specs.declared.folders.PassedOver.{PassedOver}
-use Rattle.std.proofs.lemmas.List.{get_or_default}
 use Rattle.plant_log.specs.Passing.{IsPassingTold, passing_text}
 use Rattle.plant_log.proofs.Each.{each_more}
 use Rattle.plant_log.proofs.passed.Passed.tell_all.Goals as goal

@@ -1,12 +1,12 @@
--- Something was done with files among the offers.
+-- Something was done with files among the offers, or nothing.
 use Rattle.std.proofs.Common.{refl, ap, Vec, Global}
 use Rattle.folders.specs.Written.{File}
 use Rattle.run_command.specs.Living.{texts_of}
 use Rattle.run_command.proofs.Lives.{dealt}
 use Rattle.run_command.proofs.desk.PlantDeskDesk.deed.Goals as goal
 
-pub returns : goal.returns
-returns g c =
+pub returns-clause-lived : goal.returns-clause-lived
+returns-clause-lived g c =
     let old = c.args.self.now.plant in
     let new = c.deed.new.self in (
       (c.deed.ensures.folders, c.deed.ensures.texts),

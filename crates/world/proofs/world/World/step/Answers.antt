@@ -66,3 +66,11 @@ returns-in-Balk-clause-reached g c =
 
 pub returns-in-Balk-clause-agreed : goal.returns-in-Balk-clause-agreed
 returns-in-Balk-clause-agreed g c = reached_agreed g.R.Rows c.agreement.ensures _
+
+pub returns-in-Recall-clause-reached : goal.returns-in-Recall-clause-reached
+returns-in-Recall-clause-reached g c =
+    stays_reached g.R.Rows g.met.R.Rows.halves c.args.self.now c.recall.new.self c.recall.ensures.made c.recall.ensures.was_kept
+    (λ kept z r. goes g.R.Rows.is_open g.R.Rows.saved g.R.Rows.version g.R.Rows.refusals z c.args.self.now c.recall.new.self r (steps.Recall c.in-Recall.member c.in-Recall.number c.in-Recall.to) c.recall.result (c.recall.ensures.steps kept z r.0 r.1))
+
+pub returns-in-Recall-clause-agreed : goal.returns-in-Recall-clause-agreed
+returns-in-Recall-clause-agreed g c = reached_agreed g.R.Rows c.agreement.ensures _

@@ -1,0 +1,4 @@
+pub mod Rising
+pub mod Turns
+pub mod Recalling
+pub mod Starting

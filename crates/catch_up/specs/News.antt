@@ -1,0 +1,36 @@
+-- What a step of the station, or a datagram, says of its number.
+use Rattle.std.specs.Prelude.{Bool, true, false, Option, Some, None, List, [], ◌∷◌, ◌++◌, option_to_list, if◌then◌else◌}
+use Rattle.node_core.specs.declared.turn.Note.{Note}
+use Rattle.node_core.specs.declared.turn.Note.TheVariants as notes
+use Rattle.healing.specs.declared.news.News.{News}
+use Rattle.healing.specs.declared.news.News.TheVariants.{Saved, Came, Voted, Opened, Closed, Nothing}
+
+-- the news of a step with this note: a row was saved, with a vote of it or without, or a ballot ended; the others say nothing
+abbrev pub news_of : Note → Option News
+news_of (notes.Began b) = Some (Saved false)
+news_of (notes.Promised b) = Some (Saved false)
+news_of (notes.Proposed b) = Some (Saved true)
+news_of (notes.Voted b) = Some (Saved true)
+news_of (notes.Nothing b) = Some Nothing
+news_of (notes.GaveUp b) = Some Closed
+news_of notes.Idle = None
+news_of notes.Silent = None
+news_of (notes.Nacked p) = None
+news_of (notes.VotedAgain b) = None
+news_of notes.Stale = None
+news_of (notes.Overtaken b) = None
+news_of notes.Repeated = None
+news_of (notes.Counted b) = None
+news_of (notes.Denied p) = None
+news_of notes.Settled = None
+news_of (notes.Heard b) = None
+news_of (notes.Recalled b) = None
+news_of notes.Blank = None
+
+-- all news of a step: that of its note, and that it opened a ballot for a file among the offers
+abbrev pub all_news : Note → Bool → List News
+all_news note opened = option_to_list (news_of note) ++ (if opened then Opened ∷ [] else [])
+
+-- the news that a datagram is
+abbrev pub datagram_news : Bool → News
+datagram_news is_vote = if is_vote then Voted else Came

@@ -1,0 +1,102 @@
+//! What one member asked to be told again.
+
+ghost use Rattle.std.specs.Prelude.{◌≡◌, ◌++◌, [], None, option_to_list};
+ghost use Rattle.catch_up.specs.Asked.{asks, counts, has_place, is_ready, is_second_on, nobody};
+
+use crate::values::{Values, is_among, take_first};
+use arrayvec::ArrayVec;
+use ballots::Number;
+use std::marker::Model;
+
+/// How long a second is, in milliseconds.
+const SECOND: u64 = 1000;
+
+/// How many bytes a member is told in a second before it waits for the next.
+const MOST_BYTES: u64 = 1_000_000;
+
+/// A member that may ask: the numbers that wait to be told to it, the first asked first, and how much it was told of late.
+#[derive(Drop)]
+pub(crate) struct Asker {
+    waiting: Values,
+    /// When the present second began, in milliseconds.
+    since: Option<u64>,
+    /// How many bytes it was told in that second.
+    told: u64,
+}
+
+impl Model for Asker {
+    ghost use Rattle.std.specs.Prelude.{◌≤◌, length};
+    ghost use Rattle.catch_up.specs.Values.{AreNumbers};
+    ghost use Rattle.catch_up.specs.Asked.{AskerValue};
+
+    ghost Value = { AskerValue };
+
+    ghost view = { λ s. record { waiting = s.waiting.items; since = s.since; told = s.told } };
+
+    ghost invariant = { λ s. AreNumbers s.waiting.items × (length s.waiting.items ≤ 64) };
+}
+
+impl Asker {
+    /// It asked for nothing yet, and was told nothing.
+    pub(crate) fn new() -> Asker
+        ensures { result ≡ nobody }
+    {
+        Asker {
+            waiting: ArrayVec::new(),
+            since: None,
+            told: 0,
+        }
+    }
+
+    /// It asks for a number: it waits, unless 64 others wait. Whether it waits.
+    pub(crate) fn ask(&mut self, number: Number) -> bool
+        ensures found { result ≡ has_place number self.old }
+        ensures asks { self.new ≡ asks number self.old }
+    {
+        if is_among(self.waiting.as_slice(), number.get()) {
+            return true;
+        }
+        if self.waiting.is_full() {
+            return false;
+        }
+        self.waiting.push(number.get());
+        true
+    }
+
+    /// Whether the second that began last is not over yet.
+    fn is_second_on(&self, now: u64) -> bool
+        ensures { result ≡ is_second_on self.now.since now }
+    {
+        match self.since {
+            Some(since) => now.saturating_sub(since) < SECOND,
+            None => false,
+        }
+    }
+
+    /// Whether a number waits that may be told now.
+    pub(crate) fn is_ready(&self, now: u64) -> bool
+        ensures { result ≡ is_ready now self.now }
+    {
+        !self.waiting.is_empty() && !(self.is_second_on(now) && self.told >= MOST_BYTES)
+    }
+
+    /// Takes the number that waits longest.
+    pub(crate) fn take(&mut self) -> Option<Number>
+        ensures first { self.old.waiting ≡ option_to_list result ++ self.new.waiting }
+        ensures none { result ≡ None → self.old.waiting ≡ [] }
+        ensures rest { self.new ≡ record self.old { waiting = self.new.waiting } }
+    {
+        take_first(&mut self.waiting)
+    }
+
+    /// It was told a vote of so many bytes, at a moment in milliseconds.
+    pub(crate) fn count(&mut self, bytes: usize, now: u64)
+        ensures { self.new ≡ counts bytes now self.old }
+    {
+        if !self.is_second_on(now) {
+            self.since = Some(now);
+            self.told = 0;
+        }
+        self.told = self.told.saturating_add(bytes as u64);
+    }
+}

@@ -1,0 +1,4 @@
+pub mod Words
+pub mod Passing
+pub mod Ranges
+pub mod Missing

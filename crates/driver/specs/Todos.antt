@@ -1,0 +1,36 @@
+-- What a driver is to do for a desk, and by which events it is done.
+use Rattle.std.specs.Prelude.{◌≡◌, ℕ, List, [], ◌∷◌, Result}
+use Rattle.protocol.specs.Refusals.{Recalling, Seeking}
+use Rattle.recalls.specs.Recalls.{Recall}
+use Rattle.recalls.specs.Spelling.{spelling}
+use Rattle.refusals.specs.declared.refusal.StepRefusal.{StepRefusal}
+use Rattle.station.specs.declared.answer.Answer.{Answer}
+use Rattle.catch_up.specs.Errands.{IsGoodErrand}
+use Rattle.catch_up.specs.declared.errand.Errand.{Errand}
+use Rattle.catch_up.specs.declared.errand.Errand.TheVariants as errands
+use Rattle.exchange.specs.Events.{Event, took, aside, hailed}
+use Rattle.driver.specs.declared.desk.Todo.{Todo}
+use Rattle.driver.specs.declared.desk.Todo.TheVariants as todos
+
+-- of an errand that sends, the bytes spell a recall of the member that they are sent to
+abbrev pub IsGoodTodo : Todo → Type 0
+IsGoodTodo (todos.Ask request) = Unit {0}
+IsGoodTodo (todos.Run errand) = IsGoodErrand errand
+
+-- a recall that these bytes spell was sent, to this member, and nothing else happened
+abbrev pub IsHailing : ℕ → List ℕ → List Event → Type 0
+IsHailing to bytes log = (r : Recall) × (bytes ≡ spelling r) × (r.to ≡ to) × (log ≡ aside (hailed r) ∷ [])
+
+-- the station was asked to tell its vote of this number again to this member
+abbrev pub IsTellingAgain : ℕ → ℕ → List Event → Type 0
+IsTellingAgain n to log = (answer : Result Answer StepRefusal) × (log ≡ took (Recalling n to) answer ∷ [])
+
+-- the station was asked to search this number at this moment
+abbrev pub IsSearching : ℕ → ℕ → List Event → Type 0
+IsSearching n now log = (answer : Result Answer StepRefusal) × (log ≡ took (Seeking n now) answer ∷ [])
+
+-- what an errand is run by
+abbrev pub IsRunOf : Errand → ℕ → List Event → Type 0
+IsRunOf (errands.Send to bytes) now log = IsHailing to bytes.items log
+IsRunOf (errands.Tell number to) now log = IsTellingAgain number to log
+IsRunOf (errands.Seek number) now log = IsSearching number now log

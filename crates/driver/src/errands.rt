@@ -1,0 +1,128 @@
+//! The errands by which a station catches up, or others do: recalls are sent, votes told again, and numbers searched.
+
+ghost use Rattle.std.specs.Prelude.{◌≡◌, OnOk, IfErr, IsOk};
+ghost use Rattle.recalls.specs.Recalls.{Recall};
+ghost use Rattle.recalls.specs.Spelling.{spelling};
+ghost use Rattle.catch_up.specs.Errands.{IsGoodErrand};
+ghost use Rattle.driver.specs.Driving.{DroveUpTo};
+ghost use Rattle.driver.specs.Todos.{IsHailing, IsRunOf, IsSearching, IsTellingAgain};
+
+use crate::desk::{Declined, Desk};
+use crate::driver::Driver;
+use crate::log::Log;
+use crate::sink::Step;
+use ballots::{Member, Number};
+use catch_up::Errand;
+use command_ends::Fault;
+use exchange::{pass_over, send_bytes};
+use saved_rows::Rows;
+use std::io::Write;
+use wire::Wire;
+
+/// A vote that is told again: of which number, and to whom.
+#[derive(Clone, Copy)]
+struct Again {
+    number: Number,
+    to: Member,
+}
+
+impl<'a, R: Rows, N: Wire, S: Desk> Driver<'a, R, N, S> {
+    /// Sends bytes that spell a recall to the member that it is to.
+    fn hail<E: Write>(
+        &mut self,
+        to: Member,
+        bytes: &[u8],
+        log: &mut Log<'_, E>,
+    ) -> Result<(), Fault<'static>>
+        requires spelled { (r : Recall) × (bytes.now ≡ spelling r) × (r.to ≡ to) }
+        ensures station { self.new.station.ghost_name ≡ self.old.station.ghost_name }
+        ensures wire { self.new.wire.ghost_name ≡ self.old.wire.ghost_name }
+        ensures was_kept { R.kept self.new.station.now.rows → R.kept self.old.station.now.rows }
+        ensures drove { DroveUpTo (IsHailing to bytes.now) result R.Rows N.passed S.Sink self.old self.new }
+    {
+        send_bytes(to, bytes, self.wire, log.err);
+        Ok(())
+    }
+
+    /// The station tells a vote again, at a moment in milliseconds.
+    fn tell_again<E: Write>(
+        &mut self,
+        again: Again,
+        now: u64,
+        log: &mut Log<'_, E>,
+    ) -> Result<(), Fault<'static>>
+        ensures station { self.new.station.ghost_name ≡ self.old.station.ghost_name }
+        ensures wire { self.new.wire.ghost_name ≡ self.old.wire.ghost_name }
+        ensures was_kept { R.kept self.new.station.now.rows → R.kept self.old.station.now.rows }
+        ensures drove { DroveUpTo (IsTellingAgain again.number again.to) result R.Rows N.passed S.Sink self.old self.new }
+    {
+        match self.station.recall(again.number.get(), again.to.get()) {
+            Ok(answer) => {
+                let step = Step {
+                    answer,
+                    moment: now,
+                };
+                self.hand_on(&step, log)
+            }
+            Err(refusal) => pass_over(refusal),
+        }
+    }
+
+    /// The station searches a number, at a moment in milliseconds. That it does not take the search is told to the desk.
+    fn search<E: Write>(
+        &mut self,
+        number: Number,
+        now: u64,
+        log: &mut Log<'_, E>,
+    ) -> Result<(), Fault<'static>>
+        ensures station { self.new.station.ghost_name ≡ self.old.station.ghost_name }
+        ensures wire { self.new.wire.ghost_name ≡ self.old.wire.ghost_name }
+        ensures was_kept { R.kept self.new.station.now.rows → R.kept self.old.station.now.rows }
+        ensures drove { DroveUpTo (IsSearching number now) result R.Rows N.passed S.Sink self.old self.new }
+    {
+        match self.station.seek(number.get(), now) {
+            Ok(answer) => {
+                let step = Step {
+                    answer,
+                    moment: now,
+                };
+                self.hand_on(&step, log)
+            }
+            Err(refusal) => {
+                let declined = Declined {
+                    number,
+                    refusal,
+                    moment: now,
+                };
+                self.sink.decline(declined, log);
+                pass_over(refusal)
+            }
+        }
+    }
+
+    /// Runs an errand, at a moment in milliseconds.
+    pub(crate) fn run_errand<E: Write>(
+        &mut self,
+        errand: &Errand,
+        now: u64,
+        log: &mut Log<'_, E>,
+    ) -> Result<(), Fault<'static>>
+        requires good { IsGoodErrand errand.now }
+        ensures station { self.new.station.ghost_name ≡ self.old.station.ghost_name }
+        ensures wire { self.new.wire.ghost_name ≡ self.old.wire.ghost_name }
+        ensures was_kept { R.kept self.new.station.now.rows → R.kept self.old.station.now.rows }
+        ensures drove { DroveUpTo (IsRunOf errand.now now) result R.Rows N.passed S.Sink self.old self.new }
+    {
+        match errand {
+            Errand::Send { to, bytes } => self.hail(*to, bytes.as_slice(), log),
+            Errand::Tell { number, to } => {
+                let again = Again {
+                    number: *number,
+                    to: *to,
+                };
+                self.tell_again(again, now, log)
+            }
+            Errand::Seek { number } => self.search(*number, now, log),
+        }
+    }
+}

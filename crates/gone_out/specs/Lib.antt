@@ -1,0 +1,5 @@
+pub mod Origins
+pub mod Files
+pub mod Numbers
+pub mod Ranges
+pub mod Laws

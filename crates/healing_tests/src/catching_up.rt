@@ -1,0 +1,339 @@
+//! What a plant does to catch up, in stories whose moments were worked out by hand.
+
+use ballots::{Ballot, Member, Number};
+use catch_up::{CatchUp, Errand, Unheard};
+use gone_out::{Known, Numbers, Origin};
+use node_core::Note;
+use recalls::{Recall, RecallFault};
+use std::alloc::Global;
+
+/// The circuit that the plant belongs to.
+const CIRCUIT: u16 = 7;
+
+/// The plant's member.
+const OWN: u8 = 2;
+
+/// What happens, or what has to come next. Moments are in milliseconds.
+#[derive(Clone, Copy)]
+enum Step {
+    /// The station promised a ballot of this number, at a moment.
+    Saved(u32, u64),
+    /// A ballot of this number for a file among the offers was begun, at a moment.
+    Opened(u32, u64),
+    /// A vote of this number came, at a moment.
+    Voted(u32, u64),
+    /// This number goes out.
+    Out(u32),
+    /// A member asks for the numbers from the first to the last.
+    Ask(u8, u32, u32),
+    /// A member was told so many bytes, at a moment.
+    Told(u8, usize, u64),
+    /// At this moment this member is asked for the numbers from the first to the last, by the recall of this number of the plant's own.
+    Send(u64, u8, u32, u32, u32),
+    /// At this moment this number is told to this member.
+    Tell(u64, u32, u8),
+    /// At this moment this number is sought.
+    Seek(u64, u32),
+    /// At this moment nothing comes next.
+    Nothing(u64),
+    /// So many numbers were dropped.
+    Dropped(u64),
+}
+
+// The two others are asked, then the plant tells itself; 300 ms later the others are asked once more. 2 s after the recall the number
+// is sought, once nothing came of it for 2 s.
+const ALONE: &[Step] = &[
+    Step::Saved(41, 1_000),
+    Step::Nothing(5_999),
+    Step::Send(6_000, 1, 1, 41, 41),
+    Step::Send(6_000, 3, 1, 41, 41),
+    Step::Tell(6_000, 41, 2),
+    Step::Nothing(6_299),
+    Step::Send(6_300, 1, 2, 41, 41),
+    Step::Send(6_300, 3, 2, 41, 41),
+    Step::Nothing(6_300),
+    Step::Voted(41, 7_000),
+    Step::Nothing(8_999),
+    Step::Seek(9_000, 41),
+    Step::Nothing(60_000),
+];
+
+// A ballot of an offer is open: nothing is lacked.
+const OPEN: &[Step] = &[Step::Opened(41, 1_000), Step::Nothing(60_000)];
+
+// The members that ask take turns, each with the numbers in its order, and those of its own come in between.
+const TURNS: &[Step] = &[
+    Step::Ask(1, 5, 7),
+    Step::Ask(3, 5, 5),
+    Step::Tell(0, 5, 1),
+    Step::Tell(0, 5, 3),
+    Step::Tell(0, 6, 1),
+    Step::Saved(9, 0),
+    Step::Ask(3, 8, 9),
+    Step::Send(5_000, 1, 1, 9, 9),
+    Step::Tell(5_000, 8, 3),
+    Step::Send(5_000, 3, 1, 9, 9),
+    Step::Tell(5_000, 7, 1),
+    Step::Tell(5_000, 9, 2),
+    Step::Tell(5_000, 9, 3),
+    Step::Nothing(5_000),
+];
+
+// A member that was told a million bytes waits until a second is over since the first of them.
+const LIMIT: &[Step] = &[
+    Step::Told(1, 999_999, 100),
+    Step::Ask(1, 1, 3),
+    Step::Tell(500, 1, 1),
+    Step::Told(1, 1, 600),
+    Step::Nothing(1_099),
+    Step::Ask(3, 1, 1),
+    Step::Tell(1_099, 1, 3),
+    Step::Tell(1_100, 2, 1),
+    Step::Told(1, 2_000_000, 1_100),
+    Step::Nothing(2_099),
+    Step::Tell(2_100, 3, 1),
+];
+
+// 64 wait of a member; what waits is not dropped when it is asked for again.
+const MANY: &[Step] = &[
+    Step::Ask(1, 1, 64),
+    Step::Dropped(0),
+    Step::Ask(1, 64, 66),
+    Step::Dropped(2),
+    Step::Ask(3, 64, 66),
+    Step::Dropped(2),
+    Step::Tell(0, 1, 1),
+    Step::Ask(1, 66, 67),
+    Step::Dropped(3),
+];
+
+// What goes out while it is recalled is asked for no longer.
+const OUT: &[Step] = &[
+    Step::Saved(3, 0),
+    Step::Saved(4, 0),
+    Step::Send(5_000, 1, 1, 3, 4),
+    Step::Out(3),
+    Step::Send(5_000, 3, 1, 4, 4),
+    Step::Tell(5_000, 4, 2),
+    Step::Nothing(5_000),
+];
+
+// The second batch has the plant's next number.
+const TWICE: &[Step] = &[
+    Step::Saved(3, 0),
+    Step::Send(5_000, 1, 1, 3, 3),
+    Step::Saved(4, 5_000),
+    Step::Send(10_000, 3, 1, 3, 3),
+    Step::Tell(10_000, 3, 2),
+    Step::Send(10_000, 1, 2, 4, 4),
+];
+
+// A plant alone asks nobody, and tells itself.
+const SINGLE: &[Step] = &[
+    Step::Saved(3, 0),
+    Step::Tell(5_000, 3, 1),
+    Step::Nothing(5_000),
+];
+
+// Where it is not known what went out, nothing is asked for, and others are answered.
+const UNKNOWN: &[Step] = &[
+    Step::Saved(3, 0),
+    Step::Nothing(60_000),
+    Step::Ask(1, 3, 3),
+    Step::Tell(60_000, 3, 1),
+];
+
+/// The plant: a member of a circuit of so many, the last where they are fewer.
+fn origin(count: u8) -> Option<Origin> {
+    Some(Origin {
+        circuit: CIRCUIT,
+        member: Member::new(OWN.min(count))?,
+        count,
+    })
+}
+
+/// Whether the numbers are those from the first to the last.
+fn are(numbers: &[u32], first: u32, last: u32) -> bool {
+    let mut next = first;
+    for number in numbers {
+        if *number != next {
+            return false;
+        }
+        next = next.wrapping_add(1);
+    }
+    next == last.wrapping_add(1)
+}
+
+/// Whether the bytes are the recall of these numbers to this member.
+fn is_recall(bytes: &[u8], step: (u8, u32, u32, u32)) -> bool {
+    let (to, asked, first, last) = step;
+    match &recalls::decode(bytes) {
+        Ok(recall) => {
+            recall.circuit() == CIRCUIT
+                && recall.from().get() == OWN
+                && recall.to().get() == to
+                && recall.asked() == asked
+                && are(recall.numbers(), first, last)
+        }
+        Err(_) => false,
+    }
+}
+
+/// Whether an errand is that of the step.
+fn is_errand(errand: &Errand, step: Step) -> bool {
+    match (errand, step) {
+        (Errand::Send { to, bytes }, Step::Send(_, member, asked, first, last)) => {
+            to.get() == member && is_recall(bytes.as_slice(), (member, asked, first, last))
+        }
+        (Errand::Tell { number, to }, Step::Tell(_, wanted, member)) => {
+            number.get() == wanted && to.get() == member
+        }
+        (Errand::Seek { number }, Step::Seek(_, wanted)) => number.get() == wanted,
+        _ => false,
+    }
+}
+
+/// Whether the step's errand comes next at a moment, or nothing.
+fn comes(plant: &mut CatchUp, step: Step, now: u64) -> Option<bool> {
+    plant.look();
+    let errand = plant.next(now, false).ok()?;
+    let stirred = plant.has_errand();
+    match &errand {
+        Some(errand) => Some(stirred && is_errand(errand, step)),
+        None => Some(!stirred && matches!(step, Step::Nothing(_))),
+    }
+}
+
+/// A member asks for numbers.
+fn ask(alloc: Global, plant: &mut CatchUp, from: u8, numbers: (u32, u32)) -> Option<bool> {
+    let (first, last) = numbers;
+    let mut wanted = Vec::new(alloc);
+    for number in first..last.saturating_add(1) {
+        wanted.push(number).ok()?;
+    }
+    let recall = Recall::new(
+        CIRCUIT,
+        Member::new(from)?,
+        Member::new(OWN)?,
+        0,
+        wanted.as_slice(),
+    )?;
+    Some(plant.hear(&Ok(recall)).is_ok())
+}
+
+/// Whether the step goes as it says.
+fn goes(alloc: Global, plant: &mut CatchUp, step: Step) -> Option<bool> {
+    let ballot = Ballot::new(1, Member::new(OWN)?)?;
+    match step {
+        Step::Saved(n, now) => {
+            let note = Note::Promised { ballot };
+            Some(plant.did(Number::new(n)?, &note, false, now).is_ok())
+        }
+        Step::Opened(n, now) => {
+            let note = Note::Began { ballot };
+            Some(plant.did(Number::new(n)?, &note, true, now).is_ok())
+        }
+        Step::Voted(n, now) => Some(plant.came(Number::new(n)?, true, now).is_ok()),
+        Step::Out(n) => {
+            plant.went_out(Number::new(n)?);
+            Some(plant.has_gone_out(Number::new(n)?))
+        }
+        Step::Ask(from, first, last) => ask(alloc, plant, from, (first, last)),
+        Step::Told(to, bytes, now) => {
+            plant.told(Member::new(to)?, bytes, now);
+            Some(true)
+        }
+        Step::Dropped(many) => Some(plant.dropped() == many),
+        Step::Send(now, ..) | Step::Tell(now, ..) | Step::Seek(now, _) | Step::Nothing(now) => {
+            comes(plant, step, now)
+        }
+    }
+}
+
+/// A plant of a circuit of so many members, at its start: no number has a row.
+fn plant_of(alloc: Global, count: u8, knows: bool) -> Option<CatchUp> {
+    let gone = if knows {
+        Some(Numbers::new(alloc).ok()?)
+    } else {
+        None
+    };
+    let known = Known::new(alloc).ok()?;
+    CatchUp::new(alloc, origin(count)?, &known, gone, 0).ok()
+}
+
+/// The place of the first step that does not go as it says, or how many there are.
+fn gone(alloc: Global, count: u8, knows: bool, steps: &[Step]) -> Option<usize> {
+    let mut plant = plant_of(alloc, count, knows)?;
+    for (place, step) in steps.iter().enumerate() {
+        if goes(alloc, &mut plant, *step) != Some(true) {
+            return Some(place);
+        }
+    }
+    Some(steps.len())
+}
+
+#[test]
+fn stories(rt: HostRuntime) {
+    for steps in &[ALONE, OPEN, TURNS, LIMIT, MANY, OUT, TWICE] {
+        assert!(rt; gone(rt.alloc(), 3, true, steps) == Some(steps.len()));
+    }
+    assert!(rt; gone(rt.alloc(), 1, true, SINGLE) == Some(SINGLE.len()));
+    assert!(rt; gone(rt.alloc(), 3, false, UNKNOWN) == Some(UNKNOWN.len()));
+}
+
+/// Of numbers that had a row at the start, whether just the one that did not go out is recalled: 5 went out, 6 did not.
+fn starts(alloc: Global) -> Option<bool> {
+    let mut known = Known::new(alloc).ok()?;
+    known.add(Number::new(5)?, true);
+    known.add(Number::new(6)?, true);
+    let mut out = Numbers::new(alloc).ok()?;
+    out.insert(Number::new(5)?);
+    let mut plant = CatchUp::new(alloc, origin(3)?, &known, Some(out), 0).ok()?;
+    let early = comes(&mut plant, Step::Nothing(4_999), 4_999)?;
+    let late = comes(&mut plant, Step::Send(5_000, 1, 1, 6, 6), 5_000)?;
+    Some(early && late && plant.has_gone_out(Number::new(5)?))
+}
+
+#[test]
+fn start(rt: HostRuntime) {
+    assert!(rt; starts(rt.alloc()) == Some(true));
+}
+
+/// What becomes of a recall to a plant of a circuit of three.
+fn heard(alloc: Global, circuit: u16, from: u8, to: u8) -> Option<Result<(), Unheard>> {
+    let mut plant = plant_of(alloc, 3, true)?;
+    let recall = Recall::new(circuit, Member::new(from)?, Member::new(to)?, 0, &[1])?;
+    Some(plant.hear(&Ok(recall)))
+}
+
+/// What becomes of bytes that are no recall.
+fn heard_bad(alloc: Global, fault: RecallFault) -> Option<Result<(), Unheard>> {
+    let mut plant = plant_of(alloc, 3, true)?;
+    Some(plant.hear(&Err(fault)))
+}
+
+/// Whether it was heard.
+fn is_heard(heard: Option<Result<(), Unheard>>) -> bool {
+    match heard {
+        Some(Ok(())) => true,
+        _ => false,
+    }
+}
+
+/// Whether it was passed over with this text.
+fn is_text(heard: Option<Result<(), Unheard>>, text: &str) -> bool {
+    match heard {
+        Some(Err(why)) => why.text() == text,
+        _ => false,
+    }
+}
+
+#[test]
+fn passed_over(rt: HostRuntime) {
+    let alloc = rt.alloc();
+    assert!(rt; is_heard(heard(alloc, CIRCUIT, 3, OWN)));
+    assert!(rt; is_text(heard(alloc, 8, 4, 1), "wrong-circuit"));
+    assert!(rt; is_text(heard(alloc, CIRCUIT, 4, 1), "not-for-me"));
+    assert!(rt; is_text(heard(alloc, CIRCUIT, 4, OWN), "stranger"));
+    assert!(rt; is_text(heard_bad(alloc, RecallFault::BadOrder), "bad-order"));
+}

@@ -1,0 +1,5 @@
+pub mod Numbers
+pub mod Written
+pub mod Again
+pub mod Found
+pub mod Steps

@@ -1,0 +1,5 @@
+pub mod Recalls
+pub mod Grammar
+pub mod Reading
+pub mod Spelling
+pub mod Laws
