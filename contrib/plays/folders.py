@@ -122,6 +122,22 @@ def releases_that_move(at):
     lies(at, 'offers/sent/12.tape')
 
 
+def a_release_that_was_not_written(at):
+    """What waited to be written as the plant was killed is asked for after the next start, though its offer is gone by then."""
+    at.plant('plant.toml', 'plant.db')
+    plant = up(at)
+    lies(at, 'releases/.released')
+    os.rename(at.path('releases'), at.path('elsewhere'))
+    lay(at, '12.tape', tape(at))
+    tells(at, '12 released')
+    plant.kill()
+    plant.wait()
+    os.remove(at.path('offers/12.tape'))
+    os.rename(at.path('elsewhere'), at.path('releases'))
+    up(at)
+    is_released(at, 12)
+
+
 def offers_replaced(at):
     """Another folder of offers in place of the first is worked with."""
     at.plant('plant.toml', 'plant.db')
@@ -447,7 +463,7 @@ def what_a_kill_left(at):
 
 
 PLAYS = [
-    releases_replaced_by_a_copy, releases_that_move, offers_replaced, two_plants_over_one_folder, closed_streams,
+    releases_replaced_by_a_copy, releases_that_move, a_release_that_was_not_written, offers_replaced, two_plants_over_one_folder, closed_streams,
     replaced_in_the_moment_of_the_move, misplaced, what_is_no_plain_file, standard_error_that_nobody_reads,
     stop_soon_after_a_start, a_stop_that_can_not_be_removed, a_folder_that_is_not_searched, names_that_would_forge_lines,
     more_than_999_of_one_name, long_names, a_limit_on_file_sizes, what_a_kill_left,
