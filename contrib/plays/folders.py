@@ -376,7 +376,7 @@ def a_folder_that_is_not_searched(at):
     os.chmod(at.path('offers'), 0o444)
     up(at, **how)
     tells(at, 'folders: cannot read offers: it is not allowed')
-    tells(at, 'folders: cannot read .released: it is not allowed; what is missing here is not asked for until the next start')
+    tells(at, 'folders: cannot read .released: it is not allowed; what is missing here is not asked for until it can be read')
     time.sleep(0.6)
     stage.wants(len(told(at)) == 2, f'{told(at)}')
     os.chmod(at.path('offers'), 0o777)

@@ -1,3 +1,5 @@
 pub mod Behind
 pub mod Told
+pub mod Each
 mod One
+mod Once

@@ -90,6 +90,6 @@ told_many flags rs None t = record { few = omega (arith, t.few); many = tt }
 told_many flags rs (Some n) t = record { few = omega (arith, t.few); many = omega (arith, t.many) }
 
 pub one_text : OneText
-one_text flags a b (rs, next, told, is) (ss, other, too, as_well) =
+one_text ending flags a b (rs, next, told, is) (ss, other, too, as_well) =
     let all = all_same flags 1 0 rs ss next other told.first too.first (told_many flags rs next told) (told_many flags ss other too) in
-    is ∙ ap (λ (ts : List Range). ranges_text ts ++ end_text next) all.ranges ∙ ap (λ (l : List ℕ). ranges_text ss ++ l) all.ends ∙ sym as_well
+    is ∙ ap (λ (ts : List Range). ranges_text ending ts ++ end_text next) all.ranges ∙ ap (λ (l : List ℕ). ranges_text ending ss ++ l) all.ends ∙ sym as_well

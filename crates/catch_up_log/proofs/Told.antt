@@ -1,6 +1,6 @@
 -- What was told of a set.
 use Rattle.std.proofs.Common.{◌≡◌, ◌⊎◌, inl, ℕ, zero, suc, Bool, false, List, Option, sym, ◌∙◌, arith, true≢false}
-use Rattle.std.specs.Prelude.{◌==◌}
+use Rattle.std.specs.Prelude.{◌==◌, codes}
 use Rattle.streams.specs.Fronts.{AppendsFront}
 use Rattle.gone_out.specs.Numbers.{how_many}
 use Rattle.plant_log.specs.Words.{no_memory}
@@ -11,7 +11,7 @@ use Rattle.catch_up_log.specs.Missing.{TellsSet}
 
 -- the line with a text that names its ranges was told
 pub set_told :
-    (flags : List Bool) (names : List ℕ) (old new : Option (List ℕ)) → NamesRanges flags names → WasTold (missing_text (how_many flags) names) old new
+    (flags : List Bool) (names : List ℕ) (old new : Option (List ℕ)) → NamesRanges (codes ".seek") flags names → WasTold (missing_text (how_many flags) names) old new
     → TellsSet flags old new ⊎ AppendsFront old new no_memory
 set_told flags names old new are told = inl (names, are, told)
 

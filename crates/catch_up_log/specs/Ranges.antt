@@ -4,19 +4,18 @@ use Rattle.protocol.specs.Limits.{last_number}
 use Rattle.gone_out.specs.declared.ranges.Range.{Range}
 use Rattle.gone_out.specs.Ranges.{FoundFrom}
 
--- a range as the searches that an editor may lay for it, as `41-60.seek`; of one number, as `97.seek`
-abbrev pub range_text : Range → List ℕ
-range_text r =
-    if r.first == r.last then decimal r.first ++ codes ".seek" else decimal r.first ++ (codes "-" ++ (decimal r.last ++ codes ".seek"))
+-- a range, as `41-60`; of one number, as `97`; and behind it this ending, as in `41-60.seek`
+abbrev pub range_text : List ℕ → Range → List ℕ
+range_text ending r = if r.first == r.last then decimal r.first ++ ending else decimal r.first ++ (codes "-" ++ (decimal r.last ++ ending))
 
 -- a range behind others
-abbrev pub next_text : Range → List ℕ
-next_text r = codes ", " ++ range_text r
+abbrev pub next_text : List ℕ → Range → List ℕ
+next_text ending r = codes ", " ++ range_text ending r
 
 -- ranges with a comma between two
-abbrev pub ranges_text : List Range → List ℕ
-ranges_text [] = []
-ranges_text (r ∷ rs) = range_text r ++ flat_map next_text rs
+abbrev pub ranges_text : List ℕ → List Range → List ℕ
+ranges_text ending [] = []
+ranges_text ending (r ∷ rs) = range_text ending r ++ flat_map (next_text ending) rs
 
 -- what stands behind them: nothing, or that there are more
 abbrev pub end_text : Option Range → List ℕ
@@ -38,10 +37,10 @@ pub record AreTold (flags : List Bool) (rs : List Range) (next : Option Range) :
   pub few : length rs ≤ 20
   pub many : IfSome next (λ r. length rs ≡ 20)
 
--- the text names the ranges of the set that are told
-abbrev pub NamesRanges : List Bool → List ℕ → Type 0
-NamesRanges flags text = (rs : List Range) × (next : Option Range) × AreTold flags rs next × (text ≡ ranges_text rs ++ end_text next)
+-- the text names the ranges of the set that are told, each with this ending
+abbrev pub NamesRanges : List ℕ → List Bool → List ℕ → Type 0
+NamesRanges ending flags text = (rs : List Range) × (next : Option Range) × AreTold flags rs next × (text ≡ ranges_text ending rs ++ end_text next)
 
--- no two texts name the ranges of a set
+-- no two texts with this ending name the ranges of a set
 abbrev pub OneText : Type 0
-OneText = (flags : List Bool) (a b : List ℕ) → NamesRanges flags a → NamesRanges flags b → a ≡ b
+OneText = (ending : List ℕ) (flags : List Bool) (a b : List ℕ) → NamesRanges ending flags a → NamesRanges ending flags b → a ≡ b

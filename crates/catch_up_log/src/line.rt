@@ -1,20 +1,57 @@
 //! The lines of the log.
 
 ghost use Rattle.std.specs.Prelude.{◌≡◌, Some};
-ghost use Rattle.catch_up_log.specs.Words.{line_text};
+ghost use Rattle.catch_up_log.specs.Words.{line_text, spoken_word};
 
+use crate::asking::Caught;
+use crate::done::Answered;
+use crate::unheards::Spoken;
 use folders::FolderFault;
 use std::fmt;
 
 /// A line of the log.
 #[derive(Clone, Copy)]
 pub(crate) enum Line<'a> {
-    /// So many recalls were passed over, the last for this cause.
-    Recall { cause: &'a str, count: u64 },
+    /// So many recalls or rolls were passed over, the last for this cause.
+    Unheard {
+        spoken: Spoken,
+        cause: &'a str,
+        count: u64,
+    },
     /// So many numbers may be missing, which are named by their ranges.
-    Missing { count: u32, names: &'a str },
+    Missing {
+        count: u32,
+        names: &'a str,
+    },
+    /// A number was found missing, and is asked for.
+    Missed(u32),
+    /// Numbers were, which are named by their ranges.
+    MissedRanges(&'a str),
+    /// Nothing is left to ask for.
+    CaughtUp(Caught),
+    /// So many members were asked, and so many told.
+    Few {
+        asked: u8,
+        told: u8,
+    },
+    /// All numbers of the file of this name are answered.
+    Answered {
+        name: &'a str,
+        counts: Answered,
+    },
     /// It can't be read what went out here.
     Unread(FolderFault),
+}
+
+impl fmt::Display for Spoken {
+    ghost output = { λ s. Some (spoken_word s) };
+
+    fn fmt<W: fmt::Write>(&self, f: &mut fmt::Formatter<W>) -> fmt::Result {
+        match *self {
+            Spoken::Recall => write!(f, "recall"),
+            Spoken::Roll => write!(f, "roll"),
+        }
+    }
 }
 
 impl<'a> fmt::Display for Line<'a> {
@@ -22,17 +59,31 @@ impl<'a> fmt::Display for Line<'a> {
 
     fn fmt<W: fmt::Write>(&self, f: &mut fmt::Formatter<W>) -> fmt::Result {
         match *self {
-            Line::Recall { cause, count } => write!(
-                f,
-                "recall: refused {cause}, {count} since the last"
-            ),
+            Line::Unheard {
+                spoken,
+                cause,
+                count,
+            } => write!(f, "{spoken}: refused {cause}, {count} since the last"),
             Line::Missing { count, names } => write!(
                 f,
                 "{count} may be missing from before: {names}"
             ),
+            Line::Missed(number) => write!(f, "{number} missed, asked for"),
+            Line::MissedRanges(names) => write!(f, "{names} missed, asked for"),
+            Line::CaughtUp(wave) => write!(
+                f,
+                "caught up: {} released, {} nothing",
+                wave.released, wave.nothing
+            ),
+            Line::Few { asked, told } => write!(f, "asked {asked}, told by {told}"),
+            Line::Answered { name, counts } => write!(
+                f,
+                "done {name}: {} tapes, {} void, {} nothing",
+                counts.tapes, counts.voids, counts.nothing
+            ),
             Line::Unread(fault) => write!(
                 f,
-                "folders: cannot read .released: {fault}; what is missing here is not asked for until the next start"
+                "folders: cannot read .released: {fault}; what is missing here is not asked for until it can be read"
             ),
         }
     }

@@ -17,7 +17,7 @@ pub fn tell_missing<E: Write>(alloc: Global, missing: &Numbers, err: &mut E)
     if missing.is_empty() {
         return;
     }
-    match text_of(alloc, missing) {
+    match text_of(alloc, missing, ".seek") {
         Ok(text) => {
             let (count, names) = (missing.len(), text.as_str());
             tell_line(alloc, &Line::Missing { count, names }, err);

@@ -11,20 +11,23 @@ use std::fmt;
 /// How many ranges are told at most.
 const MOST_RANGES: usize = 20;
 
-/// A range, as `41-60.seek`; of one number, as `97.seek`.
+/// A range, as `41-60`; of one number, as `97`. Behind it stands the ending, if there is one, as in `41-60.seek`.
 #[derive(Clone, Copy)]
-struct RangeText(Range);
+struct RangeText<'a> {
+    range: Range,
+    ending: &'a str,
+}
 
-impl fmt::Display for RangeText {
-    ghost output = { λ r. Some (range_text r.0) };
+impl<'a> fmt::Display for RangeText<'a> {
+    ghost output = { λ r. Some (range_text r.ending.now r.range) };
 
     fn fmt<W: fmt::Write>(&self, f: &mut fmt::Formatter<W>) -> fmt::Result {
-        let first = self.0.first.get();
-        let last = self.0.last.get();
+        let (first, last) = (self.range.first.get(), self.range.last.get());
+        let ending = self.ending;
         if first == last {
-            write!(f, "{first}.seek")
+            write!(f, "{first}{ending}")
         } else {
-            write!(f, "{first}-{last}.seek")
+            write!(f, "{first}-{last}{ending}")
         }
     }
 }
@@ -68,40 +71,48 @@ fn told_of(alloc: Global, numbers: &Numbers) -> Result<Told, AllocError>
 }
 
 /// Puts a range behind a text.
-fn push_range(text: &mut String, range: &Range) -> Result<(), AllocError>
-    ensures { OnOk result (string_bytes text.new ≡ string_bytes text.old ++ range_text range.now) }
+fn push_range(text: &mut String, range: &Range, ending: &str) -> Result<(), AllocError>
+    ensures { OnOk result (string_bytes text.new ≡ string_bytes text.old ++ range_text ending.now range.now) }
 {
-    write!(text, "{}", RangeText(*range))
+    let range = RangeText {
+        range: *range,
+        ending,
+    };
+    write!(text, "{range}")
 }
 
 /// Puts a range behind others.
-fn push_next(text: &mut String, range: &Range) -> Result<(), AllocError>
-    ensures { OnOk result (string_bytes text.new ≡ string_bytes text.old ++ next_text range.now) }
+fn push_next(text: &mut String, range: &Range, ending: &str) -> Result<(), AllocError>
+    ensures { OnOk result (string_bytes text.new ≡ string_bytes text.old ++ next_text ending.now range.now) }
 {
-    write!(text, ", {}", RangeText(*range))
+    let range = RangeText {
+        range: *range,
+        ending,
+    };
+    write!(text, ", {range}")
 }
 
-/// Ranges with a comma between two.
-fn ranges_text(alloc: Global, ranges: &[Range]) -> Result<String, AllocError>
-    ensures { IfOk result (λ t. string_bytes t ≡ ranges_text ranges.now) }
+/// Ranges with a comma between two, each with this ending.
+fn ranges_text(alloc: Global, ranges: &[Range], ending: &str) -> Result<String, AllocError>
+    ensures { IfOk result (λ t. string_bytes t ≡ ranges_text ending.now ranges.now) }
 {
     let mut text = String::new(alloc);
     let Some((first, rest)) = ranges.split_first() else {
         return Ok(text);
     };
-    push_range(&mut text, first)?;
+    push_range(&mut text, first, ending)?;
     for range in rest {
-        push_next(&mut text, range)?;
+        push_next(&mut text, range, ending)?;
     }
     Ok(text)
 }
 
-/// The first ranges of the set with a comma between two, 20 at most, and then `, ..` where there are more.
-pub(crate) fn text_of(alloc: Global, numbers: &Numbers) -> Result<String, AllocError>
-    ensures { IfOk result (λ t. NamesRanges numbers.now (string_bytes t)) }
+/// The first ranges of the set, each with this ending and a comma between two, 20 at most, and then `, ..` where there are more.
+pub(crate) fn text_of(alloc: Global, numbers: &Numbers, ending: &str) -> Result<String, AllocError>
+    ensures { IfOk result (λ t. NamesRanges ending.now numbers.now (string_bytes t)) }
 {
     let told = told_of(alloc, numbers)?;
-    let mut text = ranges_text(alloc, told.ranges.as_slice())?;
+    let mut text = ranges_text(alloc, told.ranges.as_slice(), ending)?;
     if told.next.is_some() {
         text.push_str(", ..")?;
     }

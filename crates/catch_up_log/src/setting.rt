@@ -23,7 +23,7 @@ pub fn tell_set_aside<E: Write>(alloc: Global, err: &mut E)
     );
 }
 
-/// Tells that it can't be read what went out here, so that nothing is asked for until the next start.
+/// Tells that it can't be read what went out here, so that nothing is asked for until it can be.
 pub fn tell_unread<E: Write>(alloc: Global, fault: FolderFault, err: &mut E)
     ensures { WasTold (unread_text fault) (E.contents err.old) (E.contents err.new) }
 {

@@ -2,4 +2,5 @@ pub mod Among
 pub mod Doings
 pub mod Ledgers
 pub mod NameEnds
+pub mod SpanNames
 pub mod Steps

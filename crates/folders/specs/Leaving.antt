@@ -11,6 +11,7 @@ abbrev pub folder_name : Place → List ℕ
 folder_name places.Sent = codes "sent"
 folder_name places.Lost = codes "lost"
 folder_name places.Refused = codes "refused"
+folder_name places.Done = codes "done"
 
 -- the first file of a name has it, the second has `.2` behind it, and so on
 abbrev pub copy_name : List ℕ → ℕ → List ℕ

@@ -8,6 +8,7 @@ pub mod LogNames
 pub mod Offers
 pub mod OwnNames
 pub mod ReleaseNames
+pub mod Spans
 pub mod Stamps
 pub mod Steps
 pub mod Written

@@ -4,7 +4,7 @@ use Rattle.protocol.specs.Entries.{Entry}
 use Rattle.protocol.specs.Limits.{last_number}
 use Rattle.tape_frames.specs.Entries.{owned_entry}
 use Rattle.folders.specs.declared.leaving.Place.{Place}
-use Rattle.folders.specs.declared.leaving.Place.TheVariants.{Sent, Lost, Refused}
+use Rattle.folders.specs.declared.leaving.Place.TheVariants.{Sent, Lost, Refused, Done}
 use Rattle.folders.specs.declared.names.Kind.{Kind}
 use Rattle.folders.specs.declared.names.Kind.TheVariants as kinds
 use Rattle.folders.specs.declared.wishes.Wish.{Wish}
@@ -55,3 +55,4 @@ abbrev pub IsPlaceOf : Wish → Entry → Place → Type 0
 IsPlaceOf wish entry Sent = IsMet wish entry
 IsPlaceOf wish entry Lost = ¬ IsMet wish entry
 IsPlaceOf wish entry Refused = ⊥
+IsPlaceOf wish entry Done = ⊥

@@ -15,10 +15,12 @@ pub enum Place {
     Lost,
     /// It is no offer.
     Refused,
+    /// It asked what stands under numbers, and has its answer: a text beside it says it.
+    Done,
 }
 
 /// All places.
-pub const PLACES: [Place; 3] = [Place::Sent, Place::Lost, Place::Refused];
+pub const PLACES: [Place; 4] = [Place::Sent, Place::Lost, Place::Refused, Place::Done];
 
 /// A file that is to leave the offers: which, and where it goes.
 #[derive(Clone, Copy)]
@@ -49,6 +51,7 @@ impl Place {
             Place::Sent => "sent",
             Place::Lost => "lost",
             Place::Refused => "refused",
+            Place::Done => "done",
         }
     }
 }

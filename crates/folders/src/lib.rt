@@ -36,7 +36,9 @@ pub use log_names::shown_name;
 pub use memory::MemoryFolders;
 pub use moving::{Mover, move_behind};
 pub use named_file::NamedFile;
-pub use names::{Kind, Request, STOP, file_name, is_left, name_of, named};
+pub use names::{
+    Kind, Request, STOP, Span, file_name, is_left, name_of, named, span_name, spanned,
+};
 pub use none::NoFolders;
 pub use own_names::{PASSAGE, is_own_name, own_name};
 pub use pauses::{LAST_PAUSE, TELL, has_passed};

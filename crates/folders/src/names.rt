@@ -3,6 +3,8 @@
 ghost use Rattle.std.specs.Prelude.{◌≡◌, ◌≤◌, ◌++◌, ◌↔◌, ℕ, IfOk, IfSome, IfNone, MatchOption, IsTrue, Some, decimal, string_bytes};
 ghost use Rattle.protocol.specs.Limits.{last_number};
 ghost use Rattle.folders.specs.Offers.{kind_word, IsNameOf, NamesNoneOf, NamesNone, IsStop, BeginsWithDot, EndsWithPart, IsLeft};
+ghost use Rattle.folders.specs.Spans.{IsSpan, IsSpanName, NamesNoSpan, end_text, span_name};
+ghost use Rattle.folders.specs.declared.names.Span.{Span as SpanValue};
 
 use ballots::Number;
 use std::alloc::{AllocError, Global};
@@ -123,4 +125,81 @@ pub fn named(alloc: Global, name: &str) -> Result<Option<Request>, AllocError>
         }
     }
     Ok(None)
+}
+
+/// A range of numbers that a search is asked for.
+#[derive(Clone, Copy)]
+pub struct Span {
+    /// Its first number.
+    pub first: Number,
+    /// Its last number; `None` where it goes to the last that the circuit has.
+    pub last: Option<Number>,
+}
+
+/// The name of the file that asks for a range, as `41-80.seek`, or with no last number `41-.seek`; where there is no memory for it,
+/// `AllocError`.
+pub fn span_name(alloc: Global, span: &Span) -> Result<String, AllocError>
+    ensures { IfOk result (λ t. string_bytes t ≡ span_name span.now) }
+{
+    let first = span.first.get();
+    match span.last {
+        Some(last) => format!(in alloc; "{first}-{}.seek", last.get()),
+        None => format!(in alloc; "{first}-.seek"),
+    }
+}
+
+/// The number that these digits are.
+fn number_of(digits: &str) -> Option<Number>
+    ensures { (n : ℕ) → 1 ≤ n → n ≤ last_number → digits.now ≡ decimal n → result ≡ Some n }
+{
+    Number::new(digits.parse::<u32>().ok()?)
+}
+
+/// The range between its ends, where it is one.
+fn span_between(front: &str, back: &str) -> Option<Span>
+    ensures is_span { IfSome result IsSpan }
+    ensures all { (s : SpanValue) → IsSpan s → front.now ≡ decimal s.first → back.now ≡ end_text s.last → result ≡ Some s }
+{
+    let first = number_of(front)?;
+    if back.is_empty() {
+        return Some(Span { first, last: None });
+    }
+    let last = number_of(back)?;
+    if first.get() <= last.get() {
+        Some(Span {
+            first,
+            last: Some(last),
+        })
+    } else {
+        None
+    }
+}
+
+/// The range that a name begins with, where the rest is `.seek`.
+fn span_before(name: &str) -> Option<Span>
+    ensures is_span { IfSome result IsSpan }
+    ensures all { (s : SpanValue) → IsSpanName name.now s → result ≡ Some s }
+{
+    let ends = name.strip_suffix(".seek")?;
+    let (front, back) = ends.split_once('-')?;
+    span_between(front, back)
+}
+
+/// The range that the name of a file among the offers asks for; `None` where it asks for none. It has to be the very name of the range's
+/// file, `41-80.seek` and not `041-80.seek` or `80-41.seek`; where there is no memory to make that one, `AllocError`.
+pub fn spanned(alloc: Global, name: &str) -> Result<Option<Span>, AllocError>
+    ensures sound { IfOk result (λ spanned. IfSome spanned (IsSpanName name.now)) }
+    ensures else_none { IfOk result (λ spanned. IfNone spanned (NamesNoSpan name.now)) }
+    // What asks for a range is no request for one number.
+    ensures no_request { IfOk result (λ spanned. IfSome spanned (λ _. NamesNone name.now)) }
+{
+    let Some(span) = span_before(name) else {
+        return Ok(None);
+    };
+    let own = span_name(alloc, &span)?;
+    if name == own.as_str() {
+        Ok(Some(span))
+    } else {
+        Ok(None)
+    }
 }

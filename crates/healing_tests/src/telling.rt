@@ -1,7 +1,11 @@
-//! What is told of the numbers that are missing and of the file of what went out: lines worked out by hand.
+//! What is told of the numbers that are missing, of what came of asking for them, and of the file of what went out: lines worked out by
+//! hand.
 
 use ballots::Number;
-use catch_up_log::{Unheards, Unnoted, tell_missing, tell_set_aside, tell_unread};
+use catch_up_log::{
+    Answered, Caught, Missed, Spoken, Unheards, Unnoted, tell_answered, tell_caught_up, tell_few,
+    tell_missing, tell_set_aside, tell_unread,
+};
 use folders::FolderFault;
 use gone_out::Numbers;
 use std::alloc::Global;
@@ -69,11 +73,11 @@ fn missing(rt: HostRuntime) {
 const UNHEARD: &str = "\
 recall: refused bad-count, 1 since the last\nrecall: refused bad-order, 3 since the last\nrecall: refused bad-count, 1 since the last\n";
 
-/// Whether these lines are told of recalls that are passed over, each at its moment.
-fn unheard(alloc: Global, recalls: &[(&str, u64)], lines: &str) -> bool {
-    let mut unheards = Unheards::new();
+/// Whether these lines are told of recalls, or of rolls, that are passed over, each at its moment.
+fn unheard(alloc: Global, spoken: Spoken, passed: &[(&str, u64)], lines: &str) -> bool {
+    let mut unheards = Unheards::new(spoken);
     let mut err = Vec::new(alloc);
-    for (cause, now) in recalls {
+    for (cause, now) in passed {
         unheards.tell(alloc, cause, *now, &mut err);
     }
     str::from_utf8(err.as_slice()) == Ok(lines)
@@ -88,7 +92,93 @@ fn recalls_passed_over(rt: HostRuntime) {
         ("bad-order", 1_500),
         ("bad-count", 9_000),
     ];
-    assert!(rt; unheard(rt.alloc(), recalls.as_slice(), UNHEARD));
+    assert!(rt; unheard(rt.alloc(), Spoken::Recall, recalls.as_slice(), UNHEARD));
+}
+
+#[test]
+fn rolls_passed_over(rt: HostRuntime) {
+    let lines =
+        "roll: refused bad-page, 1 since the last\nroll: refused bad-bits, 2 since the last\n";
+    let rolls = [("bad-page", 7), ("short", 8), ("bad-bits", 1_007)];
+    assert!(rt; unheard(rt.alloc(), Spoken::Roll, rolls.as_slice(), lines));
+}
+
+fn miss(missed: &mut Missed, alloc: Global, first: u32, last: u32) -> Option<()> {
+    for n in first..last.checked_add(1)? {
+        missed.add(alloc, Number::new(n)?);
+    }
+    Some(())
+}
+
+/// Whether these lines are told of numbers that are missed in turn: all from one to another, and then the moment at which it is told.
+fn missed(alloc: Global, turns: &[(u32, u32, u64)], lines: &str) -> Option<bool> {
+    let mut missed = Missed::new();
+    let mut err = Vec::new(alloc);
+    for (first, last, now) in turns {
+        miss(&mut missed, alloc, *first, *last)?;
+        missed.tell(alloc, *now, &mut err);
+    }
+    Some(str::from_utf8(err.as_slice()) == Ok(lines))
+}
+
+const EIGHT: &str = "\
+57 missed, asked for\n999999 missed, asked for\n1 missed, asked for\n2 missed, asked for\n3 missed, asked for\n4 missed, asked for\n5 missed, asked for\n6 missed, asked for\n7 missed, asked for\n8 missed, asked for\n";
+
+/// What comes within a second waits, and then has a line for each, rising. Where none waits nothing is told.
+#[test]
+fn eight_missed(rt: HostRuntime) {
+    let turns = [
+        (57, 57, 10),
+        (999_999, 999_999, 1_010),
+        (4, 8, 2_009),
+        (1, 3, 2_010),
+        (1, 0, 9_000),
+    ];
+    assert!(rt; missed(rt.alloc(), turns.as_slice(), EIGHT) == Some(true));
+}
+
+/// Nine have one line, and a number that is missed again is told again.
+#[test]
+fn nine_missed(rt: HostRuntime) {
+    let lines = "97 missed, asked for\n41-48, 97 missed, asked for\n";
+    let turns = [(97, 97, 0), (97, 97, 1), (41, 48, 1_000)];
+    assert!(rt; missed(rt.alloc(), turns.as_slice(), lines) == Some(true));
+}
+
+const CAME: &str = "\
+caught up: 30 released, 2 nothing\ncaught up: 30 released, 0 nothing\nasked 3, told by 1\ndone 41-80.seek: 30 tapes, 2 void, 8 nothing\n";
+
+fn came(alloc: Global) -> bool {
+    let mut err = Vec::new(alloc);
+    tell_caught_up(
+        alloc,
+        Caught {
+            released: 30,
+            nothing: 2,
+        },
+        &mut err,
+    );
+    tell_caught_up(
+        alloc,
+        Caught {
+            released: 30,
+            nothing: 0,
+        },
+        &mut err,
+    );
+    tell_few(alloc, 3, 1, &mut err);
+    let counts = Answered {
+        tapes: 30,
+        voids: 2,
+        nothing: 8,
+    };
+    tell_answered(alloc, "41-80.seek", counts, &mut err);
+    str::from_utf8(err.as_slice()) == Ok(CAME)
+}
+
+#[test]
+fn what_came_of_it(rt: HostRuntime) {
+    assert!(rt; came(rt.alloc()));
 }
 
 const UNNOTED: &str = "\
@@ -110,7 +200,7 @@ fn unnoted(alloc: Global) -> bool {
 }
 
 const AT_A_START: &str = "\
-folders: releases has .released of another station, which was set aside\nfolders: cannot read .released: it is not allowed; what is missing here is not asked for until the next start\n";
+folders: releases has .released of another station, which was set aside\nfolders: cannot read .released: it is not allowed; what is missing here is not asked for until it can be read\n";
 
 fn at_a_start(alloc: Global) -> bool {
     let mut err = Vec::new(alloc);

@@ -1,5 +1,5 @@
 -- The files that are under way, beside the numbers that are.
-use Rattle.std.proofs.Common.{◌≡◌, ◌≢◌, ℕ, suc, ◌+◌, ◌≤◌, ◌==◌, ◌⊎◌, inl, inr, ◌++◌, List, [], ◌∷◌, map, true, false, Bool, ◌||◌, Option, Some, None, Result, Ok, Err, length, cond, nat_lt, subst, refl, sym, ap, ◌∙◌, arith}
+use Rattle.std.proofs.Common.{◌≡◌, ◌≢◌, ℕ, suc, ◌+◌, ◌≤◌, ◌==◌, ◌⊎◌, inl, inr, ◌++◌, List, [], ◌∷◌, map, true, false, Bool, ◌||◌, Option, Some, None, Result, Ok, Err, length, cond, nat_le, nat_lt, subst, refl, sym, ap, ◌∙◌, arith}
 use Rattle.std.specs.List.{position_or_len, list_any}
 use Rattle.std.specs.Set.{remove_key}
 use Rattle.std.proofs.lemmas.Bool.Decides.{nat_tests}
@@ -11,19 +11,21 @@ use Rattle.folders.specs.declared.names.Kind.{Kind}
 use Rattle.folders.specs.declared.names.Kind.TheVariants.{Tape, Text, Withdraw, Seek}
 use Rattle.folders.specs.declared.names.Request.{Request}
 use Rattle.folders.specs.declared.wishes.Wish.{Wish}
+use Rattle.folders.specs.declared.wishes.Wish.TheVariants.{Offered, Sought}
 use Rattle.offers.specs.declared.offer.Found.{Found}
 use Rattle.offers.specs.declared.offer.Offer.{Offer}
 use Rattle.offers.specs.declared.stage.Landing.{Landing}
-use Rattle.offers.specs.declared.stage.Landing.TheVariants.{Ended, Busy, Barred, Released}
+use Rattle.offers.specs.declared.stage.Landing.TheVariants.{Ended, Nothing, Busy, Barred, Released}
 use Rattle.offers.specs.declared.stage.News.{News}
 use Rattle.offers.specs.declared.stage.News.TheVariants as news
 use Rattle.offers.specs.declared.stage.Reason.{Reason}
 use Rattle.offers.specs.declared.stage.Stage.{Stage}
-use Rattle.offers.specs.declared.stage.Stage.TheVariants.{Watched, Waiting, UnderWay, Refused, Gone}
+use Rattle.offers.specs.declared.stage.Tries.{Tries}
+use Rattle.offers.specs.declared.stage.Stage.TheVariants.{Watched, Waiting, UnderWay, Refused, Answered, Gone}
 use Rattle.offers.specs.Looks.{is_same_stamp, stage_after, seen, looked}
 use Rattle.offers.specs.Order.{rank, kind_rank, file_at, RisesFrom, rising_from}
 use Rattle.offers.specs.Rules.{is_under_way}
-use Rattle.offers.specs.Stages.{after, anew, landed, changed, all_changed, tape_of, text_of, withdrawal_of, search_of, news_of}
+use Rattle.offers.specs.Stages.{after, anew, found_nothing, landed, changed, all_changed, tape_of, text_of, withdrawal_of, search_of, news_of}
 use Rattle.offers.specs.UnderWay.{flies, file_flies, is_asked, asked_count, AreHeld, AreAlone, begins}
 use Rattle.offers.proofs.Editing.{two_ways}
 use Rattle.offers.proofs.Merging.{absent}
@@ -156,46 +158,66 @@ none_flying k g (o ∷ os) ends = elim (two_ways (rank o.request == k)) [
   | inr behind ↦ rw (behind, behind) (none_flying k g os ends)
 ]
 
+found_none : (wish : Wish) (tries : Tries) (now : ℕ) → flies (found_nothing wish tries now) ≡ false
+found_none (Offered entry) tries now = refl
+found_none Sought tries now = elim (two_ways (nat_le 9 tries.nothings)) [
+  | inl often ↦ rw often refl
+  | inr seldom ↦ rw seldom refl
+]
+
 -- once it is known what became of a number none of its files is under way
 pub has_landed : (landing : Landing) (now : ℕ) (s : Stage) → flies (landed landing now s) ≡ false
 has_landed Ended now (Watched at replaced) = refl
-has_landed Ended now (Waiting own at pause) = refl
-has_landed Ended now (UnderWay own pause) = refl
+has_landed Ended now (Waiting own at tries) = refl
+has_landed Ended now (UnderWay own tries) = refl
 has_landed Ended now (Refused reason at pause) = refl
+has_landed Ended now (Answered at pause) = refl
 has_landed Ended now Gone = refl
+has_landed Nothing now (Watched at replaced) = refl
+has_landed Nothing now (Waiting own at tries) = refl
+has_landed Nothing now (UnderWay own tries) = found_none own tries now
+has_landed Nothing now (Refused reason at pause) = refl
+has_landed Nothing now (Answered at pause) = refl
+has_landed Nothing now Gone = refl
 has_landed Busy now (Watched at replaced) = refl
-has_landed Busy now (Waiting own at pause) = refl
-has_landed Busy now (UnderWay own pause) = refl
+has_landed Busy now (Waiting own at tries) = refl
+has_landed Busy now (UnderWay own tries) = refl
 has_landed Busy now (Refused reason at pause) = refl
+has_landed Busy now (Answered at pause) = refl
 has_landed Busy now Gone = refl
 has_landed (Barred why) now (Watched at replaced) = refl
-has_landed (Barred why) now (Waiting own at pause) = refl
-has_landed (Barred why) now (UnderWay own pause) = refl
+has_landed (Barred why) now (Waiting own at tries) = refl
+has_landed (Barred why) now (UnderWay own tries) = refl
 has_landed (Barred why) now (Refused reason at pause) = refl
+has_landed (Barred why) now (Answered at pause) = refl
 has_landed (Barred why) now Gone = refl
 has_landed Released now (Watched at replaced) = refl
-has_landed Released now (Waiting own at pause) = refl
-has_landed Released now (UnderWay own pause) = refl
+has_landed Released now (Waiting own at tries) = refl
+has_landed Released now (UnderWay own tries) = refl
 has_landed Released now (Refused reason at pause) = refl
+has_landed Released now (Answered at pause) = refl
 has_landed Released now Gone = refl
 
 -- such news puts none under way
 pub never_begins : (n : News) (now : ℕ) (s : Stage) → begins n ≡ false → flies (after n now s) ≡ true → flies s ≡ true
 never_begins (news.Read wish) now (Watched at replaced) b h = cc
-never_begins (news.Read wish) now (Waiting own at pause) b h = cc
-never_begins (news.Read wish) now (UnderWay own pause) b h = refl
+never_begins (news.Read wish) now (Waiting own at tries) b h = cc
+never_begins (news.Read wish) now (UnderWay own tries) b h = refl
 never_begins (news.Read wish) now (Refused reason at pause) b h = cc
+never_begins (news.Read wish) now (Answered at pause) b h = cc
 never_begins (news.Read wish) now Gone b h = cc
 never_begins (news.NoOffer why) now (Watched at replaced) b h = cc
-never_begins (news.NoOffer why) now (Waiting own at pause) b h = cc
-never_begins (news.NoOffer why) now (UnderWay own pause) b h = refl
+never_begins (news.NoOffer why) now (Waiting own at tries) b h = cc
+never_begins (news.NoOffer why) now (UnderWay own tries) b h = refl
 never_begins (news.NoOffer why) now (Refused reason at pause) b h = cc
+never_begins (news.NoOffer why) now (Answered at pause) b h = cc
 never_begins (news.NoOffer why) now Gone b h = cc
 never_begins news.Asked now s b h = cc
 never_begins news.PutOff now (Watched at replaced) b h = cc
-never_begins news.PutOff now (Waiting own at pause) b h = cc
-never_begins news.PutOff now (UnderWay own pause) b h = refl
+never_begins news.PutOff now (Waiting own at tries) b h = cc
+never_begins news.PutOff now (UnderWay own tries) b h = refl
 never_begins news.PutOff now (Refused reason at pause) b h = cc
+never_begins news.PutOff now (Answered at pause) b h = cc
 never_begins news.PutOff now Gone b h = cc
 never_begins news.Moved now s b h = cc
 never_begins (news.Landed landing) now s b h = let none = has_landed landing now s in cc
@@ -315,9 +337,10 @@ alone_asked w q os held alone none = λ r s h k e. elim (asked_or q r os h) [
 
 none_anew : (now : ℕ) (s : Stage) → flies (anew now s) ≡ true → flies s ≡ true
 none_anew now (Watched at replaced) h = cc
-none_anew now (Waiting own at pause) h = cc
-none_anew now (UnderWay own pause) h = refl
+none_anew now (Waiting own at tries) h = cc
+none_anew now (UnderWay own tries) h = refl
 none_anew now (Refused reason at pause) h = cc
+none_anew now (Answered at pause) h = cc
 none_anew now Gone h = cc
 
 -- a file that is under way after a look was so before it

@@ -1,5 +1,6 @@
 -- What the rules say of a file is said of the book.
-use Rattle.std.proofs.Common.{◌≡◌, ℕ, ◌<◌, length, get_or, Option, Some, None, IfSome, ◌+◌, Bool, false, refl, sym, arith}
+use Rattle.std.proofs.Common.{◌≡◌, ℕ, ◌<◌, length, get_or, Option, Some, None, IfSome, ◌+◌, Bool, false, refl, sym, ◌∙◌, arith}
+use Rattle.std.proofs.lemmas.List.{get_or_default}
 use Rattle.offers.specs.declared.deed.Deed.{Deed}
 use Rattle.offers.specs.declared.deed.Deed.TheVariants.{Move, Ask, Read, Refuse}
 use Rattle.offers.specs.declared.offer.Offer.{Offer}
@@ -12,7 +13,7 @@ use Rattle.offers.specs.Turns.{IsMove, IsOtherDeed}
 use Rattle.offers.proofs.Editing.{file_is}
 
 pub leaves : (b : Standing) (o : Offer) (d : Deed) → IsLeaving (entry_of b o.request.number) b.still b.looked o d → Suits b d o
-leaves b o (Move r found to) h = record { file = h.0; as_found = h.1; whole = h.2; ready = h.3; leaves = rw (sym h.0) h.4 }
+leaves b o (Move r found to) h = record { file = h.0; as_found = h.1; whole = h.2; leaves = rw (sym h.0) h.3 }
 leaves b o (Ask r) h = absurd h
 leaves b o (Read r found replaced) h = absurd h
 leaves b o (Refuse r found why) h = absurd h
@@ -34,6 +35,13 @@ may_leave b i o (Some d) within is h = may_do b i o d within is (leaves b o d h)
 pub may_other : (b : Standing) (i : ℕ) (o : Offer) (r : Option Deed) → i < length b.files → o ≡ get_or b.files i o → IfSome r (IsOther (is_under_way o.request.number b.window) b.still b.looked o) → IfSome r (MayDo b)
 may_other b i o None within is h = tt
 may_other b i o (Some d) within is h = may_do b i o d within is (others b o d h)
+
+-- where the file at an index does not leave, none does at it
+pub no_move : (b : Standing) (i : ℕ) (o : Offer) → i < length b.files → o ≡ get_or b.files i o → is_leaving_of b o ≡ false → NoMoves b i (i + 1)
+no_move b i o within is none = λ j d low high.
+    let same : j ≡ i = omega (arith, low, high) in
+    let there : get_or b.files i d ≡ o = sym (is ∙ get_or_default b.files i o d within) in
+    rw (same, there) none
 
 -- where the file at an index does not leave, the file of its place does not
 go_left : (b : Standing) (r : Request) (i : ℕ) → Rises b.files → IsPlaceOf b.files (rank r) i → NoMoves b i (i + 1) → (x : Option Offer) → x ≡ file_at b.files (rank r) → IfSome x (λ o. is_leaving_of b o ≡ false)

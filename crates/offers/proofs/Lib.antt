@@ -9,6 +9,7 @@ pub mod Flying
 pub mod Looking
 pub mod Marking
 pub mod Merging
+pub mod Nothings
 pub mod Places
 pub mod Soonest
 pub mod Turning

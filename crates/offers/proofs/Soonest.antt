@@ -5,19 +5,20 @@ use Rattle.tape_frames.specs.declared.entry.Entry.{Entry}
 use Rattle.offers.specs.declared.deed.Deed.TheVariants.{Ask}
 use Rattle.offers.specs.declared.offer.Offer.{Offer}
 use Rattle.offers.specs.declared.stage.Stage.{Stage}
-use Rattle.offers.specs.declared.stage.Stage.TheVariants.{Watched, Waiting, UnderWay, Refused, Gone}
+use Rattle.offers.specs.declared.stage.Stage.TheVariants.{Watched, Waiting, UnderWay, Refused, Answered, Gone}
 use Rattle.offers.specs.Asks.{Turn, turn_at, IsFirstAsk}
 use Rattle.offers.specs.Rules.{Standing, entry_of, is_under_way, IsWhole, IsReady, MayDo, is_whole, moment_of, ask_moment_of}
 
 -- a file that has a moment waits, and that moment has come
 ready_from : (looked moment : ℕ) (s : Stage) → moment_of looked s ≡ Some moment → IsReady looked s
 ready_from looked moment (Watched from replaced) e = cc
-ready_from looked moment (Waiting wish from pause) e = elim (nat_le from looked) as (λ t. t ≡ nat_le from looked → cond t (Some from) None ≡ Some moment → from ≤ looked) [
+ready_from looked moment (Waiting wish from tries) e = elim (nat_le from looked) as (λ t. t ≡ nat_le from looked → cond t (Some from) None ≡ Some moment → from ≤ looked) [
   | true ↦ λ t e. grind (arith, nat_tests)
   | false ↦ λ t e. cc
 ] refl e
-ready_from looked moment (UnderWay wish pause) e = cc
+ready_from looked moment (UnderWay wish tries) e = cc
 ready_from looked moment (Refused reason from pause) e = cc
+ready_from looked moment (Answered from pause) e = cc
 ready_from looked moment Gone e = cc
 
 -- what is known of a file for which the station may be asked

@@ -6,6 +6,7 @@ pub mod Left
 pub mod Looks
 pub mod Marks
 pub mod Moments
+pub mod Nothings
 pub mod Order
 pub mod Rules
 pub mod Stages

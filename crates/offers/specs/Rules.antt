@@ -5,6 +5,7 @@ use Rattle.std.specs.Ordering.{nat_cmp}
 use Rattle.std.specs.BTreeMap.{is_at}
 use Rattle.std.specs.Map.{lookup}
 use Rattle.folders.specs.declared.leaving.Place.{Place}
+use Rattle.folders.specs.declared.leaving.Place.TheVariants as places
 use Rattle.folders.specs.declared.stamp.Stamp.{Stamp}
 use Rattle.folders.specs.declared.names.Request.{Request}
 use Rattle.folders.specs.declared.wishes.Wish.{Wish}
@@ -17,7 +18,7 @@ use Rattle.offers.specs.declared.offer.Offer.{Offer}
 use Rattle.offers.specs.Order.{is_search}
 use Rattle.offers.specs.declared.stage.Reason.{Reason}
 use Rattle.offers.specs.declared.stage.Stage.{Stage}
-use Rattle.offers.specs.declared.stage.Stage.TheVariants.{Watched, Waiting, UnderWay, Refused, Gone}
+use Rattle.offers.specs.declared.stage.Stage.TheVariants.{Watched, Waiting, UnderWay, Refused, Answered, Gone}
 
 -- what the book knows: the files among the offers, in order; the numbers under way; the entries of the numbers that were released; the
 -- moment of the last look, and how long a file has to stay as it was found until it is whole; from which file on it is left to see whether it leaves the offers, and from which place on whether it is read or refused; whether it
@@ -57,25 +58,28 @@ IsWhole still looked o = o.since + still ≤ looked
 -- it was not read yet, and its moment has come
 abbrev pub IsUnread : ℕ → Bool → Stage → Type 0
 IsUnread looked was_replaced (Watched at replaced) = (at ≤ looked) × (replaced ≡ was_replaced)
-IsUnread looked was_replaced (Waiting wish at pause) = ⊥
-IsUnread looked was_replaced (UnderWay wish pause) = ⊥
+IsUnread looked was_replaced (Waiting wish at tries) = ⊥
+IsUnread looked was_replaced (UnderWay wish tries) = ⊥
 IsUnread looked was_replaced (Refused reason at pause) = ⊥
+IsUnread looked was_replaced (Answered at pause) = ⊥
 IsUnread looked was_replaced Gone = ⊥
 
 -- it was read and waits, and its moment has come
 abbrev pub IsReady : ℕ → Stage → Type 0
 IsReady looked (Watched at replaced) = ⊥
-IsReady looked (Waiting wish at pause) = at ≤ looked
-IsReady looked (UnderWay wish pause) = ⊥
+IsReady looked (Waiting wish at tries) = at ≤ looked
+IsReady looked (UnderWay wish tries) = ⊥
 IsReady looked (Refused reason at pause) = ⊥
+IsReady looked (Answered at pause) = ⊥
 IsReady looked Gone = ⊥
 
 -- it is no offer for this reason, and its moment has come
 abbrev pub IsRefused : ℕ → Reason → Stage → Type 0
 IsRefused looked why (Watched at replaced) = ⊥
-IsRefused looked why (Waiting wish at pause) = ⊥
-IsRefused looked why (UnderWay wish pause) = ⊥
+IsRefused looked why (Waiting wish at tries) = ⊥
+IsRefused looked why (UnderWay wish tries) = ⊥
 IsRefused looked why (Refused reason at pause) = (reason ≡ why) × (at ≤ looked)
+IsRefused looked why (Answered at pause) = ⊥
 IsRefused looked why Gone = ⊥
 
 -- what asks for this goes to this place: an entry of its number was released, and the place is that of the wish beside that entry
@@ -83,21 +87,22 @@ abbrev pub LeavesFor : Option Entry → Wish → Place → Type 0
 LeavesFor None wish to = ⊥
 LeavesFor (Some e) wish to = IsPlaceOf wish (owned_entry e) to
 
--- a file goes to this place: it was read and waits, and that is where what it asks for goes
-abbrev pub Leaves : Option Entry → Stage → Place → Type 0
-Leaves entry (Watched at replaced) to = ⊥
-Leaves entry (Waiting wish at pause) to = LeavesFor entry wish to
-Leaves entry (UnderWay wish pause) to = ⊥
-Leaves entry (Refused reason at pause) to = ⊥
-Leaves entry Gone to = ⊥
+-- a file goes to this place, its moment has come: it was read and waits, and that is where what it asks for goes; or it is a search that was
+-- answered, and goes to those that are done
+abbrev pub Leaves : Option Entry → ℕ → Stage → Place → Type 0
+Leaves entry looked (Watched at replaced) to = ⊥
+Leaves entry looked (Waiting wish at tries) to = (at ≤ looked) × LeavesFor entry wish to
+Leaves entry looked (UnderWay wish tries) to = ⊥
+Leaves entry looked (Refused reason at pause) to = ⊥
+Leaves entry looked (Answered at pause) to = (at ≤ looked) × (to ≡ places.Done)
+Leaves entry looked Gone to = ⊥
 
--- a file leaves the offers, for what was released under its number
+-- a file leaves the offers, for what was released under its number, or as a search that was answered
 pub record MayMove (b : Standing) (o : Offer) (r : Request) (found : Stamp) (to : Place) : Type 0 where
   pub file : o.request ≡ r
   pub as_found : o.stamp ≡ found
   pub whole : IsWhole b.still b.looked o
-  pub ready : IsReady b.looked o.stage
-  pub leaves : Leaves (entry_of b r.number) o.stage to
+  pub leaves : Leaves (entry_of b r.number) b.looked o.stage to
 
 -- the station is asked for a file
 pub record MayAsk (b : Standing) (o : Offer) (r : Request) : Type 0 where
@@ -141,14 +146,24 @@ is_whole still looked o = nat_le (o.since + still) looked
 -- the moment from which on it waits, if that has come
 abbrev pub moment_of : ℕ → Stage → Option ℕ
 moment_of looked (Watched at replaced) = None
-moment_of looked (Waiting wish at pause) = if nat_le at looked then Some at else None
-moment_of looked (UnderWay wish pause) = None
+moment_of looked (Waiting wish at tries) = if nat_le at looked then Some at else None
+moment_of looked (UnderWay wish tries) = None
 moment_of looked (Refused reason at pause) = None
+moment_of looked (Answered at pause) = None
 moment_of looked Gone = None
 
--- whether a file leaves the offers, where this is what was released under its number
+-- whether a file in this state leaves the offers, where its number was released or was not
+abbrev pub leaves_now : Bool → ℕ → Stage → Bool
+leaves_now is_released looked (Watched at replaced) = false
+leaves_now is_released looked (Waiting wish at tries) = nat_le at looked && is_released
+leaves_now is_released looked (UnderWay wish tries) = false
+leaves_now is_released looked (Refused reason at pause) = false
+leaves_now is_released looked (Answered at pause) = nat_le at looked
+leaves_now is_released looked Gone = false
+
+-- the same of a file, where this is what was released under its number
 abbrev pub is_leaving : Option Entry → ℕ → ℕ → Offer → Bool
-is_leaving entry still looked o = is_whole still looked o && is_some (moment_of looked o.stage) && is_some entry
+is_leaving entry still looked o = is_whole still looked o && leaves_now (is_some entry) looked o.stage
 
 -- the moment since which the station may be asked for a file, if it may
 abbrev pub ask_moment : Option Entry → Bool → ℕ → ℕ → Offer → Option ℕ
@@ -164,9 +179,10 @@ only_of false false moment = moment
 -- whether a file was not read and is to be, or is to be refused, where its number is under way or is not
 abbrev pub is_other : Bool → ℕ → Stage → Bool
 is_other flies looked (Watched at replaced) = nat_le at looked && not flies
-is_other flies looked (Waiting wish at pause) = false
-is_other flies looked (UnderWay wish pause) = false
+is_other flies looked (Waiting wish at tries) = false
+is_other flies looked (UnderWay wish tries) = false
 is_other flies looked (Refused reason at pause) = nat_le at looked
+is_other flies looked (Answered at pause) = false
 is_other flies looked Gone = false
 
 abbrev pub has_other : Bool → ℕ → ℕ → Offer → Bool
@@ -185,9 +201,9 @@ ask_moment_among searches b o = only_of searches (is_search o.request.kind) (ask
 abbrev pub has_other_of : Standing → Offer → Bool
 has_other_of b o = has_other (is_under_way o.request.number b.window) b.still b.looked o
 
--- this is how a file leaves the offers, where this is what was released under its number
+-- this is how a file leaves the offers, where this is what was released under its number: for that, or as a search that was answered
 abbrev pub IsLeaving : Option Entry → ℕ → ℕ → Offer → Deed → Type 0
-IsLeaving entry still looked o (Move r found to) = (o.request ≡ r) × (o.stamp ≡ found) × IsWhole still looked o × IsReady looked o.stage × Leaves entry o.stage to
+IsLeaving entry still looked o (Move r found to) = (o.request ≡ r) × (o.stamp ≡ found) × IsWhole still looked o × Leaves entry looked o.stage to
 IsLeaving entry still looked o (Ask r) = ⊥
 IsLeaving entry still looked o (Read r found replaced) = ⊥
 IsLeaving entry still looked o (Refuse r found why) = ⊥

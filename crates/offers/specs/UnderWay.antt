@@ -6,16 +6,17 @@ use Rattle.offers.specs.declared.offer.Offer.{Offer}
 use Rattle.offers.specs.declared.stage.News.{News}
 use Rattle.offers.specs.declared.stage.News.TheVariants as news
 use Rattle.offers.specs.declared.stage.Stage.{Stage}
-use Rattle.offers.specs.declared.stage.Stage.TheVariants.{Watched, Waiting, UnderWay, Refused, Gone}
+use Rattle.offers.specs.declared.stage.Stage.TheVariants.{Watched, Waiting, UnderWay, Refused, Answered, Gone}
 use Rattle.offers.specs.Order.{rank, file_at}
 use Rattle.offers.specs.Rules.{is_under_way}
 
 -- the station was asked for it, and what came of that is not known yet
 abbrev pub flies : Stage → Bool
 flies (Watched at replaced) = false
-flies (Waiting wish at pause) = false
-flies (UnderWay wish pause) = true
+flies (Waiting wish at tries) = false
+flies (UnderWay wish tries) = true
 flies (Refused reason at pause) = false
+flies (Answered at pause) = false
 flies Gone = false
 
 -- the same of the file that there is

@@ -85,14 +85,24 @@ impl Book {
         was_under_way
     }
 
-    /// What the station was asked for a number came to nothing, at a moment: its ballots came to no end, or a majority knows of nothing, or
-    /// the station does not take it now. Its file is put off, by a second the first time and twice as long each time, a minute at most.
-    /// Whether the number was under way: only then is there something to tell.
+    /// What the station was asked for a number came to nothing, at a moment: its ballots came to no end, or the station does not take it now.
+    /// Its file is put off, by a second the first time and twice as long each time, a minute at most. Whether the number was under way: only
+    /// then is there something to tell.
     pub fn ended(&mut self, number: Number, now: u64) -> bool
         ensures news { result ≡ is_under_way number self.old.window }
         ensures same { self.new ≡ landed_in number Landing.Ended now self.old }
     {
         self.land(number, Landing::Ended, now)
+    }
+
+    /// A majority knows of nothing under a number, for which the station was asked, at a moment: its file is put off as by
+    /// [`ended`](Book::ended). A search for which that is the tenth time since it was found as it is leaves the offers at once, for those that
+    /// are done. Whether the number was under way.
+    pub fn found_nothing(&mut self, number: Number, now: u64) -> bool
+        ensures news { result ≡ is_under_way number self.old.window }
+        ensures same { self.new ≡ landed_in number Landing.Nothing now self.old }
+    {
+        self.land(number, Landing::Nothing, now)
     }
 
     /// The station has a number open already, which it was asked for at a moment: its file is asked for again a second later, and its

@@ -6,7 +6,7 @@ use folders::{Place, Request, Stamp};
 /// What is to be done with a file. What is read or moved has to have the stamp: one with another was changed since, and is left alone.
 #[derive(Clone, Copy)]
 pub enum Deed {
-    /// To move it: its number was released.
+    /// To move it: its number was released, or it is a search that was answered, and goes to those that are done.
     Move {
         request: Request,
         stamp: Stamp,
@@ -33,7 +33,8 @@ pub enum Deed {
 /// What may be done with files now.
 #[derive(Clone, Copy)]
 pub struct Allowed {
-    /// Whether files may be moved whose numbers were released: not while what was released waits to be written.
+    /// Whether files may be moved whose numbers were released, and searches that were answered: not while what was released waits to be
+    /// written.
     pub moves: bool,
     /// Whether the station may be asked: not while other stations are behind.
     pub asks: bool,

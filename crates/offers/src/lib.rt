@@ -22,4 +22,4 @@ pub use book::Book;
 pub use deed::{Allowed, Deed};
 pub use offer::{Found, Offer};
 pub use order::rank;
-pub use stage::{Landing, News, Reason, Stage};
+pub use stage::{Landing, News, Reason, Stage, Tries};

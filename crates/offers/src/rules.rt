@@ -3,14 +3,14 @@
 ghost use Rattle.std.specs.Prelude.{◌≡◌, None, false, IfSome};
 ghost use Rattle.std.specs.Ordering.{nat_cmp};
 ghost use Rattle.std.specs.BTreeMap.{get};
-ghost use Rattle.offers.specs.Rules.{is_whole, is_leaving, moment_of, ask_moment, is_other, has_other, is_under_way, IsLeaving, IsMoveFor, IsOther};
+ghost use Rattle.offers.specs.Rules.{is_whole, is_leaving, leaves_now, moment_of, ask_moment, is_other, has_other, is_under_way, IsLeaving, IsMoveFor, IsOther};
 
 use crate::deed::Deed;
 use crate::known::Known;
 use crate::offer::Offer;
 use crate::stage::Stage;
 use crate::under_way::is_under_way;
-use folders::{Wish, has_passed, place_of};
+use folders::{Place, Wish, has_passed, place_of};
 use std::collections::BTreeMap;
 use tape_frames::Entry;
 
@@ -37,7 +37,18 @@ fn leave(offer: &Offer, wish: &Wish, released: &BTreeMap<u32, Entry>) -> Option<
     }
 }
 
-/// How a file leaves the offers that was released under its number, if its moment has come.
+/// How a search leaves the offers that was answered.
+fn leave_answered(offer: &Offer) -> Deed
+    ensures { result ≡ Deed.Move offer.now.request offer.now.stamp Place.Done }
+{
+    Deed::Move {
+        request: offer.request,
+        stamp: offer.stamp,
+        to: Place::Done,
+    }
+}
+
+/// How a file leaves the offers that was released under its number, or is a search that was answered, if its moment has come.
 pub(crate) fn leaving(offer: &Offer, known: &Known) -> Option<Deed>
     ensures some { IfSome result (IsLeaving (get nat_cmp known.now.released offer.now.request.number) known.now.still known.now.looked offer.now) }
     ensures none { result ≡ None → is_leaving (get nat_cmp known.now.released offer.now.request.number) known.now.still known.now.looked offer.now ≡ false }
@@ -49,6 +60,13 @@ pub(crate) fn leaving(offer: &Offer, known: &Known) -> Option<Deed>
         Stage::Waiting { wish, at, .. } => {
             if *at <= known.looked {
                 leave(offer, wish, &known.released)
+            } else {
+                None
+            }
+        }
+        Stage::Answered { at, .. } => {
+            if *at <= known.looked {
+                Some(leave_answered(offer))
             } else {
                 None
             }
@@ -67,14 +85,24 @@ fn moment_of(stage: &Stage, looked: u64) -> Option<u64>
     }
 }
 
+/// Whether a file in this state leaves the offers, where its number was released or was not.
+fn leaves_now(stage: &Stage, is_released: bool, looked: u64) -> bool
+    ensures { result ≡ leaves_now is_released looked stage.now }
+{
+    match stage {
+        Stage::Waiting { at, .. } => *at <= looked && is_released,
+        Stage::Answered { at, .. } => *at <= looked,
+        _ => false,
+    }
+}
+
 /// Whether a file leaves the offers now, whatever its way.
 pub(crate) fn is_leaving(offer: &Offer, known: &Known) -> bool
     ensures { result ≡ is_leaving (get nat_cmp known.now.released offer.now.request.number) known.now.still known.now.looked offer.now }
 {
     let key = offer.request.number.get();
-    is_whole(offer, known)
-        && moment_of(&offer.stage, known.looked).is_some()
-        && known.released.contains_key(&key)
+    let is_released = known.released.contains_key(&key);
+    is_whole(offer, known) && leaves_now(&offer.stage, is_released, known.looked)
 }
 
 /// The moment since which the station may be asked for a file.

@@ -1,7 +1,7 @@
 //! What is known of a file among the offers, and what news of it makes of that.
 
-ghost use Rattle.std.specs.Prelude.{◌≡◌, ℕ, option_copied};
-ghost use Rattle.offers.specs.Stages.{later, longer, put_off, landed, after, anew, wish_of};
+ghost use Rattle.std.specs.Prelude.{◌≡◌, ◌<◌, ℕ, option_copied};
+ghost use Rattle.offers.specs.Stages.{later, longer, first_tries, longer_tries, one_more, put_back, found_nothing, put_off, landed, after, anew, wish_of};
 
 use folders::{LAST_PAUSE, Wish};
 use refusals::StepRefusal;
@@ -23,18 +23,28 @@ pub enum Reason {
     Step(StepRefusal),
 }
 
+/// What came of it so far that the station was asked for a file.
+#[derive(Clone, Copy)]
+pub struct Tries {
+    /// How long the file waits where it comes to nothing once more, in milliseconds.
+    pub pause: u64,
+    /// How often a majority knew of nothing: nine times at most. The tenth time a search is answered.
+    pub nothings: u8,
+}
+
 /// What is known of a file among the offers. Moments and pauses are in milliseconds.
 #[derive(Drop)]
 pub enum Stage {
     /// It was not read yet, and is from this moment on, once it is whole. It may be in place of one that was under way as it was changed.
     Watched { at: u64, replaced: bool },
-    /// It was read. From this moment on the station is asked for it, or it leaves the offers, where its number was released. Where that
-    /// comes to nothing, it waits this long.
-    Waiting { wish: Wish, at: u64, pause: u64 },
-    /// The station was asked for it, and it is not known yet what came of that. Where that is nothing, it waits this long.
-    UnderWay { wish: Wish, pause: u64 },
+    /// It was read. From this moment on the station is asked for it, or it leaves the offers, where its number was released.
+    Waiting { wish: Wish, at: u64, tries: Tries },
+    /// The station was asked for it, and it is not known yet what came of that.
+    UnderWay { wish: Wish, tries: Tries },
     /// It is no offer, and leaves the offers from this moment on. Where it can't be moved, it waits this long.
     Refused { reason: Reason, at: u64, pause: u64 },
+    /// It is a search that found nothing ten times, and leaves the offers from this moment on. Where it can't be moved, it waits this long.
+    Answered { at: u64, pause: u64 },
     /// It has left the offers.
     Gone,
 }
@@ -42,8 +52,10 @@ pub enum Stage {
 /// What became of a number under way.
 #[derive(Clone, Copy)]
 pub enum Landing {
-    /// Its ballots came to no end, or a majority knows of nothing, or the station does not take it now.
+    /// Its ballots came to no end, or the station does not take it now.
     Ended,
+    /// A majority knows of nothing.
+    Nothing,
     /// The station has it open already, for a file that is not known of here.
     Busy,
     /// The station does not take it, and never will.
@@ -72,6 +84,9 @@ pub enum News {
 /// The pause after what came to nothing, the first time.
 const FIRST_PAUSE: u64 = 1000;
 
+/// How often a search finds nothing and is asked for again. The next time it is answered.
+const MOST_NOTHINGS: u8 = 9;
+
 /// So much later, or the last moment that there is.
 fn later(now: u64, pause: u64) -> u64
     ensures { result ≡ later now pause }
@@ -86,14 +101,45 @@ fn longer(pause: u64) -> u64
     pause.saturating_mul(2).min(LAST_PAUSE)
 }
 
+/// Nothing came of it yet.
+fn first_tries() -> Tries
+    ensures { result ≡ first_tries }
+{
+    Tries {
+        pause: FIRST_PAUSE,
+        nothings: 0,
+    }
+}
+
+/// It came to nothing once more.
+fn longer_tries(tries: Tries) -> Tries
+    ensures { result ≡ longer_tries tries }
+{
+    Tries {
+        pause: longer(tries.pause),
+        nothings: tries.nothings,
+    }
+}
+
+/// A majority knew of nothing once more.
+fn one_more(tries: Tries) -> Tries
+    requires { tries.nothings < 9 }
+    ensures { result ≡ one_more tries }
+{
+    Tries {
+        pause: tries.pause,
+        nothings: tries.nothings + 1,
+    }
+}
+
 /// It was read, and the station is asked, or it leaves the offers, from this moment on.
 fn waiting(wish: Wish, from: u64) -> Stage
-    ensures { result ≡ Stage.Waiting wish from 1000 }
+    ensures { result ≡ Stage.Waiting wish from first_tries }
 {
     Stage::Waiting {
         wish,
         at: from,
-        pause: FIRST_PAUSE,
+        tries: first_tries(),
     }
 }
 
@@ -108,14 +154,40 @@ fn refused(reason: Reason) -> Stage
     }
 }
 
+/// It is a search that was answered, and leaves the offers at once.
+fn answered() -> Stage
+    ensures { result ≡ Stage.Answered 0 1000 }
+{
+    Stage::Answered {
+        at: 0,
+        pause: FIRST_PAUSE,
+    }
+}
+
 /// It waits once more, from a moment on.
-fn put_back(wish: Wish, pause: u64, now: u64) -> Stage
-    ensures { result ≡ Stage.Waiting wish (later now pause) (longer pause) }
+fn put_back(wish: Wish, tries: Tries, now: u64) -> Stage
+    ensures { result ≡ put_back wish tries now }
 {
     Stage::Waiting {
         wish,
-        at: later(now, pause),
-        pause: longer(pause),
+        at: later(now, tries.pause),
+        tries: longer_tries(tries),
+    }
+}
+
+/// A majority knows of nothing: a search waits once more, or is answered; an entry that was offered waits once more.
+fn found_nothing(wish: Wish, tries: Tries, now: u64) -> Stage
+    ensures { result ≡ found_nothing wish tries now }
+{
+    match wish {
+        Wish::Offered(entry) => put_back(Wish::Offered(entry), tries, now),
+        Wish::Sought => {
+            if tries.nothings >= MOST_NOTHINGS {
+                answered()
+            } else {
+                put_back(Wish::Sought, one_more(tries), now)
+            }
+        }
     }
 }
 
@@ -157,9 +229,13 @@ impl Stage {
                 at: later(now, LAST_PAUSE),
                 replaced,
             },
-            Stage::Waiting { wish, pause, .. } => put_back(wish, pause, now),
+            Stage::Waiting { wish, tries, .. } => put_back(wish, tries, now),
             Stage::Refused { reason, pause, .. } => Stage::Refused {
                 reason,
+                at: later(now, pause),
+                pause: longer(pause),
+            },
+            Stage::Answered { pause, .. } => Stage::Answered {
                 at: later(now, pause),
                 pause: longer(pause),
             },
@@ -192,7 +268,7 @@ impl Stage {
         ensures { (now : ℕ) → result ≡ after News.Asked now self }
     {
         match self {
-            Stage::Waiting { wish, pause, .. } => Stage::UnderWay { wish, pause },
+            Stage::Waiting { wish, tries, .. } => Stage::UnderWay { wish, tries },
             _ => self,
         }
     }
@@ -202,7 +278,17 @@ impl Stage {
         ensures { result ≡ landed Landing.Ended now self }
     {
         match self {
-            Stage::UnderWay { wish, pause } => put_back(wish, pause, now),
+            Stage::UnderWay { wish, tries } => put_back(wish, tries, now),
+            _ => self,
+        }
+    }
+
+    /// The same, once a majority was found to know of nothing.
+    fn nothing(self, now: u64) -> Stage
+        ensures { result ≡ landed Landing.Nothing now self }
+    {
+        match self {
+            Stage::UnderWay { wish, tries } => found_nothing(wish, tries, now),
             _ => self,
         }
     }
@@ -213,10 +299,10 @@ impl Stage {
         ensures { result ≡ landed Landing.Busy now self }
     {
         match self {
-            Stage::UnderWay { wish, pause } => Stage::Waiting {
+            Stage::UnderWay { wish, tries } => Stage::Waiting {
                 wish,
                 at: later(now, FIRST_PAUSE),
-                pause,
+                tries,
             },
             _ => self,
         }
@@ -249,6 +335,7 @@ impl Stage {
     {
         match landing {
             Landing::Ended => self.ended(now),
+            Landing::Nothing => self.nothing(now),
             Landing::Busy => self.held(now),
             Landing::Barred { reason } => self.barred(reason),
             Landing::Released => self.released(),

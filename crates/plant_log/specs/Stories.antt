@@ -3,7 +3,7 @@ use Rattle.std.specs.Prelude.{◌≡◌, ◌+◌, ◌⊎◌, ℕ, Bool, true, fa
 use Rattle.std.specs.Ordering.{nat_cmp}
 use Rattle.std.specs.BTreeMap.{BTreeMap, get, Updates}
 use Rattle.plant_log.specs.declared.event.Event.{Event}
-use Rattle.plant_log.specs.declared.event.Event.TheVariants.{Began, GaveUp, Nothing, Released, Sent, Lost, Replaced}
+use Rattle.plant_log.specs.declared.event.Event.TheVariants.{Began, GaveUp, Nothing, Released, Sent, Lost, Done, Replaced}
 use Rattle.log_terms.specs.declared.loudness.Loudness.{Loudness}
 use Rattle.log_terms.specs.declared.loudness.Loudness.TheVariants as loudness
 use Rattle.plant_log.specs.declared.story.Begun.{Begun}
@@ -50,7 +50,7 @@ HearsOf n turn now told old new =
     ((told ≡ (heard (known (get nat_cmp old n)) turn now).is_told) × Updates nat_cmp old new n (Some (heard (known (get nat_cmp old n)) turn now).story))
     ⊎ ((told ≡ true) × (get nat_cmp old n ≡ None) × (new.entries ≡ old.entries))
 
--- what befell a number was told in the usual log, or not: a release is, and its number is forgotten; that a file was sent is not
+-- what befell a number was told in the usual log, or not: a release is, and its number is forgotten; that a file was sent, or a search answered, is not
 abbrev pub Hears : Event → ℕ → Bool → BTreeMap ℕ Story → BTreeMap ℕ Story → Type 0
 Hears (Began n b) now told old new = HearsOf n Begins now told old new
 Hears (GaveUp n b) now told old new = HearsOf n Ends now told old new
@@ -58,6 +58,7 @@ Hears (Nothing n b) now told old new = HearsOf n Ends now told old new
 Hears (Released n) now told old new = (told ≡ true) × Updates nat_cmp old new n None
 Hears (Sent n) now told old new = (told ≡ false) × (new.entries ≡ old.entries)
 Hears (Lost n) now told old new = (told ≡ true) × (new.entries ≡ old.entries)
+Hears (Done n) now told old new = (told ≡ false) × (new.entries ≡ old.entries)
 Hears (Replaced n) now told old new = (told ≡ true) × (new.entries ≡ old.entries)
 
 -- the same where so much is told: nothing of this where faults alone are

@@ -11,7 +11,7 @@ use Rattle.folders.specs.declared.folders.News.TheVariants.{OtherOffers, OtherRe
 use Rattle.offers.specs.declared.stage.Reason.{Reason}
 use Rattle.offers.specs.declared.stage.Reason.TheVariants as reasons
 use Rattle.plant_log.specs.declared.event.Event.{Event}
-use Rattle.plant_log.specs.declared.event.Event.TheVariants.{Began, GaveUp, Nothing, Released, Sent, Lost, Replaced}
+use Rattle.plant_log.specs.declared.event.Event.TheVariants.{Began, GaveUp, Nothing, Released, Sent, Lost, Done, Replaced}
 use Rattle.plant_log.specs.declared.line.Line.{Line}
 use Rattle.plant_log.specs.declared.line.Line.TheVariants as lines
 
@@ -19,7 +19,7 @@ use Rattle.plant_log.specs.declared.line.Line.TheVariants as lines
 abbrev pub ballot_text : Ballot → List ℕ
 ballot_text b = decimal b.round ++ (codes "." ++ decimal b.owner)
 
--- a number and what befell it, as `12 began 1.2`
+-- a number and what befell it, as `12 began 1.2`; of a search that was answered its file
 abbrev pub event_text : Event → List ℕ
 event_text (Began n b) = decimal n ++ (codes " began " ++ ballot_text b)
 event_text (GaveUp n b) = decimal n ++ (codes " gave-up " ++ ballot_text b)
@@ -27,6 +27,7 @@ event_text (Nothing n b) = decimal n ++ (codes " nothing " ++ ballot_text b)
 event_text (Released n) = decimal n ++ codes " released"
 event_text (Sent n) = decimal n ++ codes " sent"
 event_text (Lost n) = decimal n ++ codes " lost"
+event_text (Done n) = codes "done " ++ (decimal n ++ codes ".seek: nothing, ten times")
 event_text (Replaced n) = decimal n ++ codes " replaced while it was under way"
 
 -- why a file is no offer, whose name is shown so

@@ -21,6 +21,8 @@ pub enum Event {
     Sent { number: u32 },
     /// It is not.
     Lost { number: u32 },
+    /// A search left the offers that found nothing ten times.
+    Done { number: u32 },
     /// What was read of a file is in place of what its number is under way for, or was.
     Replaced { number: u32 },
 }
@@ -56,6 +58,7 @@ impl fmt::Display for Event {
             Event::Released { number } => write!(f, "{number} released"),
             Event::Sent { number } => write!(f, "{number} sent"),
             Event::Lost { number } => write!(f, "{number} lost"),
+            Event::Done { number } => write!(f, "done {number}.seek: nothing, ten times"),
             Event::Replaced { number } => write!(f, "{number} replaced while it was under way"),
         }
     }

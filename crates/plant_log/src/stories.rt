@@ -72,7 +72,7 @@ impl Stories {
                 self.forget(number);
                 true
             }
-            Event::Sent { .. } => false,
+            Event::Sent { .. } | Event::Done { .. } => false,
             Event::Lost { .. } | Event::Replaced { .. } => true,
         }
     }

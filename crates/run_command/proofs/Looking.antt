@@ -32,13 +32,13 @@ use Rattle.offers.specs.Stages.{after, changed, news_of}
 use Rattle.offers.specs.Turns.{IsInTurn}
 use Rattle.exchange.specs.Events.{Event}
 use Rattle.plant_files.specs.Standing.{Texts}
-use Rattle.run_command.specs.Departing.{departure_of, task_of, place_of, IsFree, IsFreeWay, IsFreeTask}
+use Rattle.run_command.specs.Departing.{departure_of, task_of, way_to, place_of, IsFree, IsFreeWay, IsFreeTask}
 use Rattle.run_command.specs.Minding.{name_of, WasRead, WereRead, HasRelease, HaveReleases, onto, IsOfRelease, AreLooks, IsLook, AreSettlings, IsSettling}
 use Rattle.run_command.specs.Story.{IsReleasedIn}
 use Rattle.run_command.specs.Working.{Follows, Looks, IfRead, IsTapeOrFault, BecameTape, By, DealsBy, Deals, Always, Releases}
 use Rattle.run_command.specs.declared.departures.Departure.{Departure}
 use Rattle.run_command.specs.declared.departures.Way.{Way}
-use Rattle.run_command.specs.declared.departures.Way.TheVariants.{Released, NoOffer}
+use Rattle.run_command.specs.declared.departures.Way.TheVariants.{Released, NoOffer, Answered}
 use Rattle.run_command.proofs.Story.{onto_then, read_here, taken_more, looks_then, settlings_then, silent_looks, settlings_look}
 use Rattle.run_command.proofs.Wishes.{landed_still, read_now, IfOffer}
 
@@ -313,6 +313,7 @@ settling_place : (P : List ℕ → Type 0) (name : List ℕ) (to : Place) → P 
 settling_place P name places.Sent p = p
 settling_place P name places.Lost p = p
 settling_place P name places.Refused p = tt
+settling_place P name places.Done p = tt
 
 way_settles :
     (b : Standing) (waits : List File) (r : Request) (way : Way) (log : List Event) → IsFreeWay b waits r.number way → HaveReleases log b
@@ -326,10 +327,12 @@ way_settles b waits r (Released to) log free known =
       named = subst (λ (n : ℕ). IsNameOf (name_of r) n r.kind) (sym it.number) refl;
     })
 way_settles b waits r (NoOffer why) log free known = tt
+way_settles b waits r Answered log free known = tt
 
 way_looks : (b : Standing) (waits : List File) (r : Request) (way : Way) → IsFreeWay b waits r.number way → (waits ≡ [] → ⊥) → IsLook (moved_file (name_of r) (place_of way))
 way_looks b waits r (Released to) free full = absurd (full free.1)
 way_looks b waits r (NoOffer why) free full = tt
+way_looks b waits r Answered free full = tt
 
 pub deals_left :
     (a b : Option (List Doing)) (w : List File) (d : Departure) (m n : Standing) → MayDo a b (moved_file (name_of d.found.request) (place_of d.way))
@@ -355,26 +358,40 @@ deals_left a b w d m n may free f =
       released = λ log g known number e is. known number e (ap (λ l. entry_in l number) (sym f.released) ∙ is);
     }
 
--- a file leaves by its entry, so that is known
-leaves_known : (entry : Option Entry) (s : Stage) (to : Place) → Leaves entry s to → (e : Entry) × (entry ≡ Some e)
-leaves_known entry (stages.Watched at replaced) to h = absurd h
-leaves_known None (stages.Waiting wish at pause) to h = absurd h
-leaves_known (Some e) (stages.Waiting wish at pause) to h = (e, refl)
-leaves_known entry (stages.UnderWay wish pause) to h = absurd h
-leaves_known entry (stages.Refused reason at pause) to h = absurd h
-leaves_known entry stages.Gone to h = absurd h
+-- a file that is not done leaves by its entry, so that is known
+leaves_known : (entry : Option Entry) (looked : ℕ) (s : Stage) (to : Place) → (to ≡ places.Done → ⊥) → Leaves entry looked s to → (e : Entry) × (entry ≡ Some e)
+leaves_known entry looked (stages.Watched at replaced) to other h = absurd h
+leaves_known None looked (stages.Waiting wish at tries) to other h = absurd h.1
+leaves_known (Some e) looked (stages.Waiting wish at tries) to other h = (e, refl)
+leaves_known entry looked (stages.UnderWay wish tries) to other h = absurd h
+leaves_known entry looked (stages.Refused reason at pause) to other h = absurd h
+leaves_known entry looked (stages.Answered at pause) to other h = absurd (other h.1)
+leaves_known entry looked stages.Gone to other h = absurd h
+
+-- so it may leave where nothing waits
+way_free :
+    (b c : Standing) (w : List File) (n : ℕ) (s : Stage) (to : Place) → c.released ≡ b.released → w ≡ [] → Leaves (entry_of b n) b.looked s to
+    → IsFreeWay c w n (way_to to)
+way_free b c w n s places.Sent same empty h =
+    let known = leaves_known (entry_of b n) b.looked s places.Sent (λ e. cc) h in
+    ((known.0, ap (λ l. entry_in l n) same ∙ known.1), empty)
+way_free b c w n s places.Lost same empty h =
+    let known = leaves_known (entry_of b n) b.looked s places.Lost (λ e. cc) h in
+    ((known.0, ap (λ l. entry_in l n) same ∙ known.1), empty)
+way_free b c w n s places.Refused same empty h =
+    let known = leaves_known (entry_of b n) b.looked s places.Refused (λ e. cc) h in
+    ((known.0, ap (λ l. entry_in l n) same ∙ known.1), empty)
+way_free b c w n s places.Done same empty h = tt
 
 -- where files that were released may leave only if nothing waits, what may be done is free
 pub task_free : (b c : Standing) (w : List File) (allowed : Allowed) (d : Deed) → c.released ≡ b.released → (allowed.moves ≡ true → w ≡ []) → MayDoDeed b d → IsInTurn b allowed (Some d) → IfSome (task_of d) (IsFreeTask c w)
-task_free b c w allowed (deeds.Move r found to) same empty may turn =
-    let known = leaves_known (entry_of b r.number) may.1.stage to may.4.leaves in
-    ((known.0, ap (λ l. entry_in l r.number) same ∙ known.1), empty turn)
+task_free b c w allowed (deeds.Move r found to) same empty may turn = way_free b c w r.number may.1.stage to same (empty turn) may.4.leaves
 task_free b c w allowed (deeds.Ask r) same empty may turn = tt
 task_free b c w allowed (deeds.Read r found replaced) same empty may turn = tt
 task_free b c w allowed (deeds.Refuse r found why) same empty may turn = tt
 
 pub departure_free : (b : Standing) (w : List File) (d : Deed) → w ≡ [] → MayDoDeed b d → IfSome (departure_of d) (IsFree b w)
-departure_free b w (deeds.Move r found to) empty may = (leaves_known (entry_of b r.number) may.1.stage to may.4.leaves, empty)
+departure_free b w (deeds.Move r found to) empty may = way_free b b w r.number may.1.stage to refl empty may.4.leaves
 departure_free b w (deeds.Ask r) empty may = tt
 departure_free b w (deeds.Read r found replaced) empty may = tt
 departure_free b w (deeds.Refuse r found why) empty may = tt

@@ -158,6 +158,7 @@ may_look past (wrote_file file) p = absurd p
 may_look past (moved_file name places.Sent) p = absurd p
 may_look past (moved_file name places.Lost) p = absurd p
 may_look past (moved_file name places.Refused) p = tt
+may_look past (moved_file name places.Done) p = tt
 may_look past (removed_file name) p = p
 
 module _ (t : Texts) where
@@ -194,6 +195,7 @@ may_settle past (moved_file name places.Lost) all p = record {
   written = λ f i. all f (of_release (events_of past) p.release f p.released i);
 }
 may_settle past (moved_file name places.Refused) all p = tt
+may_settle past (moved_file name places.Done) all p = tt
 may_settle past (removed_file name) all p = p
 
 module _ (t : Texts) where
@@ -231,6 +233,7 @@ settling_look P (wrote_file file) p = absurd p
 settling_look P (moved_file name places.Sent) p = absurd p
 settling_look P (moved_file name places.Lost) p = absurd p
 settling_look P (moved_file name places.Refused) p = tt
+settling_look P (moved_file name places.Done) p = tt
 settling_look P (removed_file name) p = p
 
 -- a look settles nothing
@@ -245,6 +248,7 @@ settling_weaker P Q (wrote_file file) w p = absurd p
 settling_weaker P Q (moved_file name places.Sent) w p = w name p
 settling_weaker P Q (moved_file name places.Lost) w p = w name p
 settling_weaker P Q (moved_file name places.Refused) w p = tt
+settling_weaker P Q (moved_file name places.Done) w p = tt
 settling_weaker P Q (removed_file name) w p = p
 
 pub settlings_weaker : (P Q : List ℕ → Type 0) (ds : List Doing) → ((name : List ℕ) → P name → Q name) → AreSettlings P ds → AreSettlings Q ds

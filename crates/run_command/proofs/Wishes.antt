@@ -1,5 +1,5 @@
 -- What news of files, and a look at them, leave of what is known: nothing but what was read.
-use Rattle.std.proofs.Common.{◌≡◌, ◌==◌, ◌∙◌, ◌⊎◌, inl, inr, ℕ, ◌+◌, ◌*◌, List, [], ◌∷◌, Option, Some, None, Result, Ok, Err, Bool, true, false, map, refl, sym, ap, subst, arith}
+use Rattle.std.proofs.Common.{◌≡◌, ◌==◌, ◌∙◌, ◌⊎◌, inl, inr, ℕ, ◌+◌, ◌*◌, List, [], ◌∷◌, Option, Some, None, Result, Ok, Err, Bool, true, false, map, nat_le, refl, sym, ap, subst, arith}
 use Rattle.std.proofs.lemmas.Bool.Decides.{nat_tests}
 use Rattle.std.proofs.lemmas.List.Elements.{All-nil, All-cons, All-head, All-tail}
 use Rattle.folders.specs.Doings.{Doing}
@@ -7,20 +7,22 @@ use Rattle.folders.specs.declared.names.Kind.{Kind}
 use Rattle.folders.specs.declared.names.Kind.TheVariants.{Tape, Text, Withdraw, Seek}
 use Rattle.folders.specs.declared.names.Request.{Request}
 use Rattle.folders.specs.declared.wishes.Wish.{Wish}
+use Rattle.folders.specs.declared.wishes.Wish.TheVariants.{Offered, Sought}
 use Rattle.offers.specs.Looks.{seen, stage_after, is_same_stamp, looked}
 use Rattle.offers.specs.Order.{rank, kind_rank, file_at, rising}
-use Rattle.offers.specs.Stages.{after, anew, put_off, landed, change_at, changed, all_changed, wish_of, wish_at, news_of, tape_of, text_of, withdrawal_of, search_of}
+use Rattle.offers.specs.Stages.{after, anew, found_nothing, put_off, landed, change_at, changed, all_changed, wish_of, wish_at, news_of, tape_of, text_of, withdrawal_of, search_of}
 use Rattle.offers.specs.Turns.{files_after}
 use Rattle.offers.specs.declared.deed.Deed.{Deed}
 use Rattle.offers.specs.declared.deed.Deed.TheVariants as deeds
 use Rattle.offers.specs.declared.offer.Found.{Found}
 use Rattle.offers.specs.declared.offer.Offer.{Offer}
 use Rattle.offers.specs.declared.stage.Landing.{Landing}
-use Rattle.offers.specs.declared.stage.Landing.TheVariants.{Ended, Busy, Barred, Released}
+use Rattle.offers.specs.declared.stage.Landing.TheVariants.{Ended, Nothing, Busy, Barred, Released}
 use Rattle.offers.specs.declared.stage.News.TheVariants as news
 use Rattle.offers.specs.declared.stage.Reason.{Reason}
 use Rattle.offers.specs.declared.stage.Stage.{Stage}
-use Rattle.offers.specs.declared.stage.Stage.TheVariants.{Watched, Waiting, UnderWay, Refused, Gone}
+use Rattle.offers.specs.declared.stage.Stage.TheVariants.{Watched, Waiting, UnderWay, Refused, Answered, Gone}
+use Rattle.offers.specs.declared.stage.Tries.{Tries}
 use Rattle.plant_files.specs.Standing.{Texts}
 use Rattle.run_command.specs.Minding.{WasRead, IsRead, IsReadOffer, WereRead}
 
@@ -36,61 +38,82 @@ module _ (t : Texts) where
 
 anew_keeps : (now : ℕ) (s : Stage) → Keeps (wish_of s) (wish_of (anew now s))
 anew_keeps now (Watched at replaced) = tt
-anew_keeps now (Waiting own at pause) = tt
-anew_keeps now (UnderWay own pause) = tt
+anew_keeps now (Waiting own at tries) = tt
+anew_keeps now (UnderWay own tries) = tt
 anew_keeps now (Refused reason at pause) = tt
+anew_keeps now (Answered at pause) = tt
 anew_keeps now Gone = tt
 
 put_off_keeps : (now : ℕ) (s : Stage) → Keeps (wish_of s) (wish_of (put_off now s))
 put_off_keeps now (Watched at replaced) = tt
-put_off_keeps now (Waiting own at pause) = refl
-put_off_keeps now (UnderWay own pause) = refl
+put_off_keeps now (Waiting own at tries) = refl
+put_off_keeps now (UnderWay own tries) = refl
 put_off_keeps now (Refused reason at pause) = tt
+put_off_keeps now (Answered at pause) = tt
 put_off_keeps now Gone = tt
-
-landed_keeps : (l : Landing) (now : ℕ) (s : Stage) → Keeps (wish_of s) (wish_of (landed l now s))
-landed_keeps Ended now (Watched at replaced) = tt
-landed_keeps Ended now (Waiting own at pause) = refl
-landed_keeps Ended now (UnderWay own pause) = refl
-landed_keeps Ended now (Refused reason at pause) = tt
-landed_keeps Ended now Gone = tt
-landed_keeps Busy now (Watched at replaced) = tt
-landed_keeps Busy now (Waiting own at pause) = refl
-landed_keeps Busy now (UnderWay own pause) = refl
-landed_keeps Busy now (Refused reason at pause) = tt
-landed_keeps Busy now Gone = tt
-landed_keeps (Barred why) now (Watched at replaced) = tt
-landed_keeps (Barred why) now (Waiting own at pause) = refl
-landed_keeps (Barred why) now (UnderWay own pause) = tt
-landed_keeps (Barred why) now (Refused reason at pause) = tt
-landed_keeps (Barred why) now Gone = tt
-landed_keeps Released now (Watched at replaced) = tt
-landed_keeps Released now (Waiting own at pause) = refl
-landed_keeps Released now (UnderWay own pause) = refl
-landed_keeps Released now (Refused reason at pause) = tt
-landed_keeps Released now Gone = tt
-
-asked_keeps : (now : ℕ) (s : Stage) → Keeps (wish_of s) (wish_of (after news.Asked now s))
-asked_keeps now (Watched at replaced) = tt
-asked_keeps now (Waiting own at pause) = refl
-asked_keeps now (UnderWay own pause) = refl
-asked_keeps now (Refused reason at pause) = tt
-asked_keeps now Gone = tt
-
-no_offer_keeps : (why : Reason) (now : ℕ) (s : Stage) → Keeps (wish_of s) (wish_of (after (news.NoOffer why) now s))
-no_offer_keeps why now (Watched at replaced) = tt
-no_offer_keeps why now (Waiting own at pause) = refl
-no_offer_keeps why now (UnderWay own pause) = refl
-no_offer_keeps why now (Refused reason at pause) = tt
-no_offer_keeps why now Gone = tt
-
-moved_keeps : (now : ℕ) (s : Stage) → Keeps (wish_of s) (wish_of (after news.Moved now s))
-moved_keeps now s = tt
 
 -- a test answers one or the other
 two_ways : (b : Bool) → (b ≡ true) ⊎ (b ≡ false)
 two_ways true = inl refl
 two_ways false = inr refl
+
+found_keeps : (wish : Wish) (tries : Tries) (now : ℕ) → Keeps (Some wish) (wish_of (found_nothing wish tries now))
+found_keeps (Offered entry) tries now = refl
+found_keeps Sought tries now = elim (two_ways (nat_le 9 tries.nothings)) [
+  | inl often ↦ rw often tt
+  | inr seldom ↦ rw seldom refl
+]
+
+landed_keeps : (l : Landing) (now : ℕ) (s : Stage) → Keeps (wish_of s) (wish_of (landed l now s))
+landed_keeps Ended now (Watched at replaced) = tt
+landed_keeps Ended now (Waiting own at tries) = refl
+landed_keeps Ended now (UnderWay own tries) = refl
+landed_keeps Ended now (Refused reason at pause) = tt
+landed_keeps Ended now (Answered at pause) = tt
+landed_keeps Ended now Gone = tt
+landed_keeps Nothing now (Watched at replaced) = tt
+landed_keeps Nothing now (Waiting own at tries) = refl
+landed_keeps Nothing now (UnderWay own tries) = found_keeps own tries now
+landed_keeps Nothing now (Refused reason at pause) = tt
+landed_keeps Nothing now (Answered at pause) = tt
+landed_keeps Nothing now Gone = tt
+landed_keeps Busy now (Watched at replaced) = tt
+landed_keeps Busy now (Waiting own at tries) = refl
+landed_keeps Busy now (UnderWay own tries) = refl
+landed_keeps Busy now (Refused reason at pause) = tt
+landed_keeps Busy now (Answered at pause) = tt
+landed_keeps Busy now Gone = tt
+landed_keeps (Barred why) now (Watched at replaced) = tt
+landed_keeps (Barred why) now (Waiting own at tries) = refl
+landed_keeps (Barred why) now (UnderWay own tries) = tt
+landed_keeps (Barred why) now (Refused reason at pause) = tt
+landed_keeps (Barred why) now (Answered at pause) = tt
+landed_keeps (Barred why) now Gone = tt
+landed_keeps Released now (Watched at replaced) = tt
+landed_keeps Released now (Waiting own at tries) = refl
+landed_keeps Released now (UnderWay own tries) = refl
+landed_keeps Released now (Refused reason at pause) = tt
+landed_keeps Released now (Answered at pause) = tt
+landed_keeps Released now Gone = tt
+
+asked_keeps : (now : ℕ) (s : Stage) → Keeps (wish_of s) (wish_of (after news.Asked now s))
+asked_keeps now (Watched at replaced) = tt
+asked_keeps now (Waiting own at tries) = refl
+asked_keeps now (UnderWay own tries) = refl
+asked_keeps now (Refused reason at pause) = tt
+asked_keeps now (Answered at pause) = tt
+asked_keeps now Gone = tt
+
+no_offer_keeps : (why : Reason) (now : ℕ) (s : Stage) → Keeps (wish_of s) (wish_of (after (news.NoOffer why) now s))
+no_offer_keeps why now (Watched at replaced) = tt
+no_offer_keeps why now (Waiting own at tries) = refl
+no_offer_keeps why now (UnderWay own tries) = refl
+no_offer_keeps why now (Refused reason at pause) = tt
+no_offer_keeps why now (Answered at pause) = tt
+no_offer_keeps why now Gone = tt
+
+moved_keeps : (now : ℕ) (s : Stage) → Keeps (wish_of s) (wish_of (after news.Moved now s))
+moved_keeps now s = tt
 
 module _ (t : Texts) where
   changed_one :
@@ -165,9 +188,10 @@ same_request a b e =
 module _ (t : Texts) where
   took_wish : (shown : List Doing) (r : Request) (wish : Wish) (now : ℕ) (s : Stage) → IsRead t shown r (wish_of s) → WasRead t shown r wish → IsRead t shown r (wish_of (after (news.Read wish) now s))
   took_wish shown r wish now (Watched at replaced) h w = w
-  took_wish shown r wish now (Waiting own at pause) h w = h
-  took_wish shown r wish now (UnderWay own pause) h w = h
+  took_wish shown r wish now (Waiting own at tries) h w = h
+  took_wish shown r wish now (UnderWay own tries) h w = h
   took_wish shown r wish now (Refused reason at pause) h w = h
+  took_wish shown r wish now (Answered at pause) h w = h
   took_wish shown r wish now Gone h w = h
 
   read_one : (shown : List Doing) (r : Request) (wish : Wish) (now : ℕ) (o : Offer) → WasRead t shown r wish → IsReadOffer t shown o → IsReadOffer t shown (change_at (rank r) (after (news.Read wish) now) o)

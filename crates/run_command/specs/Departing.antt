@@ -6,7 +6,7 @@ use Rattle.command_ends.specs.ReleaseText.{plain_line}
 use Rattle.folders.specs.Written.{File}
 use Rattle.folders.specs.declared.names.Request.{Request}
 use Rattle.folders.specs.declared.leaving.Place.{Place}
-use Rattle.folders.specs.declared.leaving.Place.TheVariants.{Sent, Lost, Refused}
+use Rattle.folders.specs.declared.leaving.Place.TheVariants.{Sent, Lost, Refused, Done}
 use Rattle.offers.specs.declared.deed.Deed.{Deed}
 use Rattle.offers.specs.declared.deed.Deed.TheVariants as deeds
 use Rattle.offers.specs.Rules.{Standing, entry_of}
@@ -24,23 +24,32 @@ use Rattle.run_command.specs.declared.deeds.Task.{Task}
 use Rattle.run_command.specs.declared.deeds.Task.TheVariants.{Leave, Read, Ask}
 use Rattle.run_command.specs.declared.departures.Departure.{Departure}
 use Rattle.run_command.specs.declared.departures.Way.{Way}
-use Rattle.run_command.specs.declared.departures.Way.TheVariants.{Released, NoOffer}
+use Rattle.run_command.specs.declared.departures.Way.TheVariants.{Released, NoOffer, Answered}
 
--- where its number was released, to the place that it has by that; else to those that are no offers
+-- where its number was released, to the place that it has by that; else to those that are no offers, or as a search that was answered to
+-- those that are done
 abbrev pub place_of : Way → Place
 place_of (Released to) = to
 place_of (NoOffer reason) = Refused
+place_of Answered = Done
+
+-- why a file leaves the offers that is moved to this place: its number was released, or it is a search that was answered
+abbrev pub way_to : Place → Way
+way_to Sent = Released Sent
+way_to Lost = Released Lost
+way_to Refused = Released Refused
+way_to Done = Answered
 
 -- how a file leaves the offers by a deed
 abbrev pub departure_of : Deed → Option Departure
-departure_of (deeds.Move r found to) = Some (record { found = record { request = r; stamp = found }; way = Released to })
+departure_of (deeds.Move r found to) = Some (record { found = record { request = r; stamp = found }; way = way_to to })
 departure_of (deeds.Ask r) = None
 departure_of (deeds.Read r found replaced) = None
 departure_of (deeds.Refuse r found why) = Some (record { found = record { request = r; stamp = found }; way = NoOffer why })
 
 -- what is to be done by a deed
 abbrev pub task_of : Deed → Option Task
-task_of (deeds.Move r found to) = Some (Leave (record { found = record { request = r; stamp = found }; way = Released to }))
+task_of (deeds.Move r found to) = Some (Leave (record { found = record { request = r; stamp = found }; way = way_to to }))
 task_of (deeds.Ask r) = Some (Ask r)
 task_of (deeds.Read r found replaced) = Some (Read (record { request = r; stamp = found }) replaced)
 task_of (deeds.Refuse r found why) = Some (Leave (record { found = record { request = r; stamp = found }; way = NoOffer why }))
@@ -53,6 +62,7 @@ IsKnownAndWritten b waits n = ((e : Entry) × (entry_of b n ≡ Some e)) × (wai
 abbrev pub IsFreeWay : Standing → List File → ℕ → Way → Type 0
 IsFreeWay b waits n (Released to) = IsKnownAndWritten b waits n
 IsFreeWay b waits n (NoOffer reason) = Unit {0}
+IsFreeWay b waits n Answered = Unit {0}
 
 abbrev pub IsFree : Standing → List File → Departure → Type 0
 IsFree b waits d = IsFreeWay b waits d.found.request.number d.way
@@ -63,11 +73,12 @@ IsFreeTask b waits (Leave d) = IsFree b waits d
 IsFreeTask b waits (Read found replaced) = Unit {0}
 IsFreeTask b waits (Ask r) = Unit {0}
 
--- what befell the number of a file that has left the offers for what was released
+-- what befell the number of a file that has left the offers
 abbrev pub event_by : ℕ → Way → Option Event
 event_by n (Released Lost) = Some (events.Lost n)
 event_by n (Released to) = Some (events.Sent n)
 event_by n (NoOffer reason) = None
+event_by n Answered = Some (events.Done n)
 
 abbrev pub left_event : Departure → Option Event
 left_event d = event_by d.found.request.number d.way
@@ -90,11 +101,13 @@ abbrev pub IsStanding : Option Entry → ℕ → Option (String Global) → Type
 IsStanding None n text = ⊥
 IsStanding (Some e) n text = IsText (plain_line [] n (entry_text (owned_entry e))) text
 
--- what lies beside a file of this number: of a lost one what stands under it, of one that is no offer why, and else nothing
+-- what lies beside a file of this number: of a lost one what stands under it, of one that is no offer why, of a search that was answered
+-- that nothing does, and else nothing
 abbrev pub IsBesideBy : Option Entry → ℕ → Way → Option (String Global) → Type 0
 IsBesideBy entry n (Released Lost) text = IsStanding entry n text
 IsBesideBy entry n (Released to) text = text ≡ None
 IsBesideBy entry n (NoOffer reason) text = IsSomeReason reason text
+IsBesideBy entry n Answered text = IsText (codes "nothing\n") text
 
 abbrev pub IsBeside : Standing → Departure → Option (String Global) → Type 0
 IsBeside b d text = IsBesideBy (entry_of b d.found.request.number) d.found.request.number d.way text
@@ -113,6 +126,7 @@ abbrev pub TellsWay : Request → Way → ℕ → Told → Told → Option (List
 TellsWay r (Released Lost) now before after old new = TellsEvent (events.Lost r.number) now before after old new
 TellsWay r (Released to) now before after old new = TellsEvent (events.Sent r.number) now before after old new
 TellsWay r (NoOffer reason) now before after old new = TellsRefused r reason before old new
+TellsWay r Answered now before after old new = TellsEvent (events.Done r.number) now before after old new
 
 abbrev pub TellsDeparture : Departure → ℕ → Told → Told → Option (List ℕ) → Option (List ℕ) → Type 0
 TellsDeparture d now before after old new = TellsWay d.found.request d.way now before after old new

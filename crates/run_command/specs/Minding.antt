@@ -72,7 +72,7 @@ pub record IsOfRelease (log : List Event) (name : List ℕ) : Type 0 where
   pub released : IsReleasedIn log release
   pub named : IsNameOf name release.number kind
 
--- what is done where no number is settled: files are found and read, and leave the offers where they are none
+-- what is done where no number is settled: files are found and read, and leave the offers where they are none, or were answered
 abbrev pub IsLook : Doing → Type 0
 IsLook (saw_file name) = Unit {0}
 IsLook (read_file file) = Unit {0}
@@ -80,6 +80,7 @@ IsLook (wrote_file file) = ⊥
 IsLook (moved_file name places.Sent) = ⊥
 IsLook (moved_file name places.Lost) = ⊥
 IsLook (moved_file name places.Refused) = Unit {0}
+IsLook (moved_file name places.Done) = Unit {0}
 IsLook (removed_file name) = IsStop name
 
 -- what is done where numbers are settled for which this holds of their files' names
@@ -90,6 +91,7 @@ IsSettling P (wrote_file file) = ⊥
 IsSettling P (moved_file name places.Sent) = P name
 IsSettling P (moved_file name places.Lost) = P name
 IsSettling P (moved_file name places.Refused) = Unit {0}
+IsSettling P (moved_file name places.Done) = Unit {0}
 IsSettling P (removed_file name) = IsStop name
 
 -- each of these is

@@ -2,15 +2,18 @@
 use Rattle.std.specs.Prelude.{ℕ, List, Bool, true, false, ◌&&◌, Option, Some, None}
 use Rattle.node_core.specs.declared.turn.Note.{Note}
 use Rattle.node_core.specs.declared.turn.Note.TheVariants as notes
-use Rattle.offers.specs.Rules.{is_under_way}
+use Rattle.offers.specs.Answers.{landed_in}
+use Rattle.offers.specs.Rules.{Standing, is_under_way}
+use Rattle.offers.specs.declared.stage.Landing.TheVariants as landings
 use Rattle.plant_log.specs.declared.event.Event.{Event}
 use Rattle.plant_log.specs.declared.event.Event.TheVariants as events
 
--- it closed a ballot: that was given up, or found nothing
-abbrev pub is_of_close : Note → Bool
-is_of_close (notes.GaveUp ballot) = true
-is_of_close (notes.Nothing ballot) = true
-is_of_close note = false
+-- what becomes of the book by a step with this note about a number: where it closed a ballot, as that was given up or found nothing, the
+-- number is no longer under way, and its files are told
+abbrev pub closed_by : Note → ℕ → ℕ → Standing → Standing
+closed_by (notes.GaveUp ballot) n now b = landed_in n landings.Ended now b
+closed_by (notes.Nothing ballot) n now b = landed_in n landings.Nothing now b
+closed_by note n now b = b
 
 -- it opened one: a ballot was begun, or an entry was voted for at once
 abbrev pub is_of_opening : Note → Bool

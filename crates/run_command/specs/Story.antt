@@ -68,6 +68,7 @@ MayBeDone before (wrote_file file) = IsAmong (flat_map filing (events_of before)
 MayBeDone before (moved_file name places.Sent) = IsBehindRelease before name
 MayBeDone before (moved_file name places.Lost) = IsBehindRelease before name
 MayBeDone before (moved_file name places.Refused) = Unit {0}
+MayBeDone before (moved_file name places.Done) = Unit {0}
 MayBeDone before (removed_file name) = IsStop name
 
 -- an entry is offered only where a file that lay among the offers stands for it, a text by this table; a search, what is due, what comes

@@ -1,14 +1,17 @@
 //! How a station that stays up catches up, and lets others do: what it is told of that, and what it notes of what went out.
 
-ghost use Rattle.std.specs.Prelude.{◌≡◌, IfSome};
+ghost use Rattle.std.specs.Prelude.{◌≡◌, ◌||◌, IfSome};
 ghost use Rattle.catch_up.specs.Errands.{IsGoodErrand};
-ghost use Rattle.run_command.specs.Caring.{IsDone, IsHeardSo, IsNoted, IsPacketHeard, KeepsGone, TakesTurns, told_by};
+ghost use Rattle.run_command.specs.Caring.{IsAskHeard, IsDone, IsHeardSo, IsNoted, IsPacketHeard, is_search_due, KeepsGone, TakesTurns, told_by};
 
+use crate::asking::Ask;
+use crate::beginning::Start;
 use ballots::Number;
 use catch_up::{CatchUp, Errand};
-use catch_up_log::{Unheards, Unnoted};
+use catch_up_log::{Spoken, Unheards, Unnoted};
 use driver::{Chance, Declined, Heard, Log, Step};
 use exchange::Said;
+use folders::FolderFault;
 use messages::Kind;
 use node_core::Note;
 use std::alloc::Global;
@@ -17,7 +20,7 @@ use std::io::Write;
 /// What is kept in mind of catching up.
 #[derive(Drop)]
 pub(crate) struct Care {
-    alloc: Global,
+    pub(crate) alloc: Global,
     pub(crate) catch_up: CatchUp,
     /// The numbers that were released and are not noted as gone out yet.
     pub(crate) unnoted: Vec<Number>,
@@ -25,20 +28,34 @@ pub(crate) struct Care {
     unheards: Unheards,
     /// Whether the last deed was an errand, so that the next is one with a file.
     had_turn: bool,
+    /// Whether faults alone are told.
+    pub(crate) is_quiet: bool,
+    /// What the station is to start from, where it can't be read yet what went out, and why it can't.
+    pub(crate) waiting: Option<(Start, FolderFault)>,
+    /// The range that an editor asks for.
+    pub(crate) ask: Option<Ask>,
 }
 
 impl Care {
     /// Nothing is to be noted or told yet.
-    pub(crate) fn new(alloc: Global, catch_up: CatchUp) -> Care
-        ensures { result.catch_up ≡ catch_up }
+    pub(crate) fn new(
+        alloc: Global,
+        catch_up: CatchUp,
+        waiting: Option<(Start, FolderFault)>,
+    ) -> Care
+        ensures catch_up { result.catch_up ≡ catch_up }
+        ensures waiting { result.waiting ≡ waiting }
     {
         Care {
             alloc,
             catch_up,
             unnoted: Vec::new(alloc),
             notes: Unnoted::new(),
-            unheards: Unheards::new(),
+            unheards: Unheards::new(Spoken::Recall),
             had_turn: false,
+            is_quiet: false,
+            waiting,
+            ask: None,
         }
     }
 
@@ -103,20 +120,50 @@ impl Care {
         }
     }
 
+    /// What came of the number of a step, if it is about one, is an answer where that is asked for; and where it is not known yet what went
+    /// out, a row that was saved is kept in mind.
+    fn hear_ask(&mut self, step: &Step)
+        ensures { IsAskHeard self.old self.new }
+    {
+        if let Some(number) = step.answer.number {
+            self.hear_by_hand(number, step);
+            self.keep_saved(number, step);
+        }
+    }
+
     /// A step was taken; whether it opened a ballot for a file.
     pub(crate) fn did(&mut self, step: &Step, opened: bool)
         ensures { IsDone step.now self.old self.new }
     {
         self.hear_step(step, opened);
+        self.hear_ask(step);
         self.count_told(step);
         self.note_release(step);
     }
 
+    /// A look came to pass: what is lacked is looked for again, and what is asked for by hand.
+    pub(crate) fn look(&mut self) {
+        self.catch_up.look();
+        self.look_by_hand();
+    }
+
     /// Whether there may be an errand.
     pub(crate) fn has_errand(&self) -> bool
-        ensures { result ≡ self.now.catch_up.is_stirred }
+        ensures { result ≡ (self.now.catch_up.is_stirred || is_search_due self.now.ask) }
     {
-        self.catch_up.has_errand()
+        self.catch_up.has_errand() || self.is_search_due()
+    }
+
+    /// The next errand of catching up, or else of what is asked for by hand. Where there is no memory for it, it comes later.
+    fn next_of_all(&mut self, chance: Chance) -> Option<Errand>
+        ensures good { IfSome result IsGoodErrand }
+        ensures rest { self.new ≡ record self.old { catch_up = self.new.catch_up; ask = self.new.ask } }
+    {
+        match self.catch_up.next(chance.moment, chance.waits) {
+            Ok(Some(errand)) => Some(errand),
+            Ok(None) => self.next_by_hand(chance.moment),
+            Err(_) => None,
+        }
     }
 
     /// The next errand, if there is one; never two without a deed with a file between them. Where there is no memory for it, it comes later.
@@ -128,10 +175,7 @@ impl Care {
             self.had_turn = false;
             return None;
         }
-        let errand = match self.catch_up.next(chance.moment, chance.waits) {
-            Ok(errand) => errand,
-            Err(_) => None,
-        };
+        let errand = self.next_of_all(chance);
         self.had_turn = errand.is_some();
         errand
     }

@@ -4,7 +4,7 @@ ghost use Rattle.std.specs.Prelude.{◌≡◌, IfErr};
 ghost use Rattle.command_ends.specs.declared.fault.Fault.TheVariants.{OutOfMemory};
 ghost use Rattle.exchange.specs.Events.{ended};
 ghost use Rattle.offers.specs.Rules.{is_under_way};
-ghost use Rattle.run_command.specs.Noting.{event_of, is_of_close, is_of_opening, is_opened};
+ghost use Rattle.run_command.specs.Noting.{closed_by, event_of, is_of_opening, is_opened};
 ghost use Rattle.run_command.specs.Story.{IsReleasedIn};
 ghost use Rattle.run_command.specs.Working.{Always, Deals, Follows, HandsOn, Releases};
 
@@ -19,13 +19,6 @@ use plant_log::{Event, tell_folders};
 use station::Release;
 use std::alloc::AllocError;
 use std::io::Write;
-
-/// Whether a step with this note closed a ballot.
-fn is_of_close(note: &Note) -> bool
-    ensures { result ≡ is_of_close note.now }
-{
-    matches!(note, Note::GaveUp { .. } | Note::Nothing { .. })
-}
 
 /// What there is to tell of a step with this note about a number.
 fn event_of(number: Number, note: &Note) -> Option<Event>
@@ -63,16 +56,18 @@ impl<'f, 'p, F: Folders> Plant<'f, 'p, F> {
     /// Where a step about a number closed a ballot, its file is no longer under way. Whether it was before.
     fn note(&mut self, number: Number, step: &Step) -> bool
         ensures told { result ≡ is_under_way number self.old.papers.now.book.window }
+        ensures closed { self.new.papers.now.book ≡ closed_by step.now.answer.note number step.now.moment self.old.papers.now.book }
         ensures folders { self.new.folders.ghost_name ≡ self.old.folders.ghost_name }
         ensures same { self.new.folders.now ≡ self.old.folders.now }
         ensures waits { self.new.papers.now.waits ≡ self.old.papers.now.waits }
         ensures texts { self.new.papers.now.texts ≡ self.old.papers.now.texts }
         ensures book { Follows self.old.papers.now.book self.new.papers.now.book }
     {
-        if is_of_close(&step.answer.note) {
-            self.papers.book.ended(number, step.moment)
-        } else {
-            self.papers.book.is_under_way(number)
+        let book = &mut self.papers.book;
+        match step.answer.note {
+            Note::GaveUp { .. } => book.ended(number, step.moment),
+            Note::Nothing { .. } => book.found_nothing(number, step.moment),
+            _ => book.is_under_way(number),
         }
     }
 

@@ -2,7 +2,7 @@
 
 ghost use Rattle.std.specs.Prelude.{◌≡◌, IfSome};
 ghost use Rattle.driver.specs.Todos.{IsGoodTodo};
-ghost use Rattle.run_command.specs.Departing.{departure_of, task_of, IsFree, IsFreeTask};
+ghost use Rattle.run_command.specs.Departing.{departure_of, task_of, way_to, IsFree, IsFreeTask};
 ghost use Rattle.run_command.specs.Working.{Always, By, Deals, DealsBy, Follows};
 
 use crate::departures::{Departure, Way, tell_departure};
@@ -10,7 +10,7 @@ use crate::plant::Plant;
 use crate::reading::read;
 use ballots::Number;
 use driver::{Chance, Log, Todo};
-use folders::{Folders, Request};
+use folders::{Folders, Place, Request};
 use offers::{Allowed, Deed, Found};
 use plant_log::{Event, Trouble};
 use std::io::Write;
@@ -26,6 +26,16 @@ pub(crate) enum Task {
     Ask(Request),
 }
 
+/// Why a file leaves the offers that is moved to a place: its number was released, or it is a search that was answered.
+fn way_to(to: Place) -> Way
+    ensures { result ≡ way_to to }
+{
+    match to {
+        Place::Done => Way::Answered,
+        Place::Sent | Place::Lost | Place::Refused => Way::Released(to),
+    }
+}
+
 /// How a file leaves the offers by a deed; nothing where it does not.
 fn departure_of(deed: &Deed) -> Option<Departure>
     ensures { result ≡ departure_of deed.now }
@@ -33,7 +43,7 @@ fn departure_of(deed: &Deed) -> Option<Departure>
     match *deed {
         Deed::Move { request, stamp, to } => {
             let found = Found { request, stamp };
-            let way = Way::Released(to);
+            let way = way_to(to);
             Some(Departure { found, way })
         }
         Deed::Refuse {

@@ -1,6 +1,7 @@
-//! Files that leave the offers: to those that were sent or lost once their number is released, or to those that are no offers.
+//! Files that leave the offers: to those that were sent or lost once their number is released, to those that are no offers, or to those
+//! that are done, as searches that were answered.
 
-ghost use Rattle.std.specs.Prelude.{◌≡◌, [], IfOk, string_bytes};
+ghost use Rattle.std.specs.Prelude.{◌≡◌, [], IfOk, codes, string_bytes};
 ghost use Rattle.tape_frames.specs.Entries.{lent_entry};
 ghost use Rattle.command_ends.specs.EntryText.{entry_text};
 ghost use Rattle.command_ends.specs.ReleaseText.{plain_line};
@@ -25,6 +26,8 @@ pub(crate) enum Way {
     Released(Place),
     /// It is no offer.
     NoOffer(Reason),
+    /// It is a search that found nothing ten times.
+    Answered,
 }
 
 /// A file that leaves the offers.
@@ -41,6 +44,7 @@ fn place_of(way: Way) -> Place
     match way {
         Way::Released(to) => to,
         Way::NoOffer(_) => Place::Refused,
+        Way::Answered => Place::Done,
     }
 }
 
@@ -58,6 +62,13 @@ fn reason_text(alloc: Global, reason: Reason) -> Result<String, AllocError>
 {
     let why = ReasonText(reason);
     format!(in alloc; "{why}\n")
+}
+
+/// The text beside a search that was answered.
+fn answer_text(alloc: Global) -> Result<String, AllocError>
+    ensures { IfOk result (λ t. string_bytes t ≡ codes "nothing\n") }
+{
+    String::from_str(alloc, "nothing\n")
 }
 
 /// Moves a file, with this text beside it.
@@ -78,7 +89,7 @@ fn set_aside<F: Folders>(
     folders.set_aside(alloc, leaving, beside)
 }
 
-/// What befell the number of a file that has left the offers for what was released; nothing where it was no offer.
+/// What befell the number of a file that has left the offers; nothing where it was no offer.
 fn event_of(departure: &Departure) -> Option<Event>
     ensures { result ≡ left_event departure.now }
 {
@@ -87,6 +98,7 @@ fn event_of(departure: &Departure) -> Option<Event>
         Way::Released(Place::Lost) => Some(Event::Lost { number }),
         Way::Released(_) => Some(Event::Sent { number }),
         Way::NoOffer(_) => None,
+        Way::Answered => Some(Event::Done { number }),
     }
 }
 
@@ -126,6 +138,10 @@ impl<'f, 'p, F: Folders> Plant<'f, 'p, F> {
             Way::Released(_) => Ok(None),
             Way::NoOffer(reason) => {
                 let text = reason_text(self.alloc, reason)?;
+                Ok(Some(text))
+            }
+            Way::Answered => {
+                let text = answer_text(self.alloc)?;
                 Ok(Some(text))
             }
         }

@@ -1,6 +1,7 @@
 //! The command `run`: a station that stays up, and works with the folders of its plant.
 #![tactic(auto)]
 
+mod asking;
 mod beginning;
 mod care;
 mod closing;

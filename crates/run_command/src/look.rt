@@ -178,6 +178,30 @@ impl<'f, 'p, F: Folders> Plant<'f, 'p, F> {
         is_over
     }
 
+    /// Sees at a look to what is missing here: what went out is read, where it could not be before; and the file of a range whose numbers have
+    /// answers leaves the offers.
+    fn care_for<E: Write>(&mut self, now: u64, log: &mut Log<'_, E>)
+        ensures folders { self.new.folders.ghost_name ≡ self.old.folders.ghost_name }
+        ensures waits { self.new.papers.now.waits ≡ self.old.papers.now.waits }
+        ensures texts { self.new.papers.now.texts ≡ self.old.papers.now.texts }
+        ensures deals { Deals Always (F.doings self.old.folders.now) (F.doings self.new.folders.now) self.old.papers.now.waits.items self.old.papers.now.book self.new.papers.now.book }
+    {
+        self.papers.care.begin_again(self.folders, now, log);
+        self.papers.care.look();
+        self.answer_asked(log);
+    }
+
+    /// Looks at the offers where it is time for it, and sees to what is missing here, at a moment.
+    fn look_around<E: Write>(&mut self, now: u64, log: &mut Log<'_, E>)
+        ensures folders { self.new.folders.ghost_name ≡ self.old.folders.ghost_name }
+        ensures waits { self.new.papers.now.waits ≡ self.old.papers.now.waits }
+        ensures texts { self.new.papers.now.texts ≡ self.old.papers.now.texts }
+        ensures deals { Deals Always (F.doings self.old.folders.now) (F.doings self.new.folders.now) self.old.papers.now.waits.items self.old.papers.now.book self.new.papers.now.book }
+    {
+        self.look_if_due(now, log);
+        self.care_for(now, log);
+    }
+
     /// A look at the folders, at a moment: writes the files that wait, and looks at the offers where it is time for it. Whether the file that
     /// ends the run lies there, which is looked for each time.
     pub(crate) fn look<E: Write>(&mut self, now: u64, log: &mut Log<'_, E>) -> bool
@@ -186,8 +210,7 @@ impl<'f, 'p, F: Folders> Plant<'f, 'p, F> {
         ensures looks { WritesAndDeals (F.doings self.old.folders.now) (F.doings self.new.folders.now) self.old.papers.now.waits.items self.new.papers.now.waits.items self.old.papers.now.book self.new.papers.now.book }
     {
         self.write(now, log);
-        self.look_if_due(now, log);
-        self.papers.care.catch_up.look();
+        self.look_around(now, log);
         self.is_over(now, log)
     }
 }

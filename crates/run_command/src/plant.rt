@@ -199,6 +199,8 @@ impl<'f, 'p, F: Folders> Plant<'f, 'p, F> {
         ensures texts { self.new.papers.now.texts ≡ self.old.papers.now.texts }
         ensures book { self.new.papers.now.book ≡ self.old.papers.now.book }
     {
+        let released = self.released_tape(declined.number);
+        self.papers.care.decline_by_hand(&declined, released);
         self.papers.care.decline(declined);
     }
 

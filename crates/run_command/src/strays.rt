@@ -60,8 +60,8 @@ impl Papers {
 }
 
 impl<'f, 'p, F: Folders> Plant<'f, 'p, F> {
-    /// Moves the next such file, at a moment. One that can't be moved is put off, which is told.
-    pub(crate) fn leave_stray<E: Write>(&mut self, now: u64, log: &mut Log<'_, E>)
+    /// Moves the next such file to those that are no offers, at a moment. One that can't be moved is put off, which is told.
+    fn refuse_stray<E: Write>(&mut self, now: u64, log: &mut Log<'_, E>)
         ensures folders { self.new.folders.ghost_name ≡ self.old.folders.ghost_name }
         ensures waits { self.new.papers.now.waits ≡ self.old.papers.now.waits }
         ensures texts { self.new.papers.now.texts ≡ self.old.papers.now.texts }
@@ -75,6 +75,18 @@ impl<'f, 'p, F: Folders> Plant<'f, 'p, F> {
         match moved {
             Ok(()) => self.papers.strays.moved(),
             Err(fault) => self.papers.strays.could_not(fault, now),
+        }
+    }
+
+    /// Sees to the next such file, at a moment: the range that its name asks for is asked for, if it asks for one, or else it is no offer.
+    pub(crate) fn leave_stray<E: Write>(&mut self, now: u64, log: &mut Log<'_, E>)
+        ensures folders { self.new.folders.ghost_name ≡ self.old.folders.ghost_name }
+        ensures waits { self.new.papers.now.waits ≡ self.old.papers.now.waits }
+        ensures texts { self.new.papers.now.texts ≡ self.old.papers.now.texts }
+        ensures deals { Deals Always (F.doings self.old.folders.now) (F.doings self.new.folders.now) self.old.papers.now.waits.items self.old.papers.now.book self.new.papers.now.book }
+    {
+        if !self.ask_for_stray(now) {
+            self.refuse_stray(now, log);
         }
     }
 }

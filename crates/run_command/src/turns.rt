@@ -70,10 +70,12 @@ pub fn run_station<R: Rows, N: Wire, F: Folders, E: Write>(
 {
     let alloc = terms.alloc;
     let loudness = terms.loudness;
+    let is_quiet = loudness == Loudness::Faults;
     let start = Start {
         alloc,
         own: terms.own,
         known: terms.known,
+        is_quiet,
     };
     let manner = Manner {
         texts: terms.texts,
@@ -98,5 +100,5 @@ pub fn run_station<R: Rows, N: Wire, F: Folders, E: Write>(
     };
     let desk = PlantDesk { plant };
     let mut driver = Driver::new(station, wire, desk, &mut intake);
-    driver.run(terms.err, loudness == Loudness::Faults)
+    driver.run(terms.err, is_quiet)
 }

@@ -2,7 +2,7 @@
 
 use crate::run::plant::{RUN, Run, Saved, is_true};
 use crate::run::stage::Held::{Flood, Harvest, Nothing, Start, Why};
-use crate::run::stage::Name::{Seek12, Stop, Tape12, Withdraw14};
+use crate::run::stage::Name::{Range, Seek12, Stop, Tape12, Withdraw14};
 use crate::run::stage::What::{Laid, LaidAt, Left};
 use crate::run::stage::{Act, Call};
 use log_terms::Loudness;
@@ -116,7 +116,7 @@ fn changed(rt: HostRuntime) {
     }
 }
 
-/// A search finds what was voted for; where there is nothing, it is made again after a pause that grows.
+/// A search finds what was voted for; where there is nothing, it is made again after a pause that grows, and given back after ten times.
 const SOUGHT: &[Run] = &[
     Run {
         saved: Saved::Vote,
@@ -130,7 +130,50 @@ const SOUGHT: &[Run] = &[
         err: "12 nothing 1.1\n12 nothing 2.1\n12 nothing 3.1\n",
         ..RUN
     },
+    Run {
+        acts: &[
+            Act(1, Laid(Seek12, Nothing)),
+            Act(1030, Laid(Stop, Nothing)),
+        ],
+        quarters: 1100,
+        folders: "done 12.seek\ndone 12.seek.txt: nothing\n",
+        err: "12 nothing 1.1\n12 nothing 2.1\n12 nothing 3.1\n12 nothing 4.1\n12 nothing 5.1\n12 nothing 6.1\n\
+12 nothing 7.1\n12 nothing 8.1\n12 nothing 9.1\n12 nothing 10.1\ndone 12.seek: nothing, ten times\n",
+        ..RUN
+    },
 ];
+
+/// A range is searched number by number, and its file tells what came of each.
+const RANGES: &[Run] = &[
+    Run {
+        saved: Saved::Vote,
+        acts: &[Act(1, Laid(Range, Nothing)), Act(20, Laid(Stop, Nothing))],
+        folders: "\
+wrote 12.tape 7\nwrote 12.galley 25\ndone 12-14.seek\ndone 12-14.seek.txt: 12 tape\n13-14 nothing\n",
+        err: "12 released\ndone 12-14.seek: 1 tapes, 0 void, 2 nothing\n",
+        ..RUN
+    },
+    Run {
+        saved: Saved::Vote,
+        loudness: Loudness::Faults,
+        acts: &[
+            Act(1, Laid(Seek12, Nothing)),
+            Act(10, Laid(Range, Nothing)),
+            Act(30, Laid(Stop, Nothing)),
+        ],
+        folders: "\
+wrote 12.tape 7\nwrote 12.galley 25\nsent 12.seek\ndone 12-14.seek\n\
+done 12-14.seek.txt: 12 tape\n13-14 nothing\n",
+        ..RUN
+    },
+];
+
+#[test]
+fn ranges(rt: HostRuntime) {
+    for (place, run) in RANGES.iter().enumerate() {
+        assert!(rt; is_true(rt.alloc(), run), "{place}");
+    }
+}
 
 #[test]
 fn sought(rt: HostRuntime) {

@@ -89,6 +89,7 @@ pub fn place_word(to: Place) -> &'static str {
         Place::Sent => "sent",
         Place::Lost => "lost",
         Place::Refused => "refused",
+        Place::Done => "done",
     }
 }
 

@@ -18,6 +18,8 @@ pub enum Name {
     Tape14,
     Seek12,
     Seek14,
+    /// A range of numbers that is asked for.
+    Range,
     Withdraw14,
     Stop,
     /// Names of no number: with a zero in front, with none, above the last.
@@ -39,6 +41,7 @@ fn text_of(name: Name) -> &'static str {
         Name::Tape14 => "14.tape",
         Name::Seek12 => "12.seek",
         Name::Seek14 => "14.seek",
+        Name::Range => "12-14.seek",
         Name::Withdraw14 => "14.withdraw",
         Name::Stop => "stop",
         Name::ZeroTape => "012.tape",

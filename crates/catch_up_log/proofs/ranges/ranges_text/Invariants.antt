@@ -5,4 +5,4 @@ use Rattle.catch_up_log.specs.Ranges.{next_text}
 use Rattle.catch_up_log.proofs.ranges.ranges_text.Given as goal
 
 abbrev pub invariant-loop-range : goal.invariant-loop-range
-invariant-loop-range l = string_bytes l.text ≡ string_bytes l.initial.text ++ flat_map next_text (take l.range-index l.rest)
+invariant-loop-range l = string_bytes l.text ≡ string_bytes l.initial.text ++ flat_map (next_text l.ending) (take l.range-index l.rest)

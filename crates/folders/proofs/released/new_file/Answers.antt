@@ -1,8 +1,7 @@
 -- What is written is read again.
-use Rattle.std.proofs.Common.{rules, ◌≡◌, ◌++◌, ℕ, List, [], sym, ap, subst, ◌∙◌, arith, append-nil}
+use Rattle.std.proofs.Common.{rules, ◌≡◌, ℕ, List, sym, subst}
 use Rattle.gone_out.specs.Origins.{IsOrigin}
-use Rattle.gone_out.specs.Files.{IsNumber, file}
-use Rattle.gone_out.specs.Laws.{IsAmong, IsReadAgain}
+use Rattle.gone_out.specs.Files.{file}
 use Rattle.folders.specs.GoneOut.{IsFileOf}
 use Rattle.folders.proofs.Ledgers.{file_of}
 use Rattle.folders.proofs.released.new_file.Goals as goal

@@ -1,5 +1,5 @@
 -- One record after the other was added.
-use Rattle.std.proofs.Common.{rules, arith, inl, inr, ◌≡◌, ◌<◌, ◌≤◌, ◌++◌, ℕ, List, length, get_or, take, sym, ap, subst, ◌∙◌, append_assoc}
+use Rattle.std.proofs.Common.{rules, inl, inr, ◌≡◌, ◌<◌, ◌≤◌, ◌++◌, ℕ, List, length, get_or, take, sym, ap, subst, ◌∙◌, append_assoc}
 use Rattle.std.proofs.lemmas.Grind.{get_or_default_zero}
 use Rattle.std.proofs.lemmas.List.{take_all}
 use Rattle.gone_out.specs.Files.{IsNumber, record_bytes, records}

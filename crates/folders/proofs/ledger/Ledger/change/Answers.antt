@@ -1,9 +1,8 @@
 -- The records of all that wait are added behind the whole ones.
-use Rattle.std.proofs.Common.{rules, arith, ◌≡◌, ◌≤◌, ◌++◌, ℕ, List, [], length, take, sym, ap, subst, ◌∙◌}
+use Rattle.std.proofs.Common.{rules, ◌≡◌, ◌≤◌, ◌++◌, ℕ, List, [], length, take, sym, ap, subst, ◌∙◌}
 use Rattle.gone_out.specs.Origins.{IsOrigin}
 use Rattle.gone_out.specs.Files.{IsNumber, records, whole_part}
 use Rattle.gone_out.specs.Laws.{IsAmong}
-use Rattle.folders.specs.Changes.{after}
 use Rattle.folders.specs.GoneOut.{IsFileOf, added_all}
 use Rattle.folders.proofs.Ledgers.{adds_all}
 use Rattle.folders.proofs.ledger.Ledger.change.Goals as goal

@@ -1,8 +1,5 @@
 -- Where the file is this station's its numbers are told, and else it is the first start.
-use Rattle.std.proofs.Common.{rules, ◌≡◌, ◌⊎◌, Some, None, List, ℕ, sym, subst}
-use Rattle.std.specs.Prelude.{◌↔◌, IsTrue}
-use Rattle.gone_out.specs.Files.{IsNumber, HasRecord}
-use Rattle.gone_out.specs.Numbers.{has}
+use Rattle.std.proofs.Common.{rules, ◌≡◌, Some, None, List, ℕ, sym, subst}
 use Rattle.folders.specs.GoneOut.{IsOwnFile, AreThoseOf}
 use Rattle.folders.proofs.Ledgers.{those_of, if_ok, match_none, some_is}
 use Rattle.folders.proofs.memory.MemoryFolders.start_keeping.Goals as goal

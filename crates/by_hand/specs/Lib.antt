@@ -1,0 +1,6 @@
+pub mod Answers
+pub mod Hands
+pub mod Laws
+pub mod Lists
+pub mod Scans
+pub mod Texts

@@ -1,0 +1,5 @@
+pub mod Turns
+pub mod Counting
+pub mod Lowest
+pub mod Waiting
+pub mod Keeping

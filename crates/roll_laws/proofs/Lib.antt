@@ -1,0 +1,9 @@
+mod Voting
+mod Missing
+mod Counting
+mod Asking
+mod Promising
+mod Marking
+mod Closing
+mod Finding
+mod Above

@@ -1,0 +1,11 @@
+pub mod Pages
+pub mod Counts
+pub mod Votes
+pub mod Kinds
+pub mod Rolls
+pub mod Bodies
+pub mod Grammar
+pub mod Reading
+pub mod Spelling
+pub mod Asides
+pub mod Laws

@@ -1,0 +1,92 @@
+-- Reading a roll from its front, with the first fault in the stated order.
+use Rattle.std.specs.Prelude.{◌≡◌, ℕ, zero, suc, List, [], ◌∷◌, length, take, drop, slice_index, not, ◌&&◌, ◌==◌, Option, Some, None, Result, Ok, Err, nat_lt, nat_le, if◌then◌else◌}
+use Rattle.protocol.specs.Limits.{most_members}
+use Rattle.recalls.specs.Reading.{u16_at, u32_at}
+use Rattle.rolls.specs.Pages.{pages, page_bytes}
+use Rattle.rolls.specs.Counts.{counts_fit}
+use Rattle.rolls.specs.Votes.{Votes, only_numbers}
+use Rattle.rolls.specs.Kinds.{kind_of_byte, body_len}
+use Rattle.rolls.specs.Rolls.{Body, CountsAsked, Counts, PageAsked, Page, Roll}
+use Rattle.rolls.specs.declared.body.Kind.{Kind}
+use Rattle.rolls.specs.declared.body.Kind.TheVariants as kinds
+use Rattle.rolls.specs.declared.fault.RollFault.{RollFault}
+use Rattle.rolls.specs.declared.fault.RollFault.TheVariants.{Short, BadMark, BadVersion, BadKind, BadMember, BadPage, BadCount, BadBits, Long}
+
+-- one step after another, up to the first fault
+infixl 10 ◌>>=◌
+abbrev pub ◌>>=◌ : {A B : Type 0} → Result A RollFault → (A → Result B RollFault) → Result B RollFault
+(Ok x) >>= f = f x
+(Err e) >>= f = Err e
+
+-- what a function returned, seen by view, is what reading gives
+abbrev pub Seen : {X Y : Type 0} → (X → Y) → Result X RollFault → Result Y RollFault → Type 0
+Seen view (Ok x) read = read ≡ Ok (view x)
+Seen view (Err e) read = read ≡ Err e
+
+-- a value, or this fault where there is none
+abbrev pub wanted : {A : Type 0} → RollFault → Option A → Result A RollFault
+wanted fault None = Err fault
+wanted fault (Some x) = Ok x
+
+-- the length of a header, the mark and the version
+unfoldable pub mark_at : List ℕ → Result (Unit {0}) RollFault
+mark_at bytes =
+    if nat_lt (length bytes) 12 then Err Short else
+    if not (slice_index bytes 0 == 84 && slice_index bytes 1 == 82) then Err BadMark else
+    if not (slice_index bytes 2 == 1) then Err BadVersion else Ok tt
+
+-- the kind
+unfoldable pub kind_at : List ℕ → Result Kind RollFault
+kind_at bytes = wanted BadKind (kind_of_byte (slice_index bytes 3))
+
+-- the member at this place
+unfoldable pub member_at : List ℕ → ℕ → Result ℕ RollFault
+member_at bytes at = if nat_le 1 (slice_index bytes at) && nat_le (slice_index bytes at) most_members then Ok (slice_index bytes at) else Err BadMember
+
+-- two members that differ
+unfoldable pub members_at : List ℕ → Result (ℕ × ℕ) RollFault
+members_at bytes = do
+  from ← member_at bytes 6
+  to ← member_at bytes 7
+  if from == to then Err BadMember else Ok (from, to)
+
+-- so many numbers of two bytes
+unfoldable pub counts_in : ℕ → List ℕ → List ℕ
+counts_in zero bytes = []
+counts_in (suc count) bytes = u16_at bytes 0 ∷ counts_in count (drop 2 bytes)
+
+-- a count for each page, at most the numbers of the page
+unfoldable pub counts_at : List ℕ → Result (List ℕ) RollFault
+counts_at bytes = if counts_fit 0 (counts_in pages bytes) then Ok (counts_in pages bytes) else Err BadCount
+
+-- a page
+unfoldable pub page_at : List ℕ → Result ℕ RollFault
+page_at bytes = if nat_lt (slice_index bytes 0) pages then Ok (slice_index bytes 0) else Err BadPage
+
+-- a page, and a bit for each of its numbers
+unfoldable pub votes_at : List ℕ → Result Votes RollFault
+votes_at bytes = do
+  page ← page_at bytes
+  if only_numbers page (take page_bytes (drop 1 bytes)) then Ok (record { page = page; bytes = take page_bytes (drop 1 bytes) }) else Err BadBits
+
+-- what is told in a body of this kind
+abbrev pub told_at : Kind → List ℕ → Result Body RollFault
+told_at kinds.CountsAsked bytes = Ok CountsAsked
+told_at kinds.Counts bytes = counts_at bytes >>= λ counts. Ok (Counts counts)
+told_at kinds.PageAsked bytes = page_at bytes >>= λ page. Ok (PageAsked page)
+told_at kinds.Page bytes = votes_at bytes >>= λ votes. Ok (Page votes.page votes.bytes)
+
+-- the body of this kind that the bytes are
+unfoldable pub body_at : Kind → List ℕ → Result Body RollFault
+body_at kind bytes =
+    if nat_lt (length bytes) (body_len kind) then Err Short else
+    told_at kind bytes >>= λ body. if nat_lt (body_len kind) (length bytes) then Err Long else Ok body
+
+-- the roll that the bytes spell, or their first fault
+unfoldable pub roll_at : List ℕ → Result Roll RollFault
+roll_at bytes = do
+  marked ← mark_at bytes
+  kind ← kind_at bytes
+  both ← members_at bytes
+  body ← body_at kind (drop 12 bytes)
+  Ok (record { circuit = u16_at bytes 4; from = both.0; to = both.1; asked = u32_at bytes 8; body = body })

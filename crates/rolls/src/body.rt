@@ -1,0 +1,88 @@
+//! What a roll says: a body of one of four kinds.
+
+ghost use Rattle.std.specs.Prelude.{◌≡◌};
+ghost use Rattle.rolls.specs.Kinds.{kind_of_byte, number_of_kind, body_len};
+ghost use Rattle.rolls.specs.Bodies.{said, kind_of};
+
+use crate::counts::Counts;
+use crate::page::{PAGE_BYTES, PAGES, Page};
+use crate::votes::Votes;
+
+/// The kind of a roll.
+#[derive(Clone, Copy)]
+pub(crate) enum Kind {
+    /// How many numbers of each page have a vote is asked.
+    CountsAsked,
+    /// How many they are.
+    Counts,
+    /// Which numbers of a page have a vote is asked.
+    PageAsked,
+    /// Which they are.
+    Page,
+}
+
+impl Kind {
+    /// The kind of this number.
+    pub(crate) fn of_byte(byte: u8) -> Option<Kind>
+        ensures { result ≡ kind_of_byte byte }
+    {
+        match byte {
+            2 => Some(Kind::CountsAsked),
+            3 => Some(Kind::Counts),
+            4 => Some(Kind::PageAsked),
+            5 => Some(Kind::Page),
+            _ => None,
+        }
+    }
+
+    /// Its number, the fourth byte of a roll.
+    pub(crate) fn byte(self) -> u8
+        ensures { result ≡ number_of_kind self }
+    {
+        match self {
+            Kind::CountsAsked => 2,
+            Kind::Counts => 3,
+            Kind::PageAsked => 4,
+            Kind::Page => 5,
+        }
+    }
+
+    /// How many bytes a body of this kind has.
+    pub(crate) fn body_len(self) -> usize
+        ensures { result ≡ body_len self }
+    {
+        match self {
+            Kind::CountsAsked => 0,
+            Kind::Counts => 2 * PAGES,
+            Kind::PageAsked => 1,
+            Kind::Page => 1 + PAGE_BYTES,
+        }
+    }
+}
+
+/// What a roll says.
+#[derive(Drop)]
+pub enum Body {
+    /// How many numbers of each page have a vote is asked.
+    CountsAsked,
+    /// How many numbers of each page have a vote.
+    Counts(Counts),
+    /// Which numbers of a page have a vote is asked.
+    PageAsked(Page),
+    /// Which numbers of a page have a vote.
+    Page(Votes),
+}
+
+impl Body {
+    /// The kind of roll that says this.
+    pub(crate) fn kind(&self) -> Kind
+        ensures { result ≡ kind_of (said self.now) }
+    {
+        match self {
+            Body::CountsAsked => Kind::CountsAsked,
+            Body::Counts(_) => Kind::Counts,
+            Body::PageAsked(_) => Kind::PageAsked,
+            Body::Page(_) => Kind::Page,
+        }
+    }
+}

@@ -1,0 +1,55 @@
+//! Laws over pages and the grammar. The functions do nothing, or call others that do nothing: their contracts are the laws.
+
+ghost use Rattle.rolls.specs.Laws.{EachNumberHasItsPlace, EachPlaceHasItsNumber, FindsWhatIsSpelled, HasOneSpelling, HearsRecalls, HearsRolls, IsNoPacket, IsNoRecall, LengthsAreGiven, NoPrefix, NoRecallIsOne, OneRoll, OnlyRolls, ReadsItAgain};
+
+/// Each circuit number has one place on one page, and each place has one number.
+pub fn pages()
+    ensures number { EachNumberHasItsPlace }
+    ensures place { EachPlaceHasItsNumber }
+{}
+
+/// Each roll has exactly one spelling, and nothing else has one.
+pub fn one_spelling()
+    ensures has { HasOneSpelling }
+    ensures only { OnlyRolls }
+{}
+
+/// No bytes spell two rolls.
+pub fn one_roll()
+    ensures { OneRoll }
+{}
+
+/// No spelling is a prefix of another's.
+pub fn no_prefix()
+    ensures { NoPrefix }
+{}
+
+/// A roll's spelling has 12 bytes and those of its body: 12, 13, 258 or 1,037.
+pub fn lengths()
+    ensures { LengthsAreGiven }
+{}
+
+/// Reading from the front, which says what the first fault is, finds what the grammar says.
+pub fn reading()
+    ensures again { ReadsItAgain }
+    ensures found { FindsWhatIsSpelled }
+{}
+
+/// What spells a roll is no packet of either version, and is refused as bytes that end too early or are of a bad mark.
+pub fn is_no_packet()
+    ensures { IsNoPacket }
+{}
+
+/// What spells a roll is no recall, and is refused as bytes that end too early or are of a bad kind; what spells a recall is no roll.
+pub fn is_no_recall()
+    ensures roll { IsNoRecall }
+    ensures recall { NoRecallIsOne }
+{}
+
+/// What spells a roll is heard as it, and so is what spells a recall.
+pub fn hears()
+    ensures rolls { HearsRolls }
+    ensures recalls { HearsRecalls }
+{
+    recalls::laws::reading();
+}
