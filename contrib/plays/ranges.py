@@ -5,7 +5,7 @@ import time
 import plants
 import stage
 from folders import told
-from recalls import Voice, ends, is_released
+from recalls import ends, is_released, was_down
 
 
 def a_range_by_hand(at):
@@ -42,15 +42,7 @@ def ranges_that_are_none(at):
 
 def releases_that_come_late(at):
     """Where the folder of releases is not there at a start, what is missing is asked for once it is."""
-    ports, story = plants.configure(at), at.read('flood.tape')
-    plant, = plants.bring_up(at, ports, (3,))
-    with Voice(1, ports) as first:
-        first.has_promised(3, 12)
-    ends(at, 3, plant)
-    plants.bring_up(at, ports, (1, 2))
-    plants.lay(at, 1, '12.tape', story)
-    for member in (1, 2):
-        is_released(at, member, 12, 20)
+    ports = was_down(at)
     os.rename(at.path('releases3'), at.path('away'))
     plants.bring_up(at, ports, (3,), words='', making='')
     time.sleep(1)

@@ -225,8 +225,8 @@ def a_vote_was_lost(at):
         is_released(at, 3, 12, HEALS - 5)
 
 
-def heals(at):
-    """A plant that was down while a number was released, and has a row of it, has the story soon after its start; nothing asks for it."""
+def was_down(at):
+    """Plant 3 has a row of number 12, and is down while the others release a story under it; gives the ports."""
     ports, story = plants.configure(at), at.read('flood.tape')
     plant, = plants.bring_up(at, ports, (3,))
     with Voice(1, ports) as first:
@@ -236,6 +236,12 @@ def heals(at):
     plants.lay(at, 1, '12.tape', story)
     for member in (1, 2):
         is_released(at, member, 12, ANSWERS)
+    return ports
+
+
+def heals(at):
+    """A plant that was down while a number was released, and has a row of it, has the story soon after its start; nothing asks for it."""
+    ports = was_down(at)
     plants.bring_up(at, ports, (3,), making='')
     is_released(at, 3, 12, HEALS)
     stage.wants(os.listdir(at.path('offers3')) in ([], ['.circuitd']), f'{os.listdir(at.path("offers3"))}')
