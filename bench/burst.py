@@ -1,7 +1,7 @@
 #!/usr/bin/env python3
 """Bursts of stories: how many plants hear of each, with how many ballots, and how long it takes beside the work alone.
 
-    bench/burst.py [--runs N] [--loss P] [--rows] [--etcd] PROGRAM [CASE ..]
+    bench/burst.py [--runs N] [--loss P] [--rows] [--all] [--etcd] PROGRAM [CASE ..]
 
 For each case plants `run` on 127.0.0.1, stories are laid among their offers all at once, and it is waited until each offer has left
 and each story stands in all folders `releases`, or 10 s after the last offer left. A line is printed for each run:
@@ -10,6 +10,8 @@ and each story stands in all folders `releases`, or 10 s after the last offer le
     dropped    datagrams that a plant's own receive buffer had no room for, of all that the plants' sockets were handed (the column
                `drops` of the host's table of UDP sockets)
     lacks      how many stories each plant lacks at the end
+    untrue     of how many plants a line about what they missed is not so: a number that is told as missed has no story there in the end, or
+               more numbers are told as caught up with than as missed; only where there are such
     rows       with --rows: of how many numbers each plant has a saved row and no story, and the first of them
     took       from the first `N began B` to the last galley anywhere
     alone      the work alone, on the same disk right after the run: the same row saves, and the same files written and synced, by
@@ -35,13 +37,14 @@ Cases (all where none is named):
 
 With --loss the plants stand in namespaces, over the switch of net.py, and each datagram is lost with that chance (root is needed).
 With --rows `circuitd rows` lists the rows of each plant once it was killed, and the status is 1 where a number has a row at a plant whose
-story is not there 10 s after the last offer left.
+story is not there 10 s after the last offer left. With --all it is 1 too where a plant lacks any story then, or told what is not so.
 With --etcd, where etcd and etcdctl are installed: how long 1,000 puts take that are watched on three nodes on the same disk.
 """
 import argparse
 import contextlib
 import multiprocessing
 import os
+import re
 import resource
 import shutil
 import signal
@@ -56,6 +59,9 @@ import time
 from net import Net
 
 HERE = os.path.dirname(os.path.abspath(__file__))
+# What a plant tells of the numbers that it missed, and of those that it caught up with.
+MISSED = re.compile(r'([0-9, .-]+) missed, asked for')
+CAUGHT = re.compile(r'caught up: (\d+) released, (\d+) nothing')
 EXAMPLES = os.path.join(HERE, '..', 'examples')
 LINES = (bytes.fromhex('01020301030204'), bytes.fromhex('01010101010104'))
 SETTLES = 10
@@ -176,6 +182,16 @@ def free_ports(count):
     return ports
 
 
+def numbers_of(ranges):
+    """The numbers of `41-60, 97`, as far as they are named."""
+    found = set()
+    for part in ranges.replace('..', '').split(','):
+        first, _, last = part.strip().partition('-')
+        if first:
+            found |= set(range(int(first), int(last or first) + 1))
+    return found
+
+
 class Plant:
     """A plant in a folder of its own, with the moments of what it tells."""
 
@@ -211,6 +227,14 @@ class Plant:
                 self.given_up.add(int(words[0]))
             elif len(words) != 2:
                 self.other.append(line)
+
+    def is_untrue(self):
+        """Whether it told a number as missed whose story is not there, or that it caught up with more than it told as missed."""
+        told = [line.decode().rstrip('\n') for line in self.other]
+        missed = [found[1] for line in told if (found := MISSED.fullmatch(line))]
+        asked = set().union(*map(numbers_of, missed))
+        caught = sum(int(found[1]) for line in told if (found := CAUGHT.fullmatch(line)))
+        return bool(asked - self.released()) or caught > len(asked) and not any('..' in line for line in missed)
 
     def lay(self, number, frames):
         part = os.path.join(self.offers, f'.{number}.tape')
@@ -413,6 +437,7 @@ def run(program, case, folder, preload, net, lists_rows):
             'strangers': sent,
             'differ': differing(plants, wanted),
             'said': [line for plant in plants for line in plant.other],
+            'untrue': sum(plant.is_untrue() for plant in plants),
         }
     finally:
         for plant in plants:
@@ -489,7 +514,7 @@ def line_of(name, told, floor):
              f'lacks {told["lacks"]}', f'took {told["took"]:.2f} s, alone {floor:.2f}: {told["took"] / floor:.2f}',
              f'elsewhere {statistics.median(elsewhere):.0f}, at most {max(elsewhere):.0f} ms of {len(elsewhere)}' if elsewhere else 'elsewhere none',
              f'processor {told["processor"]:.2f} s']
-    parts += [f'{what} {told[what]}' for what in ('stay', 'differ', 'strangers') if told[what]]
+    parts += [f'{what} {told[what]}' for what in ('stay', 'differ', 'strangers', 'untrue') if told[what]]
     parts += [f'rows without a story {[len(each) for each in told["rows"]]}, {[each[:9] for each in told["rows"]]}'] if any(told['rows']) else []
     parts += [f'said {told["said"][:2]}'] if told['said'] else []
     return ' | '.join(parts)
@@ -500,6 +525,7 @@ def main():
     parser.add_argument('--runs', type=int, default=1)
     parser.add_argument('--loss', type=float, default=0.0)
     parser.add_argument('--rows', action='store_true')
+    parser.add_argument('--all', action='store_true')
     parser.add_argument('--etcd', action='store_true')
     parser.add_argument('program')
     parser.add_argument('cases', nargs='*', metavar='CASE')
@@ -517,7 +543,7 @@ def main():
             for _ in range(asked.runs):
                 told, floor = measured(program, CASES[name], tempfile.mkdtemp(dir=room), asked.loss, asked.rows)
                 print(line_of(name, told, floor), flush=True)
-                runs, lacking = runs + 1, lacking + any(told['rows'])
+                runs, lacking = runs + 1, lacking + bool(any(told['rows']) or asked.all and (any(told['lacks']) or told['untrue']))
                 all_elsewhere.setdefault(name, []).extend(told['elsewhere'])
             if asked.runs > 1 and all_elsewhere[name]:
                 print(f'{name:14} | elsewhere, median of {len(all_elsewhere[name])}: {statistics.median(all_elsewhere[name]):.0f} ms', flush=True)

@@ -6,14 +6,13 @@
 Three plants `run` on 127.0.0.1, over a network that loses 5 to 20 % of all datagrams, a share of its own in each run, to the end. Each second
 10 stories are laid among the offers, at the plants in turn, each under a number of its own and by rename. Every 1 to 4 seconds one of the plants
 is killed (SIGKILL), 40 times where no other count is given, and started again within half a second. Then nothing is laid or killed any more.
-Once all offers have left, each plant has 30 s to come to have the story of each number that it has a row of.
+Once all offers have left, each plant has 30 s to come to have the story of each number, whether it heard of it or not.
 
 Then the plants end well, and the rows are listed. They start again, 50 more stories are laid, and after 15 s they end well once more.
 
 Told are, and the status is 1 where one of them does not hold:
 
-    lacks      of each plant the numbers that it has a row of, and no story; none. Those that it has neither a row nor a story of are told beside
-               them and not judged: nothing came of them there
+    lacks      of each plant the numbers whose story it has not; none. How many of them it has a row of is told beside them
     kept       at each good end the stories of the numbers in `.released` lie among the releases, and `.released` has each number that has a
                story there and a row
     again      since the first good end no number is told as released that had gone out by then, and none twice
@@ -103,13 +102,13 @@ def heal(plants, network, count):
 
 
 def lacking(program, plants, count):
-    """Prints what each plant lacks; whether none lacks what it has a row of."""
+    """Prints what each plant lacks; whether none lacks anything."""
     is_well = True
     for member, plant in enumerate(plants, 1):
         plant.see()
         rows, there = rows_of(program, plant.home), plant.released()
-        lacks, unheard = sorted(rows - there), count - len(rows | there)
-        print(f'plant {member}: {len(there)} of {count} stories; lacks of those with a row {len(lacks)} {lacks[:9]}; without a row {unheard}', flush=True)
+        lacks = sorted(set(range(1, count + 1)) - there)
+        print(f'plant {member}: {len(there)} of {count} stories; lacks {len(lacks)} {lacks[:9]}, {len(rows & set(lacks))} of them with a row', flush=True)
         is_well = is_well and not lacks
     return is_well
 
@@ -140,7 +139,7 @@ def again(program, plants, before, released):
 
 
 def play(program, plants, network, words):
-    """All of it; whether no plant lacks what it has a row of."""
+    """All of it; whether no plant lacks a story."""
     for plant in plants:
         plant.start()
     network.pass_on_until(time.monotonic() + 1)

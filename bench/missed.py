@@ -69,7 +69,7 @@ class Gate(Network):
         if isinstance(said, datagrams.Recall):
             if self.opened is not None:
                 self.asked.append(now)
-        elif said.kind == datagrams.ACCEPTED:
+        elif isinstance(said, datagrams.Packet) and said.kind == datagrams.ACCEPTED:
             self.voted.setdefault(said.number, now)
 
     def ripe(self, started):

@@ -1,4 +1,4 @@
-"""Packets, recalls and the file `.released`: spelled and read as docs/FORMATS.md says, apart from the program."""
+"""Packets, recalls, rolls and the file `.released`: spelled and read as docs/FORMATS.md says, apart from the program."""
 import struct
 from typing import NamedTuple
 
@@ -8,6 +8,11 @@ PREPARE, PROMISE, ACCEPT, ACCEPTED, NACK = range(1, 6)
 VOID = b''
 MOST_RECALLED = 64
 HASH = 2_654_435_761
+# of a recall, and of the rolls
+RECALLS, COUNTS_ASKED, COUNTS, PAGE_ASKED, PAGE = range(1, 6)
+PAGES, NUMBERS_OF_A_PAGE = 123, 8192
+# the bytes of an ask behind its header: what is asked for, and zeros
+ASK = 5
 
 
 class Packet(NamedTuple):
@@ -33,6 +38,17 @@ class Recall(NamedTuple):
     to: int
     nonce: int
     numbers: tuple
+
+
+class Roll(NamedTuple):
+    """What one member asks another about its votes, or tells it: counts of all pages, or the numbers of a page."""
+    kind: int
+    circuit: int
+    sender: int
+    to: int
+    nonce: int
+    page: int = 0
+    told: tuple = ()
 
 
 class NotSpelled(Exception):
@@ -69,10 +85,25 @@ def spell_recall(recall):
     return head + b''.join(struct.pack('>I', number) for number in recall.numbers)
 
 
+def spell_roll(roll):
+    """The bytes of a roll, also of one that may not be: of any members, any page, any counts."""
+    head = struct.pack('>2sBBHBBI', RECALL, 1, roll.kind, roll.circuit, roll.sender, roll.to, roll.nonce)
+    if roll.kind == COUNTS:
+        return head + b''.join(struct.pack('>H', count) for count in roll.told)
+    if roll.kind == PAGE_ASKED:
+        return head + bytes((roll.page,)) + bytes(ASK - 1)
+    if roll.kind == PAGE:
+        bits = bytearray(NUMBERS_OF_A_PAGE // 8)
+        for number in roll.told:
+            bits[number % NUMBERS_OF_A_PAGE // 8] |= 1 << number % 8
+        return head + bytes((roll.page,)) + bits
+    return head + bytes(ASK)
+
+
 def read(data):
-    """The packet of version 2, or the recall, that the bytes spell."""
+    """The packet of version 2, the recall, or the roll that the bytes spell."""
     if data[:2] == RECALL:
-        return read_recall(data)
+        return read_recall(data) if data[3:4] in (b'\0', b'\1') else read_roll(data)
     if data[:3] != PACKET + b'\2' or len(data) < 17:
         raise NotSpelled(data.hex())
     kind, circuit, sender, to, number, round_, owner = struct.unpack_from('>BHBBIIB', data, 3)
@@ -94,6 +125,27 @@ def read_recall(data):
     if not is_well or list(numbers) != sorted(set(numbers)) or sender == to or not {sender, to} <= set(range(1, 16)):
         raise NotSpelled(data.hex())
     return Recall(circuit, sender, to, nonce, numbers)
+
+
+def read_roll(data):
+    """The roll that the bytes spell."""
+    if len(data) < 12 or data[:3] != RECALL + b'\1':
+        raise NotSpelled(data.hex())
+    kind, circuit, sender, to, nonce = struct.unpack_from('>BHBBI', data, 3)
+    lengths = {COUNTS_ASKED: ASK, COUNTS: 2 * PAGES, PAGE_ASKED: ASK, PAGE: 1 + NUMBERS_OF_A_PAGE // 8}
+    if lengths.get(kind) != len(data) - 12 or sender == to or not {sender, to} <= set(range(1, 16)):
+        raise NotSpelled(data.hex())
+    page, told = data[12] if kind in (PAGE_ASKED, PAGE) else 0, ()
+    if kind == COUNTS:
+        told = struct.unpack_from(f'>{PAGES}H', data, 12)
+    elif kind == PAGE:
+        bits = data[13:]
+        told = tuple(page * NUMBERS_OF_A_PAGE + place for place in range(NUMBERS_OF_A_PAGE) if bits[place // 8] >> place % 8 & 1)
+    pad = {COUNTS_ASKED: data[12:], PAGE_ASKED: data[13:]}.get(kind, b'')
+    is_well = page < PAGES and not any(pad) and (kind != PAGE or all(1 <= number <= 999_999 for number in told))
+    if not is_well:
+        raise NotSpelled(data.hex())
+    return Roll(kind, circuit, sender, to, nonce, page, told)
 
 
 def check_of(whose, number):

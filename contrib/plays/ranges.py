@@ -31,10 +31,30 @@ def a_range_by_hand(at):
     stage.wants('done 41-45.seek: 2 tapes, 1 void, 2 nothing' in told(at, 'log3'), f'{told(at, "log3")}')
 
 
+def a_range_without_an_end(at):
+    """`41-.seek` is asked for as far as the circuit is known to have something, also what went out here before."""
+    ports, story = plants.configure(at), at.read('flood.tape')
+    started = plants.bring_up(at, ports, (1, 2, 3))
+    for number in (41, 44):
+        plants.lay(at, 1, f'{number}.tape', story)
+    for number in (41, 44):
+        is_released(at, 3, number, 20)
+    ends(at, 3, started[2])
+    for name in ('44.tape', '44.galley'):
+        os.remove(at.path(f'releases3/{name}'))
+    plants.bring_up(at, ports, (3,), words='', making='')
+    time.sleep(2)
+    plants.lay(at, 3, '41-.seek', b'')
+    stage.within(30, lambda: at.read('offers3/done/41-.seek') == b'', f'{os.listdir(at.path("offers3"))}: {told(at, "log3")}')
+    text = at.read('offers3/done/41-.seek.txt')
+    stage.wants(text == b'41 tape\n42-43 nothing\n44 tape\n', f'{text}')
+    stage.wants(at.read('releases3/44.galley') == stage.GALLEY.encode(), '44 is written again')
+
+
 def ranges_that_are_none(at):
-    """A range without a last number, one that falls, and one with a zero in front are no offers."""
+    """A range that falls, and one with a zero in front, are no offers."""
     plants.three(at)
-    for name in ('41-.seek', '45-41.seek', '041-45.seek'):
+    for name in ('45-41.seek', '041-45.seek', '041-.seek'):
         plants.lay(at, 1, name, b'')
         stage.within(10, lambda name=name: at.read(f'offers1/refused/{name}') == b'', f'{name}: {told(at, "log1")}')
         stage.wants(at.read(f'offers1/refused/{name}.txt') == b'no number\n', name)
@@ -51,4 +71,4 @@ def releases_that_come_late(at):
     is_released(at, 3, 12, 20)
 
 
-PLAYS = [a_range_by_hand, ranges_that_are_none, releases_that_come_late]
+PLAYS = [a_range_by_hand, a_range_without_an_end, ranges_that_are_none, releases_that_come_late]

@@ -6,7 +6,7 @@ import time
 import datagrams
 import plants
 import stage
-from datagrams import ACCEPT, ACCEPTED, PREPARE, PROMISE, Packet, Recall
+from datagrams import ACCEPT, ACCEPTED, PREPARE, PROMISE, Packet, Recall, Roll
 from folders import told
 
 CIRCUIT = 7
@@ -49,13 +49,17 @@ class Voice:
         """Asks a member for its votes of these numbers."""
         self.say(to, datagrams.spell_recall(Recall(CIRCUIT, self.member, to, 0, numbers)))
 
-    def next(self, until):
-        """What comes next, as it is read, or None where nothing comes until then."""
-        self.socket.settimeout(max(0.001, until - time.monotonic()))
-        try:
-            return datagrams.read(self.socket.recv(65536))
-        except TimeoutError:
-            return None
+    def next(self, until, rolls=False):
+        """What comes next, as it is read, or None where nothing comes until then. Rolls, which come by themselves, are passed over unless they
+        are waited for."""
+        while True:
+            self.socket.settimeout(max(0.001, until - time.monotonic()))
+            try:
+                said = datagrams.read(self.socket.recv(65536))
+            except TimeoutError:
+                return None
+            if rolls or not isinstance(said, Roll):
+                return said
 
     def all(self, seconds):
         """All that comes in so many seconds."""
@@ -155,7 +159,7 @@ def refusals(sender, to, other):
     return [
         ('short', good[:16]),
         ('bad-version', changed(good, 2, 2)),
-        ('bad-kind', changed(good, 3, 2)),
+        ('bad-kind', changed(good, 3, 6)),
         ('bad-member', changed(good, 6, 0)),
         ('bad-count', changed(good, 12, 65)),
         ('bad-number', datagrams.spell_recall(Recall(CIRCUIT, sender, to, 0, (0,)))),

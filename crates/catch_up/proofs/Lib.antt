@@ -1,4 +1,6 @@
 pub mod Rising
 pub mod Turns
-pub mod Recalling
+pub mod Next
+pub mod Keeping
 pub mod Starting
+pub mod Paging

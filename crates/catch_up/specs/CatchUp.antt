@@ -1,169 +1,187 @@
 -- What a plant does to catch up.
-use Rattle.std.specs.Prelude.{◌≡◌, ◌≤◌, ◌⊎◌, ℕ, ◌+◌, ◌^◌, ◌%◌, Bool, true, false, not, ◌&&◌, List, [], ◌∷◌, min, Option, Some, None, IfSome, Result, Ok, Err, if◌then◌else◌}
-use Rattle.std.specs.Option.{option_map}
-use Rattle.protocol.specs.Limits.{last_number}
+use Rattle.std.specs.Prelude.{◌≡◌, ◌⊎◌, ℕ, ◌+◌, ◌^◌, ◌%◌, Bool, true, false, List, Option, Some, None, IfSome}
 use Rattle.gone_out.specs.declared.origin.Origin.{Origin}
-use Rattle.gone_out.specs.declared.known.Known.{Known}
-use Rattle.gone_out.specs.Numbers.{has}
-use Rattle.healing.specs.declared.case.Case.{Case}
-use Rattle.healing.specs.declared.news.News.{News}
-use Rattle.healing.specs.declared.news.News.TheVariants.{Saved}
-use Rattle.healing.specs.declared.wanted.Want.{Want}
-use Rattle.healing.specs.Cases.{fresh}
-use Rattle.healing.specs.Lists.{is_among}
-use Rattle.healing.specs.Healing.{HealingValue, case_at, AreAwaited, AreDueIn, IsRipeIn, IsTold, IsOut, IsWanted, NoneIsOut}
-use Rattle.recalls.specs.Recalls.{Recall}
+use Rattle.healing.specs.Healing.{HealingValue}
+use Rattle.rolls.specs.Rolls.{Roll}
+use Rattle.rolls.specs.Spelling.{spelling}
+use Rattle.roll_call.specs.RollCall.{RollCallValue}
+use Rattle.catch_up.specs.declared.before.Before.{Before}
+use Rattle.catch_up.specs.declared.wave.Asking.{Asking}
+use Rattle.catch_up.specs.declared.wave.Wave.{Wave}
 use Rattle.catch_up.specs.declared.errand.Errand.{Errand}
 use Rattle.catch_up.specs.declared.errand.Errand.TheVariants.{Send, Tell, Seek}
-use Rattle.recalls.specs.declared.fault.RecallFault.{RecallFault}
-use Rattle.catch_up.specs.declared.unheard.Unheard.{Unheard}
-use Rattle.catch_up.specs.declared.unheard.Unheard.TheVariants.{Bad}
-use Rattle.catch_up.specs.Unheard.{checked}
 use Rattle.catch_up.specs.Asked.{AskedValue, TakesTurn, turn_of}
-use Rattle.catch_up.specs.Own.{OwnValue, GoesOn, NoneToAsk, asked_again, begun, left_by}
+use Rattle.catch_up.specs.Own.{OwnValue, GoesOn, asked_again, begun}
+use Rattle.catch_up.specs.Waves.{AreAskedIn, IsWaveOver}
+use Rattle.catch_up.specs.Lacking.{gone_in, may_ask_pages, AllRestIn, AreAwaitedOf, AreLacked, IsToBeSought, SameGone}
+use Rattle.catch_up.specs.Recalling.{IsDone, IsRecalling}
+use Rattle.catch_up.specs.Calls.{is_told_in, IsAskOf, IsOwnCall, IsReplyOf, NoReply, SameVotes}
 
--- the plant; what it lacks, if it is known what went out; how many batches it recalled, as far as there are numbers; the batch that it
--- recalls; what others asked; whether there may be an errand; and whether errands for others come first
+-- the plant; what it lacks, if it is known what went out; what it knows of votes, if it is known what has rows; whether it asks on its
+-- own; what went out before; what it asked for of late, if it ever does; how many batches it recalled, as far as there are numbers; the
+-- batch that it recalls; what others asked; whether there may be an errand; whether errands for others come first, replies before votes,
+-- and asks of rolls before recalls
 pub record CatchUpValue : Type 0 where
   pub own : Origin
   pub healing : Option HealingValue
+  pub rolls : Option RollCallValue
+  pub asks : Bool
+  pub before : Before
+  pub wave : Option Asking
   pub batches : ℕ
   pub recalling : Option OwnValue
   pub asked : AskedValue
   pub is_stirred : Bool
   pub others_first : Bool
+  pub replies_first : Bool
+  pub rolls_first : Bool
 
--- whether a number went out
-abbrev pub gone_in : Option HealingValue → ℕ → Bool
-gone_in None n = false
-gone_in (Some h) n = has h.gone n
+-- what is recalled is so at all times, and what is known of votes is the plant's own
+pub record IsCatchUp (own : Origin) (h : Option HealingValue) (rolls : Option RollCallValue) (recalling : Option OwnValue) : Type 0 where
+  pub recalls : IfSome recalling (IsRecalling own h)
+  pub calls : IsOwnCall own rolls
 
--- none of these numbers went out
-abbrev pub NoneWentOut : Option HealingValue → List ℕ → Type 0
-NoneWentOut h numbers = (n : ℕ) → gone_in h n ≡ true → is_among numbers n ≡ false
+-- the plant has recalled a batch more
+abbrev pub next_batch : CatchUpValue → ℕ
+next_batch c = (c.batches + 1) % 2 ^ 32
 
--- the numbers that are recalled are the plant's own, and none of them went out
-pub record IsRecalling (own : Origin) (h : Option HealingValue) (v : OwnValue) : Type 0 where
-  pub origin : v.origin ≡ own
-  pub numbers : NoneWentOut h v.numbers
-  pub left : NoneWentOut h v.left
+-- the errand sends a roll
+abbrev pub IsSent : Roll → Errand → Type 0
+IsSent r (Send to bytes) = (bytes.items ≡ spelling r) × (r.to ≡ to)
+IsSent r (Tell number to) = ⊥
+IsSent r (Seek number) = ⊥
 
--- what is recalled is so at all times
-abbrev pub IsCatchUp : Origin → Option HealingValue → Option OwnValue → Type 0
-IsCatchUp own h recalling = IfSome recalling (IsRecalling own h)
+-- what is left of the recall: the next member is asked, or the next number told to the plant itself
+abbrev pub IsLeft : CatchUpValue → CatchUpValue → Errand → Type 0
+IsLeft old new errand =
+    (v : OwnValue) × (w : OwnValue) × (old.recalling ≡ Some v) × IsRecalling old.own old.healing v × GoesOn v w (Some errand)
+    × (new ≡ record old { recalling = Some w })
 
--- the same numbers went out
-abbrev pub SameGone : Option HealingValue → Option HealingValue → Type 0
-SameGone old new = (n : ℕ) → gone_in new n ≡ gone_in old n
+-- a batch of what is lacked is recalled
+abbrev pub IsNewRecall : CatchUpValue → Option Asking → ℕ → OwnValue → Type 0
+IsNewRecall c wave now v =
+    (batch : List ℕ) × AreLacked c.healing now batch × (v ≡ begun c.own (next_batch c) batch) × AreAskedIn c.wave wave batch
 
--- what a number is at the start: known, where it has a row and did not go out
-abbrev pub first_case : Known → List Bool → ℕ → ℕ → Option Case
-first_case known gone now n = if has known.rows n && not (has gone n) then fresh (Saved (has known.votes n)) now else None
+-- or what is waited for is asked for once more
+abbrev pub IsRecallAgain : CatchUpValue → Option Asking → ℕ → OwnValue → Type 0
+IsRecallAgain c wave now v =
+    (batch : List ℕ) × AreAwaitedOf c.healing now batch × (v ≡ asked_again c.own (next_batch c) batch) × (wave ≡ c.wave)
 
--- what is lacked at the start: nothing, where it is not known what went out
-abbrev pub StartsWith : Known → Option (List Bool) → ℕ → Option HealingValue → Type 0
-StartsWith known None now h = h ≡ None
-StartsWith known (Some gone) now None = ⊥
-StartsWith known (Some gone) now (Some h) = (h.gone ≡ gone) × ((n : ℕ) → 1 ≤ n → n ≤ last_number → case_at h n ≡ first_case known gone now n)
+-- a member is asked, or a number is told to the plant itself, by what is recalled now
+abbrev pub IsRecalled : CatchUpValue → Option Asking → ℕ → Errand → Type 0
+IsRecalled c wave now errand =
+    (v : OwnValue) × (w : OwnValue) × (IsNewRecall c wave now v ⊎ IsRecallAgain c wave now v) × IsRecalling c.own c.healing v
+    × GoesOn v w (Some errand)
 
--- a datagram was taken in
-abbrev pub taken_in : Option HealingValue → Option HealingValue
-taken_in h = option_map (λ (h : HealingValue). record h { taken = min (h.taken + 1) 256 }) h
+-- what is lacked is seen to: by a recall, or a number is sought
+abbrev pub IsHealed : CatchUpValue → Option Asking → ℕ → Errand → Type 0
+IsHealed c wave now (Seek number) = IsToBeSought c.healing now number × (gone_in c.healing number ≡ false) × (wave ≡ c.wave)
+IsHealed c wave now (Send to bytes) = IsRecalled c wave now (Send to bytes)
+IsHealed c wave now (Tell number to) = IsRecalled c wave now (Tell number to)
 
--- one piece of news of a number
-abbrev pub IsToldOf : Option HealingValue → Option HealingValue → ℕ → News → ℕ → Type 0
-IsToldOf None new number news now = new ≡ None
-IsToldOf (Some h) None number news now = ⊥
-IsToldOf (Some h) (Some k) number news now = IsTold h k number news now
+-- the next ask of a roll, if there is one; recalls come first then
+abbrev pub IsAsked : CatchUpValue → CatchUpValue → ℕ → Bool → Option Errand → Type 0
+IsAsked old new now may None = IsAskOf old.rolls new.rolls now may None × (new.rolls_first ≡ old.rolls_first)
+IsAsked old new now may (Some errand) = (r : Roll) × IsAskOf old.rolls new.rolls now may (Some r) × IsSent r errand × (new.rolls_first ≡ false)
 
--- pieces of news of a number, one after the other
-abbrev pub AreToldOf : Option HealingValue → Option HealingValue → ℕ → List News → ℕ → Type 0
-AreToldOf old new number [] now = new ≡ old
-AreToldOf old new number (news ∷ more) now = (between : Option HealingValue) × IsToldOf old between number news now × AreToldOf between new number more now
+-- nobody is to be asked by a roll now
+abbrev pub NoAsk : CatchUpValue → ℕ → Type 0
+NoAsk c now = (rolls : Option RollCallValue) × IsAskOf c.rolls rolls now (may_ask_pages c.healing) None
 
--- a number went out
-abbrev pub IsOutOf : Option HealingValue → Option HealingValue → ℕ → Type 0
-IsOutOf None new number = new ≡ None
-IsOutOf (Some h) None number = ⊥
-IsOutOf (Some h) (Some k) number = IsOut h k number
+-- the same, where asks of rolls come first
+abbrev pub IsFirstAsk : CatchUpValue → CatchUpValue → ℕ → Bool → Option Errand → Type 0
+IsFirstAsk old new now may None =
+    ((old.rolls_first ≡ false) × (new ≡ old)) ⊎ ((old.rolls_first ≡ true) × IsAskOf old.rolls new.rolls now may None × (new.rolls_first ≡ true))
+IsFirstAsk old new now may (Some errand) = IsAsked old new now may (Some errand)
 
--- what is recalled after a number went out
-abbrev pub left_in : ℕ → Option OwnValue → Option OwnValue
-left_in number recalling = option_map (left_by number) recalling
+-- the same, where they do not come first
+abbrev pub IsLastAsk : CatchUpValue → CatchUpValue → ℕ → Bool → Option Errand → Type 0
+IsLastAsk old new now may None = Unit {0}
+IsLastAsk old new now may (Some errand) = (old.rolls_first ≡ false) × IsAsked old new now may (Some errand)
 
--- what comes next of what is recalled, if anything is
-abbrev pub GoesOnFrom : Option OwnValue → Option OwnValue → Option Errand → Type 0
-GoesOnFrom None new errand = (new ≡ None) × (errand ≡ None)
-GoesOnFrom (Some v) None errand = ⊥
-GoesOnFrom (Some v) (Some w) errand = GoesOn v w errand
+-- what the plant begins on its own: what is lacked is seen to, where asks of rolls do not come first or nobody is to be asked, and they
+-- come first then; or it asks by a roll, for pages only while few numbers are lacked
+abbrev pub IsBegun : CatchUpValue → CatchUpValue → ℕ → Errand → Type 0
+IsBegun old new now errand =
+    (IsHealed old new.wave now errand × ((old.rolls_first ≡ false) ⊎ NoAsk old now) × (new.rolls_first ≡ true))
+    ⊎ IsAsked old new now (may_ask_pages old.healing) (Some errand)
 
--- nothing is left of what is recalled
-abbrev pub IsDone : Option OwnValue → Type 0
-IsDone None = Unit {0}
-IsDone (Some v) = NoneToAsk v × (v.left ≡ [])
+-- an errand of the plant's own: what is left of what it recalls, or else what it begins
+abbrev pub IsOwnErrand : CatchUpValue → CatchUpValue → ℕ → Errand → Type 0
+IsOwnErrand old new now errand = IsLeft old new errand ⊎ (IsDone old.recalling × IsBegun old new now errand)
 
--- what healing wants next: of what is lacked, and of nothing that went out
-abbrev pub IsWantOf : Option HealingValue → ℕ → Want → Type 0
-IsWantOf None now want = ⊥
-IsWantOf (Some h) now want = IsWanted h now want × NoneIsOut h.gone want
+-- a member is told a vote: the first number of those that wait for it, where replies to rolls do not come first or there is none; they
+-- come first then
+abbrev pub IsTelling : CatchUpValue → CatchUpValue → ℕ → ℕ → ℕ → Type 0
+IsTelling old new now number to =
+    TakesTurn now (Some (number, to)) old.asked new.asked × ((old.replies_first ≡ false) ⊎ NoReply now old.rolls)
+    × (new ≡ record old { asked = new.asked; replies_first = true })
 
--- what becomes of a recall that came, by how it was read
-abbrev pub heard_by : Origin → Result Recall RecallFault → Result (Unit {0}) Unheard
-heard_by own (Err fault) = Err (Bad fault)
-heard_by own (Ok r) = checked own r
+-- the next reply to a roll, if there is one; votes come first then
+abbrev pub IsReplied : CatchUpValue → CatchUpValue → ℕ → Option Errand → Type 0
+IsReplied old new now None = NoReply now old.rolls × (new ≡ old)
+IsReplied old new now (Some errand) =
+    (r : Roll) × IsReplyOf old.rolls new.rolls now (Some r) × IsSent r errand × (new ≡ record old { rolls = new.rolls; replies_first = false })
 
--- these are lacked: each waits, is known for 5 s, and nothing of it came for 2 s
-abbrev pub AreLacked : Option HealingValue → ℕ → List ℕ → Type 0
-AreLacked None now numbers = ⊥
-AreLacked (Some h) now numbers = AreDueIn h.cases now numbers
+-- the same, where replies come first
+abbrev pub IsFirstReply : CatchUpValue → CatchUpValue → ℕ → Option Errand → Type 0
+IsFirstReply old new now None = ((old.replies_first ≡ false) ⊎ NoReply now old.rolls) × (new ≡ old)
+IsFirstReply old new now (Some errand) = (old.replies_first ≡ true) × IsReplied old new now (Some errand)
 
--- this one is to be sought
-abbrev pub IsToBeSought : Option HealingValue → ℕ → ℕ → Type 0
-IsToBeSought None now number = ⊥
-IsToBeSought (Some h) now number = IsRipeIn h.cases now number
+-- nobody is to be told or answered anything
+abbrev pub NoneWaits : CatchUpValue → ℕ → Type 0
+NoneWaits c now = (turn_of now c.asked ≡ None) × NoReply now c.rolls
 
--- these were recalled, and are waited for
-abbrev pub AreAwaitedOf : Option HealingValue → ℕ → List ℕ → Type 0
-AreAwaitedOf None now numbers = ⊥
-AreAwaitedOf (Some h) now numbers = AreAwaited h.cases now numbers
-
--- the same, and none of them went out
-abbrev pub IsAwaitedBatch : Option HealingValue → ℕ → List ℕ → Type 0
-IsAwaitedBatch h now batch = AreAwaitedOf h now batch × NoneWentOut h batch
-
--- what was left of the recall, a new one of what is lacked, or one more of what is waited for
-abbrev pub IsRecalled : CatchUpValue → ℕ → OwnValue → Type 0
-IsRecalled c now v =
-    (c.recalling ≡ Some v)
-    ⊎ ((batch : List ℕ) × AreLacked c.healing now batch × (v ≡ begun c.own ((c.batches + 1) % 2 ^ 32) batch))
-    ⊎ ((batch : List ℕ) × AreAwaitedOf c.healing now batch × (v ≡ asked_again c.own ((c.batches + 1) % 2 ^ 32) batch))
-
--- an errand of the plant's own: a member is asked, or a number is told to the plant itself, by what is recalled; or a number is sought
-abbrev pub IsOwnErrand : CatchUpValue → ℕ → Errand → Type 0
-IsOwnErrand c now (Seek number) = IsToBeSought c.healing now number × (gone_in c.healing number ≡ false)
-IsOwnErrand c now errand = (v : OwnValue) × (w : OwnValue) × IsRecalled c now v × IsRecalling c.own c.healing v × GoesOn v w (Some errand)
-
--- an errand for others: a member is told the first number of those that wait for it
-abbrev pub IsErrandFor : AskedValue → AskedValue → ℕ → Option Errand → Type 0
-IsErrandFor old new now None = TakesTurn now None old new
-IsErrandFor old new now (Some (Tell number to)) = TakesTurn now (Some (number, to)) old new
-IsErrandFor old new now (Some (Send to bytes)) = ⊥
+-- an errand for others: a member is told a vote, or answered by a roll
+abbrev pub IsErrandFor : CatchUpValue → CatchUpValue → ℕ → Option Errand → Type 0
+IsErrandFor old new now None = NoneWaits old now × (new ≡ old)
+IsErrandFor old new now (Some (Tell number to)) = IsTelling old new now number to
+IsErrandFor old new now (Some (Send to bytes)) =
+    IsReplied old new now (Some (Send to bytes)) × ((old.replies_first ≡ true) ⊎ (turn_of now old.asked ≡ None))
 IsErrandFor old new now (Some (Seek number)) = ⊥
 
 -- errands for others come first, and one of them is ready
 abbrev pub AreFirst : CatchUpValue → ℕ → Type 0
-AreFirst c now = (c.others_first ≡ true) × ¬ (turn_of now c.asked ≡ None)
+AreFirst c now = (c.others_first ≡ true) × ¬ NoneWaits c now
 
--- an own errand comes next where those for others do not come first, and what others asked waits; those for others come first then
+-- an errand for others, where those come first
+abbrev pub IsFirstForOthers : CatchUpValue → CatchUpValue → ℕ → Option Errand → Type 0
+IsFirstForOthers old new now None = (¬ AreFirst old now) × (new ≡ old)
+IsFirstForOthers old new now (Some errand) = (old.others_first ≡ true) × IsErrandFor old new now (Some errand)
+
+-- what is done on the plant's own leaves this: what waits for others, the own votes, and what went out
+pub record KeepsOthers (old new : CatchUpValue) : Type 0 where
+  pub rest : new ≡ record old { healing = new.healing; rolls = new.rolls; wave = new.wave; batches = new.batches; recalling = new.recalling; rolls_first = new.rolls_first }
+  pub votes : SameVotes old.rolls new.rolls
+  pub gone : SameGone old.healing new.healing
+
+-- the plant does not ask on its own, or nothing is left of what it recalls
+abbrev pub Rests : CatchUpValue → Type 0
+Rests c = (c.asks ≡ false) ⊎ IsDone c.recalling
+
+-- an own errand comes next where the plant asks on its own, and those for others do not come first; they come first then
 abbrev pub IsOwnNext : CatchUpValue → CatchUpValue → ℕ → Errand → Type 0
-IsOwnNext old new now errand = IsOwnErrand old now errand × ¬ AreFirst old now × (new.asked ≡ old.asked) × (new.others_first ≡ true)
+IsOwnNext old new now errand =
+    (after : CatchUpValue) × (old.asks ≡ true) × ¬ AreFirst old now × IsOwnErrand old after now errand × KeepsOthers old after
+    × (new ≡ record after { others_first = true })
 
--- an errand for others comes next where those come first, or nothing is left of what is recalled; own ones come first then
-abbrev pub IsNextFor : CatchUpValue → CatchUpValue → ℕ → Errand → Type 0
-IsNextFor old new now errand =
-    IsErrandFor old.asked new.asked now (Some errand) × ((old.others_first ≡ true) ⊎ IsDone old.recalling) × (new.others_first ≡ false)
+-- what comes next for others, where they come first, or the plant has no own errand
+abbrev pub IsForOthers : CatchUpValue → CatchUpValue → ℕ → Option Errand → Type 0
+IsForOthers old new now errand =
+    (before : CatchUpValue) × (after : CatchUpValue) × (((old.others_first ≡ true) × (before ≡ old)) ⊎ (Rests old × KeepsOthers old before))
+    × IsErrandFor before after now errand × (new ≡ record after { others_first = false })
 
--- what comes next: an own errand, or one for others; or nothing, where nothing is left of what is recalled, and nobody is ready that asked
+-- what comes next: an own errand, or one for others; or nothing, where no own one is left, and nobody waits
 abbrev pub IsNext : CatchUpValue → CatchUpValue → ℕ → Option Errand → Type 0
-IsNext old new now None = IsDone old.recalling × IsErrandFor old.asked new.asked now None
-IsNext old new now (Some errand) = IsOwnNext old new now errand ⊎ IsNextFor old new now errand
+IsNext old new now None = Rests old × NoneWaits old now × KeepsOthers (record old { others_first = false }) new
+IsNext old new now (Some errand) = IsOwnNext old new now errand ⊎ IsForOthers old new now (Some errand)
+
+-- the plant, whether there may be an errand aside
+abbrev pub calm : CatchUpValue → CatchUpValue
+calm c = record c { is_stirred = false }
+
+-- what is told once nothing is lacked any more, and a majority told its votes
+pub record IsOver (old new : CatchUpValue) (w : Wave) : Type 0 where
+  pub rests : AllRestIn old.healing
+  pub told : is_told_in old.rolls ≡ true
+  pub wave : IsWaveOver old.wave new.wave w

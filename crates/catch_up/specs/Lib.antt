@@ -1,7 +1,15 @@
 pub mod Values
 pub mod Asked
 pub mod Own
+pub mod Before
+pub mod Waves
 pub mod Errands
 pub mod News
 pub mod Unheard
+pub mod Lacking
+pub mod Recalling
+pub mod Calls
+pub mod Starting
 pub mod CatchUp
+pub mod Held
+pub mod Hearing

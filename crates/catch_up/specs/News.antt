@@ -1,7 +1,8 @@
--- What a step of the station, or a datagram, says of its number.
+-- What a step of the station, or a packet, says of its number.
 use Rattle.std.specs.Prelude.{Bool, true, false, Option, Some, None, List, [], ◌∷◌, ◌++◌, option_to_list, if◌then◌else◌}
 use Rattle.node_core.specs.declared.turn.Note.{Note}
 use Rattle.node_core.specs.declared.turn.Note.TheVariants as notes
+use Rattle.catch_up.specs.declared.packet.Packet.{Packet}
 use Rattle.healing.specs.declared.news.News.{News}
 use Rattle.healing.specs.declared.news.News.TheVariants.{Saved, Came, Voted, Opened, Closed, Nothing}
 
@@ -31,6 +32,6 @@ news_of notes.Blank = None
 abbrev pub all_news : Note → Bool → List News
 all_news note opened = option_to_list (news_of note) ++ (if opened then Opened ∷ [] else [])
 
--- the news that a datagram is
-abbrev pub datagram_news : Bool → News
-datagram_news is_vote = if is_vote then Voted else Came
+-- the news that a packet is
+abbrev pub packet_news : Packet → News
+packet_news p = if p.is_vote then Voted p.sender else Came

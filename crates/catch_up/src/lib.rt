@@ -4,13 +4,26 @@
 
 mod asked;
 mod asker;
+mod before;
+mod calls;
 mod catch_up;
 mod errand;
+mod errands;
+mod hearing;
+mod lacking;
+mod majority;
 mod news;
 mod own;
+mod packet;
+mod recalling;
+mod start;
 mod unheard;
 mod values;
+mod wave;
 
 pub use catch_up::CatchUp;
 pub use errand::Errand;
+pub use packet::Packet;
+pub use start::Start;
 pub use unheard::Unheard;
+pub use wave::{ToldBy, Wave};

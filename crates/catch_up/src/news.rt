@@ -2,8 +2,9 @@
 
 ghost use Rattle.std.specs.Prelude.{◌≡◌, true, None};
 ghost use Rattle.node_core.specs.Turns.{is_quiet, note_value};
-ghost use Rattle.catch_up.specs.News.{datagram_news, news_of};
+ghost use Rattle.catch_up.specs.News.{news_of, packet_news};
 
+use crate::packet::Packet;
 use healing::News;
 use node_core::Note;
 
@@ -34,9 +35,15 @@ pub(crate) fn news_of(note: Note) -> Option<News>
     }
 }
 
-/// The news that a datagram is: whether it tells a vote.
-pub(crate) fn news_of_datagram(is_vote: bool) -> News
-    ensures { result ≡ datagram_news is_vote }
+/// The news that a packet is.
+pub(crate) fn news_of_packet(packet: Packet) -> News
+    ensures { result ≡ packet_news packet }
 {
-    if is_vote { News::Voted } else { News::Came }
+    if packet.is_vote {
+        News::Voted {
+            member: packet.sender,
+        }
+    } else {
+        News::Came
+    }
 }

@@ -3,7 +3,7 @@ use Rattle.std.specs.Prelude.{ℕ, List, [], ◌∷◌, ◌++◌, length, Option
 use Rattle.protocol.specs.Limits.{most_members}
 use Rattle.toml.specs.Data.{Members}
 use Rattle.wire.specs.declared.address.Address.{Address}
-use Rattle.configuration.specs.Keys.{number_at, text_at, folders_in, entries_at, ◌>>=◌}
+use Rattle.configuration.specs.Keys.{number_at, text_at, folders_in, catches_up_in, entries_at, ◌>>=◌}
 use Rattle.configuration.specs.Stations.{read_stations}
 use Rattle.configuration.specs.declared.fault.ConfigKey.TheVariants.{Circuit, Member, Table, Widths, Rows}
 use Rattle.configuration.specs.declared.fault.ConfigFault.{ConfigFault}
@@ -39,13 +39,14 @@ with_stations faults member (Err fault) = noted faults (Some fault)
 -- the own member
 unfoldable pub faults_in : Members → List ConfigFault
 faults_in file =
-    with_stations (noted (noted (noted (noted (noted (noted []
+    with_stations (noted (noted (noted (noted (noted (noted (noted []
     (fault_of (number_at Circuit 0 65535 file)))
     (fault_of (number_at Member 1 most_members file)))
     (fault_of (text_at Table file)))
     (fault_of (text_at Widths file)))
     (fault_of (text_at Rows file)))
     (fault_of (folders_in file)))
+    (fault_of (catches_up_in file)))
     (number_at Member 1 most_members file) (stations_in file)
 
 -- the faults of a document that was read; where none was read, it is not TOML

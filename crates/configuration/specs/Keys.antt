@@ -1,9 +1,9 @@
 -- The keys of a configuration, as a TOML document has them.
-use Rattle.std.specs.Prelude.{◌≡◌, ℕ, zero, suc, ℤ, pos, negsuc, List, Bool, true, false, codes, Option, Some, None, Result, Ok, Err, MatchResult, nat_le, ◌&&◌, if◌then◌else◌}
+use Rattle.std.specs.Prelude.{◌≡◌, ℕ, zero, suc, ℤ, pos, negsuc, List, Bool, true, false, codes, Option, Some, None, Result, Ok, Err, MatchResult, nat_le, not, ◌&&◌, if◌then◌else◌}
 use Rattle.protocol.specs.Limits.{most_members}
 use Rattle.toml.specs.Data.{Data, Items, no_items, item, Members, get_member, as_integer, as_str, as_bool, as_array, as_table}
 use Rattle.configuration.specs.declared.fault.ConfigKey.{ConfigKey}
-use Rattle.configuration.specs.declared.fault.ConfigKey.TheVariants.{Circuit, Member, Table, Widths, Rows, Folders, Offers, Releases, Text, Renamed, Station}
+use Rattle.configuration.specs.declared.fault.ConfigKey.TheVariants.{Circuit, Member, Table, Widths, Rows, Folders, Offers, Releases, Text, Renamed, CatchUp, Off, Station}
 use Rattle.configuration.specs.declared.fault.ConfigFault.{ConfigFault}
 use Rattle.configuration.specs.declared.fault.ConfigFault.TheVariants.{Missing, WrongType, OutOfRange}
 
@@ -43,6 +43,8 @@ name_of Offers = codes "offers"
 name_of Releases = codes "releases"
 name_of Text = codes "text"
 name_of Renamed = codes "renamed"
+name_of CatchUp = codes "catch_up"
+name_of Off = codes "off"
 name_of Station = codes "station"
 
 -- the value at a key
@@ -121,6 +123,18 @@ folders_of (Some value) = do
 -- the folders, where there are such
 unfoldable pub folders_in : Members → Result (Option FolderPaths) ConfigFault
 folders_in file = folders_of (get_member (name_of Folders) file)
+
+-- a station catches up by itself, unless the value at the key of that, where there is one, says that this is off: a table
+abbrev pub catches_up_of : Option Data → Result Bool ConfigFault
+catches_up_of None = Ok true
+catches_up_of (Some value) = do
+  keys ← wanted (WrongType CatchUp) (as_table value)
+  off ← flag_at Off false keys
+  Ok (not off)
+
+-- whether a station catches up by itself
+unfoldable pub catches_up_in : Members → Result Bool ConfigFault
+catches_up_in file = catches_up_of (get_member (name_of CatchUp) file)
 
 -- how many items there are
 abbrev pub count : Items → ℕ

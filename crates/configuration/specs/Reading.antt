@@ -1,9 +1,9 @@
 -- A configuration as a TOML document gives it, or its first fault.
-use Rattle.std.specs.Prelude.{ℕ, List, length, string_bytes, Option, Some, None, option_map, Result, Ok, Err, nat_le}
+use Rattle.std.specs.Prelude.{ℕ, Bool, List, length, string_bytes, Option, Some, None, option_map, Result, Ok, Err, nat_le}
 use Rattle.protocol.specs.Limits.{most_members}
 use Rattle.toml.specs.Data.{Members}
 use Rattle.wire.specs.declared.address.Address.{Address}
-use Rattle.configuration.specs.Keys.{◌>>=◌, holds, number_at, Paths, FolderPaths, folder_paths, paths_in, folders_in, entries_at}
+use Rattle.configuration.specs.Keys.{◌>>=◌, holds, number_at, Paths, FolderPaths, folder_paths, paths_in, folders_in, catches_up_in, entries_at}
 use Rattle.configuration.specs.Stations.{read_stations}
 use Rattle.configuration.specs.declared.config.Config.{Config}
 use Rattle.configuration.specs.declared.config.Folders.{Folders}
@@ -12,7 +12,7 @@ use Rattle.configuration.specs.declared.fault.ConfigFault.{ConfigFault}
 use Rattle.configuration.specs.declared.fault.ConfigFault.TheVariants.{NotToml, OutOfRange}
 
 -- what a configuration says: the circuit, the own member, the paths of three files and, where it names them, of two folders, with what
--- holds of what comes into them, and the stations in order of their members
+-- holds of what comes into them, whether the station catches up by itself, and the stations in order of their members
 pub record ConfigFile : Type 0 where
   pub circuit : ℕ
   pub member : ℕ
@@ -20,17 +20,19 @@ pub record ConfigFile : Type 0 where
   pub widths : List ℕ
   pub rows : List ℕ
   pub folders : Option FolderPaths
+  pub catches_up : Bool
   pub stations : List Address
 
 -- it says this, with these paths of files
-abbrev pub file_with : ℕ → ℕ → Paths → Option FolderPaths → List Address → ConfigFile
-file_with circuit member paths folders stations = record {
+abbrev pub file_with : ℕ → ℕ → Paths → Option FolderPaths → Bool → List Address → ConfigFile
+file_with circuit member paths folders catches_up stations = record {
   circuit = circuit;
   member = member;
   table = paths.table;
   widths = paths.widths;
   rows = paths.rows;
   folders = folders;
+  catches_up = catches_up;
   stations = stations;
 }
 
@@ -47,6 +49,7 @@ file_of config = record {
   widths = string_bytes config.widths;
   rows = string_bytes config.rows;
   folders = option_map paths_of config.folders;
+  catches_up = config.catches_up;
   stations = config.stations.items;
 }
 
@@ -57,10 +60,11 @@ read_file file = do
   member ← number_at Member 1 most_members file
   paths ← paths_in file
   folders ← folders_in file
+  catches_up ← catches_up_in file
   entries ← entries_at file
   stations ← read_stations entries
   own ← holds (OutOfRange Member) (nat_le member (length stations))
-  Ok (file_with circuit member paths folders stations)
+  Ok (file_with circuit member paths folders catches_up stations)
 
 -- the configuration of a document that was read; where none was read, it is not TOML
 unfoldable pub read_config : Option Members → Result ConfigFile ConfigFault

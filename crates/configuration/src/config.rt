@@ -9,7 +9,9 @@ ghost use Rattle.configuration.specs.Stations.{IsCircuit};
 ghost use Rattle.configuration.specs.declared.fault.ConfigFault.TheVariants.{NotToml, OutOfMemory};
 
 use crate::fault::{ConfigFault, ConfigKey};
-use crate::keys::{FolderPaths, Paths, circuit_at, entries_at, folders_in, member_at, paths_in};
+use crate::keys::{
+    FolderPaths, Paths, catches_up_in, circuit_at, entries_at, folders_in, member_at, paths_in,
+};
 use crate::stations::read_stations;
 use ballots::Member;
 use std::alloc::{AllocError, Global};
@@ -42,6 +44,8 @@ pub struct Config {
     pub rows: String,
     /// Its folders, where it has such.
     pub folders: Option<Folders>,
+    /// Whether it catches up by itself with what it missed.
+    pub catches_up: bool,
     /// Where each member's station listens, in order of members: theirs are 1 to the number of stations.
     pub stations: Vec<Address>,
 }
@@ -110,17 +114,19 @@ fn files_of(alloc: Global, paths: &Paths<'_>) -> Result<Files, AllocError>
     })
 }
 
-/// The configuration of these.
-fn config_of(
+/// Which station it is of which circuit, and whether it catches up by itself.
+#[derive(Clone, Copy)]
+struct Own {
     circuit: u16,
     member: Member,
-    files: Files,
-    folders: Option<Folders>,
-    stations: Vec<Address>,
-) -> Config
-    ensures value { file_of result ≡ file_with circuit member
-        (three_paths (string_bytes files.table) (string_bytes files.widths) (string_bytes files.rows)) (option_map paths_of folders) stations.items }
-    ensures member { result.member ≡ member }
+    catches_up: bool,
+}
+
+/// The configuration of these.
+fn config_of(own: Own, files: Files, folders: Option<Folders>, stations: Vec<Address>) -> Config
+    ensures value { file_of result ≡ file_with own.circuit own.member
+        (three_paths (string_bytes files.table) (string_bytes files.widths) (string_bytes files.rows)) (option_map paths_of folders) own.catches_up stations.items }
+    ensures member { result.member ≡ own.member }
     ensures stations { result.stations ≡ stations }
 {
     let Files {
@@ -128,6 +134,11 @@ fn config_of(
         widths,
         rows,
     } = files;
+    let Own {
+        circuit,
+        member,
+        catches_up,
+    } = own;
     Config {
         circuit,
         member,
@@ -135,6 +146,7 @@ fn config_of(
         widths,
         rows,
         folders,
+        catches_up,
         stations,
     }
 }
@@ -157,6 +169,7 @@ fn read_file(alloc: Global, file: &Table) -> Result<Config, ConfigFault>
     let member = member_at(file)?;
     let paths = paths_in(file)?;
     let folders = folders_in(file)?;
+    let catches_up = catches_up_in(file)?;
     let entries = entries_at(file)?;
     let stations = read_stations(alloc, entries)?;
     if !has_station(stations.len(), member) {
@@ -164,14 +177,19 @@ fn read_file(alloc: Global, file: &Table) -> Result<Config, ConfigFault>
     }
     let files = files_of(alloc, &paths)?;
     let folders = folders_at(alloc, &folders)?;
-    Ok(config_of(circuit, member, files, folders, stations))
+    let own = Own {
+        circuit,
+        member,
+        catches_up,
+    };
+    Ok(config_of(own, files, folders, stations))
 }
 
 impl Config {
     /// The configuration of a TOML text.
     ///
     /// The first fault that holds is answered: `NotToml`; `Missing`, `WrongType` or `OutOfRange` of each key in the order
-    /// of [`ConfigKey`](crate::ConfigKey), where the table of the folders may be absent with its keys; `BadStation` of the
+    /// of [`ConfigKey`](crate::ConfigKey), where the tables of the folders and of catching up may be absent with their keys; `BadStation` of the
     /// first entry that is no address, or is at odds with an earlier one; and then `OutOfRange` of a member above the number
     /// of stations. `OutOfMemory` comes where the text could not be read or the configuration not be made for want of memory.
     #[tactic(auto, unfolding(crate::specs::Reading::read_config))]

@@ -25,6 +25,9 @@ pub enum ConfigKey {
     /// These may be absent.
     Text,
     Renamed,
+    /// The table of catching up, and its key; both may be absent.
+    CatchUp,
+    Off,
     Station,
 }
 
@@ -44,6 +47,8 @@ impl ConfigKey {
             ConfigKey::Releases => "releases",
             ConfigKey::Text => "text",
             ConfigKey::Renamed => "renamed",
+            ConfigKey::CatchUp => "catch_up",
+            ConfigKey::Off => "off",
             ConfigKey::Station => "station",
         }
     }

@@ -4,14 +4,14 @@ ghost use Rattle.std.specs.Prelude.{◌≡◌, ◌⊎◌, [], ◌∷◌, Ok, Err
 ghost use Rattle.protocol.specs.Limits.{most_members};
 ghost use Rattle.toml.specs.Parse.{parse_document};
 ghost use Rattle.toml.specs.View.{table_view};
-ghost use Rattle.configuration.specs.Keys.{number_at, text_at, folders_in};
+ghost use Rattle.configuration.specs.Keys.{number_at, text_at, folders_in, catches_up_in};
 ghost use Rattle.configuration.specs.Faults.{fault_of, noted, stations_in, absent, with_stations, faults_in, all_faults};
 ghost use Rattle.configuration.specs.declared.fault.ConfigKey.TheVariants.{Circuit, Member as MemberKey};
 ghost use Rattle.configuration.specs.declared.fault.ConfigFault.TheVariants.{OutOfMemory};
 
 use crate::config::document_of;
 use crate::fault::{ConfigFault, ConfigKey};
-use crate::keys::{circuit_at, entries_at, folders_in, member_at, text_at};
+use crate::keys::{catches_up_in, circuit_at, entries_at, folders_in, member_at, text_at};
 use crate::stations::read_stations;
 use ballots::Member;
 use std::alloc::{AllocError, Global};
@@ -54,6 +54,16 @@ fn folders_fault(file: &Table) -> Option<ConfigFault>
     ensures { result ≡ fault_of (folders_in (table_view file.now)) }
 {
     match folders_in(file) {
+        Ok(_) => None,
+        Err(fault) => Some(fault),
+    }
+}
+
+/// The fault at catching up.
+fn catch_up_fault(file: &Table) -> Option<ConfigFault>
+    ensures { result ≡ fault_of (catches_up_in (table_view file.now)) }
+{
+    match catches_up_in(file) {
         Ok(_) => None,
         Err(fault) => Some(fault),
     }
@@ -121,6 +131,7 @@ fn faults_in(alloc: Global, file: &Table) -> Result<Vec<ConfigFault>, AllocError
     note(&mut faults, path_fault(file, ConfigKey::Widths))?;
     note(&mut faults, path_fault(file, ConfigKey::Rows))?;
     note(&mut faults, folders_fault(file))?;
+    note(&mut faults, catch_up_fault(file))?;
     note_stations(alloc, file, &mut faults)?;
     Ok(faults)
 }
@@ -134,7 +145,7 @@ fn alone(alloc: Global, fault: ConfigFault) -> Result<Vec<ConfigFault>, AllocErr
     Ok(faults)
 }
 
-/// The faults of a configuration's text: that it is not TOML; or that of each key, the first of the folders and the first among the
+/// The faults of a configuration's text: that it is not TOML; or that of each key, the first of the folders and of catching up, and the first among the
 /// stations, in the order in which they are read.
 #[tactic(auto, unfolding(crate::specs::Faults::all_faults))]
 pub fn faults_of(alloc: Global, text: &str) -> Result<Vec<ConfigFault>, AllocError>

@@ -4,7 +4,7 @@ ghost use Rattle.std.specs.Prelude.{◌≡◌, ◌≤◌, IfSome, IfOk, option_m
 ghost use Rattle.protocol.specs.Limits.{most_members};
 ghost use Rattle.toml.specs.Data.{get_member};
 ghost use Rattle.toml.specs.View.{view, table_view, array_view};
-ghost use Rattle.configuration.specs.Keys.{Gives, in_range, value_at, number_at, text_at, flag_at, three_paths, paths_in, folder_paths, folder_paths_in, folders_in, entries_at};
+ghost use Rattle.configuration.specs.Keys.{Gives, in_range, value_at, number_at, text_at, flag_at, three_paths, paths_in, folder_paths, folder_paths_in, folders_in, catches_up_in, entries_at};
 ghost use Rattle.configuration.specs.declared.fault.ConfigKey.TheVariants.{Circuit, Member as MemberKey};
 
 use crate::fault::{ConfigFault, ConfigKey};
@@ -168,5 +168,19 @@ pub(crate) fn folders_in(file: &Table) -> Result<Option<FolderPaths<'_>>, Config
     match value.as_table() {
         Some(keys) => Ok(Some(folder_paths_in(keys)?)),
         None => Err(ConfigFault::WrongType(ConfigKey::Folders)),
+    }
+}
+
+/// Whether a station catches up by itself: unless the table of that, where there is one, says that this is off.
+#[tactic(auto, unfolding(crate::specs::Keys::catches_up_in))]
+pub(crate) fn catches_up_in(file: &Table) -> Result<bool, ConfigFault>
+    ensures { result ≡ catches_up_in (table_view file.now) }
+{
+    let Some(value) = value_of(file, ConfigKey::CatchUp.name()) else {
+        return Ok(true);
+    };
+    match value.as_table() {
+        Some(keys) => Ok(!flag_at(keys, ConfigKey::Off, false)?),
+        None => Err(ConfigFault::WrongType(ConfigKey::CatchUp)),
     }
 }

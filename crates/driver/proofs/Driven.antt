@@ -7,20 +7,21 @@ use Rattle.station.specs.declared.answer.Answer.{Answer}
 use Rattle.refusals.specs.declared.refusal.StepRefusal.{StepRefusal}
 use Rattle.station.specs.declared.station.Station.{Station}
 use Rattle.station.specs.Steps.{IsStep, tears, stopped_after}
-use Rattle.recalls.specs.Recalls.{Recall}
 use Rattle.recalls.specs.Spelling.{spelling}
+use Rattle.rolls.specs.Spelling.{spelling as roll_spelling}
 use Rattle.wire.specs.Passing.{Passed, sent, told, Passes}
 use Rattle.command_ends.specs.Ends.{end_of, end_of_step, IsOfWriting}
 use Rattle.command_ends.specs.declared.end.End.{End}
 use Rattle.command_ends.specs.declared.end.End.TheVariants as ends
 use Rattle.command_ends.specs.declared.fault.Fault.{Fault}
 use Rattle.exchange.specs.Driving.{Rests}
-use Rattle.exchange.specs.Events.{Event, Aside, asked, took, aside, hailed, coming, sending, going, passing, passing_by, HasCause, ended}
+use Rattle.exchange.specs.Events.{Event, Aside, asked, took, aside, hailed, rolled, coming, sending, going, passing, passing_by, HasCause, ended}
 use Rattle.exchange.proofs.Stretches.{Passes-nil, Passes-then, takes_then, ends_badly, cause_then, refused_cause}
 use Rattle.driver.specs.declared.calls.Call.{Call}
 use Rattle.driver.specs.declared.calls.Call.TheVariants.{Offer, Withdraw, Seek}
 use Rattle.driver.specs.Calls.{call_of}
 use Rattle.driver.specs.Fates.{ByAnswer, Fates}
+use Rattle.driver.specs.Todos.{IsGoodSending, IsHailing}
 use Rattle.driver.specs.Driving.{Post, post, Fate, Known, known, Drove, Anyhow, AtClock, Then}
 
 -- what holds whatever the result is
@@ -42,12 +43,12 @@ asked_passes (Offer number tape) now a = Passes-nil a
 asked_passes (Withdraw number) now a = Passes-nil a
 asked_passes (Seek number) now a = Passes-nil a
 
--- bytes that spell a recall, sent to the member that it is to, are what passes where it is sent
-pub hailing_passes : {N : Type 0} (passed : N → Option (List Passed)) (was is : N) (to : ℕ) (bytes : List ℕ) (r : Recall) → bytes ≡ spelling r → r.to ≡ to
-    → Passes (passed was) (passed is) (sent to bytes ∷ []) → Passes (passed was) (passed is) (passing_by (hailed r))
-hailing_passes passed was is to bytes r spelled same p =
-    subst (λ (l : List ℕ). Passes (passed was) (passed is) (sent r.to l ∷ [])) spelled
-    (subst (λ (m : ℕ). Passes (passed was) (passed is) (sent m bytes ∷ [])) (sym same) p)
+-- bytes that spell a recall or a roll, sent to the member that it is to, are what passes where it is sent
+sent_so : {N : Type 0} (passed : N → Option (List Passed)) (was is : N) (to m : ℕ) (bytes whole : List ℕ) → bytes ≡ whole → m ≡ to
+    → Passes (passed was) (passed is) (sent to bytes ∷ []) → Passes (passed was) (passed is) (sent m whole ∷ [])
+sent_so passed was is to m bytes whole spelled same p =
+    subst (λ (l : List ℕ). Passes (passed was) (passed is) (sent m l ∷ [])) spelled
+    (subst (λ (n : ℕ). Passes (passed was) (passed is) (sent n bytes ∷ [])) (sym same) p)
 
 module _ {R N S : Type 0} (k : Known R N S) where
   -- the form of a log that ended well, seen as another
@@ -180,6 +181,16 @@ module _ {R N S : Type 0} (k : Known R N S) (may : S → StationCall → Type 0)
         };
         form = form;
       })
+
+  -- what spells a recall or a roll to a member was sent to it
+  pub hailed_so : (to : ℕ) (bytes : List ℕ) (s : Station R) (w v : N) (o : S) → IsGoodSending to bytes
+      → Passes (k.passed w) (k.passed v) (sent to bytes ∷ []) → Drove k (post s w o) (post s v o) ends.Done (IsHailing to bytes)
+  hailed_so to bytes s w v o (inl r) p =
+      passed_by (hailed r.0) s s w v o o ends.Done (IsHailing to bytes) refl (sent_so k.passed w v to r.0.to bytes (spelling r.0) r.1 r.2 p)
+      (fates.rests o) (λ done. inl (r.0, r.1, r.2, refl)) refl
+  hailed_so to bytes s w v o (inr r) p =
+      passed_by (rolled r.0) s s w v o o ends.Done (IsHailing to bytes) refl (sent_so k.passed w v to r.0.to bytes (roll_spelling r.0) r.1 r.2 p)
+      (fates.rests o) (λ done. inr (r.0, r.1, r.2, refl)) refl
 
   -- one step was taken, and what it handed out was handed on
   one : (call : StationCall) (answer : Result Answer StepRefusal) (old new : Post R N S) (mid : N) (end : End) (F : List Event → Type 0)

@@ -62,7 +62,7 @@ pub record Drove {R N S : Type 0} (k : Known R N S) (old new : Post R N S) (end 
   pub driven : Driven k old new end log
   pub form : end ≡ ends.Done → Form log
 
--- one datagram at most was taken in, by the station or, where it has the mark of a recall, beside it
+-- one datagram at most was taken in, by the station or, where it has the mark of recalls and rolls, beside it
 abbrev pub IsTakingIn : ℕ → List Event → Type 0
 IsTakingIn now log =
     (log ≡ []) ⊎ ((bytes : List ℕ) × (answer : Result Answer StepRefusal) × (log ≡ took (Receiving bytes now) answer ∷ []))

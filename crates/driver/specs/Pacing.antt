@@ -15,7 +15,7 @@ use Rattle.pace.specs.declared.turns.Work.{Work}
 use Rattle.pace.specs.declared.turns.Work.TheVariants as works
 use Rattle.driver.specs.declared.pacing.Asking.{Asking}
 use Rattle.driver.specs.declared.sink.Heard.{Heard}
-use Rattle.driver.specs.declared.sink.Heard.TheVariants.{Taken, Refused, Recall}
+use Rattle.driver.specs.declared.sink.Heard.TheVariants.{Taken, Refused, Aside}
 use Rattle.driver.specs.declared.pacing.Tasks.{Tasks}
 
 -- what was done of a work where no number was due and, while it was waited, no datagram came
@@ -64,7 +64,7 @@ heard_from (Some said) now p = heard_as said.kind said.sender said.number said.o
 abbrev pub said_of : Heard → Option Said
 said_of (Taken said) = said
 said_of (Refused refusal) = None
-said_of (Recall found) = None
+said_of (Aside found) = None
 
 -- what was begun where this ballot is open of a number, for an entry of so many bytes
 abbrev pub asking_of : Option Ballot → ℕ → ℕ → Option Asking

@@ -1,25 +1,33 @@
 -- What a driver is to do for a desk, and by which events it is done.
-use Rattle.std.specs.Prelude.{◌≡◌, ℕ, List, [], ◌∷◌, Result}
+use Rattle.std.specs.Prelude.{◌≡◌, ◌⊎◌, ℕ, List, [], ◌∷◌, Result}
 use Rattle.protocol.specs.Refusals.{Recalling, Seeking}
 use Rattle.recalls.specs.Recalls.{Recall}
 use Rattle.recalls.specs.Spelling.{spelling}
+use Rattle.rolls.specs.Rolls.{Roll}
+use Rattle.rolls.specs.Spelling.{spelling as roll_spelling}
 use Rattle.refusals.specs.declared.refusal.StepRefusal.{StepRefusal}
 use Rattle.station.specs.declared.answer.Answer.{Answer}
 use Rattle.catch_up.specs.Errands.{IsGoodErrand}
 use Rattle.catch_up.specs.declared.errand.Errand.{Errand}
 use Rattle.catch_up.specs.declared.errand.Errand.TheVariants as errands
-use Rattle.exchange.specs.Events.{Event, took, aside, hailed}
+use Rattle.exchange.specs.Events.{Event, took, aside, hailed, rolled}
 use Rattle.driver.specs.declared.desk.Todo.{Todo}
 use Rattle.driver.specs.declared.desk.Todo.TheVariants as todos
 
--- of an errand that sends, the bytes spell a recall of the member that they are sent to
+-- of an errand that sends, the bytes spell a recall or a roll to the member that they are sent to
 abbrev pub IsGoodTodo : Todo → Type 0
 IsGoodTodo (todos.Ask request) = Unit {0}
 IsGoodTodo (todos.Run errand) = IsGoodErrand errand
 
--- a recall that these bytes spell was sent, to this member, and nothing else happened
+-- these bytes spell a recall or a roll to this member
+abbrev pub IsGoodSending : ℕ → List ℕ → Type 0
+IsGoodSending to bytes = ((r : Recall) × (bytes ≡ spelling r) × (r.to ≡ to)) ⊎ ((r : Roll) × (bytes ≡ roll_spelling r) × (r.to ≡ to))
+
+-- a recall or a roll that these bytes spell was sent, to this member, and nothing else happened
 abbrev pub IsHailing : ℕ → List ℕ → List Event → Type 0
-IsHailing to bytes log = (r : Recall) × (bytes ≡ spelling r) × (r.to ≡ to) × (log ≡ aside (hailed r) ∷ [])
+IsHailing to bytes log =
+    ((r : Recall) × (bytes ≡ spelling r) × (r.to ≡ to) × (log ≡ aside (hailed r) ∷ []))
+    ⊎ ((r : Roll) × (bytes ≡ roll_spelling r) × (r.to ≡ to) × (log ≡ aside (rolled r) ∷ []))
 
 -- the station was asked to tell its vote of this number again to this member
 abbrev pub IsTellingAgain : ℕ → ℕ → List Event → Type 0

@@ -108,7 +108,7 @@ impl<'a, R: Rows, N: Wire, S: Sink> Driver<'a, R, N, S> {
                 pass_over(refusal)
             }
             Outcome::Heard(found) => {
-                let heard = Heard::Recall(found);
+                let heard = Heard::Aside(found);
                 self.pacing.hear(heard.said(), now);
                 self.sink.hear(&heard, now, log);
                 Ok(())

@@ -1,11 +1,9 @@
-//! The errands by which a station catches up, or others do: recalls are sent, votes told again, and numbers searched.
+//! The errands by which a station catches up, or others do: recalls and rolls are sent, votes told again, and numbers searched.
 
 ghost use Rattle.std.specs.Prelude.{◌≡◌, OnOk, IfErr, IsOk};
-ghost use Rattle.recalls.specs.Recalls.{Recall};
-ghost use Rattle.recalls.specs.Spelling.{spelling};
 ghost use Rattle.catch_up.specs.Errands.{IsGoodErrand};
 ghost use Rattle.driver.specs.Driving.{DroveUpTo};
-ghost use Rattle.driver.specs.Todos.{IsHailing, IsRunOf, IsSearching, IsTellingAgain};
+ghost use Rattle.driver.specs.Todos.{IsGoodSending, IsHailing, IsRunOf, IsSearching, IsTellingAgain};
 
 use crate::desk::{Declined, Desk};
 use crate::driver::Driver;
@@ -27,14 +25,14 @@ struct Again {
 }
 
 impl<'a, R: Rows, N: Wire, S: Desk> Driver<'a, R, N, S> {
-    /// Sends bytes that spell a recall to the member that it is to.
+    /// Sends bytes that spell a recall or a roll to the member that it is to.
     fn hail<E: Write>(
         &mut self,
         to: Member,
         bytes: &[u8],
         log: &mut Log<'_, E>,
     ) -> Result<(), Fault<'static>>
-        requires spelled { (r : Recall) × (bytes.now ≡ spelling r) × (r.to ≡ to) }
+        requires spelled { IsGoodSending to bytes.now }
         ensures station { self.new.station.ghost_name ≡ self.old.station.ghost_name }
         ensures wire { self.new.wire.ghost_name ≡ self.old.wire.ghost_name }
         ensures was_kept { R.kept self.new.station.now.rows → R.kept self.old.station.now.rows }

@@ -10,7 +10,7 @@ ghost use Rattle.driver.specs.Pacing.{said_of};
 use crate::log::Log;
 use command_ends::Fault;
 use exchange::Said;
-use recalls::{Recall, RecallFault};
+use rolls::Aside;
 use station::{Answer, StepRefusal};
 use std::io::Write;
 
@@ -30,8 +30,8 @@ pub enum Heard {
     Taken(Option<Said>),
     /// One that the station refused, and passed over unless it stopped the station.
     Refused(StepRefusal),
-    /// One that has the mark of a recall, as it was read. The station was not called.
-    Recall(Result<Recall, RecallFault>),
+    /// One that has the mark of recalls and rolls, as it was read. The station was not called.
+    Aside(Aside),
 }
 
 impl Heard {
@@ -41,7 +41,7 @@ impl Heard {
     {
         match self {
             Heard::Taken(said) => *said,
-            Heard::Refused(_) | Heard::Recall(_) => None,
+            Heard::Refused(_) | Heard::Aside(_) => None,
         }
     }
 }

@@ -7,7 +7,7 @@ use Rattle.refusals.specs.declared.refusal.StepRefusal.{StepRefusal}
 use Rattle.station.specs.declared.station.Station.{Station}
 use Rattle.station.specs.Steps.{IsStep, stopped_after}
 use Rattle.wire.specs.Passing.{Passed, Passes}
-use Rattle.recalls.specs.Reading.{recall_at}
+use Rattle.rolls.specs.Asides.{aside_in}
 use Rattle.exchange.specs.Events.{coming, HasMark, heard, passing_by}
 use Rattle.exchange.specs.Layouts.{IsNewerIn}
 use Rattle.exchange.specs.Said.{said_in}
@@ -34,9 +34,9 @@ IsPacketTaken g bytes now old new (Done answer said) = IsStep g (Receiving bytes
 IsPacketTaken g bytes now old new (Refused refusal newer) = IsStep g (Receiving bytes now) old new (Err refusal) × IsNewerIn refusal bytes newer
 IsPacketTaken g bytes now old new (Heard found) = ⊥
 
--- one datagram at most came, and was taken in by one step at this moment, unless it has the mark of a recall; where that was done, this is
--- what its head says, and where it was refused, which member sent it in a layout that the station does not read; what has the mark was read
--- as a recall, and the station stayed
+-- one datagram at most came, and was taken in by one step at this moment, unless it has the mark of recalls and rolls; where that was done,
+-- this is what its head says, and where it was refused, which member sent it in a layout that the station does not read; what has the mark was
+-- read as one of them, and the station stayed
 abbrev pub IsTakenIn : {R N : Type 0} → Ghosts R → (N → Option (List Passed)) → ℕ → Station R → Station R → N → N → Outcome → Type 0
 IsTakenIn g passed now old new was is Nothing = Rests passed old new was is
 IsTakenIn g passed now old new was is Failed = Rests passed old new was is
@@ -45,4 +45,4 @@ IsTakenIn g passed now old new was is (Done answer said) =
 IsTakenIn g passed now old new was is (Refused refusal newer) =
     (bytes : List ℕ) × Drives g passed (Receiving bytes now) old new was is (Err refusal) × IsNewerIn refusal bytes newer × ¬ HasMark bytes
 IsTakenIn g passed now old new was is (Heard found) =
-    (rest : List ℕ) × (new ≡ old) × Passes (passed was) (passed is) (passing_by (heard rest)) × (found ≡ recall_at (84 ∷ 82 ∷ rest))
+    (rest : List ℕ) × (new ≡ old) × Passes (passed was) (passed is) (passing_by (heard rest)) × (found ≡ aside_in (84 ∷ 82 ∷ rest))

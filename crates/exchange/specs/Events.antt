@@ -12,16 +12,19 @@ use Rattle.station.specs.Steps.{IsStep}
 use Rattle.wire.specs.Passing.{Passed, came, sent, told}
 use Rattle.recalls.specs.Recalls.{Recall}
 use Rattle.recalls.specs.Spelling.{spelling}
+use Rattle.rolls.specs.Rolls.{Roll}
+use Rattle.rolls.specs.Spelling.{spelling as roll_spelling}
 use Rattle.command_ends.specs.Ends.{end_of}
 use Rattle.command_ends.specs.declared.end.End.{End}
 use Rattle.command_ends.specs.declared.end.End.TheVariants as ends
 use Rattle.command_ends.specs.declared.fault.Fault.{Fault}
 
 -- what passes over the wire beside the station's packets, which have another mark: bytes with the mark TR came, which no station is called
--- with; or a recall was sent to the member that it is to
+-- with; or a recall, or a roll, was sent to the member that it is to
 pub data Aside : Type 0 where
   heard : (rest : List ℕ) → Aside
   hailed : (recall : Recall) → Aside
+  rolled : (roll : Roll) → Aside
 
 -- the clock was asked, the station was called and answered, or something passed beside its packets
 pub data Event : Type 0 where
@@ -29,7 +32,7 @@ pub data Event : Type 0 where
   took : (call : Call) (answer : Result Answer StepRefusal) → Event
   aside : (what : Aside) → Event
 
--- these bytes have the mark of a recall
+-- these bytes have the mark of recalls and rolls
 abbrev pub HasMark : List ℕ → Type 0
 HasMark bytes = (rest : List ℕ) × (bytes ≡ 84 ∷ 82 ∷ rest)
 
@@ -54,6 +57,7 @@ going (Err refusal) = []
 abbrev pub passing_by : Aside → List Passed
 passing_by (heard rest) = came (84 ∷ 82 ∷ rest) ∷ []
 passing_by (hailed recall) = sent recall.to (spelling recall) ∷ []
+passing_by (rolled roll) = sent roll.to (roll_spelling roll) ∷ []
 
 -- what passes over the wire in an event
 abbrev pub passing : Event → List Passed

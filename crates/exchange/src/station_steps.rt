@@ -12,7 +12,7 @@ use crate::said::{Said, said_in};
 use crate::sending::send_all;
 use ballots::Member;
 use command_ends::Fault;
-use recalls::{Recall, RecallFault, decode};
+use rolls::{Aside, hear};
 use saved_rows::Rows;
 use station::{Answer, Station, StepRefusal};
 use std::io::Write;
@@ -35,11 +35,11 @@ pub enum Outcome {
         refusal: StepRefusal,
         newer: Option<Member>,
     },
-    /// One came that has the mark of a recall, as it was read. The station was not called.
-    Heard(Result<Recall, RecallFault>),
+    /// One came that has the mark of recalls and rolls, as it was read. The station was not called.
+    Heard(Aside),
 }
 
-/// Whether bytes have the mark of a recall, as no packet has.
+/// Whether bytes have the mark of recalls and rolls, as no packet has.
 fn has_mark(bytes: &[u8]) -> bool
     ensures some { result ≡ true → HasMark bytes.now }
     ensures none { result ≡ false → ¬ HasMark bytes.now }
@@ -80,7 +80,7 @@ pub fn take_datagram<R: Rows, N: Wire>(
     };
     let bytes = &buffer[..length];
     if has_mark(bytes) {
-        return Outcome::Heard(decode(bytes));
+        return Outcome::Heard(hear(bytes));
     }
     take_packet(station, bytes, now)
 }

@@ -1,3 +1,4 @@
+pub mod Sets
 pub mod Agreeing
 pub mod OneMore
 pub mod Settling

@@ -4,7 +4,7 @@ use Rattle.std.specs.Prelude.{◌&&◌}
 use Rattle.healing.specs.declared.case.Case.{Case}
 use Rattle.healing.specs.declared.case.Stage.{Stage}
 use Rattle.healing.specs.declared.case.Stage.TheVariants.{Waiting, Recalled, Sought, Open, Left}
-use Rattle.healing.specs.Cases.{is_recalled, was_recalled, ripe_in, recalled_in, lacks}
+use Rattle.healing.specs.Cases.{is_recalled, was_recalled, ripe_in, recalled_in, has_vote, lacks}
 
 both : (a b d : Bool) → (a && b && d) ≡ true → b ≡ true
 both true true d e = refl
@@ -20,7 +20,7 @@ recalled_stage Left now e = absurd (true≢false (sym e))
 
 ripe_recalled : (c : Option Case) (now : ℕ) → ripe_in c now ≡ true → recalled_in c ≡ true
 ripe_recalled None now e = absurd (true≢false (sym e))
-ripe_recalled (Some c) now e = recalled_stage c.stage now (both c.votes (was_recalled c.stage now) (lacks c now) e)
+ripe_recalled (Some c) now e = recalled_stage c.stage now (both (has_vote c) (was_recalled c.stage now) (lacks c now) e)
 
 -- where none of those is ripe among which all are that were recalled, none is
 pub none_ripe : (c : Option Case) (now : ℕ) (among : Bool) → (recalled_in c ≡ true → among ≡ true) → (among ≡ true → ripe_in c now ≡ false) → ripe_in c now ≡ false

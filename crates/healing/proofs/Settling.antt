@@ -7,7 +7,7 @@ use Rattle.std.proofs.lemmas.List.{take_more}
 use Rattle.healing.specs.declared.case.Case.{Case}
 use Rattle.healing.specs.declared.case.Stage.{Stage}
 use Rattle.healing.specs.declared.case.Stage.TheVariants.{Waiting, Recalled, Sought, Open, Left}
-use Rattle.healing.specs.Cases.{is_due, is_over, settled, with_stage, was_recalled, recalled_in, is_recalled}
+use Rattle.healing.specs.Cases.{is_due, is_over, settled, with_stage, was_recalled, recalled_in, is_recalled, has_vote}
 use Rattle.healing.specs.Lists.{is_among}
 use Rattle.healing.specs.Healing.{case_in, CaseIsPut, IsDueIn, AreDueIn}
 use Rattle.healing.proofs.OneMore.{among_more}
@@ -48,15 +48,15 @@ one_changed change same numbers k old mid new before put n =
 
 -- to be settled twice is to be settled
 pub settled_twice : (now : ℕ) (c : Case) → settled now (settled now c) ≡ settled now c
-settled_twice now c = go (was_recalled c.stage now && not c.votes) refl
+settled_twice now c = go (was_recalled c.stage now && not (has_vote c)) refl
   where
-    go : (b : Bool) → (was_recalled c.stage now && not c.votes) ≡ b → settled now (if b then with_stage Left c else c) ≡ (if b then with_stage Left c else c)
+    go : (b : Bool) → (was_recalled c.stage now && not (has_vote c)) ≡ b → settled now (if b then with_stage Left c else c) ≡ (if b then with_stage Left c else c)
     go true left = refl
     go false stays = ap (λ (b : Bool). if b then with_stage Left c else c) stays
 
 -- what was not recalled is settled
 not_recalled : (now : ℕ) (c : Case) → is_recalled c.stage ≡ false → settled now c ≡ c
-not_recalled now c other = ap (λ (b : Bool). if (b && not c.votes) then with_stage Left c else c) (go c.stage other)
+not_recalled now c other = ap (λ (b : Bool). if (b && not (has_vote c)) then with_stage Left c else c) (go c.stage other)
   where
     go : (s : Stage) → is_recalled s ≡ false → was_recalled s now ≡ false
     go Waiting e = refl
@@ -96,7 +96,7 @@ back : (now : ℕ) (y : Option Case) (c : Case) → option_map (settled now) y �
 back now None c e due = absurd (no_some e)
 back now (Some d) c e due =
     let is : settled now d ≡ c = some_same e in
-    let stayed : settled now d ≡ d = stays now d (is_over d now && not d.votes) (ap (λ (k : Case). is_due k now) is ∙ due) in
+    let stayed : settled now d ≡ d = stays now d (is_over d now && not (has_vote d)) (ap (λ (k : Case). is_due k now) is ∙ due) in
     ap Some (sym stayed ∙ is)
 
 -- a number that is due after all were settled was so before

@@ -1,10 +1,13 @@
 -- A number that is known here and did not go out: what news make of it, and whether it is lacked.
-use Rattle.std.specs.Prelude.{ℕ, ◌+◌, Bool, true, false, not, ◌&&◌, ◌||◌, Option, Some, None, nat_le, max, if◌then◌else◌}
+use Rattle.std.specs.Prelude.{ℕ, ◌+◌, ◌-◌, ◌^◌, Bool, true, false, not, ◌&&◌, ◌||◌, Option, Some, None, nat_le, nat_lt, min, max, if◌then◌else◌}
+use Rattle.std.specs.Option.{unwrap_or}
 use Rattle.healing.specs.declared.news.News.{News}
-use Rattle.healing.specs.declared.news.News.TheVariants.{Saved, Came, Voted, Opened, Closed, Nothing}
+use Rattle.healing.specs.declared.news.News.TheVariants.{Saved, Came, Voted, Held, Opened, Closed, Nothing}
 use Rattle.healing.specs.declared.case.Stage.{Stage}
 use Rattle.healing.specs.declared.case.Stage.TheVariants.{Waiting, Recalled, Sought, Open, Left}
 use Rattle.healing.specs.declared.case.Case.{Case}
+use Rattle.healing.specs.declared.voters.Voters.{Voters}
+use Rattle.healing.specs.Voters.{none, is_none, with_voter, is_within}
 
 -- a ballot of the number is open here
 abbrev pub is_open : Stage → Bool
@@ -14,9 +17,9 @@ is_open Waiting = false
 is_open (Recalled at) = false
 is_open Left = false
 
--- known for 5 s, nothing came for 2 s, no ballot is open
+-- no ballot of it is open, it is known for long enough, and nothing came for long enough
 abbrev pub lacks : Case → ℕ → Bool
-lacks c now = not (is_open c.stage) && nat_le (c.known + 5000) now && nat_le (c.heard + 2000) now
+lacks c now = not (is_open c.stage) && nat_le c.known now && nat_le c.quiet now
 
 abbrev pub is_waiting : Stage → Bool
 is_waiting Waiting = true
@@ -66,45 +69,73 @@ was_asked Left now = false
 abbrev pub is_awaited : Case → ℕ → Bool
 is_awaited c now = was_asked c.stage now && not (is_over c now)
 
+-- a member has a vote of it
+abbrev pub has_vote : Case → Bool
+has_vote c = not (is_none c.voters)
+
 -- it is lacked, was recalled 2 s before, and a member has a vote of it
 abbrev pub is_ripe : Case → ℕ → Bool
-is_ripe c now = c.votes && is_over c now && lacks c now
+is_ripe c now = has_vote c && is_over c now && lacks c now
 
 -- the first moment at which a number that waits is lacked, if nothing more comes of it
 abbrev pub due_at : Case → ℕ
-due_at c = max (c.known + 5000) (c.heard + 2000)
+due_at c = max c.known c.quiet
 
--- a number becomes known by its row, or by a ballot of its own
-abbrev pub fresh : News → ℕ → Option Case
-fresh (Saved votes) now = Some (record { known = now; heard = now; votes = votes; stage = Waiting })
-fresh Opened now = Some (record { known = now; heard = now; votes = false; stage = Open })
-fresh Came now = None
-fresh Voted now = None
-fresh Closed now = None
-fresh Nothing now = None
+-- so many milliseconds later, or at the last moment that there is
+abbrev pub later : ℕ → ℕ → ℕ
+later now pause = min (now + pause) (2 ^ 64 - 1)
 
--- when something of it came last
-abbrev pub heard_after : News → ℕ → ℕ → ℕ
-heard_after Closed now heard = heard
-heard_after Nothing now heard = heard
-heard_after (Saved votes) now heard = now
-heard_after Came now heard = now
-heard_after Voted now heard = now
-heard_after Opened now heard = now
+-- the member that is told to have a vote, if one is: the own one, where a row is saved that has one
+abbrev pub voter_of : ℕ → News → Option ℕ
+voter_of own (Saved true) = Some own
+voter_of own (Saved false) = None
+voter_of own (Voted member) = Some member
+voter_of own (Held member) = Some member
+voter_of own Came = None
+voter_of own Opened = None
+voter_of own Closed = None
+voter_of own Nothing = None
 
--- whether a member has a vote
-abbrev pub votes_after : News → Bool → Bool
-votes_after (Saved own) votes = own || votes
-votes_after Voted votes = true
-votes_after Came votes = votes
-votes_after Opened votes = votes
-votes_after Closed votes = votes
-votes_after Nothing votes = votes
+-- from which moment on a number is known for long enough, if this makes it known: 5 s after its row was saved or its ballot opened, and
+-- at once where a page tells of it
+abbrev pub known_from : News → ℕ → Option ℕ
+known_from (Saved votes) now = Some (later now 5000)
+known_from Opened now = Some (later now 5000)
+known_from (Held member) now = Some now
+known_from Came now = None
+known_from (Voted member) now = None
+known_from Closed now = None
+known_from Nothing now = None
 
--- what is new makes a number wait again that was left: a row that is saved, and a vote that is told
-abbrev pub again : Stage → Stage
-again Left = Waiting
-again stage = stage
+-- from which moment on nothing came for long enough, if something came: 2 s later
+abbrev pub quiet_from : News → ℕ → Option ℕ
+quiet_from (Saved votes) now = Some (later now 2000)
+quiet_from Came now = Some (later now 2000)
+quiet_from (Voted member) now = Some (later now 2000)
+quiet_from Opened now = Some (later now 2000)
+quiet_from (Held member) now = None
+quiet_from Closed now = None
+quiet_from Nothing now = None
+
+-- the sooner of two moments, if there is another one
+abbrev pub sooner : Option ℕ → ℕ → ℕ
+sooner None known = known
+sooner (Some moment) known = min moment known
+
+-- the members that have a vote, with another one, if there is one
+abbrev pub voters_after : Option ℕ → Voters → Voters
+voters_after None voters = voters
+voters_after (Some member) voters = with_voter member voters
+
+-- those that were known to have one when the last ballot was begun: where it is opened, all that are known now
+abbrev pub before_after : News → Voters → Voters → Voters
+before_after Opened voters before = voters
+before_after (Saved votes) voters before = before
+before_after Came voters before = before
+before_after (Voted member) voters before = before
+before_after (Held member) voters before = before
+before_after Closed voters before = before
+before_after Nothing voters before = before
 
 -- a ballot that ends
 abbrev pub ended : Stage → Stage → Stage
@@ -112,36 +143,73 @@ ended next Sought = next
 ended next Open = next
 ended next stage = stage
 
-abbrev pub stage_after : News → Stage → Stage
-stage_after (Saved votes) stage = again stage
-stage_after Voted stage = again stage
-stage_after Came stage = stage
-stage_after Opened stage = Open
-stage_after Closed stage = ended Waiting stage
-stage_after Nothing stage = ended Left stage
+-- a ballot begins or ends
+abbrev pub moved : News → Stage → Stage
+moved Opened stage = Open
+moved Closed stage = ended Waiting stage
+moved Nothing stage = ended Left stage
+moved (Saved votes) stage = stage
+moved Came stage = stage
+moved (Voted member) stage = stage
+moved (Held member) stage = stage
 
-abbrev pub case_after : News → ℕ → Case → Case
-case_after news now c =
-    record { known = c.known; heard = heard_after news now c.heard; votes = votes_after news c.votes; stage = stage_after news c.stage }
+-- a number that is left waits again where a member has a vote that was not known to have one when the last ballot was begun
+abbrev pub again : Bool → Stage → Stage
+again knows_all Left = if knows_all then Left else Waiting
+again knows_all stage = stage
+
+-- a number of which no member was known to have a vote before
+abbrev pub fresh_at : ℕ → Voters → Stage → ℕ → Case
+fresh_at known voters stage quiet = record { known = known; quiet = quiet; voters = voters; before = none; stage = stage }
+
+-- a number becomes known by its row, by a ballot of its own, or by a page that tells of it
+abbrev pub fresh : ℕ → News → ℕ → Option Case
+fresh own (Saved votes) now = Some (fresh_at (later now 5000) (voters_after (voter_of own (Saved votes)) none) Waiting (later now 2000))
+fresh own Opened now = Some (fresh_at (later now 5000) none Open (later now 2000))
+fresh own (Held member) now = Some (fresh_at now (with_voter member none) Waiting now)
+fresh own Came now = None
+fresh own (Voted member) now = None
+fresh own Closed now = None
+fresh own Nothing now = None
+
+abbrev pub case_after : ℕ → News → ℕ → Case → Case
+case_after own news now c =
+    let voters : Voters = voters_after (voter_of own news) c.voters in
+    record {
+      known = sooner (known_from news now) c.known;
+      quiet = unwrap_or (quiet_from news now) c.quiet;
+      voters = voters;
+      before = before_after news c.voters c.before;
+      stage = again (is_within voters c.before) (moved news c.stage);
+    }
+
+-- the members that were known to have a vote when the last ballot was begun, as this stage begins: a ballot may begin with it
+abbrev pub before_at : Stage → Voters → Voters → Voters
+before_at stage voters before = if is_open stage then voters else before
 
 abbrev pub with_stage : Stage → Case → Case
-with_stage stage c = record { known = c.known; heard = c.heard; votes = c.votes; stage = stage }
+with_stage stage c = record { known = c.known; quiet = c.quiet; voters = c.voters; before = before_at stage c.voters c.before; stage = stage }
 
 -- a number that was recalled 2 s before is left, where no member has a vote of it
 abbrev pub settled : ℕ → Case → Case
-settled now c = if is_over c now && not c.votes then with_stage Left c else c
+settled now c = if is_over c now && not (has_vote c) then with_stage Left c else c
 
 -- what becomes of a number, known or not
-abbrev pub known_after : News → ℕ → Option Case → Option Case
-known_after news now None = fresh news now
-known_after news now (Some c) = Some (case_after news now c)
+abbrev pub known_after : ℕ → News → ℕ → Option Case → Option Case
+known_after own news now None = fresh own news now
+known_after own news now (Some c) = Some (case_after own news now c)
 
 -- a number has a case in which it waits
 abbrev pub waits_in : Option Case → Bool
 waits_in None = false
 waits_in (Some c) = is_waiting c.stage
 
--- or in which it is sought, or recalled
+-- it waits and did not wait, or it waits and is due earlier than it was
+abbrev pub has_new_place : Option Case → Case → Bool
+has_new_place None c = is_waiting c.stage
+has_new_place (Some old) c = is_waiting c.stage && (not (is_waiting old.stage) || nat_lt (due_at c) (due_at old))
+
+-- a number has a case in which it is sought, or recalled
 abbrev pub sought_in : Option Case → Bool
 sought_in None = false
 sought_in (Some c) = is_sought c.stage

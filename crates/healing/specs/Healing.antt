@@ -1,11 +1,12 @@
 -- The numbers that a plant heals: what is known of all, and what comes next.
-use Rattle.std.specs.Prelude.{◌≡◌, ◌≤◌, ◌+◌, ◌⊎◌, ℕ, Bool, true, false, ◌&&◌, nat_le, nat_lt, List, [], ◌∷◌, length, Option, Some, None, ◌==◌, if◌then◌else◌}
+use Rattle.std.specs.Prelude.{◌≡◌, ◌≤◌, ◌+◌, ◌⊎◌, ℕ, Bool, true, false, not, ◌&&◌, ◌||◌, nat_le, nat_lt, List, [], ◌∷◌, length, Option, Some, None, ◌==◌, if◌then◌else◌}
 use Rattle.std.specs.Option.{option_map}
 use Rattle.std.specs.Ordering.{nat_cmp}
 use Rattle.std.specs.BTreeMap.{is_at}
 use Rattle.std.specs.Map.{lookup}
 use Rattle.protocol.specs.Limits.{last_number}
 use Rattle.healing.specs.Lists.{Rise, is_among}
+use Rattle.healing.specs.Queue.{stands_in}
 use Rattle.gone_out.specs.Numbers.{has}
 use Rattle.healing.specs.declared.news.News.{News}
 use Rattle.healing.specs.declared.wanted.Want.{Want}
@@ -13,12 +14,15 @@ use Rattle.healing.specs.declared.wanted.Want.TheVariants.{Recall, Seek}
 use Rattle.healing.specs.declared.case.Stage.{Stage}
 use Rattle.healing.specs.declared.case.Stage.TheVariants.{Recalled, Sought}
 use Rattle.healing.specs.declared.case.Case.{Case}
-use Rattle.healing.specs.Cases.{is_due, ripe_in, sought_in, recalled_in, awaited_in, known_after, settled, with_stage}
+use Rattle.healing.specs.Cases.{is_due, ripe_in, sought_in, recalled_in, waits_in, awaited_in, known_after, settled, with_stage}
 
--- what is known of all numbers: the case of each, the numbers that were recalled and those that are sought, and maybe others that were;
--- what went out; how many datagrams were taken in since something came next; and when numbers were asked for once more last, if they were
+-- the own member; what is known of all numbers: the case of each, those that wait, those that were recalled, those that are sought, and
+-- maybe others that did or were; what went out; how many datagrams were taken in since something came next; and when numbers were asked
+-- for once more last, if they were
 pub record HealingValue : Type 0 where
+  pub own : ℕ
   pub cases : List (ℕ × Case)
+  pub waiting : List ℕ
   pub recalled : List ℕ
   pub sought : List ℕ
   pub gone : List Bool
@@ -32,9 +36,11 @@ case_in cases n = lookup (is_at (nat_cmp n)) cases
 abbrev pub case_at : HealingValue → ℕ → Option Case
 case_at h n = case_in h.cases n
 
--- what went out has no case; a number that is sought is among at most 8, and one that is recalled among at most 64
+-- what went out has no case; a number that waits is among those that do; one that is sought is among at most 8, and one that is recalled
+-- among at most 64
 pub record IsHealing (h : HealingValue) : Type 0 where
   pub gone : (n : ℕ) → has h.gone n ≡ true → case_at h n ≡ None
+  pub waiting : (n : ℕ) → waits_in (case_at h n) ≡ true → stands_in h.waiting n ≡ true
   pub sought : (n : ℕ) → sought_in (case_at h n) ≡ true → is_among h.sought n ≡ true
   pub few_sought : length h.sought ≤ 8
   pub recalled : (n : ℕ) → recalled_in (case_at h n) ≡ true → is_among h.recalled n ≡ true
@@ -67,11 +73,12 @@ CaseIsPut old new number case = (n : ℕ) → case_in new n ≡ (if n == number 
 
 -- what becomes of a number of which there is news: nothing, where it went out
 abbrev pub told_of : HealingValue → ℕ → News → ℕ → Option Case
-told_of h number news now = if has h.gone number then None else known_after news now (case_at h number)
+told_of h number news now = if has h.gone number then None else known_after h.own news now (case_at h number)
 
 -- after news of a number no other has another case
 pub record IsTold (old new : HealingValue) (number : ℕ) (news : News) (now : ℕ) : Type 0 where
   pub cases : CaseIsPut old.cases new.cases number (told_of old number news now)
+  pub own : new.own ≡ old.own
   pub gone : new.gone ≡ old.gone
   pub taken : new.taken ≡ old.taken
   pub asked : new.asked ≡ old.asked
@@ -79,6 +86,7 @@ pub record IsTold (old new : HealingValue) (number : ℕ) (news : News) (now : �
 -- a number that went out has no case any more, and no other changes
 pub record IsOut (old new : HealingValue) (number : ℕ) : Type 0 where
   pub cases : CaseIsPut old.cases new.cases number None
+  pub own : new.own ≡ old.own
   pub gone : has new.gone number ≡ true
   pub others : (n : ℕ) → ¬ (n ≡ number) → has new.gone n ≡ has old.gone n
   pub taken : new.taken ≡ old.taken
@@ -134,7 +142,14 @@ pub record AreAwaited (cases : List (ℕ × Case)) (now : ℕ) (batch : List ℕ
   pub some : 1 ≤ length batch
   pub few : length batch ≤ 64
 
--- no circuit number is
+-- no number waits, is recalled or is sought
+abbrev pub is_resting : Option Case → Bool
+is_resting c = not (waits_in c || recalled_in c || sought_in c)
+
+abbrev pub AllRest : List (ℕ × Case) → Type 0
+AllRest cases = (n : ℕ) → is_resting (case_in cases n) ≡ true
+
+-- no circuit number is asked for once more
 abbrev pub NoneIsAwaited : List (ℕ × Case) → ℕ → Type 0
 NoneIsAwaited cases now = (n : ℕ) → 1 ≤ n → n ≤ last_number → awaited_in (case_in cases n) now ≡ false
 

@@ -1,11 +1,11 @@
 -- Which number is lacked, by all that was heard of it, looking back.
-use Rattle.std.specs.Prelude.{ℕ, ◌+◌, Bool, true, false, not, ◌&&◌, Option, Some, None, is_some, nat_le, List, [], ◌∷◌, if◌then◌else◌}
+use Rattle.std.specs.Prelude.{ℕ, Bool, true, false, not, ◌&&◌, ◌||◌, ◌==◌, Option, Some, None, is_some, nat_le, min, List, [], ◌∷◌, if◌then◌else◌}
 use Rattle.std.specs.Option.{option_map}
 use Rattle.healing.specs.declared.news.News.{News}
-use Rattle.healing.specs.declared.news.News.TheVariants.{Saved, Came, Voted, Opened, Closed, Nothing}
+use Rattle.healing.specs.declared.news.News.TheVariants.{Saved, Came, Voted, Held, Opened, Closed, Nothing}
 use Rattle.healing.specs.declared.case.Stage.TheVariants.{Recalled as RecalledStage, Sought as SoughtStage}
 use Rattle.healing.specs.declared.case.Case.{Case}
-use Rattle.healing.specs.Cases.{known_after, settled, with_stage}
+use Rattle.healing.specs.Cases.{known_after, known_from, quiet_from, voter_of, settled, with_stage}
 
 -- what happens to a number: news of it, that it is recalled, that it is settled what comes of a recall, that it is sought, and that it
 -- goes out
@@ -20,44 +20,43 @@ pub data Event : Type 0 where
 abbrev pub History : Type 0
 History = List (Event × ℕ)
 
--- it becomes known by a row that is saved here, or by a ballot of its own
-abbrev pub makes_known : Event → Bool
-makes_known (Told (Saved votes)) = true
-makes_known (Told Opened) = true
-makes_known event = false
-
--- something of it comes
-abbrev pub comes : Event → Bool
-comes (Told (Saved votes)) = true
-comes (Told Came) = true
-comes (Told Voted) = true
-comes (Told Opened) = true
-comes event = false
-
 -- it went out
 abbrev pub went_out : History → Bool
 went_out [] = false
 went_out ((WentOut, t) ∷ h) = true
 went_out ((e, t) ∷ h) = went_out h
 
-abbrev pub first_of : Option ℕ → Bool → ℕ → Option ℕ
-first_of (Some since) known t = Some since
-first_of None true t = Some t
-first_of None false t = None
+-- the least of two moments, where there are any
+abbrev pub least : Option ℕ → Option ℕ → Option ℕ
+least None other = other
+least (Some t) None = Some t
+least (Some t) (Some other) = Some (min t other)
 
--- since when it is known: the first moment that made it so
-abbrev pub known_since : History → Option ℕ
-known_since [] = None
-known_since ((e, t) ∷ h) = first_of (known_since h) (makes_known e) t
+-- the first of two moments, where there is one, or the second
+abbrev pub first_of : Option ℕ → Option ℕ → Option ℕ
+first_of None other = other
+first_of (Some t) other = Some t
 
--- when something came last
-abbrev pub last_came : History → Option ℕ
-last_came [] = None
-last_came ((e, t) ∷ h) = if comes e then Some t else last_came h
+-- from which moment on this makes the number known for long enough, if it makes it known
+abbrev pub makes_known : Event → ℕ → Option ℕ
+makes_known (Told news) t = known_from news t
+makes_known event t = None
+
+-- from which moment on it is known for long enough: the least of those from which on something made it so
+abbrev pub known_by : History → Option ℕ
+known_by [] = None
+known_by ((e, t) ∷ h) = least (makes_known e t) (known_by h)
 
 -- it is known
 abbrev pub is_known : History → Bool
-is_known h = is_some (known_since h)
+is_known h = is_some (known_by h)
+
+-- from which moment on nothing came for long enough: 2 s after what came last, and at once where a page makes it known, whatever came
+-- before that
+abbrev pub quiet_by : History → Option ℕ
+quiet_by [] = None
+quiet_by ((Told news, t) ∷ h) = first_of (quiet_from news t) (if is_known h then quiet_by h else Some t)
+quiet_by ((e, t) ∷ h) = quiet_by h
 
 -- a ballot of it is open here: of the events that begin and end one, the last began it. A search begins only of a number that is known,
 -- and a recall only where no ballot is open
@@ -70,24 +69,46 @@ has_ballot ((Told Closed, t) ∷ h) = false
 has_ballot ((Told Nothing, t) ∷ h) = false
 has_ballot ((e, t) ∷ h) = has_ballot h
 
--- a moment lies so far back, or there is none
-abbrev pub is_past : Option ℕ → ℕ → ℕ → Bool
-is_past None pause now = false
-is_past (Some t) pause now = nat_le (t + pause) now
+-- a moment has come, where there is one
+abbrev pub has_come : Option ℕ → ℕ → Bool
+has_come None now = false
+has_come (Some t) now = nat_le t now
 
--- it is lacked: it did not go out, no ballot of it is open here, it is known for 5 s, and nothing came for 2 s
+-- it is lacked: it did not go out, no ballot of it is open here, it is known for long enough, and nothing came for long enough
 abbrev pub is_lacked : History → ℕ → Bool
-is_lacked h now = not (went_out h) && (not (has_ballot h) && is_past (known_since h) 5000 now && is_past (last_came h) 2000 now)
+is_lacked h now = not (went_out h) && (not (has_ballot h) && has_come (known_by h) now && has_come (quiet_by h) now)
+
+-- there is a member, and it is this one
+abbrev pub is_one : Option ℕ → ℕ → Bool
+is_one None member = false
+is_one (Some voter) member = voter == member
+
+-- this tells that the member has a vote of it, at the plant of this own member
+abbrev pub tells_vote : ℕ → Event → ℕ → Bool
+tells_vote own (Told news) member = is_one (voter_of own news) member
+tells_vote own event member = false
+
+-- the member was told to have a vote of it, since it is known
+abbrev pub is_told : ℕ → History → ℕ → Bool
+is_told own [] member = false
+is_told own ((e, t) ∷ h) member = (tells_vote own e member && is_known ((e, t) ∷ h)) || is_told own h member
+
+-- what happened before its last ballot or search was begun; nothing, where none was
+abbrev pub before_ballot : History → History
+before_ballot [] = []
+before_ballot ((Told Opened, t) ∷ h) = h
+before_ballot ((Sought, t) ∷ h) = h
+before_ballot ((e, t) ∷ h) = before_ballot h
 
 -- what the events make of a number, one after the other
-abbrev pub step : Event → ℕ → Option Case → Option Case
-step (Told news) t c = known_after news t c
-step WentOut t c = None
-step Recalled t c = option_map (with_stage (RecalledStage t)) c
-step Settled t c = option_map (settled t) c
-step Sought t c = option_map (with_stage SoughtStage) c
+abbrev pub step : ℕ → Event → ℕ → Option Case → Option Case
+step own (Told news) t c = known_after own news t c
+step own WentOut t c = None
+step own Recalled t c = option_map (with_stage (RecalledStage t)) c
+step own Settled t c = option_map (settled t) c
+step own Sought t c = option_map (with_stage SoughtStage) c
 
--- the case of a number
-abbrev pub case_of : History → Option Case
-case_of [] = None
-case_of ((e, t) ∷ h) = if went_out h then None else step e t (case_of h)
+-- the case of a number, at the plant of this own member
+abbrev pub case_of : ℕ → History → Option Case
+case_of own [] = None
+case_of own ((e, t) ∷ h) = if went_out h then None else step own e t (case_of own h)

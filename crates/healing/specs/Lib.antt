@@ -1,3 +1,4 @@
+pub mod Voters
 pub mod Cases
 pub mod Lacking
 pub mod Lists

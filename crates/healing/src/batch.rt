@@ -1,8 +1,9 @@
 //! The numbers that are recalled together.
 
-ghost use Rattle.std.specs.Prelude.{◌≡◌, ◌≤◌, ◌+◌, ◌-◌, IfOk, IfSome, IsTrue, length};
+ghost use Rattle.std.specs.Prelude.{◌≡◌, ◌≤◌, ◌+◌, ◌-◌, ℕ, true, IfOk, IfSome, IsTrue, length};
 ghost use Rattle.protocol.specs.Limits.{last_number};
 ghost use Rattle.healing.specs.Healing.{AreDueIn, IsDueIn};
+ghost use Rattle.healing.specs.Queue.{stands_in};
 
 use crate::case::{Case, Stage};
 use crate::due::Queue;
@@ -23,7 +24,8 @@ pub(crate) fn take_due(
     now: u64,
 ) -> Result<Few, AllocError>
     requires { room ≤ 64 }
-    ensures { IfOk result (λ few. length few.items ≤ room) }
+    ensures few { IfOk result (λ few. length few.items ≤ room) }
+    ensures waiting { (n : ℕ) → stands_in queue.old.waiting.keys n ≡ true → stands_in queue.new.waiting.keys n ≡ true }
 {
     let mut few = ArrayVec::new();
     for _ in 0..room {

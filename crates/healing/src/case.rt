@@ -1,15 +1,11 @@
 //! A number that is known here and did not go out: what was heard of it, and what is done about it.
 
-ghost use Rattle.std.specs.Prelude.{◌≡◌, min};
-ghost use Rattle.healing.specs.Cases.{fresh, case_after, known_after, stage_after, is_open, is_sought, is_recalled, is_waiting, waits_in, sought_in, recalled_in, awaited_in, lacks, is_due, is_over, is_ripe, is_awaited, due_at, with_stage};
+ghost use Rattle.std.specs.Prelude.{◌≡◌};
+ghost use Rattle.healing.specs.Cases.{fresh, case_after, known_after, voters_after, before_after, moved, again, sooner, is_open, is_sought, is_recalled, is_waiting, has_new_place, sought_in, recalled_in, awaited_in, lacks, is_due, is_over, is_ripe, is_awaited, due_at, with_stage};
 
 use crate::news::News;
-
-/// How long a number has to be known until it is lacked, in milliseconds.
-const KNOWN_FOR: u64 = 5_000;
-
-/// How long nothing may have come of a number that is lacked, in milliseconds.
-const QUIET_FOR: u64 = 2_000;
+use crate::voters::Voters;
+use ballots::Member;
 
 /// How long the votes that were recalled are waited for, in milliseconds.
 const WAITED_FOR: u64 = 2_000;
@@ -28,19 +24,23 @@ pub enum Stage {
     Sought,
     /// A ballot of it is open here, for a file among the offers.
     Open,
-    /// It is left until something new is heard of it: nobody told a vote, or a search found nothing.
+    /// Nobody told a vote, or a ballot found nothing: it is left until a member has a vote that was not known to have one as the last
+    /// ballot was begun.
     Left,
 }
 
-/// A number that is known here and did not go out. Moments are in milliseconds.
+/// A number that is known here and did not go out. Moments are in milliseconds; the last that there is stands for all after it.
 #[derive(Clone, Copy, PartialEq, Eq)]
 pub struct Case {
-    /// Since when it is known.
+    /// From which moment on it is known for long enough: 5 s after a row of it was saved or a ballot of it was opened, and at once where a
+    /// page told of it.
     pub known: u64,
-    /// When something of it came last.
-    pub heard: u64,
-    /// Whether a member has a vote of it: another one told it, or the own row has it.
-    pub votes: bool,
+    /// From which moment on nothing of it came for long enough: 2 s after something came last.
+    pub quiet: u64,
+    /// The members that have a vote of it: others that told so, and the own one where its row has one.
+    pub voters: Voters,
+    /// Those that were known to have one as the last ballot or search of it was begun here.
+    pub before: Voters,
     pub stage: Stage,
 }
 
@@ -85,53 +85,87 @@ impl Stage {
         }
     }
 
-    /// The stage after news.
-    fn after(self, news: News) -> Stage
-        ensures { result ≡ stage_after news self }
+    /// The stage after news, as far as they begin or end a ballot.
+    fn moved(self, news: &News) -> Stage
+        ensures { result ≡ moved news.now self }
     {
         match (news, self) {
-            (News::Saved { .. } | News::Voted, Stage::Left) => Stage::Waiting,
             (News::Opened, _) => Stage::Open,
             (News::Closed, Stage::Sought | Stage::Open) => Stage::Waiting,
             (News::Nothing, Stage::Sought | Stage::Open) => Stage::Left,
             _ => self,
         }
     }
+
+    /// The stage where all members that have a vote were known to have one as the last ballot was begun, or not all: a number that is left
+    /// waits again then.
+    fn again(self, knows_all: bool) -> Stage
+        ensures { result ≡ again knows_all self }
+    {
+        match self {
+            Stage::Left if !knows_all => Stage::Waiting,
+            _ => self,
+        }
+    }
+}
+
+/// The members that have a vote, with another one, if there is one.
+fn voters_after(voters: Voters, voter: Option<Member>) -> Voters
+    ensures { result ≡ voters_after voter voters }
+{
+    match voter {
+        Some(member) => voters.with(member),
+        None => voters,
+    }
+}
+
+/// The sooner of two moments, if there is another one.
+fn sooner(moment: Option<u64>, known: u64) -> u64
+    ensures { result ≡ sooner moment known }
+{
+    match moment {
+        Some(moment) => moment.min(known),
+        None => known,
+    }
 }
 
 impl Case {
-    /// A number that was not known, after news of it: it is known from a row that is saved here on, or from a ballot of its own.
-    pub(crate) fn fresh(news: News, now: u64) -> Option<Case>
-        ensures { result ≡ fresh news now }
+    /// A number that was not known, after news of it: it is known from a row that is saved here on, from a ballot of its own, or from a
+    /// page that tells of it.
+    fn fresh(own: Member, news: &News, now: u64) -> Option<Case>
+        ensures { result ≡ fresh own news.now now }
     {
-        let (votes, stage) = match news {
-            News::Saved { votes } => (votes, Stage::Waiting),
-            News::Opened => (false, Stage::Open),
-            News::Came | News::Voted | News::Closed | News::Nothing => return None,
-        };
+        let known = news.known_from(now)?;
         Some(Case {
-            known: now,
-            heard: now,
-            votes,
-            stage,
+            known,
+            quiet: news.quiet_from(now).unwrap_or(now),
+            voters: voters_after(Voters::new(), news.voter(own)),
+            before: Voters::new(),
+            stage: Stage::Waiting.moved(news),
         })
     }
 
-    /// The case after news.
-    pub(crate) fn after(self, news: News, now: u64) -> Case
-        ensures { result ≡ case_after news now self }
+    /// Those that were known to have a vote as the last ballot was begun, after news.
+    fn before_after(self, news: &News) -> Voters
+        ensures { result ≡ before_after news.now self.voters self.before }
     {
-        let (heard, votes) = match news {
-            News::Saved { votes } => (now, votes || self.votes),
-            News::Voted => (now, true),
-            News::Came | News::Opened => (now, self.votes),
-            News::Closed | News::Nothing => (self.heard, self.votes),
-        };
+        match news {
+            News::Opened => self.voters,
+            _ => self.before,
+        }
+    }
+
+    /// The case after news.
+    fn after(self, own: Member, news: &News, now: u64) -> Case
+        ensures { result ≡ case_after own news.now now self }
+    {
+        let voters = voters_after(self.voters, news.voter(own));
         Case {
-            known: self.known,
-            heard,
-            votes,
-            stage: self.stage.after(news),
+            known: sooner(news.known_from(now), self.known),
+            quiet: news.quiet_from(now).unwrap_or(self.quiet),
+            voters,
+            before: self.before_after(news),
+            stage: self.stage.moved(news).again(voters.are_within(self.before)),
         }
     }
 
@@ -141,19 +175,22 @@ impl Case {
     {
         Case {
             known: self.known,
-            heard: self.heard,
-            votes: self.votes,
+            quiet: self.quiet,
+            voters: self.voters,
+            before: if stage.is_open() {
+                self.voters
+            } else {
+                self.before
+            },
             stage,
         }
     }
 
-    /// Whether the number is lacked: no ballot of it is open here, it is known for 5 s, and nothing of it came for 2 s.
+    /// Whether the number is lacked: no ballot of it is open here, it is known for long enough, and nothing of it came for long enough.
     pub(crate) fn is_lacked(self, now: u64) -> bool
         ensures { result ≡ lacks self now }
     {
-        !self.stage.is_open()
-            && now.saturating_sub(self.known) >= KNOWN_FOR
-            && now.saturating_sub(self.heard) >= QUIET_FOR
+        !self.stage.is_open() && self.known <= now && self.quiet <= now
     }
 
     /// Whether it is time to recall the number.
@@ -187,37 +224,36 @@ impl Case {
     pub(crate) fn is_ripe(self, now: u64) -> bool
         ensures { result ≡ is_ripe self now }
     {
-        self.votes && self.is_over(now) && self.is_lacked(now)
+        !self.voters.is_empty() && self.is_over(now) && self.is_lacked(now)
     }
 
     /// From when on it may be time to recall the number, if nothing comes of it until then.
     pub(crate) fn due(self) -> u64
-        ensures { result ≡ min (due_at self) u64.MAX }
+        ensures { result ≡ due_at self }
     {
-        self.known
-            .saturating_add(KNOWN_FOR)
-            .max(self.heard.saturating_add(QUIET_FOR))
+        self.known.max(self.quiet)
     }
 }
 
 /// What becomes of a number after news of it, known or not.
-pub(crate) fn told(case: Option<Case>, news: News, now: u64) -> Option<Case>
-    ensures { result ≡ known_after news now case }
+pub(crate) fn told(case: Option<Case>, own: Member, news: &News, now: u64) -> Option<Case>
+    ensures { result ≡ known_after own news.now now case }
 {
     match case {
-        Some(case) => Some(case.after(news, now)),
-        None => Case::fresh(news, now),
+        Some(case) => Some(case.after(own, news, now)),
+        None => Case::fresh(own, news, now),
     }
 }
 
-/// Whether a number has a case in which it waits.
-pub(crate) fn is_waiting(case: Option<Case>) -> bool
-    ensures { result ≡ waits_in case }
+/// Whether a number waits that did not wait, or that is due earlier than it was.
+pub(crate) fn has_new_place(old: Option<Case>, case: Case) -> bool
+    ensures { result ≡ has_new_place old case }
 {
-    match case {
-        Some(case) => case.stage.is_waiting(),
-        None => false,
-    }
+    case.stage.is_waiting()
+        && match old {
+            Some(old) => !old.stage.is_waiting() || case.due() < old.due(),
+            None => true,
+        }
 }
 
 /// Whether a number has a case in which it is sought.

@@ -1,15 +1,15 @@
 //! What a plant lacks, and what it does next about it.
 
-ghost use Rattle.std.specs.Prelude.{◌≡◌, ◌<◌, ◌≤◌, ◌+◌, ◌⊎◌, ℕ, true, false, [], Some, None, Ok, IfOk, OnOk, OnErr, IfSome, ◌==◌, min, if◌then◌else◌, length};
+ghost use Rattle.std.specs.Prelude.{is_some, ◌≡◌, ◌<◌, ◌≤◌, ◌+◌, ◌⊎◌, ℕ, true, false, [], Some, None, Ok, IfOk, OnOk, OnErr, IfSome, ◌==◌, min, if◌then◌else◌, length};
 ghost use Rattle.gone_out.specs.Numbers.{has};
 ghost use Rattle.std.specs.Option.{option_map};
 ghost use Rattle.healing.specs.declared.case.Stage.TheVariants.{Recalled, Sought};
 ghost use Rattle.healing.specs.Cases.{settled, with_stage};
 ghost use Rattle.healing.specs.Lists.{Rise};
-ghost use Rattle.healing.specs.Healing.{case_at, AreAwaited, AreDueIn, AreNotOut, AreRecalled, Becomes, CaseIsPut, is_held, IsOut, IsRipeIn, IsTold, IsWanted, may_ask, NoneIsAwaited, NoneIsOut, NoneIsRipe, SeeksAll, StageIsPut};
+ghost use Rattle.healing.specs.Healing.{AllRest, case_at, AreAwaited, AreDueIn, AreNotOut, AreRecalled, Becomes, CaseIsPut, is_held, IsOut, IsRipeIn, IsTold, IsWanted, may_ask, NoneIsAwaited, NoneIsOut, NoneIsRipe, SeeksAll, StageIsPut};
 
 use crate::batch::{batch_of, take_due};
-use crate::case::{Case, Stage, is_waiting, told};
+use crate::case::{Case, Stage, has_new_place, told};
 use crate::due::Queue;
 use crate::lists::{still_recalled, still_sought};
 use crate::news::News;
@@ -17,7 +17,7 @@ use crate::repeats::{may_ask, repeated};
 use crate::ripe::{case_of, first_ripe, put_case, put_stage, take_out};
 use crate::wanted::{Batch, MOST_RECALLED, Want};
 use arrayvec::ArrayVec;
-use ballots::Number;
+use ballots::{Member, Number};
 use gone_out::Numbers;
 use std::alloc::{AllocError, Global};
 use std::collections::BTreeMap;
@@ -30,9 +30,11 @@ const MOST_SOUGHT: usize = 8;
 const MOST_BEFORE_NEXT: u16 = 256;
 
 /// What a plant knows of the numbers that did not go out there, and what went out. Of each number that is known it keeps a case of some
-/// 40 bytes, and one of 16 in a queue while it waits: of at most 999,999 numbers, most of which went out. Those take a bit each.
+/// 40 bytes, and some 20 in a queue while it waits: of at most 999,999 numbers, most of which went out. Those take a bit each.
 #[derive(Drop)]
 pub struct Healing {
+    /// The own member, which has a vote of a number whose row has one.
+    own: Member,
     cases: BTreeMap<u32, Case>,
     queue: Queue,
     /// The numbers that were recalled, and maybe some that are so no longer.
@@ -51,19 +53,21 @@ impl Model for Healing {
 
     ghost Value = { HealingValue };
 
-    ghost view = { λ h. record { cases = h.cases.entries; recalled = h.recalled.items; sought = h.sought.items; gone = h.gone; taken = h.taken; asked = h.asked } };
+    ghost view = { λ h. record { own = h.own; cases = h.cases.entries; waiting = h.queue.waiting.keys; recalled = h.recalled.items; sought = h.sought.items; gone = h.gone; taken = h.taken; asked = h.asked } };
 
-    ghost invariant = { λ h. IsHealing (record { cases = h.cases.entries; recalled = h.recalled.items; sought = h.sought.items; gone = h.gone; taken = h.taken; asked = h.asked }) };
+    ghost invariant = { λ h. IsHealing (record { own = h.own; cases = h.cases.entries; waiting = h.queue.waiting.keys; recalled = h.recalled.items; sought = h.sought.items; gone = h.gone; taken = h.taken; asked = h.asked }) };
 }
 
 impl Healing {
     /// Nothing is known yet but what went out before.
-    pub fn new(alloc: Global, gone: Numbers) -> Healing
+    pub fn new(alloc: Global, own: Member, gone: Numbers) -> Healing
         ensures none { (n : ℕ) → case_at result n ≡ None }
         ensures gone { result.gone ≡ gone }
+        ensures own { result.own ≡ own }
         ensures asked { result.asked ≡ None }
     {
         Healing {
+            own,
             cases: BTreeMap::new(alloc),
             queue: Queue::new(alloc),
             recalled: ArrayVec::new(),
@@ -81,24 +85,52 @@ impl Healing {
         self.gone.contains(number)
     }
 
+    /// Whether a number is known here that did not go out.
+    pub fn knows(&self, number: Number) -> bool
+        ensures { result ≡ is_some (case_at self.now number) }
+    {
+        case_of(&self.cases, number.get()).is_some()
+    }
+
+    /// How many numbers are known that did not go out.
+    pub fn len(&self) -> usize
+        ensures { result ≡ length self.now.cases }
+    {
+        self.cases.len()
+    }
+
+    /// Whether something may come next, now or later: it does not where no number waits, is recalled or is sought.
+    pub fn is_busy(&self) -> bool
+        ensures { result ≡ false → AllRest self.now.cases }
+    {
+        !self.queue.is_empty()
+            || !still_recalled(&self.cases, &self.recalled).is_empty()
+            || !still_sought(&self.cases, &self.sought).is_empty()
+    }
+
     /// There is news of a number, at this moment in milliseconds. Of a number that went out there is none.
     pub fn tell(&mut self, number: Number, news: News, now: u64) -> Result<(), AllocError>
         ensures ok { OnOk result (IsTold self.old self.new number news now) }
         ensures err { OnErr result ((n : ℕ) → case_at self.new n ≡ case_at self.old n) }
         ensures gone { self.new.gone ≡ self.old.gone }
+        ensures own { self.new.own ≡ self.old.own }
     {
         if self.gone.contains(number) {
             return Ok(());
         }
         let n = number.get();
         let old = case_of(&self.cases, n);
-        let Some(case) = told(old, news, now) else {
+        let Some(case) = told(old, self.own, &news, now) else {
             return Ok(());
         };
-        if case.stage.is_waiting() && !is_waiting(old) {
+        if has_new_place(old, case) {
             self.queue.put(case.due(), n)?;
         }
-        put_case(&mut self.cases, n, case)
+        put_case(&mut self.cases, n, case)?;
+        if !case.stage.is_waiting() {
+            self.queue.leave(n);
+        }
+        Ok(())
     }
 
     /// A number went out here: it is never asked for again.
@@ -107,6 +139,7 @@ impl Healing {
     {
         self.gone.insert(number);
         take_out(&mut self.cases, number.get());
+        self.queue.leave(number.get());
     }
 
     /// A datagram was taken in, whatever it is about.
@@ -123,6 +156,7 @@ impl Healing {
         ensures none { result ≡ None → self.new.cases ≡ self.old.cases }
         ensures rests { result ≡ None → (8 ≤ length self.new.sought) ⊎ NoneIsRipe self.old.cases now }
         ensures gone { self.new.gone ≡ self.old.gone }
+        ensures own { self.new.own ≡ self.old.own }
         ensures asked { self.new.asked ≡ self.old.asked }
     {
         let sought = still_sought(&self.cases, &self.sought);
@@ -140,13 +174,14 @@ impl Healing {
     fn settle_one(&mut self, number: u32, now: u64)
         ensures cases { CaseIsPut self.old.cases self.new.cases number (option_map (settled now) (case_at self.old number)) }
         ensures gone { self.new.gone ≡ self.old.gone }
+        ensures own { self.new.own ≡ self.old.own }
         ensures asked { self.new.asked ≡ self.old.asked }
         ensures recalled { self.new.recalled ≡ self.old.recalled }
         ensures sought { self.new.sought ≡ self.old.sought }
     {
         if let Some(case) = case_of(&self.cases, number)
             && case.is_over(now)
-            && !case.votes
+            && case.voters.is_empty()
         {
             put_stage(&mut self.cases, number, Stage::Left);
         }
@@ -156,6 +191,7 @@ impl Healing {
     fn settle(&mut self, now: u64)
         ensures cases { (n : ℕ) → case_at self.new n ≡ option_map (settled now) (case_at self.old n) }
         ensures gone { self.new.gone ≡ self.old.gone }
+        ensures own { self.new.own ≡ self.old.own }
         ensures asked { self.new.asked ≡ self.old.asked }
         ensures sought { self.new.sought ≡ self.old.sought }
     {
@@ -172,12 +208,14 @@ impl Healing {
         requires { length self.old.recalled < 64 }
         ensures cases { CaseIsPut self.old.cases self.new.cases number (option_map (with_stage (Recalled now)) (case_at self.old number)) }
         ensures gone { self.new.gone ≡ self.old.gone }
+        ensures own { self.new.own ≡ self.old.own }
         ensures asked { self.new.asked ≡ self.old.asked }
         ensures sought { self.new.sought ≡ self.old.sought }
         ensures len { length self.new.recalled ≡ length self.old.recalled + 1 }
     {
         self.recalled.push(number);
         put_stage(&mut self.cases, number, Stage::Recalled { at: now });
+        self.queue.leave(number);
     }
 
     /// The numbers that are recalled next, if there are any: some that are due, as many as there is room for.
@@ -187,6 +225,7 @@ impl Healing {
         ensures cases { IfOk result (λ r. IfSome r (λ batch. AreRecalled batch now self.old.cases self.new.cases)) }
         ensures none { IfOk result (λ r. r ≡ None → self.new.cases ≡ self.old.cases) }
         ensures gone { self.new.gone ≡ self.old.gone }
+        ensures own { self.new.own ≡ self.old.own }
         ensures asked { self.new.asked ≡ self.old.asked }
         ensures sought { self.new.sought ≡ self.old.sought }
     {
@@ -216,6 +255,7 @@ impl Healing {
         ensures seeks { is_held self.old waits ≡ false → IfOk result (λ w. SeeksAll self.old self.new now w) }
         ensures held { is_held self.old waits ≡ true → (result ≡ Ok None) × (self.new ≡ self.old) }
         ensures gone { self.new.gone ≡ self.old.gone }
+        ensures own { self.new.own ≡ self.old.own }
         ensures asked { self.new.asked ≡ self.old.asked }
     {
         if waits && self.taken < MOST_BEFORE_NEXT {

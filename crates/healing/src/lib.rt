@@ -11,9 +11,11 @@ mod lists;
 mod news;
 mod repeats;
 mod ripe;
+mod voters;
 mod wanted;
 
 pub use case::{Case, Stage};
 pub use healing::Healing;
 pub use news::News;
+pub use voters::Voters;
 pub use wanted::{Batch, Want};

@@ -1,10 +1,11 @@
 //! What a plant does to catch up, in stories whose moments were worked out by hand.
 
 use ballots::{Ballot, Member, Number};
-use catch_up::{CatchUp, Errand, Unheard};
+use catch_up::{CatchUp, Errand, Packet, Start, Unheard};
 use gone_out::{Known, Numbers, Origin};
 use node_core::Note;
 use recalls::{Recall, RecallFault};
+use rolls::{Aside, RollFault};
 use std::alloc::Global;
 
 /// The circuit that the plant belongs to.
@@ -193,10 +194,29 @@ fn is_errand(errand: &Errand, step: Step) -> bool {
     }
 }
 
+/// Whether an errand sends a roll.
+fn is_roll(errand: &Option<Errand>) -> bool {
+    match errand {
+        Some(Errand::Send { bytes, .. }) => rolls::decode(bytes.as_slice()).is_ok(),
+        _ => false,
+    }
+}
+
+/// The next errand at a moment that sends no roll: each other member is asked for its votes in between.
+fn next_other(plant: &mut CatchUp, now: u64) -> Option<Option<Errand>> {
+    for _ in 0..8 {
+        let errand = plant.next(now, false).ok()?;
+        if !is_roll(&errand) {
+            return Some(errand);
+        }
+    }
+    None
+}
+
 /// Whether the step's errand comes next at a moment, or nothing.
 fn comes(plant: &mut CatchUp, step: Step, now: u64) -> Option<bool> {
     plant.look();
-    let errand = plant.next(now, false).ok()?;
+    let errand = next_other(plant, now)?;
     let stirred = plant.has_errand();
     match &errand {
         Some(errand) => Some(stirred && is_errand(errand, step)),
@@ -218,7 +238,7 @@ fn ask(alloc: Global, plant: &mut CatchUp, from: u8, numbers: (u32, u32)) -> Opt
         0,
         wanted.as_slice(),
     )?;
-    Some(plant.hear(&Ok(recall)).is_ok())
+    Some(plant.hear(&Aside::Recall(Ok(recall)), 0).is_ok())
 }
 
 /// Whether the step goes as it says.
@@ -233,7 +253,14 @@ fn goes(alloc: Global, plant: &mut CatchUp, step: Step) -> Option<bool> {
             let note = Note::Began { ballot };
             Some(plant.did(Number::new(n)?, &note, true, now).is_ok())
         }
-        Step::Voted(n, now) => Some(plant.came(Number::new(n)?, true, now).is_ok()),
+        Step::Voted(n, now) => {
+            let packet = Packet {
+                number: Number::new(n)?,
+                sender: Member::new(1)?,
+                is_vote: true,
+            };
+            Some(plant.came(packet, now).is_ok())
+        }
         Step::Out(n) => {
             plant.went_out(Number::new(n)?);
             Some(plant.has_gone_out(Number::new(n)?))
@@ -257,8 +284,14 @@ fn plant_of(alloc: Global, count: u8, knows: bool) -> Option<CatchUp> {
     } else {
         None
     };
-    let known = Known::new(alloc).ok()?;
-    CatchUp::new(alloc, origin(count)?, &known, gone, 0).ok()
+    let start = Start {
+        own: origin(count)?,
+        known: Some(Known::new(alloc).ok()?),
+        gone,
+        is_first: false,
+        asks: true,
+    };
+    CatchUp::new(alloc, start, 0).ok()
 }
 
 /// The place of the first step that does not go as it says, or how many there are.
@@ -288,7 +321,14 @@ fn starts(alloc: Global) -> Option<bool> {
     known.add(Number::new(6)?, true);
     let mut out = Numbers::new(alloc).ok()?;
     out.insert(Number::new(5)?);
-    let mut plant = CatchUp::new(alloc, origin(3)?, &known, Some(out), 0).ok()?;
+    let start = Start {
+        own: origin(3)?,
+        known: Some(known),
+        gone: Some(out),
+        is_first: false,
+        asks: true,
+    };
+    let mut plant = CatchUp::new(alloc, start, 0).ok()?;
     let early = comes(&mut plant, Step::Nothing(4_999), 4_999)?;
     let late = comes(&mut plant, Step::Send(5_000, 1, 1, 6, 6), 5_000)?;
     Some(early && late && plant.has_gone_out(Number::new(5)?))
@@ -303,13 +343,19 @@ fn start(rt: HostRuntime) {
 fn heard(alloc: Global, circuit: u16, from: u8, to: u8) -> Option<Result<(), Unheard>> {
     let mut plant = plant_of(alloc, 3, true)?;
     let recall = Recall::new(circuit, Member::new(from)?, Member::new(to)?, 0, &[1])?;
-    Some(plant.hear(&Ok(recall)))
+    Some(plant.hear(&Aside::Recall(Ok(recall)), 0))
 }
 
 /// What becomes of bytes that are no recall.
 fn heard_bad(alloc: Global, fault: RecallFault) -> Option<Result<(), Unheard>> {
     let mut plant = plant_of(alloc, 3, true)?;
-    Some(plant.hear(&Err(fault)))
+    Some(plant.hear(&Aside::Recall(Err(fault)), 0))
+}
+
+/// What becomes of bytes that are no roll.
+fn heard_bad_roll(alloc: Global, fault: RollFault) -> Option<Result<(), Unheard>> {
+    let mut plant = plant_of(alloc, 3, true)?;
+    Some(plant.hear(&Aside::Roll(Err(fault)), 0))
 }
 
 /// Whether it was heard.
@@ -336,4 +382,5 @@ fn passed_over(rt: HostRuntime) {
     assert!(rt; is_text(heard(alloc, CIRCUIT, 4, 1), "not-for-me"));
     assert!(rt; is_text(heard(alloc, CIRCUIT, 4, OWN), "stranger"));
     assert!(rt; is_text(heard_bad(alloc, RecallFault::BadOrder), "bad-order"));
+    assert!(rt; is_text(heard_bad_roll(alloc, RollFault::BadBits), "bad-bits"));
 }

@@ -8,4 +8,6 @@ mod paces;
 #[cfg(test)]
 mod released;
 #[cfg(test)]
+mod rolling;
+#[cfg(test)]
 mod telling;

@@ -1,16 +1,13 @@
 -- What is written of a roll is read again.
-use Rattle.std.proofs.Common.{◌≡◌, ℕ, suc, ◌+◌, ◌<◌, Bool, true, false, ltb, leb, eqb, List, [], ◌∷◌, ◌++◌, length, take, Ok, Err, refl, sym, ap, subst, ◌∙◌, arith, append-nil, length-append}
+use Rattle.std.proofs.Common.{◌≡◌, ℕ, suc, ◌+◌, ◌<◌, true, false, ltb, leb, eqb, List, [], ◌∷◌, ◌++◌, length, take, Ok, Err, refl, sym, ap, subst, ◌∙◌, arith, append-nil, length-append}
 use Rattle.std.proofs.Math.Seq.{take-length}
-use Rattle.std.specs.Prelude.{slice_index, Option, Some, Result, IfOk, if◌then◌else◌}
+use Rattle.std.specs.Prelude.{slice_index, Option, Some, Result, IfOk}
 use Rattle.std.specs.declared.alloc.AllocError.{AllocError}
 use Rattle.std.specs.Global.{Vec}
 use Rattle.std.proofs.lemmas.Bool.{le-ltb, lt-ltb, le-leb, ne_eqb}
 use Rattle.std.proofs.lemmas.Nat.{from_be_bytes-to_be_bytes_2, from_be_bytes-to_be_bytes_4}
 use Rattle.packets.specs.Reading.{kind_at as packet_kind_at, header_at, packet_in}
-use Rattle.packets.specs.declared.fault.PacketFault.TheVariants as packets
 use Rattle.recalls.specs.Reading.{mark_at as recall_mark_at, recall_at}
-use Rattle.recalls.specs.declared.fault.RecallFault.TheVariants as recalls
-use Rattle.protocol.specs.Versions.{Version}
 use Rattle.recalls.specs.Recalls.{Recall}
 use Rattle.recalls.specs.Grammar.{Spells as SpellsRecall}
 use Rattle.recalls.specs.Laws.{ReadsItAgain as RecallsAreReadAgain}
@@ -26,11 +23,11 @@ use Rattle.rolls.specs.Grammar.{Spells}
 use Rattle.rolls.specs.Spelling.{count_bytes, body_bytes, spelling}
 use Rattle.rolls.specs.declared.fault.RollFault.{RollFault}
 use Rattle.rolls.specs.declared.fault.RollFault.TheVariants.{BadKind}
-use Rattle.rolls.specs.Reading.{wanted, mark_at, kind_at, member_at, members_at, counts_in, counts_at, page_at, votes_at, told_at, body_at, roll_at}
+use Rattle.rolls.specs.Reading.{wanted, mark_at, kind_at, member_at, members_at, counts_in, counts_at, page_at, pad_at, asked_page_at, votes_at, told_at, body_at, roll_at}
 use Rattle.rolls.specs.Laws.{OneRoll, NoPrefix, ReadsItAgain, IsNoPacket, IsNoRecall, NoRecallIsOne, HearsRolls, HearsRecalls}
 use Rattle.rolls.proofs.Counting.{counts_do_fit}
 use Rattle.rolls.proofs.Flags.{only_found}
-use Rattle.rolls.proofs.Written.{spelled_is, only_rolls, counts_small, body_length, spelling_length, lengths_are_given}
+use Rattle.rolls.proofs.Written.{spelled_is, only_rolls, counts_small, body_length, spelling_length, lengths_are_given, none_is_short}
 
 counts_again : (cs : List ℕ) → ((i : ℕ) → slice_index cs i < 65536) → counts_in (length cs) (count_bytes cs) ≡ cs
 unfolding counts_in
@@ -41,7 +38,7 @@ counts_again (c ∷ cs) h =
     rw (back, more) refl
 
 told_again : (b : Body) → IsBody b → told_at (kind_of b) (body_bytes b) ≡ Ok b
-unfolding counts_at page_at votes_at
+unfolding counts_at page_at pad_at asked_page_at votes_at
 told_again CountsAsked is = refl
 told_again (Counts counts) is =
     let read : counts_in 123 (count_bytes counts) ≡ counts =
@@ -137,27 +134,23 @@ no_prefix short long rest r q s t is = go rest is
         let l3 : length long ≡ length short + length (b ∷ bs) = ap (λ (l : List ℕ). length l) is ∙ length-append short (b ∷ bs) in
         absurd (omega (arith, same, l1, l2, l3))
 
--- bytes of another mark
-no_packet : (v : Version) (r : Roll) (b : Bool) → ltb (length (spelling r)) 17 ≡ b → packet_in v (spelling r) ≡ Err (if b then packets.Short else packets.BadMark)
-unfolding packet_in header_at packet_kind_at
-no_packet v r true e = rw e refl
-no_packet v r false e = rw e refl
+-- what is written is not short
+not_short : (bytes : List ℕ) (r : Roll) → Spells bytes r → ltb (length (spelling r)) 17 ≡ false
+not_short bytes r s = subst (λ (l : List ℕ). ltb (length l) 17 ≡ false) (spelled_is bytes r s) (le-ltb _ _ (none_is_short bytes r s))
 
+-- bytes of another mark
 pub is_no_packet : IsNoPacket
+unfolding packet_in header_at packet_kind_at
 is_no_packet v bytes r s =
-    subst (λ (l : List ℕ). packet_in v l ≡ Err (if ltb (length l) 17 then packets.Short else packets.BadMark)) (sym (spelled_is bytes r s))
-    (no_packet v r (ltb (length (spelling r)) 17) refl)
+    let long : ltb (length (spelling r)) 17 ≡ false = not_short bytes r s in
+    ap (λ (l : List ℕ). packet_in v l) (spelled_is bytes r s) ∙ (rw long refl)
 
 -- bytes of another kind
-no_recall : (r : Roll) (b : Bool) → ltb (length (spelling r)) 17 ≡ b → recall_at (spelling r) ≡ Err (if b then recalls.Short else recalls.BadKind)
-unfolding recall_at recall_mark_at
-no_recall r true e = rw e refl
-no_recall r false e = rw (e, not_one (kind_of r.body)) refl
-
 pub is_no_recall : IsNoRecall
+unfolding recall_at recall_mark_at
 is_no_recall bytes r s =
-    subst (λ (l : List ℕ). recall_at l ≡ Err (if ltb (length l) 17 then recalls.Short else recalls.BadKind)) (sym (spelled_is bytes r s))
-    (no_recall r (ltb (length (spelling r)) 17) refl)
+    let long : ltb (length (spelling r)) 17 ≡ false = not_short bytes r s in
+    ap (λ (l : List ℕ). recall_at l) (spelled_is bytes r s) ∙ (rw (long, not_one (kind_of r.body)) refl)
 
 -- the bytes of a recall
 abbrev recall_front : Recall → List ℕ → List ℕ

@@ -1,6 +1,6 @@
 -- What is read as a roll spells it.
 use Rattle.std.proofs.Common.{◌≡◌, ℕ, zero, suc, ◌+◌, ◌*◌, ◌<◌, ◌≤◌, Bool, true, false, ltb, leb, eqb, not, ◌&&◌, List, [], ◌∷◌, length, take, Result, Ok, Err, refl, sym, ap, subst, ◌∙◌, inl, inr, arith}
-use Rattle.std.specs.Prelude.{drop, slice_index, IfOk, OnErr, Option, Some, None, ◌⊎◌, if◌then◌else◌}
+use Rattle.std.specs.Prelude.{drop, slice_index, replicate, IfOk, OnErr, Option, Some, None, ◌⊎◌, if◌then◌else◌}
 use Rattle.std.specs.Int.{w16, w32, from_be_bytes}
 use Rattle.std.proofs.Math.Seq.{take-length}
 use Rattle.std.proofs.lemmas.Bool.{eqb-true, eqb-false, ltb-true, ltb-false, leb-true}
@@ -11,13 +11,13 @@ use Rattle.rolls.specs.Kinds.{number_of_kind, kind_of_byte, body_len}
 use Rattle.rolls.specs.declared.body.Kind.{Kind}
 use Rattle.rolls.specs.declared.body.Kind.TheVariants as kinds
 use Rattle.rolls.specs.Counts.{counts_fit}
-use Rattle.rolls.specs.Votes.{Votes, AreVotes, only_numbers}
+use Rattle.rolls.specs.Votes.{Votes, AreVotes, are_zero, only_numbers}
 use Rattle.rolls.specs.Rolls.{Body, Counts, Roll, IsBody}
 use Rattle.rolls.specs.Bodies.{kind_of}
 use Rattle.rolls.specs.Grammar.{SpellsCounts, SpellsBody, Spells}
 use Rattle.rolls.specs.declared.fault.RollFault.{RollFault}
-use Rattle.rolls.specs.declared.fault.RollFault.TheVariants.{Short, BadMark, BadVersion, BadKind, BadMember, BadPage, BadCount, BadBits, Long}
-use Rattle.rolls.specs.Reading.{◌>>=◌, wanted, mark_at, kind_at, member_at, members_at, counts_in, counts_at, page_at, votes_at, told_at, body_at, roll_at}
+use Rattle.rolls.specs.declared.fault.RollFault.TheVariants.{Short, BadMark, BadVersion, BadKind, BadMember, BadPage, BadPad, BadCount, BadBits, Long}
+use Rattle.rolls.specs.Reading.{◌>>=◌, wanted, mark_at, kind_at, member_at, members_at, counts_in, counts_at, page_at, pad_at, asked_page_at, votes_at, told_at, body_at, roll_at}
 use Rattle.rolls.specs.Laws.{FindsWhatIsSpelled}
 use Rattle.rolls.proofs.Numbers.{two_read, four_read}
 use Rattle.rolls.proofs.Counting.{are_counts}
@@ -106,9 +106,9 @@ none_left : (bytes : List ℕ) → length bytes ≡ 0 → bytes ≡ []
 none_left [] len = refl
 none_left (b ∷ bytes) len = absurd (omega (arith, len))
 
-one_left : (bytes : List ℕ) → length bytes ≡ 1 → bytes ≡ slice_index bytes 0 ∷ []
-one_left [] len = absurd (omega (arith, len))
-one_left (b ∷ bytes) len = let rest : length bytes ≡ 0 = omega (arith, len) in ap (λ (l : List ℕ). b ∷ l) (none_left bytes rest)
+one_and_more : (bytes : List ℕ) (n : ℕ) → length bytes ≡ 1 + n → (bytes ≡ slice_index bytes 0 ∷ drop 1 bytes) × (length (drop 1 bytes) ≡ n)
+one_and_more [] n len = absurd (omega (arith, len))
+one_and_more (b ∷ bytes) n len = (refl, omega (arith, len))
 
 bits_left : (bytes : List ℕ) (n : ℕ) → length bytes ≡ 1 + n → bytes ≡ slice_index bytes 0 ∷ take n (drop 1 bytes)
 bits_left [] n len = absurd (omega (arith, len))
@@ -129,6 +129,33 @@ unfolding page_at
 page_found bytes page e =
     let (is, same) = granted (ltb (slice_index bytes 0) 123) BadPage _ page e in
     (same, subst (λ (x : ℕ). x < 123) same (ltb-true _ _ is))
+
+-- bytes that are 0
+zeros_are : (bytes : List ℕ) → are_zero bytes ≡ true → bytes ≡ replicate (length bytes) 0
+zeros_are [] e = refl
+zeros_are (b ∷ bytes) e =
+    let both = both_true _ _ e in
+    let first : b ≡ 0 = eqb-true b 0 both.0 in
+    let rest : bytes ≡ replicate (length bytes) 0 = zeros_are bytes both.1 in
+    λ i. first i ∷ rest i
+
+pad_found : (n : ℕ) (bytes : List ℕ) → length bytes ≡ n → pad_at n bytes ≡ Ok tt → bytes ≡ replicate n 0
+unfolding pad_at
+pad_found n bytes len e =
+    let all : take n bytes ≡ bytes = subst (λ (k : ℕ). take k bytes ≡ bytes) len (take-length bytes) in
+    let none : are_zero (take n bytes) ≡ true = (granted (are_zero (take n bytes)) BadPad tt tt e).0 in
+    subst (λ (k : ℕ). bytes ≡ replicate k 0) len (zeros_are bytes (ap are_zero (sym all) ∙ none))
+
+asked_page_found : (bytes : List ℕ) (page : ℕ) → length bytes ≡ 5 → asked_page_at bytes ≡ Ok page → (bytes ≡ page ∷ replicate 4 0) × (page < 123)
+unfolding asked_page_at
+asked_page_found bytes page len e =
+    let (read, e1, e2) = bound (page_at bytes) _ page e in
+    let (padded, e3, e4) = bound (pad_at 4 (drop 1 bytes)) _ page e2 in
+    let first = page_found bytes read e1 in
+    let parts = one_and_more bytes 4 len in
+    let pad : drop 1 bytes ≡ replicate 4 0 = pad_found 4 (drop 1 bytes) parts.1 e3 in
+    subst (λ (p : ℕ). (bytes ≡ p ∷ replicate 4 0) × (p < 123)) (ok_same _ refl e4)
+    (parts.0 ∙ (λ i. first.0 i ∷ pad i), first.1)
 
 -- a front of what fits fits
 fit_behind : (bytes : List ℕ) → IsBytes bytes → IsBytes (drop 1 bytes)
@@ -157,7 +184,9 @@ votes_found bytes v fit len e =
 told_found : (k : Kind) (bytes : List ℕ) (b : Body) → IsBytes bytes → length bytes ≡ body_len k → told_at k bytes ≡ Ok b → Told k bytes b
 unfolding counts_at
 told_found kinds.CountsAsked bytes b fit len e =
-    subst (λ (x : Body). Told kinds.CountsAsked bytes x) (ok_same _ refl e) (record { kind = refl; spells = none_left bytes len; is_body = tt })
+    let (padded, e1, e2) = bound (pad_at 5 bytes) _ b e in
+    subst (λ (x : Body). Told kinds.CountsAsked bytes x) (ok_same _ refl e2)
+    (record { kind = refl; spells = pad_found 5 bytes len e1; is_body = tt })
 told_found kinds.Counts bytes b fit len e =
     let (counts, e1, e2) = bound (counts_at bytes) _ b e in
     let (is, same) = granted (counts_fit 0 (counts_in pages bytes)) BadCount _ counts e1 in
@@ -165,10 +194,10 @@ told_found kinds.Counts bytes b fit len e =
     (subst (λ (l : List ℕ). Told kinds.Counts bytes (Counts l)) same
     (record { kind = refl; spells = counts_spelled pages bytes fit len; is_body = are_counts bytes is }))
 told_found kinds.PageAsked bytes b fit len e =
-    let (page, e1, e2) = bound (page_at bytes) _ b e in
-    let first = page_found bytes page e1 in
+    let (page, e1, e2) = bound (asked_page_at bytes) _ b e in
+    let all = asked_page_found bytes page len e1 in
     subst (λ (x : Body). Told kinds.PageAsked bytes x) (ok_same _ refl e2)
-    (record { kind = refl; spells = one_left bytes len ∙ ap (λ (p : ℕ). p ∷ []) first.0; is_body = first.1 })
+    (record { kind = refl; spells = all.0; is_body = all.1 })
 told_found kinds.Page bytes b fit len e =
     let (votes, e1, e2) = bound (votes_at bytes) _ b e in
     let all = votes_found bytes votes fit len e1 in

@@ -7,12 +7,14 @@ use Rattle.std.specs.Int.{w16, w32, to_be_bytes}
 use Rattle.std.proofs.lemmas.Bool.{cases_eq, ne_eqb}
 use Rattle.rolls.specs.Pages.{numbers_on}
 use Rattle.rolls.specs.Kinds.{number_of_kind, body_len}
+use Rattle.rolls.specs.declared.body.Kind.{Kind}
+use Rattle.rolls.specs.declared.body.Kind.TheVariants as kinds
 use Rattle.rolls.specs.Counts.{AreCounts}
 use Rattle.rolls.specs.Rolls.{Body, CountsAsked, Counts, PageAsked, Page, Roll, IsBody, IsRoll}
 use Rattle.rolls.specs.Bodies.{kind_of}
 use Rattle.rolls.specs.Grammar.{SpellsCounts, SpellsBody, Spells}
 use Rattle.rolls.specs.Spelling.{count_bytes, body_bytes, spelling}
-use Rattle.rolls.specs.Laws.{HasOneSpelling, OnlyRolls, LengthsAreGiven}
+use Rattle.rolls.specs.Laws.{HasOneSpelling, OnlyRolls, LengthsAreGiven, NoneIsShort}
 use Rattle.rolls.proofs.Numbers.{two_are, two_below, four_are, four_below, two_written, four_written}
 
 counts_are : (bytes cs : List ℕ) → SpellsCounts bytes cs → bytes ≡ count_bytes cs
@@ -98,6 +100,19 @@ spelling_length r is = let body : length (body_bytes r.body) ≡ body_len (kind_
 
 pub lengths_are_given : LengthsAreGiven
 lengths_are_given bytes r s = ap (λ (l : List ℕ). length l) (spelled_is bytes r s) ∙ spelling_length r (only_rolls bytes r s)
+
+-- none is short
+body_least : (k : Kind) → 5 ≤ body_len k
+body_least kinds.CountsAsked = omega arith
+body_least kinds.Counts = omega arith
+body_least kinds.PageAsked = omega arith
+body_least kinds.Page = omega arith
+
+pub none_is_short : NoneIsShort
+none_is_short bytes r s =
+    let all : length bytes ≡ 12 + body_len (kind_of r.body) = lengths_are_given bytes r s in
+    let least : 5 ≤ body_len (kind_of r.body) = body_least (kind_of r.body) in
+    omega (arith, all, least)
 
 -- what was written, where memory was not refused
 module _ (result : Result (Vec ℕ) AllocError) (r : Roll) (exact : IfOk result (λ v. v.items ≡ spelling r)) where

@@ -1,5 +1,5 @@
 -- The grammar of rolls: which bytes spell which roll. Every number is big-endian.
-use Rattle.std.specs.Prelude.{◌≡◌, ℕ, List, [], ◌∷◌, ◌++◌}
+use Rattle.std.specs.Prelude.{◌≡◌, ℕ, List, [], ◌∷◌, ◌++◌, replicate}
 use Rattle.protocol.specs.Ballots.{IsMember}
 use Rattle.protocol.specs.Limits.{most_members}
 use Rattle.packets.specs.Grammar.{SpellsTwo, SpellsFour}
@@ -12,11 +12,11 @@ abbrev pub SpellsCounts : List ℕ → List ℕ → Type 0
 SpellsCounts bytes [] = bytes ≡ []
 SpellsCounts bytes (c ∷ cs) = (first : List ℕ) × (rest : List ℕ) × (bytes ≡ first ++ rest) × SpellsTwo first c × SpellsCounts rest cs
 
--- what stands after the header: nothing; the counts; the page; the page and its bits
+-- what stands after the header: five bytes that are 0; the counts; the page and four bytes that are 0; the page and its bits
 abbrev pub SpellsBody : List ℕ → Body → Type 0
-SpellsBody bytes CountsAsked = bytes ≡ []
+SpellsBody bytes CountsAsked = bytes ≡ replicate 5 0
 SpellsBody bytes (Counts counts) = SpellsCounts bytes counts
-SpellsBody bytes (PageAsked page) = bytes ≡ page ∷ []
+SpellsBody bytes (PageAsked page) = bytes ≡ page ∷ replicate 4 0
 SpellsBody bytes (Page page bits) = bytes ≡ page ∷ bits
 
 -- the bytes spell the roll: the mark TR, the version 1, the kind, the circuit, the sender, the addressee, the number of the asker's,

@@ -18,9 +18,9 @@ kind_of_byte n =
     if n == 4 then Some kinds.PageAsked else
     if n == 5 then Some kinds.Page else None
 
--- how many bytes a body of this kind has: none; two for each page; one; one and the bits of a page
+-- how many bytes a body of this kind has: five; two for each page; five; one and the bits of a page
 abbrev pub body_len : Kind → ℕ
-body_len kinds.CountsAsked = 0
+body_len kinds.CountsAsked = 5
 body_len kinds.Counts = 246
-body_len kinds.PageAsked = 1
+body_len kinds.PageAsked = 5
 body_len kinds.Page = 1025

@@ -1,5 +1,5 @@
 -- The laws of the grammar and of reading.
-use Rattle.std.specs.Prelude.{◌≡◌, ℕ, ◌<◌, ◌≤◌, ◌+◌, List, ◌++◌, length, Ok, Err, nat_lt, if◌then◌else◌}
+use Rattle.std.specs.Prelude.{◌≡◌, ℕ, ◌<◌, ◌≤◌, ◌+◌, List, ◌++◌, length, Ok, Err}
 use Rattle.protocol.specs.Versions.{Version}
 use Rattle.protocol.specs.Limits.{last_number}
 use Rattle.packets.specs.Grammar.{IsBytes}
@@ -47,6 +47,10 @@ NoPrefix = (short long rest : List ℕ) (r q : Roll) → Spells short r → Spel
 abbrev pub LengthsAreGiven : Type 0
 LengthsAreGiven = (bytes : List ℕ) (r : Roll) → Spells bytes r → length bytes ≡ 12 + body_len (kind_of r.body)
 
+-- none has fewer bytes than the shortest packet or recall
+abbrev pub NoneIsShort : Type 0
+NoneIsShort = (bytes : List ℕ) (r : Roll) → Spells bytes r → 17 ≤ length bytes
+
 -- what spells a roll is read as it
 abbrev pub ReadsItAgain : Type 0
 ReadsItAgain = (bytes : List ℕ) (r : Roll) → Spells bytes r → roll_at bytes ≡ Ok r
@@ -55,13 +59,13 @@ ReadsItAgain = (bytes : List ℕ) (r : Roll) → Spells bytes r → roll_at byte
 abbrev pub FindsWhatIsSpelled : Type 0
 FindsWhatIsSpelled = (bytes : List ℕ) (r : Roll) → IsBytes bytes → roll_at bytes ≡ Ok r → Spells bytes r
 
--- a station that knows no rolls passes over what spells one: none spells a packet
+-- a station that knows no rolls passes over what spells one, by its mark: none spells a packet
 abbrev pub IsNoPacket : Type 0
-IsNoPacket = (v : Version) (bytes : List ℕ) (r : Roll) → Spells bytes r → packet_in v bytes ≡ Err (if nat_lt (length bytes) 17 then packets.Short else packets.BadMark)
+IsNoPacket = (v : Version) (bytes : List ℕ) (r : Roll) → Spells bytes r → packet_in v bytes ≡ Err packets.BadMark
 
--- a station that knows recalls and no rolls passes over what spells a roll: none spells a recall
+-- a station that knows recalls and no rolls passes over what spells a roll, by its kind: none spells a recall
 abbrev pub IsNoRecall : Type 0
-IsNoRecall = (bytes : List ℕ) (r : Roll) → Spells bytes r → recall_at bytes ≡ Err (if nat_lt (length bytes) 17 then recalls.Short else recalls.BadKind)
+IsNoRecall = (bytes : List ℕ) (r : Roll) → Spells bytes r → recall_at bytes ≡ Err recalls.BadKind
 
 -- and no recall spells a roll
 abbrev pub NoRecallIsOne : Type 0

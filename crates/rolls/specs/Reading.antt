@@ -4,13 +4,13 @@ use Rattle.protocol.specs.Limits.{most_members}
 use Rattle.recalls.specs.Reading.{u16_at, u32_at}
 use Rattle.rolls.specs.Pages.{pages, page_bytes}
 use Rattle.rolls.specs.Counts.{counts_fit}
-use Rattle.rolls.specs.Votes.{Votes, only_numbers}
+use Rattle.rolls.specs.Votes.{Votes, are_zero, only_numbers}
 use Rattle.rolls.specs.Kinds.{kind_of_byte, body_len}
 use Rattle.rolls.specs.Rolls.{Body, CountsAsked, Counts, PageAsked, Page, Roll}
 use Rattle.rolls.specs.declared.body.Kind.{Kind}
 use Rattle.rolls.specs.declared.body.Kind.TheVariants as kinds
 use Rattle.rolls.specs.declared.fault.RollFault.{RollFault}
-use Rattle.rolls.specs.declared.fault.RollFault.TheVariants.{Short, BadMark, BadVersion, BadKind, BadMember, BadPage, BadCount, BadBits, Long}
+use Rattle.rolls.specs.declared.fault.RollFault.TheVariants.{Short, BadMark, BadVersion, BadKind, BadMember, BadPage, BadPad, BadCount, BadBits, Long}
 
 -- one step after another, up to the first fault
 infixl 10 ◌>>=◌
@@ -63,6 +63,17 @@ counts_at bytes = if counts_fit 0 (counts_in pages bytes) then Ok (counts_in pag
 unfoldable pub page_at : List ℕ → Result ℕ RollFault
 page_at bytes = if nat_lt (slice_index bytes 0) pages then Ok (slice_index bytes 0) else Err BadPage
 
+-- so many bytes that are 0
+unfoldable pub pad_at : ℕ → List ℕ → Result (Unit {0}) RollFault
+pad_at count bytes = if are_zero (take count bytes) then Ok tt else Err BadPad
+
+-- a page, and four bytes that are 0
+unfoldable pub asked_page_at : List ℕ → Result ℕ RollFault
+asked_page_at bytes = do
+  page ← page_at bytes
+  padded ← pad_at 4 (drop 1 bytes)
+  Ok page
+
 -- a page, and a bit for each of its numbers
 unfoldable pub votes_at : List ℕ → Result Votes RollFault
 votes_at bytes = do
@@ -71,9 +82,9 @@ votes_at bytes = do
 
 -- what is told in a body of this kind
 abbrev pub told_at : Kind → List ℕ → Result Body RollFault
-told_at kinds.CountsAsked bytes = Ok CountsAsked
+told_at kinds.CountsAsked bytes = pad_at 5 bytes >>= λ padded. Ok CountsAsked
 told_at kinds.Counts bytes = counts_at bytes >>= λ counts. Ok (Counts counts)
-told_at kinds.PageAsked bytes = page_at bytes >>= λ page. Ok (PageAsked page)
+told_at kinds.PageAsked bytes = asked_page_at bytes >>= λ page. Ok (PageAsked page)
 told_at kinds.Page bytes = votes_at bytes >>= λ votes. Ok (Page votes.page votes.bytes)
 
 -- the body of this kind that the bytes are

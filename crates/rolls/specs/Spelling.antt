@@ -1,5 +1,5 @@
 -- The bytes that a roll is written as, each number big-endian.
-use Rattle.std.specs.Prelude.{ℕ, List, [], ◌∷◌, ◌++◌}
+use Rattle.std.specs.Prelude.{ℕ, List, [], ◌∷◌, ◌++◌, replicate}
 use Rattle.std.specs.Int.{w16, w32, to_be_bytes}
 use Rattle.rolls.specs.Kinds.{number_of_kind}
 use Rattle.rolls.specs.Rolls.{Body, CountsAsked, Counts, PageAsked, Page, Roll}
@@ -16,9 +16,9 @@ count_bytes (c ∷ cs) = to_be_bytes w16 c ++ count_bytes cs
 
 -- what stands after the header
 abbrev pub body_bytes : Body → List ℕ
-body_bytes CountsAsked = []
+body_bytes CountsAsked = replicate 5 0
 body_bytes (Counts counts) = count_bytes counts
-body_bytes (PageAsked page) = page ∷ []
+body_bytes (PageAsked page) = page ∷ replicate 4 0
 body_bytes (Page page bits) = page ∷ bits
 
 -- the bytes that a roll is written as

@@ -8,6 +8,9 @@ use crate::counts::Counts;
 use crate::page::{PAGE_BYTES, PAGES, Page};
 use crate::votes::Votes;
 
+/// The bytes of an ask's body: what is asked for, and zeros behind it. So an ask is as long as the shortest packet.
+pub(crate) const ASK_LEN: usize = 5;
+
 /// The kind of a roll.
 #[derive(Clone, Copy)]
 pub(crate) enum Kind {
@@ -52,9 +55,8 @@ impl Kind {
         ensures { result ≡ body_len self }
     {
         match self {
-            Kind::CountsAsked => 0,
+            Kind::CountsAsked | Kind::PageAsked => ASK_LEN,
             Kind::Counts => 2 * PAGES,
-            Kind::PageAsked => 1,
             Kind::Page => 1 + PAGE_BYTES,
         }
     }

@@ -16,6 +16,8 @@ pub enum RollFault {
     BadMember,
     /// The page is above 122.
     BadPage,
+    /// A byte behind what an ask says is not 0.
+    BadPad,
     /// A count is above the numbers of its page.
     BadCount,
     /// A bit is set that stands for no number.

@@ -1,6 +1,6 @@
 //! Laws over pages and the grammar. The functions do nothing, or call others that do nothing: their contracts are the laws.
 
-ghost use Rattle.rolls.specs.Laws.{EachNumberHasItsPlace, EachPlaceHasItsNumber, FindsWhatIsSpelled, HasOneSpelling, HearsRecalls, HearsRolls, IsNoPacket, IsNoRecall, LengthsAreGiven, NoPrefix, NoRecallIsOne, OneRoll, OnlyRolls, ReadsItAgain};
+ghost use Rattle.rolls.specs.Laws.{EachNumberHasItsPlace, EachPlaceHasItsNumber, FindsWhatIsSpelled, HasOneSpelling, HearsRecalls, HearsRolls, IsNoPacket, IsNoRecall, LengthsAreGiven, NoPrefix, NoRecallIsOne, NoneIsShort, OneRoll, OnlyRolls, ReadsItAgain};
 
 /// Each circuit number has one place on one page, and each place has one number.
 pub fn pages()
@@ -24,9 +24,10 @@ pub fn no_prefix()
     ensures { NoPrefix }
 {}
 
-/// A roll's spelling has 12 bytes and those of its body: 12, 13, 258 or 1,037.
+/// A roll's spelling has 12 bytes and those of its body: 17, 258, 17 or 1,037. None is shorter than the shortest packet.
 pub fn lengths()
-    ensures { LengthsAreGiven }
+    ensures given { LengthsAreGiven }
+    ensures least { NoneIsShort }
 {}
 
 /// Reading from the front, which says what the first fault is, finds what the grammar says.
@@ -35,12 +36,12 @@ pub fn reading()
     ensures found { FindsWhatIsSpelled }
 {}
 
-/// What spells a roll is no packet of either version, and is refused as bytes that end too early or are of a bad mark.
+/// What spells a roll is no packet of either version, and is refused as bytes of a bad mark.
 pub fn is_no_packet()
     ensures { IsNoPacket }
 {}
 
-/// What spells a roll is no recall, and is refused as bytes that end too early or are of a bad kind; what spells a recall is no roll.
+/// What spells a roll is no recall, and is refused as bytes of a bad kind; what spells a recall is no roll.
 pub fn is_no_recall()
     ensures roll { IsNoRecall }
     ensures recall { NoRecallIsOne }

@@ -10,10 +10,10 @@ ghost use Rattle.rolls.specs.Votes.{are_zero, only_numbers};
 ghost use Rattle.rolls.specs.Bodies.{said};
 ghost use Rattle.rolls.specs.Rolls.{Roll as RollValue};
 ghost use Rattle.rolls.specs.Grammar.{Spells};
-ghost use Rattle.rolls.specs.Reading.{Seen, mark_at, kind_at, member_at, members_at, counts_in, counts_at, page_at, votes_at, told_at, body_at, roll_at};
+ghost use Rattle.rolls.specs.Reading.{Seen, mark_at, kind_at, member_at, members_at, counts_in, counts_at, page_at, pad_at, asked_page_at, votes_at, told_at, body_at, roll_at};
 
 use crate::bits::has_bit;
-use crate::body::{Body, Kind};
+use crate::body::{ASK_LEN, Body, Kind};
 use crate::counts::Counts;
 use crate::fault::RollFault;
 use crate::page::{PAGE_BYTES, PAGES, Page, numbers_on};
@@ -159,6 +159,31 @@ fn are_zero(bytes: &[u8]) -> bool
     true
 }
 
+/// That so many bytes are 0.
+#[tactic(auto, unfolding(crate::specs::Reading::pad_at))]
+fn check_pad(bytes: &[u8], count: usize) -> Result<(), RollFault>
+    requires { count ≤ length bytes.now }
+    ensures { result ≡ pad_at count bytes.now }
+{
+    let (pad, _) = bytes.split_at(count);
+    if !are_zero(pad) {
+        return Err(RollFault::BadPad);
+    }
+    Ok(())
+}
+
+/// The page that is asked for, behind which nothing stands but zeros.
+#[tactic(auto, unfolding(crate::specs::Reading::asked_page_at))]
+fn asked_page_of(bytes: &[u8]) -> Result<Page, RollFault>
+    requires { 5 ≤ length bytes.now }
+    ensures { result ≡ asked_page_at bytes.now }
+{
+    let page = page_of(bytes)?;
+    let (_, behind) = bytes.split_at(1);
+    check_pad(behind, ASK_LEN - 1)?;
+    Ok(page)
+}
+
 /// Whether no bit is set that stands for no number: number 0 lies on the first page, and on the last one 576 numbers and none behind.
 #[tactic(auto, unfolding(crate::specs::Votes::only_numbers))]
 fn only_numbers(page: Page, bytes: &[u8]) -> bool
@@ -212,9 +237,12 @@ fn told_of(kind: Kind, bytes: &[u8]) -> Result<Body, RollFault>
     ensures { Seen said result (told_at kind bytes.now) }
 {
     match kind {
-        Kind::CountsAsked => Ok(Body::CountsAsked),
+        Kind::CountsAsked => {
+            check_pad(bytes, ASK_LEN)?;
+            Ok(Body::CountsAsked)
+        }
         Kind::Counts => Ok(Body::Counts(counts_of(bytes)?)),
-        Kind::PageAsked => Ok(Body::PageAsked(page_of(bytes)?)),
+        Kind::PageAsked => Ok(Body::PageAsked(asked_page_of(bytes)?)),
         Kind::Page => Ok(Body::Page(votes_of(bytes)?)),
     }
 }

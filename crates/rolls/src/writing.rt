@@ -9,7 +9,7 @@ ghost use Rattle.rolls.specs.Grammar.{Spells};
 ghost use Rattle.rolls.specs.Reading.{roll_at};
 ghost use Rattle.rolls.specs.Spelling.{front_bytes, count_bytes, body_bytes, spelling};
 
-use crate::body::Body;
+use crate::body::{ASK_LEN, Body};
 use crate::reading::HEADER_LEN;
 use crate::roll::Roll;
 use std::alloc::{AllocError, Global};
@@ -42,9 +42,9 @@ fn put_body(out: &mut Vec<u8>, body: &Body) -> Result<(), AllocError>
     ensures range { OnOk result (IsBody (said body.now)) }
 {
     match body {
-        Body::CountsAsked => {}
+        Body::CountsAsked => out.extend_from_slice(&[0; ASK_LEN])?,
         Body::Counts(counts) => put_counts(out, counts.as_slice())?,
-        Body::PageAsked(page) => out.push(page.get())?,
+        Body::PageAsked(page) => out.extend_from_slice(&[page.get(), 0, 0, 0, 0])?,
         Body::Page(votes) => {
             out.push(votes.page().get())?;
             out.extend_from_slice(votes.as_bytes())?;
@@ -67,7 +67,7 @@ fn written(alloc: Global, roll: &Roll) -> Result<Vec<u8>, AllocError>
     Ok(out)
 }
 
-/// The one spelling of a roll: 12 bytes, 13, 258 or 1,037, by its kind. Its memory is asked for once.
+/// The one spelling of a roll: 17 bytes, 258, 17 or 1,037, by its kind. Its memory is asked for once.
 pub fn encode(alloc: Global, roll: &Roll) -> Result<Vec<u8>, AllocError>
     ensures spelled { IfOk result (λ v. Spells v.items roll.now) }
     // No other bytes spell the roll.

@@ -9,4 +9,3 @@ pub mod Running
 pub mod Story
 pub mod Straying
 pub mod Working
-pub mod Caring

@@ -2,8 +2,6 @@
 #![tactic(auto)]
 
 mod asking;
-mod beginning;
-mod care;
 mod closing;
 mod deeds;
 mod departures;

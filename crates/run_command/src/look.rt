@@ -178,16 +178,15 @@ impl<'f, 'p, F: Folders> Plant<'f, 'p, F> {
         is_over
     }
 
-    /// Sees at a look to what is missing here: what went out is read, where it could not be before; and the file of a range whose numbers have
-    /// answers leaves the offers.
+    /// Sees at a look to what is missing here: what went out is read, where it could not be before; what is told, is told; and the file of a
+    /// range whose numbers have answers leaves the offers.
     fn care_for<E: Write>(&mut self, now: u64, log: &mut Log<'_, E>)
         ensures folders { self.new.folders.ghost_name ≡ self.old.folders.ghost_name }
         ensures waits { self.new.papers.now.waits ≡ self.old.papers.now.waits }
         ensures texts { self.new.papers.now.texts ≡ self.old.papers.now.texts }
         ensures deals { Deals Always (F.doings self.old.folders.now) (F.doings self.new.folders.now) self.old.papers.now.waits.items self.old.papers.now.book self.new.papers.now.book }
     {
-        self.papers.care.begin_again(self.folders, now, log);
-        self.papers.care.look();
+        self.papers.care.look(self.folders, now, log);
         self.answer_asked(log);
     }
 

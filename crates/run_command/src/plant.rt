@@ -6,7 +6,6 @@ ghost use Rattle.offers.specs.Book.{IsFresh, still_for};
 ghost use Rattle.looks.specs.Strays.{none_known, still_for as strays_still};
 ghost use Rattle.run_command.specs.Working.{Follows};
 
-use crate::care::Care;
 use code_table::CodeTable;
 use driver::{Declined, Denied, Heard, Log, Tasks};
 use folders::{Folders, NamedFile, Stamp, write_waiting};
@@ -14,6 +13,7 @@ use log_terms::Loudness;
 use looks::{Looking, Strays};
 use offers::{Book, Reason};
 use pace::Deeds;
+use plant_care::Care;
 use plant_files::is_of_offer;
 use plant_log::Told;
 use station::StepRefusal;
@@ -111,17 +111,7 @@ impl<'f, 'p, F: Folders> Plant<'f, 'p, F> {
         ensures waits { self.new.papers.now.waits ≡ self.old.papers.now.waits }
         ensures does { F.doings self.new.folders.now ≡ F.doings self.old.folders.now }
     {
-        let care = &mut self.papers.care;
-        if care.unnoted.is_empty() {
-            return;
-        }
-        match self.folders.note_gone(self.alloc, care.unnoted.as_slice()) {
-            Ok(()) => {
-                care.unnoted.clear();
-                care.notes.noted();
-            }
-            Err(fault) => care.notes.cannot_note(self.alloc, fault, now, log.err),
-        }
+        self.papers.care.note_gone(self.folders, now, log);
     }
 
     /// Sees to it that the disk has the names of all files that were written, and what went out, at a moment.
@@ -132,12 +122,7 @@ impl<'f, 'p, F: Folders> Plant<'f, 'p, F> {
         ensures waits { self.new.papers.now.waits ≡ self.old.papers.now.waits }
         ensures does { F.doings self.new.folders.now ≡ F.doings self.old.folders.now }
     {
-        if let Err(fault) = self.folders.settle(self.alloc) {
-            self.papers
-                .care
-                .notes
-                .cannot_note(self.alloc, fault, now, log.err);
-        }
+        self.papers.care.settle(self.folders, now, log);
     }
 
     /// Writes the files that wait, at a moment. That the folder of releases does not take them is told once, and again each hour.
@@ -200,8 +185,7 @@ impl<'f, 'p, F: Folders> Plant<'f, 'p, F> {
         ensures book { self.new.papers.now.book ≡ self.old.papers.now.book }
     {
         let released = self.released_tape(declined.number);
-        self.papers.care.decline_by_hand(&declined, released);
-        self.papers.care.decline(declined);
+        self.papers.care.decline(declined, released);
     }
 
     /// What becomes of a file for which the station did not take the step: another of its number is under way, it is no offer, or it waits.

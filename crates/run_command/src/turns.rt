@@ -5,7 +5,6 @@ ghost use Rattle.command_ends.specs.declared.end.End.TheVariants.{Done};
 ghost use Rattle.folders.specs.Doings.{removed_file, MayDo};
 ghost use Rattle.run_command.specs.Running.{RunsUpTo};
 
-use crate::beginning::{Start, begin};
 use crate::desk::PlantDesk;
 use crate::plant::{Manner, Papers, Plant};
 use code_table::CodeTable;
@@ -15,6 +14,7 @@ use exchange::Intake;
 use folders::{FolderFault, Folders, STOP};
 use gone_out::{Known, Origin};
 use log_terms::Loudness;
+use plant_care::{Start, begin};
 use plant_log::tell_fault;
 use saved_rows::Rows;
 use station::{Station, StepRefusal};
@@ -34,6 +34,8 @@ pub struct Terms<'a, E: Write> {
     pub texts: Option<CodeTable>,
     /// Whether files come into the folder of offers only by being renamed: then one that a look found is whole.
     pub renamed: bool,
+    /// Whether it asks the others for what is missing here.
+    pub catches_up: bool,
     /// How much is told.
     pub loudness: Loudness,
     /// What it tells goes there. That the writer fails is ignored.
@@ -75,6 +77,7 @@ pub fn run_station<R: Rows, N: Wire, F: Folders, E: Write>(
         alloc,
         own: terms.own,
         known: terms.known,
+        catches_up: terms.catches_up,
         is_quiet,
     };
     let manner = Manner {

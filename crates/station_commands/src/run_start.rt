@@ -100,6 +100,7 @@ fn run_from<F: RowFiles, E: Write>(
 {
     let host = ThisHost { rt };
     let own = origin_of(&config);
+    let catches_up = config.catches_up;
     let Started {
         mut station,
         mut wire,
@@ -117,6 +118,7 @@ fn run_from<F: RowFiles, E: Write>(
         alloc: rt.alloc(),
         texts: texts_by(&plant, table),
         renamed: is_renamed(&plant),
+        catches_up,
         own,
         known,
         loudness,

@@ -77,6 +77,29 @@ fn is_read(alloc: Global) -> bool {
     }
 }
 
+/// What stands behind the example, and whether the station catches up by itself then.
+const CATCHING_UP: [(&str, bool); 4] = [
+    ("", true),
+    ("[catch_up]\n", true),
+    ("[catch_up]\noff = false\n", true),
+    ("[catch_up]\noff = true\n", false),
+];
+
+/// Whether the example with this behind it says so of catching up.
+fn catches_up(alloc: Global, more: &str, wanted: bool) -> bool {
+    match example_with(alloc, more) {
+        Some(config) => config.catches_up == wanted,
+        None => false,
+    }
+}
+
+#[test]
+fn catching_up_can_be_off(rt: HostRuntime) {
+    for (more, wanted) in CATCHING_UP.iter() {
+        assert!(rt; catches_up(rt.alloc(), more, *wanted), "{more}");
+    }
+}
+
 /// What stands behind the example, and what it says of the folders.
 const FOLDERS_SAID: &[(&str, Said)] = &[
     (FOLDERS, NOTHING_SAID),
@@ -230,6 +253,16 @@ const FAULTS: &[(Part, &str, ConfigFault)] = &[
         Part::Stations,
         "[folders]\noffers = \"in\"\nreleases = \"out\"\nrenamed = 1\ntext = 1\n[[station]]",
         ConfigFault::WrongType(ConfigKey::Text),
+    ),
+    (
+        Part::Circuit,
+        "catch_up = true\ncircuit = 7\n",
+        ConfigFault::WrongType(ConfigKey::CatchUp),
+    ),
+    (
+        Part::Stations,
+        "[catch_up]\noff = 1\n[[station]]",
+        ConfigFault::WrongType(ConfigKey::Off),
     ),
     (
         Part::Circuit,

@@ -175,6 +175,7 @@ pub fn terms(alloc: Global, loudness: Loudness, err: &mut Vec<u8>) -> Option<Ter
         known: None,
         texts: None,
         renamed: false,
+        catches_up: true,
         loudness,
         err,
     })
@@ -192,6 +193,7 @@ pub fn terms_by(
         known: None,
         texts,
         renamed: false,
+        catches_up: true,
         loudness: Loudness::All,
         err,
     })

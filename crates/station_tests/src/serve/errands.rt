@@ -15,6 +15,7 @@ use folders::Request;
 use node_core::Note;
 use pace::Deeds;
 use recalls::RecallFault;
+use rolls::Aside;
 use std::alloc::Global;
 use std::io::Write;
 
@@ -71,10 +72,12 @@ impl Sink for Running {
 
     fn hear<E: Write>(&mut self, heard: &Heard, _now: u64, _log: &mut Log<'_, E>) {
         match heard {
-            Heard::Recall(Ok(recall)) => {
+            Heard::Aside(Aside::Recall(Ok(recall))) => {
                 self.heard = self.heard.saturating_add(recall.numbers().len());
             }
-            Heard::Recall(Err(RecallFault::Short)) => self.short = self.short.saturating_add(1),
+            Heard::Aside(Aside::Recall(Err(RecallFault::Short))) => {
+                self.short = self.short.saturating_add(1);
+            }
             _ => {}
         }
     }

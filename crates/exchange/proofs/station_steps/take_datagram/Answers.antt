@@ -1,5 +1,5 @@
--- What came is taken in by one step of the station, unless it has the mark of a recall.
-use Rattle.std.proofs.Common.{◌≡◌, ℕ, List, [], ◌∷◌, Option, Result, refl, subst}
+-- What came is taken in by one step of the station, unless it has the mark of recalls and rolls.
+use Rattle.std.proofs.Common.{◌≡◌, ℕ, List, [], ◌∷◌, Option, refl, subst}
 use Rattle.wire.specs.Passing.{Passed, Passes, came}
 use Rattle.saved_rows.specs.declared.rows.Rows.{Ghosts}
 use Rattle.station.specs.declared.station.Station.{Station}
@@ -7,9 +7,8 @@ use Rattle.exchange.specs.Events.{HasMark}
 use Rattle.exchange.specs.Driving.{IsPacketTaken, IsTakenIn}
 use Rattle.exchange.specs.declared.station_steps.Outcome.{Outcome}
 use Rattle.exchange.specs.declared.station_steps.Outcome.TheVariants.{Nothing, Failed, Done, Refused, Heard}
-use Rattle.recalls.specs.Recalls.{Recall}
-use Rattle.recalls.specs.Reading.{recall_at}
-use Rattle.recalls.specs.declared.fault.RecallFault.{RecallFault}
+use Rattle.rolls.specs.Asides.{aside_in}
+use Rattle.rolls.specs.declared.aside.Aside.{Aside}
 use Rattle.exchange.proofs.station_steps.take_datagram.Goals as goal
 
 -- what the station took in came
@@ -21,15 +20,15 @@ taken g passed now old new was is bytes (Done answer said) p m t = (bytes, recor
 taken g passed now old new was is bytes (Refused refusal newer) p m t = (bytes, record { step = λ kept. t.0; passes = p; stops = t.0.stops }, t.1, m)
 taken g passed now old new was is bytes (Heard found) p m t = absurd t
 
--- what has the mark of a recall came, and was read
-heard_so : {S N : Type 0} (passed : N → Option (List Passed)) (now : ℕ) (s : S) (was is : N) (bytes : List ℕ) (found : Result Recall RecallFault) → HasMark bytes
-    → Passes (passed was) (passed is) (came bytes ∷ []) → found ≡ recall_at bytes
-    → (rest : List ℕ) × (s ≡ s) × Passes (passed was) (passed is) (came (84 ∷ 82 ∷ rest) ∷ []) × (found ≡ recall_at (84 ∷ 82 ∷ rest))
+-- what has the mark of recalls and rolls came, and was read
+heard_so : {S N : Type 0} (passed : N → Option (List Passed)) (now : ℕ) (s : S) (was is : N) (bytes : List ℕ) (found : Aside) → HasMark bytes
+    → Passes (passed was) (passed is) (came bytes ∷ []) → found ≡ aside_in bytes
+    → (rest : List ℕ) × (s ≡ s) × Passes (passed was) (passed is) (came (84 ∷ 82 ∷ rest) ∷ []) × (found ≡ aside_in (84 ∷ 82 ∷ rest))
 heard_so passed now s was is bytes found m p e = (
   m.0,
   refl,
   subst (λ (l : List ℕ). Passes (passed was) (passed is) (came l ∷ [])) m.1 p,
-  subst (λ (l : List ℕ). found ≡ recall_at l) m.1 e,
+  subst (λ (l : List ℕ). found ≡ aside_in l) m.1 e,
 )
 
 pub returns-clause-takes : goal.returns-clause-takes
@@ -39,5 +38,5 @@ returns-clause-takes g c =
 
 pub returns-then-has_mark-clause-takes : goal.returns-then-has_mark-clause-takes
 returns-then-has_mark-clause-takes g c =
-    heard_so g.N.Wire.passed c.args.now c.args.station.now c.args.wire.now c.receive.new.self _ c.decode.result (c.has_mark.ensures.some c.if-has_mark.true)
-    c.in-Datagram.ensures.passes c.decode.ensures.exact
+    heard_so g.N.Wire.passed c.args.now c.args.station.now c.args.wire.now c.receive.new.self _ c.hear.result (c.has_mark.ensures.some c.if-has_mark.true)
+    c.in-Datagram.ensures.passes c.hear.ensures

@@ -36,7 +36,7 @@ returns-in_default-begin-clause-runs g c =
     let f = c.args.folders.now in
     let h = c.begin.new.folders in
     answered k (post c.args.station.now c.args.wire.now f) (post c.args.station.now c.args.wire.now h) ends.Memory c.tell-in_default-begin.result Anyhow c.tell-in_default-begin.ensures.end
-    (idle_behind texts g.R.Rows g.N.Wire.passed g.F.Folders.doings c.args.station.now c.args.wire.now f h ends.Memory c.begin.ensures (inl refl))
+    (idle_behind texts g.R.Rows g.N.Wire.passed g.F.Folders.doings c.args.station.now c.args.wire.now f h ends.Memory c.begin.ensures.does (inl refl))
 
 pub returns-clause-runs : goal.returns-clause-runs
 returns-clause-runs g c =
@@ -54,7 +54,7 @@ returns-clause-runs g c =
     let stop = removed_file (codes "stop") in
     let gone : Deals Always (doings f) (doings mid) q m m =
     deals_looked Always (doings f) (doings mid) q (λ doings. Unit {0}) m m
-    (looks_may (doings f) (doings mid) stop refl (subst (λ d. MayDo d (doings mid) stop) c.begin.ensures c.remove_stop.ensures)) (follows_same m m refl) in
+    (looks_may (doings f) (doings mid) stop refl (subst (λ d. MayDo d (doings mid) stop) c.begin.ensures.does c.remove_stop.ensures)) (follows_same m m refl) in
     let own : Texts = c.new-papers.result.texts in
     let came = came_from _ _ (post_of last) _ _ _ c.run.result Anyhow c.new-driver.ensures.is c.run.ensures.drove in
     let same : last.sink.plant.folders.ghost_name ≡ _ = came.1.0.0 in

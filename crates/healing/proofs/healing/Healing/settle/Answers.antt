@@ -17,6 +17,7 @@ loop-place-preserved c =
           (c.deref.ensures.0 ∙ ap (λ (h : HealingValue). h.recalled) c.self-in-loop-place.view_is ∙ c.loop-place.invariant.recalled))
           c.loop-place.invariant.changed c.settle_one.ensures.cases;
       gone = c.settle_one.ensures.gone ∙ c.loop-place.invariant.gone;
+      own = c.settle_one.ensures.own ∙ c.loop-place.invariant.own;
       asked = c.settle_one.ensures.asked ∙ c.loop-place.invariant.asked;
       sought = c.settle_one.ensures.sought ∙ c.loop-place.invariant.sought;
       recalled = c.settle_one.ensures.recalled ∙ c.loop-place.invariant.recalled;

@@ -9,6 +9,6 @@ returns-clause-deals g c =
     let d = g.F.Folders.doings in
     let old = c.args.self.now in
     let new = c.answer_asked.new.self in
-    deals_from Always (d old.folders.now) (d c.begin_again.new.folders) (d new.folders.now) old.papers.now.waits.items old.papers.now.waits.items
-    old.papers.now.book old.papers.now.book new.papers.now.book c.begin_again.ensures refl (follows_same old.papers.now.book old.papers.now.book refl)
+    deals_from Always (d old.folders.now) (d c.look.new.folders) (d new.folders.now) old.papers.now.waits.items old.papers.now.waits.items
+    old.papers.now.book old.papers.now.book new.papers.now.book c.look.ensures.does refl (follows_same old.papers.now.book old.papers.now.book refl)
     c.answer_asked.ensures.deals

@@ -1,0 +1,126 @@
+//! What a plant lacks, where it is known what went out there.
+
+ghost use Rattle.std.specs.Prelude.{◌≡◌, None, false, IfOk, IfSome, OnOk, is_some};
+ghost use Rattle.catch_up.specs.Lacking.{AllRestIn, IsAwaitedBatch, IsOutOf, IsToldOf, IsWantOf, SameGone, case_of, gone_in, is_new_in, may_ask_pages, own_in, taken_in};
+
+use ballots::Number;
+use healing::{Batch, Healing, News, Want};
+use std::alloc::AllocError;
+
+/// How many numbers may be lacked while pages are asked for.
+const MOST_LACKED: usize = 4096;
+
+/// A datagram was taken in.
+pub(crate) fn take_in(healing: &mut Option<Healing>)
+    ensures { healing.new ≡ taken_in healing.old }
+{
+    if let Some(healing) = healing {
+        healing.take_in();
+    }
+}
+
+/// There is news of a number.
+pub(crate) fn tell(
+    healing: &mut Option<Healing>,
+    number: Number,
+    news: News,
+    now: u64,
+) -> Result<(), AllocError>
+    ensures ok { OnOk result (IsToldOf healing.old healing.new number news now) }
+    ensures gone { SameGone healing.old healing.new }
+    ensures own { own_in healing.new ≡ own_in healing.old }
+{
+    match healing {
+        Some(healing) => healing.tell(number, news, now),
+        None => Ok(()),
+    }
+}
+
+/// A number went out.
+pub(crate) fn leave(healing: &mut Option<Healing>, number: Number)
+    ensures { IsOutOf healing.old healing.new number }
+{
+    if let Some(healing) = healing {
+        healing.went_out(number);
+    }
+}
+
+/// Whether a number went out.
+pub(crate) fn has_gone_out(healing: &Option<Healing>, number: Number) -> bool
+    ensures { result ≡ gone_in healing.now number }
+{
+    match healing {
+        Some(healing) => healing.has_gone_out(number),
+        None => false,
+    }
+}
+
+/// Whether something is known of a number that did not go out.
+pub(crate) fn is_known(healing: &Option<Healing>, number: Number) -> bool
+    ensures { result ≡ is_some (case_of healing.now number) }
+{
+    match healing {
+        Some(healing) => healing.knows(number),
+        None => false,
+    }
+}
+
+/// Whether a number is new: it is known what went out, this one did not, and it is not known.
+pub(crate) fn is_new(healing: &Option<Healing>, number: Number) -> bool
+    ensures { result ≡ is_new_in healing.now number }
+{
+    match healing {
+        Some(healing) => !healing.has_gone_out(number) && !healing.knows(number),
+        None => false,
+    }
+}
+
+/// Whether fewer numbers are known that did not go out than keep pages from being asked for.
+pub(crate) fn may_ask_pages(healing: &Option<Healing>) -> bool
+    ensures { result ≡ may_ask_pages healing.now }
+{
+    match healing {
+        Some(healing) => healing.len() < MOST_LACKED,
+        None => false,
+    }
+}
+
+/// Whether a number is recalled or sought, or waits.
+pub(crate) fn is_busy(healing: &Option<Healing>) -> bool
+    ensures { result ≡ false → AllRestIn healing.now }
+{
+    match healing {
+        Some(healing) => healing.is_busy(),
+        None => false,
+    }
+}
+
+/// What the plant wants next about what it lacks.
+pub(crate) fn want(
+    healing: &mut Option<Healing>,
+    now: u64,
+    waits: bool,
+) -> Result<Option<Want>, AllocError>
+    ensures wanted { IfOk result (λ w. IfSome w (IsWantOf healing.old now)) }
+    ensures gone { SameGone healing.old healing.new }
+{
+    match healing {
+        Some(healing) => healing.next(now, waits),
+        None => Ok(None),
+    }
+}
+
+/// What is recalled and to be asked for once more: nothing while datagrams wait, which may tell it.
+pub(crate) fn again(healing: &mut Option<Healing>, now: u64, waits: bool) -> Option<Batch>
+    ensures awaited { IfSome result (IsAwaitedBatch healing.old now) }
+    ensures gone { SameGone healing.old healing.new }
+    ensures same { result ≡ None → healing.new ≡ healing.old }
+{
+    if waits {
+        return None;
+    }
+    match healing {
+        Some(healing) => healing.again(now),
+        None => None,
+    }
+}

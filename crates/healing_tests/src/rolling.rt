@@ -1,0 +1,268 @@
+//! What a plant makes of rolls, in stories that were worked out by hand. The plant is member 2 of three.
+
+use ballots::{Ballot, Member, Number};
+use catch_up::{CatchUp, Errand, Start};
+use gone_out::{Known, Numbers, Origin};
+use node_core::Note;
+use rolls::{Aside, Body, Counts, Page, Roll, Votes};
+use std::alloc::Global;
+
+/// The circuit that the plant belongs to.
+const CIRCUIT: u16 = 7;
+
+/// What happens, or what has to come next; numbers are on the first page. Moments are in milliseconds.
+#[derive(Clone, Copy)]
+enum Step {
+    /// A member that is asked tells, at a moment, that it has votes of the numbers from the first to the last: how many when it is asked
+    /// for that, and then which.
+    Tells(u64, u8, u32, u32),
+    /// A member asks how many numbers have a vote, at a moment, and is answered.
+    Answers(u64, u8),
+    /// At this moment member 1 is asked for the numbers from the first to the last.
+    Recalls(u64, u32, u32),
+    /// At this moment this number is sought.
+    Seeks(u64, u32),
+    /// At this moment nothing is recalled or sought.
+    Rests(u64),
+    /// At this moment nothing is sent at all.
+    Silent(u64),
+    /// The search of this number finds nothing, at a moment.
+    FindsNothing(u32, u64),
+    /// This number went out.
+    IsOut(u32),
+    /// So many numbers went out before, as is told now.
+    Before(u32),
+    /// It is not known yet what went out before, or it was told.
+    NotBefore,
+}
+
+/// What a page tells is recalled at once.
+const AT_ONCE: &[Step] = &[
+    Step::Tells(0, 1, 41, 43),
+    Step::Recalls(1, 41, 43),
+    Step::Tells(1_600, 3, 44, 44),
+    Step::Recalls(1_601, 44, 44),
+];
+
+/// In the first start what a page tells went out before. It is told once a majority told its votes.
+const FIRST: &[Step] = &[
+    Step::NotBefore,
+    Step::Tells(0, 1, 41, 43),
+    Step::Rests(60),
+    Step::IsOut(41),
+    Step::IsOut(43),
+    Step::Before(3),
+    Step::NotBefore,
+    Step::Tells(1_600, 3, 44, 44),
+    Step::Recalls(1_601, 44, 44),
+];
+
+/// A plant that does not ask still answers.
+const OFF: &[Step] = &[Step::Silent(0), Step::Answers(10, 1), Step::Silent(60_000)];
+
+/// What a search did not find is asked for again once another member has a vote.
+const AGAIN: &[Step] = &[
+    Step::Tells(0, 1, 41, 41),
+    Step::Recalls(1, 41, 41),
+    Step::Seeks(2_001, 41),
+    Step::FindsNothing(41, 2_500),
+    Step::Rests(9_000),
+    Step::Tells(20_000, 3, 41, 41),
+    Step::Recalls(20_001, 41, 41),
+];
+
+/// Those numbers.
+fn numbers_of(alloc: Global, first: u32, last: u32) -> Option<Numbers> {
+    let mut numbers = Numbers::new(alloc).ok()?;
+    for n in first..last.checked_add(1)? {
+        numbers.insert(Number::new(n)?);
+    }
+    Some(numbers)
+}
+
+/// What a member says that was asked this, and has votes of these numbers.
+fn said(asked: &Body, numbers: &Numbers) -> Option<Body> {
+    match asked {
+        Body::CountsAsked => {
+            let mut counts = Counts::none();
+            counts.set(Page::new(0)?, u16::try_from(numbers.len()).ok()?);
+            Some(Body::Counts(counts))
+        }
+        Body::PageAsked(page) => Some(Body::Page(Votes::of(*page, numbers))),
+        _ => None,
+    }
+}
+
+/// The roll that an errand sends to a member.
+fn roll_to(errand: &Errand, member: u8) -> Option<Roll> {
+    match errand {
+        Errand::Send { to, bytes } if to.get() == member => rolls::decode(bytes.as_slice()).ok(),
+        _ => None,
+    }
+}
+
+/// A member answers an ask.
+fn answer(plant: &mut CatchUp, asked: &Roll, numbers: &Numbers, now: u64) -> Option<bool> {
+    let body = said(asked.body(), numbers)?;
+    let is_page = matches!(&body, Body::Page(_));
+    let roll = Roll::new(CIRCUIT, asked.to(), asked.from(), asked.asked(), body)?;
+    plant.hear(&Aside::Roll(Ok(roll)), now).ok()?;
+    Some(is_page)
+}
+
+/// A member answers what it is asked, until it told a page.
+fn tells(plant: &mut CatchUp, member: u8, numbers: &Numbers, now: u64) -> Option<bool> {
+    for _ in 0..16 {
+        plant.look();
+        let Some(errand) = &plant.next(now, false).ok()? else {
+            return Some(false);
+        };
+        if let Some(asked) = &roll_to(errand, member)
+            && answer(plant, asked, numbers, now)?
+        {
+            return Some(true);
+        }
+    }
+    Some(false)
+}
+
+/// Whether bytes are a recall of the numbers from the first to the last.
+fn is_recall(bytes: &[u8], first: u32, last: u32) -> bool {
+    match &recalls::decode(bytes) {
+        Ok(recall) => {
+            recall.numbers().first() == Some(&first) && recall.numbers().last() == Some(&last)
+        }
+        Err(_) => false,
+    }
+}
+
+/// Whether a recall of these numbers to member 1, or the search of the first, is the next of those at a moment.
+fn comes(plant: &mut CatchUp, step: Step, now: u64) -> Option<bool> {
+    for _ in 0..16 {
+        plant.look();
+        let Some(errand) = &plant.next(now, false).ok()? else {
+            return Some(matches!(step, Step::Rests(_)));
+        };
+        match (errand, step) {
+            (Errand::Send { to, bytes }, Step::Recalls(_, first, last)) => {
+                if to.get() == 1 && is_recall(bytes.as_slice(), first, last) {
+                    return Some(true);
+                }
+            }
+            (Errand::Seek { number }, Step::Seeks(_, wanted)) => {
+                return Some(number.get() == wanted);
+            }
+            (Errand::Seek { .. }, _) => return Some(false),
+            (Errand::Send { bytes, .. }, Step::Rests(_)) => {
+                if recalls::decode(bytes.as_slice()).is_ok() {
+                    return Some(false);
+                }
+            }
+            _ => {}
+        }
+    }
+    Some(false)
+}
+
+/// A member asks how many numbers have a vote; whether that is what is sent next, to it.
+fn answers(plant: &mut CatchUp, member: u8, now: u64) -> Option<bool> {
+    let roll = Roll::new(
+        CIRCUIT,
+        Member::new(member)?,
+        Member::new(2)?,
+        9,
+        Body::CountsAsked,
+    )?;
+    plant.hear(&Aside::Roll(Ok(roll)), now).ok()?;
+    let Some(errand) = &plant.next(now, false).ok()? else {
+        return Some(false);
+    };
+    let roll = roll_to(errand, member)?;
+    Some(roll.asked() == 9 && matches!(roll.body(), Body::Counts(_)))
+}
+
+/// Whether nothing is sent.
+fn is_silent(plant: &mut CatchUp, now: u64) -> Option<bool> {
+    plant.look();
+    Some(plant.next(now, false).ok()?.is_none())
+}
+
+/// Whether so many numbers went out before.
+fn went_before(plant: &mut CatchUp, many: u32) -> bool {
+    match &plant.take_from_before() {
+        Some(numbers) => numbers.len() == many,
+        None => false,
+    }
+}
+
+/// The search of a number finds nothing.
+fn finds_nothing(plant: &mut CatchUp, n: u32, now: u64) -> Option<bool> {
+    let note = Note::Nothing {
+        ballot: Ballot::new(1, Member::new(2)?)?,
+    };
+    Some(plant.did(Number::new(n)?, &note, false, now).is_ok())
+}
+
+/// Whether the step goes as it says.
+fn goes(alloc: Global, plant: &mut CatchUp, step: Step) -> Option<bool> {
+    match step {
+        Step::Tells(now, member, first, last) => {
+            tells(plant, member, &numbers_of(alloc, first, last)?, now)
+        }
+        Step::Answers(now, member) => answers(plant, member, now),
+        Step::Recalls(now, ..) | Step::Seeks(now, _) | Step::Rests(now) => comes(plant, step, now),
+        Step::Silent(now) => is_silent(plant, now),
+        Step::FindsNothing(n, now) => finds_nothing(plant, n, now),
+        Step::IsOut(n) => Some(plant.has_gone_out(Number::new(n)?)),
+        Step::Before(many) => Some(went_before(plant, many)),
+        Step::NotBefore => Some(plant.take_from_before().is_none()),
+    }
+}
+
+/// A plant at a start without rows.
+fn plant_of(alloc: Global, is_first: bool, asks: bool) -> Option<CatchUp> {
+    let own = Origin {
+        circuit: CIRCUIT,
+        member: Member::new(2)?,
+        count: 3,
+    };
+    let start = Start {
+        own,
+        known: Some(Known::new(alloc).ok()?),
+        gone: Some(Numbers::new(alloc).ok()?),
+        is_first,
+        asks,
+    };
+    CatchUp::new(alloc, start, 0).ok()
+}
+
+/// The place of the first step that does not go as it says, or how many there are.
+fn gone(alloc: Global, is_first: bool, asks: bool, steps: &[Step]) -> Option<usize> {
+    let mut plant = plant_of(alloc, is_first, asks)?;
+    for (place, step) in steps.iter().enumerate() {
+        if goes(alloc, &mut plant, *step) != Some(true) {
+            return Some(place);
+        }
+    }
+    Some(steps.len())
+}
+
+#[test]
+fn pages_are_recalled_at_once(rt: HostRuntime) {
+    assert!(rt; gone(rt.alloc(), false, true, AT_ONCE) == Some(AT_ONCE.len()));
+}
+
+#[test]
+fn first_starts_tell(rt: HostRuntime) {
+    assert!(rt; gone(rt.alloc(), true, true, FIRST) == Some(FIRST.len()));
+}
+
+#[test]
+fn off_answers(rt: HostRuntime) {
+    assert!(rt; gone(rt.alloc(), false, false, OFF) == Some(OFF.len()));
+}
+
+#[test]
+fn another_voter_wakes(rt: HostRuntime) {
+    assert!(rt; gone(rt.alloc(), false, true, AGAIN) == Some(AGAIN.len()));
+}

@@ -1,0 +1,214 @@
+//! What a station knows at its start of what went out, and of what it may lack.
+
+ghost use Rattle.std.specs.Prelude.{◌≡◌, false, IfOk};
+ghost use Rattle.plant_care.specs.Starting.{IsOff, IsOpeningOf, saved_by, StartsFrom, WaitsOn};
+
+use crate::care::Care;
+use ballots::Number;
+use catch_up::{CatchUp, Start as First};
+use catch_up_log::{tell_missing, tell_set_aside, tell_unread};
+use driver::{Log, Step};
+use folders::{FolderFault, Folders, WentOut};
+use gone_out::{Known, Numbers, Origin};
+use node_core::Note;
+use std::alloc::{AllocError, Global};
+use std::io::Write;
+
+/// What a station starts from.
+#[derive(Drop)]
+pub struct Start {
+    pub alloc: Global,
+    /// Whose station it is.
+    pub own: Origin,
+    /// The numbers that have a saved row, where that is known.
+    pub known: Option<Known>,
+    /// Whether it asks others for what it lacks.
+    pub catches_up: bool,
+    /// Whether faults alone are told.
+    pub is_quiet: bool,
+}
+
+/// What went out there, where it is kept; and whether this is the first start that keeps it, over rows that were there before.
+#[derive(Drop)]
+struct Gone {
+    numbers: Option<Numbers>,
+    is_first: bool,
+}
+
+/// A station that has started: how it catches up; and what it is to start from once it can be read what went out there, and why it can't.
+#[derive(Drop)]
+pub(crate) struct Opening {
+    catch_up: CatchUp,
+    waiting: Option<(Start, FolderFault)>,
+}
+
+/// What went out; an operator is told of what may be missing from before, and of a file of another station.
+fn told_of<E: Write>(alloc: Global, known: &Known, went: WentOut, err: &mut E) -> Gone {
+    if went.set_aside {
+        tell_set_aside(alloc, err);
+    }
+    let is_first = match &went.missing {
+        Some(missing) => {
+            tell_missing(alloc, missing, err);
+            !known.rows.is_empty()
+        }
+        None => false,
+    };
+    Gone {
+        numbers: Some(went.numbers),
+        is_first,
+    }
+}
+
+/// A station that starts by its rows, and by what went out.
+fn opened(start: Start, gone: Gone, now: u64) -> Result<Opening, AllocError>
+    ensures { IfOk result (IsOpeningOf start) }
+{
+    let first = First {
+        own: start.own,
+        known: start.known,
+        gone: gone.numbers,
+        is_first: gone.is_first,
+        asks: start.catches_up,
+    };
+    Ok(Opening {
+        catch_up: CatchUp::new(start.alloc, first, now)?,
+        waiting: None,
+    })
+}
+
+/// The same where it can't be read now what went out: until it can be, it answers no roll and asks for nothing.
+fn unread(start: Start, fault: FolderFault, now: u64) -> Result<Opening, AllocError>
+    ensures { IfOk result (IsOpeningOf start) }
+{
+    let first = First {
+        own: start.own,
+        known: None,
+        gone: None,
+        is_first: false,
+        asks: false,
+    };
+    Ok(Opening {
+        catch_up: CatchUp::new(start.alloc, first, now)?,
+        waiting: Some((start, fault)),
+    })
+}
+
+/// A station that starts, at a moment, by its rows and what went out.
+fn begun<F: Folders, E: Write>(
+    start: Start,
+    folders: &mut F,
+    now: u64,
+    err: &mut E,
+) -> Result<Opening, AllocError>
+    ensures opening { IfOk result (IsOpeningOf start) }
+    ensures does { F.doings folders.new ≡ F.doings folders.old }
+{
+    let unkept = Gone {
+        numbers: None,
+        is_first: false,
+    };
+    let Some(known) = &start.known else {
+        return opened(start, unkept, now);
+    };
+    match folders.went_out(start.alloc, &start.own, &known.rows) {
+        Ok(Some(went)) => {
+            let gone = told_of(start.alloc, known, went, err);
+            opened(start, gone, now)
+        }
+        Ok(None) => opened(start, unkept, now),
+        Err(fault) => unread(start, fault, now),
+    }
+}
+
+/// What is kept in mind of catching up at the start of a station. Where it can't be read what went out, that is told.
+///
+/// # Errors
+///
+/// Out of memory.
+pub fn begin<F: Folders, E: Write>(
+    start: Start,
+    folders: &mut F,
+    err: &mut E,
+) -> Result<Box<Care>, AllocError>
+    ensures starts { IfOk result (λ care. StartsFrom start care.value) }
+    ensures does { F.doings folders.new ≡ F.doings folders.old }
+{
+    let (alloc, is_quiet) = (start.alloc, start.is_quiet);
+    let Opening { catch_up, waiting } = begun(start, folders, 0, err)?;
+    if let Some((_, fault)) = &waiting {
+        tell_unread(alloc, *fault, err);
+    }
+    Ok(Box::new(alloc, Care::new(alloc, catch_up, waiting, is_quiet))?)
+}
+
+/// Whether a step with this note saved a row, and whether the row has a vote.
+fn saved_by(note: &Note) -> Option<bool>
+    ensures { result ≡ saved_by note.now }
+{
+    match note {
+        Note::Began { .. } | Note::Promised { .. } => Some(false),
+        Note::Proposed { .. } | Note::Voted { .. } => Some(true),
+        _ => None,
+    }
+}
+
+impl Start {
+    /// A row of a number was saved, which has a vote or has none.
+    fn save(&mut self, number: Number, has_vote: bool)
+        ensures { self.new ≡ record self.old { known = self.new.known } }
+    {
+        if let Some(known) = &mut self.known {
+            known.add(number, has_vote);
+        }
+    }
+}
+
+impl Care {
+    /// Before it could be read what went out, a row that a step saved is kept in mind.
+    pub(crate) fn keep_saved(&mut self, number: Number, step: &Step)
+        ensures { WaitsOn self.old self.new }
+    {
+        if let Some((start, _)) = &mut self.waiting
+            && let Some(has_vote) = saved_by(&step.answer.note)
+        {
+            start.save(number, has_vote);
+        }
+    }
+
+    /// What was released since the start went out.
+    fn leave_unnoted(&mut self)
+        ensures rest { self.new ≡ record self.old { catch_up = self.new.catch_up } }
+        ensures asks { self.new.catch_up.asks ≡ self.old.catch_up.asks }
+    {
+        for place in 0..self.unnoted.len() {
+            let number = self.unnoted[place];
+            self.catch_up.went_out(number);
+        }
+    }
+
+    /// Where it could not be read what went out, that is tried again, at a moment.
+    pub(crate) fn begin_again<F: Folders, E: Write>(
+        &mut self,
+        folders: &mut F,
+        now: u64,
+        log: &mut Log<'_, E>,
+    )
+        ensures does { F.doings folders.new ≡ F.doings folders.old }
+        ensures off { IsOff self.old → IsOff self.new }
+    {
+        let Some((start, _)) = self.waiting.take() else {
+            return;
+        };
+        match begun(start, folders, now, log.err) {
+            Ok(begun) => {
+                self.waiting = begun.waiting;
+                if self.waiting.is_none() {
+                    self.catch_up = begun.catch_up;
+                    self.leave_unnoted();
+                }
+            }
+            Err(_) => tell_unread(self.alloc, FolderFault::OutOfMemory, log.err),
+        }
+    }
+}

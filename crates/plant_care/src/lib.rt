@@ -1,0 +1,14 @@
+//! How a plant that stays up sees to what is missing there: how it starts to catch up, what it is told and asks of catching up, what an
+//! editor asks for by hand, what is told of all this, and what is noted of what went out.
+#![tactic(auto)]
+
+mod ask;
+mod beginning;
+mod care;
+mod noting;
+mod ranges;
+mod telling;
+
+pub use ask::Ask;
+pub use beginning::{Start, begin};
+pub use care::Care;

@@ -1,0 +1,84 @@
+//! What is told of catching up: which numbers are asked for, what came of them, and what went out before that was kept.
+
+ghost use Rattle.std.specs.Prelude.{◌≡◌};
+ghost use Rattle.plant_care.specs.Caring.{KeepsRest};
+ghost use Rattle.plant_care.specs.Starting.{IsOff};
+
+use crate::care::Care;
+use ballots::Number;
+use catch_up::{ToldBy, Wave};
+use catch_up_log::{Caught, tell_caught_up, tell_few, tell_missing};
+use driver::Log;
+use folders::Folders;
+use gone_out::Numbers;
+use std::io::Write;
+
+impl Care {
+    /// These numbers went out before that was kept, and are to be noted. One for which there is no memory is asked for at the next start.
+    fn note_all(&mut self, numbers: &Numbers)
+        ensures { self.new ≡ record self.old { unnoted = self.new.unnoted } }
+    {
+        for before in 0..Number::LAST {
+            if let Some(number) = Number::new(before + 1)
+                && numbers.contains(number)
+            {
+                let _ = self.unnoted.push(number);
+            }
+        }
+    }
+
+    /// Tells at the first start that keeps what went out, once a majority told its votes, which numbers may be missing here, and notes them.
+    fn tell_from_before<E: Write>(&mut self, log: &mut Log<'_, E>)
+        ensures { KeepsRest self.old self.new }
+    {
+        if let Some(numbers) = self.catch_up.take_from_before() {
+            tell_missing(self.alloc, &numbers, log.err);
+            self.note_all(&numbers);
+        }
+    }
+
+    /// Tells what came of the numbers that were asked for, once nothing is lacked any more, unless faults alone are told; or, where no
+    /// majority told its votes, by how many they were told, once.
+    fn tell_wave<E: Write>(&mut self, log: &mut Log<'_, E>)
+        ensures { KeepsRest self.old self.new }
+    {
+        if let Some(wave) = self.catch_up.take_wave() {
+            let Wave {
+                released,
+                nothing,
+                ..
+            } = wave;
+            if !self.is_quiet {
+                tell_caught_up(self.alloc, Caught { released, nothing }, log.err);
+            }
+            self.told_few = false;
+        } else if self.catch_up.lacks_a_majority() && !self.told_few {
+            let ToldBy { others, told } = self.catch_up.told_by();
+            tell_few(self.alloc, others, told, log.err);
+            self.told_few = true;
+        }
+    }
+
+    /// Tells at a moment what there is to tell.
+    fn tell<E: Write>(&mut self, now: u64, log: &mut Log<'_, E>)
+        ensures { KeepsRest self.old self.new }
+    {
+        self.missed.tell(self.alloc, now, log.err);
+        if self.missed.is_empty() {
+            self.tell_wave(log);
+        }
+        self.tell_from_before(log);
+    }
+
+    /// A look at the folders came to pass, at a moment: where it could not be read what went out, that is tried again; what is lacked is
+    /// looked for again, and what is asked for by hand; and what there is to tell is told.
+    pub fn look<F: Folders, E: Write>(&mut self, folders: &mut F, now: u64, log: &mut Log<'_, E>)
+        ensures does { F.doings folders.new ≡ F.doings folders.old }
+        ensures off { IsOff self.old → IsOff self.new }
+    {
+        self.begin_again(folders, now, log);
+        self.catch_up.look();
+        self.look_by_hand();
+        self.tell(now, log);
+    }
+}
