@@ -52,7 +52,7 @@ pub fn run(alloc: Global, requests: &[Request]) -> Result<(Row, Vec<Reply>), All
     ensures replies { IfOk result (λ x. map said x.1.items ≡ replies_to (map asked requests.now)) }
 {
     // The rows of the loop are those of the whole list.
-    protocol::laws::acceptor_steps();
+    protocol_laws::laws::acceptor_steps();
     let mut row = Row::blank();
     let mut replies = Vec::new(alloc);
     for request in requests {

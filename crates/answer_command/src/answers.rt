@@ -72,7 +72,7 @@ fn put_lines<W: Write>(alloc: Global, seat: &Seat, lines: &[&[u8]], out: &mut W)
     ensures front { OnErr result (AppendsFront (W.contents out.old) (W.contents out.new) (lines_at seat.now (map (λ l. l.now) lines.now))) }
 {
     // The rows of the loop are those of all the requests heard.
-    protocol::laws::acceptor_steps();
+    protocol_laws::laws::acceptor_steps();
     let mut rows = MemoryRows::at(alloc, seat.wire);
     for line in lines {
         if !is_blank(line) {

@@ -13,7 +13,7 @@ use Rattle.protocol.specs.Turn.{Event, number_of}
 use Rattle.protocol.specs.Refusals.{Call, Offering, Seeking, Falling_due, Receiving, Recalling}
 use Rattle.protocol.specs.Circuit as circuit
 use Rattle.protocol.specs.Circuit.{Datagram, with_at, saved, offers_with, releases_with, History, goes_on, is_done, StepsTo}
-use Rattle.protocol.proofs.Places.{among_left, among_right}
+use Rattle.protocol_laws.proofs.Places.{among_left, among_right}
 use Rattle.packets.specs.Reading.{packet_in}
 use Rattle.packets.specs.declared.fault.PacketFault.{PacketFault}
 use Rattle.code_table.specs.Tables.{Places, mean}

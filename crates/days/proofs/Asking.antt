@@ -9,7 +9,7 @@ use Rattle.protocol.specs.Turn.{Event}
 use Rattle.protocol.specs.Refusals.{Setup, Call, Offering, Seeking, Falling_due, Receiving, Recalling, due_event, arrival, event_of}
 use Rattle.protocol.specs.Circuit as circuit
 use Rattle.protocol.specs.Circuit.{Datagram, Offer, IsTask, delivery, datagram_at, offers_with}
-use Rattle.protocol.proofs.Places.{among-append}
+use Rattle.protocol_laws.proofs.Places.{among-append}
 use Rattle.world.proofs.Asking.{datagram_is}
 use Rattle.world.proofs.Members.{some_is}
 use Rattle.days.specs.Happening.{IsOffering}

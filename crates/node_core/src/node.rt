@@ -139,7 +139,7 @@ impl NodeCore {
         if self.failed {
             return None;
         }
-        protocol::laws::next_due_is_least();
+        protocol_laws::laws::next_due_is_least();
         instances::least_due(&self.instances, now)
     }
 

@@ -10,7 +10,7 @@ use Rattle.station.specs.declared.answer.Answer.{Answer}
 use Rattle.station.specs.declared.station.Station.{Station}
 use Rattle.station.specs.Steps.{tears, IsStep}
 use Rattle.refusals.specs.declared.refusal.StepRefusal.{StepRefusal}
-use Rattle.protocol.proofs.Places.{with_at-same}
+use Rattle.protocol_laws.proofs.Places.{with_at-same}
 use Rattle.exchange.specs.Events.{Event, asked, took, aside, Aside, Takes}
 use Rattle.days.specs.Happening.{In_call, Happened, did, Came}
 use Rattle.days.specs.Handing.{Plants, Member, runs, over, after_call}

@@ -1,4 +1,2 @@
-//! The protocol's definitions, in `specs/`, and its laws. There is no other code in this crate.
+//! The protocol's definitions, in `specs/`. There is no code in this crate: its laws stand in `protocol_laws`.
 #![tactic(auto)]
-
-pub mod laws;

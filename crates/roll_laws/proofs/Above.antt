@@ -7,12 +7,12 @@ use Rattle.protocol.specs.Packets.{Body}
 use Rattle.protocol.specs.Marks.{Began}
 use Rattle.protocol.specs.Circuit.{Circuit, State, History}
 use Rattle.protocol.specs.Agreement.{WasVoted}
-use Rattle.protocol.proofs.Below.{at_most_trans, not_both, at_most_otherwise}
-use Rattle.protocol.proofs.Majorities.{shared, weaker}
-use Rattle.protocol.proofs.Moves.{some_inj}
-use Rattle.protocol.proofs.Sound.{IsPromisedTo, PromiseHolds, BodyHolds}
-use Rattle.protocol.proofs.Steps.{history_sound, read_among}
-use Rattle.protocol.proofs.Voters.{was_held}
+use Rattle.protocol_laws.proofs.Below.{at_most_trans, not_both, at_most_otherwise}
+use Rattle.protocol_laws.proofs.Majorities.{shared, weaker}
+use Rattle.protocol_laws.proofs.Moves.{some_inj}
+use Rattle.protocol_laws.proofs.Sound.{IsPromisedTo, PromiseHolds, BodyHolds}
+use Rattle.protocol_laws.proofs.Steps.{history_sound, read_among}
+use Rattle.protocol_laws.proofs.Voters.{was_held}
 use Rattle.roll_laws.specs.Votes.{is_same, and_on, GoesOnTo}
 use Rattle.roll_laws.specs.Searches.{ReportedNone, in_promise, as_owner, LaterChoicesAreAbove}
 use Rattle.roll_laws.proofs.Promising.{step_rises}

@@ -11,10 +11,10 @@ use Rattle.protocol.specs.Marks.{Mark, Began, Promised, Proposed, Denied, Heard,
 use Rattle.protocol.specs.Turn.{Turn, stays, packet_to, to_others, others, Note, Event, Offered, Sought, Came_due, Arrived, Recalled, number_of}
 use Rattle.protocol.specs.Table.{Hears, was_settled, waits, Proposes, nothing, proposes, Begins, asks, alone, StartTurn, starts, IsGreater, DueTurn, is_idle, gives_up, begins_anew, PrepareTurn, promises, is_silent, AcceptTurn, votes_again, votes, PromiseTurn, is_overtaken, is_repeated, counts, completes, NackTurn, is_denied, AcceptedTurn, settles, hears, RecallTurn, is_blank, tells_again, hears_again, AnswerTurn, IsTurn}
 use Rattle.protocol.specs.Table as table
-use Rattle.protocol.proofs.Below.{at_most_below, at_most_refl}
-use Rattle.protocol.proofs.Sound.{IsPromisedTo}
-use Rattle.protocol.proofs.Moves.{known, below_to_at_most, some_inj}
-use Rattle.protocol.proofs.Places.{among-append, among-map}
+use Rattle.protocol_laws.proofs.Below.{at_most_below, at_most_refl}
+use Rattle.protocol_laws.proofs.Sound.{IsPromisedTo}
+use Rattle.protocol_laws.proofs.Moves.{known, below_to_at_most, some_inj}
+use Rattle.protocol_laws.proofs.Places.{among-append, among-map}
 
 -- a ballot that is next is above, and the member's own
 next_above : (o : Option Ballot) (m : ℕ) (b : Ballot) → next o m ≡ Some b → IsNoneOrBelow o b × (b.owner ≡ m)

@@ -14,11 +14,11 @@ use Rattle.protocol.specs.Table.{Proposes, nothing, proposes, Begins, asks, alon
 use Rattle.protocol.specs.Table as table
 use Rattle.protocol.specs.Refusals.{Call, event_of}
 use Rattle.protocol.specs.Circuit.{Circuit, State, Step, Done, Task, IsTask, seat_at, setup_of, MayLeave, store_before_save, memory_before_save, at_save, StepsTo, is_refused, is_idle as is_idle_step, is_spent, is_done, is_torn, restarts, upgrades, upgrade_is_torn, is_armed, History, goes_on}
-use Rattle.protocol.proofs.Majorities.{weaker}
-use Rattle.protocol.proofs.Moves.{some_inj}
-use Rattle.protocol.proofs.Places.{among_left, among_split, with_at-same}
-use Rattle.protocol.proofs.Meeting.{is_turn}
-use Rattle.protocol.proofs.Steps.{history_sound}
+use Rattle.protocol_laws.proofs.Majorities.{weaker}
+use Rattle.protocol_laws.proofs.Moves.{some_inj}
+use Rattle.protocol_laws.proofs.Places.{among_left, among_split, with_at-same}
+use Rattle.protocol_laws.proofs.Meeting.{is_turn}
+use Rattle.protocol_laws.proofs.Steps.{history_sound}
 use Rattle.roll_laws.specs.Searches.{ReportedNone, in_promise, as_owner, NothingIsReported}
 use Rattle.roll_laws.proofs.Marking.{promise_was_sent}
 

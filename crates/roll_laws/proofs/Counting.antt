@@ -2,7 +2,7 @@
 use Rattle.std.proofs.Common.{◌≡◌, ℕ, ◌≤◌, inl, inr, refl, sym, ap, ◌∙◌, arith, List, [], ◌∷◌, Bool, true, false, cond}
 use Rattle.std.specs.List.{count_by}
 use Rattle.protocol.specs.Lists.{IsAmong}
-use Rattle.protocol.proofs.Majorities.{one_more}
+use Rattle.protocol_laws.proofs.Majorities.{one_more}
 use Rattle.roll_laws.specs.Votes.{has_vote}
 use Rattle.roll_laws.specs.Rolls.{CountsNeverFall, EqualCountsAreSameVotes}
 use Rattle.roll_laws.proofs.Voting.{votes_stay}

@@ -6,11 +6,11 @@ use Rattle.protocol.specs.Marks.{Began}
 use Rattle.protocol.specs.Turn.{Note_nothing}
 use Rattle.protocol.specs.Circuit.{Circuit, State, Done, History, goes_on}
 use Rattle.protocol.specs.Agreement.{WasVoted}
-use Rattle.protocol.proofs.Below.{at_most_below}
-use Rattle.protocol.proofs.Majorities.{shared}
-use Rattle.protocol.proofs.Moves.{known_below}
-use Rattle.protocol.proofs.Steps.{history_sound}
-use Rattle.protocol.proofs.Agreements.{reports_are_greatest}
+use Rattle.protocol_laws.proofs.Below.{at_most_below}
+use Rattle.protocol_laws.proofs.Majorities.{shared}
+use Rattle.protocol_laws.proofs.Moves.{known_below}
+use Rattle.protocol_laws.proofs.Steps.{history_sound}
+use Rattle.protocol_laws.proofs.Agreements.{reports_are_greatest}
 use Rattle.roll_laws.specs.Votes.{has_vote, and_on, GoesOnTo}
 use Rattle.roll_laws.specs.Searches.{IsAhead, ReportedNone, in_promise, as_owner, ChoicesHaveNewVoters, SearchesLeaveNews}
 use Rattle.roll_laws.proofs.Voting.{is_some_of, voted_stays, who_voted_has_a_vote}

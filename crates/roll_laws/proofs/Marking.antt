@@ -8,9 +8,9 @@ use Rattle.protocol.specs.Turn.{Event, number_of}
 use Rattle.protocol.specs.Refusals.{Call, event_of}
 use Rattle.protocol.specs.Circuit.{Circuit, Datagram, State, Step, Outcome, with_at, IsTask, seat_at, setup_of, StepsTo, is_refused, is_idle, is_spent, is_done, is_torn, restarts, upgrades, upgrade_is_torn, is_armed, History, starts, goes_on}
 use Rattle.protocol.specs.Agreement.{WasPromised}
-use Rattle.protocol.proofs.Places.{among_left, with_at_cases, with_at-self}
-use Rattle.protocol.proofs.OneStep.{carried}
-use Rattle.protocol.proofs.Steps.{Goes, arrived_sent, history_sound}
+use Rattle.protocol_laws.proofs.Places.{among_left, with_at_cases, with_at-self}
+use Rattle.protocol_laws.proofs.OneStep.{carried}
+use Rattle.protocol_laws.proofs.Steps.{Goes, arrived_sent, history_sound}
 use Rattle.roll_laws.specs.Searches.{BegunWereAhead}
 use Rattle.roll_laws.proofs.Asking.{MarkAsks}
 use Rattle.roll_laws.proofs.Promising.{taken_asks}

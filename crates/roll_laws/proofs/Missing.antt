@@ -3,7 +3,7 @@ use Rattle.std.proofs.Common.{◌≡◌, ℕ, refl, ◌∙◌, Bool, true}
 use Rattle.std.specs.Prelude.{◌==◌, ◌&&◌}
 use Rattle.std.proofs.lemmas.Bool.{eq-eqb}
 use Rattle.protocol.specs.Ballots.{IsMember, Majority}
-use Rattle.protocol.proofs.Majorities.{shared}
+use Rattle.protocol_laws.proofs.Majorities.{shared}
 use Rattle.roll_laws.specs.Votes.{has_vote}
 use Rattle.roll_laws.specs.Rolls.{page_of, RollsMissNothing, VotesAreToldFromThenOn}
 use Rattle.roll_laws.proofs.Voting.{votes_stay, who_voted_has_a_vote}

@@ -9,11 +9,11 @@ use Rattle.protocol.specs.Turn.{Turn, Event, number_of, turn}
 use Rattle.protocol.specs.Refusals.{Call, event_of}
 use Rattle.protocol.specs.Circuit.{Circuit, Datagram, State, Step, Outcome, saved, IsTask, seat_at, setup_of, MayLeave, Leaves, store_before_save, memory_before_save, at_save, StepsTo, is_refused, is_idle, is_spent, is_done, is_torn, restarts, upgrades, upgrade_is_torn, is_armed, History, starts, goes_on}
 use Rattle.protocol.specs.Agreement.{WasPromised}
-use Rattle.protocol.proofs.Below.{at_most_below, below_irrefl}
-use Rattle.protocol.proofs.Moves.{known_below}
-use Rattle.protocol.proofs.Places.{among-append, saved_cases, saved-self, saved-same}
-use Rattle.protocol.proofs.Meeting.{is_turn}
-use Rattle.protocol.proofs.Steps.{same_state, Goes, all_go, AllZip-append, arrived_sent, read_among}
+use Rattle.protocol_laws.proofs.Below.{at_most_below, below_irrefl}
+use Rattle.protocol_laws.proofs.Moves.{known_below}
+use Rattle.protocol_laws.proofs.Places.{among-append, saved_cases, saved-self, saved-same}
+use Rattle.protocol_laws.proofs.Meeting.{is_turn}
+use Rattle.protocol_laws.proofs.Steps.{same_state, Goes, all_go, AllZip-append, arrived_sent, read_among}
 use Rattle.roll_laws.specs.Votes.{is_same, and_on, GoesOnTo}
 use Rattle.roll_laws.specs.Searches.{IsAhead}
 use Rattle.roll_laws.proofs.Asking.{IsAskedFor, Rises, rises_same, BodyAsks, TurnAsks, turn_asks}

@@ -6,7 +6,7 @@ use Rattle.protocol.specs.Entries.{Entry}
 use Rattle.protocol.specs.Rows.{Vote}
 use Rattle.protocol.specs.Circuit.{Circuit, State, History}
 use Rattle.protocol.specs.Agreement.{WasVoted}
-use Rattle.protocol.proofs.Steps.{history_sound}
+use Rattle.protocol_laws.proofs.Steps.{history_sound}
 use Rattle.roll_laws.specs.Votes.{has_vote, is_same, and_on, GoesOnTo, VotesStay, WhoVotedHasAVote}
 
 pub some_is : {A : Type 0} {x : A} (o : Option A) → o ≡ Some x → is_some o ≡ true

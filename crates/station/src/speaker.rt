@@ -135,7 +135,7 @@ impl Speaker {
         ensures wire { self.new.wire ≡ self.old.wire }
     {
         // A turn makes no entry up, where the core's member is one of its circuit.
-        protocol::laws::turns_fit();
+        protocol_laws::laws::turns_fit();
         let _me = self.core.me();
         let answer = self.core.handle(event, row);
         if matches!(answer, Err(CoreRefusal::OutOfMemory)) {

@@ -7,7 +7,7 @@ ghost use Rattle.world.specs.Laws.{OneEntry, VotesOffered, PromisesKept, Reports
 use crate::slugs::Slugs;
 use line_check::SetFault;
 use packets::PacketFault;
-use protocol::laws;
+use protocol_laws::laws;
 use saved_rows::{MemoryRows, Rows};
 
 /// All votes and Accepts of one number and ballot carry one entry.

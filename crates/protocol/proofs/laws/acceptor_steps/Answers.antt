@@ -1,6 +1,0 @@
--- One request more is one step of the row.
-use Rattle.protocol.proofs.Requests.{steps}
-use Rattle.protocol.proofs.laws.acceptor_steps.Goals as goal
-
-pub returns : goal.returns
-returns c = steps

@@ -1,6 +1,0 @@
--- From the soundness of every history.
-use Rattle.protocol.proofs.Agreements.{histories_agree}
-use Rattle.protocol.proofs.laws.agreement.Goals as goal
-
-pub returns : goal.returns
-returns g c = histories_agree

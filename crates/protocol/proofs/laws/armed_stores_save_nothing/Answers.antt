@@ -1,6 +1,0 @@
--- By the cases of a step.
-use Rattle.protocol.proofs.Tearing.{armed_stores_save_nothing}
-use Rattle.protocol.proofs.laws.armed_stores_save_nothing.Goals as goal
-
-pub returns : goal.returns
-returns g c = armed_stores_save_nothing

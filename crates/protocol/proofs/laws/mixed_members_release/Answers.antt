@@ -1,6 +1,0 @@
--- By taking the steps.
-use Rattle.protocol.proofs.Withdrawing.{mixed_members_release}
-use Rattle.protocol.proofs.laws.mixed_members_release.Goals as goal
-
-pub returns : goal.returns
-returns g c = mixed_members_release

@@ -1,6 +1,0 @@
--- One step.
-use Rattle.protocol.proofs.Rehearsing.{one_member_releases}
-use Rattle.protocol.proofs.laws.one_member_releases.Goals as goal
-
-pub returns : goal.returns
-returns g c = one_member_releases

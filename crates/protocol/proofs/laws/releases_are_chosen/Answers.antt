@@ -1,6 +1,0 @@
--- From the soundness of every history.
-use Rattle.protocol.proofs.Agreements.{releases_are_chosen}
-use Rattle.protocol.proofs.laws.releases_are_chosen.Goals as goal
-
-pub returns : goal.returns
-returns g c = releases_are_chosen

@@ -1,6 +1,0 @@
--- Eight steps.
-use Rattle.protocol.proofs.Rehearsing.{three_members_release}
-use Rattle.protocol.proofs.laws.three_members_release.Goals as goal
-
-pub returns : goal.returns
-returns g c = three_members_release

@@ -1,6 +1,0 @@
--- By cases of the row.
-use Rattle.protocol.proofs.Answering.{turns_are_an_acceptors}
-use Rattle.protocol.proofs.laws.turns_are_an_acceptors.Goals as goal
-
-pub returns : goal.returns
-returns c = turns_are_an_acceptors

@@ -1,6 +1,0 @@
--- From the table of the turn.
-use Rattle.protocol.proofs.Fitting.{turns_fit}
-use Rattle.protocol.proofs.laws.turns_fit.Goals as goal
-
-pub returns : goal.returns
-returns c = turns_fit

@@ -1,6 +1,0 @@
--- Bytes say of which version they are.
-use Rattle.protocol.proofs.Steps.{spelled_heard}
-use Rattle.protocol.proofs.laws.version_two_reads_both.Goals as goal
-
-pub returns : goal.returns
-returns g c = spelled_heard

@@ -1,6 +1,0 @@
--- From the soundness of every history.
-use Rattle.protocol.proofs.Agreements.{votes_are_backed}
-use Rattle.protocol.proofs.laws.votes_are_backed.Goals as goal
-
-pub returns : goal.returns
-returns g c = votes_are_backed

@@ -1,0 +1,6 @@
+-- From the soundness of every history.
+use Rattle.protocol_laws.proofs.Agreements.{votes_are_backed}
+use Rattle.protocol_laws.proofs.laws.votes_are_backed.Goals as goal
+
+pub returns : goal.returns
+returns g c = votes_are_backed
