@@ -1,8 +1,6 @@
-//! The tests of tapes and packets, of typesetting, of texts and of drawings, and of readers and writers that fail.
+//! The tests of typesetting, of texts and of drawings, and of readers and writers that fail.
 #![tactic(auto)]
 
-#[cfg(test)]
-mod datagrams;
 #[cfg(test)]
 mod drawings;
 #[cfg(test)]
@@ -13,7 +11,5 @@ mod files;
 mod inputs;
 #[cfg(test)]
 mod lines;
-#[cfg(test)]
-mod tapes;
 #[cfg(test)]
 mod texts;

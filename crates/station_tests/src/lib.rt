@@ -1,27 +1,23 @@
-//! The tests of a station, of a whole circuit and of a day of one, of `serve` and of `run`, over rows and folders in memory.
+//! The tests of one station: what it answers, what it refuses, and what its saved rows make of a restart.
 #![tactic(auto)]
 
 #[cfg(test)]
-mod alone;
+mod benches;
 #[cfg(test)]
-mod circuits;
+mod datagrams;
 #[cfg(test)]
-mod given;
+mod members;
 #[cfg(test)]
-mod look_turns;
+mod offering;
 #[cfg(test)]
-mod notes;
+mod saving;
 #[cfg(test)]
-mod offers_shelf;
+mod stepping;
 #[cfg(test)]
-mod offers_stories;
+mod turns;
 #[cfg(test)]
-mod played_day;
+mod unreadable;
 #[cfg(test)]
-mod run;
+mod upgrading;
 #[cfg(test)]
-mod serve;
-#[cfg(test)]
-mod stations;
-#[cfg(test)]
-mod unread;
+mod versions;

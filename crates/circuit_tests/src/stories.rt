@@ -1,0 +1,106 @@
+//! Stories of a circuit over rows in memory: the steps, what has to be seen of each, and what the logs have to say.
+
+use crate::bodies::Sent;
+use crate::members::{LastWidths, OLD, Versions, WITHOUT_FI};
+use fixtures::Given;
+use line_check::SetFault;
+use packets::PacketFault;
+use saved_rows::RowsFault;
+use station::StepRefusal;
+use station_fixtures::Noted;
+use world::{RunStop, WorldRefusal};
+
+/// What is done, of number 12 and at moment 0 where nothing else is said.
+#[derive(Clone, Copy)]
+pub enum Act {
+    OfferFlood(u8),
+    OfferLigature(u8),
+    OfferLongest(u8),
+    Withdraw(u8),
+    Seek(u8),
+    Due(u8, u64),
+    Deliver(usize),
+    Restart(u8),
+    Upgrade(u8),
+    Balk(u8, bool),
+}
+
+/// How a step ends.
+#[derive(Clone, Copy)]
+pub enum Ending {
+    Done(Noted),
+    Refused(StepRefusal),
+    Restarted,
+    Upgraded,
+    /// The store is armed; whether it passes on the save that it refuses.
+    Armed(bool),
+    /// There is no such step. No more is seen of it.
+    NoStep(WorldRefusal),
+}
+
+/// The store refuses, or memory is refused as rows are read, and the station stops.
+pub const STORE_REFUSES: Ending = Ending::Refused(StepRefusal::Store(RowsFault::Store));
+
+pub const MEMORY_REFUSED: Ending = Ending::Refused(StepRefusal::Store(RowsFault::OutOfMemory));
+
+/// Refusals of a datagram, of an offer, and of the ligature story at widths that lack `fi`.
+pub const BAD_VERSION: Ending = Ending::Refused(StepRefusal::BadDatagram(PacketFault::BadVersion));
+
+pub const ALREADY_OPEN: Ending = Ending::Refused(StepRefusal::AlreadyOpen);
+
+pub const WIRE_TOO_OLD: Ending = Ending::Refused(StepRefusal::WireTooOld);
+
+pub const TAPE_FAULTY: Ending = Ending::Refused(StepRefusal::TapeFaulty(WITHOUT_FI));
+
+/// There is no such datagram, or no such member.
+pub const NO_DATAGRAM: Ending = Ending::NoStep(WorldRefusal::NoSuchDatagram);
+
+pub const NO_MEMBER: Ending = Ending::NoStep(WorldRefusal::NoSuchMember);
+
+/// A step, and what is to be seen of it: who acted, the first datagram, how many were sent, whether an entry was released,
+/// and how it ended.
+#[derive(Clone, Copy)]
+pub struct Line(pub Act, pub u8, pub usize, pub usize, pub bool, pub Ending);
+
+/// An offer for number 12: the member and the entry.
+#[derive(Clone, Copy)]
+pub struct Offered(pub u8, pub Given);
+
+/// A release of number 12: the member, the entry, and whether it sets as it has to or has this fault.
+#[derive(Clone, Copy)]
+pub struct Released(pub u8, pub Given, pub Result<(), SetFault>);
+
+/// A circuit of so many members at these versions, the last with these widths; its steps; and what its logs then have: all
+/// datagrams in order, all offers and all releases; and the open ballot of member 1.
+#[derive(Clone, Copy)]
+pub struct Story {
+    pub members: u8,
+    pub versions: Versions,
+    pub last: LastWidths,
+    pub lines: &'static [Line],
+    pub sent: &'static [Sent],
+    /// How many of these were sent before members went over; those behind are of version 2.
+    pub before: usize,
+    pub offers: &'static [Offered],
+    pub releases: &'static [Released],
+    pub open: Option<Option<(u32, u8)>>,
+    /// Whether its steps are also taken in one run.
+    pub runs: bool,
+    /// Where its steps stop that are taken in one run.
+    pub stop: Option<RunStop>,
+}
+
+/// A circuit of three at version 1 to which nothing happens.
+pub const CALM: Story = Story {
+    members: 3,
+    versions: OLD,
+    last: LastWidths::Whole,
+    lines: &[],
+    sent: &[],
+    before: usize::MAX,
+    offers: &[],
+    releases: &[],
+    open: None,
+    runs: false,
+    stop: None,
+};

@@ -1,0 +1,76 @@
+//! In which order a run does what it does with its folders.
+
+use crate::plant::{place_word, terms};
+use crate::stage::Held::{Flood, Harvest, Nothing};
+use crate::stage::Name::{Stop, Tape12};
+use crate::stage::What::Laid;
+use crate::stage::{Act as Happens, Stage};
+use crate::wires::Ticking;
+use command_ends::End;
+use folders::Act;
+use log_terms::Loudness;
+use run_command::run_station;
+use station_fixtures::{rows_with, station_over};
+use std::alloc::Global;
+use std::io::Write;
+use tape_frames::Version;
+
+/// Writes a line for something that was done, unless a file was found; whether there was memory for it.
+fn put_act(act: &Act, text: &mut Vec<u8>) -> bool {
+    let (word, name) = match act {
+        Act::Saw(_) => return true,
+        Act::Read(named) => ("read", named.name()),
+        Act::Wrote(named) => ("wrote", named.name()),
+        Act::Noted(noted) => ("noted", noted.name.as_str()),
+        Act::SetAside(name, to) => (place_word(*to), name.as_str()),
+        Act::TakenAway(name) => ("gone", name.as_str()),
+    };
+    writeln!(text, "{word} {name}").is_ok()
+}
+
+/// What was done with the folders of a plant in a run of a circuit of one, in which a tape is laid there, then
+/// another one of its number, and then `stop`.
+fn done(alloc: Global) -> Option<Vec<u8>> {
+    let rows = rows_with(alloc, Version::Two, None)?;
+    let mut station = station_over(alloc, 1, 1, rows)?;
+    let mut stage = Stage::new(
+        alloc,
+        &[
+            Happens(1, Laid(Tape12, Flood)),
+            Happens(10, Laid(Tape12, Harvest)),
+            Happens(20, Laid(Stop, Nothing)),
+        ],
+    );
+    let mut wire = Ticking {
+        moment: 0,
+        tick: 25,
+        until: 15_000,
+    };
+    let mut err = Vec::new(alloc);
+    if run_station(
+        &mut station,
+        &mut wire,
+        &mut stage,
+        terms(alloc, Loudness::Faults, &mut err)?,
+    ) != End::Done
+    {
+        return None;
+    }
+    let mut text = Vec::new(alloc);
+    for act in stage.folders.acts() {
+        if !put_act(act, &mut text) {
+            return None;
+        }
+    }
+    Some(text)
+}
+
+/// The tape leaves the offers behind both files of its release, and the other one behind the text beside it.
+const ORDER: &str = "\
+read 12.tape\nwrote 12.tape\nwrote 12.galley\nsent 12.tape\n\
+read 12.tape\nnoted 12.tape.txt\nlost 12.tape\n";
+
+#[test]
+fn order(rt: HostRuntime) {
+    assert!(rt; done(rt.alloc()).is_some_and(|text| text.as_slice() == ORDER.as_bytes()));
+}

@@ -1,0 +1,211 @@
+//! A plant over rows and folders in memory, and what has to come of a run.
+
+use crate::stage::{Act, Stage};
+use crate::wires::Ticking;
+use ballots::Member;
+use code_table::CodeTable;
+use command_ends::End;
+use folders::{Act as Doing, MemoryFolders, Place};
+use gone_out::Origin;
+use log_terms::Loudness;
+use run_command::{Terms, run_station};
+use saved_rows::MemoryRows;
+use station::Station;
+use station_fixtures::{rows_with, rows_with_vote, station_over};
+use std::alloc::Global;
+use std::io::Write;
+use tape_frames::Version;
+
+/// What the station saved of number 12 before.
+#[derive(Clone, Copy)]
+pub enum Saved {
+    Nothing,
+    /// A vote for the flood story.
+    Vote,
+    /// A promise of a ballot above which there is none.
+    LastPromise,
+}
+
+/// A run: what the station saved before, how files come into its folders, what happens to these, after how many quarters of a second the
+/// network fails, how it has to end, what the folders have to hold, and what has to be told.
+#[derive(Clone, Copy)]
+pub struct Run {
+    pub members: u8,
+    pub version: Version,
+    pub saved: Saved,
+    /// Whether files come into the folder of offers only by being renamed.
+    pub renamed: bool,
+    pub acts: &'static [Act],
+    pub quarters: u64,
+    pub loudness: Loudness,
+    pub end: End,
+    /// A line for each file that was written among the releases, for each that left the offers, and for each text.
+    pub folders: &'static str,
+    pub err: &'static str,
+}
+
+/// A run of one station over layout 2 to which nothing happens, and which a file ends.
+pub const RUN: Run = Run {
+    members: 1,
+    version: Version::Two,
+    saved: Saved::Nothing,
+    renamed: false,
+    acts: &[],
+    quarters: 60,
+    loudness: Loudness::All,
+    end: End::Done,
+    folders: "",
+    err: "",
+};
+
+fn rows_of(alloc: Global, run: &Run) -> Option<MemoryRows> {
+    match run.saved {
+        Saved::Nothing => rows_with(alloc, run.version, None),
+        Saved::LastPromise => rows_with(alloc, run.version, Some((u32::MAX, 1))),
+        Saved::Vote => rows_with_vote(alloc, run.version),
+    }
+}
+
+pub fn station_of(alloc: Global, run: &Run) -> Option<Station<MemoryRows>> {
+    station_over(alloc, 1, run.members, rows_of(alloc, run)?)
+}
+
+pub fn place_word(to: Place) -> &'static str {
+    match to {
+        Place::Sent => "sent",
+        Place::Lost => "lost",
+        Place::Refused => "refused",
+        Place::Done => "done",
+    }
+}
+
+/// How many files were written among the releases.
+pub fn count_filed(folders: &MemoryFolders) -> usize {
+    let mut count: usize = 0;
+    for act in folders.acts() {
+        if let Doing::Wrote(_) = act {
+            count = count.saturating_add(1);
+        }
+    }
+    count
+}
+
+/// Writes a line for a file that was written among the releases; whether there was memory for it.
+fn write_filed(act: &Doing, text: &mut Vec<u8>) -> bool {
+    match act {
+        Doing::Wrote(named) => {
+            let (name, count) = (named.name(), named.bytes().len());
+            writeln!(text, "wrote {name} {count}").is_ok()
+        }
+        _ => true,
+    }
+}
+
+/// The same for a file that left the offers.
+fn write_moved(act: &Doing, text: &mut Vec<u8>) -> bool {
+    let (place, name) = match act {
+        Doing::SetAside(name, to) => (place_word(*to), name.as_str()),
+        Doing::TakenAway(name) => ("gone", name.as_str()),
+        _ => return true,
+    };
+    writeln!(text, "{place} {name}").is_ok()
+}
+
+/// The same for a text that was written beside a file.
+fn write_noted(act: &Doing, text: &mut Vec<u8>) -> bool {
+    match act {
+        Doing::Noted(noted) => {
+            let (place, name) = (place_word(noted.to), noted.name.as_str());
+            let line = noted.text.as_str();
+            write!(text, "{place} {name}: {line}").is_ok()
+        }
+        _ => true,
+    }
+}
+
+/// Writes what folders hold; whether there was memory for it.
+fn write_folders(folders: &MemoryFolders, text: &mut Vec<u8>) -> bool {
+    let mut is_whole = true;
+    for act in folders.acts() {
+        is_whole &= write_filed(act, text);
+    }
+    for act in folders.acts() {
+        is_whole &= write_moved(act, text);
+    }
+    for act in folders.acts() {
+        is_whole &= write_noted(act, text);
+    }
+    is_whole
+}
+
+/// Whether the folders hold what they have to.
+pub fn holds(alloc: Global, folders: &MemoryFolders, expected: &str) -> bool {
+    let mut text = Vec::new(alloc);
+    write_folders(folders, &mut text) && text.as_slice() == expected.as_bytes()
+}
+
+/// Member 1 of a circuit, alone: whose station each is.
+pub fn own() -> Option<Origin> {
+    Some(Origin {
+        circuit: 7,
+        member: Member::new(1)?,
+        count: 1,
+    })
+}
+
+/// The terms of a run that tells this writer, and takes no texts.
+pub fn terms(alloc: Global, loudness: Loudness, err: &mut Vec<u8>) -> Option<Terms<'_, Vec<u8>>> {
+    Some(Terms {
+        alloc,
+        own: own()?,
+        known: None,
+        texts: None,
+        renamed: false,
+        catches_up: true,
+        loudness,
+        err,
+    })
+}
+
+/// The same terms, where texts become tapes by this table, if by any.
+pub fn terms_by(
+    alloc: Global,
+    texts: Option<CodeTable>,
+    err: &mut Vec<u8>,
+) -> Option<Terms<'_, Vec<u8>>> {
+    Some(Terms {
+        alloc,
+        own: own()?,
+        known: None,
+        texts,
+        renamed: false,
+        catches_up: true,
+        loudness: Loudness::All,
+        err,
+    })
+}
+
+/// Whether a run ends and tells as it has to.
+fn ends(alloc: Global, stage: &mut Stage, run: &Run) -> bool {
+    let Some(mut station) = station_of(alloc, run) else {
+        return false;
+    };
+    let mut wire = Ticking {
+        moment: 0,
+        tick: 25,
+        until: run.quarters.saturating_mul(250),
+    };
+    let mut err = Vec::new(alloc);
+    let Some(mut terms) = terms(alloc, run.loudness, &mut err) else {
+        return false;
+    };
+    terms.renamed = run.renamed;
+    let end = run_station(&mut station, &mut wire, stage, terms);
+    end == run.end && err.as_slice() == run.err.as_bytes()
+}
+
+/// Whether a run comes to what it has to.
+pub fn is_true(alloc: Global, run: &Run) -> bool {
+    let mut stage = Stage::new(alloc, run.acts);
+    ends(alloc, &mut stage, run) && holds(alloc, &stage.folders, run.folders)
+}

@@ -1,0 +1,117 @@
+//! Files that are replaced, or taken away, while they are under way; three files of one number; and names that ask for nothing.
+
+use crate::plant::{RUN, Run, is_true, station_of, terms};
+use crate::stage::Held::{Flood, Harvest, Nothing, Why};
+use crate::stage::Name::{Seek14, Stop, Tape12, Tape14, Withdraw14};
+use crate::stage::What::{Laid, Strays, Taken};
+use crate::stage::{Act, Stage};
+use crate::wires::Ticking;
+use command_ends::End;
+use log_terms::Loudness;
+use run_command::run_station;
+use std::alloc::Global;
+
+/// Where nobody answers, a file that is replaced while it is under way is read once its ballots are given up, and not before; one that is
+/// taken away is not asked for again. In the usual log the second ballot is told, and that they are given up.
+const GIVEN_UP: &[Run] = &[
+    Run {
+        members: 3,
+        acts: &[Act(1, Laid(Tape12, Flood)), Act(10, Laid(Tape12, Harvest))],
+        quarters: 45,
+        end: End::Socket,
+        err: "\
+12 began 1.1\n12 began 2.1\n12 began 3.1\n12 began 4.1\n12 began 5.1\n12 began 6.1\n\
+12 began 7.1\n12 began 8.1\n12 began 9.1\n12 began 10.1\n12 began 11.1\n12 began 12.1\n\
+12 began 13.1\n12 began 14.1\n12 began 15.1\n12 began 16.1\n12 began 17.1\n12 began 18.1\n\
+12 began 19.1\n12 began 20.1\n12 began 21.1\n12 began 22.1\n12 began 23.1\n12 began 24.1\n\
+12 began 25.1\n12 began 26.1\n12 began 27.1\n12 began 28.1\n12 began 29.1\n12 began 30.1\n\
+12 began 31.1\n12 began 32.1\n12 gave-up 32.1\n12 replaced while it was under way\n12 began 33.1\nsocket: receive failed\n",
+        ..RUN
+    },
+    Run {
+        members: 3,
+        acts: &[Act(1, Laid(Tape12, Flood)), Act(10, Laid(Tape12, Harvest))],
+        quarters: 45,
+        loudness: Loudness::Usual,
+        end: End::Socket,
+        err: "12 began 2.1\n12 gave-up 32.1\n12 replaced while it was under way\nsocket: receive failed\n",
+        ..RUN
+    },
+    Run {
+        members: 3,
+        acts: &[Act(1, Laid(Tape12, Flood)), Act(10, Taken(Tape12))],
+        quarters: 60,
+        end: End::Socket,
+        folders: "gone 12.tape\n",
+        err: "\
+12 began 1.1\n12 began 2.1\n12 began 3.1\n12 began 4.1\n12 began 5.1\n12 began 6.1\n\
+12 began 7.1\n12 began 8.1\n12 began 9.1\n12 began 10.1\n12 began 11.1\n12 began 12.1\n\
+12 began 13.1\n12 began 14.1\n12 began 15.1\n12 began 16.1\n12 began 17.1\n12 began 18.1\n\
+12 began 19.1\n12 began 20.1\n12 began 21.1\n12 began 22.1\n12 began 23.1\n12 began 24.1\n\
+12 began 25.1\n12 began 26.1\n12 began 27.1\n12 began 28.1\n12 began 29.1\n12 began 30.1\n\
+12 began 31.1\n12 began 32.1\n12 gave-up 32.1\nsocket: receive failed\n",
+        ..RUN
+    },
+];
+
+#[test]
+fn under_way(rt: HostRuntime) {
+    for (place, run) in GIVEN_UP.iter().enumerate() {
+        assert!(rt; is_true(rt.alloc(), run), "{place}");
+    }
+}
+
+/// Of three files of one number, which ask for three things, the tape is released; each of the others leaves by that.
+const THREE: Run = Run {
+    acts: &[
+        Act(1, Laid(Seek14, Nothing)),
+        Act(1, Laid(Withdraw14, Why)),
+        Act(1, Laid(Tape14, Flood)),
+        Act(20, Laid(Stop, Nothing)),
+    ],
+    folders: "\
+wrote 14.tape 7\nwrote 14.galley 25\nsent 14.tape\nlost 14.withdraw\nsent 14.seek\n\
+lost 14.withdraw.txt: release 14 01020301030204\n",
+    err: "14 released\n14 sent\n14 lost\n14 sent\n",
+    ..RUN
+};
+
+#[test]
+fn three_wishes(rt: HostRuntime) {
+    assert!(rt; is_true(rt.alloc(), &THREE));
+}
+
+/// How many lines are told where so many files lie there whose names ask for nothing, beside a story; and the last.
+fn among_strays(alloc: Global) -> Option<(usize, bool)> {
+    let mut station = station_of(alloc, &RUN)?;
+    let mut wire = Ticking {
+        moment: 0,
+        tick: 25,
+        until: 15_000,
+    };
+    let acts = &[
+        Act(1, Strays(40)),
+        Act(1, Laid(Tape12, Flood)),
+        Act(20, Laid(Stop, Nothing)),
+    ];
+    let mut stage = Stage::new(alloc, acts);
+    let mut err = Vec::new(alloc);
+    let end = run_station(
+        &mut station,
+        &mut wire,
+        &mut stage,
+        terms(alloc, Loudness::All, &mut err)?,
+    );
+    let text = str::from_utf8(&err).ok()?;
+    let refused = text
+        .lines()
+        .filter(|line| line.ends_with(": no number"))
+        .count();
+    let first = text.starts_with("12 released\n12 sent\nrefused story0: no number\n");
+    Some((refused, first && end == End::Done))
+}
+
+#[test]
+fn strays_keep_no_story_waiting(rt: HostRuntime) {
+    assert!(rt; among_strays(rt.alloc()) == Some((40, true)));
+}

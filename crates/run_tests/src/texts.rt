@@ -1,0 +1,153 @@
+//! Texts among the offers.
+
+use crate::plant::{RUN, Run, Saved, holds, station_of, terms_by};
+use crate::stage::Held::{FloodText, LastLine, Nothing};
+use crate::stage::Name::{Stop, Text12};
+use crate::stage::What::{Laid, Letters};
+use crate::stage::{Act, Stage};
+use crate::wires::Ticking;
+use code_table::CodeTable;
+use fixtures::CODES;
+use run_command::run_station;
+use std::alloc::Global;
+use tape_frames::Version;
+
+/// A table in which `a` and `b` stand the other way round.
+const OTHER: &str = "\
+[[code]]\nframe = 1\nunshift = \"b\"\nshift = \"B\"\n\
+[[code]]\nframe = 2\nunshift = \"a\"\nshift = \"A\"\n\
+[[code]]\nframe = 3\nunshift = \"@spaceband\"\nshift = \"@spaceband\"\n\
+[[code]]\nframe = 4\nunshift = \"@elevate\"\nshift = \"@elevate\"\n";
+
+/// By which table texts become tapes.
+#[derive(Clone, Copy)]
+enum Texts {
+    /// By none: no text may be offered.
+    Off,
+    /// By that of the station.
+    Own,
+    /// By the other.
+    Other,
+}
+
+/// The table of these.
+fn table_of(alloc: Global, texts: Texts) -> Option<CodeTable> {
+    match texts {
+        Texts::Off => None,
+        Texts::Own => CodeTable::read(alloc, CODES).ok(),
+        Texts::Other => CodeTable::read(alloc, OTHER).ok(),
+    }
+}
+
+/// Whether a run ends and tells as it has to, where texts become tapes by this table.
+fn ends(alloc: Global, stage: &mut Stage, run: &Run, texts: Option<CodeTable>) -> bool {
+    let Some(mut station) = station_of(alloc, run) else {
+        return false;
+    };
+    let mut wire = Ticking {
+        moment: 0,
+        tick: 25,
+        until: run.quarters.saturating_mul(250),
+    };
+    let mut err = Vec::new(alloc);
+    let Some(terms) = terms_by(alloc, texts, &mut err) else {
+        return false;
+    };
+    let end = run_station(&mut station, &mut wire, stage, terms);
+    end == run.end && err.as_slice() == run.err.as_bytes()
+}
+
+/// Whether a run comes to what it has to.
+fn is_true(alloc: Global, texts: Texts, run: &Run) -> bool {
+    let table = table_of(alloc, texts);
+    let mut stage = Stage::new(alloc, run.acts);
+    ends(alloc, &mut stage, run, table) && holds(alloc, &stage.folders, run.folders)
+}
+
+/// A text is released as the tape that it becomes, and sent; where another stands by another table, it is lost. One that becomes no tape is
+/// refused with its line, one of a byte too many is not read, and layout 1 has no room for 4,097 frames. Where no text may be offered, its
+/// name asks for nothing.
+const RUNS: &[(Texts, Run)] = &[
+    (
+        Texts::Own,
+        Run {
+            acts: &[
+                Act(1, Laid(Text12, FloodText)),
+                Act(20, Laid(Stop, Nothing)),
+            ],
+            folders: "wrote 12.tape 7\nwrote 12.galley 25\nsent 12.text\n",
+            err: "12 released\n12 sent\n",
+            ..RUN
+        },
+    ),
+    (
+        Texts::Other,
+        Run {
+            saved: Saved::Vote,
+            acts: &[
+                Act(1, Laid(Text12, FloodText)),
+                Act(20, Laid(Stop, Nothing)),
+            ],
+            folders: "\
+wrote 12.tape 7\nwrote 12.galley 25\nlost 12.text\nlost 12.text.txt: release 12 01020301030204\n",
+            err: "12 released\n12 lost\n",
+            ..RUN
+        },
+    ),
+    (
+        Texts::Own,
+        Run {
+            acts: &[Act(1, Laid(Text12, LastLine)), Act(9, Laid(Stop, Nothing))],
+            folders: "refused 12.text\nrefused 12.text.txt: text: no code at line 2 column 3\n",
+            err: "refused 12.text: text: no code at line 2 column 3\n",
+            ..RUN
+        },
+    ),
+    (
+        Texts::Own,
+        Run {
+            acts: &[Act(1, Laid(Text12, Nothing)), Act(9, Laid(Stop, Nothing))],
+            folders: "refused 12.text\nrefused 12.text.txt: text: empty\n",
+            err: "refused 12.text: text: empty\n",
+            ..RUN
+        },
+    ),
+    (
+        Texts::Own,
+        Run {
+            acts: &[
+                Act(1, Letters(Text12, 1_048_577)),
+                Act(9, Laid(Stop, Nothing)),
+            ],
+            folders: "refused 12.text\nrefused 12.text.txt: input too long\n",
+            err: "refused 12.text: input too long\n",
+            ..RUN
+        },
+    ),
+    (
+        Texts::Own,
+        Run {
+            version: Version::One,
+            acts: &[Act(1, Letters(Text12, 4097)), Act(9, Laid(Stop, Nothing))],
+            folders: "refused 12.text\nrefused 12.text.txt: wire-too-old\n",
+            err: "refused 12.text: wire-too-old\n",
+            ..RUN
+        },
+    ),
+    (
+        Texts::Off,
+        Run {
+            acts: &[Act(1, Laid(Text12, FloodText)), Act(9, Laid(Stop, Nothing))],
+            folders: "refused 12.text\nrefused 12.text.txt: no number\n",
+            err: "refused 12.text: no number\n",
+            ..RUN
+        },
+    ),
+];
+
+#[test]
+fn texts_are_offered(rt: HostRuntime) {
+    for (place, (texts, run)) in RUNS.iter().enumerate() {
+        assert!(rt; is_true(rt.alloc(), *texts, run), "{place}");
+    }
+}

@@ -1,0 +1,167 @@
+//! What waits: a file that grows, a release while the disk is full, an offer while no majority is there.
+
+use crate::plant::{RUN, Run, is_true};
+use crate::stage::Act;
+use crate::stage::Held::{Flood, Ligature, Nothing, Start};
+use crate::stage::Name::{Seek12, Stop, Tape12};
+use crate::stage::What::{Fifo, Full, Laid, Stuck, Unread};
+use command_ends::End;
+
+/// A file that grows is not taken before it stood still for half a second.
+const GROWING: &[Run] = &[
+    Run {
+        acts: &[
+            Act(1, Laid(Tape12, Start(1))),
+            Act(2, Laid(Tape12, Start(2))),
+            Act(3, Laid(Tape12, Start(3))),
+            Act(4, Laid(Tape12, Flood)),
+            Act(5, Laid(Stop, Nothing)),
+        ],
+        ..RUN
+    },
+    Run {
+        acts: &[
+            Act(1, Laid(Tape12, Start(1))),
+            Act(2, Laid(Tape12, Start(2))),
+            Act(3, Laid(Tape12, Flood)),
+            Act(8, Laid(Stop, Nothing)),
+        ],
+        folders: "wrote 12.tape 7\nwrote 12.galley 25\nsent 12.tape\n",
+        err: "12 released\n12 sent\n",
+        ..RUN
+    },
+];
+
+#[test]
+fn growing(rt: HostRuntime) {
+    for (place, run) in GROWING.iter().enumerate() {
+        assert!(rt; is_true(rt.alloc(), run), "{place}");
+    }
+}
+
+/// A release that can't be written is written later, and the file that asked for it stays until then.
+const FULL_DISK: &[Run] = &[
+    Run {
+        acts: &[
+            Act(1, Full(true)),
+            Act(1, Laid(Tape12, Flood)),
+            Act(20, Laid(Stop, Nothing)),
+        ],
+        err: "folders: cannot write releases: the disk is full\n12 released\n",
+        ..RUN
+    },
+    Run {
+        acts: &[
+            Act(1, Full(true)),
+            Act(1, Laid(Tape12, Flood)),
+            Act(10, Full(false)),
+            Act(20, Laid(Stop, Nothing)),
+        ],
+        folders: "wrote 12.tape 7\nwrote 12.galley 25\nsent 12.tape\n",
+        err: "folders: cannot write releases: the disk is full\n12 released\n12 sent\n",
+        ..RUN
+    },
+];
+
+#[test]
+fn full_disk(rt: HostRuntime) {
+    for (place, run) in FULL_DISK.iter().enumerate() {
+        assert!(rt; is_true(rt.alloc(), run), "{place}");
+    }
+}
+
+/// A file that can't be moved once its number is released is moved a second later.
+const MOVED_LATER: Run = Run {
+    acts: &[
+        Act(1, Stuck(true)),
+        Act(1, Laid(Tape12, Flood)),
+        Act(8, Stuck(false)),
+        Act(20, Laid(Stop, Nothing)),
+    ],
+    folders: "wrote 12.tape 7\nwrote 12.galley 25\nsent 12.tape\n",
+    err: "12 released\nfolders: cannot move 12.tape: it is not allowed\n12 sent\n",
+    ..RUN
+};
+
+#[test]
+fn moved_later(rt: HostRuntime) {
+    assert!(rt; is_true(rt.alloc(), &MOVED_LATER));
+}
+
+/// Offers that can't be listed are told once, and again when they could be meanwhile; and so is what is no plain file.
+const TOLD_ONCE: Run = Run {
+    acts: &[
+        Act(2, Unread(true)),
+        Act(5, Unread(false)),
+        Act(7, Unread(true)),
+        Act(9, Unread(false)),
+        Act(11, Fifo(true)),
+        Act(14, Fifo(false)),
+        Act(16, Fifo(true)),
+        Act(20, Laid(Stop, Nothing)),
+    ],
+    err: "\
+folders: cannot read offers: it is not allowed\nfolders: cannot read offers: it is not allowed\n\
+folders: cannot read a\\nfifo: it is no plain file\nfolders: cannot read a\\nfifo: it is no plain file\n",
+    ..RUN
+};
+
+#[test]
+fn told_once(rt: HostRuntime) {
+    assert!(rt; is_true(rt.alloc(), &TOLD_ONCE));
+}
+
+/// A file that was written anew once it was taken up is no longer the one that was: it is taken up again, and loses the number.
+const WRITTEN_ANEW: Run = Run {
+    acts: &[
+        Act(1, Full(true)),
+        Act(1, Laid(Tape12, Flood)),
+        Act(7, Laid(Tape12, Ligature)),
+        Act(10, Full(false)),
+        Act(40, Laid(Stop, Nothing)),
+    ],
+    folders: "wrote 12.tape 7\nwrote 12.galley 25\nlost 12.tape\nlost 12.tape.txt: release 12 01020301030204\n",
+    err: "folders: cannot write releases: the disk is full\n12 released\n12 lost\n",
+    ..RUN
+};
+
+#[test]
+fn written_anew(rt: HostRuntime) {
+    assert!(rt; is_true(rt.alloc(), &WRITTEN_ANEW));
+}
+
+/// Where nobody answers one ballot follows the other; the run goes on until the network fails.
+const ALONE: Run = Run {
+    members: 3,
+    acts: &[Act(1, Laid(Seek12, Nothing))],
+    quarters: 4,
+    end: End::Socket,
+    err: "12 began 1.1\n12 began 2.1\nsocket: receive failed\n",
+    ..RUN
+};
+
+#[test]
+fn alone(rt: HostRuntime) {
+    assert!(rt; is_true(rt.alloc(), &ALONE));
+}
+
+/// After 32 ballots a file is given up, and begun again after a pause.
+const GIVEN_UP: Run = Run {
+    members: 3,
+    acts: &[Act(1, Laid(Seek12, Nothing))],
+    quarters: 50,
+    end: End::Socket,
+    err: "\
+12 began 1.1\n12 began 2.1\n12 began 3.1\n12 began 4.1\n12 began 5.1\n12 began 6.1\n\
+12 began 7.1\n12 began 8.1\n12 began 9.1\n12 began 10.1\n12 began 11.1\n12 began 12.1\n\
+12 began 13.1\n12 began 14.1\n12 began 15.1\n12 began 16.1\n12 began 17.1\n12 began 18.1\n\
+12 began 19.1\n12 began 20.1\n12 began 21.1\n12 began 22.1\n12 began 23.1\n12 began 24.1\n\
+12 began 25.1\n12 began 26.1\n12 began 27.1\n12 began 28.1\n12 began 29.1\n12 began 30.1\n\
+12 began 31.1\n12 began 32.1\n12 gave-up 32.1\n12 began 33.1\nsocket: receive failed\n",
+    ..RUN
+};
+
+#[test]
+fn given_up(rt: HostRuntime) {
+    assert!(rt; is_true(rt.alloc(), &GIVEN_UP));
+}

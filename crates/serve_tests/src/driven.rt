@@ -1,0 +1,118 @@
+//! The works of a station that stays up, by a desk that counts what it is told.
+
+use crate::wires::{Manner, Scripted};
+use ballots::Number;
+use command_ends::{End, Fault};
+use driver::{Call, Chance, Declined, Denied, Desk, Driver, Heard, Log, Sink, Step, Tasks, Todo};
+use exchange::Intake;
+use folders::{Kind, Request};
+use pace::Deeds;
+use station::StepRefusal;
+use station_fixtures::{rows_with, station_over};
+use std::alloc::Global;
+use std::io::Write;
+use tape_frames::Version;
+
+/// A desk that has a station asked twice to withdraw number 13, and whose sixth look ends the run. It counts what it is told.
+#[derive(Drop)]
+struct Counting {
+    asks: usize,
+    released: usize,
+    denied: usize,
+    looks: usize,
+}
+
+impl Sink for Counting {
+    ghost lived = { λ _ _ _. Unit {0} };
+
+    ghost front = { λ _ _ _. Unit {0} };
+
+    ghost may = { λ _ _. Unit {0} };
+
+    fn take<E: Write>(&mut self, step: &Step, _log: &mut Log<'_, E>) -> Result<(), Fault<'static>> {
+        if step.answer.release.is_some() {
+            self.released = self.released.saturating_add(1);
+        }
+        Ok(())
+    }
+
+    fn hear<E: Write>(&mut self, _heard: &Heard, _now: u64, _log: &mut Log<'_, E>) {}
+
+    ghost fates = { record {
+      rests = λ _. tt;
+      clock = λ _ _. tt;
+      besides = λ _ _. tt;
+      refuses = λ _ _ _ _. tt;
+      joins = λ _ _ _ _ _ _ _. tt;
+      begins = λ _ _ _ _. tt;
+      joins_front = λ _ _ _ _ _ _ _. tt;
+      free = λ _ _ _. tt;
+    } };
+}
+
+impl Desk for Counting {
+    fn tasks(&mut self) -> Tasks {
+        let deeds = if self.asks < 2 {
+            Deeds::Asks
+        } else {
+            Deeds::Nothing
+        };
+        Tasks {
+            deeds,
+            under_way: 0,
+        }
+    }
+
+    fn look<E: Write>(&mut self, _now: u64, _log: &mut Log<'_, E>) -> bool {
+        self.looks = self.looks.saturating_add(1);
+        self.looks > 5
+    }
+
+    fn deed<E: Write>(&mut self, _chance: Chance, _log: &mut Log<'_, E>) -> Option<Todo> {
+        self.asks = self.asks.saturating_add(1);
+        let number = Number::new(13)?;
+        Some(Todo::Ask(Request {
+            number,
+            kind: Kind::Withdraw,
+        }))
+    }
+
+    fn call(&self, request: &Request) -> Option<Call<'_>> {
+        let number = request.number.get();
+        Some(Call::Withdraw { number })
+    }
+
+    fn deny<E: Write>(&mut self, denied: Denied, _log: &mut Log<'_, E>) {
+        if denied.refusal == StepRefusal::AlreadyReleased {
+            self.denied = self.denied.saturating_add(1);
+        }
+    }
+
+    fn decline<E: Write>(&mut self, _declined: Declined, _log: &mut Log<'_, E>) {}
+}
+
+/// How many releases and refusals a desk counts whose member is alone, where the run comes to its end.
+fn counts(alloc: Global) -> Option<(usize, usize)> {
+    let mut intake = Intake::new(alloc).ok()?;
+    let rows = rows_with(alloc, Version::Two, None)?;
+    let mut station = station_over(alloc, 1, 1, rows)?;
+    let mut wire = Scripted::new(alloc, Manner::Passing);
+    let desk = Counting {
+        asks: 0,
+        released: 0,
+        denied: 0,
+        looks: 0,
+    };
+    let mut told = Vec::new(alloc);
+    let mut driver = Driver::new(&mut station, &mut wire, desk, &mut intake);
+    if driver.run(&mut told, false) != End::Done {
+        return None;
+    }
+    let desk = driver.sink();
+    Some((desk.released, desk.denied))
+}
+
+#[test]
+fn a_desk_is_told_what_came_of_its_asks(rt: HostRuntime) {
+    assert_eq!(rt; counts(rt.alloc()), Some((1, 1)));
+}

@@ -1,0 +1,144 @@
+//! A station at work, and the steps that it is driven by.
+
+use command_ends::End;
+use exchange::Intake;
+use fixtures::{Given, frames_of};
+use saved_rows::Rows;
+use serve_command::{serve_run, serve_turn};
+use station::Station;
+use station_fixtures::station_over;
+use std::alloc::Global;
+use tape_frames::{Tape, TapeFault};
+use wire::Wire;
+
+/// The text of the release of the flood story for number 12.
+pub const RELEASE: &str = "release 12 01020301030204\n0001 J 0 0 a b _4 a _4 b\n";
+
+/// What happens to a station, then a run of it: the offer of this tape, a withdrawal, a search, and so many turns; how
+/// it has to end, what it has to print, and how many datagrams have then been sent.
+#[derive(Clone, Copy)]
+pub struct Run {
+    /// Its next save is refused, after it was passed on.
+    pub armed: bool,
+    pub restarted: bool,
+    /// The moment that the clock tells.
+    pub at: u64,
+    /// The datagrams that come, in hexadecimal digits.
+    pub coming: &'static [&'static [u8]],
+    pub offer: Option<(u32, Given)>,
+    pub withdraw: Option<u32>,
+    pub seek: Option<u32>,
+    pub turns: u32,
+    pub end: End,
+    pub out: &'static str,
+    pub err: &'static str,
+    pub sent: usize,
+}
+
+/// A turn in which nothing is printed.
+pub const TURN: Run = Run {
+    armed: false,
+    restarted: false,
+    at: 0,
+    coming: &[],
+    offer: None,
+    withdraw: None,
+    seek: None,
+    turns: 1,
+    end: End::Done,
+    out: "",
+    err: "",
+    sent: 0,
+};
+
+/// The offer of the story for number 12, and a turn.
+pub const OFFER: Run = Run {
+    offer: Some((12, Given::Flood)),
+    ..TURN
+};
+
+/// The withdrawal of number 12, and a turn.
+pub const WITHDRAWAL: Run = Run {
+    withdraw: Some(12),
+    ..TURN
+};
+
+/// A search of number 12, and a turn.
+pub const SEARCH: Run = Run {
+    seek: Some(12),
+    ..TURN
+};
+
+/// What a run offers.
+pub fn offer_of(alloc: Global, run: &Run) -> Result<Option<(u32, Tape)>, TapeFault> {
+    match run.offer {
+        None => Ok(None),
+        Some((number, given)) => Ok(Some((number, Tape::from_bytes(alloc, frames_of(given))?))),
+    }
+}
+
+/// A station, its wire, and what it has printed.
+#[derive(Drop)]
+pub struct Plant<R: Rows, N: Wire + Drop> {
+    pub alloc: Global,
+    pub station: Station<R>,
+    pub wire: N,
+    pub out: Vec<u8>,
+    pub err: Vec<u8>,
+}
+
+impl<R: Rows, N: Wire + Drop> Plant<R, N> {
+    pub fn new(alloc: Global, me: u8, members: u8, rows: R, wire: N) -> Option<Plant<R, N>> {
+        Some(Plant {
+            alloc,
+            station: station_over(alloc, me, members, rows)?,
+            wire,
+            out: Vec::new(alloc),
+            err: Vec::new(alloc),
+        })
+    }
+
+    /// How a run ends. What it prints stands in place of what was printed before.
+    fn end_of(&mut self, run: &Run) -> End {
+        self.out.clear();
+        self.err.clear();
+        let Ok(offer) = offer_of(self.alloc, run) else {
+            return End::Memory;
+        };
+        serve_run(
+            self.alloc,
+            &mut self.station,
+            &mut self.wire,
+            offer,
+            run.withdraw,
+            run.seek,
+            run.turns,
+            &mut self.out,
+            &mut self.err,
+        )
+    }
+
+    /// Whether this text and these faults have been printed, and no more.
+    pub fn has_printed(&self, out: &str, err: &str) -> bool {
+        self.out.as_slice() == out.as_bytes() && self.err.as_slice() == err.as_bytes()
+    }
+
+    /// Whether a run ends and prints as it has to.
+    pub fn takes(&mut self, run: &Run) -> bool {
+        self.end_of(run) == run.end && self.has_printed(run.out, run.err)
+    }
+
+    /// How one more turn ends. What it prints comes after what was printed before.
+    pub fn turn(&mut self, intake: &mut Intake) -> End {
+        let now = self.wire.now();
+        serve_turn(
+            self.alloc,
+            &mut self.station,
+            &mut self.wire,
+            now,
+            intake,
+            &mut self.out,
+            &mut self.err,
+        )
+    }
+}

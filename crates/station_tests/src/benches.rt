@@ -1,0 +1,307 @@
+//! Stories of one station: the rows that it starts from, what is done to it, and what it leaves saved.
+
+use crate::datagrams::{Message, bytes_of};
+use crate::turns::{Act, Ends, Handed, Open, Turn};
+use ballots::{Number, Row};
+use fixtures::{Given, WIDTHS, frames_of};
+use saved_rows::{Balky, MemoryRows, Rows};
+use station::{Answer, BadMember, Datagram, Release, Station, StepRefusal};
+use station_fixtures::{
+    Noted, Unread, ballot, is_given, is_note, rows_with, setting, station_over,
+};
+use std::alloc::Global;
+use tape_frames::{Tape, Version};
+
+/// What a station leaves saved of number 12.
+#[derive(Clone, Copy)]
+pub enum Left {
+    /// It is not asked.
+    Unasked,
+    /// A row.
+    Row,
+    /// A row with a promise of this round and owner, and no vote.
+    Promise(u32, u8),
+}
+
+/// A station of circuit 7, the version of its rows, the ballot that it promised for number 12 before, and what is done to it.
+#[derive(Clone, Copy)]
+pub struct Story {
+    pub me: u8,
+    pub members: u8,
+    pub version: Version,
+    pub promised: Option<(u32, u8)>,
+    pub turns: &'static [Turn],
+    pub left: Left,
+}
+
+/// A member of one with blank rows, at version 1.
+pub const ALONE: Story = Story {
+    me: 1,
+    members: 1,
+    version: Version::One,
+    promised: None,
+    turns: &[],
+    left: Left::Unasked,
+};
+
+/// Member 1 of three with blank rows.
+pub const FIRST: Story = Story {
+    members: 3,
+    ..ALONE
+};
+
+/// Member 2 of three with blank rows.
+pub const SECOND: Story = Story { me: 2, ..FIRST };
+
+/// Rows that a story changes beside the steps of its station.
+trait Changing: Rows {
+    /// Whether a change of the rows alone is made.
+    fn change(&mut self, alloc: Global, act: Act) -> bool;
+
+    /// The row that is saved for a number.
+    fn row(&self, number: Number) -> Option<&Row>;
+}
+
+impl Changing for Unread<Balky<MemoryRows>> {
+    fn change(&mut self, alloc: Global, act: Act) -> bool {
+        match act {
+            Act::Arm(saved) => self.arm(saved),
+            Act::Refuse(fault) => self.refuse(fault),
+            Act::Replace(version, promised) => match story_rows(alloc, version, promised) {
+                Some(others) => *self = others,
+                None => return false,
+            },
+            _ => return false,
+        }
+        true
+    }
+
+    fn row(&self, number: Number) -> Option<&Row> {
+        self.rows().rows().row(number)
+    }
+}
+
+/// Rows of a story at this version, blank or with this promise for number 12, unarmed and read.
+fn story_rows(
+    alloc: Global,
+    version: Version,
+    promised: Option<(u32, u8)>,
+) -> Option<Unread<Balky<MemoryRows>>> {
+    let rows = rows_with(alloc, version, promised)?;
+    Some(Unread::new(Balky::new(rows)))
+}
+
+/// Whether the first of these datagrams is the one that is told.
+fn is_first(out: &[Datagram], told: Option<(u8, Message)>) -> bool {
+    match (told, out.first()) {
+        (None, _) => true,
+        (Some((to, bytes)), Some(datagram)) => {
+            datagram.to().get() == to && datagram.bytes() == bytes_of(bytes)
+        }
+        (Some(_), None) => false,
+    }
+}
+
+/// Whether this is a release for number 12 of what is told.
+fn is_handed(release: &Release, told: Handed) -> bool {
+    let Ok(slugs) = &release.set else {
+        return false;
+    };
+    release.number.get() == 12
+        && match told {
+            Handed::Nothing => false,
+            Handed::Flood => is_given(&release.entry, Given::Flood) && slugs.len() == 1,
+            Handed::Withdrawal => is_given(&release.entry, Given::Void) && slugs.is_empty(),
+        }
+}
+
+/// Whether an answer is the one that is told.
+fn answers(answer: &Answer, turn: &Turn, note: Noted) -> bool {
+    let same_release = match &answer.release {
+        Some(release) => is_handed(release, turn.releases),
+        None => matches!(turn.releases, Handed::Nothing),
+    };
+    same_release
+        && answer.out.len() == turn.sent
+        && is_first(answer.out.as_slice(), turn.datagram)
+        && is_note(answer.note, note)
+}
+
+/// Whether a step ended as it is told.
+fn is_told(step: Result<Answer, StepRefusal>, turn: &Turn) -> bool {
+    match (step, turn.ends) {
+        (Ok(answer), Ends::Done(note)) => answers(&answer, turn, note),
+        (Err(reason), Ends::Refused(refusal)) => reason == refusal,
+        _ => false,
+    }
+}
+
+/// Whether an upgrade ended as it is told.
+fn is_upgraded(upgrade: Result<(), StepRefusal>, ends: Ends) -> bool {
+    match (upgrade, ends) {
+        (Ok(()), Ends::Always) => true,
+        (Err(reason), Ends::Refused(refusal)) => reason == refusal,
+        _ => false,
+    }
+}
+
+/// What comes of a step; nothing where this is no step.
+fn step<R: Rows>(
+    alloc: Global,
+    station: &mut Station<R>,
+    act: Act,
+) -> Option<Result<Answer, StepRefusal>> {
+    Some(match act {
+        Act::Offer(number, given) => {
+            let tape = Tape::from_bytes(alloc, frames_of(given)).ok()?;
+            station.offer(number, &tape, 0)
+        }
+        Act::Withdraw(number) => station.withdraw(number, 0),
+        Act::Seek => station.seek(12, 0),
+        Act::Due(now) => station.due(now),
+        Act::Receive(bytes) => station.receive(bytes_of(bytes), 0),
+        _ => return None,
+    })
+}
+
+/// Whether a step, a restart or an upgrade ends as it is told.
+fn goes<R: Rows>(alloc: Global, station: &mut Station<R>, turn: &Turn) -> bool {
+    match turn.act {
+        Act::Restart => {
+            station.restart();
+            true
+        }
+        Act::Upgrade => is_upgraded(station.upgrade(), turn.ends),
+        act => match step(alloc, station, act) {
+            Some(end) => is_told(end, turn),
+            None => false,
+        },
+    }
+}
+
+/// Whether what is done ends as it is told.
+fn acts<R: Changing>(alloc: Global, station: &mut Station<R>, turn: &Turn) -> bool {
+    match turn.act {
+        Act::Arm(_) | Act::Refuse(_) | Act::Replace(..) => {
+            station.rows_mut().change(alloc, turn.act)
+        }
+        _ => goes(alloc, station, turn),
+    }
+}
+
+/// Whether this is open of number 12.
+fn is_open<R: Rows>(station: &Station<R>, number: Number, open: Open) -> bool {
+    let found = station.open_ballot(number);
+    match open {
+        Open::Unasked => true,
+        Open::Nothing => found.is_none(),
+        Open::At(round, owner) => found.is_some() && found == ballot(round, owner),
+    }
+}
+
+/// Whether a turn comes to what it has to.
+fn takes<R: Changing>(
+    alloc: Global,
+    station: &mut Station<R>,
+    number: Number,
+    turn: &Turn,
+) -> bool {
+    acts(alloc, station, turn)
+        && station.stopped() == turn.stopped
+        && station.released(number) == turn.released
+        && is_open(station, number, turn.open)
+}
+
+/// How many turns come to what they have to, up to the first that does not.
+fn taken<R: Changing>(
+    alloc: Global,
+    station: &mut Station<R>,
+    number: Number,
+    turns: &[Turn],
+) -> usize {
+    for (place, turn) in turns.iter().enumerate() {
+        if !takes(alloc, station, number, turn) {
+            return place;
+        }
+    }
+    turns.len()
+}
+
+/// Whether a row has a promise of this round and owner, and no vote.
+fn is_promise(row: &Row, round: u32, owner: u8) -> bool {
+    let promised = row.promised();
+    promised.is_some() && promised == ballot(round, owner) && row.vote().is_none()
+}
+
+/// Whether a station leaves this saved.
+fn leaves<R: Changing>(station: Station<R>, number: Number, left: Left) -> bool {
+    match left {
+        Left::Unasked => true,
+        Left::Row => station.rows().row(number).is_some(),
+        Left::Promise(round, owner) => {
+            let rows = station.into_rows();
+            match rows.row(number) {
+                Some(row) => is_promise(row, round, owner),
+                None => false,
+            }
+        }
+    }
+}
+
+/// How many turns of a story over these rows come to what they have to, up to the first that does not, and one more where the
+/// station then leaves saved what it has to.
+fn come<R: Changing>(alloc: Global, story: &Story, rows: R) -> Option<usize> {
+    let number = Number::new(12)?;
+    let mut station = station_over(alloc, story.me, story.members, rows)?;
+    let count = taken(alloc, &mut station, number, story.turns);
+    let is_left = count == story.turns.len() && leaves(station, number, story.left);
+    Some(if is_left {
+        count.saturating_add(1)
+    } else {
+        count
+    })
+}
+
+/// The same of a story over rows of its own.
+fn told(alloc: Global, story: &Story) -> Option<usize> {
+    let rows = story_rows(alloc, story.version, story.promised)?;
+    come(alloc, story, rows)
+}
+
+/// The place of the first turn of a story that does not come to what it has to; nothing where all do.
+pub fn fails_at(alloc: Global, story: &Story) -> Option<usize> {
+    match told(alloc, story) {
+        Some(count) if count > story.turns.len() => None,
+        Some(place) => Some(place),
+        None => Some(0),
+    }
+}
+
+/// What a station that is no member of its circuit was made of, handed back; nothing where it is a member.
+fn handed_back<R: Rows>(
+    alloc: Global,
+    (me, members): (u8, u8),
+    parts: BadMember<R>,
+) -> Option<BadMember<R>> {
+    Station::new(alloc, 7, me, members, parts.table, parts.widths, parts.rows).err()
+}
+
+/// Whether stations over these rows that are no members of their circuits are refused, each made of what the one before handed
+/// back.
+fn are_refused<R: Rows>(alloc: Global, rows: R, cases: &[(u8, u8)]) -> Option<bool> {
+    let (table, widths) = setting(alloc, WIDTHS)?;
+    let mut parts = BadMember {
+        table,
+        widths,
+        rows,
+    };
+    for case in cases {
+        parts = handed_back(alloc, *case, parts)?;
+    }
+    Some(true)
+}
+
+/// Whether stations that are no members of their circuits are refused.
+pub fn are_no_members(alloc: Global, cases: &[(u8, u8)]) -> bool {
+    are_refused(alloc, MemoryRows::new(alloc), cases) == Some(true)
+}

@@ -1,0 +1,122 @@
+//! What is done to a station, and what has to come of it.
+
+use crate::datagrams::Message;
+use fixtures::Given;
+use saved_rows::RowsFault;
+use station::StepRefusal;
+use station_fixtures::Noted;
+use tape_frames::Version;
+
+/// What is done to a station, for number 12 and at moment 0 where nothing else is said.
+#[derive(Clone, Copy)]
+pub enum Act {
+    Offer(u32, Given),
+    Withdraw(u32),
+    Seek,
+    Due(u64),
+    Receive(Message),
+    /// Its next save is refused, after it was passed on where this says so.
+    Arm(bool),
+    /// Its rows are then not read, for this reason.
+    Refuse(RowsFault),
+    /// Rows at this version take the place of its own, blank or with this promise for number 12.
+    Replace(Version, Option<(u32, u8)>),
+    Restart,
+    Upgrade,
+}
+
+/// What is released for number 12.
+#[derive(Clone, Copy)]
+pub enum Handed {
+    Nothing,
+    /// The flood story, as one slug.
+    Flood,
+    /// That it is withdrawn, with no slug.
+    Withdrawal,
+}
+
+/// How it ends.
+#[derive(Clone, Copy)]
+pub enum Ends {
+    Done(Noted),
+    Refused(StepRefusal),
+    /// It answers no note, and is done; what is no step is always done.
+    Always,
+}
+
+/// What is open of number 12.
+#[derive(Clone, Copy)]
+pub enum Open {
+    /// It is not asked.
+    Unasked,
+    Nothing,
+    /// A proposal at the ballot of this round and owner.
+    At(u32, u8),
+}
+
+/// What is done to a station, and what has to come of it.
+#[derive(Clone, Copy)]
+pub struct Turn {
+    pub act: Act,
+    pub ends: Ends,
+    /// How many datagrams it sends.
+    pub sent: usize,
+    /// The member that the first of them goes to, and its bytes, where they are asked.
+    pub datagram: Option<(u8, Message)>,
+    pub releases: Handed,
+    /// Whether the station is then stopped.
+    pub stopped: bool,
+    /// Whether it has then released number 12 since it started.
+    pub released: bool,
+    pub open: Open,
+}
+
+/// An offer of the flood story for number 12, which begins the first ballot of member 1 of three.
+pub const OFFER: Turn = Turn {
+    act: Act::Offer(12, Given::Flood),
+    ends: Ends::Done(Noted::Began(1, 1)),
+    sent: 2,
+    datagram: None,
+    releases: Handed::Nothing,
+    stopped: false,
+    released: false,
+    open: Open::At(1, 1),
+};
+
+/// A step that sends nothing, after which no proposal is open.
+pub const QUIET: Turn = Turn {
+    ends: Ends::Always,
+    sent: 0,
+    open: Open::Nothing,
+    ..OFFER
+};
+
+/// The flood story is released.
+pub const RELEASED: Turn = Turn {
+    ends: Ends::Done(Noted::Proposed(1, 1)),
+    releases: Handed::Flood,
+    released: true,
+    open: Open::Unasked,
+    ..QUIET
+};
+
+/// The number is withdrawn.
+pub const WITHDRAWN: Turn = Turn {
+    act: Act::Withdraw(12),
+    releases: Handed::Withdrawal,
+    ..RELEASED
+};
+
+/// The version of the rows does not have what is offered.
+pub const TOO_OLD: Turn = Turn {
+    act: Act::Withdraw(12),
+    ends: Ends::Refused(StepRefusal::WireTooOld),
+    ..QUIET
+};
+
+/// The store refuses the save, and the station stops.
+pub const STOPPED: Turn = Turn {
+    ends: Ends::Refused(StepRefusal::Store(RowsFault::Store)),
+    stopped: true,
+    ..QUIET
+};
