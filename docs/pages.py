@@ -106,7 +106,7 @@ def sentence_of(name):
 
 def drawn_crates():
     crates = read_crates()
-    tests = {name for name in crates if name.endswith("_tests")} | {"fixtures"}
+    tests = {name for name in crates if name.endswith("_tests")} | {"fixtures", "station_fixtures"}
     program = {name: names for name, names in crates.items() if name not in tests}
     what = "\n".join(f"| {name} | {sentence_of(name)} |" for name in program)
     over = "\n".join(f"| {name} | {', '.join(n for n in crates[name] if n not in tests)} |" for name in crates if name in tests and crates[name])
@@ -115,7 +115,7 @@ def drawn_crates():
         + f"```\n{picture(program)}\n```\n\n"
         + "What a crate stands on through another one is left out, so `circuitd` stands on nearly all.\n\n"
         + f"## What each is\n\n| Crate | In a sentence |\n|---|---|\n{what}\n\n"
-        + "## The crates of tests\n\nThey hold nothing else. `fixtures` has the files and the tapes of the examples, and random values by a seed.\n\n"
+        + "## The crates of tests\n\nThey hold nothing else. `fixtures` has the files and the tapes of the examples, and random values by a seed; `station_fixtures` has stations over them.\n\n"
         + f"| Crate | Over |\n|---|---|\n{over}\n"
     )
 
