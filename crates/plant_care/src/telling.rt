@@ -1,6 +1,7 @@
 //! What is told of catching up: which numbers are asked for, what came of them, and what went out before that was kept.
 
 ghost use Rattle.std.specs.Prelude.{◌≡◌};
+ghost use Rattle.catch_up_log.specs.Missed.{missed_after};
 ghost use Rattle.plant_care.specs.Caring.{KeepsRest};
 ghost use Rattle.plant_care.specs.Starting.{IsOff};
 
@@ -59,11 +60,18 @@ impl Care {
         }
     }
 
+    /// Tells at a moment which numbers are asked for from now on, as far as that is not told yet: at most once a second.
+    pub fn tell_missed<E: Write>(&mut self, now: u64, log: &mut Log<'_, E>)
+        ensures { self.new ≡ record self.old { missed = missed_after self.old.missed now } }
+    {
+        self.missed.tell(self.alloc, now, log.err);
+    }
+
     /// Tells at a moment what there is to tell.
     fn tell<E: Write>(&mut self, now: u64, log: &mut Log<'_, E>)
         ensures { KeepsRest self.old self.new }
     {
-        self.missed.tell(self.alloc, now, log.err);
+        self.tell_missed(now, log);
         if self.missed.is_empty() {
             self.tell_wave(log);
         }

@@ -241,6 +241,8 @@ impl<'f, 'p, F: Folders> Plant<'f, 'p, F> {
             return None;
         }
         if let Some(errand) = self.papers.care.next(chance) {
+            // What is asked for is told before what comes of it.
+            self.papers.care.tell_missed(chance.moment, log);
             return Some(Todo::Run(errand));
         }
         match self.deed_with_file(chance.may_ask, chance.moment, log) {

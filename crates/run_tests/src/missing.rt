@@ -84,7 +84,7 @@ const CASES: &[(Kept, &str, &str)] = &[
     (
         Kept::None,
         "wrote 12.tape 7\nwrote 12.galley 25\n",
-        "12 released\n12 missed, asked for\ncaught up: 1 released, 0 nothing\nsocket: receive failed\n",
+        "12 missed, asked for\n12 released\ncaught up: 1 released, 0 nothing\nsocket: receive failed\n",
     ),
     (Kept::Number12, "", "socket: receive failed\n"),
     (
