@@ -1,5 +1,6 @@
 """What the plays of the built program stand on: a folder with the files of the examples, runs of the program, and how a play ends."""
 import os
+import random
 import shutil
 import signal
 import socket
@@ -153,10 +154,15 @@ def udp():
 
 
 def free_port():
-    """A port that nobody has."""
-    with udp() as probe:
-        probe.bind(('127.0.0.1', 0))
-        return probe.getsockname()[1]
+    """A port that nobody has: one below those that a system hands out by itself, since other plays go on beside this one."""
+    while True:
+        port = random.randrange(10_000, 32_000)
+        with udp() as probe:
+            try:
+                probe.bind(('127.0.0.1', port))
+                return port
+            except OSError:
+                pass
 
 
 def within(seconds, holds, what):
