@@ -45,6 +45,7 @@ def run(program, folder, words, is_off):
     try:
         if is_off:
             for plant in plants:
+                wait(lambda made=os.path.join(plant.home, 'station.db'): os.path.exists(made), 10)
                 plant.process.kill()
                 plant.process.wait()
                 with open(os.path.join(plant.home, 'station.toml')) as config:
