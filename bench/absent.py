@@ -141,10 +141,7 @@ def main():
     parser.add_argument('--members', type=int, default=3)
     parser.add_argument('--runs', type=int, default=1)
     parser.add_argument('program')
-    words = parser.parse_args()
-    with tempfile.TemporaryDirectory(dir=os.getcwd()) as room:
-        ends = [run(os.path.abspath(words.program), tempfile.mkdtemp(dir=room), words) for _ in range(words.runs)]
-    return 0 if all(ends) else 1
+    return missed.runs(run, parser.parse_args())
 
 
 if __name__ == '__main__':

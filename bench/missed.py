@@ -164,6 +164,13 @@ def run(program, folder, words):
     return is_there and (same or not words.restart) and most <= MOST
 
 
+def runs(run, words):
+    """So many runs as are asked for, each in a folder of its own; the status."""
+    with tempfile.TemporaryDirectory(dir=os.getcwd()) as room:
+        ends = [run(os.path.abspath(words.program), tempfile.mkdtemp(dir=room), words) for _ in range(words.runs)]
+    return 0 if all(ends) else 1
+
+
 def main():
     parser = argparse.ArgumentParser(description=__doc__, formatter_class=argparse.RawDescriptionHelpFormatter)
     parser.add_argument('--stories', type=int, default=1000)
@@ -171,10 +178,7 @@ def main():
     parser.add_argument('--restart', action='store_true')
     parser.add_argument('--runs', type=int, default=1)
     parser.add_argument('program')
-    words = parser.parse_args()
-    with tempfile.TemporaryDirectory(dir=os.getcwd()) as room:
-        ends = [run(os.path.abspath(words.program), tempfile.mkdtemp(dir=room), words) for _ in range(words.runs)]
-    return 0 if all(ends) else 1
+    return runs(run, parser.parse_args())
 
 
 if __name__ == '__main__':
