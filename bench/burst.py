@@ -78,6 +78,8 @@ class Case:
     def __init__(self, members, count, lines=1, spread=False, probes=4, trouble=None):
         self.members, self.count, self.lines, self.spread, self.probes, self.trouble = members, count, lines, spread, probes, trouble
         self.layout = '1' if trouble == 'old-layout' else '2'
+        # What stands in each configuration behind the table of the folders.
+        self.tables = ''
         # How many numbers are laid a second; all at once where nothing is said.
         self.pace = 40 if trouble == 'against' else None
         # The plants that are up: one whose address floods is none.
@@ -195,7 +197,7 @@ def numbers_of(ranges):
 class Plant:
     """A plant in a folder of its own, with the moments of what it tells."""
 
-    def __init__(self, program, folder, member, addresses, preload, words, layout):
+    def __init__(self, program, folder, member, addresses, preload, words, layout, tables=''):
         self.member, self.port, self.home = member, addresses[member - 1][1], os.path.join(folder, f'plant{member}')
         self.offers, self.releases = os.path.join(self.home, 'offers'), os.path.join(self.home, 'releases')
         for each in (self.offers, self.releases):
@@ -205,7 +207,7 @@ class Plant:
         stations = ''.join(f'[[station]]\nmember = {other}\nip = "{ip}"\nport = {port}\n' for other, (ip, port) in enumerate(addresses, 1))
         with open(os.path.join(self.home, 'station.toml'), 'w') as config:
             config.write(f'circuit = 7\nmember = {member}\ntable = "codes.toml"\nwidths = "widths.toml"\nrows = "station.db"\n'
-                         f'[folders]\noffers = "offers"\nreleases = "releases"\n{stations}')
+                         f'[folders]\noffers = "offers"\nreleases = "releases"\n{tables}{stations}')
         self.env = dict(os.environ, LD_PRELOAD=preload) if preload else None
         self.words = [*words, program, 'run', 'station.toml', '--verbose']
         self.ballots, self.given_up, self.began, self.other = 0, set(), {}, []
@@ -381,7 +383,7 @@ def run(program, case, folder, preload, net, lists_rows):
     if net:
         addresses = [(net.address(member), 7000) for member in range(1, case.members + 1)]
     plants = [Plant(program, folder, member, addresses, preload if case.trouble == 'slow' and member == 3 else None,
-                    net.words(member) if net else [], case.layout)
+                    net.words(member) if net else [], case.layout, case.tables)
               for member in range(1, case.up + 1)]
     try:
         time.sleep(1.5)

@@ -38,6 +38,8 @@ TAPE = bytes.fromhex('01020301030204')
 # What the system tells of a file in a folder: that it was opened, that it got its name.
 OPENED, MOVED_TO = 0x20, 0x80
 IN_A_ROW = 200
+# What a configuration has where files come by rename alone.
+RENAMED = 'renamed = true\n'
 # A page of the log of a database, with its head.
 PAGE = bytes(24 + 4096 + 8)
 
@@ -52,8 +54,8 @@ def free_ports():
     return ports
 
 
-def start(program, folder, member, ports, renamed):
-    """A plant in a folder of its own."""
+def start(program, folder, member, ports, tables):
+    """A plant in a folder of its own, whose configuration has this behind the paths of its folders."""
     home = os.path.join(folder, f'plant{member}')
     os.makedirs(os.path.join(home, 'offers'))
     os.makedirs(os.path.join(home, 'releases'))
@@ -62,7 +64,7 @@ def start(program, folder, member, ports, renamed):
     stations = ''.join(f'[[station]]\nmember = {other}\nip = "127.0.0.1"\nport = {port}\n' for other, port in zip(MEMBERS, ports))
     with open(os.path.join(home, 'station.toml'), 'w') as config:
         config.write(f'circuit = 7\nmember = {member}\ntable = "codes.toml"\nwidths = "widths.toml"\nrows = "station.db"\n'
-                     f'[folders]\noffers = "offers"\nreleases = "releases"\n{"renamed = true" if renamed else ""}\n{stations}')
+                     f'[folders]\noffers = "offers"\nreleases = "releases"\n{tables}{stations}')
     process = subprocess.Popen([program, 'run', 'station.toml', '--create', '--layout', '2'], cwd=home, stdout=subprocess.DEVNULL, stderr=subprocess.DEVNULL)
     return home, process
 
@@ -187,7 +189,7 @@ def main():
     folder = tempfile.mkdtemp(dir=os.getcwd())
     ports, plants = free_ports(), []
     try:
-        plants = [start(program, folder, member, ports, renamed) for member in MEMBERS]
+        plants = [start(program, folder, member, ports, RENAMED if renamed else '') for member in MEMBERS]
         time.sleep(1)
         names = Names([os.path.join(plants[0][0], 'offers')], OPENED), Names([os.path.join(home, 'releases') for home, _ in plants], MOVED_TO)
         saves = StockSaves(folder), BareSaves(folder, count + IN_A_ROW)
@@ -211,4 +213,5 @@ def main():
         print(f'medians over {what}: {", ".join(over)}')
 
 
-main()
+if __name__ == '__main__':
+    main()

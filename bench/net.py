@@ -109,12 +109,18 @@ class Net:
             if self.random.random() < self.loss:
                 self.lost += 1
                 continue
+            if not (packet := self.passing(packet)):
+                continue
             times = 2 if self.random.random() < self.repeat else 1
             self.repeated += times - 1
             for _ in range(times):
                 self.order += 1
                 when = time.monotonic() + self.random.uniform(*self.delay) / 1000
                 heapq.heappush(self.waiting, (when, self.order, packet[19], packet))
+
+    def passing(self, packet):
+        """What goes on of a packet that is not lost."""
+        return packet
 
     def hand_on(self, now):
         while self.waiting and self.waiting[0][0] <= now:

@@ -45,6 +45,8 @@ class Plant:
         self.folder = os.path.join(circuit.folder, f'plant{member}')
         self.process, self.until, self.runs, self.laid = None, 0.0, 0, {}
         self.takes_create = True
+        # what stands in front of the command
+        self.before = []
         os.makedirs(self.path('offers'))
         os.makedirs(self.path('releases'))
 
@@ -56,7 +58,8 @@ class Plant:
         self.runs += 1
         words = ['--create', '--layout', '2'] if self.takes_create else []
         self.err = open(self.path(f'run{self.runs}.err'), 'w+')
-        self.process = subprocess.Popen([self.circuit.program, 'run', 'station.toml', *words], cwd=self.folder, stdout=subprocess.DEVNULL, stderr=self.err)
+        self.process = subprocess.Popen([*self.before, self.circuit.program, 'run', 'station.toml', *words], cwd=self.folder,
+                                        stdout=subprocess.DEVNULL, stderr=self.err)
 
     def said(self):
         self.err.seek(0)
@@ -247,4 +250,5 @@ def main():
     print(f'the last offer came to its place within {max(circuit.took for circuit in circuits):.1f} s after the last kill')
 
 
-main()
+if __name__ == '__main__':
+    main()

@@ -1,6 +1,7 @@
 """The folders of a plant that is up: what no disk, shell or neighbour turns against a story."""
 import fcntl
 import os
+import re
 import resource
 import shutil
 import stat
@@ -30,8 +31,8 @@ def up(at, words=RUN, log='log', **how):
 
 
 def told(at, log='log'):
-    """The lines of the log."""
-    return at.read(log).decode().split('\n')[:-1]
+    """The lines of the log, without those that a start tells first."""
+    return [line for line in at.read(log).decode().split('\n')[:-1] if not re.match(r'(\S+Z )?station \d+ of \d+ circuit ', line)]
 
 
 def tells(at, line, seconds=10):

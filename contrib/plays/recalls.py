@@ -49,13 +49,17 @@ class Voice:
         """Asks a member for its votes of these numbers."""
         self.say(to, datagrams.spell_recall(Recall(CIRCUIT, self.member, to, 0, numbers)))
 
+    def heard(self):
+        """The bytes that come next."""
+        return self.socket.recv(65536)
+
     def next(self, until, rolls=False):
         """What comes next, as it is read, or None where nothing comes until then. Rolls, which come by themselves, are passed over unless they
         are waited for."""
         while True:
             self.socket.settimeout(max(0.001, until - time.monotonic()))
             try:
-                said = datagrams.read(self.socket.recv(65536))
+                said = datagrams.read(self.heard())
             except TimeoutError:
                 return None
             if rolls or not isinstance(said, Roll):
@@ -160,14 +164,13 @@ def refusals(sender, to, other):
         ('short', good[:16]),
         ('bad-version', changed(good, 2, 2)),
         ('bad-kind', changed(good, 3, 6)),
-        ('bad-member', changed(good, 6, 0)),
+        ('bad-member', changed(good, 7, 0)),
         ('bad-count', changed(good, 12, 65)),
         ('bad-number', datagrams.spell_recall(Recall(CIRCUIT, sender, to, 0, (0,)))),
         ('bad-order', datagrams.spell_recall(Recall(CIRCUIT, sender, to, 0, (12, 12)))),
         ('long', good + b'\0'),
         ('wrong-circuit', datagrams.spell_recall(Recall(CIRCUIT + 1, sender, to, 0, (12,)))),
         ('not-for-me', datagrams.spell_recall(Recall(CIRCUIT, sender, other, 0, (12,)))),
-        ('stranger', datagrams.spell_recall(Recall(CIRCUIT, 9, to, 0, (12,)))),
     ]
 
 

@@ -50,7 +50,8 @@ def absent(at):
     for number in range(1, MISSED + 1):
         plants.lay(at, 1, f'{number}.tape', story)
     for member in (1, 2):
-        is_released(at, member, MISSED, 20)
+        for number in range(1, MISSED + 1):
+            is_released(at, member, number, 20)
     held = {member: rows(at, member) for member in (1, 2)}
     plants.bring_up(at, ports, (3,), words='', making='')
     for number in range(1, MISSED + 1):
@@ -120,7 +121,7 @@ def refusals(sender, to, other):
     return [
         ('short', asked[:11]),
         ('bad-version', changed(asked, 2, 2)),
-        ('bad-member', changed(asked, 6, 0)),
+        ('bad-member', changed(asked, 7, 0)),
         ('bad-count', changed(counts, 12, 0x20)),
         ('bad-page', changed(page, 12, 123)),
         ('bad-page', changed(changed(page_asked, 12, 123), 16, 1)),
@@ -132,7 +133,6 @@ def refusals(sender, to, other):
         ('long', asked + b'\0'),
         ('wrong-circuit', datagrams.spell_roll(Roll(COUNTS_ASKED, CIRCUIT + 1, sender, to, 0))),
         ('not-for-me', datagrams.spell_roll(Roll(COUNTS_ASKED, CIRCUIT, sender, other, 0))),
-        ('stranger', datagrams.spell_roll(Roll(COUNTS_ASKED, CIRCUIT, 9, to, 0))),
     ]
 
 

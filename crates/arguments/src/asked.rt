@@ -6,6 +6,17 @@ use log_terms::LogTerms;
 use tape_drawing::Page;
 use tape_frames::Version;
 
+/// How it is told how a station stands.
+#[derive(Clone, Copy, PartialEq, Eq)]
+pub enum Telling {
+    /// By lines.
+    Lines,
+    /// As one object of JSON.
+    Json,
+    /// By lines, again each second.
+    Watched,
+}
+
 /// A command, with all that it is given.
 #[derive(Clone, Copy)]
 pub enum Asked<'a> {
@@ -80,6 +91,11 @@ pub enum Asked<'a> {
     /// To end the station of the configuration at a path.
     Stop {
         config: &'a str,
+    },
+    /// To tell how the station of the configuration at a path stands.
+    Status {
+        config: &'a str,
+        telling: Telling,
     },
     /// To rehearse a circuit by a script.
     Rehearse {

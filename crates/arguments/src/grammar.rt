@@ -544,6 +544,45 @@ const STOP: Form = Form {
     }],
 };
 
+const STATUS_EXAMPLE: &str = "\
+Example: how a station stands whose configuration has `status = \"status.txt\"` among its folders:
+
+  $ circuitd status station2.toml
+  station 2 of 3 circuit 7 layout 2 since 2026-11-26T20:44:01Z
+  member 1 heard at 20:51:07Z
+  member 3 not heard since the start
+  released 38, the greatest 57
+  under way 13 seek ballot 4.2, 61 offer ballot 1.2
+  missing 42 44-56 since 20:50:52Z
+  offers 3 waiting, 1 lost, 0 refused; releases 0 waiting to be written
+  written 2026-11-26T20:51:10Z, form 1
+  well
+
+It exits with 0 where the station is well, with 1 where it is not, and with 3 where nothing can be told.";
+
+const STATUS: Form = Form {
+    name: "status",
+    about: "Tells how this plant's station stands, as its status file has it, and whether it is well",
+    example: STATUS_EXAMPLE,
+    given: &[
+        Given {
+            name: "CONFIG",
+            shape: Shape::Word(Value::Text),
+            help: "The station's configuration, which names its status file",
+        },
+        Given {
+            name: "json",
+            shape: Shape::Rival("watch"),
+            help: "Print one object of JSON in place of lines",
+        },
+        Given {
+            name: "watch",
+            shape: Shape::Rival("json"),
+            help: "Print it again each second, on a terminal, until the file is gone or the command is interrupted",
+        },
+    ],
+};
+
 const REHEARSE_EXAMPLE: &str = "\
 Example: the first of three members offers a story, and its first request comes to member 2.
 
@@ -692,6 +731,7 @@ const STATION_FORMS: &[Form] = &[
     SERVE,
     RUN,
     STOP,
+    STATUS,
     REHEARSE,
 ];
 

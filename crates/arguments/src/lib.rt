@@ -5,5 +5,5 @@ mod asked;
 mod grammar;
 mod taking;
 
-pub use asked::{Asked, Plan, ReelPlan};
+pub use asked::{Asked, Plan, ReelPlan, Telling};
 pub use taking::asked_by;

@@ -1,6 +1,6 @@
 //! What the words of a call ask for.
 
-use crate::asked::{Asked, Plan, ReelPlan};
+use crate::asked::{Asked, Plan, ReelPlan, Telling};
 use crate::grammar::grammar;
 use ballots::Member;
 use clap::{ArgMatches, Error};
@@ -128,6 +128,23 @@ fn stop_of<'a>(matches: &ArgMatches<'a>) -> Option<Asked<'a>> {
     Some(Asked::Stop { config })
 }
 
+/// How it is told how a station stands, by the flags of a line.
+fn telling_of(json: bool, watch: bool) -> Telling {
+    if json {
+        Telling::Json
+    } else if watch {
+        Telling::Watched
+    } else {
+        Telling::Lines
+    }
+}
+
+fn status_of<'a>(matches: &ArgMatches<'a>) -> Option<Asked<'a>> {
+    let config = matches.get_str("CONFIG")?;
+    let telling = telling_of(matches.get_flag("json"), matches.get_flag("watch"));
+    Some(Asked::Status { config, telling })
+}
+
 fn serve_of<'a>(matches: &ArgMatches<'a>) -> Option<Asked<'a>> {
     let plan = Plan {
         config: matches.get_str("CONFIG")?,
@@ -213,6 +230,7 @@ fn asked_of<'a>(words: &'a [String], matches: &ArgMatches<'a>) -> Option<Asked<'
         "run" => run_of(given),
         "check-config" => check_config_of(given),
         "stop" => stop_of(given),
+        "status" => status_of(given),
         "rehearse" => rehearse_of(given),
         "import" => import_of(given),
         "survey" => survey_of(words, given),

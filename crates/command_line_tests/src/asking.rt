@@ -2,7 +2,7 @@
 
 use super::splitting::words_of;
 use command_ends::End;
-use command_line::{Asked, Plan, parse};
+use command_line::{Asked, Plan, Telling, parse};
 use log_terms::LogTerms;
 use std::alloc::Global;
 use tape_frames::Version;
@@ -26,6 +26,8 @@ pub enum Wanted<'a> {
     Create(Version),
     /// It asks to run the station of `station.toml`, with rows that are made in this layout, if they are, and to tell on these terms.
     Run(Option<Version>, LogTerms),
+    /// It asks how the station of `station.toml` stands, told so.
+    Status(Telling),
 }
 
 /// Whether two plans are the same.
@@ -78,6 +80,9 @@ fn is_asked(asked: &Result<Asked<'_>, End>, wanted: &Wanted<'_>) -> bool {
             ),
             Wanted::Run(made, terms),
         ) => *config == "station.toml" && *create == *made && *log == *terms,
+        (Ok(Asked::Status { config, telling }), Wanted::Status(wanted)) => {
+            *config == "station.toml" && *telling == *wanted
+        }
         _ => false,
     }
 }

@@ -25,6 +25,7 @@ Commands:
   serve         Runs this plant's station on the wire, and prints each story that the circuit has agreed on
   run           Runs this plant's station until it is stopped: stories are offered and released as files
   stop          Ends the station that runs with this configuration, and waits until it has ended
+  status        Tells how this plant's station stands, as its status file has it, and whether it is well
   rehearse      Rehearses a whole circuit by a script: who offers, what is delivered when, who starts again
   import        Makes tapes of a reel from a reader of real tape: 001.tape, 002.tape, .. in a folder
   survey        Tells of each of the 64 frames how often it comes in tapes, what it means or lacks, and where it comes first
@@ -315,6 +316,33 @@ Example: a station that `circuitd run station1.toml` runs ends, and its row file
 
 The file `stop` is laid among the offers that the configuration names. Where the station has not ended within
 30 seconds, that is told.
+% circuitd status --help
+Tells how this plant's station stands, as its status file has it, and whether it is well
+
+Usage: circuitd status [OPTIONS] <CONFIG>
+
+Arguments:
+  <CONFIG>  The station's configuration, which names its status file
+
+Options:
+      --json   Print one object of JSON in place of lines
+      --watch  Print it again each second, on a terminal, until the file is gone or the command is interrupted
+  -h, --help   Print help
+
+Example: how a station stands whose configuration has `status = \"status.txt\"` among its folders:
+
+  $ circuitd status station2.toml
+  station 2 of 3 circuit 7 layout 2 since 2026-11-26T20:44:01Z
+  member 1 heard at 20:51:07Z
+  member 3 not heard since the start
+  released 38, the greatest 57
+  under way 13 seek ballot 4.2, 61 offer ballot 1.2
+  missing 42 44-56 since 20:50:52Z
+  offers 3 waiting, 1 lost, 0 refused; releases 0 waiting to be written
+  written 2026-11-26T20:51:10Z, form 1
+  well
+
+It exits with 0 where the station is well, with 1 where it is not, and with 3 where nothing can be told.
 % circuitd rehearse --help
 Rehearses a whole circuit by a script: who offers, what is delivered when, who starts again
 
@@ -405,5 +433,5 @@ fn lines_that_ask_for_help(rt: HostRuntime) {
     for row in rows.split("% ").skip(1) {
         assert!(rt; is_row(rt.alloc(), row) == Some(true), "{row}");
     }
-    assert!(rt; rows.split("% ").count() == 19);
+    assert!(rt; rows.split("% ").count() == 20);
 }

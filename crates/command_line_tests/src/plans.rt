@@ -2,7 +2,7 @@
 
 use super::asking::{Wanted, comes_to};
 use command_ends::End;
-use command_line::{Plan, print_version};
+use command_line::{Plan, Telling, print_version};
 use log_terms::{LogTerms, Loudness};
 use std::alloc::Global;
 use tape_frames::Version;
@@ -179,6 +179,16 @@ fn plans_of_run(rt: HostRuntime) {
             "{line}"
         );
     }
+}
+
+#[test]
+fn plans_of_status(rt: HostRuntime) {
+    let plain = Wanted::Status(Telling::Lines);
+    let json = Wanted::Status(Telling::Json);
+    let watched = Wanted::Status(Telling::Watched);
+    assert!(rt; comes_to(rt.alloc(), "circuitd status station.toml", plain));
+    assert!(rt; comes_to(rt.alloc(), "circuitd status --json station.toml", json));
+    assert!(rt; comes_to(rt.alloc(), "circuitd status station.toml --watch", watched));
 }
 
 /// Whether the version is printed, and nothing else is.

@@ -8,7 +8,7 @@ use std::alloc::Global;
 const USAGES: &str = "\
 $ circuitd
 'circuitd' requires a subcommand but one was not provided
-  [subcommands: answer, check, draw, chart, punch, spell, fit, rows, upgrade, create, check-config, serve, run, stop, rehearse, import, survey, help]
+  [subcommands: answer, check, draw, chart, punch, spell, fit, rows, upgrade, create, check-config, serve, run, stop, status, rehearse, import, survey, help]
 
 Usage: circuitd <COMMAND>
 $ circuitd sing
@@ -170,6 +170,10 @@ Usage: circuitd run --create --layout <L> <CONFIG>
 $ circuitd run station.toml --create --layout 3
 invalid value '3' for '--layout <L>'
   [possible values: 1, 2]
+$ circuitd status station.toml --json --watch
+the argument '--json' cannot be used with '--watch'
+
+Usage: circuitd status --json <CONFIG>
 $ circuitd run station.toml --quiet --verbose
 the argument '--quiet' cannot be used with '--verbose'
 
@@ -202,5 +206,5 @@ fn lines_that_are_usage(rt: HostRuntime) {
     for row in rows.split("$ ").skip(1) {
         assert!(rt; is_row(rt.alloc(), row) == Some(true), "{row}");
     }
-    assert!(rt; rows.split("$ ").count() == 49);
+    assert!(rt; rows.split("$ ").count() == 50);
 }

@@ -15,7 +15,7 @@ use crate::story::Story;
 use answer_command::answer;
 use check_command::check;
 use command_ends::{End, ScriptPaths, TapePaths};
-use command_line::{Asked, print_version};
+use command_line::{Asked, Telling, print_version};
 use draw_command::{SettingPaths, chart, draw};
 use editor_commands::StoryPaths;
 use opened_files::Opened;
@@ -24,6 +24,7 @@ use reel_commands::ChartPaths;
 use rehearse_command::rehearse;
 use row_files::RowFiles;
 use station_commands::{create, run, serve};
+use status_command::{Shape, status};
 use std::io::{Read, Write};
 use tape_drawing::Page;
 
@@ -109,6 +110,15 @@ fn run_rehearse<W: Write, E: Write>(
     )
 }
 
+/// How a status is printed.
+fn shape_of(telling: Telling) -> Shape {
+    match telling {
+        Telling::Lines => Shape::Lines,
+        Telling::Json => Shape::Json,
+        Telling::Watched => Shape::Watched,
+    }
+}
+
 /// Runs the command that was asked for: what it is given on a pipe is read from `input`, also a tape or a text whose path
 /// is `-`; what it prints goes to `out`, and its fault to `err`. A path that can't be opened is told in the place in which the file would be read.
 pub fn carry_out<F: RowFiles, R: Read, W: Write, E: Write>(
@@ -175,6 +185,7 @@ pub fn carry_out<F: RowFiles, R: Read, W: Write, E: Write>(
         } => run(rt, *config, *create, *log, row_files, err),
         Asked::CheckConfig { config } => check_config(rt, *config, out, err),
         Asked::Stop { config } => stop(rt, *config, err),
+        Asked::Status { config, telling } => status(rt, *config, shape_of(*telling), out, err),
         Asked::Rehearse { paths } => run_rehearse(rt, paths, out, err),
         Asked::Import(plan) => run_import(rt, plan, input, out, err),
         Asked::Survey {

@@ -11,8 +11,8 @@ use Rattle.toml.specs.Data.{Data, Items, Members, get_member, as_integer, as_tab
 use Rattle.wire.specs.declared.address.Address.{Address}
 use Rattle.configuration.specs.Keys.{in_range, count, wanted, holds}
 use Rattle.configuration.specs.Keys as keys
-use Rattle.configuration.specs.Addresses.{◌>>=◌, number_in, ip_in, address_of}
-use Rattle.configuration.specs.Stations.{AreInOrder, are_at_odds, is_taken, read_entry, item_at, first_addresses, addresses_of, address_among, of_members, in_order, read_stations}
+use Rattle.configuration.specs.Addresses.{◌>>=◌, number_in}
+use Rattle.configuration.specs.Stations.{AreInOrder, are_at_odds, is_taken, Found, found_at, ip_in, address_of, read_entry, item_at, first_addresses, addresses_of, address_among, of_members, in_order, read_stations}
 use Rattle.configuration.specs.declared.fault.ConfigFault.{ConfigFault}
 use Rattle.configuration.specs.declared.fault.ConfigFault.TheVariants.{BadStation}
 
@@ -45,16 +45,28 @@ pub record IsOfMembers (members : ℕ) (address : Address) : Type 0 where
   pub last : address.member ≤ members
   pub port : 0 < address.port
 
-of_entry : (members : ℕ) (entry : Data) (address : Address) → address_of members entry ≡ Some address → IsOfMembers members address
+-- what the steps to a value gave, up to the first fault
+bind_ok : {A B : Type 0} (r : Result A ConfigFault) (f : A → Result B ConfigFault) (y : B) → keys.◌>>=◌ r f ≡ Ok y → (x : A) × (r ≡ Ok x) × (f x ≡ Ok y)
+bind_ok (Err e) f y h = absurd cc
+bind_ok (Ok x) f y h = (x, refl, h)
+
+wanted_some : {A : Type 0} (e : ConfigFault) (o : Option A) (x : A) → wanted e o ≡ Ok x → o ≡ Some x
+wanted_some e None x h = absurd cc
+wanted_some e (Some y) x h =
+    let same : y ≡ x = cc in
+    rw same refl
+
+of_entry : (members place : ℕ) (found : Option (List ℕ)) (entry : Data) (address : Address) → address_of members place found entry ≡ Ok address → IsOfMembers members address
 unfolding address_of
-of_entry members entry address h =
-    let table = bind_some (as_table entry) (λ keys. number_in (codes "member") 1 members keys >>= (λ member. ip_in keys >>= (λ ip. number_in (codes "port") 1 65535 keys >>= (λ port. Some (record { member = member; ip = ip; port = port }))))) address h in
-    let member = bind_some (number_in (codes "member") 1 members table.0) (λ member. ip_in table.0 >>= (λ ip. number_in (codes "port") 1 65535 table.0 >>= (λ port. Some (record { member = member; ip = ip; port = port })))) address table.2 in
-    let ip = bind_some (ip_in table.0) (λ ip. number_in (codes "port") 1 65535 table.0 >>= (λ port. Some (record { member = member.0; ip = ip; port = port }))) address member.2 in
-    let port = bind_some (number_in (codes "port") 1 65535 table.0) (λ port. Some (record { member = member.0; ip = ip.0; port = port })) address ip.2 in
-    let member_range = number_in_bounds (codes "member") 1 members table.0 member.0 member.1 in
-    let port_range = number_in_bounds (codes "port") 1 65535 table.0 port.0 port.1 in
-    let whole : Some (record { member = member.0; ip = ip.0; port = port.0 }) ≡ Some address = port.2 in
+of_entry members place found entry address h =
+    let bad = BadStation place in
+    let table = bind_ok (wanted bad (as_table entry)) (λ ks. keys.◌>>=◌ (wanted bad (number_in (codes "member") 1 members ks)) (λ member. keys.◌>>=◌ (wanted bad (number_in (codes "port") 1 65535 ks)) (λ port. keys.◌>>=◌ (ip_in place found ks) (λ ip. Ok (record { member = member; ip = ip; port = port }))))) address h in
+    let member = bind_ok (wanted bad (number_in (codes "member") 1 members table.0)) (λ member. keys.◌>>=◌ (wanted bad (number_in (codes "port") 1 65535 table.0)) (λ port. keys.◌>>=◌ (ip_in place found table.0) (λ ip. Ok (record { member = member; ip = ip; port = port })))) address table.2 in
+    let port = bind_ok (wanted bad (number_in (codes "port") 1 65535 table.0)) (λ port. keys.◌>>=◌ (ip_in place found table.0) (λ ip. Ok (record { member = member.0; ip = ip; port = port }))) address member.2 in
+    let ip = bind_ok (ip_in place found table.0) (λ ip. Ok (record { member = member.0; ip = ip; port = port.0 })) address port.2 in
+    let member_range = number_in_bounds (codes "member") 1 members table.0 member.0 (wanted_some bad (number_in (codes "member") 1 members table.0) member.0 member.1) in
+    let port_range = number_in_bounds (codes "port") 1 65535 table.0 port.0 (wanted_some bad (number_in (codes "port") 1 65535 table.0) port.0 port.1) in
+    let whole : Ok (record { member = member.0; ip = ip.0; port = port.0 }) ≡ Ok address = ip.2 in
     let same_member : member.0 ≡ address.member = cc in
     let same_port : port.0 ≡ address.port = cc in
     record { first = omega (arith, member_range.0, same_member); last = omega (arith, member_range.1, same_member); port = omega (arith, port_range.0, same_port) }
@@ -147,13 +159,13 @@ apart_more members addresses address apart one free =
     }
 
 -- one entry more
-entry_is : (members : ℕ) (earlier : List Address) (place : ℕ) (entry : Data) (address : Address) → read_entry members earlier place entry ≡ Ok address → IsOfMembers members address × (is_taken earlier address ≡ false)
+entry_is : (members : ℕ) (earlier : List Address) (place : ℕ) (found : Option (List ℕ)) (entry : Data) (address : Address) → read_entry members earlier place found entry ≡ Ok address → IsOfMembers members address × (is_taken earlier address ≡ false)
 unfolding read_entry
-entry_is members earlier place entry address h = go (address_of members entry) (of_entry members entry) h
+entry_is members earlier place found entry address h = go (address_of members place found entry) (of_entry members place found entry) h
   where
-    go : (o : Option Address) → ((a : Address) → o ≡ Some a → IsOfMembers members a) → keys.◌>>=◌ (wanted (BadStation place) o) (λ a. keys.◌>>=◌ (holds (BadStation place) (not (is_taken earlier a))) (λ _. Ok a)) ≡ Ok address → IsOfMembers members address × (is_taken earlier address ≡ false)
-    go None of e = absurd cc
-    go (Some a) of e = free (is_taken earlier a) refl e
+    go : (o : Result Address ConfigFault) → ((a : Address) → o ≡ Ok a → IsOfMembers members a) → keys.◌>>=◌ o (λ a. keys.◌>>=◌ (holds (BadStation place) (not (is_taken earlier a))) (λ _. Ok a)) ≡ Ok address → IsOfMembers members address × (is_taken earlier address ≡ false)
+    go (Err fault) of e = absurd cc
+    go (Ok a) of e = free (is_taken earlier a) refl e
       where
         free : (b : Bool) → is_taken earlier a ≡ b → keys.◌>>=◌ (holds (BadStation place) (not b)) (λ _. Ok a) ≡ Ok address → IsOfMembers members address × (is_taken earlier address ≡ false)
         free true t f = absurd cc
@@ -170,21 +182,21 @@ pub record AreRead (members many : ℕ) (addresses : List Address) : Type 0 wher
   pub apart : AreApart members addresses
   pub number : length addresses ≡ many
 
-entries_are : (members : ℕ) (entries : Items) (n : ℕ) (all : List Address) → first_addresses members entries n ≡ Ok all → AreRead members n all
-entries_are members entries zero all h =
+entries_are : (members : ℕ) (found : Found) (entries : Items) (n : ℕ) (all : List Address) → first_addresses members found entries n ≡ Ok all → AreRead members n all
+entries_are members found entries zero all h =
     let same : [] ≡ all = cc in
     subst (λ (l : List Address). AreRead members 0 l) same (record { apart = record { each = tt; others = none_there 1 members }; number = refl })
-entries_are members entries (suc n) all h = go (first_addresses members entries n) (entries_are members entries n) h
+entries_are members found entries (suc n) all h = go (first_addresses members found entries n) (entries_are members found entries n) h
   where
-    go : (r : Result (List Address) ConfigFault) → ((earlier : List Address) → r ≡ Ok earlier → AreRead members n earlier) → keys.◌>>=◌ r (λ earlier. keys.◌>>=◌ (read_entry members earlier (suc n) (item_at entries n)) (λ address. Ok (earlier ++ address ∷ []))) ≡ Ok all → AreRead members (suc n) all
+    go : (r : Result (List Address) ConfigFault) → ((earlier : List Address) → r ≡ Ok earlier → AreRead members n earlier) → keys.◌>>=◌ r (λ earlier. keys.◌>>=◌ (read_entry members earlier (suc n) (found_at found n) (item_at entries n)) (λ address. Ok (earlier ++ address ∷ []))) ≡ Ok all → AreRead members (suc n) all
     go (Err fault) before e = absurd cc
-    go (Ok earlier) before e = one (read_entry members earlier (suc n) (item_at entries n)) refl e
+    go (Ok earlier) before e = one (read_entry members earlier (suc n) (found_at found n) (item_at entries n)) refl e
       where
-        one : (r : Result Address ConfigFault) → read_entry members earlier (suc n) (item_at entries n) ≡ r → keys.◌>>=◌ r (λ address. Ok (earlier ++ address ∷ [])) ≡ Ok all → AreRead members (suc n) all
+        one : (r : Result Address ConfigFault) → read_entry members earlier (suc n) (found_at found n) (item_at entries n) ≡ r → keys.◌>>=◌ r (λ address. Ok (earlier ++ address ∷ [])) ≡ Ok all → AreRead members (suc n) all
         one (Err fault) is f = absurd cc
         one (Ok address) is f =
             let same : earlier ++ address ∷ [] ≡ all = cc in
-            let facts = entry_is members earlier (suc n) (item_at entries n) address is in
+            let facts = entry_is members earlier (suc n) (found_at found n) (item_at entries n) address is in
             let so_far = before earlier refl in
             let long : length (earlier ++ address ∷ []) ≡ length earlier + 1 = rw length-append refl in
             subst (λ (l : List Address). AreRead members (suc n) l) same (record {
@@ -233,14 +245,14 @@ pub record AreStations (entries : Items) (stations : List Address) : Type 0 wher
   pub order : AreInOrder stations
   pub most : length stations ≤ count entries
 
-pub stations_are : (entries : Items) (stations : List Address) → read_stations entries ≡ Ok stations → AreStations entries stations
+pub stations_are : (found : Found) (entries : Items) (stations : List Address) → read_stations found entries ≡ Ok stations → AreStations entries stations
 unfolding read_stations in_order
-stations_are entries stations h = go (addresses_of entries) refl h
+stations_are found entries stations h = go (addresses_of found entries) refl h
   where
-    go : (r : Result (List Address) ConfigFault) → addresses_of entries ≡ r → keys.◌>>=◌ r (λ addresses. Ok (of_members 1 (length addresses) addresses)) ≡ Ok stations → AreStations entries stations
+    go : (r : Result (List Address) ConfigFault) → addresses_of found entries ≡ r → keys.◌>>=◌ r (λ addresses. Ok (of_members 1 (length addresses) addresses)) ≡ Ok stations → AreStations entries stations
     go (Err fault) is e = absurd cc
     go (Ok addresses) is e =
-        let read = entries_are (count entries) entries (count entries) addresses is in
+        let read = entries_are (count entries) found entries (count entries) addresses is in
         let number = read.number in
         let full : there 1 (length addresses) addresses ≡ length addresses = subst (λ (n : ℕ). there 1 n addresses ≡ length addresses) (sym number) read.apart.others in
         let same : of_members 1 (length addresses) addresses ≡ stations = cc in
@@ -268,10 +280,10 @@ at_start addresses done h =
     rw (h, all) refl
 
 -- the stations are the addresses in order
-pub stations_from : (entries : Items) (addresses : List Address) → addresses_of entries ≡ Ok addresses → read_stations entries ≡ Ok (in_order addresses)
+pub stations_from : (found : Found) (entries : Items) (addresses : List Address) → addresses_of found entries ≡ Ok addresses → read_stations found entries ≡ Ok (in_order addresses)
 unfolding read_stations
-stations_from entries addresses h = rw h refl
+stations_from found entries addresses h = rw h refl
 
-pub stations_stop : (entries : Items) (fault : ConfigFault) → addresses_of entries ≡ Err fault → read_stations entries ≡ Err fault
+pub stations_stop : (found : Found) (entries : Items) (fault : ConfigFault) → addresses_of found entries ≡ Err fault → read_stations found entries ≡ Err fault
 unfolding read_stations
-stations_stop entries fault h = rw h refl
+stations_stop found entries fault h = rw h refl

@@ -1,10 +1,9 @@
--- The address of a station, as an entry of a TOML document has it.
-use Rattle.std.specs.Prelude.{◌≡◌, ◌<◌, ℕ, List, [], ◌∷◌, map, length, Bool, codes, Option, Some, None, nat_le, ◌==◌, ◌&&◌, if◌then◌else◌}
+-- The numbers and the IP address of a station, as an entry of a TOML document has them.
+use Rattle.std.specs.Prelude.{◌≡◌, ◌<◌, ℕ, List, [], ◌∷◌, map, length, Bool, Option, Some, None, nat_le, ◌==◌, ◌&&◌, if◌then◌else◌}
 use Rattle.std.specs.Char.{is_ascii_digit}
 use Rattle.std.specs.List.{list_all, slice_split}
 use Rattle.std.specs.Str.Parse.{digits_value}
-use Rattle.toml.specs.Data.{Data, Members, get_member, as_integer, as_str, as_table}
-use Rattle.wire.specs.declared.address.Address.{Address}
+use Rattle.toml.specs.Data.{Data, Members, get_member, as_integer, as_str}
 use Rattle.configuration.specs.Keys.{in_range}
 
 -- one step after another, as long as there is a value
@@ -61,18 +60,8 @@ number_in key least most entry = do
   number ← as_integer value
   in_range least most number
 
--- the IP address of an entry
-unfoldable pub ip_in : Members → Option (List ℕ)
-ip_in entry = do
-  value ← get_member (codes "ip") entry
+-- the IP address that a value spells
+unfoldable pub spelled_ip : Data → Option (List ℕ)
+spelled_ip value = do
   text ← as_str value
   ip_of text
-
--- the address of an entry: a table with the keys `member`, which is one of so many, `ip` and `port`
-unfoldable pub address_of : ℕ → Data → Option Address
-address_of members entry = do
-  keys ← as_table entry
-  member ← number_in (codes "member") 1 members keys
-  ip ← ip_in keys
-  port ← number_in (codes "port") 1 65535 keys
-  Some (record { member = member; ip = ip; port = port })

@@ -2,7 +2,7 @@
 use Rattle.command_ends.specs.declared.end.End.{End}
 use Rattle.command_ends.specs.declared.end.End.TheVariants.{Input, Memory}
 use Rattle.configuration.specs.declared.fault.ConfigFault.{ConfigFault}
-use Rattle.configuration.specs.declared.fault.ConfigFault.TheVariants.{NotToml, Missing, WrongType, OutOfRange, BadStation, OutOfMemory}
+use Rattle.configuration.specs.declared.fault.ConfigFault.TheVariants.{NotToml, Missing, WrongType, OutOfRange, BadStation, NoAddress, OutOfMemory}
 
 -- want of memory has an end of its own; any other fault is one of an input
 abbrev pub end_of_config : ConfigFault → End
@@ -11,4 +11,5 @@ end_of_config (Missing key) = Input
 end_of_config (WrongType key) = Input
 end_of_config (OutOfRange key) = Input
 end_of_config (BadStation entry) = Input
+end_of_config (NoAddress entry) = Input
 end_of_config OutOfMemory = Memory

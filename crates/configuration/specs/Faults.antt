@@ -3,8 +3,8 @@ use Rattle.std.specs.Prelude.{ℕ, List, [], ◌∷◌, ◌++◌, length, Option
 use Rattle.protocol.specs.Limits.{most_members}
 use Rattle.toml.specs.Data.{Members}
 use Rattle.wire.specs.declared.address.Address.{Address}
-use Rattle.configuration.specs.Keys.{number_at, text_at, folders_in, catches_up_in, entries_at, ◌>>=◌}
-use Rattle.configuration.specs.Stations.{read_stations}
+use Rattle.configuration.specs.Keys.{number_at, text_at, folders_in, catches_up_in, wire_in, entries_at, ◌>>=◌}
+use Rattle.configuration.specs.Stations.{Found, read_stations}
 use Rattle.configuration.specs.declared.fault.ConfigKey.TheVariants.{Circuit, Member, Table, Widths, Rows}
 use Rattle.configuration.specs.declared.fault.ConfigFault.{ConfigFault}
 use Rattle.configuration.specs.declared.fault.ConfigFault.TheVariants.{NotToml, OutOfRange}
@@ -20,10 +20,10 @@ noted faults None = faults
 noted faults (Some fault) = faults ++ fault ∷ []
 
 -- the stations of a document, or the first fault among them
-unfoldable pub stations_in : Members → Result (List Address) ConfigFault
-stations_in file = do
+unfoldable pub stations_in : Found → Members → Result (List Address) ConfigFault
+stations_in found file = do
   entries ← entries_at file
-  read_stations entries
+  read_stations found entries
 
 -- that this member is none of so many stations, where it was read
 unfoldable pub absent : Result ℕ ConfigFault → ℕ → Option ConfigFault
@@ -37,9 +37,9 @@ with_stations faults member (Err fault) = noted faults (Some fault)
 
 -- the faults of a document: that of each key, the first of the folders and the first among the stations, and that there is no station of
 -- the own member
-unfoldable pub faults_in : Members → List ConfigFault
-faults_in file =
-    with_stations (noted (noted (noted (noted (noted (noted (noted []
+unfoldable pub faults_in : Found → Members → List ConfigFault
+faults_in found file =
+    with_stations (noted (noted (noted (noted (noted (noted (noted (noted []
     (fault_of (number_at Circuit 0 65535 file)))
     (fault_of (number_at Member 1 most_members file)))
     (fault_of (text_at Table file)))
@@ -47,9 +47,10 @@ faults_in file =
     (fault_of (text_at Rows file)))
     (fault_of (folders_in file)))
     (fault_of (catches_up_in file)))
-    (number_at Member 1 most_members file) (stations_in file)
+    (fault_of (wire_in file)))
+    (number_at Member 1 most_members file) (stations_in found file)
 
 -- the faults of a document that was read; where none was read, it is not TOML
-unfoldable pub all_faults : Option Members → List ConfigFault
-all_faults None = NotToml ∷ []
-all_faults (Some file) = faults_in file
+unfoldable pub all_faults : Found → Option Members → List ConfigFault
+all_faults found None = NotToml ∷ []
+all_faults found (Some file) = faults_in found file

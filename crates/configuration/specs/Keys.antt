@@ -3,7 +3,7 @@ use Rattle.std.specs.Prelude.{◌≡◌, ℕ, zero, suc, ℤ, pos, negsuc, List,
 use Rattle.protocol.specs.Limits.{most_members}
 use Rattle.toml.specs.Data.{Data, Items, no_items, item, Members, get_member, as_integer, as_str, as_bool, as_array, as_table}
 use Rattle.configuration.specs.declared.fault.ConfigKey.{ConfigKey}
-use Rattle.configuration.specs.declared.fault.ConfigKey.TheVariants.{Circuit, Member, Table, Widths, Rows, Folders, Offers, Releases, Text, Renamed, CatchUp, Off, Station}
+use Rattle.configuration.specs.declared.fault.ConfigKey.TheVariants.{Circuit, Member, Table, Widths, Rows, Folders, Offers, Releases, Text, Renamed, Status, CatchUp, Off, Wire, Key, Station}
 use Rattle.configuration.specs.declared.fault.ConfigFault.{ConfigFault}
 use Rattle.configuration.specs.declared.fault.ConfigFault.TheVariants.{Missing, WrongType, OutOfRange}
 
@@ -43,8 +43,11 @@ name_of Offers = codes "offers"
 name_of Releases = codes "releases"
 name_of Text = codes "text"
 name_of Renamed = codes "renamed"
+name_of Status = codes "status"
 name_of CatchUp = codes "catch_up"
 name_of Off = codes "off"
+name_of Wire = codes "wire"
+name_of Key = codes "key"
 name_of Station = codes "station"
 
 -- the value at a key
@@ -91,26 +94,41 @@ flag_of key default (Some value) = wanted (WrongType key) (as_bool value)
 unfoldable pub flag_at : ConfigKey → Bool → Members → Result Bool ConfigFault
 flag_at key default keys = flag_of key default (get_member (name_of key) keys)
 
--- the paths of two folders, whether texts may be offered in the first, and whether files come into it only by being renamed
+-- the text of the value at a key, where there is one
+abbrev pub text_of : ConfigKey → Option Data → Result (Option (List ℕ)) ConfigFault
+text_of key None = Ok None
+text_of key (Some value) = do
+  text ← wanted (WrongType key) (as_str value)
+  Ok (Some text)
+
+-- the same of the key
+unfoldable pub text_where : ConfigKey → Members → Result (Option (List ℕ)) ConfigFault
+text_where key keys = text_of key (get_member (name_of key) keys)
+
+-- the paths of two folders, whether texts may be offered in the first, whether files come into it only by being renamed, and the path of
+-- the status file, where there is to be one
 pub record FolderPaths : Type 0 where
   pub offers : List ℕ
   pub releases : List ℕ
   pub text : Bool
   pub renamed : Bool
+  pub status : Option (List ℕ)
 
 -- these
-abbrev pub folder_paths : List ℕ → List ℕ → Bool → Bool → FolderPaths
-folder_paths offers releases text renamed = record { offers = offers; releases = releases; text = text; renamed = renamed }
+abbrev pub folder_paths : List ℕ → List ℕ → Bool → Bool → Option (List ℕ) → FolderPaths
+folder_paths offers releases text renamed status =
+    record { offers = offers; releases = releases; text = text; renamed = renamed; status = status }
 
--- the two paths in a table; texts may be offered unless it says that they may not, and files come in any way unless it says that they
--- are renamed
+-- the paths in a table; texts may be offered unless it says that they may not, files come in any way unless it says that they are
+-- renamed, and there is a status file where it names one
 unfoldable pub folder_paths_in : Members → Result FolderPaths ConfigFault
 folder_paths_in keys = do
   offers ← text_at Offers keys
   releases ← text_at Releases keys
   text ← flag_at Text true keys
   renamed ← flag_at Renamed false keys
-  Ok (folder_paths offers releases text renamed)
+  status ← text_where Status keys
+  Ok (folder_paths offers releases text renamed status)
 
 -- the folders of the value at their key, where there is one: a table
 abbrev pub folders_of : Option Data → Result (Option FolderPaths) ConfigFault
@@ -135,6 +153,18 @@ catches_up_of (Some value) = do
 -- whether a station catches up by itself
 unfoldable pub catches_up_in : Members → Result Bool ConfigFault
 catches_up_in file = catches_up_of (get_member (name_of CatchUp) file)
+
+-- the path of the file of keys in the value at the key of the wire, where there is one: a table
+abbrev pub wire_of : Option Data → Result (Option (List ℕ)) ConfigFault
+wire_of None = Ok None
+wire_of (Some value) = do
+  keys ← wanted (WrongType Wire) (as_table value)
+  path ← text_at Key keys
+  Ok (Some path)
+
+-- the path of the file of keys, where the wire is to be sealed
+unfoldable pub wire_in : Members → Result (Option (List ℕ)) ConfigFault
+wire_in file = wire_of (get_member (name_of Wire) file)
 
 -- how many items there are
 abbrev pub count : Items → ℕ

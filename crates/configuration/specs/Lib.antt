@@ -1,6 +1,7 @@
 pub mod Addresses
 pub mod Ends
 pub mod Faults
+pub mod Hosts
 pub mod Keys
 pub mod Reading
 pub mod Stations

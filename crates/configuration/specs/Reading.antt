@@ -1,10 +1,11 @@
 -- A configuration as a TOML document gives it, or its first fault.
-use Rattle.std.specs.Prelude.{ℕ, Bool, List, length, string_bytes, Option, Some, None, option_map, Result, Ok, Err, nat_le}
+use Rattle.std.specs.Prelude.{◌≡◌, ℕ, Bool, List, length, string_bytes, Option, Some, None, option_map, Result, Ok, Err, nat_le}
 use Rattle.protocol.specs.Limits.{most_members}
 use Rattle.toml.specs.Data.{Members}
 use Rattle.wire.specs.declared.address.Address.{Address}
-use Rattle.configuration.specs.Keys.{◌>>=◌, holds, number_at, Paths, FolderPaths, folder_paths, paths_in, folders_in, catches_up_in, entries_at}
-use Rattle.configuration.specs.Stations.{read_stations}
+use Rattle.configuration.specs.Keys.{◌>>=◌, holds, number_at, Paths, FolderPaths, folder_paths, paths_in, folders_in, catches_up_in, wire_in, entries_at}
+use Rattle.configuration.specs.Hosts.{Finds, AreFound}
+use Rattle.configuration.specs.Stations.{Found, read_stations}
 use Rattle.configuration.specs.declared.config.Config.{Config}
 use Rattle.configuration.specs.declared.config.Folders.{Folders}
 use Rattle.configuration.specs.declared.fault.ConfigKey.TheVariants.{Circuit, Member}
@@ -12,7 +13,8 @@ use Rattle.configuration.specs.declared.fault.ConfigFault.{ConfigFault}
 use Rattle.configuration.specs.declared.fault.ConfigFault.TheVariants.{NotToml, OutOfRange}
 
 -- what a configuration says: the circuit, the own member, the paths of three files and, where it names them, of two folders, with what
--- holds of what comes into them, whether the station catches up by itself, and the stations in order of their members
+-- holds of what comes into them, whether the station catches up by itself, the path of the file of keys where its wire is sealed, and the
+-- stations in order of their members
 pub record ConfigFile : Type 0 where
   pub circuit : ℕ
   pub member : ℕ
@@ -21,11 +23,12 @@ pub record ConfigFile : Type 0 where
   pub rows : List ℕ
   pub folders : Option FolderPaths
   pub catches_up : Bool
+  pub key : Option (List ℕ)
   pub stations : List Address
 
 -- it says this, with these paths of files
-abbrev pub file_with : ℕ → ℕ → Paths → Option FolderPaths → Bool → List Address → ConfigFile
-file_with circuit member paths folders catches_up stations = record {
+abbrev pub file_with : ℕ → ℕ → Paths → Option FolderPaths → Bool → Option (List ℕ) → List Address → ConfigFile
+file_with circuit member paths folders catches_up key stations = record {
   circuit = circuit;
   member = member;
   table = paths.table;
@@ -33,12 +36,13 @@ file_with circuit member paths folders catches_up stations = record {
   rows = paths.rows;
   folders = folders;
   catches_up = catches_up;
+  key = key;
   stations = stations;
 }
 
--- the paths of these folders, whether texts may be offered, and whether files come only by being renamed
+-- the paths of these folders, whether texts may be offered, whether files come only by being renamed, and the path of the status file
 abbrev pub paths_of : Folders → FolderPaths
-paths_of folders = folder_paths (string_bytes folders.offers) (string_bytes folders.releases) folders.text folders.renamed
+paths_of folders = folder_paths (string_bytes folders.offers) (string_bytes folders.releases) folders.text folders.renamed (option_map string_bytes folders.status)
 
 -- what this configuration says
 abbrev pub file_of : Config → ConfigFile
@@ -50,23 +54,32 @@ file_of config = record {
   rows = string_bytes config.rows;
   folders = option_map paths_of config.folders;
   catches_up = config.catches_up;
+  key = option_map string_bytes config.key;
   stations = config.stations.items;
 }
 
--- the configuration of a document, or its first fault: key by key, then entry by entry, and last that there is no station of the own member
-unfoldable pub read_file : Members → Result ConfigFile ConfigFault
-read_file file = do
+-- the configuration of a document, where this was found for the hosts of its entries, or its first fault: key by key, then entry by entry,
+-- and last that there is no station of the own member
+unfoldable pub read_file : Found → Members → Result ConfigFile ConfigFault
+read_file found file = do
   circuit ← number_at Circuit 0 65535 file
   member ← number_at Member 1 most_members file
   paths ← paths_in file
   folders ← folders_in file
   catches_up ← catches_up_in file
+  key ← wire_in file
   entries ← entries_at file
-  stations ← read_stations entries
+  stations ← read_stations found entries
   own ← holds (OutOfRange Member) (nat_le member (length stations))
-  Ok (file_with circuit member paths folders catches_up stations)
+  Ok (file_with circuit member paths folders catches_up key stations)
 
 -- the configuration of a document that was read; where none was read, it is not TOML
-unfoldable pub read_config : Option Members → Result ConfigFile ConfigFault
-read_config None = Err NotToml
-read_config (Some file) = read_file file
+unfoldable pub read_config : Found → Option Members → Result ConfigFile ConfigFault
+read_config found None = Err NotToml
+read_config found (Some file) = read_file found file
+
+-- what a document that was read says, with what may have been found for its hosts
+pub record IsReadFrom (finds : Finds) (document : Option Members) (config : ConfigFile) : Type 0 where
+  pub found : Found
+  pub looked_up : AreFound finds document found
+  pub read : read_config found document ≡ Ok config

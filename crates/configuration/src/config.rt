@@ -11,6 +11,7 @@ ghost use Rattle.configuration.specs.declared.fault.ConfigFault.TheVariants.{Not
 use crate::fault::{ConfigFault, ConfigKey};
 use crate::keys::{
     FolderPaths, Paths, catches_up_in, circuit_at, entries_at, folders_in, member_at, paths_in,
+    wire_in,
 };
 use crate::stations::read_stations;
 use ballots::Member;
@@ -29,6 +30,8 @@ pub struct Folders {
     pub text: bool,
     /// Whether files come into the folder of offers only by being renamed.
     pub renamed: bool,
+    /// The path of the file in which its state is told, where there is to be one.
+    pub status: Option<String>,
 }
 
 /// The configuration of one station of a circuit.
@@ -46,6 +49,8 @@ pub struct Config {
     pub folders: Option<Folders>,
     /// Whether it catches up by itself with what it missed.
     pub catches_up: bool,
+    /// The path of the file of keys, where its wire is sealed.
+    pub key: Option<String>,
     /// Where each member's station listens, in order of members: theirs are 1 to the number of stations.
     pub stations: Vec<Address>,
 }
@@ -64,12 +69,24 @@ pub(crate) fn document_of(alloc: Global, text: &str) -> Result<Table, ConfigFaul
     })
 }
 
+/// The text, with bytes of its own, where there is one.
+fn owned(alloc: Global, text: Option<&str>) -> Result<Option<String>, AllocError>
+    ensures { IfOk result (λ t. option_map string_bytes t ≡ option_map (λ s. s.now) text.entry) }
+{
+    match text {
+        Some(text) => Ok(Some(text.to_string(alloc)?)),
+        None => Ok(None),
+    }
+}
+
 /// The folders at these paths.
 fn folders_of(alloc: Global, paths: &FolderPaths<'_>) -> Result<Folders, AllocError>
-    ensures { IfOk result (λ f. paths_of f ≡ folder_paths paths.now.offers.now paths.now.releases.now paths.now.text paths.now.renamed) }
+    ensures { IfOk result (λ f. paths_of f ≡ folder_paths paths.now.offers.now paths.now.releases.now paths.now.text paths.now.renamed
+        (option_map (λ s. s.now) paths.now.status)) }
 {
     let offers = paths.offers.to_string(alloc)?;
     let releases = paths.releases.to_string(alloc)?;
+    let status = owned(alloc, paths.status)?;
     let text = paths.text;
     let renamed = paths.renamed;
     Ok(Folders {
@@ -77,12 +94,14 @@ fn folders_of(alloc: Global, paths: &FolderPaths<'_>) -> Result<Folders, AllocEr
         releases,
         text,
         renamed,
+        status,
     })
 }
 
 /// The folders at these paths, where there are such.
 fn folders_at(alloc: Global, paths: &Option<FolderPaths<'_>>) -> Result<Option<Folders>, AllocError>
-    ensures { IfOk result (λ f. option_map paths_of f ≡ option_map (λ p. folder_paths p.offers.now p.releases.now p.text p.renamed) paths.now) }
+    ensures { IfOk result (λ f. option_map paths_of f ≡ option_map (λ p. folder_paths p.offers.now p.releases.now p.text p.renamed
+        (option_map (λ s. s.now) p.status)) paths.now) }
 {
     match paths {
         Some(paths) => Ok(Some(folders_of(alloc, paths)?)),
@@ -90,27 +109,31 @@ fn folders_at(alloc: Global, paths: &Option<FolderPaths<'_>>) -> Result<Option<F
     }
 }
 
-/// The paths of three files, with texts of their own.
+/// The paths of three files, and of the file of keys, with texts of their own.
 #[derive(Drop)]
 struct Files {
     table: String,
     widths: String,
     rows: String,
+    key: Option<String>,
 }
 
 /// The files at these paths.
-fn files_of(alloc: Global, paths: &Paths<'_>) -> Result<Files, AllocError>
+fn files_of(alloc: Global, paths: &Paths<'_>, key: Option<&str>) -> Result<Files, AllocError>
     ensures table { IfOk result (λ f. string_bytes f.table ≡ paths.now.table.now) }
     ensures widths { IfOk result (λ f. string_bytes f.widths ≡ paths.now.widths.now) }
     ensures rows { IfOk result (λ f. string_bytes f.rows ≡ paths.now.rows.now) }
+    ensures key { IfOk result (λ f. option_map string_bytes f.key ≡ option_map (λ s. s.now) key.entry) }
 {
     let table = paths.table.to_string(alloc)?;
     let widths = paths.widths.to_string(alloc)?;
     let rows = paths.rows.to_string(alloc)?;
+    let key = owned(alloc, key)?;
     Ok(Files {
         table,
         widths,
         rows,
+        key,
     })
 }
 
@@ -125,7 +148,8 @@ struct Own {
 /// The configuration of these.
 fn config_of(own: Own, files: Files, folders: Option<Folders>, stations: Vec<Address>) -> Config
     ensures value { file_of result ≡ file_with own.circuit own.member
-        (three_paths (string_bytes files.table) (string_bytes files.widths) (string_bytes files.rows)) (option_map paths_of folders) own.catches_up stations.items }
+        (three_paths (string_bytes files.table) (string_bytes files.widths) (string_bytes files.rows)) (option_map paths_of folders) own.catches_up (option_map string_bytes files.key)
+        stations.items }
     ensures member { result.member ≡ own.member }
     ensures stations { result.stations ≡ stations }
 {
@@ -133,6 +157,7 @@ fn config_of(own: Own, files: Files, folders: Option<Folders>, stations: Vec<Add
         table,
         widths,
         rows,
+        key,
     } = files;
     let Own {
         circuit,
@@ -147,6 +172,7 @@ fn config_of(own: Own, files: Files, folders: Option<Folders>, stations: Vec<Add
         rows,
         folders,
         catches_up,
+        key,
         stations,
     }
 }
@@ -160,22 +186,23 @@ fn has_station(count: usize, member: Member) -> bool
 
 /// The configuration of a document.
 #[tactic(auto, unfolding(crate::specs::Reading::read_file))]
-fn read_file(alloc: Global, file: &Table) -> Result<Config, ConfigFault>
-    ensures ok { IfOk result (λ c. read_file (table_view file.now) ≡ Ok (file_of c)) }
+fn read_file(alloc: Global, found: &[Option<[u8; 4]>], file: &Table) -> Result<Config, ConfigFault>
+    ensures ok { IfOk result (λ c. read_file found.now (table_view file.now) ≡ Ok (file_of c)) }
     ensures circuit { IfOk result (λ c. IsCircuit c.member c.stations.items) }
-    ensures err { IfErr result (λ fault. (fault ≡ OutOfMemory) ⊎ (read_file (table_view file.now) ≡ Err fault)) }
+    ensures err { IfErr result (λ fault. (fault ≡ OutOfMemory) ⊎ (read_file found.now (table_view file.now) ≡ Err fault)) }
 {
     let circuit = circuit_at(file)?;
     let member = member_at(file)?;
     let paths = paths_in(file)?;
     let folders = folders_in(file)?;
     let catches_up = catches_up_in(file)?;
+    let key = wire_in(file)?;
     let entries = entries_at(file)?;
-    let stations = read_stations(alloc, entries)?;
+    let stations = read_stations(alloc, found, entries)?;
     if !has_station(stations.len(), member) {
         return Err(ConfigFault::OutOfRange(ConfigKey::Member));
     }
-    let files = files_of(alloc, &paths)?;
+    let files = files_of(alloc, &paths, key)?;
     let folders = folders_at(alloc, &folders)?;
     let own = Own {
         circuit,
@@ -186,19 +213,21 @@ fn read_file(alloc: Global, file: &Table) -> Result<Config, ConfigFault>
 }
 
 impl Config {
-    /// The configuration of a TOML text.
+    /// The configuration of a TOML text, where this was found for the hosts of its stations, entry by entry, as
+    /// [`find_hosts`](crate::find_hosts) finds it.
     ///
     /// The first fault that holds is answered: `NotToml`; `Missing`, `WrongType` or `OutOfRange` of each key in the order
-    /// of [`ConfigKey`](crate::ConfigKey), where the tables of the folders and of catching up may be absent with their keys; `BadStation` of the
-    /// first entry that is no address, or is at odds with an earlier one; and then `OutOfRange` of a member above the number
-    /// of stations. `OutOfMemory` comes where the text could not be read or the configuration not be made for want of memory.
+    /// of [`ConfigKey`](crate::ConfigKey), where the tables of the folders, of catching up and of the wire may be absent with their keys;
+    /// `BadStation` of the first entry that is no address, or is at odds with an earlier one, or `NoAddress` where nothing was found for
+    /// its host; and then `OutOfRange` of a member above the number of stations. `OutOfMemory` comes where the text could not be read
+    /// or the configuration not be made for want of memory.
     #[tactic(auto, unfolding(crate::specs::Reading::read_config))]
-    pub fn read(alloc: Global, text: &str) -> Result<Config, ConfigFault>
-        ensures ok { IfOk result (λ c. read_config (parse_document text.now) ≡ Ok (file_of c)) }
+    pub fn read(alloc: Global, text: &str, found: &[Option<[u8; 4]>]) -> Result<Config, ConfigFault>
+        ensures ok { IfOk result (λ c. read_config found.now (parse_document text.now) ≡ Ok (file_of c)) }
         ensures circuit { IfOk result (λ c. IsCircuit c.member c.stations.items) }
-        ensures err { IfErr result (λ fault. (fault ≡ OutOfMemory) ⊎ (read_config (parse_document text.now) ≡ Err fault)) }
+        ensures err { IfErr result (λ fault. (fault ≡ OutOfMemory) ⊎ (read_config found.now (parse_document text.now) ≡ Err fault)) }
     {
         let file = document_of(alloc, text)?;
-        read_file(alloc, &file)
+        read_file(alloc, found, &file)
     }
 }

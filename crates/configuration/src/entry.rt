@@ -1,11 +1,14 @@
 //! An entry of the stations as a TOML document has it.
 
-ghost use Rattle.std.specs.Prelude.{◌≡◌, ◌≤◌, IfSome, codes};
+ghost use Rattle.std.specs.Prelude.{◌≡◌, ◌≤◌, IfSome, codes, option_map};
 ghost use Rattle.protocol.specs.Limits.{most_members};
 ghost use Rattle.toml.specs.View.{view, table_view};
-ghost use Rattle.configuration.specs.Addresses.{number_in, ip_in, address_of};
+ghost use Rattle.toml.specs.Data.{get_member};
+ghost use Rattle.configuration.specs.Addresses.{number_in, spelled_ip};
+ghost use Rattle.configuration.specs.Stations.{ip_of_either, ip_in, address_of};
 
 use crate::address::ip_of;
+use crate::fault::ConfigFault;
 use crate::keys::{in_range, value_of};
 use ballots::Member;
 use toml::{Table, Value};
@@ -13,6 +16,16 @@ use wire::Address;
 
 /// The greatest port.
 const LAST_PORT: u16 = 65535;
+
+/// An entry of the stations.
+#[derive(Clone, Copy)]
+pub(crate) struct Entry<'a> {
+    /// Its place among them, from 1.
+    pub(crate) place: usize,
+    /// What was found for the name of its host, if it has one.
+    pub(crate) found: Option<[u8; 4]>,
+    pub(crate) value: &'a Value,
+}
 
 /// The whole number at the key, from the least to the most.
 #[tactic(auto, unfolding(crate::specs::Addresses::number_in))]
@@ -26,14 +39,35 @@ fn number_in(entry: &Table, key: &str, least: u16, most: u16) -> Option<u16>
     in_range(least, most, number)
 }
 
-/// The IP address of an entry.
-#[tactic(auto, unfolding(crate::specs::Addresses::ip_in))]
-fn ip_in(entry: &Table) -> Option<[u8; 4]>
-    ensures { result ≡ ip_in (table_view entry.now) }
+/// The IP address that a value spells.
+#[tactic(auto, unfolding(crate::specs::Addresses::spelled_ip))]
+fn spelled_ip(value: &Value) -> Option<[u8; 4]>
+    ensures { result ≡ spelled_ip (view value.now) }
 {
-    let value = value_of(entry, "ip")?;
     let text = value.as_str()?;
     ip_of(text)
+}
+
+/// What was found for the name that a value is.
+fn named_ip(entry: &Entry<'_>, value: &Value) -> Result<[u8; 4], ConfigFault>
+    ensures { result ≡ ip_of_either entry.now.place entry.now.found None (Some (view value.now)) }
+{
+    if value.as_str().is_none() {
+        return Err(ConfigFault::BadStation(entry.place));
+    }
+    entry.found.ok_or(ConfigFault::NoAddress(entry.place))
+}
+
+/// The IP address of an entry with these keys: the one at `ip`, or the one that was found for the name at `host`. It has one of the two.
+#[tactic(auto, unfolding(crate::specs::Stations::ip_in))]
+fn ip_in(entry: &Entry<'_>, keys: &Table) -> Result<[u8; 4], ConfigFault>
+    ensures { result ≡ ip_in entry.now.place entry.now.found (table_view keys.now) }
+{
+    match (value_of(keys, "ip"), value_of(keys, "host")) {
+        (Some(value), None) => spelled_ip(value).ok_or(ConfigFault::BadStation(entry.place)),
+        (None, Some(value)) => named_ip(entry, value),
+        _ => Err(ConfigFault::BadStation(entry.place)),
+    }
 }
 
 /// The member of an entry, one of so many.
@@ -45,16 +79,16 @@ fn member_in(entry: &Table, members: u16) -> Option<Member>
     Member::new(number as u8)
 }
 
-/// The address of an entry: a table with the keys `member`, which is one of so many, `ip` and `port`.
-#[tactic(auto, unfolding(crate::specs::Addresses::address_of))]
-pub(crate) fn address_of(members: u16, entry: &Value) -> Option<Address>
+/// The address of an entry: a table with the keys `member`, which is one of so many, `port`, and `ip` or `host`.
+#[tactic(auto, unfolding(crate::specs::Stations::address_of))]
+pub(crate) fn address_of(members: u16, entry: &Entry<'_>) -> Result<Address, ConfigFault>
     requires { members ≤ most_members }
-    ensures { result ≡ address_of members (view entry.now) }
+    ensures { result ≡ address_of members entry.now.place entry.now.found (view entry.now.value.now) }
 {
-    let keys = entry.as_table()?;
-    Some(Address {
-        member: member_in(keys, members)?,
-        ip: ip_in(keys)?,
-        port: number_in(keys, "port", 1, LAST_PORT)?,
-    })
+    let bad = ConfigFault::BadStation(entry.place);
+    let keys = entry.value.as_table().ok_or(bad)?;
+    let member = member_in(keys, members).ok_or(bad)?;
+    let port = number_in(keys, "port", 1, LAST_PORT).ok_or(bad)?;
+    let ip = ip_in(entry, keys)?;
+    Ok(Address { member, ip, port })
 }

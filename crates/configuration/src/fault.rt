@@ -1,13 +1,16 @@
 //! Why a configuration is none.
 
 ghost use Rattle.std.specs.Prelude.{◌≡◌};
-ghost use Rattle.command_ends.specs.Ends.{end_of, IsOfInput};
+ghost use Rattle.command_ends.specs.Ends.{IsOfInput};
+ghost use Rattle.command_ends.specs.declared.end.End.TheVariants.{Done};
 ghost use Rattle.configuration.specs.Ends.{end_of_config};
 ghost use Rattle.configuration.specs.Keys.{name_of};
 ghost use Rattle.configuration.specs.declared.fault.ConfigFault.TheVariants.{OutOfMemory};
 
-use command_ends::Fault;
+use command_ends::End;
 use std::alloc::{AllocError, AllocFailed};
+use std::fmt;
+use std::io::Write;
 
 /// The keys of a configuration, in the order in which they are read.
 #[derive(Clone, Copy, PartialEq, Eq)]
@@ -25,9 +28,13 @@ pub enum ConfigKey {
     /// These may be absent.
     Text,
     Renamed,
+    Status,
     /// The table of catching up, and its key; both may be absent.
     CatchUp,
     Off,
+    /// The table of the wire, which may be absent, and its key.
+    Wire,
+    Key,
     Station,
 }
 
@@ -47,8 +54,11 @@ impl ConfigKey {
             ConfigKey::Releases => "releases",
             ConfigKey::Text => "text",
             ConfigKey::Renamed => "renamed",
+            ConfigKey::Status => "status",
             ConfigKey::CatchUp => "catch_up",
             ConfigKey::Off => "off",
+            ConfigKey::Wire => "wire",
+            ConfigKey::Key => "key",
             ConfigKey::Station => "station",
         }
     }
@@ -68,6 +78,8 @@ pub enum ConfigFault {
     /// The entry of this place, from 1, among the stations is none, or an earlier one has its member, or its IP address
     /// and port.
     BadStation(usize),
+    /// For the host that the entry of this place names no IPv4 address was found.
+    NoAddress(usize),
     /// There is no memory for it.
     OutOfMemory,
 }
@@ -88,23 +100,45 @@ impl<T: Drop> From<AllocFailed<T>> for ConfigFault {
     }
 }
 
-impl ConfigFault {
-    /// The fault as a command tells it.
-    pub fn told<'a>(self) -> Fault<'a>
-        ensures end { end_of result ≡ end_of_config self }
-        ensures cause { IsOfInput (end_of result) }
-    {
+/// What a person reads.
+impl fmt::Display for ConfigFault {
+    fn fmt<W: fmt::Write>(&self, f: &mut fmt::Formatter<W>) -> fmt::Result {
         let (what, key) = match self {
-            ConfigFault::NotToml => return Fault::Config("not toml"),
-            ConfigFault::BadStation(entry) => return Fault::ConfigStation(entry),
-            ConfigFault::OutOfMemory => return Fault::OutOfMemory,
+            ConfigFault::NotToml => return f.write_str("config: not toml"),
+            ConfigFault::BadStation(entry) => return write!(f, "config: bad station {entry}"),
+            ConfigFault::NoAddress(entry) => {
+                return write!(f, "config: station {entry}: host: no address");
+            }
+            ConfigFault::OutOfMemory => return f.write_str("out of memory"),
             ConfigFault::Missing(key) => ("missing", key),
             ConfigFault::WrongType(key) => ("wrong type", key),
             ConfigFault::OutOfRange(key) => ("out of range", key),
         };
-        Fault::ConfigKey {
-            what,
-            key: key.name(),
+        let name = key.name();
+        write!(f, "config: {what} {name}")
+    }
+}
+
+impl ConfigFault {
+    /// How a command ends by this fault.
+    fn end(self) -> End
+        ensures end { result ≡ end_of_config self }
+        ensures cause { IsOfInput result }
+        ensures fails { ¬ (result ≡ Done) }
+    {
+        match self {
+            ConfigFault::OutOfMemory => End::Memory,
+            _ => End::Input,
         }
+    }
+
+    /// Writes the text, and gives the end. That the writer fails is ignored.
+    pub fn tell<E: Write>(self, err: &mut E) -> End
+        ensures end { result ≡ end_of_config self }
+        ensures cause { IsOfInput result }
+        ensures fails { ¬ (result ≡ Done) }
+    {
+        let _ = writeln!(err, "{self}");
+        self.end()
     }
 }

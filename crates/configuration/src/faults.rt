@@ -4,14 +4,14 @@ ghost use Rattle.std.specs.Prelude.{◌≡◌, ◌⊎◌, [], ◌∷◌, Ok, Err
 ghost use Rattle.protocol.specs.Limits.{most_members};
 ghost use Rattle.toml.specs.Parse.{parse_document};
 ghost use Rattle.toml.specs.View.{table_view};
-ghost use Rattle.configuration.specs.Keys.{number_at, text_at, folders_in, catches_up_in};
+ghost use Rattle.configuration.specs.Keys.{number_at, text_at, folders_in, catches_up_in, wire_in};
 ghost use Rattle.configuration.specs.Faults.{fault_of, noted, stations_in, absent, with_stations, faults_in, all_faults};
 ghost use Rattle.configuration.specs.declared.fault.ConfigKey.TheVariants.{Circuit, Member as MemberKey};
 ghost use Rattle.configuration.specs.declared.fault.ConfigFault.TheVariants.{OutOfMemory};
 
 use crate::config::document_of;
 use crate::fault::{ConfigFault, ConfigKey};
-use crate::keys::{catches_up_in, circuit_at, entries_at, folders_in, member_at, text_at};
+use crate::keys::{catches_up_in, circuit_at, entries_at, folders_in, member_at, text_at, wire_in};
 use crate::stations::read_stations;
 use ballots::Member;
 use std::alloc::{AllocError, Global};
@@ -69,14 +69,28 @@ fn catch_up_fault(file: &Table) -> Option<ConfigFault>
     }
 }
 
+/// The fault at the wire.
+fn wire_fault(file: &Table) -> Option<ConfigFault>
+    ensures { result ≡ fault_of (wire_in (table_view file.now)) }
+{
+    match wire_in(file) {
+        Ok(_) => None,
+        Err(fault) => Some(fault),
+    }
+}
+
 /// The stations, or the first fault among them.
 #[tactic(auto, unfolding(crate::specs::Faults::stations_in))]
-fn stations_in(alloc: Global, file: &Table) -> Result<Vec<Address>, ConfigFault>
-    ensures { MatchResult result (λ stations. stations_in (table_view file.now) ≡ Ok stations.items)
-        (λ fault. (fault ≡ OutOfMemory) ⊎ (stations_in (table_view file.now) ≡ Err fault)) }
+fn stations_in(
+    alloc: Global,
+    found: &[Option<[u8; 4]>],
+    file: &Table,
+) -> Result<Vec<Address>, ConfigFault>
+    ensures { MatchResult result (λ stations. stations_in found.now (table_view file.now) ≡ Ok stations.items)
+        (λ fault. (fault ≡ OutOfMemory) ⊎ (stations_in found.now (table_view file.now) ≡ Err fault)) }
 {
     let entries = entries_at(file)?;
-    read_stations(alloc, entries)
+    read_stations(alloc, found, entries)
 }
 
 /// That this member is none of so many stations, where it was read.
@@ -96,13 +110,14 @@ fn absent(member: Result<Member, ConfigFault>, count: usize) -> Option<ConfigFau
 #[tactic(auto, unfolding(crate::specs::Faults::with_stations))]
 fn note_stations(
     alloc: Global,
+    found: &[Option<[u8; 4]>],
     file: &Table,
     faults: &mut Vec<ConfigFault>,
 ) -> Result<(), AllocError>
     ensures { OnOk result (faults.new.items ≡ with_stations faults.old.items (number_at MemberKey 1 most_members (table_view file.now))
-        (stations_in (table_view file.now))) }
+        (stations_in found.now (table_view file.now))) }
 {
-    match stations_in(alloc, file) {
+    match stations_in(alloc, found, file) {
         Ok(stations) => note(faults, absent(member_at(file), stations.len())),
         Err(ConfigFault::OutOfMemory) => Err(AllocError),
         Err(fault) => note(faults, Some(fault)),
@@ -121,8 +136,12 @@ fn member_fault(file: &Table) -> Option<ConfigFault>
 
 /// The faults of a document, in the order of its keys.
 #[tactic(auto, unfolding(crate::specs::Faults::faults_in))]
-fn faults_in(alloc: Global, file: &Table) -> Result<Vec<ConfigFault>, AllocError>
-    ensures { IfOk result (λ v. v.items ≡ faults_in (table_view file.now)) }
+fn faults_in(
+    alloc: Global,
+    found: &[Option<[u8; 4]>],
+    file: &Table,
+) -> Result<Vec<ConfigFault>, AllocError>
+    ensures { IfOk result (λ v. v.items ≡ faults_in found.now (table_view file.now)) }
 {
     let mut faults = Vec::new(alloc);
     note(&mut faults, circuit_fault(file))?;
@@ -132,7 +151,8 @@ fn faults_in(alloc: Global, file: &Table) -> Result<Vec<ConfigFault>, AllocError
     note(&mut faults, path_fault(file, ConfigKey::Rows))?;
     note(&mut faults, folders_fault(file))?;
     note(&mut faults, catch_up_fault(file))?;
-    note_stations(alloc, file, &mut faults)?;
+    note(&mut faults, wire_fault(file))?;
+    note_stations(alloc, found, file, &mut faults)?;
     Ok(faults)
 }
 
@@ -145,14 +165,19 @@ fn alone(alloc: Global, fault: ConfigFault) -> Result<Vec<ConfigFault>, AllocErr
     Ok(faults)
 }
 
-/// The faults of a configuration's text: that it is not TOML; or that of each key, the first of the folders and of catching up, and the first among the
-/// stations, in the order in which they are read.
+/// The faults of a configuration's text, where this was found for the hosts of its stations, entry by entry: that it is not TOML; or that of
+/// each key, the first of the folders, of catching up and of the wire, and the first among the stations, in the order in which they are
+/// read.
 #[tactic(auto, unfolding(crate::specs::Faults::all_faults))]
-pub fn faults_of(alloc: Global, text: &str) -> Result<Vec<ConfigFault>, AllocError>
-    ensures { IfOk result (λ v. v.items ≡ all_faults (parse_document text.now)) }
+pub fn faults_of(
+    alloc: Global,
+    text: &str,
+    found: &[Option<[u8; 4]>],
+) -> Result<Vec<ConfigFault>, AllocError>
+    ensures { IfOk result (λ v. v.items ≡ all_faults found.now (parse_document text.now)) }
 {
     match document_of(alloc, text) {
-        Ok(file) => faults_in(alloc, &file),
+        Ok(file) => faults_in(alloc, found, &file),
         Err(ConfigFault::OutOfMemory) => Err(AllocError),
         Err(fault) => alone(alloc, fault),
     }

@@ -4,7 +4,7 @@ ghost use Rattle.std.specs.Prelude.{◌≡◌, ◌≤◌, IfSome, IfOk, option_m
 ghost use Rattle.protocol.specs.Limits.{most_members};
 ghost use Rattle.toml.specs.Data.{get_member};
 ghost use Rattle.toml.specs.View.{view, table_view, array_view};
-ghost use Rattle.configuration.specs.Keys.{Gives, in_range, value_at, number_at, text_at, flag_at, three_paths, paths_in, folder_paths, folder_paths_in, folders_in, catches_up_in, entries_at};
+ghost use Rattle.configuration.specs.Keys.{Gives, in_range, value_at, number_at, text_at, text_where, flag_at, three_paths, paths_in, folder_paths, folder_paths_in, folders_in, catches_up_in, wire_in, entries_at};
 ghost use Rattle.configuration.specs.declared.fault.ConfigKey.TheVariants.{Circuit, Member as MemberKey};
 
 use crate::fault::{ConfigFault, ConfigKey};
@@ -26,13 +26,15 @@ pub(crate) struct Paths<'a> {
     pub(crate) rows: &'a str,
 }
 
-/// The paths of two folders, whether texts may be offered in the first, and whether files come into it only by being renamed.
+/// The paths of two folders, whether texts may be offered in the first, whether files come into it only by being renamed, and the path of
+/// the status file, where there is to be one.
 #[derive(Clone, Copy)]
 pub(crate) struct FolderPaths<'a> {
     pub(crate) offers: &'a str,
     pub(crate) releases: &'a str,
     pub(crate) text: bool,
     pub(crate) renamed: bool,
+    pub(crate) status: Option<&'a str>,
 }
 
 /// The value at the key of this name.
@@ -144,23 +146,38 @@ fn flag_at(keys: &Table, key: ConfigKey, default: bool) -> Result<bool, ConfigFa
     }
 }
 
+/// The text at the key, where it is there.
+#[tactic(auto, unfolding(crate::specs::Keys::text_where))]
+fn text_where(keys: &Table, key: ConfigKey) -> Result<Option<&str>, ConfigFault>
+    ensures { Gives result (λ t. option_map (λ s. s.now) t) (text_where key (table_view keys.now)) }
+{
+    match value_of(keys, key.name()) {
+        Some(value) => match value.as_str() {
+            Some(text) => Ok(Some(text)),
+            None => Err(ConfigFault::WrongType(key)),
+        },
+        None => Ok(None),
+    }
+}
+
 /// The paths in the table of the folders.
 #[tactic(auto, unfolding(crate::specs::Keys::folder_paths_in))]
 fn folder_paths_in(keys: &Table) -> Result<FolderPaths<'_>, ConfigFault>
-    ensures { Gives result (λ p. folder_paths p.offers.now p.releases.now p.text p.renamed) (folder_paths_in (table_view keys.now)) }
+    ensures { Gives result (λ p. folder_paths p.offers.now p.releases.now p.text p.renamed (option_map (λ s. s.now) p.status)) (folder_paths_in (table_view keys.now)) }
 {
     Ok(FolderPaths {
         offers: text_at(keys, ConfigKey::Offers)?,
         releases: text_at(keys, ConfigKey::Releases)?,
         text: flag_at(keys, ConfigKey::Text, true)?,
         renamed: flag_at(keys, ConfigKey::Renamed, false)?,
+        status: text_where(keys, ConfigKey::Status)?,
     })
 }
 
 /// The folders, where there is a table of them.
 #[tactic(auto, unfolding(crate::specs::Keys::folders_in))]
 pub(crate) fn folders_in(file: &Table) -> Result<Option<FolderPaths<'_>>, ConfigFault>
-    ensures { Gives result (λ f. option_map (λ p. folder_paths p.offers.now p.releases.now p.text p.renamed) f) (folders_in (table_view file.now)) }
+    ensures { Gives result (λ f. option_map (λ p. folder_paths p.offers.now p.releases.now p.text p.renamed (option_map (λ s. s.now) p.status)) f) (folders_in (table_view file.now)) }
 {
     let Some(value) = value_of(file, ConfigKey::Folders.name()) else {
         return Ok(None);
@@ -182,5 +199,19 @@ pub(crate) fn catches_up_in(file: &Table) -> Result<bool, ConfigFault>
     match value.as_table() {
         Some(keys) => Ok(!flag_at(keys, ConfigKey::Off, false)?),
         None => Err(ConfigFault::WrongType(ConfigKey::CatchUp)),
+    }
+}
+
+/// The path of the file of keys, where there is a table of the wire: then it is to be sealed.
+#[tactic(auto, unfolding(crate::specs::Keys::wire_in))]
+pub(crate) fn wire_in(file: &Table) -> Result<Option<&str>, ConfigFault>
+    ensures { Gives result (λ k. option_map (λ s. s.now) k) (wire_in (table_view file.now)) }
+{
+    let Some(value) = value_of(file, ConfigKey::Wire.name()) else {
+        return Ok(None);
+    };
+    match value.as_table() {
+        Some(keys) => Ok(Some(text_at(keys, ConfigKey::Key)?)),
+        None => Err(ConfigFault::WrongType(ConfigKey::Wire)),
     }
 }

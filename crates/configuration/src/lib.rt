@@ -1,4 +1,4 @@
-//! A station's configuration: its keys in TOML, and the addresses of its circuit.
+//! A station's configuration: its keys in TOML, and the addresses of its circuit, where hosts may be named.
 #![tactic(auto)]
 
 mod address;
@@ -7,10 +7,12 @@ mod config_file;
 mod entry;
 mod fault;
 mod faults;
+mod hosts;
 mod keys;
 mod stations;
 
 pub use config::{Config, Folders};
-pub use config_file::read_config;
+pub use config_file::{ConfigInput, read_config};
 pub use fault::{ConfigFault, ConfigKey};
 pub use faults::faults_of;
+pub use hosts::{Hosts, NoLookUp, Resolver, find_hosts};

@@ -3,10 +3,10 @@
 ghost use Rattle.std.specs.Prelude.{◌≡◌, ◌≤◌, ◌⊎◌, length, IfOk, IfErr, Ok, Err, vec_len};
 ghost use Rattle.protocol.specs.Limits.{most_members};
 ghost use Rattle.toml.specs.View.{view, array_view};
-ghost use Rattle.configuration.specs.Stations.{AreInOrder, are_at_odds, is_taken, read_entry, addresses_of, address_among, in_order, read_stations};
+ghost use Rattle.configuration.specs.Stations.{AreInOrder, are_at_odds, is_taken, found_at, read_entry, addresses_of, address_among, in_order, read_stations};
 ghost use Rattle.configuration.specs.declared.fault.ConfigFault.TheVariants.{OutOfMemory};
 
-use crate::entry::address_of;
+use crate::entry::{Entry, address_of};
 use crate::fault::ConfigFault;
 use std::alloc::{AllocError, Global};
 use toml::Value;
@@ -27,34 +27,48 @@ fn is_taken(earlier: &[Address], address: &Address) -> bool
     earlier.iter().any(|other| are_at_odds(other, address))
 }
 
-/// The address of the entry at this place, counted from 1, where none of the earlier is at odds with it.
+/// The address of an entry, where none of the earlier is at odds with it.
 #[tactic(auto, unfolding(crate::specs::Stations::read_entry))]
-fn read_entry(
-    members: u16,
-    earlier: &[Address],
-    place: usize,
-    entry: &Value,
-) -> Result<Address, ConfigFault>
+fn read_entry(members: u16, earlier: &[Address], entry: &Entry<'_>) -> Result<Address, ConfigFault>
     requires { members ≤ most_members }
-    ensures { result ≡ read_entry members earlier.now place (view entry.now) }
+    ensures { result ≡ read_entry members earlier.now entry.now.place entry.now.found (view entry.now.value.now) }
 {
-    let address = address_of(members, entry).ok_or(ConfigFault::BadStation(place))?;
+    let address = address_of(members, entry)?;
     if is_taken(earlier, &address) {
-        return Err(ConfigFault::BadStation(place));
+        return Err(ConfigFault::BadStation(entry.place));
     }
     Ok(address)
 }
 
+/// What was found for the host of the entry at a place, counted from 0.
+fn found_at(found: &[Option<[u8; 4]>], index: usize) -> Option<[u8; 4]>
+    ensures { result ≡ found_at found.now index }
+{
+    match found.get(index) {
+        Some(ip) => *ip,
+        None => None,
+    }
+}
+
 /// The addresses of all entries, in their order.
-fn read_entries(alloc: Global, entries: &Array) -> Result<Vec<Address>, ConfigFault>
+fn read_entries(
+    alloc: Global,
+    found: &[Option<[u8; 4]>],
+    entries: &Array,
+) -> Result<Vec<Address>, ConfigFault>
     requires { vec_len entries.now ≤ most_members }
-    ensures ok { IfOk result (λ addresses. addresses_of (array_view entries.now) ≡ Ok addresses.items) }
-    ensures err { IfErr result (λ e. (e ≡ OutOfMemory) ⊎ (addresses_of (array_view entries.now) ≡ Err e)) }
+    ensures ok { IfOk result (λ addresses. addresses_of found.now (array_view entries.now) ≡ Ok addresses.items) }
+    ensures err { IfErr result (λ e. (e ≡ OutOfMemory) ⊎ (addresses_of found.now (array_view entries.now) ≡ Err e)) }
 {
     let members = entries.len() as u16;
     let mut addresses = Vec::with_capacity(alloc, entries.len())?;
-    for (index, entry) in entries.iter().enumerate() {
-        let address = read_entry(members, &addresses, index + 1, entry)?;
+    for (index, value) in entries.iter().enumerate() {
+        let entry = Entry {
+            place: index + 1,
+            found: found_at(found, index),
+            value,
+        };
+        let address = read_entry(members, &addresses, &entry)?;
         addresses.push(address)?;
     }
     Ok(addresses)
@@ -83,15 +97,19 @@ fn in_order(alloc: Global, addresses: &[Address]) -> Result<Vec<Address>, AllocE
     Ok(stations)
 }
 
-/// The stations of an array's entries, in order of their members: as many members as entries.
-pub(crate) fn read_stations(alloc: Global, entries: &Array) -> Result<Vec<Address>, ConfigFault>
+/// The stations of an array's entries, where this was found for their hosts, in order of their members: as many members as entries.
+pub(crate) fn read_stations(
+    alloc: Global,
+    found: &[Option<[u8; 4]>],
+    entries: &Array,
+) -> Result<Vec<Address>, ConfigFault>
     requires { vec_len entries.now ≤ most_members }
-    ensures ok { IfOk result (λ stations. read_stations (array_view entries.now) ≡ Ok stations.items) }
+    ensures ok { IfOk result (λ stations. read_stations found.now (array_view entries.now) ≡ Ok stations.items) }
     ensures order { IfOk result (λ stations. AreInOrder stations.items) }
     ensures most { IfOk result (λ stations. length stations.items ≤ most_members) }
-    ensures err { IfErr result (λ e. (e ≡ OutOfMemory) ⊎ (read_stations (array_view entries.now) ≡ Err e)) }
+    ensures err { IfErr result (λ e. (e ≡ OutOfMemory) ⊎ (read_stations found.now (array_view entries.now) ≡ Err e)) }
 {
-    let addresses = read_entries(alloc, entries)?;
+    let addresses = read_entries(alloc, found, entries)?;
     let stations = in_order(alloc, &addresses)?;
     Ok(stations)
 }

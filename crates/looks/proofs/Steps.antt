@@ -1,8 +1,8 @@
 -- The steps of a look at the files whose names ask for nothing.
 use Rattle.std.proofs.Common.{◌≡◌, ℕ, List, [], ◌∷◌, map, true, false, cond, None, Some, String, sym, ap, ◌∙◌, refl, string_bytes}
-use Rattle.std.specs.declared.cmp.Ordering.TheVariants.{Less}
+use Rattle.std.specs.declared.cmp.Ordering.TheVariants.{Less, Equal, Greater}
 use Rattle.std.specs.Cmp.Lexicographic.{slice_cmp}
-use Rattle.std.specs.Ordering.{nat_cmp}
+use Rattle.std.specs.Ordering.{is_eq, nat_cmp}
 use Rattle.std.specs.Str.{bytes_eq}
 use Rattle.std.specs.String.{string_cmp}
 use Rattle.std.specs.Global.{Global}
@@ -12,8 +12,9 @@ use Rattle.std.specs.Map.{keys_of}
 use Rattle.folders.specs.declared.stamp.Stamp.{Stamp}
 use Rattle.looks.specs.declared.sighting.Stray.{Stray}
 use Rattle.looks.specs.Names.{is_before}
-use Rattle.looks.specs.Strays.{AreInOrder, first_known, from, known_of, looked, starts_before}
-use Rattle.looks.proofs.Texts.{before_from, apart, apart_back, before_more, behind}
+use Rattle.std.proofs.lemmas.Map.Text.{is_eq-slice_cmp}
+use Rattle.looks.specs.Strays.{AreInOrder, first_known, first_stands, from, known_of, known_where, left_where, looked, past, starts_before}
+use Rattle.looks.proofs.Texts.{before_from, apart, apart_back, before_more, behind, own_apart}
 
 -- what stands before a name is none of those that are no such name: of the files from there on the same is known
 known_from :
@@ -114,3 +115,49 @@ rest_sorted e es r = r.1
 pub empty_in_order : AreInOrder []
 unfolding IsStrictlySortedBy
 empty_in_order = tt
+
+-- what is known where the first of the files stands so to a name, and which files are left then
+pub known_met : (name : List ℕ) (ss : List Stray) → known_where (first_stands name ss) ss ≡ first_known name ss
+known_met name [] = refl
+known_met name (s ∷ ss) =
+    elim (slice_cmp nat_cmp (string_bytes s.name) name) as (λ o. o ≡ slice_cmp nat_cmp (string_bytes s.name) name → known_where o (s ∷ ss) ≡ first_known name (s ∷ ss)) [
+      | Less ↦ λ e. rw (sym (is_eq-slice_cmp (string_bytes s.name) name) ∙ ap is_eq (sym e)) refl
+      | Equal ↦ λ e. rw (sym (is_eq-slice_cmp (string_bytes s.name) name) ∙ ap is_eq (sym e)) refl
+      | Greater ↦ λ e. rw (sym (is_eq-slice_cmp (string_bytes s.name) name) ∙ ap is_eq (sym e)) refl
+    ] refl
+
+pub left_met : (name : List ℕ) (ss : List Stray) → left_where (first_stands name ss) ss ≡ past name ss
+left_met name [] = refl
+left_met name (s ∷ ss) =
+    elim (slice_cmp nat_cmp (string_bytes s.name) name) as (λ o. o ≡ slice_cmp nat_cmp (string_bytes s.name) name → left_where o (s ∷ ss) ≡ past name (s ∷ ss)) [
+      | Less ↦ λ e. rw (sym (is_eq-slice_cmp (string_bytes s.name) name) ∙ ap is_eq (sym e)) refl
+      | Equal ↦ λ e. rw (sym (is_eq-slice_cmp (string_bytes s.name) name) ∙ ap is_eq (sym e)) refl
+      | Greater ↦ λ e. rw (sym (is_eq-slice_cmp (string_bytes s.name) name) ∙ ap is_eq (sym e)) refl
+    ] refl
+
+-- those behind a name are in order
+pub past_in_order : (name : List ℕ) (ss : List Stray) → AreInOrder ss → AreInOrder (past name ss)
+unfolding IsStrictlySortedBy
+past_in_order name [] r = r
+past_in_order name (s ∷ ss) r = elim (bytes_eq (string_bytes s.name) name) as (λ b. AreInOrder (cond b ss (s ∷ ss))) [
+  | true ↦ r.1
+  | false ↦ r
+]
+
+-- of a name that stands behind this one the same is known without it
+known_past : (name q : List ℕ) (ss : List Stray) → slice_cmp nat_cmp name q ≡ Less → known_of (past name ss) q ≡ known_of ss q
+known_past name q [] later = refl
+known_past name q (s ∷ ss) later =
+    elim (bytes_eq (string_bytes s.name) name) as (λ b. b ≡ bytes_eq (string_bytes s.name) name → known_of (cond b ss (s ∷ ss)) q ≡ known_of (s ∷ ss) q) [
+      | true ↦ λ e. rw (own_apart (string_bytes s.name) name q (sym e) later) refl
+      | false ↦ λ e. refl
+    ] refl
+
+-- of what is still to come the same is known without what was met
+pub still_past :
+    (known rest : List Stray) (name : String Global) (es : List (String Global × Stamp))
+    → AllByRecursion (λ (y : String Global). string_cmp name y ≡ Less) (keys_of es)
+    → AllByRecursion (λ (e : String Global × Stamp). known_of rest (string_bytes e.0) ≡ known_of known (string_bytes e.0)) es
+    → AllByRecursion (λ (e : String Global × Stamp). known_of (past (string_bytes name) rest) (string_bytes e.0) ≡ known_of known (string_bytes e.0)) es
+still_past known rest name [] l h = h
+still_past known rest name (e ∷ es) l h = (known_past (string_bytes name) (string_bytes e.0) rest l.0 ∙ h.0, still_past known rest name es l.1 h.1)

@@ -5,6 +5,7 @@ use Rattle.std.specs.Cmp.Lexicographic.{slice_cmp, nat_list_cmp_total}
 use Rattle.std.specs.Ordering.{is_lt, is_eq, nat_cmp, ordering_reverse}
 use Rattle.std.specs.Str.{bytes_eq}
 use Rattle.std.proofs.lemmas.Map.Text.{is_eq-slice_cmp}
+use Rattle.std.proofs.lemmas.Slice.Eq.{bytes_eq-Decides}
 use Rattle.looks.specs.Names.{is_before}
 
 -- which answer it was
@@ -38,3 +39,7 @@ pub behind : (a b : List ℕ) → is_before a b ≡ false → bytes_eq a b ≡ f
 behind a b e f =
     let greater : slice_cmp nat_cmp a b ≡ Greater = greater_from (slice_cmp nat_cmp a b) e (is_eq-slice_cmp a b ∙ f) in
     nat_list_cmp_total.antisymm b a ∙ ap ordering_reverse greater
+
+-- a name that is this one is none that stands behind it
+pub own_apart : (a b c : List ℕ) → bytes_eq a b ≡ true → slice_cmp nat_cmp b c ≡ Less → bytes_eq a c ≡ false
+own_apart a b c e f = rw ((bytes_eq-Decides a b).0 e) (apart b c f)

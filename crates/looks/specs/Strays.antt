@@ -3,6 +3,10 @@ use Rattle.std.specs.Prelude.{ℕ, zero, suc, List, [], ◌∷◌, Bool, true, f
 use Rattle.std.specs.List.{position_from, slice_get}
 use Rattle.std.specs.Option.{unwrap_or}
 use Rattle.std.specs.List.Sorted.{IsStrictlySortedBy}
+use Rattle.std.specs.declared.cmp.Ordering.{Ordering}
+use Rattle.std.specs.declared.cmp.Ordering.TheVariants.{Less, Equal, Greater}
+use Rattle.std.specs.Cmp.Lexicographic.{slice_cmp}
+use Rattle.std.specs.Ordering.{nat_cmp}
 use Rattle.std.specs.Str.{bytes_eq}
 use Rattle.std.specs.String.{string_cmp}
 use Rattle.std.specs.Global.{Global}
@@ -60,6 +64,30 @@ from name (s ∷ rest) = if is_before (string_bytes s.name) name then from name 
 abbrev pub first_known : List ℕ → List Stray → Option Sighting
 first_known name [] = None
 first_known name (s ∷ rest) = if bytes_eq (string_bytes s.name) name then Some s.sighting else None
+
+-- the files behind the one of this name, where it is the first
+abbrev pub past : List ℕ → List Stray → List Stray
+past name [] = []
+past name (s ∷ rest) = if bytes_eq (string_bytes s.name) name then rest else s ∷ rest
+
+-- how the first of the files stands to a name; behind it, where there is none
+abbrev pub first_stands : List ℕ → List Stray → Ordering
+first_stands name [] = Greater
+first_stands name (s ∷ rest) = slice_cmp nat_cmp (string_bytes s.name) name
+
+-- what is known of a file to which the first stands so
+abbrev pub known_where : Ordering → List Stray → Option Sighting
+known_where Less rest = None
+known_where Equal [] = None
+known_where Equal (s ∷ rest) = Some s.sighting
+known_where Greater rest = None
+
+-- the files that are left then
+abbrev pub left_where : Ordering → List Stray → List Stray
+left_where Less rest = rest
+left_where Equal [] = []
+left_where Equal (s ∷ rest) = rest
+left_where Greater rest = rest
 
 -- the place of the first file from the next on that is moved
 abbrev pub first_ripe : StraysValue → Option ℕ

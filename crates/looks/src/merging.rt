@@ -1,54 +1,56 @@
 //! A look at the files whose names ask for nothing: what was found beside what was known, both in order of their names, in one pass.
 
-ghost use Rattle.std.specs.Prelude.{◌≡◌, IfOk, string_bytes};
-ghost use Rattle.looks.specs.Sightings.{sighted};
-ghost use Rattle.looks.specs.Strays.{first_known, from, looked, starts_before, AreInOrder};
+ghost use Rattle.std.specs.Prelude.{◌≡◌, IfOk};
+ghost use Rattle.looks.specs.Strays.{first_known, first_stands, from, known_where, left_where, looked, past, AreInOrder};
 
 use crate::sighting::{Sighting, Stray};
 use folders::Stamp;
 use std::alloc::{AllocError, Global};
+use std::cmp::Ordering;
 use std::collections::BTreeMap;
 
-/// The first of the files stands before a name.
-fn starts_before(rest: &[Stray], name: &str) -> bool
-    ensures { result ≡ starts_before name.now rest.now }
+/// How the first of the files stands to a name; behind it, where there is none.
+fn first_stands(rest: &[Stray], name: &str) -> Ordering
+    ensures { result ≡ first_stands name.now rest.now }
 {
     match rest.first() {
-        Some(first) => first.name.as_str() < name,
-        None => false,
+        Some(first) => first.name.as_str().cmp(name),
+        None => Ordering::Greater,
     }
 }
 
-/// The files from the first on that does not stand before a name.
-fn skip_to<'a>(rest: &'a [Stray], name: &str) -> &'a [Stray]
-    ensures { result.now ≡ from name.now rest.now }
+/// The files from the first on that does not stand before a name, and how that one stands to it.
+fn skip_to<'a>(rest: &'a [Stray], name: &str) -> (&'a [Stray], Ordering)
+    ensures rest { result.0.now ≡ from name.now rest.now }
+    ensures stands { result.1 ≡ first_stands name.now result.0.now }
 {
     let mut rest = rest;
-    while starts_before(rest, name) {
+    let mut stands = first_stands(rest, name);
+    while stands == Ordering::Less {
         rest = &rest[1..];
+        stands = first_stands(rest, name);
     }
-    rest
+    (rest, stands)
 }
 
-/// What is known of the file of this name, where it is the first.
-fn first_known(rest: &[Stray], name: &str) -> Option<Sighting>
-    ensures { result ≡ first_known name.now rest.now }
+/// What is known of a file to which the first stands so, and the files behind those that are done with then.
+fn met(rest: &[Stray], stands: Ordering) -> (Option<Sighting>, &[Stray])
+    ensures known { result.0 ≡ known_where stands rest.now }
+    ensures left { result.1.now ≡ left_where stands rest.now }
 {
-    match rest.first() {
-        Some(first) if first.name.as_str() == name => Some(first.sighting),
-        _ => None,
+    match (stands, rest.first()) {
+        (Ordering::Equal, Some(first)) => (Some(first.sighting), &rest[1..]),
+        _ => (None, rest),
     }
 }
 
-/// A file that is found at a moment, beside those from its name on that were known.
-fn stray_of(rest: &[Stray], name: String, stamp: Stamp, now: u64) -> Stray
-    ensures { result ≡ record { name = name; sighting = sighted (first_known (string_bytes name) rest.now) stamp now } }
+/// What is known of the file of this name, and those of the files that stand behind it.
+fn meet<'a>(rest: &'a [Stray], name: &str) -> (Option<Sighting>, &'a [Stray])
+    ensures known { result.0 ≡ first_known name.now (from name.now rest.now) }
+    ensures left { result.1.now ≡ past name.now (from name.now rest.now) }
 {
-    let known = first_known(rest, name.as_str());
-    Stray {
-        name,
-        sighting: Sighting::after(known, stamp, now),
-    }
+    let (first, stands) = skip_to(rest, name);
+    met(first, stands)
 }
 
 /// All that is found at a moment, beside what was known.
@@ -65,9 +67,10 @@ pub(crate) fn merge(
     let mut files = Vec::with_capacity(alloc, found.len())?;
     let mut rest = known;
     for (name, stamp) in found {
-        rest = skip_to(rest, name.as_str());
-        let stray = stray_of(rest, name, stamp, now);
-        files.push(stray)?;
+        let (known, left) = meet(rest, name.as_str());
+        let sighting = Sighting::after(known, stamp, now);
+        rest = left;
+        files.push(Stray { name, sighting })?;
     }
     Ok(files)
 }

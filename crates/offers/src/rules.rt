@@ -1,6 +1,6 @@
 //! What the rules say of one file.
 
-ghost use Rattle.std.specs.Prelude.{◌≡◌, None, false, IfSome};
+ghost use Rattle.std.specs.Prelude.{◌≡◌, ◌&&◌, None, false, not, is_some, IfSome};
 ghost use Rattle.std.specs.Ordering.{nat_cmp};
 ghost use Rattle.std.specs.BTreeMap.{get};
 ghost use Rattle.offers.specs.Rules.{is_whole, is_leaving, leaves_now, moment_of, ask_moment, is_other, has_other, is_under_way, IsLeaving, IsMoveFor, IsOther};
@@ -85,12 +85,21 @@ fn moment_of(stage: &Stage, looked: u64) -> Option<u64>
     }
 }
 
-/// Whether a file in this state leaves the offers, where its number was released or was not.
-fn leaves_now(stage: &Stage, is_released: bool, looked: u64) -> bool
-    ensures { result ≡ leaves_now is_released looked stage.now }
+/// Whether the number of a file was released.
+fn is_released(offer: &Offer, known: &Known) -> bool
+    ensures { result ≡ is_some (get nat_cmp known.now.released offer.now.request.number) }
 {
-    match stage {
-        Stage::Waiting { at, .. } => *at <= looked && is_released,
+    let key = offer.request.number.get();
+    known.released.contains_key(&key)
+}
+
+/// Whether a file in its state leaves the offers. What was released is asked only where its moment has come.
+fn leaves_now(offer: &Offer, known: &Known) -> bool
+    ensures { result ≡ leaves_now (is_some (get nat_cmp known.now.released offer.now.request.number)) known.now.looked offer.now.stage }
+{
+    let looked = known.looked;
+    match &offer.stage {
+        Stage::Waiting { at, .. } => *at <= looked && is_released(offer, known),
         Stage::Answered { at, .. } => *at <= looked,
         _ => false,
     }
@@ -100,30 +109,42 @@ fn leaves_now(stage: &Stage, is_released: bool, looked: u64) -> bool
 pub(crate) fn is_leaving(offer: &Offer, known: &Known) -> bool
     ensures { result ≡ is_leaving (get nat_cmp known.now.released offer.now.request.number) known.now.still known.now.looked offer.now }
 {
-    let key = offer.request.number.get();
-    let is_released = known.released.contains_key(&key);
-    is_whole(offer, known) && leaves_now(&offer.stage, is_released, known.looked)
+    is_whole(offer, known) && leaves_now(offer, known)
+}
+
+/// Whether the number of a file is under way.
+fn flies(offer: &Offer, known: &Known) -> bool
+    ensures { result ≡ is_under_way offer.now.request.number known.now.window }
+{
+    is_under_way(known.window.numbers(), offer.request.number)
+}
+
+/// Whether the station may be asked for a file, once its moment has come.
+fn is_free(offer: &Offer, known: &Known) -> bool
+    ensures { result ≡ (is_whole known.now.still known.now.looked offer.now && not (is_some (get nat_cmp known.now.released offer.now.request.number)) && not (is_under_way offer.now.request.number known.now.window)) }
+{
+    is_whole(offer, known) && !is_released(offer, known) && !flies(offer, known)
 }
 
 /// The moment since which the station may be asked for a file.
 pub(crate) fn ask_moment(offer: &Offer, known: &Known) -> Option<u64>
     ensures { result ≡ ask_moment (get nat_cmp known.now.released offer.now.request.number) (is_under_way offer.now.request.number known.now.window) known.now.still known.now.looked offer.now }
 {
-    let flies = is_under_way(known.window.numbers(), offer.request.number);
-    let key = offer.request.number.get();
-    if is_whole(offer, known) && !known.released.contains_key(&key) && !flies {
-        moment_of(&offer.stage, known.looked)
+    let moment = moment_of(&offer.stage, known.looked);
+    if moment.is_some() && is_free(offer, known) {
+        moment
     } else {
         None
     }
 }
 
-/// Whether a file in this state was not read and is to be, or is to be refused, where its number is under way or is not.
-fn is_other(stage: &Stage, flies: bool, looked: u64) -> bool
-    ensures { result ≡ is_other flies looked stage.now }
+/// Whether a file in its state was not read and is to be, or is to be refused. What is under way is asked only where its moment has come.
+fn is_other(offer: &Offer, known: &Known) -> bool
+    ensures { result ≡ is_other (is_under_way offer.now.request.number known.now.window) known.now.looked offer.now.stage }
 {
-    match stage {
-        Stage::Watched { at, .. } => *at <= looked && !flies,
+    let looked = known.looked;
+    match &offer.stage {
+        Stage::Watched { at, .. } => *at <= looked && !flies(offer, known),
         Stage::Refused { at, .. } => *at <= looked,
         _ => false,
     }
@@ -133,8 +154,7 @@ fn is_other(stage: &Stage, flies: bool, looked: u64) -> bool
 pub(crate) fn has_other(offer: &Offer, known: &Known) -> bool
     ensures { result ≡ has_other (is_under_way offer.now.request.number known.now.window) known.now.still known.now.looked offer.now }
 {
-    let flies = is_under_way(known.window.numbers(), offer.request.number);
-    is_whole(offer, known) && is_other(&offer.stage, flies, known.looked)
+    is_whole(offer, known) && is_other(offer, known)
 }
 
 /// How a file is read or refused now.

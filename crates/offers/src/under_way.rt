@@ -10,5 +10,5 @@ pub(crate) fn is_under_way(numbers: &[u32], number: Number) -> bool
     ensures { result ≡ is_under_way number numbers.now }
 {
     let wanted = number.get();
-    numbers.contains(&wanted)
+    numbers.iter().any(|each| *each == wanted)
 }

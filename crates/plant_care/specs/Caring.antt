@@ -87,7 +87,7 @@ IsDone step old new =
 
 -- numbers that are asked for are to be told
 abbrev pub KeepsMissed : Care → Care → Type 0
-KeepsMissed old new = new ≡ record old { catch_up = new.catch_up; missed = new.missed }
+KeepsMissed old new = new ≡ record old { catch_up = new.catch_up; missed = new.missed; lacked = new.lacked }
 
 -- a search of what is asked for by hand: of the number whose turn it is; or there is none to begin
 abbrev pub IsSpent : Care → Care → Option Errand → Type 0
@@ -110,7 +110,7 @@ ComesNext now errand old new = (between : Care) × IsErrand now old between erra
 -- behind an errand no other comes at once
 abbrev pub TakesTurns : Option Errand → Care → Care → Type 0
 TakesTurns errand old new =
-    (new ≡ record old { catch_up = new.catch_up; had_turn = new.had_turn; ask = new.ask; missed = new.missed })
+    (new ≡ record old { catch_up = new.catch_up; had_turn = new.had_turn; ask = new.ask; missed = new.missed; lacked = new.lacked })
     × (new.had_turn ≡ is_some errand) × (old.had_turn ≡ true → errand ≡ None)
 
 -- a search was not taken: its number waits again
@@ -121,7 +121,7 @@ Declines old new = (new ≡ record old { catch_up = new.catch_up; ask = new.ask 
 -- asks on its own as before
 abbrev pub KeepsRest : Care → Care → Type 0
 KeepsRest old new =
-    (new ≡ record old { catch_up = new.catch_up; unnoted = new.unnoted; missed = new.missed; told_few = new.told_few })
+    (new ≡ record old { catch_up = new.catch_up; unnoted = new.unnoted; missed = new.missed; told_few = new.told_few; lacked = new.lacked })
     × (new.catch_up.asks ≡ old.catch_up.asks)
 
 -- what went out is noted, all of it, or for now nothing

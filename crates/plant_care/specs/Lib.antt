@@ -1,3 +1,4 @@
 pub mod Asking
 pub mod Caring
 pub mod Starting
+pub mod Surveying

@@ -7,12 +7,14 @@ ghost use Rattle.plant_care.specs.Caring.{ComesNext, Declines, IsAskHeard, IsAsi
 
 use crate::ask::Ask;
 use crate::beginning::Start;
+use crate::surveying::add_lacked;
 use ballots::Number;
 use catch_up::{CatchUp, Errand, Packet, Unheard};
 use catch_up_log::{Missed, Spoken, Unheards, Unnoted};
 use driver::{Chance, Declined, Heard, Log, Step};
 use exchange::Said;
 use folders::FolderFault;
+use gone_out::Numbers;
 use messages::Kind;
 use node_core::Note;
 use rolls::Aside;
@@ -42,6 +44,8 @@ pub struct Care {
     pub(crate) waiting: Option<(Start, FolderFault)>,
     /// The range that an editor asks for.
     pub(crate) ask: Option<Ask>,
+    /// The numbers that were asked for since nothing was lacked last.
+    pub(crate) lacked: Option<Numbers>,
 }
 
 impl Care {
@@ -71,6 +75,7 @@ impl Care {
             told_few: false,
             waiting,
             ask: None,
+            lacked: None,
         }
     }
 
@@ -177,17 +182,17 @@ impl Care {
         self.note_release(step);
     }
 
-    /// The numbers that are asked for from now on are to be told, unless faults alone are.
+    /// The numbers that are asked for from now on are lacked, and to be told, unless faults alone are.
     fn keep_missed(&mut self)
         ensures { KeepsMissed self.old self.new }
     {
         let missed = self.catch_up.take_missed();
-        if self.is_quiet {
-            return;
-        }
         for value in missed.as_slice() {
             if let Some(number) = Number::new(*value) {
-                self.missed.add(self.alloc, number);
+                add_lacked(self.alloc, &mut self.lacked, number);
+                if !self.is_quiet {
+                    self.missed.add(self.alloc, number);
+                }
             }
         }
     }

@@ -53,6 +53,7 @@ impl Care {
                 tell_caught_up(self.alloc, Caught { released, nothing }, log.err);
             }
             self.told_few = false;
+            self.lacked = None;
         } else if self.catch_up.lacks_a_majority() && !self.told_few {
             let ToldBy { others, told } = self.catch_up.told_by();
             tell_few(self.alloc, others, told, log.err);

@@ -5,6 +5,7 @@ mod addresses;
 mod checking;
 mod files;
 mod folders_check;
+mod key_check;
 mod stopping;
 
 pub use checking::check_config;

@@ -3,7 +3,7 @@
 ghost use Rattle.command_ends.specs.Ends.{IsOfInput};
 
 use command_ends::{End, Fault};
-use configuration::{Config, read_config};
+use configuration::{Config, ConfigInput, NoLookUp, read_config};
 use folders::FolderFault;
 use host_folders::{await_end, lay_stop};
 use opened_files::Opened;
@@ -63,8 +63,12 @@ fn stop_from<E: Write>(rt: &HostRuntime, config: &Config, err: &mut E) -> End
 pub fn stop<E: Write>(rt: &HostRuntime, config: &str, err: &mut E) -> End
     ensures ends { IsOfInput result }
 {
-    let mut input = Opened::at(rt, config);
-    match read_config(rt.alloc(), &mut input, config, err) {
+    let file = ConfigInput {
+        path: config,
+        input: Opened::at(rt, config),
+    };
+    // No station is talked to, so no host is looked up: it ends also where the names are not known any more.
+    match read_config(rt.alloc(), &NoLookUp, file, err) {
         Ok(config) => stop_from(rt, &config, err),
         Err(end) => end,
     }

@@ -51,16 +51,16 @@ abbrev pub MayAsk : {F : Type 0} → Texts → Kept F → Call → Type 0
 MayAsk texts old call = (past : List Happened) → Holds texts past old.waits old.book → MayBeCalled texts past call
 
 -- the table by which texts are read at a desk
-abbrev pub texts_of : {F : Type 0} → PlantDesk F → Texts
+abbrev pub texts_of : {F S : Type 0} → PlantDesk F S → Texts
 texts_of desk = desk.plant.papers.now.texts
 
 -- it is the desk of a plant that has the folders that it had, and texts are read by the same table
-abbrev pub IsSameDesk : {F : Type 0} → PlantDesk F → PlantDesk F → Type 0
+abbrev pub IsSameDesk : {F S : Type 0} → PlantDesk F S → PlantDesk F S → Type 0
 IsSameDesk old new = (new.plant.folders.ghost_name ≡ old.plant.folders.ghost_name) × (texts_of new ≡ texts_of old)
 
 -- the same, and its plant lived through these events; it came some way with them
-abbrev pub LivedOn : {F : Type 0} → (F → Option (List Doing)) → PlantDesk F → PlantDesk F → List Event → Type 0
+abbrev pub LivedOn : {F S : Type 0} → (F → Option (List Doing)) → PlantDesk F S → PlantDesk F S → List Event → Type 0
 LivedOn doings old new log = IsSameDesk old new × Lived (texts_of old) doings (kept_of old.plant) (kept_of new.plant) log
 
-abbrev pub CameOn : {F : Type 0} → (F → Option (List Doing)) → PlantDesk F → PlantDesk F → List Event → Type 0
+abbrev pub CameOn : {F S : Type 0} → (F → Option (List Doing)) → PlantDesk F S → PlantDesk F S → List Event → Type 0
 CameOn doings old new log = IsSameDesk old new × LivedFront (texts_of old) doings (kept_of old.plant) (kept_of new.plant) log

@@ -9,6 +9,7 @@ ghost use Rattle.run_command.specs.Story.{IsReleasedIn};
 ghost use Rattle.run_command.specs.Working.{Always, Deals, Follows, HandsOn, Releases};
 
 use crate::plant::Plant;
+use crate::status::note_step;
 use ballots::Number;
 use command_ends::Fault;
 use driver::{Log, Step};
@@ -165,6 +166,7 @@ impl<'f, 'p, F: Folders> Plant<'f, 'p, F> {
         }
         let opened = self.is_opened(step);
         self.papers.care.did(step, opened);
+        note_step(&mut self.papers.keeper, step);
         self.write(step.moment, log);
         self.close(step, log);
         Ok(())

@@ -8,6 +8,7 @@ ghost use Rattle.run_command.specs.Working.{Always, By, Deals, DealsBy, Follows}
 use crate::departures::{Departure, Way, tell_departure};
 use crate::plant::Plant;
 use crate::reading::read;
+use crate::status::{note_asked, note_left};
 use ballots::Number;
 use driver::{Chance, Log, Todo};
 use folders::{Folders, Place, Request};
@@ -90,6 +91,7 @@ impl<'f, 'p, F: Folders> Plant<'f, 'p, F> {
             Ok(()) => {
                 self.papers.book.moved(*request);
                 self.papers.told.is_done(request);
+                note_left(&mut self.papers.keeper, departure);
                 tell_departure(&mut self.papers.told, departure, now, log);
             }
             Err(fault) => {
@@ -246,7 +248,10 @@ impl<'f, 'p, F: Folders> Plant<'f, 'p, F> {
             return Some(Todo::Run(errand));
         }
         match self.deed_with_file(chance.may_ask, chance.moment, log) {
-            Some(request) => Some(Todo::Ask(request)),
+            Some(request) => {
+                note_asked(&mut self.papers.keeper, &request);
+                Some(Todo::Ask(request))
+            }
             None => None,
         }
     }

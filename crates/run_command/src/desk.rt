@@ -10,15 +10,18 @@ use command_ends::Fault;
 use driver::{Call, Chance, Declined, Denied, Desk, Heard, Log, Sink, Step, Tasks, Todo};
 use folders::{Folders, Request};
 use plant_files::call_for;
+use status_keeping::StatusFile;
 use std::io::Write;
 
 /// The plant of a station, as its driver works with it.
 #[derive(Drop)]
-pub(crate) struct PlantDesk<'f, 'p, F: Folders> {
+pub(crate) struct PlantDesk<'f, 'p, 's, F: Folders, S: StatusFile> {
     pub(crate) plant: Plant<'f, 'p, F>,
+    /// Where its status goes.
+    pub(crate) status: &'s mut S,
 }
 
-impl<F: Folders> Sink for PlantDesk<'_, '_, F> {
+impl<F: Folders, S: StatusFile> Sink for PlantDesk<'_, '_, '_, F, S> {
     ghost lived = { λ old new log. LivedOn F.doings old new log };
 
     ghost front = { λ old new log. CameOn F.doings old new log };
@@ -36,13 +39,15 @@ impl<F: Folders> Sink for PlantDesk<'_, '_, F> {
     ghost fates = { plant_fates F.doings (λ a b. IsSameDesk a b) (λ _. (refl, refl)) (λ _ _ _ p q. (q.0 ∙ p.0, q.1 ∙ p.1)) (λ it. texts_of it) (λ _ _ same. same.1) (λ it. kept_of it.plant) };
 }
 
-impl<F: Folders> Desk for PlantDesk<'_, '_, F> {
+impl<F: Folders, S: StatusFile> Desk for PlantDesk<'_, '_, '_, F, S> {
     fn tasks(&mut self) -> Tasks {
         self.plant.tasks()
     }
 
     fn look<E: Write>(&mut self, now: u64, log: &mut Log<'_, E>) -> bool {
-        self.plant.look(now, log)
+        let is_over = self.plant.look(now, log);
+        self.plant.tell_status(self.status, now, log);
+        is_over
     }
 
     fn deed<E: Write>(&mut self, chance: Chance, log: &mut Log<'_, E>) -> Option<Todo> {

@@ -9,6 +9,7 @@ mod desk;
 mod look;
 mod plant;
 mod reading;
+mod status;
 mod strays;
 mod turns;
 

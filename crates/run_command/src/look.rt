@@ -5,6 +5,7 @@ ghost use Rattle.run_command.specs.Looking.{passed_over};
 ghost use Rattle.run_command.specs.Working.{Follows, Deals, Always, WritesAndDeals};
 
 use crate::plant::{Plant, Unseen};
+use crate::status::note_found;
 use driver::Log;
 use folders::{FolderFault, Folders, Listing, PassedOver, Stamp};
 use looks::{MOST_NAMES, Seen};
@@ -98,6 +99,7 @@ impl<'f, 'p, F: Folders> Plant<'f, 'p, F> {
             others,
             skipped,
         } = seen;
+        note_found(&mut self.papers.keeper, requests.len());
         match passed_over(self.alloc, others) {
             Ok(others) => {
                 let unread = Unread { skipped, others };

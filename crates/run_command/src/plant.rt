@@ -1,11 +1,12 @@
 //! The plant of a station that stays up: its folders, and what is known of what lies in them.
 
-ghost use Rattle.std.specs.Prelude.{◌≡◌, [], if◌then◌else◌};
+ghost use Rattle.std.specs.Prelude.{◌≡◌, [], IfOk, if◌then◌else◌};
 ghost use Rattle.folders.specs.Doings.{WritesSome};
 ghost use Rattle.offers.specs.Book.{IsFresh, still_for};
 ghost use Rattle.looks.specs.Strays.{none_known, still_for as strays_still};
 ghost use Rattle.run_command.specs.Working.{Follows};
 
+use crate::status::note_heard;
 use code_table::CodeTable;
 use driver::{Declined, Denied, Heard, Log, Tasks};
 use folders::{Folders, NamedFile, Stamp, write_waiting};
@@ -16,8 +17,10 @@ use pace::Deeds;
 use plant_care::Care;
 use plant_files::is_of_offer;
 use plant_log::Told;
+use plant_status::StationId;
 use station::StepRefusal;
-use std::alloc::Global;
+use status_keeping::Keeper;
+use std::alloc::{AllocError, Global};
 use std::collections::BTreeMap;
 use std::io::Write;
 
@@ -45,6 +48,8 @@ pub(crate) struct Papers {
     pub(crate) care: Box<Care>,
     /// By which code table texts among the offers become tapes; by none where no text may be offered.
     pub(crate) texts: Option<CodeTable>,
+    /// What is kept in mind for the status file, where there is one.
+    pub(crate) keeper: Option<Keeper>,
 }
 
 /// How a plant is run.
@@ -56,6 +61,13 @@ pub(crate) struct Manner {
     pub(crate) renamed: bool,
     /// How much is told.
     pub(crate) loudness: Loudness,
+    /// Which station its status file tells of, where it has one.
+    pub(crate) status: Option<StationId>,
+}
+
+/// What is kept in mind for the status file of a station, if it has one. Without memory for it no status is written.
+fn keeper_of(alloc: Global, status: Option<StationId>) -> Option<Keeper> {
+    Keeper::new(alloc, status?).ok()
 }
 
 /// The folders of a plant, and what is known of what lies in them. Moments are in milliseconds.
@@ -88,6 +100,7 @@ impl Papers {
             texts,
             renamed,
             loudness,
+            status,
         } = manner;
         Papers {
             waits: Vec::new(alloc),
@@ -98,7 +111,21 @@ impl Papers {
             told: Told::new(alloc, loudness),
             care,
             texts,
+            keeper: keeper_of(alloc, status),
         }
+    }
+
+    /// The same, in a place of their own.
+    pub(crate) fn boxed(
+        alloc: Global,
+        manner: Manner,
+        care: Box<Care>,
+    ) -> Result<Box<Papers>, AllocError>
+        ensures waits { IfOk result (λ papers. papers.value.waits.items ≡ []) }
+        ensures book { IfOk result (λ papers. IsFresh papers.value.book) }
+        ensures texts { IfOk result (λ papers. papers.value.texts ≡ manner.texts) }
+    {
+        Ok(Box::new(alloc, Papers::new(alloc, manner, care))?)
     }
 }
 
@@ -173,6 +200,7 @@ impl<'f, 'p, F: Folders> Plant<'f, 'p, F> {
         if let Heard::Refused(refusal) = heard {
             self.papers.told.hear_refusal(*refusal, now, log.err);
         }
+        note_heard(&mut self.papers.keeper, heard, now);
         self.papers.care.hear(heard, now, log);
     }
 

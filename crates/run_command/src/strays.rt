@@ -8,6 +8,7 @@ ghost use Rattle.run_command.specs.Straying.{TellsMoved, TellsStray};
 ghost use Rattle.run_command.specs.Working.{Always, Deals};
 
 use crate::plant::{Papers, Plant};
+use crate::status::note_stray;
 use driver::Log;
 use folders::{FolderFault, Folders, Leaving, Place};
 use looks::Stray;
@@ -73,7 +74,10 @@ impl<'f, 'p, F: Folders> Plant<'f, 'p, F> {
         let moved = set_aside(self.alloc, self.folders, stray);
         self.papers.tell_stray(&moved, now, log);
         match moved {
-            Ok(()) => self.papers.strays.moved(),
+            Ok(()) => {
+                note_stray(&mut self.papers.keeper);
+                self.papers.strays.moved();
+            }
             Err(fault) => self.papers.strays.could_not(fault, now),
         }
     }

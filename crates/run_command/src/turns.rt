@@ -16,15 +16,17 @@ use gone_out::{Known, Origin};
 use log_terms::Loudness;
 use plant_care::{Start, begin};
 use plant_log::tell_fault;
+use plant_status::StationId;
 use saved_rows::Rows;
 use station::{Station, StepRefusal};
+use status_keeping::StatusFile;
 use std::alloc::Global;
 use std::io::Write;
 use wire::Wire;
 
 /// On which terms a station is run.
 #[derive(Drop)]
-pub struct Terms<'a, E: Write> {
+pub struct Terms<'a, E: Write, S: StatusFile + Drop> {
     pub alloc: Global,
     /// Whose station it is.
     pub own: Origin,
@@ -38,6 +40,9 @@ pub struct Terms<'a, E: Write> {
     pub catches_up: bool,
     /// How much is told.
     pub loudness: Loudness,
+    /// Which station its status file tells of, where it has one, and where that lies.
+    pub status: Option<StationId>,
+    pub file: S,
     /// What it tells goes there. That the writer fails is ignored.
     pub err: &'a mut E,
 }
@@ -60,11 +65,11 @@ fn remove_stop<F: Folders, E: Write>(alloc: Global, folders: &mut F, err: &mut E
 /// not take it. What went out before is read of the folders, and what is missing is caught up with. What lies among the offers is taken
 /// up once it is whole, a text as the tape that it becomes, and leaves them once its number is released, or where it is no offer. A folder
 /// that does not serve is told, and the station goes on.
-pub fn run_station<R: Rows, N: Wire, F: Folders, E: Write>(
+pub fn run_station<R: Rows, N: Wire, F: Folders, E: Write, S: StatusFile + Drop>(
     station: &mut Station<R>,
     wire: &mut N,
     folders: &mut F,
-    terms: Terms<'_, E>,
+    terms: Terms<'_, E, S>,
 ) -> End
     ensures was_kept { R.kept station.new.rows → R.kept station.old.rows }
     ensures runs { RunsUpTo terms.entry.texts result R.Rows N.passed F.doings station.old station.new wire.old wire.new folders.old folders.new }
@@ -84,6 +89,7 @@ pub fn run_station<R: Rows, N: Wire, F: Folders, E: Write>(
         texts: terms.texts,
         renamed: terms.renamed,
         loudness,
+        status: terms.status,
     };
     if station.stopped() {
         return Fault::of_step(StepRefusal::Stopped).tell(terms.err);
@@ -94,14 +100,20 @@ pub fn run_station<R: Rows, N: Wire, F: Folders, E: Write>(
     let Ok(care) = begin(start, folders, terms.err) else {
         return Fault::OutOfMemory.tell(terms.err);
     };
+    let Ok(mut papers) = Papers::boxed(alloc, manner, care) else {
+        return Fault::OutOfMemory.tell(terms.err);
+    };
     remove_stop(alloc, folders, terms.err);
-    let mut papers = Papers::new(alloc, manner, care);
+    let mut file = terms.file;
     let plant = Plant {
         alloc,
         folders,
-        papers: &mut papers,
+        papers: &mut *papers,
     };
-    let desk = PlantDesk { plant };
+    let desk = PlantDesk {
+        plant,
+        status: &mut file,
+    };
     let mut driver = Driver::new(station, wire, desk, &mut intake);
     driver.run(terms.err, is_quiet)
 }

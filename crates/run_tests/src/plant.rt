@@ -12,6 +12,7 @@ use run_command::{Terms, run_station};
 use saved_rows::MemoryRows;
 use station::Station;
 use station_fixtures::{rows_with, rows_with_vote, station_over};
+use status_keeping::NoStatus;
 use std::alloc::Global;
 use std::io::Write;
 use tape_frames::Version;
@@ -154,7 +155,11 @@ pub fn own() -> Option<Origin> {
 }
 
 /// The terms of a run that tells this writer, and takes no texts.
-pub fn terms(alloc: Global, loudness: Loudness, err: &mut Vec<u8>) -> Option<Terms<'_, Vec<u8>>> {
+pub fn terms(
+    alloc: Global,
+    loudness: Loudness,
+    err: &mut Vec<u8>,
+) -> Option<Terms<'_, Vec<u8>, NoStatus>> {
     Some(Terms {
         alloc,
         own: own()?,
@@ -162,6 +167,8 @@ pub fn terms(alloc: Global, loudness: Loudness, err: &mut Vec<u8>) -> Option<Ter
         texts: None,
         renamed: false,
         catches_up: true,
+        status: None,
+        file: NoStatus,
         loudness,
         err,
     })
@@ -172,7 +179,7 @@ pub fn terms_by(
     alloc: Global,
     texts: Option<CodeTable>,
     err: &mut Vec<u8>,
-) -> Option<Terms<'_, Vec<u8>>> {
+) -> Option<Terms<'_, Vec<u8>, NoStatus>> {
     Some(Terms {
         alloc,
         own: own()?,
@@ -180,6 +187,8 @@ pub fn terms_by(
         texts,
         renamed: false,
         catches_up: true,
+        status: None,
+        file: NoStatus,
         loudness: Loudness::All,
         err,
     })

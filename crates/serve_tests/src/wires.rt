@@ -4,7 +4,7 @@ use ballots::Member;
 use std::alloc::Global;
 use std::io::Write;
 use std::net::{IpAddr, Ipv4Addr, SocketAddr};
-use wire::{Arrival, Strangers, Wire};
+use wire::{Arrival, Reason, Strangers, Wire};
 
 /// What a wire of the tests does.
 #[derive(Clone, Copy, PartialEq, Eq)]
@@ -109,6 +109,7 @@ impl Wire for Scripted {
             return None;
         }
         Some(Strangers {
+            reason: Reason::Stranger,
             count: 3,
             last: SocketAddr::new(IpAddr::V4(Ipv4Addr::new(10, 0, 0, 9)), 7001),
         })

@@ -1,2 +1,3 @@
 pub mod Creations
+pub mod FirstLine
 pub mod Plans

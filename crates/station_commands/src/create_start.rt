@@ -10,7 +10,7 @@ ghost use Rattle.station_start.specs.Starts.{identity_of};
 ghost use Rattle.station_commands.specs.Creations.{layout_number, made_line, IsCreated};
 
 use command_ends::{End, Fault};
-use configuration::{Config, read_config};
+use configuration::{Config, ConfigInput, NoLookUp, read_config};
 use row_files::RowFiles;
 use saved_rows::Identity;
 use station_start::{Host, ThisHost, make_rows};
@@ -109,8 +109,12 @@ pub fn create<F: RowFiles, W: Write, E: Write>(
     ensures done { result ≡ Done → IsCreated F.leaves row_files.now version (W.contents out.old) (W.contents out.new) }
 {
     let host = ThisHost { rt };
-    let mut input = host.open(config);
-    match read_config(rt.alloc(), &mut input, config, err) {
+    let file = ConfigInput {
+        path: config,
+        input: host.open(config),
+    };
+    // No station is talked to, so no host is looked up.
+    match read_config(rt.alloc(), &NoLookUp, file, err) {
         Ok(config) => create_from(rt, &config, version, row_files, out, err),
         Err(end) => end,
     }

@@ -1,5 +1,6 @@
 //! Whether a plant can be run where it lies, and its folders, which are held from then on.
 
+use crate::status_place::why_no_status;
 use command_ends::End;
 use configuration::{Config, Folders};
 use host_folders::{HostFolders, Misplaced, PlantPaths, why_misplaced};
@@ -18,6 +19,8 @@ pub(crate) struct OpenPlant<'r> {
     pub(crate) folders: HostFolders<'r>,
     pub(crate) takes_texts: bool,
     pub(crate) renamed: bool,
+    /// The path of its status file, where it has one.
+    pub(crate) status: Option<String>,
 }
 
 /// The folders at these paths, held.
@@ -31,12 +34,14 @@ fn open_folders<'r, E: Write>(
         releases,
         text,
         renamed,
+        status,
     } = folders;
     match HostFolders::open(rt, offers, releases) {
         Ok(folders) => Ok(OpenPlant {
             folders,
             takes_texts: text,
             renamed,
+            status,
         }),
         Err(reason) => Err(refuse(reason, err)),
     }
@@ -45,7 +50,7 @@ fn open_folders<'r, E: Write>(
 /// The folders of the plant whose configuration was read from a path, if it has some. They are held from then on, until they are let go.
 ///
 /// It is refused, and that is told, where files of this process may not grow, where a file of the station lies among its offers, where both
-/// folders are one or one is a place of the other, and where another process works with one.
+/// folders are one or one is a place of the other, where its status file lies among its offers or would replace another of its files, and where another process works with one.
 pub(crate) fn open_plant<'r, E: Write>(
     rt: &'r HostRuntime,
     path: &str,
@@ -70,6 +75,12 @@ pub(crate) fn open_plant<'r, E: Write>(
     };
     if let Some(reason) = why_misplaced(rt, &paths) {
         return Err(refuse(reason, err));
+    }
+    if let Some(status) = &folders.status
+        && let Some(reason) = why_no_status(rt, &paths, status.as_str())
+    {
+        let _ = writeln!(err, "folders: {reason}");
+        return Err(End::Input);
     }
     Ok(Some(open_folders(rt, folders, err)?))
 }

@@ -4,23 +4,27 @@ ghost use Rattle.std.specs.Prelude.{◌≡◌, Ok, None, IfOk, IfSome, IfNone, I
 ghost use Rattle.configuration.specs.Stations.{IsCircuit};
 ghost use Rattle.row_files.specs.Knowing.{KnowsAll};
 
+use crate::first_line::{saved_of, tell_first};
+use crate::keys::keys_of;
 use crate::plant_start::{OpenPlant, open_plant};
+use crate::status_file::HostStatus;
 use code_table::CodeTable;
 use command_ends::End;
-use configuration::{Config, read_config};
+use configuration::{Config, ConfigInput, Resolver, read_config};
 use folders::NoFolders;
 use gone_out::{Known, Origin};
 use log_terms::{LogTerms, Loudness};
+use plant_status::StationId;
 use row_files::{RefusedRows, RowFiles, close_rows};
 use run_command::{Terms, run_station};
 use saved_rows::Rows;
 use station::Station;
-use station_start::{Host, Started, ThisHost, start};
+use station_start::{Ground, Host, Launch, Started, ThisHost, start};
 use std::alloc::Global;
 use std::io::Write;
 use tape_frames::Version;
 use timed_lines::TimedLines;
-use wire::Wire;
+use wire::{Address, Wire};
 
 /// The table by which texts become tapes that are offered in a plant, where they may be.
 fn texts_by(plant: &Option<OpenPlant<'_>>, table: CodeTable) -> Option<CodeTable> {
@@ -72,12 +76,45 @@ fn known_at<F: RowFiles>(
     }
 }
 
+/// Which station it is that was started, of an origin.
+fn id_of<R: Rows>(own: &Origin, station: &Station<R>) -> StationId {
+    let layout = match station.rows().version() {
+        Version::One => 1,
+        Version::Two => 2,
+    };
+    StationId {
+        member: own.member.get(),
+        count: own.count,
+        circuit: own.circuit,
+        layout,
+    }
+}
+
+/// The status file of a plant, if it has one.
+fn status_of<'r>(rt: &'r HostRuntime, plant: &mut Option<OpenPlant<'_>>) -> HostStatus<'r> {
+    let path = match plant {
+        Some(plant) => plant.status.take(),
+        None => None,
+    };
+    HostStatus { rt, path }
+}
+
+/// Where the station of a configuration listens.
+fn address_of(config: &Config) -> Option<Address> {
+    for address in config.stations.as_slice() {
+        if address.member == config.member {
+            return Some(*address);
+        }
+    }
+    None
+}
+
 /// Runs a station over the folders of this plant; one that has none only votes.
 fn run_over<R: Rows, N: Wire, E: Write>(
     station: &mut Station<R>,
     wire: &mut N,
     plant: &mut Option<OpenPlant<'_>>,
-    terms: Terms<'_, E>,
+    terms: Terms<'_, E, HostStatus<'_>>,
 ) -> End {
     match plant {
         Some(plant) => run_station(station, wire, &mut plant.folders, terms),
@@ -85,28 +122,38 @@ fn run_over<R: Rows, N: Wire, E: Write>(
     }
 }
 
-/// Starts the station of a configuration, and runs it over the folders of this plant; at a good end its rows are closed. The folders are held until
+/// A station that is to be started, the folders of its plant, if it has one, and how much it tells.
+#[derive(Drop)]
+struct Running<'a> {
+    launch: Launch<'a>,
+    plant: Option<OpenPlant<'a>>,
+    loudness: Loudness,
+}
+
+/// Starts a station, and runs it over the folders of its plant; at a good end its rows are closed. The folders are held until
 /// then, so that whoever finds them free finds the rows closed.
 fn run_from<F: RowFiles, E: Write>(
-    rt: &HostRuntime,
-    making: Option<Version>,
-    config: Config,
-    mut plant: Option<OpenPlant<'_>>,
-    loudness: Loudness,
-    row_files: &F,
+    ground: &Ground<'_, ThisHost<'_>, F>,
+    running: Running<'_>,
     err: &mut E,
 ) -> End
-    requires { IsCircuit config.member config.stations.items }
+    requires { IsCircuit running.launch.config.member running.launch.config.stations.items }
 {
-    let host = ThisHost { rt };
-    let own = origin_of(&config);
-    let catches_up = config.catches_up;
+    let Running {
+        launch,
+        mut plant,
+        loudness,
+    } = running;
+    let Ground { rt, row_files, .. } = *ground;
+    let own = origin_of(&launch.config);
+    let catches_up = launch.config.catches_up;
+    let address = address_of(&launch.config);
     let Started {
         mut station,
         mut wire,
         offer: _,
         table,
-    } = match start(rt, &host, row_files, config, making, None, err) {
+    } = match start(ground, launch, err) {
         Ok(started) => started,
         Err(end) => return end,
     };
@@ -114,8 +161,15 @@ fn run_from<F: RowFiles, E: Write>(
         Ok(known) => known,
         Err(refused) => return refused.tell(err),
     };
+    let id = id_of(&own, &station);
+    if loudness != Loudness::Faults {
+        tell_first(id, address.as_ref(), saved_of(&known), err);
+    }
+    let file = status_of(rt, &mut plant);
     let terms = Terms {
         alloc: rt.alloc(),
+        status: file.path.is_some().then_some(id),
+        file,
         texts: texts_by(&plant, table),
         renamed: is_renamed(&plant),
         catches_up,
@@ -130,33 +184,57 @@ fn run_from<F: RowFiles, E: Write>(
     end
 }
 
-/// Reads the configuration at a path, and runs its station.
-fn run_at<F: RowFiles, E: Write>(
-    rt: &HostRuntime,
-    path: &str,
+/// What `run` is asked for: the path of a configuration, the version that rows are made in, where they are made, and how much is told.
+#[derive(Clone, Copy)]
+struct Asked<'a> {
+    path: &'a str,
     making: Option<Version>,
     loudness: Loudness,
-    row_files: &F,
+}
+
+/// Reads the configuration at a path and the keys that it names, and runs its station.
+fn run_at<F: RowFiles, E: Write>(
+    ground: &Ground<'_, ThisHost<'_>, F>,
+    asked: Asked<'_>,
     err: &mut E,
 ) -> End {
-    let host = ThisHost { rt };
-    let mut input = host.open(path);
-    let mut config = match read_config(rt.alloc(), &mut input, path, err) {
+    let rt = ground.rt;
+    let file = ConfigInput {
+        path: asked.path,
+        input: ground.host.open(asked.path),
+    };
+    let mut config = match read_config(rt.alloc(), &Resolver { net: rt }, file, err) {
         Ok(config) => config,
         Err(end) => return end,
     };
+    let keys = match keys_of(rt, &config) {
+        Ok(keys) => keys,
+        Err(refused) => return refused.tell(err),
+    };
     let paths = config.folders.take();
-    match open_plant(rt, path, &config, paths, err) {
-        Ok(plant) => run_from(rt, making, config, plant, loudness, row_files, err),
-        Err(end) => end,
-    }
+    let plant = match open_plant(rt, asked.path, &config, paths, err) {
+        Ok(plant) => plant,
+        Err(end) => return end,
+    };
+    let launch = Launch {
+        config,
+        keys,
+        making: asked.making,
+        offer: None,
+    };
+    let running = Running {
+        launch,
+        plant,
+        loudness: asked.loudness,
+    };
+    run_from(ground, running, err)
 }
 
 /// Runs the station of the configuration at a path until it is stopped, with its rows saved in one of the files, made in a
 /// version first where one is given. What it tells it tells on these terms.
 ///
-/// What it starts from is looked for in this order, and the first fault ends it: the configuration, where its files and folders lie and
-/// who works with these, the code table, the widths, the saved rows, the socket. After a good end the rows are closed.
+/// What it starts from is looked for in this order, and the first fault ends it: the configuration, the file of keys, where its files and
+/// folders lie and who works with these, the code table, the widths, the saved rows, the socket. After a good end the rows are closed.
 pub fn run<F: RowFiles, E: Write>(
     rt: &HostRuntime,
     config: &str,
@@ -166,10 +244,21 @@ pub fn run<F: RowFiles, E: Write>(
     err: &mut E,
 ) -> End {
     let LogTerms { loudness, times } = log;
+    let host = ThisHost { rt };
+    let ground = Ground {
+        rt,
+        host: &host,
+        row_files,
+    };
+    let asked = Asked {
+        path: config,
+        making,
+        loudness,
+    };
     if times {
         let mut err = TimedLines::new(rt.alloc(), rt, err);
-        run_at(rt, config, making, loudness, row_files, &mut err)
+        run_at(&ground, asked, &mut err)
     } else {
-        run_at(rt, config, making, loudness, row_files, err)
+        run_at(&ground, asked, err)
     }
 }

@@ -1,42 +1,46 @@
 //! The command `serve`.
 
+ghost use Rattle.std.specs.Prelude.{IfOk};
 ghost use Rattle.configuration.specs.Stations.{IsCircuit};
 
+use crate::keys::keys_of;
 use crate::plan::{making_of, offer_of};
 use command_ends::End;
 use command_line::Plan;
-use configuration::{Config, read_config};
+use configuration::{ConfigInput, Resolver, read_config};
 use row_files::{RowFiles, close_rows};
 use serve_command::serve_run;
-use station_start::{Host, Started, ThisHost, start};
+use station_start::{Ground, Host, Launch, Started, ThisHost, start};
 use std::io::Write;
-use tape_frames::Version;
 
-/// Starts the station of a configuration, and serves it; at a good end its rows are closed.
+/// A station that is to be started, and how it is served.
+#[derive(Drop)]
+struct Serving<'a> {
+    launch: Launch<'a>,
+    plan: &'a Plan<'a>,
+}
+
+/// Starts a station, and serves it; at a good end its rows are closed.
 fn serve_from<F: RowFiles, W: Write, E: Write>(
-    rt: &HostRuntime,
-    plan: &Plan<'_>,
-    making: Option<Version>,
-    offer: Option<(u32, &str)>,
-    config: Config,
-    host: &ThisHost<'_>,
-    row_files: &F,
+    ground: &Ground<'_, ThisHost<'_>, F>,
+    serving: Serving<'_>,
     out: &mut W,
     err: &mut E,
 ) -> End
-    requires { IsCircuit config.member config.stations.items }
+    requires { IsCircuit serving.launch.config.member serving.launch.config.stations.items }
 {
+    let Serving { launch, plan } = serving;
     let Started {
         mut station,
         mut wire,
         offer,
         table: _,
-    } = match start(rt, host, row_files, config, making, offer, err) {
+    } = match start(ground, launch, err) {
         Ok(started) => started,
         Err(end) => return end,
     };
     let end = serve_run(
-        rt.alloc(),
+        ground.rt.alloc(),
         &mut station,
         &mut wire,
         offer,
@@ -46,12 +50,45 @@ fn serve_from<F: RowFiles, W: Write, E: Write>(
         out,
         err,
     );
-    close_rows(row_files, station.into_rows(), end, err)
+    close_rows(ground.row_files, station.into_rows(), end, err)
+}
+
+/// What is to be started as the plan asks: the configuration at its path is read, and the keys that this names.
+fn launch_of<'a, E: Write>(
+    rt: &HostRuntime,
+    plan: &Plan<'a>,
+    err: &mut E,
+) -> Result<Launch<'a>, End>
+    ensures circuit { IfOk result (λ l. IsCircuit l.config.member l.config.stations.items) }
+{
+    let offer = match offer_of(plan) {
+        Ok(offer) => offer,
+        Err(fault) => return Err(fault.tell(err)),
+    };
+    let making = match making_of(plan) {
+        Ok(making) => making,
+        Err(fault) => return Err(fault.tell(err)),
+    };
+    let file = ConfigInput {
+        path: plan.config,
+        input: ThisHost { rt }.open(plan.config),
+    };
+    let config = read_config(rt.alloc(), &Resolver { net: rt }, file, err)?;
+    let keys = match keys_of(rt, &config) {
+        Ok(keys) => keys,
+        Err(refused) => return Err(refused.tell(err)),
+    };
+    Ok(Launch {
+        config,
+        keys,
+        making,
+        offer,
+    })
 }
 
 /// Serves the station of a configuration as the plan asks, with its rows saved in one of the files.
 ///
-/// What it starts from is looked for in this order, and the first fault ends it: the configuration, the code table,
+/// What it starts from is looked for in this order, and the first fault ends it: the configuration, the file of keys, the code table,
 /// the widths, the tape, the saved rows, the socket. A number without a tape, or a tape without a number, ends it
 /// before all of them, as usage; and so does a layout where no rows are to be made. After a good end the rows are closed.
 pub fn serve<F: RowFiles, W: Write, E: Write>(
@@ -61,18 +98,14 @@ pub fn serve<F: RowFiles, W: Write, E: Write>(
     out: &mut W,
     err: &mut E,
 ) -> End {
-    let offer = match offer_of(plan) {
-        Ok(offer) => offer,
-        Err(fault) => return fault.tell(err),
-    };
-    let making = match making_of(plan) {
-        Ok(making) => making,
-        Err(fault) => return fault.tell(err),
-    };
     let host = ThisHost { rt };
-    let mut input = host.open(plan.config);
-    match read_config(rt.alloc(), &mut input, plan.config, err) {
-        Ok(config) => serve_from(rt, plan, making, offer, config, &host, row_files, out, err),
+    let ground = Ground {
+        rt,
+        host: &host,
+        row_files,
+    };
+    match launch_of(rt, plan, err) {
+        Ok(launch) => serve_from(&ground, Serving { launch, plan }, out, err),
         Err(end) => end,
     }
 }

@@ -11,6 +11,7 @@ use Rattle.node_core.specs.Standing.{StandsFor}
 use Rattle.station.specs.declared.station.Station.{Station}
 use Rattle.wire.specs.Addresses.{address_of}
 use Rattle.wire.specs.declared.address.Address.{Address}
+use Rattle.seals.specs.declared.opening.Keys.{Keys}
 use Rattle.configuration.specs.Reading.{ConfigFile}
 
 -- whose rows a station of this configuration saves: those of its circuit and member, of as many members as there are stations
@@ -52,6 +53,6 @@ abbrev pub AreRowsAt :
     → F → List ℕ → Option Version → Identity → R → Type 0
 AreRowsAt makes takes_up files path making i rows = AreRowsOf making (makes files path) (takes_up files path) i rows
 
--- the wire was opened at the member's own address among those of all stations, and sends to these
-abbrev pub IsWireOf : {N : Type 0} → (N → Address → List Address → Type 0) → ConfigFile → N → Type 0
-IsWireOf is_bound config wire = MatchOption (address_of config.stations config.member) ⊥ (λ own. is_bound wire own config.stations)
+-- the wire was opened at the member's own address among those of all stations, and sends to these, under these keys if there are such
+abbrev pub IsWireOf : {N : Type 0} → (N → Address → List Address → Option Keys → Type 0) → ConfigFile → Option Keys → N → Type 0
+IsWireOf is_bound config keys wire = MatchOption (address_of config.stations config.member) ⊥ (λ own. is_bound wire own config.stations keys)

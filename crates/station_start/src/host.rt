@@ -2,11 +2,15 @@
 
 ghost use Rattle.std.specs.Prelude.{◌≡◌, ℕ, List, Option, None, Some, IfOk, IfSome};
 ghost use Rattle.wire.specs.declared.address.Address.{Address as AddressValue};
+ghost use Rattle.seals.specs.declared.opening.Keys.{Keys as KeysValue};
+ghost use Rattle.station_start.specs.Wires.{IsHostWire};
 
+use crate::host_wire::HostWire;
 use opened_files::Opened;
+use seals::Keys;
 use std::io;
 use std::io::Read;
-use wire::{Address, UdpWire, Wire};
+use wire::{Address, Wire};
 
 /// A machine with files of texts, and a network on which wires are opened.
 pub trait Host {
@@ -19,16 +23,21 @@ pub trait Host {
     // What the file at a path holds, where that is known.
     ghost text: { Self → List ℕ → Option (List ℕ) };
 
-    // The wire was opened at this address, and sends to these.
-    ghost is_bound: { Self.Wire → AddressValue → List AddressValue → Type 0 };
+    // The wire was opened at this address, and sends to these; it is sealed under these keys, or plain where there are none.
+    ghost is_bound: { Self.Wire → AddressValue → List AddressValue → Option KeysValue → Type 0 };
 
     /// The file at a path. One that can't be opened fails as it is read.
     fn open(&self, path: &str) -> Self::Text
         ensures { IfSome (text self.now path.now) (λ bytes. Self.Text.remaining result ≡ Some bytes) };
 
-    /// A wire at the own address, that sends to these stations, in order of members from 1.
-    fn bind(&self, own: &Address, stations: Vec<Address>) -> io::Result<Self::Wire>
-        ensures { IfOk result (λ wire. is_bound wire own.now stations.items) };
+    /// A wire at the own address, that sends to these stations, in order of members from 1. It is sealed where there are keys.
+    fn bind(
+        &self,
+        own: &Address,
+        stations: Vec<Address>,
+        keys: Option<Keys>,
+    ) -> io::Result<Self::Wire>
+        ensures { IfOk result (λ wire. is_bound wire own.now stations.items keys) };
 }
 
 /// The machine that the program runs on. What its files hold is not known.
@@ -40,17 +49,22 @@ pub struct ThisHost<'a> {
 impl<'a> Host for ThisHost<'a> {
     type Text = Opened;
 
-    type Wire = UdpWire<'a, HostRuntime>;
+    type Wire = HostWire<'a>;
 
     ghost text = { λ _ _. None };
 
-    ghost is_bound = { λ wire _ stations. wire.stations.items ≡ stations };
+    ghost is_bound = { IsHostWire };
 
     fn open(&self, path: &str) -> Opened {
         Opened::at(self.rt, path)
     }
 
-    fn bind(&self, own: &Address, stations: Vec<Address>) -> io::Result<UdpWire<'a, HostRuntime>> {
-        UdpWire::bind(self.rt, self.rt, own, stations)
+    fn bind(
+        &self,
+        own: &Address,
+        stations: Vec<Address>,
+        keys: Option<Keys>,
+    ) -> io::Result<HostWire<'a>> {
+        HostWire::bind(self.rt, own, stations, keys)
     }
 }

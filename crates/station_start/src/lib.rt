@@ -3,7 +3,9 @@
 
 mod files;
 mod host;
+mod host_wire;
 mod start_up;
 
 pub use host::{Host, ThisHost};
-pub use start_up::{Started, make_rows, start};
+pub use host_wire::HostWire;
+pub use start_up::{Ground, Launch, Started, make_rows, start};

@@ -14,6 +14,7 @@ use command_ends::{End, Fault};
 use configuration::Config;
 use row_files::{RefusedRows, RowFiles, create_rows};
 use saved_rows::{Identity, Rows};
+use seals::Keys;
 use station::Station;
 use std::alloc::Global;
 use std::io::Write;
@@ -30,6 +31,34 @@ pub struct Started<R: Rows, N: Wire + Drop> {
     pub offer: Option<(u32, Tape)>,
     /// The same code table as the station's own.
     pub table: CodeTable,
+}
+
+/// The machine that a station starts on, with its files of rows.
+#[derive(Drop)]
+pub struct Ground<'a, H: Host, F: RowFiles> {
+    pub rt: &'a HostRuntime,
+    pub host: &'a H,
+    pub row_files: &'a F,
+}
+
+/// A station that is to be started.
+#[derive(Drop)]
+pub struct Launch<'a> {
+    pub config: Config,
+    /// The keys of its circuit, where its wire is sealed.
+    pub keys: Option<Keys>,
+    /// The version that its saved rows are made in, where they are made.
+    pub making: Option<Version>,
+    /// The number and the path of the tape that it offers first, if any.
+    pub offer: Option<(u32, &'a str)>,
+}
+
+/// What a station is put together from.
+#[derive(Drop)]
+struct Held<R: Rows, N: Wire + Drop> {
+    files: Files,
+    rows: R,
+    wire: N,
 }
 
 /// Whose rows a station of this configuration saves.
@@ -84,12 +113,12 @@ pub fn make_rows<F: RowFiles>(
 }
 
 /// The wire at the member's own address, of those of all stations.
-fn wire_of<'f, H: Host>(host: &H, config: Config) -> Result<H::Wire, Fault<'f>>
+fn wire_of<'f, H: Host>(host: &H, config: Config, keys: Option<Keys>) -> Result<H::Wire, Fault<'f>>
     requires { IsCircuit config.member config.stations.items }
-    ensures { IfOk result (IsWireOf H.is_bound (file_of config)) }
+    ensures { IfOk result (IsWireOf H.is_bound (file_of config) keys) }
 {
     let own = config.stations[usize::from(config.member.get()) - 1];
-    match host.bind(&own, config.stations) {
+    match host.bind(&own, config.stations, keys) {
         Ok(wire) => Ok(wire),
         Err(_) => Err(Fault::Socket("cannot bind")),
     }
@@ -121,26 +150,23 @@ fn station_of<R: Rows>(
     }
 }
 
-/// Opens the wire, and puts the station over its rows.
-fn start_over<'f, H: Host, R: Rows>(
+/// Puts the station over its rows, with its wire.
+fn start_over<'f, R: Rows, N: Wire + Drop>(
     alloc: Global,
-    host: &H,
-    config: Config,
-    files: Files,
-    rows: R,
-) -> Result<Started<R, H::Wire>, Fault<'f>>
-    requires { IsCircuit config.member config.stations.items }
-    ensures station { IfOk result (λ s. IsStationOf (identity_of (file_of config)) s.station) }
-    ensures table { IfOk result (λ s. s.station.table ≡ files.table) }
+    identity: Identity,
+    held: Held<R, N>,
+) -> Result<Started<R, N>, Fault<'f>>
+    requires { IsIdentity identity }
+    ensures station { IfOk result (λ s. IsStationOf identity s.station) }
+    ensures table { IfOk result (λ s. s.station.table ≡ held.files.table) }
     ensures same { IfOk result (λ s. s.table ≡ s.station.table) }
-    ensures widths { IfOk result (λ s. s.station.widths ≡ files.widths) }
-    ensures offer { IfOk result (λ s. s.offer ≡ files.offer) }
-    ensures rows { IfOk result (λ s. s.station.rows ≡ rows) }
-    ensures version { IfOk result (λ s. s.station.speaker.wire ≡ R.version rows) }
-    ensures wire { IfOk result (λ s. IsWireOf H.is_bound (file_of config) s.wire) }
+    ensures widths { IfOk result (λ s. s.station.widths ≡ held.files.widths) }
+    ensures offer { IfOk result (λ s. s.offer ≡ held.files.offer) }
+    ensures rows { IfOk result (λ s. s.station.rows ≡ held.rows) }
+    ensures version { IfOk result (λ s. s.station.speaker.wire ≡ R.version held.rows) }
+    ensures wire { IfOk result (λ s. s.wire ≡ held.wire) }
 {
-    let identity = identity_of(&config);
-    let wire = wire_of(host, config)?;
+    let Held { files, rows, wire } = held;
     let Files {
         table,
         widths,
@@ -159,41 +185,49 @@ fn start_over<'f, H: Host, R: Rows>(
 }
 
 /// The station of a configuration, over its saved rows in one of the files, which is made first where a version is given, and in
-/// their version, with its wire and the tape that it offers first, if a number and a path are given.
+/// their version, with its wire, sealed where there are keys, and the tape that it offers first, if a number and a path are given.
 ///
 /// What it starts from is looked for in this order, and the first fault ends it and is told to `err`: the code table, the
 /// widths, the tape, the saved rows, the socket.
 pub fn start<H: Host, F: RowFiles, E: Write>(
-    rt: &HostRuntime,
-    host: &H,
-    row_files: &F,
-    config: Config,
-    making: Option<Version>,
-    offer: Option<(u32, &str)>,
+    ground: &Ground<'_, H, F>,
+    launch: Launch<'_>,
     err: &mut E,
 ) -> Result<Started<F::Rows, H::Wire>, End>
-    requires { IsCircuit config.member config.stations.items }
-    ensures station { IfOk result (λ s. IsStationOf (identity_of (file_of config)) s.station) }
-    ensures table { IfOk result (λ s. IsTableAt (H.text host.now) (string_bytes config.table) s.station.table) }
+    requires { IsCircuit launch.config.member launch.config.stations.items }
+    ensures station { IfOk result (λ s. IsStationOf (identity_of (file_of launch.entry.config)) s.station) }
+    ensures table { IfOk result (λ s. IsTableAt (H.text ground.now.host.now) (string_bytes launch.entry.config.table) s.station.table) }
     ensures same { IfOk result (λ s. s.table ≡ s.station.table) }
-    ensures widths { IfOk result (λ s. AreWidthsAt (H.text host.now) (string_bytes config.widths) s.station.widths) }
-    ensures offer { IfOk result (λ s. IsOffer (H.text host.now) (option_map (λ o. (o.0, o.1.now)) offer.entry) s.offer) }
-    ensures rows { IfOk result (λ s. AreRowsAt (AreMade F.leaves F.takes_up F.Rows.version) F.takes_up row_files.now
-        (string_bytes config.rows) making (identity_of (file_of config)) s.station.rows) }
+    ensures widths { IfOk result (λ s. AreWidthsAt (H.text ground.now.host.now) (string_bytes launch.entry.config.widths) s.station.widths) }
+    ensures offer { IfOk result (λ s. IsOffer (H.text ground.now.host.now) (option_map (λ o. (o.0, o.1.now)) launch.entry.offer) s.offer) }
+    ensures rows { IfOk result (λ s. AreRowsAt (AreMade F.leaves F.takes_up F.Rows.version) F.takes_up ground.now.row_files.now
+        (string_bytes launch.entry.config.rows) launch.entry.making (identity_of (file_of launch.entry.config)) s.station.rows) }
     ensures open { IfOk result (λ s. F.Rows.kept s.station.rows → F.Rows.is_open s.station.rows) }
     ensures version { IfOk result (λ s. s.station.speaker.wire ≡ F.Rows.version s.station.rows) }
-    ensures wire { IfOk result (λ s. IsWireOf H.is_bound (file_of config) s.wire) }
+    ensures wire { IfOk result (λ s. IsWireOf H.is_bound (file_of launch.entry.config) launch.entry.keys s.wire) }
 {
-    let files = match read_files(rt.alloc(), host, &config, offer) {
+    let Launch {
+        config,
+        keys,
+        making,
+        offer,
+    } = launch;
+    let rt = ground.rt;
+    let files = match read_files(rt.alloc(), ground.host, &config, offer) {
         Ok(files) => files,
         Err(fault) => return Err(fault.tell(err)),
     };
     let identity = identity_of(&config);
-    let rows = match rows_of(rt, row_files, &config.rows, identity, making) {
+    let rows = match rows_of(rt, ground.row_files, &config.rows, identity, making) {
         Ok(rows) => rows,
         Err(refused) => return Err(refused.tell(err)),
     };
-    match start_over(rt.alloc(), host, config, files, rows) {
+    let wire = match wire_of(ground.host, config, keys) {
+        Ok(wire) => wire,
+        Err(fault) => return Err(fault.tell(err)),
+    };
+    let held = Held { files, rows, wire };
+    match start_over(rt.alloc(), identity, held) {
         Ok(started) => Ok(started),
         Err(fault) => Err(fault.tell(err)),
     }

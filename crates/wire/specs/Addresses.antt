@@ -1,5 +1,5 @@
 -- Where a datagram goes, and from where one comes.
-use Rattle.std.specs.Prelude.{◌≡◌, ◌<◌, ℕ, ◌-◌, List, Option, length, take, slice_get, slice_index_or}
+use Rattle.std.specs.Prelude.{◌≡◌, ◌<◌, ℕ, ◌-◌, List, Option, length, take, slice_get, slice_index_or, MatchOption}
 use Rattle.std.specs.List.{All}
 use Rattle.std.specs.Net.Addr.{ipv4_octets, MatchIp}
 use Rattle.std.specs.Net.Socket.{socket_ip, socket_port}
@@ -19,3 +19,7 @@ pub record IsFirstAt (stations : List Address) (sender : SocketAddr) (place : �
 -- the address of a member, of those of all members in order from 1
 abbrev pub address_of : List Address → ℕ → Option Address
 address_of stations member = slice_get stations (member - 1)
+
+-- the sender is where this member listens
+abbrev pub ComesFrom : List Address → ℕ → SocketAddr → Type 0
+ComesFrom stations member sender = MatchOption (address_of stations member) ⊥ (λ a. IsAt a sender)

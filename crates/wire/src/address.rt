@@ -1,11 +1,11 @@
 //! Where a station listens, and whether a datagram comes from there.
 
-ghost use Rattle.std.specs.Prelude.{◌≡◌, ◌↔◌, IsTrue, MatchOption};
+ghost use Rattle.std.specs.Prelude.{◌≡◌, ◌↔◌, IsTrue, MatchOption, option_copied};
 ghost use Rattle.std.specs.List.{All};
-ghost use Rattle.wire.specs.Addresses.{IsAt, IsFirstAt};
+ghost use Rattle.wire.specs.Addresses.{ComesFrom, IsAt, IsFirstAt, address_of};
 
 use ballots::Member;
-use std::net::{IpAddr, SocketAddr};
+use std::net::{IpAddr, Ipv4Addr, SocketAddr};
 
 /// The address of a member's station.
 #[derive(Clone, Copy, PartialEq, Eq)]
@@ -28,7 +28,7 @@ fn is_at(address: &Address, sender: SocketAddr) -> bool
 }
 
 /// The place of the first of these addresses from which it comes; `None` where it comes from none.
-pub(crate) fn place_of(stations: &[Address], sender: SocketAddr) -> Option<usize>
+pub fn place_of(stations: &[Address], sender: SocketAddr) -> Option<usize>
     ensures { MatchOption result (All (λ a. ¬ IsAt a sender) stations.now) (λ place. IsFirstAt stations.now sender place) }
 {
     for (place, address) in stations.iter().enumerate() {
@@ -37,4 +37,29 @@ pub(crate) fn place_of(stations: &[Address], sender: SocketAddr) -> Option<usize
         }
     }
     None
+}
+
+/// The address of a member, of those of all members in order from 1.
+pub fn address_of(stations: &[Address], member: Member) -> Option<&Address>
+    ensures { option_copied result ≡ address_of stations.now member }
+{
+    stations.get(usize::from(member.get()) - 1)
+}
+
+/// Whether a datagram of this sender comes from where this member listens.
+pub fn comes_from(stations: &[Address], member: Member, sender: SocketAddr) -> bool
+    ensures { IsTrue result ↔ ComesFrom stations.now member sender }
+{
+    match stations.get(usize::from(member.get()) - 1) {
+        Some(address) => is_at(address, sender),
+        None => false,
+    }
+}
+
+/// The socket address of a station.
+pub(crate) fn socket_address(address: &Address) -> SocketAddr
+    ensures { IsAt address.now result }
+{
+    let [a, b, c, d] = address.ip;
+    SocketAddr::new(IpAddr::V4(Ipv4Addr::new(a, b, c, d)), address.port)
 }

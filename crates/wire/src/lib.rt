@@ -3,11 +3,21 @@
 
 mod address;
 mod buffer;
+mod door;
+mod guarded;
+mod plain;
+mod reason;
+mod sending;
 mod strangers;
 mod udp;
 mod wire;
 
-pub use address::Address;
+pub use address::{Address, address_of, comes_from, place_of};
+pub use door::{Brought, Door};
+pub use guarded::GuardedWire;
+pub use plain::{PlainDoor, has_mark};
+pub use reason::Reason;
+pub use sending::send_datagram;
 pub use strangers::Strangers;
 pub use udp::UdpWire;
 pub use wire::{Arrival, Wire};

@@ -14,7 +14,7 @@ pub const CONFIG: &str =
 
 /// The fault of a text.
 pub fn fault_of(alloc: Global, text: &str) -> Option<ConfigFault> {
-    Config::read(alloc, text).err()
+    Config::read(alloc, text, &[]).err()
 }
 
 /// Whether the example with this in place of that has this fault.

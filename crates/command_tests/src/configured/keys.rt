@@ -1,8 +1,10 @@
 //! What the keys of a configuration give, and the text of each fault.
 
+ghost use Rattle.std.specs.Prelude.{◌≡◌, None};
+
 use super::example::{CONFIG, fault_of, has_fault_with};
 use command_ends::End;
-use configuration::{Config, ConfigFault, ConfigKey, read_config};
+use configuration::{Config, ConfigFault, ConfigInput, ConfigKey, Hosts, NoLookUp, read_config};
 use std::alloc::Global;
 
 /// Folders, and a key beside theirs, which says nothing.
@@ -47,7 +49,7 @@ fn is_the_example(config: &Config) -> bool {
 /// The configuration of the example with this behind it.
 fn example_with(alloc: Global, more: &str) -> Option<Config> {
     let text = format!(in alloc; "{CONFIG}{more}").ok()?;
-    Config::read(alloc, &text).ok()
+    Config::read(alloc, &text, &[]).ok()
 }
 
 /// Whether the example with this behind it has the folders `in` and `out` of which this is said, or none.
@@ -68,10 +70,30 @@ fn has_folders(alloc: Global, more: &str, wanted: Option<Said>) -> bool {
     same && is_the_example(&config)
 }
 
+/// The file of this text.
+fn file_of(text: &[u8]) -> ConfigInput<'static, &[u8]> {
+    ConfigInput {
+        path: "station.toml",
+        input: text,
+    }
+}
+
+/// Hosts of which none is known.
+#[derive(Clone, Copy)]
+struct Unknown;
+
+impl Hosts for Unknown {
+    ghost finds = { λ _ _ _ ip. ip ≡ None };
+
+    fn look_up(&self, _place: usize, _name: &str) -> Option<[u8; 4]> {
+        None
+    }
+}
+
 /// Whether the file of this text gives what it says, and no fault is told.
 fn is_read(alloc: Global) -> bool {
     let mut err = Vec::new(alloc);
-    match read_config(alloc, &mut CONFIG.as_bytes(), "station.toml", &mut err) {
+    match read_config(alloc, &NoLookUp, file_of(CONFIG.as_bytes()), &mut err) {
         Ok(config) => is_the_example(&config) && err.is_empty(),
         Err(_) => false,
     }
@@ -90,6 +112,45 @@ fn catches_up(alloc: Global, more: &str, wanted: bool) -> bool {
     match example_with(alloc, more) {
         Some(config) => config.catches_up == wanted,
         None => false,
+    }
+}
+
+/// What stands behind the example, and the paths of the file of keys and of the status file that it gives; an empty text for none.
+const PATHS: &[(&str, &str, &str)] = &[
+    ("", "", ""),
+    (FOLDERS, "", ""),
+    ("[wire]\nkey = \"circuit.key\"\n", "circuit.key", ""),
+    (
+        "[folders]\noffers = \"in\"\nreleases = \"out\"\nstatus = \"status.txt\"\n",
+        "",
+        "status.txt",
+    ),
+];
+
+/// Whether it is this path, or there is none and it is empty.
+fn is_path(path: &Option<String>, wanted: &str) -> bool {
+    match path {
+        Some(path) => path.as_str() == wanted,
+        None => wanted.is_empty(),
+    }
+}
+
+/// Whether the example with this behind it gives these paths.
+fn has_paths(alloc: Global, more: &str, key: &str, status: &str) -> bool {
+    let Some(config) = example_with(alloc, more) else {
+        return false;
+    };
+    let told = match &config.folders {
+        Some(folders) => is_path(&folders.status, status),
+        None => status.is_empty(),
+    };
+    told && is_path(&config.key, key)
+}
+
+#[test]
+fn paths_that_may_be_absent(rt: HostRuntime) {
+    for (more, key, status) in PATHS {
+        assert!(rt; has_paths(rt.alloc(), more, key, status), "{more}");
     }
 }
 
@@ -265,6 +326,26 @@ const FAULTS: &[(Part, &str, ConfigFault)] = &[
         ConfigFault::WrongType(ConfigKey::Off),
     ),
     (
+        Part::Stations,
+        "[folders]\noffers = \"in\"\nreleases = \"out\"\nstatus = 1\n[[station]]",
+        ConfigFault::WrongType(ConfigKey::Status),
+    ),
+    (
+        Part::Circuit,
+        "wire = \"circuit.key\"\ncircuit = 7\n",
+        ConfigFault::WrongType(ConfigKey::Wire),
+    ),
+    (
+        Part::Stations,
+        "[wire]\n[[station]]",
+        ConfigFault::Missing(ConfigKey::Key),
+    ),
+    (
+        Part::Stations,
+        "[wire]\nkey = 1\n[[station]]",
+        ConfigFault::WrongType(ConfigKey::Key),
+    ),
+    (
         Part::Circuit,
         "circuit = 65536\n",
         ConfigFault::OutOfRange(ConfigKey::Circuit),
@@ -349,9 +430,9 @@ fn the_first_fault(rt: HostRuntime) {
 }
 
 /// Whether the file of this text is none, with this fault told.
-fn is_none(alloc: Global, mut text: &[u8], fault: &str) -> bool {
+fn is_none(alloc: Global, text: &[u8], fault: &str) -> bool {
     let mut err = Vec::new(alloc);
-    match read_config(alloc, &mut text, "station.toml", &mut err) {
+    match read_config(alloc, &Unknown, file_of(text), &mut err) {
         Ok(_) => false,
         Err(end) => end == End::Input && err.as_slice() == fault.as_bytes(),
     }
@@ -433,6 +514,14 @@ fn texts_of_faults(rt: HostRuntime) {
         );
     }
     assert!(rt; is_none(rt.alloc(), &[b'#', 0xff], "config: not toml\n"));
+    assert!(rt;
+        is_none_with(
+            rt.alloc(),
+            "ip = \"127.0.0.1\"",
+            "host = \"plant1.example\"",
+            "config: station 1: host: no address\n"
+        )
+    );
 }
 
 /// Whether a file of one byte more than may be read is told to be too long.

@@ -1,6 +1,6 @@
 //! The stations of a configuration: their addresses, their order and their faults.
 
-use super::example::{HEAD, fault_of, has_fault_with};
+use super::example::{CONFIG, HEAD, fault_of, has_fault_with};
 use configuration::{Config, ConfigFault, ConfigKey};
 use std::alloc::Global;
 
@@ -17,6 +17,51 @@ const FAULTY: &[(&str, &str)] = &[
     ("port = 7001", "ports = 7001"),
     ("[[station]]\nmember = 1", "[[station]]\nmember = 2"),
 ];
+
+/// What stands in place of the IP address of the only station, what was found for its host, and the fault; without one it is at 10.0.0.9.
+const HOSTS: &[(&str, Option<[u8; 4]>, Option<ConfigFault>)] = &[
+    ("host = \"plant1.example\"", Some([10, 0, 0, 9]), None),
+    (
+        "host = \"plant1.example\"",
+        None,
+        Some(ConfigFault::NoAddress(1)),
+    ),
+    (
+        "host = 1",
+        Some([10, 0, 0, 9]),
+        Some(ConfigFault::BadStation(1)),
+    ),
+    (
+        "host = \"plant1.example\"\nip = \"10.0.0.9\"",
+        Some([10, 0, 0, 9]),
+        Some(ConfigFault::BadStation(1)),
+    ),
+    ("", Some([10, 0, 0, 9]), Some(ConfigFault::BadStation(1))),
+];
+
+/// Whether the example with this in place of its IP address has this fault, or else its station at 10.0.0.9.
+fn is_found(
+    alloc: Global,
+    new: &str,
+    found: Option<[u8; 4]>,
+    wanted: Option<ConfigFault>,
+) -> Option<bool> {
+    let text = CONFIG.replace(alloc, "ip = \"127.0.0.1\"", new).ok()?;
+    match Config::read(alloc, &text, &[found]) {
+        Ok(config) => Some(wanted.is_none() && config.stations.first()?.ip == [10, 0, 0, 9]),
+        Err(fault) => Some(wanted == Some(fault)),
+    }
+}
+
+#[test]
+fn hosts_by_name(rt: HostRuntime) {
+    for (new, found, wanted) in HOSTS {
+        assert!(rt;
+            is_found(rt.alloc(), new, *found, *wanted) == Some(true),
+            "{new}"
+        );
+    }
+}
 
 /// Two stations of member 1.
 const TWICE: &str =
@@ -66,7 +111,7 @@ fn are_stations(config: &Config, wanted: &[(u8, u16)]) -> bool {
 /// Whether stations that are given in one order stand in this one.
 fn are_ordered(alloc: Global, given: &[(u8, u32)], wanted: &[(u8, u16)]) -> Option<bool> {
     let text = with_stations(alloc, given)?;
-    let config = Config::read(alloc, &text).ok()?;
+    let config = Config::read(alloc, &text, &[]).ok()?;
     Some(are_stations(&config, wanted))
 }
 
@@ -123,7 +168,7 @@ fn fault_at(alloc: Global, member: u8, addresses: &[(&str, u16)]) -> Option<Conf
 /// How many stations such a configuration of member 1 has.
 fn stations_at(alloc: Global, addresses: &[(&str, u16)]) -> Option<usize> {
     let text = with_addresses(alloc, 1, addresses)?;
-    let config = Config::read(alloc, &text).ok()?;
+    let config = Config::read(alloc, &text, &[]).ok()?;
     Some(config.stations.len())
 }
 
@@ -197,7 +242,7 @@ fn with_first(alloc: Global, count: usize) -> Option<String> {
 
 /// How many stations such a configuration has.
 fn count_of(alloc: Global, count: usize) -> Option<usize> {
-    let config = Config::read(alloc, &with_first(alloc, count)?).ok()?;
+    let config = Config::read(alloc, &with_first(alloc, count)?, &[]).ok()?;
     Some(config.stations.len())
 }
 

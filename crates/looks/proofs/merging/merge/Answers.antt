@@ -6,10 +6,9 @@ use Rattle.std.specs.Map.{keys_of}
 use Rattle.std.specs.String.{string_cmp}
 use Rattle.std.proofs.lemmas.Map.Iter.{rest_more}
 use Rattle.folders.specs.declared.stamp.Stamp.{Stamp}
-use Rattle.looks.specs.declared.sighting.Stray.{Stray}
 use Rattle.looks.specs.Sightings.{sighted}
-use Rattle.looks.specs.Strays.{first_known, from, known_of, looked, seen}
-use Rattle.looks.proofs.Steps.{all_known, first_sorted, from_in_order, looked_in_order, met, rest_sorted, still_known}
+use Rattle.looks.specs.Strays.{first_known, from, known_of, looked, past, seen}
+use Rattle.looks.proofs.Steps.{all_known, first_sorted, from_in_order, looked_in_order, met, past_in_order, rest_sorted, still_known, still_past}
 use Rattle.looks.proofs.merging.merge.Goals as goal
 
 pub loop-name-init : goal.loop-name-init
@@ -32,16 +31,18 @@ loop-name-preserved c =
     let ascend : IsStrictlySortedBy string_cmp (keys_of (e ∷ later)) = rw split at c.loop-name.invariant.ascend in
     let same : AllByRecursion (λ (p : String Global × Stamp). known_of rest (string_bytes p.0) ≡ known_of known (string_bytes p.0)) (e ∷ later) = rw split at c.loop-name.invariant.known in
     let done : looked known c.args.now c.args.found.entries ≡ c.loop-name.files.items ++ map g (e ∷ later) = rw split at c.loop-name.invariant.done in
-    let skipped : c.skip_to-rest.result.now ≡ from (string_bytes name) rest = c.skip_to-rest.ensures ∙ ap (λ n. from n rest) c.as_str.ensures.value in
-    let first : first_known (string_bytes name) c.skip_to-rest.result.now ≡ known_of known (string_bytes name) =
-    ap (λ ss. first_known (string_bytes name) ss) skipped ∙ met (string_bytes name) rest c.loop-name.invariant.order ∙ same.0 in
-    let stray : c.stray_of-stray.result ≡ g e =
-    c.stray_of-stray.ensures ∙ ap (λ k. let s : Stray = record { name = name; sighting = sighted k c.in-Some.stamp c.args.now } in s) first in
+    let text : c.as_str.result.now ≡ string_bytes name = c.as_str.ensures.value in
+    let left : c.meet-known.result.1.now ≡ past (string_bytes name) (from (string_bytes name) rest) = c.meet-known.ensures.left ∙ ap (λ n. past n (from n rest)) text in
+    let first : c.meet-known.result.0 ≡ known_of known (string_bytes name) =
+    c.meet-known.ensures.known ∙ ap (λ n. first_known n (from n rest)) text ∙ met (string_bytes name) rest c.loop-name.invariant.order ∙ same.0 in
+    let sighting : c.after-sighting.result ≡ sighted (known_of known (string_bytes name)) c.in-Some.stamp c.args.now = c.after-sighting.ensures ∙ ap (λ k. sighted k c.in-Some.stamp c.args.now) first in
+    let sorted = first_sorted e later ascend in
+    let ordered = from_in_order (string_bytes name) rest c.loop-name.invariant.order in
     record {
-      order = rw skipped (from_in_order (string_bytes name) rest c.loop-name.invariant.order);
+      order = rw left (past_in_order (string_bytes name) (from (string_bytes name) rest) ordered);
       ascend = rest_sorted e later ascend;
-      known = rw skipped (still_known known rest name later (first_sorted e later ascend) same.1);
-      done = rw (c.in_ok-push.ensures.items, stray) (done ∙ sym (append_assoc c.loop-name.files.items (g e ∷ []) (map g later)));
+      known = rw left (still_past known (from (string_bytes name) rest) name later sorted (still_known known rest name later sorted same.1));
+      done = rw (c.in_ok-push.ensures.items, sighting) (done ∙ sym (append_assoc c.loop-name.files.items (g e ∷ []) (map g later)));
     }
 
 pub returns-clause-order : goal.returns-clause-order

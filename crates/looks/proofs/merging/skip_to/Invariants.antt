@@ -1,9 +1,12 @@
 use Rattle.std.proofs.Common.{◌≡◌, length}
-use Rattle.looks.specs.Strays.{from}
+use Rattle.looks.specs.Strays.{first_stands, from}
 use Rattle.looks.proofs.merging.skip_to.Given as goal
 
-abbrev pub invariant-loop-rest : goal.invariant-loop-rest
-invariant-loop-rest l = from l.name l.rest ≡ from l.name l.initial.rest
+abbrev pub invariant-loop-stands : goal.invariant-loop-stands
+invariant-loop-stands l = record {
+  from : from l.name l.rest ≡ from l.name l.initial.rest;
+  stands : l.stands ≡ first_stands l.name l.rest;
+}
 
-abbrev pub decreases-loop-rest : goal.decreases-loop-rest
-decreases-loop-rest l = length l.rest
+abbrev pub decreases-loop-stands : goal.decreases-loop-stands
+decreases-loop-stands l = length l.rest

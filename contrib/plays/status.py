@@ -1,0 +1,153 @@
+"""The status of a plant that is up: its file, what `status` makes of it, and what it ends with."""
+import calendar
+import json
+import os
+import re
+import time
+
+import stage
+from folders import lay, told
+
+MOMENT = r'\d{4}-\d\d-\d\dT\d\d:\d\d:\d\dZ'
+ALONE = (rf'station 1 of 1 circuit 7 layout 2 since {MOMENT}\n'
+         r'released (?P<released>nothing|\d+, the greatest \d+)\n'
+         r'under way nothing\n'
+         r'missing nothing\n'
+         r'offers \d+ waiting, (?P<lost>\d+) lost, (?P<refused>\d+) refused; releases 0 waiting to be written\n'
+         rf'written {MOMENT}, form 1\n')
+
+
+def with_status(at, name='plant.toml', path='status.txt', rows='station.db'):
+    """A plant with a status file, over this row file."""
+    at.plant(name, rows)
+    text = at.read(name).decode().replace('[folders]\n', f'[folders]\nstatus = "{path}"\n')
+    at.write(name, text.encode())
+
+
+def up(at, log='log', words='run plant.toml'):
+    """The plant is up."""
+    with open(at.path(log), 'ab') as err:
+        plant = at.start(words, stderr=err)
+    stage.within(30, at.serves, 'the plant is up')
+    return plant
+
+
+def holds(at, pattern, seconds=15):
+    """The status file comes to match this; what it matched."""
+    found = []
+
+    def matches():
+        found[:] = [re.fullmatch(pattern, (at.read('status.txt') or b'').decode())]
+        return found[0] is not None
+
+    stage.within(seconds, matches, f'{pattern}: {at.read("status.txt")}')
+    return found[0]
+
+
+def first_line(at):
+    """A start tells what it is, unless faults alone are told."""
+    with_status(at)
+    plant = up(at)
+    line = f'station 1 of 1 circuit 7 layout 2 at 127.0.0.1:{at.port}, no number saved\n'
+    stage.within(10, lambda: at.read('log').decode() == line, f'{at.read("log")}')
+    lay(at, '12.tape', at.read('flood.tape'))
+    stage.within(30, lambda: '12 released' in told(at), f'{told(at)}')
+    at.ends('stop plant.toml', 0)
+    stage.wants(plant.wait(30) == 0, 'it ended well')
+    up(at, 'later')
+    line = f'station 1 of 1 circuit 7 layout 2 at 127.0.0.1:{at.port}, 1 numbers saved, the greatest 12\n'
+    stage.within(10, lambda: at.read('later').decode() == line, f'{at.read("later")}')
+    at.ends('stop plant.toml', 0)
+    up(at, 'quiet', 'run plant.toml --quiet')
+    holds(at, ALONE)
+    at.ends('stop plant.toml', 0)
+    stage.wants(at.read('quiet') == b'', f'{at.read("quiet")}')
+
+
+def file_of_a_plant(at):
+    """The file is there once the plant is up, tells what became of files, and is whole at each read; nothing else is left beside it."""
+    with_status(at)
+    up(at)
+    holds(at, ALONE)
+    lay(at, '12.tape', at.read('flood.tape'))
+    lay(at, '13.tape', b'\xff\xff')
+    lay(at, 'note', b'')
+    stage.within(20, lambda: holds(at, ALONE)['released'] == '1, the greatest 12' and holds(at, ALONE)['refused'] == '2', f'{at.read("status.txt")}')
+    until = time.monotonic() + 3
+    while time.monotonic() < until:
+        stage.wants(re.fullmatch(ALONE, at.read('status.txt').decode()), f'{at.read("status.txt")}')
+    stage.within(5, lambda: not os.path.exists(at.path('status.txt.next')), 'nothing is left beside it')
+    stage.wants(not [name for name in os.listdir(at.path('offers')) if 'status' in name], f'{os.listdir(at.path("offers"))}')
+
+
+def well_and_not(at):
+    """`status` prints the file and ends with 0; with 1 once the file is older than 90 seconds. JSON has the same."""
+    with_status(at)
+    plant = up(at)
+    holds(at, ALONE)
+    text = at.read('status.txt').decode()
+    status, out, err = at.run('status plant.toml')
+    stage.wants((status, err) == (0, '') and re.fullmatch(ALONE + 'well\n', out), f'{status} {out} {err}')
+    status, out, err = at.run('status plant.toml --json')
+    found = json.loads(out)
+    stage.wants((status, err) == (0, ''), f'{status} {err}')
+    stage.wants(found['station']['member'] == 1 and found['station']['since'] in text, f'{found}')
+    stage.wants(found['members'] == [] and found['under_way'] == [] and found['missing'] is None, f'{found}')
+    stage.wants(found['counts'] == {'released': 0, 'greatest': 0, 'waiting': 0, 'lost': 0, 'refused': 0, 'unwritten': 0}, f'{found}')
+    stage.wants(found['health'] == {'well': True, 'old': False, 'alone': False, 'missing': False}, f'{found}')
+    at.ends('stop plant.toml', 0)
+    stage.wants(plant.wait(30) == 0, 'it ended well')
+    written = calendar.timegm(time.strptime(re.search(rf'written ({MOMENT})', at.read('status.txt').decode())[1], '%Y-%m-%dT%H:%M:%SZ'))
+    old = time.strftime('%Y-%m-%dT%H:%M:%SZ', time.gmtime(written - 100))
+    at.write('status.txt', re.sub(rf'{MOMENT}', old, at.read('status.txt').decode()).encode())
+    status, out, err = at.run('status plant.toml')
+    stage.wants((status, err) == (1, '') and out.endswith('\nnot well, not written for more than 90 seconds\n'), f'{status} {out} {err}')
+    status, out, err = at.run('status plant.toml --json')
+    stage.wants(status == 1 and json.loads(out)['health'] == {'well': False, 'old': True, 'alone': False, 'missing': False}, f'{status} {out}')
+
+
+def what_can_not_be_told(at):
+    """Where nothing can be told, `status` ends with 3 and says why; --watch is for a terminal."""
+    with_status(at)
+    at.ends('status plant.toml', 3, '', 'status: status.txt: there is no such file\n')
+    at.ends('status one.toml', 3, '', 'status: the configuration names no status file\n')
+    at.ends('status none.toml', 3, '', 'cannot read none.toml\n')
+    at.ends('status plant.toml --watch', 2, '', 'usage: --watch is for a terminal\n')
+    os.mkdir(at.path('status.txt'))
+    at.ends('status plant.toml', 3, '', 'status: status.txt: no plain file\n')
+    os.rmdir(at.path('status.txt'))
+    os.mkfifo(at.path('status.txt'))
+    at.ends('status plant.toml', 3, '', 'status: status.txt: no plain file\n')
+    os.remove(at.path('status.txt'))
+    up(at)
+    holds(at, ALONE)
+    at.ends('stop plant.toml', 0)
+    text = at.read('status.txt').decode()
+    for changed, why in ((text[:-1], 'no status'), (text[:40], 'no status'), ('', 'no status'), (text.replace('nothing', 'none', 1), 'no status'),
+                         (text.replace('form 1', 'form 2'), 'of a later version'), (text.replace('station 1 of 1', 'station 1 of 2'), 'of another station'),
+                         (text.replace('circuit 7', 'circuit 8'), 'of another station'), ('\udcff', 'no status')):
+        at.write('status.txt', changed.encode('utf-8', 'surrogateescape'))
+        at.ends('status plant.toml', 3, '', f'status: status.txt: {why}\n')
+
+
+def unwritten(at):
+    """A plant whose status can't be written says so once, and goes on."""
+    with_status(at, path='none/status.txt')
+    up(at)
+    lay(at, '12.tape', at.read('flood.tape'))
+    stage.within(30, lambda: '12 released' in told(at), f'{told(at)}')
+    lay(at, '13.tape', at.read('flood.tape'))
+    stage.within(30, lambda: '13 released' in told(at), f'{told(at)}')
+    lines = [line for line in told(at) if 'status' in line]
+    stage.wants(lines == ['folders: cannot write status: it is not there'], f'{told(at)}')
+
+
+def misplaced(at):
+    """A status file among the offers, or in place of another file of the station, is refused at the start."""
+    for path, why in (('offers/status.txt', 'offers holds the status file'), ('station.db', 'status is the row file'), ('./codes.toml', 'status is the table'),
+                      ('plant.toml', 'status is the configuration')):
+        with_status(at, path=path)
+        at.ends('run plant.toml', 1, '', f'folders: {why}\n')
+
+
+PLAYS = [misplaced, first_line, file_of_a_plant, well_and_not, what_can_not_be_told, unwritten]

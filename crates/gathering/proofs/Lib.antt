@@ -1,0 +1,4 @@
+pub mod Placing
+pub mod Counting
+pub mod Knowing
+pub mod Keeping

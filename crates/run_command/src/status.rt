@@ -1,0 +1,228 @@
+//! What a plant keeps in mind for its status file, and the writing of it. No story hangs on it.
+
+ghost use Rattle.std.specs.Prelude.{◌≡◌};
+
+use crate::departures::{Departure, Way};
+use crate::plant::{Papers, Plant};
+use ballots::{Member, Number};
+use driver::{Heard, Log, Step};
+use folders::{FolderFault, Folders, Kind, Place, Request};
+use gone_out::Range;
+use node_core::Note;
+use plant_care::{Care, Survey};
+use plant_log::tell_fault;
+use plant_status::{Released, Span, text_of};
+use rolls::Aside;
+use status_keeping::{Counts, Keeper, StatusFile};
+use std::alloc::{AllocError, Global};
+use std::io::Write;
+
+/// The member that a datagram is of, where it can be read.
+fn sender_of(heard: &Heard) -> Option<Member> {
+    match heard {
+        Heard::Taken(Some(said)) => Some(said.sender),
+        Heard::Aside(Aside::Recall(Ok(recall))) => Some(recall.from()),
+        Heard::Aside(Aside::Roll(Ok(roll))) => Some(roll.from()),
+        _ => None,
+    }
+}
+
+/// A datagram was taken in, at a moment.
+pub(crate) fn note_heard(keeper: &mut Option<Keeper>, heard: &Heard, now: u64) {
+    if let Some(keeper) = keeper
+        && let Some(member) = sender_of(heard)
+    {
+        keeper.hear(member, now);
+    }
+}
+
+/// A step about a number was taken that released nothing.
+fn note_of(keeper: &mut Keeper, number: Number, note: &Note) {
+    match *note {
+        Note::Began { ballot } => keeper.begin(number, ballot),
+        Note::GaveUp { .. } | Note::Nothing { .. } => keeper.end(number),
+        _ => {}
+    }
+}
+
+/// A step was taken.
+pub(crate) fn note_step(keeper: &mut Option<Keeper>, step: &Step) {
+    let Some(keeper) = keeper else {
+        return;
+    };
+    match (&step.answer.release, step.answer.number) {
+        (Some(release), _) => keeper.end(release.number),
+        (None, Some(number)) => note_of(keeper, number, &step.answer.note),
+        (None, None) => {}
+    }
+}
+
+/// The station is asked for a file.
+pub(crate) fn note_asked(keeper: &mut Option<Keeper>, request: &Request) {
+    if let Some(keeper) = keeper
+        && !matches!(request.kind, Kind::Seek)
+    {
+        keeper.offer(request.number);
+    }
+}
+
+/// So many files whose names ask for something are among the offers.
+pub(crate) fn note_found(keeper: &mut Option<Keeper>, files: usize) {
+    if let Some(keeper) = keeper {
+        keeper.find(files);
+    }
+}
+
+/// A file left the offers.
+pub(crate) fn note_left(keeper: &mut Option<Keeper>, departure: &Departure) {
+    let Some(keeper) = keeper else {
+        return;
+    };
+    match departure.way {
+        Way::Released(Place::Lost) => keeper.lose(),
+        Way::Released(_) | Way::Answered => {}
+        Way::NoOffer(_) => keeper.refuse(),
+    }
+}
+
+/// A file whose name asks for nothing left the offers.
+pub(crate) fn note_stray(keeper: &mut Option<Keeper>) {
+    if let Some(keeper) = keeper {
+        keeper.refuse();
+    }
+}
+
+/// A range of what is missing, as a status tells it.
+fn span_of(range: &Range) -> Span {
+    Span {
+        first: range.first.get(),
+        last: range.last.get(),
+    }
+}
+
+/// The same of ranges.
+fn spans_of(alloc: Global, ranges: &[Range]) -> Result<Vec<Span>, AllocError> {
+    let mut spans = Vec::with_capacity(alloc, ranges.len())?;
+    for range in ranges {
+        spans.push(span_of(range))?;
+    }
+    Ok(spans)
+}
+
+/// Whether the number by which it is known that something is missing still is.
+fn is_still_missing(keeper: &Keeper, care: &Care) -> bool {
+    match keeper.witness().and_then(Number::new) {
+        Some(number) => care.is_missing(number),
+        None => false,
+    }
+}
+
+/// What is counted for a status; and since when something is missing is kept in mind, at a moment.
+fn counted(
+    alloc: Global,
+    keeper: &mut Keeper,
+    papers: (&Care, usize),
+    now: u64,
+) -> Result<Counts, AllocError> {
+    let (care, unwritten) = papers;
+    let Survey {
+        released,
+        greatest,
+        missing,
+        more,
+    } = care.survey()?;
+    let missing = spans_of(alloc, missing.as_slice())?;
+    let is_still = is_still_missing(keeper, care);
+    keeper.watch(is_still, missing.first().map(|span| span.first), now);
+    Ok(Counts {
+        released: Released {
+            count: released,
+            greatest,
+        },
+        missing,
+        more,
+        unwritten: u32::try_from(unwritten).unwrap_or(u32::MAX),
+    })
+}
+
+/// Puts the status at a moment into its file. Where the clock fails, it is not put there.
+fn put<S: StatusFile>(
+    alloc: Global,
+    keeper: &mut Keeper,
+    papers: (&Care, usize),
+    at: (u64, &mut S),
+) -> Result<(), FolderFault> {
+    let (now, file) = at;
+    let counts = counted(alloc, keeper, papers, now)?;
+    let Some(seconds) = file.seconds() else {
+        return Err(FolderFault::Failed);
+    };
+    match keeper.status(counts, now, seconds)? {
+        Some(status) => {
+            let text = text_of(alloc, &status)?;
+            file.replace(alloc, text.as_str())
+        }
+        None => Err(FolderFault::Failed),
+    }
+}
+
+/// Writes the status where it is time for that, at a moment; why it can't be written, where that is to be told.
+fn write_due<S: StatusFile>(
+    alloc: Global,
+    keeper: &mut Keeper,
+    papers: (&Care, usize),
+    at: (u64, &mut S),
+) -> Option<FolderFault> {
+    let (now, file) = at;
+    if !keeper.is_due(now) {
+        return None;
+    }
+    let put = put(alloc, keeper, papers, (now, file));
+    keeper.written(now);
+    match put {
+        Ok(()) => {
+            keeper.succeed();
+            None
+        }
+        Err(fault) => keeper.fail(now).then_some(fault),
+    }
+}
+
+impl Papers {
+    /// Writes the status where it is time for that, at a moment. That it can't be written is told once, and again each hour.
+    fn tell_status<S: StatusFile, E: Write>(
+        &mut self,
+        alloc: Global,
+        file: &mut S,
+        now: u64,
+        log: &mut Log<'_, E>,
+    )
+        ensures { self.new ≡ record self.old { keeper = self.new.keeper } }
+    {
+        let Some(keeper) = &mut self.keeper else {
+            return;
+        };
+        let papers = (&*self.care, self.waits.len());
+        if let Some(fault) = write_due(alloc, keeper, papers, (now, file)) {
+            tell_fault(alloc, "cannot write status", fault, log.err);
+        }
+    }
+}
+
+impl<'f, 'p, F: Folders> Plant<'f, 'p, F> {
+    /// The same, of a plant.
+    pub(crate) fn tell_status<S: StatusFile, E: Write>(
+        &mut self,
+        file: &mut S,
+        now: u64,
+        log: &mut Log<'_, E>,
+    )
+        ensures folders { self.new.folders.ghost_name ≡ self.old.folders.ghost_name }
+        ensures same { self.new.folders.now ≡ self.old.folders.now }
+        ensures waits { self.new.papers.now.waits ≡ self.old.papers.now.waits }
+        ensures texts { self.new.papers.now.texts ≡ self.old.papers.now.texts }
+        ensures book { self.new.papers.now.book ≡ self.old.papers.now.book }
+    {
+        self.papers.tell_status(self.alloc, file, now, log);
+    }
+}

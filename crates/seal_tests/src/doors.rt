@@ -1,0 +1,190 @@
+//! What the door of member 2 lets in.
+
+use ballots::Member;
+use hmac::Key;
+use sealed_door::SealedDoor;
+use seals::{Keys, Label};
+use std::alloc::Global;
+use std::net::{IpAddr, Ipv4Addr, SocketAddr};
+use wire::{Address, Brought, Door, Reason};
+
+/// The byte of the keys of the circuit, and of another.
+const OURS: u8 = 7;
+
+const OTHER: u8 = 8;
+
+/// What a door told of a datagram: how long the packet is that it brought, or why it brought none.
+#[derive(Clone, Copy, PartialEq, Eq)]
+enum Told {
+    Packet { length: usize },
+    Part,
+    Lost,
+    Refused(Reason),
+}
+
+/// A datagram that member 1 sealed under a key of this byte for member 2, which names these as its sender and its addressee, and comes
+/// from this port; and what the door tells of it.
+struct Case {
+    key: u8,
+    from: u8,
+    to: u8,
+    port: u16,
+    told: Told,
+}
+
+const CASES: &[Case] = &[
+    Case {
+        key: OURS,
+        from: 1,
+        to: 2,
+        port: 7001,
+        told: Told::Packet { length: 30 },
+    },
+    Case {
+        key: OTHER,
+        from: 1,
+        to: 2,
+        port: 7001,
+        told: Told::Refused(Reason::OtherKey),
+    },
+    Case {
+        key: OURS,
+        from: 1,
+        to: 2,
+        port: 7003,
+        told: Told::Refused(Reason::Elsewhere),
+    },
+    Case {
+        key: OURS,
+        from: 1,
+        to: 2,
+        port: 7009,
+        told: Told::Refused(Reason::Stranger),
+    },
+    Case {
+        key: OURS,
+        from: 3,
+        to: 2,
+        port: 7001,
+        told: Told::Refused(Reason::NoPart),
+    },
+    Case {
+        key: OURS,
+        from: 1,
+        to: 3,
+        port: 7001,
+        told: Told::Refused(Reason::NoPart),
+    },
+];
+
+fn address_of(member: u8) -> Option<Address> {
+    Some(Address {
+        member: Member::new(member)?,
+        ip: [127, 0, 0, 1],
+        port: 7000 + u16::from(member),
+    })
+}
+
+fn stations(alloc: Global) -> Option<Vec<Address>> {
+    let mut all = Vec::new(alloc);
+    for member in 1..4u8 {
+        all.push(address_of(member)?).ok()?;
+    }
+    Some(all)
+}
+
+fn door(alloc: Global) -> Option<SealedDoor> {
+    let keys = Keys {
+        first: Key::new(&[OURS; 32]),
+        second: None,
+    };
+    SealedDoor::new(alloc, Member::new(2)?, keys, stations(alloc)?).ok()
+}
+
+/// What a door tells of bytes from this port.
+fn tell_of(door: &mut SealedDoor, alloc: Global, bytes: &[u8], port: u16) -> Told {
+    let sender = SocketAddr::new(IpAddr::V4(Ipv4Addr::new(127, 0, 0, 1)), port);
+    match door.admit(alloc, sender, bytes) {
+        Brought::Packet(datagram) => Told::Packet {
+            length: datagram.bytes.len(),
+        },
+        Brought::Part => Told::Part,
+        Brought::Lost => Told::Lost,
+        Brought::Refused(reason) => Told::Refused(reason),
+    }
+}
+
+/// A packet of so many bytes that names these two.
+fn packet_of(alloc: Global, len: usize, from: u8, to: u8) -> Option<Vec<u8>> {
+    let mut packet = vec![in alloc; 1u8; len].ok()?;
+    if len < 8 {
+        return None;
+    }
+    packet[6] = from;
+    packet[7] = to;
+    Some(packet)
+}
+
+/// The datagram of this index of a packet of member 1 to member 2, under a key of this byte.
+fn datagram_of(alloc: Global, key: u8, packet: &[u8], index: u8) -> Option<Vec<u8>> {
+    let key = Key::new(&[key; 32]);
+    let label = Label::new(&key, Member::new(1)?, Member::new(2)?, packet)?;
+    if index >= label.count() {
+        return None;
+    }
+    let mut bytes = Vec::new(alloc);
+    label.seal(&key, index, packet, &mut bytes).ok()?;
+    Some(bytes)
+}
+
+/// Whether a new door tells of a case what it should.
+fn is_told(alloc: Global, case: &Case) -> Option<bool> {
+    let packet = packet_of(alloc, 30, case.from, case.to)?;
+    let bytes = datagram_of(alloc, case.key, &packet, 0)?;
+    let mut door = door(alloc)?;
+    Some(tell_of(&mut door, alloc, &bytes, case.port) == case.told)
+}
+
+/// How many of the cases are told otherwise than they should be.
+fn told_otherwise(alloc: Global) -> u32 {
+    let mut count = 0u32;
+    for case in CASES {
+        if is_told(alloc, case) != Some(true) {
+            count = count.saturating_add(1);
+        }
+    }
+    count
+}
+
+/// Whether a packet of two parts is let in with the second that comes.
+fn in_two(alloc: Global, first: u8, second: u8) -> Option<bool> {
+    let packet = packet_of(alloc, 1500, 1, 2)?;
+    let (one, other) = (
+        datagram_of(alloc, OURS, &packet, first)?,
+        datagram_of(alloc, OURS, &packet, second)?,
+    );
+    let mut door = door(alloc)?;
+    let before = tell_of(&mut door, alloc, &one, 7001);
+    let after = tell_of(&mut door, alloc, &other, 7001);
+    Some(before == Told::Part && after == Told::Packet { length: 1500 })
+}
+
+/// Whether these bytes of member 1 are told as a datagram that is not sealed.
+fn is_unsealed(alloc: Global, bytes: &[u8]) -> Option<bool> {
+    let mut door = door(alloc)?;
+    Some(tell_of(&mut door, alloc, bytes, 7001) == Told::Refused(Reason::NotSealed))
+}
+
+#[test]
+fn one_datagram(rt: HostRuntime) {
+    assert!(rt; told_otherwise(rt.alloc()) == 0);
+    assert!(rt; is_unsealed(rt.alloc(), b"TN\x01\x01\0\x07\x01\x02") == Some(true));
+    assert!(rt; is_unsealed(rt.alloc(), b"TS\x01\x01\0\x07\x01\x02") == Some(false));
+}
+
+#[test]
+fn two_datagrams(rt: HostRuntime) {
+    assert!(rt; in_two(rt.alloc(), 0, 1) == Some(true));
+    assert!(rt; in_two(rt.alloc(), 1, 0) == Some(true));
+    assert!(rt; in_two(rt.alloc(), 1, 1) == Some(false));
+}

@@ -1,0 +1,4 @@
+pub mod Sealing
+pub mod Reading
+pub mod Opening
+pub mod Laws

@@ -1,0 +1,46 @@
+//! The status file of a plant, on the machine that the program runs on.
+
+use folders::FolderFault;
+use jiff::Timestamp;
+use status_keeping::StatusFile;
+use std::alloc::Global;
+use std::fs;
+use std::fs::File;
+use std::io::Write;
+
+/// The status file of a plant, where it has one.
+#[derive(Drop)]
+pub(crate) struct HostStatus<'r> {
+    pub(crate) rt: &'r HostRuntime,
+    pub(crate) path: Option<String>,
+}
+
+/// Makes a file of a name that is free, with a text.
+fn make(rt: &HostRuntime, path: &str, text: &str) -> Result<(), FolderFault> {
+    let mut file = File::create_new(rt, path)?;
+    file.write_all(text.as_bytes())?;
+    Ok(())
+}
+
+/// Puts a text in place of what a file has: beside it first, and then by renaming.
+fn replace(rt: &HostRuntime, alloc: Global, path: &str, text: &str) -> Result<(), FolderFault> {
+    let next = format!(in alloc; "{path}.next")?;
+    // One that a kill left behind.
+    let _ = fs::remove_file(rt, next.as_str());
+    make(rt, next.as_str(), text)?;
+    Ok(fs::rename(rt, next.as_str(), path)?)
+}
+
+impl<'r> StatusFile for HostStatus<'r> {
+    fn seconds(&self) -> Option<u64> {
+        let now = Timestamp::now(self.rt).ok()?;
+        u64::try_from(now.as_second()).ok()
+    }
+
+    fn replace(&mut self, alloc: Global, text: &str) -> Result<(), FolderFault> {
+        match &self.path {
+            Some(path) => replace(self.rt, alloc, path.as_str(), text),
+            None => Ok(()),
+        }
+    }
+}

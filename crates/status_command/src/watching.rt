@@ -1,0 +1,32 @@
+//! A status that is drawn again each second.
+
+use crate::command::{Shape, put, told_of};
+use crate::fault::NoStatus;
+use configuration::Config;
+use std::io::Write;
+use std::thread;
+use std::time::Duration;
+
+/// How many times it is drawn at most: a year.
+const TIMES: u32 = 31_536_000;
+
+/// What stands before a drawing, so that it takes the place of the one before.
+const FRESH: &str = "\u{1b}[H\u{1b}[2J";
+
+/// Draws how a station stands again each second, on a terminal, until nothing can be told any more.
+pub(crate) fn watch<W: Write>(
+    rt: &HostRuntime,
+    path: &str,
+    config: &Config,
+    out: &mut W,
+) -> Result<bool, NoStatus> {
+    let mut is_well = true;
+    for _ in 0..TIMES {
+        let (text, well) = told_of(rt, path, config, Shape::Watched)?;
+        put(FRESH, out)?;
+        put(text.as_str(), out)?;
+        is_well = well;
+        thread::sleep(rt, Duration::from_secs(1));
+    }
+    Ok(is_well)
+}

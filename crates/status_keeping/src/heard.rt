@@ -1,0 +1,52 @@
+//! When each other member was heard.
+
+ghost use Rattle.std.specs.Prelude.{◌≡◌, ◌||◌, not, is_some};
+ghost use Rattle.status_keeping.specs.Timing.{is_silent};
+
+use ballots::Member;
+use folders::has_passed;
+use std::alloc::{AllocError, Global};
+
+/// How long a member has to be silent, so that it is news that it is heard, in milliseconds.
+const SILENT: u64 = 10_000;
+
+/// Another member, and the moment at which it was heard last, in milliseconds.
+#[derive(Clone, Copy)]
+pub(crate) struct LastHeard {
+    pub(crate) member: u8,
+    pub(crate) at: Option<u64>,
+}
+
+/// The others of a circuit of so many, none of which was heard.
+pub(crate) fn others(alloc: Global, own: u8, count: u8) -> Result<Vec<LastHeard>, AllocError> {
+    let mut others = Vec::with_capacity(alloc, count as usize)?;
+    for before in 0..count {
+        let member = before.saturating_add(1);
+        if member != own {
+            others.push(LastHeard { member, at: None })?;
+        }
+    }
+    Ok(others)
+}
+
+/// Whether a member that was heard last at a moment, if it was, is silent for 10 seconds at another.
+fn is_silent(at: Option<u64>, now: u64) -> bool
+    ensures { result ≡ is_silent at now }
+{
+    match at {
+        Some(at) => has_passed(at, SILENT, now),
+        None => true,
+    }
+}
+
+/// A member is heard at a moment; whether it was silent before.
+pub(crate) fn hear(others: &mut [LastHeard], member: Member, now: u64) -> bool {
+    let mut is_news = false;
+    for place in 0..others.len() {
+        if others[place].member == member.get() {
+            is_news = is_silent(others[place].at, now);
+            others[place].at = Some(now);
+        }
+    }
+    is_news
+}

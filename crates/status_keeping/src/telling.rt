@@ -1,0 +1,45 @@
+//! The moments of a status, as a calendar tells them.
+
+use crate::heard::LastHeard;
+use plant_status::{Heard, Moment};
+use std::alloc::{AllocError, Global};
+
+/// A moment of the station, in milliseconds, beside how many seconds ago 1970 began.
+#[derive(Clone, Copy)]
+pub(crate) struct Instant {
+    pub(crate) now: u64,
+    pub(crate) seconds: u64,
+}
+
+impl Instant {
+    /// A moment of the station that was before.
+    pub(crate) fn moment(&self, at: u64) -> Option<Moment> {
+        let ago = self.now.saturating_sub(at) / 1000;
+        Moment::at(self.seconds.saturating_sub(ago))
+    }
+
+    /// When a member was heard.
+    fn heard(&self, heard: &LastHeard) -> Heard {
+        let at = match heard.at {
+            Some(at) => self.moment(at),
+            None => None,
+        };
+        Heard {
+            member: heard.member,
+            at,
+        }
+    }
+
+    /// When each member was heard.
+    pub(crate) fn all_heard(
+        &self,
+        alloc: Global,
+        others: &[LastHeard],
+    ) -> Result<Vec<Heard>, AllocError> {
+        let mut all = Vec::with_capacity(alloc, others.len())?;
+        for heard in others {
+            all.push(self.heard(heard))?;
+        }
+        Ok(all)
+    }
+}

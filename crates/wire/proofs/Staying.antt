@@ -1,0 +1,108 @@
+-- What waits stays such as was let in.
+use Rattle.std.proofs.Common.{◌≡◌, ℕ, ◌+◌, ◌-◌, inl, inr, Bool, true, false, List, length, drop, get_or, set, replicate, sym, ap, subst, arith}
+use Rattle.std.specs.Prelude.{Option, Result, Ok, Err, IfOk, Some, None, MatchOption}
+use Rattle.std.specs.List.{All}
+use Rattle.std.specs.declared.net.socket_addr.SocketAddr.{SocketAddr}
+use Rattle.std.proofs.lemmas.Bool.{cases_lt, cases_eq}
+use Rattle.std.proofs.lemmas.List.{length-set, get_or-set_same, get_or-set_other, get_or-replicate, get_or_past, length-replicate}
+use Rattle.std.proofs.lemmas.List.Elements.{All-drop, All-push}
+use Rattle.pace.specs.declared.share.Datagram.{Datagram}
+use Rattle.pace.specs.Room.{WaitingValue, ShareValue, share_at, nothing_of, with_share, puts, puts_behind, taken_at, turn_of, nothing_waits, empty_share}
+use Rattle.wire.specs.declared.address.Address.{Address}
+use Rattle.wire.specs.declared.door.Brought.{Brought}
+use Rattle.wire.specs.declared.door.Brought.TheVariants as brought
+use Rattle.wire.specs.declared.wire.Arrival.{Arrival}
+use Rattle.wire.specs.Doors.{AllWait, Alike, ComesAs, Stays}
+use Rattle.wire.specs.Plain.{AdmitsPlain, IsFrom, IsPacketOf}
+
+-- nothing changes
+pub alike_self : (Is : Datagram → Type 0) → Alike Is Is
+alike_self Is = λ d. (λ x. x, λ x. x)
+
+pub stays_self : (Is : Datagram → Type 0) (w : WaitingValue) → Stays Is Is w w
+stays_self Is w = record { alike = alike_self Is; wait = λ all. all }
+
+-- one step, and another
+pub stays_then : (A B C : Datagram → Type 0) (u v w : WaitingValue) → Stays A B u v → Stays B C v w → Stays A C u w
+stays_then A B C u v w first second = record {
+  alike = λ d. (λ x. (first.alike d).0 ((second.alike d).0 x), λ x. (second.alike d).1 ((first.alike d).1 x));
+  wait = λ all. second.wait (first.wait all);
+}
+
+-- the door changes, and what waits does not
+pub stays_alike : (A B : Datagram → Type 0) (w : WaitingValue) → Alike A B → Stays A B w w
+stays_alike A B w alike = record {
+  alike = alike;
+  wait = λ all place k d low. (alike (get_or (share_at place w).datagrams k d)).1 (all place k d low);
+}
+
+-- none waits of any
+pub none_waits : (Is : Datagram → Type 0) (members : ℕ) → AllWait Is (nothing_waits members)
+none_waits Is members = λ place. elim (cases_lt place members) as (λ _. All Is (share_at place (nothing_waits members)).datagrams) [
+  | inl low ↦ subst (λ (s : ShareValue). All Is s.datagrams) (sym (get_or-replicate members place (empty_share members) (nothing_of 0 0) low)) (λ k d lt. absurd (omega arith))
+  | inr past ↦ subst (λ (s : ShareValue). All Is s.datagrams) (sym (get_or_past (replicate members (empty_share members)) place (nothing_of 0 0) (let e = length-replicate members (empty_share members) in omega arith))) (λ k d lt. absurd (omega arith))
+]
+
+-- one share is another
+with_one : (Is : Datagram → Type 0) (w : WaitingValue) (place : ℕ) (s : ShareValue) → AllWait Is w → All Is s.datagrams → AllWait Is (with_share place s w)
+with_one Is w place s all new = λ k. elim (cases_eq k place) as (λ _. All Is (share_at k (with_share place s w)).datagrams) [
+  | inl same ↦ elim (cases_lt place (length w.shares)) as (λ _. All Is (share_at k (with_share place s w)).datagrams) [
+    | inl low ↦ subst (λ (n : ℕ). All Is (share_at n (with_share place s w)).datagrams) (sym same) (subst (λ (x : ShareValue). All Is x.datagrams) (sym (get_or-set_same w.shares place s (nothing_of 0 0) low)) new)
+    | inr past ↦ subst (λ (x : ShareValue). All Is x.datagrams) (sym (get_or_past (set w.shares place s) k (nothing_of 0 0) (let e = length-set w.shares place s in omega arith))) (λ j d lt. absurd (omega arith))
+  ]
+  | inr other ↦ subst (λ (x : ShareValue). All Is x.datagrams) (sym (get_or-set_other w.shares place k s (nothing_of 0 0) other)) (all k)
+]
+
+-- one more waits, or is lost
+pub put_waits : (Is : Datagram → Type 0) (found : Bool) (d : Datagram) (w : WaitingValue) → Is d → AllWait Is w → AllWait Is (puts found d w)
+put_waits Is true d w is all =
+    let s = share_at (d.sender - 1) w in
+    with_one Is w (d.sender - 1) (puts_behind true d s) all (All-push Is s.datagrams d (all (d.sender - 1)) is)
+put_waits Is false d w is all = all
+
+-- one is taken
+pub take_waits : (Is : Datagram → Type 0) (place : ℕ) (taken : Option Datagram) (old new : WaitingValue) → taken_at place taken old new → AllWait Is old → AllWait Is new
+take_waits Is place taken old new at all =
+    let s = share_at place old in
+    subst (AllWait Is) (sym at.1) (with_one Is (record old { next = place + 1 }) place (record s { datagrams = drop 1 s.datagrams }) all (All-drop Is 1 s.datagrams (all place)))
+
+pub taken_is : (Is : Datagram → Type 0) (place : ℕ) (d : Datagram) (old new : WaitingValue) → taken_at place (Some d) old new → AllWait Is old → Is d
+taken_is Is place d old new at all =
+    subst Is (ap (λ (l : List Datagram). get_or l 0 d) at.0) (all place 0 d (let e = ap length at.0 in omega arith))
+
+-- what may have been taken
+taken_stays : (Is : Datagram → Type 0) (turn : Option ℕ) (taken : Option Datagram) (old new : WaitingValue)
+    → MatchOption turn ((taken ≡ None) × (new ≡ old)) (λ place. taken_at place taken old new) → Stays Is Is old new
+taken_stays Is None taken old new at = record { alike = alike_self Is; wait = λ all. subst (AllWait Is) (sym at.1) all }
+taken_stays Is (Some place) taken old new at = record { alike = alike_self Is; wait = take_waits Is place taken old new at }
+
+pub take_stays : (Is : Datagram → Type 0) (taken : Option Datagram) (old new : WaitingValue)
+    → MatchOption (turn_of old) ((taken ≡ None) × (new ≡ old)) (λ place. taken_at place taken old new) → Stays Is Is old new
+take_stays Is taken old new at = taken_stays Is (turn_of old) taken old new at
+
+taken_at_turn : (Is : Datagram → Type 0) (turn : Option ℕ) (d : Datagram) (old new : WaitingValue)
+    → MatchOption turn ((Some d ≡ None) × (new ≡ old)) (λ place. taken_at place (Some d) old new) → AllWait Is old → Is d
+taken_at_turn Is None d old new at all = let none = at.0 in absurd cc
+taken_at_turn Is (Some place) d old new at all = taken_is Is place d old new at all
+
+pub take_is : (Is : Datagram → Type 0) (taken : Option Datagram) (d : Datagram) (old new : WaitingValue)
+    → MatchOption (turn_of old) ((taken ≡ None) × (new ≡ old)) (λ place. taken_at place taken old new) → taken ≡ Some d → AllWait Is old → Is d
+take_is Is taken d old new at is all =
+    taken_at_turn Is (turn_of old) d old new (subst (λ (o : Option Datagram). MatchOption (turn_of old) ((o ≡ None) × (new ≡ old)) (λ place. taken_at place o old new)) is at) all
+
+-- what comes after a step
+pub comes_then : (A B : Datagram → Type 0) (w v : WaitingValue) (a : Arrival) (buffer : List ℕ) → Stays A B w v → (AllWait B v → ComesAs B a buffer) → AllWait A w → ComesAs B a buffer
+comes_then A B w v a buffer stays comes all = comes (stays.wait all)
+
+-- what holds of a good end by two facts of it
+pub if_ok_both : {A E : Type 0} (P Q R : A → Type 0) (r : Result A E) → ((a : A) → P a → Q a → R a) → IfOk r P → IfOk r Q → IfOk r R
+if_ok_both P Q R (Ok a) both p q = both a p q
+if_ok_both P Q R (Err e) both p q = tt
+
+-- what a plain door lets in
+pub admits_packet : (own : ℕ) (stations : List Address) (sender : SocketAddr) (member : ℕ) (bytes : List ℕ) (b : Brought) → IsFrom own stations sender member bytes
+    → IsPacketOf member bytes b → AdmitsPlain own stations sender bytes b
+admits_packet own stations sender member bytes (brought.Packet d) from is = (subst (λ (m : ℕ). IsFrom own stations sender m bytes) (sym is.0) from, is.1)
+admits_packet own stations sender member bytes brought.Part from is = absurd is
+admits_packet own stations sender member bytes brought.Lost from is = (member, from)
+admits_packet own stations sender member bytes (brought.Refused reason) from is = absurd is

@@ -1,0 +1,109 @@
+//! The door of a station without a key: the papers' datagrams, as they come.
+
+ghost use Rattle.std.specs.Prelude.{◌≡◌, IfOk, IfErr};
+ghost use Rattle.wire.specs.Plain.{AdmitsPlain, IsAgainst, IsFrom, IsPacketOf, has_mark, names_another, reason_against};
+
+use crate::address::{Address, address_of, place_of};
+use crate::door::{Brought, Door};
+use crate::reason::Reason;
+use crate::sending::send_datagram;
+use ballots::Member;
+use pace::Datagram;
+use std::alloc::Global;
+use std::net::{SocketAddr, UdpSocket};
+
+/// Whose station it is, and where all listen, in order of members from 1.
+#[derive(Drop)]
+pub struct PlainDoor {
+    pub(crate) own: Member,
+    pub(crate) stations: Vec<Address>,
+}
+
+/// Whether a datagram begins with a mark: T, and this letter.
+pub fn has_mark(bytes: &[u8], letter: u8) -> bool
+    ensures { result ≡ has_mark letter bytes.now }
+{
+    bytes.len() > 1 && bytes[0] == b'T' && bytes[1] == letter
+}
+
+/// Whether a datagram names another sender than this member, in its seventh byte: a packet, a recall or a roll call.
+fn names_another(bytes: &[u8], member: Member) -> bool
+    ensures { result ≡ names_another member bytes.now }
+{
+    let names = has_mark(bytes, b'N') || has_mark(bytes, b'R');
+    names && bytes.len() > 6 && bytes[6] != member.get()
+}
+
+/// What stands against a datagram from where this member listens, if anything does.
+fn reason_against(own: Member, member: Member, bytes: &[u8]) -> Option<Reason>
+    ensures { result ≡ reason_against own member bytes.now }
+{
+    if member.get() == own.get() {
+        return Some(Reason::OwnAddress);
+    }
+    if has_mark(bytes, b'S') {
+        return Some(Reason::Sealed);
+    }
+    if names_another(bytes, member) {
+        return Some(Reason::OtherSender);
+    }
+    None
+}
+
+/// The packet of these bytes, of this member, where there is memory for it.
+fn packet_of(alloc: Global, sender: Member, bytes: &[u8]) -> Brought
+    ensures { IsPacketOf sender bytes.now result }
+{
+    match Vec::from_slice(alloc, bytes) {
+        Ok(bytes) => Brought::Packet(Datagram { sender, bytes }),
+        Err(_) => Brought::Lost,
+    }
+}
+
+impl PlainDoor {
+    /// The member whose datagram it is, or what stands against it.
+    fn judge(&self, sender: SocketAddr, bytes: &[u8]) -> Result<Member, Reason>
+        ensures from { IfOk result (λ member. IsFrom self.now.own self.now.stations.items sender member bytes.now) }
+        ensures against { IfErr result (λ reason. IsAgainst self.now.own self.now.stations.items sender bytes.now reason) }
+    {
+        let Some(place) = place_of(&self.stations, sender) else {
+            return Err(Reason::Stranger);
+        };
+        let member = self.stations[place].member;
+        match reason_against(self.own, member, bytes) {
+            Some(reason) => Err(reason),
+            None => Ok(member),
+        }
+    }
+}
+
+impl Door for PlainDoor {
+    ghost use Rattle.wire.specs.Plain.{LetsIn};
+
+    ghost lets_in = { λ door. LetsIn door.own door.stations.items };
+
+    fn stations(&self) -> &Vec<Address>
+        ensures { result.now ≡ self.now.stations }
+    {
+        &self.stations
+    }
+
+    fn admit(&mut self, alloc: Global, sender: SocketAddr, bytes: &[u8]) -> Brought
+        ensures admits { AdmitsPlain self.old.own self.old.stations.items sender bytes.now result }
+        ensures door { self.new ≡ self.old }
+    {
+        match self.judge(sender, bytes) {
+            Ok(member) => packet_of(alloc, member, bytes),
+            Err(reason) => Brought::Refused(reason),
+        }
+    }
+
+    fn send(&mut self, socket: &UdpSocket, to: Member, bytes: &[u8]) -> bool
+        ensures door { self.new ≡ self.old }
+    {
+        match address_of(&self.stations, to) {
+            Some(address) => send_datagram(socket, address, bytes),
+            None => false,
+        }
+    }
+}
