@@ -2,7 +2,9 @@
 import calendar
 import json
 import os
+import pty
 import re
+import select
 import time
 
 import stage
@@ -130,6 +132,37 @@ def what_can_not_be_told(at):
         at.ends('status plant.toml', 3, '', f'status: status.txt: {why}\n')
 
 
+def watched(at):
+    """On a terminal `--watch` draws the status again each second, what came meanwhile too, and ends as `status` does once the file is gone."""
+    with_status(at)
+    up(at)
+    holds(at, ALONE)
+    ours, theirs = pty.openpty()
+    with open(at.path('end'), 'wb') as err:
+        watching = at.start('status plant.toml --watch', stdout=theirs, stderr=err)
+    os.close(theirs)
+    drawn = b''
+
+    def drawings(count, released):
+        """So many drawings begin, and the last whole one tells this of the releases."""
+        nonlocal drawn
+        if select.select([ours], [], [], 0.1)[0]:
+            drawn += os.read(ours, 65536)
+        whole = drawn.decode().replace('\r\n', '\n').split('\x1b[H\x1b[2J')[1:-1]
+        return len(whole) >= count and all(re.fullmatch(ALONE + 'well\n', one) for one in whole) and f'released {released}\n' in whole[-1]
+
+    begun = time.monotonic()
+    stage.within(10, lambda: drawings(3, 'nothing'), f'it is drawn again: {drawn}')
+    stage.wants(time.monotonic() - begun > 2, 'a second lies between two drawings')
+    lay(at, '12.tape', at.read('flood.tape'))
+    stage.within(30, lambda: drawings(4, '1, the greatest 12'), f'the story is seen: {drawn}')
+    at.ends('stop plant.toml', 0)
+    os.remove(at.path('status.txt'))
+    stage.wants(watching.wait(10) == 3, 'it ends as nothing can be told')
+    stage.wants(at.read('end') == b'status: status.txt: there is no such file\n', f'{at.read("end")}')
+    os.close(ours)
+
+
 def unwritten(at):
     """A plant whose status can't be written says so once, and goes on."""
     with_status(at, path='none/status.txt')
@@ -150,4 +183,4 @@ def misplaced(at):
         at.ends('run plant.toml', 1, '', f'folders: {why}\n')
 
 
-PLAYS = [misplaced, first_line, file_of_a_plant, well_and_not, what_can_not_be_told, unwritten]
+PLAYS = [misplaced, first_line, file_of_a_plant, well_and_not, what_can_not_be_told, watched, unwritten]
