@@ -122,6 +122,8 @@ class Edit:
         if not self.pairs:
             raise BadEdit('it has no pair of texts')
         for file, old, new in self.pairs:
+            if old == new:
+                raise BadEdit(f'it changes nothing: {old}')
             if file not in made:
                 made[file] = read(os.path.join(home, file))
             if made[file].count(old) != 1:
