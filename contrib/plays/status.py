@@ -134,10 +134,13 @@ def what_can_not_be_told(at):
 
 def watched(at):
     """On a terminal `--watch` draws the status again each second, what came meanwhile too, and ends as `status` does once the file is gone."""
+    try:
+        ours, theirs = pty.openpty()
+    except OSError:
+        raise stage.Skipped('there is no terminal to be had') from None
     with_status(at)
-    up(at)
+    plant = up(at)
     holds(at, ALONE)
-    ours, theirs = pty.openpty()
     with open(at.path('end'), 'wb') as err:
         watching = at.start('status plant.toml --watch', stdout=theirs, stderr=err)
     os.close(theirs)
@@ -149,16 +152,26 @@ def watched(at):
         if select.select([ours], [], [], 0.1)[0]:
             drawn += os.read(ours, 65536)
         whole = drawn.decode().replace('\r\n', '\n').split('\x1b[H\x1b[2J')[1:-1]
-        return len(whole) >= count and all(re.fullmatch(ALONE + 'well\n', one) for one in whole) and f'released {released}\n' in whole[-1]
+        return len(whole) >= count and re.fullmatch(ALONE + 'well\n', whole[-1]) and f'released {released}\n' in whole[-1]
+
+    def ended():
+        """Whether it has ended; what it still draws is taken from the terminal, and its end is an error there."""
+        try:
+            drawings(1, 'nothing')
+        except OSError:
+            pass
+        return watching.poll() is not None
 
     begun = time.monotonic()
-    stage.within(10, lambda: drawings(3, 'nothing'), f'it is drawn again: {drawn}')
+    stage.within(30, lambda: drawings(3, 'nothing'), f'it is drawn again: {drawn}')
     stage.wants(time.monotonic() - begun > 2, 'a second lies between two drawings')
     lay(at, '12.tape', at.read('flood.tape'))
     stage.within(30, lambda: drawings(4, '1, the greatest 12'), f'the story is seen: {drawn}')
     at.ends('stop plant.toml', 0)
+    stage.wants(plant.wait(30) == 0, 'it ended well')
     os.remove(at.path('status.txt'))
-    stage.wants(watching.wait(10) == 3, 'it ends as nothing can be told')
+    stage.within(30, ended, 'it ends too')
+    stage.wants(watching.wait() == 3, 'it ends as nothing can be told')
     stage.wants(at.read('end') == b'status: status.txt: there is no such file\n', f'{at.read("end")}')
     os.close(ours)
 
