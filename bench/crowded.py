@@ -15,12 +15,14 @@ count is given, and a line is printed:
 
 With --turns the first plant is watched by strace instead, which tells when it asks its socket, as it does once in each turn:
 
-    turn       the longest time between two such calls, in ten seconds in which nothing but looks happens; and the median
+    turn       the longest time between two such calls, in ten seconds in which nothing but looks happens; the longest of those in which
+               the disk was not asked to sync; and the median
 
 Cases (all where none is named):
     left       names that are left alone: nothing is done with them, so that the look alone is seen
     half       half are searches that find nothing, half ask for nothing
     searches   8,000 searches that find nothing
+    seeks      25,000 searches that find nothing
     changing   20,000 tapes that are written anew all the time
     unread     names that can't be read: a half is not UTF-8, a half are fifos
     swarm      names that are laid and taken away all the time
@@ -87,16 +89,24 @@ class Plants:
     def start(self, watched=False):
         for member in MEMBERS:
             err = open(self.path(member, 'err'), 'w')
-            watcher = ['strace', '-f', '--seccomp-bpf', '-e', 'trace=recvfrom', '-ttt', '-T', '-o', self.path(1, 'calls')] if watched and member == 1 else []
+            watcher = ['strace', '-f', '--seccomp-bpf', '-e', 'trace=recvfrom,fsync,fdatasync', '-ttt', '-T', '-o', self.path(1, 'calls')] if watched and member == 1 else []
             self.processes[member] = subprocess.Popen([*watcher, self.program, 'run', 'station.toml', '--create', '--layout', '2'], cwd=self.path(member),
                                                       stdout=subprocess.DEVNULL, stderr=err)
 
     def turns(self):
-        """How long it was between two asks of the socket, for each two, since SETTLES seconds after the first."""
+        """How long it was between two asks of the socket, and whether the disk was asked to sync, for each two, since SETTLES seconds after the
+        first."""
         with open(self.path(1, 'calls'), encoding='utf-8', errors='replace') as calls:
-            asked = [(float(words[1]), float(words[-1].strip('<>'))) for words in map(str.split, calls) if words[-1].startswith('<')]
-        quiet = [each for each in asked if each[0] > asked[0][0] + SETTLES]
-        return [after - before - took for (before, took), (after, _) in zip(quiet, quiet[1:])]
+            told = [(words[2], float(words[1]), float(words[-1].strip('<>'))) for words in map(str.split, calls) if words[-1].startswith('<')]
+        turns, last, synced = [], None, False
+        for call, begun, took in told:
+            if not call.startswith('recvfrom'):
+                synced = True
+                continue
+            if last is not None and last > told[0][1] + SETTLES:
+                turns.append((begun - last, synced))
+            last, synced = begun + took, False
+        return turns
 
     def took(self):
         """The processor time of the first plant so far."""
@@ -164,6 +174,11 @@ def searches(offers, count):
         put(os.path.join(offers, f'{index + 1}.seek'))
 
 
+def seeks(offers, count):
+    for index in range(min(count, 25_000)):
+        put(os.path.join(offers, f'{index + 1}.seek'))
+
+
 def changing(offers, count):
     for index in range(min(count, 20_000)):
         put(os.path.join(offers, f'{index + 1}.tape'), STORY)
@@ -205,6 +220,7 @@ CASES = {
     'left': (left, None),
     'half': (half, None),
     'searches': (searches, None),
+    'seeks': (seeks, None),
     'changing': (changing, change_all),
     'unread': (unread, None),
     'swarm': (left, swarm_all),
@@ -236,7 +252,10 @@ def watch(program, name, count):
         time.sleep(SETTLES + WATCHED)
         plants.stop()
         turns = plants.turns()
-        print(f'{name:10} turn {1000 * max(turns):6.1f} ms at most, median {1000 * statistics.median(turns):6.2f} ms, of {len(turns)}', flush=True)
+        longest, plain = max(took for took, _ in turns), max(took for took, synced in turns if not synced)
+        median = statistics.median(took for took, _ in turns)
+        print(f'{name:10} turn {1000 * longest:6.1f} ms at most, {1000 * plain:6.1f} ms without a sync, median {1000 * median:6.2f} ms, of {len(turns)}',
+              flush=True)
     finally:
         plants.end()
 

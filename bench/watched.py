@@ -10,7 +10,7 @@ at one plant, and every five seconds `status` is asked at each plant. Again and 
     killed     the third plant is killed: from 60 to 95 seconds later its status is too old, and the others are well
     cut off    all datagrams from and to the second plant are lost: from 145 to 215 seconds later it has heard no majority, and the others are well
     lacking    no packet that brings a story reaches the first plant, while 30 are laid at the second: from 60 to 130 seconds later
-               something is missing there, 30 numbers at least, and the others are well
+               something is missing there, in the end 30 numbers at least, and the others are well
 
 Told is, of each of these, after how many seconds `status` ended with 1 at the plant that it is about, and how often it was asked. The status is
 1 where it ended otherwise than it should at any plant, outside of those seconds and of the two minutes behind each case.
@@ -72,7 +72,7 @@ class Watch:
 
     def __init__(self, plants, network):
         self.plants, self.network, self.number, self.editor = plants, network, 0, plants[0]
-        self.asked, self.wrong, self.laid = 0, [], 0.0
+        self.asked, self.wrong, self.laid, self.said = 0, [], 0.0, ''
 
     def pass_on(self, seconds):
         """Lets time pass: stories are laid, and datagrams passed on."""
@@ -84,7 +84,7 @@ class Watch:
                 self.editor.lay(self.number)
             self.network.pass_on_until(min(until, now + 0.2))
 
-    def look(self, case, since, ailing, first, last, means=None):
+    def look(self, case, since, ailing, first, last):
         """Asks each plant; those that are well end with 0, and the one that ails ends with 1 from between two moments on."""
         for plant in self.plants:
             status, text = plant.ask()
@@ -96,18 +96,19 @@ class Watch:
             elif status == 1 and age < first or status == 0 and age > last or status not in (0, 1):
                 self.wrong.append(f'{case}: {plant.home} ended with {status} after {age:.0f} s:\n{text}')
             elif status == 1:
-                if means and not means(text):
-                    self.wrong.append(f'{case}: {plant.home} says\n{text}')
+                self.said = text
                 return age
         return None
 
     def follow(self, case, ailing, first, last, means=None):
-        """Asks until the plant is not well, and a while longer; when it was so first."""
+        """Asks until the plant is not well, and a while longer; when it was so first. What it says last is to mean what ails it."""
         since, found = time.monotonic(), None
         while time.monotonic() < since + last + 20:
-            age = self.look(case, since, ailing, first, last, means)
+            age = self.look(case, since, ailing, first, last)
             found = found if found is not None else age
             self.pass_on(ASKED)
+        if means and not means(self.said):
+            self.wrong.append(f'{case}: {ailing.home} says in the end\n{self.said}')
         print(f'{case}: not well after {found and round(found)} s', flush=True)
 
     def rest(self, seconds):

@@ -1,5 +1,5 @@
 -- Stretches of what was driven, one after the other.
-use Rattle.std.proofs.Common.{◌≡◌, ℕ, List, [], ◌∷◌, ◌++◌, Bool, ◌||◌, false, Option, Result, Ok, Err, OnOk, inl, inr, refl, sym, ap, ◌∙◌, subst, append-nil}
+use Rattle.std.proofs.Common.{◌≡◌, ℕ, List, [], ◌∷◌, ◌++◌, Bool, ◌||◌, false, Result, Ok, Err, OnOk, inl, inr, refl, sym, ap, ◌∙◌, subst, append-nil}
 use Rattle.std.specs.Prelude.{flat_map, OnErr, IfErr}
 use Rattle.std.proofs.lemmas.Grind.{flat_map-append}
 use Rattle.protocol.specs.Refusals.{Call as StationCall}
@@ -9,14 +9,15 @@ use Rattle.station.specs.declared.station.Station.{Station}
 use Rattle.station.specs.Steps.{IsStep, tears, stopped_after}
 use Rattle.recalls.specs.Spelling.{spelling}
 use Rattle.rolls.specs.Spelling.{spelling as roll_spelling}
-use Rattle.wire.specs.Passing.{Passed, sent, told, Passes}
+use Rattle.wire.specs.Passing.{Passed, Passes, Trace, sent, told}
 use Rattle.command_ends.specs.Ends.{end_of, end_of_step, IsOfWriting}
 use Rattle.command_ends.specs.declared.end.End.{End}
 use Rattle.command_ends.specs.declared.end.End.TheVariants as ends
 use Rattle.command_ends.specs.declared.fault.Fault.{Fault}
 use Rattle.exchange.specs.Driving.{Rests}
 use Rattle.exchange.specs.Events.{Event, Aside, asked, took, aside, hailed, rolled, coming, sending, going, passing, passing_by, HasCause, ended}
-use Rattle.exchange.proofs.Stretches.{Passes-nil, Passes-then, takes_then, ends_badly, cause_then, refused_cause}
+use Rattle.wire.proofs.Passing.{Passes-nil, Passes-then}
+use Rattle.exchange.proofs.Stretches.{takes_then, ends_badly, cause_then, refused_cause}
 use Rattle.driver.specs.declared.calls.Call.{Call}
 use Rattle.driver.specs.declared.calls.Call.TheVariants.{Offer, Withdraw, Seek}
 use Rattle.driver.specs.Calls.{call_of}
@@ -38,13 +39,13 @@ writing_cause log f old new (inl is) same = subst (λ (f : Fault). HasCause log 
 writing_cause log f old new (inr is) same = subst (λ (f : Fault). HasCause log old new (end_of f)) (sym is) same
 
 -- nothing comes for what is asked
-pub asked_passes : (call : Call) (now : ℕ) (a : Option (List Passed)) → Passes a a (coming (call_of call now))
+pub asked_passes : (call : Call) (now : ℕ) (a : Trace) → Passes a a (coming (call_of call now))
 asked_passes (Offer number tape) now a = Passes-nil a
 asked_passes (Withdraw number) now a = Passes-nil a
 asked_passes (Seek number) now a = Passes-nil a
 
 -- bytes that spell a recall or a roll, sent to the member that it is to, are what passes where it is sent
-sent_so : {N : Type 0} (passed : N → Option (List Passed)) (was is : N) (to m : ℕ) (bytes whole : List ℕ) → bytes ≡ whole → m ≡ to
+sent_so : {N : Type 0} (passed : N → Trace) (was is : N) (to m : ℕ) (bytes whole : List ℕ) → bytes ≡ whole → m ≡ to
     → Passes (passed was) (passed is) (sent to bytes ∷ []) → Passes (passed was) (passed is) (sent m whole ∷ [])
 sent_so passed was is to m bytes whole spelled same p =
     subst (λ (l : List ℕ). Passes (passed was) (passed is) (sent m l ∷ [])) spelled

@@ -1,12 +1,12 @@
 -- What was done with a station on a wire and a sink, by a list of what happened: which steps the station took, what passed over the wire,
 -- what became of the sink, and how it ended.
-use Rattle.std.specs.Prelude.{◌≡◌, ◌⊎◌, ℕ, List, [], ◌∷◌, ◌++◌, flat_map, Option, Result}
+use Rattle.std.specs.Prelude.{◌≡◌, ◌⊎◌, ℕ, List, [], ◌∷◌, ◌++◌, flat_map, Result}
 use Rattle.protocol.specs.Refusals.{Falling_due, Receiving}
 use Rattle.saved_rows.specs.declared.rows.Rows.{Ghosts}
 use Rattle.station.specs.declared.answer.Answer.{Answer}
 use Rattle.refusals.specs.declared.refusal.StepRefusal.{StepRefusal}
 use Rattle.station.specs.declared.station.Station.{Station}
-use Rattle.wire.specs.Passing.{Passed, Passes}
+use Rattle.wire.specs.Passing.{Passes, Trace}
 use Rattle.command_ends.specs.declared.end.End.{End}
 use Rattle.command_ends.specs.declared.end.End.TheVariants as ends
 use Rattle.command_ends.specs.declared.fault.Fault.{Fault}
@@ -36,11 +36,11 @@ fate_of sink = record { lived = sink.lived; front = sink.front }
 -- what is known of the rows, of what has passed over the wire, and of what becomes of the sink
 pub record Known (R N S : Type 0) : Type 1 where
   pub rows : Ghosts R
-  pub passed : N → Option (List Passed)
+  pub passed : N → Trace
   pub fate : Fate S
 
 -- of these, this is known
-abbrev pub known : {R N S : Type 0} → Ghosts R → (N → Option (List Passed)) → Fate S → Known R N S
+abbrev pub known : {R N S : Type 0} → Ghosts R → (N → Trace) → Fate S → Known R N S
 known rows passed fate = record { rows = rows; passed = passed; fate = fate }
 
 -- a station took these steps and no others, while its rows are kept
@@ -98,6 +98,6 @@ post_of d = post d.station.now d.wire.now d.sink
 
 -- what was done up to this result, by events of this form
 abbrev pub DroveUpTo :
-    {R N S A : Type 0} → (List Event → Type 0) → Result A Fault → Ghosts R → (N → Option (List Passed)) → SinkGhosts S
+    {R N S A : Type 0} → (List Event → Type 0) → Result A Fault → Ghosts R → (N → Trace) → SinkGhosts S
     → Driver R N S → Driver R N S → Type 0
 DroveUpTo Form result rows passed sink old new = Drove (known rows passed (fate_of sink)) (post_of old) (post_of new) (ended result) Form

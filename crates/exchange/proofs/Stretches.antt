@@ -1,5 +1,5 @@
 -- Stretches of what happened to a station on a wire, one after the other, and why one came to an end.
-use Rattle.std.proofs.Common.{◌≡◌, List, [], ◌∷◌, ◌++◌, Bool, true, Option, Some, None, Err, inl, inr, refl, sym, ap, ◌∙◌, subst, append_assoc, append-nil}
+use Rattle.std.proofs.Common.{◌≡◌, List, [], ◌∷◌, ◌++◌, Bool, true, Err, inl, inr, refl, sym, ap, ◌∙◌, subst, append_assoc}
 use Rattle.protocol.specs.Refusals.{Call}
 use Rattle.saved_rows.specs.declared.fault.RowsFault.TheVariants as row_faults
 use Rattle.saved_rows.specs.declared.rows.Rows.{Ghosts}
@@ -7,23 +7,12 @@ use Rattle.refusals.specs.declared.refusal.StepRefusal.{StepRefusal}
 use Rattle.refusals.specs.declared.refusal.StepRefusal.TheVariants as steps
 use Rattle.station.specs.declared.station.Station.{Station}
 use Rattle.station.specs.Steps.{stopped_after}
-use Rattle.wire.specs.Passing.{Passed, Passes}
 use Rattle.command_ends.specs.Ends.{end_of, end_of_step}
 use Rattle.command_ends.specs.declared.end.End.{End}
 use Rattle.command_ends.specs.declared.end.End.TheVariants as ends
 use Rattle.command_ends.specs.declared.fault.Fault.{Fault}
 use Rattle.command_ends.specs.declared.fault.Fault.TheVariants as faults
 use Rattle.exchange.specs.Events.{Event, asked, took, aside, Takes, IsByStore, IsForMemory, Stops, HasCause}
-
-pub Passes-nil : (a : Option (List Passed)) → Passes a a []
-Passes-nil None = tt
-Passes-nil (Some x) = sym (append-nil x)
-
-pub Passes-then : (a b c : Option (List Passed)) (bs cs : List Passed) → Passes a b bs → Passes b c cs → Passes a c (bs ++ cs)
-Passes-then None b c bs cs p q = tt
-Passes-then (Some x) None c bs cs p q = absurd p
-Passes-then (Some x) (Some y) None bs cs p q = absurd q
-Passes-then (Some x) (Some y) (Some z) bs cs p q = q ∙ ap (λ (l : List Passed). l ++ cs) p ∙ append_assoc x bs cs
 
 pub takes_then : {R : Type 0} (g : Ghosts R) (a b c : Station R) (xs ys : List Event) → Takes g a b xs → Takes g b c ys → Takes g a c (xs ++ ys)
 takes_then {R = R} g a b c [] ys p q = subst (λ (s : Station R). Takes g s c ys) p q

@@ -1,12 +1,12 @@
 -- What a step does to a station on a wire: to the station its own step, and to the wire that its datagram came.
-use Rattle.std.specs.Prelude.{◌≡◌, ℕ, List, [], ◌∷◌, Option, Result, Ok, Err}
+use Rattle.std.specs.Prelude.{◌≡◌, ℕ, List, [], ◌∷◌, Result, Ok, Err}
 use Rattle.protocol.specs.Refusals.{Call, Receiving}
 use Rattle.saved_rows.specs.declared.rows.Rows.{Ghosts}
 use Rattle.station.specs.declared.answer.Answer.{Answer}
 use Rattle.refusals.specs.declared.refusal.StepRefusal.{StepRefusal}
 use Rattle.station.specs.declared.station.Station.{Station}
 use Rattle.station.specs.Steps.{IsStep, stopped_after}
-use Rattle.wire.specs.Passing.{Passed, Passes}
+use Rattle.wire.specs.Passing.{Passes, Trace}
 use Rattle.rolls.specs.Asides.{aside_in}
 use Rattle.exchange.specs.Events.{coming, HasMark, heard, passing_by}
 use Rattle.exchange.specs.Layouts.{IsNewerIn}
@@ -15,14 +15,14 @@ use Rattle.exchange.specs.declared.station_steps.Outcome.{Outcome}
 use Rattle.exchange.specs.declared.station_steps.Outcome.TheVariants.{Nothing, Failed, Done, Refused, Heard}
 
 -- the station took the step of this call with this answer, and what passed over the wire is what came for it
-pub record Drives {R N : Type 0} (g : Ghosts R) (passed : N → Option (List Passed)) (call : Call) (old new : Station R) (was is : N)
+pub record Drives {R N : Type 0} (g : Ghosts R) (passed : N → Trace) (call : Call) (old new : Station R) (was is : N)
     (answer : Result Answer StepRefusal) : Type 0 where
   pub step : g.kept new.rows → IsStep g call old new answer
   pub passes : Passes (passed was) (passed is) (coming call)
   pub stops : new.stopped ≡ stopped_after old.stopped answer
 
 -- nothing came: the station stayed, and nothing passed over the wire
-pub record Rests {R N : Type 0} (passed : N → Option (List Passed)) (old new : Station R) (was is : N) : Type 0 where
+pub record Rests {R N : Type 0} (passed : N → Trace) (old new : Station R) (was is : N) : Type 0 where
   pub same : new ≡ old
   pub passes : Passes (passed was) (passed is) []
 
@@ -37,7 +37,7 @@ IsPacketTaken g bytes now old new (Heard found) = ⊥
 -- one datagram at most came, and was taken in by one step at this moment, unless it has the mark of recalls and rolls; where that was done,
 -- this is what its head says, and where it was refused, which member sent it in a layout that the station does not read; what has the mark was
 -- read as one of them, and the station stayed
-abbrev pub IsTakenIn : {R N : Type 0} → Ghosts R → (N → Option (List Passed)) → ℕ → Station R → Station R → N → N → Outcome → Type 0
+abbrev pub IsTakenIn : {R N : Type 0} → Ghosts R → (N → Trace) → ℕ → Station R → Station R → N → N → Outcome → Type 0
 IsTakenIn g passed now old new was is Nothing = Rests passed old new was is
 IsTakenIn g passed now old new was is Failed = Rests passed old new was is
 IsTakenIn g passed now old new was is (Done answer said) =

@@ -13,8 +13,8 @@ struct Piece {
     /// Whether the look has come to its end, at this moment in milliseconds.
     is_end: bool,
     now: u64,
-    /// How many requests and how many other files the look has found then; none where it has not come to its end.
-    found: Option<(usize, usize)>,
+    /// The numbers of the requests and how many other files the look has found then; none where it has not come to its end.
+    found: Option<(&'static [u32], usize)>,
 }
 
 /// A look of two turns: a name that comes twice counts once, and one that is left alone does not count.
@@ -34,13 +34,13 @@ const TWO_TURNS: &[Piece] = &[
         ],
         is_end: true,
         now: 20,
-        found: Some((2, 1)),
+        found: Some((&[12, 13], 1)),
     },
     Piece {
         files: &[],
         is_end: true,
         now: 520,
-        found: Some((0, 0)),
+        found: Some((&[], 0)),
     },
 ];
 
@@ -65,12 +65,37 @@ fn listing_of(alloc: Global, piece: &Piece) -> Option<Listing> {
     Some(listing)
 }
 
-/// How many requests and how many other files a look has found; none where it goes on.
-fn found_by(looking: &mut Looking, listing: Listing, now: u64) -> Option<Option<(usize, usize)>> {
-    match looking.take(listing, now) {
-        Some(Ok(seen)) => Some(Some((seen.requests.len(), seen.strays.len()))),
-        Some(Err(_)) => None,
-        None => Some(None),
+/// Whether these are files of these numbers, in turn.
+fn have_numbers(files: &[offers::Found], numbers: &[u32]) -> bool {
+    for (place, file) in files.iter().enumerate() {
+        if numbers.get(place).copied() != Some(file.request.number.get()) {
+            return false;
+        }
+    }
+    files.len() == numbers.len()
+}
+
+/// Whether requests of these numbers and so many other files were found.
+fn has_found(seen: looks::Seen, numbers: &[u32], others: usize) -> bool {
+    let looks::Seen {
+        requests,
+        strays,
+        ..
+    } = seen;
+    match requests.in_order() {
+        Ok(files) => strays.len() == others && have_numbers(files.as_slice(), numbers),
+        Err(_) => false,
+    }
+}
+
+/// Whether a look finds in a piece what it has to.
+fn finds(looking: &mut Looking, listing: Listing, piece: &Piece) -> bool {
+    match (looking.take(listing, piece.now), piece.found) {
+        (None, None) => true,
+        (Some(Ok(seen)), Some((numbers, others))) => {
+            !seen.is_crowded() && has_found(seen, numbers, others)
+        }
+        _ => false,
     }
 }
 
@@ -82,7 +107,7 @@ fn wrong_piece(alloc: Global, pieces: &[Piece]) -> usize {
             return place;
         };
         let is_due = looking.is_due(piece.now);
-        if !is_due || found_by(&mut looking, listing, piece.now) != Some(piece.found) {
+        if !is_due || !finds(&mut looking, listing, piece) {
             return place;
         }
     }

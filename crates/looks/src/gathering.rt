@@ -1,12 +1,13 @@
 //! What a look found so far.
 
 ghost use Rattle.std.specs.Prelude.{◌≡◌, false, IfOk, OnOk, string_bytes};
-ghost use Rattle.std.specs.Map.{values_of};
-ghost use Rattle.offers.specs.Order.{rank, rising};
+ghost use Rattle.offers.specs.Order.{rank};
 ghost use Rattle.looks.specs.Names.{IsRequest, IsStray};
-ghost use Rattle.looks.specs.Gathering.{nothing_found, ArePlaced, PutsRequest, PutsStray, Takes, TakesFile, TakesFiles, TakesOther, TakesOthers};
-ghost use Rattle.looks.specs.Handing.{Hands};
+ghost use Rattle.looks.specs.Gathering.{nothing_found, PutsRequest, PutsStray, Takes, TakesFile, TakesFiles, TakesOther, TakesOthers};
+ghost use Rattle.looks.specs.Handing.{Hands, is_crowded};
 
+use crate::looking::MOST_NAMES;
+use crate::requests::Requests;
 use folders::{FolderFault, Listing, PassedOver, Request, Stamp, is_left, named};
 use offers::{Found, rank};
 use std::alloc::{AllocError, Global};
@@ -42,8 +43,8 @@ impl Model for Gathering {
 /// What a look found that has come to its end.
 #[derive(Drop)]
 pub struct Seen {
-    /// The files whose names ask for something, in order of their places.
-    pub requests: Vec<Found>,
+    /// The files whose names ask for something.
+    pub requests: Requests,
     /// The files whose names ask for nothing, by their names.
     pub strays: BTreeMap<String, Stamp>,
     /// Why something is passed over, by its name.
@@ -61,17 +62,15 @@ fn place_of(request: Request) -> u32
     rank(request)
 }
 
-/// The files whose names ask for something, in order of their places.
-fn requests_of(alloc: Global, found: BTreeMap<u32, Found>) -> Result<Vec<Found>, AllocError>
-    requires { ArePlaced found.entries }
-    ensures all { IfOk result (λ requests. requests.items ≡ values_of found.entries) }
-    ensures order { IfOk result (λ requests. rising requests.items ≡ requests.items) }
-{
-    let mut requests = Vec::with_capacity(alloc, found.len())?;
-    for (_, file) in found {
-        requests.push(file)?;
+impl Seen {
+    /// Whether more of a kind was found than is taken in in one turn.
+    pub fn is_crowded(&self) -> bool
+        ensures { result ≡ is_crowded self.now }
+    {
+        self.requests.len() > MOST_NAMES
+            || self.strays.len() > MOST_NAMES
+            || self.others.len() > MOST_NAMES
     }
-    Ok(requests)
 }
 
 impl Gathering {
@@ -171,7 +170,8 @@ impl Gathering {
         self.skipped = self.skipped.saturating_add(listing.skipped);
     }
 
-    /// All of it, once the look has come to its end; where there was no memory for some of it, `AllocError`.
+    /// All of it, once the look has come to its end; where there was no memory for some of it, `AllocError`. None of it is walked, however much
+    /// it is.
     pub(crate) fn finish(self) -> Result<Seen, AllocError>
         ensures { IfOk result (λ seen. Hands self seen) }
     {
@@ -187,7 +187,7 @@ impl Gathering {
             return Err(AllocError);
         }
         Ok(Seen {
-            requests: requests_of(alloc, requests)?,
+            requests: Requests::over(alloc, requests),
             strays,
             others,
             skipped,

@@ -5,10 +5,12 @@
 mod gathering;
 mod looking;
 mod merging;
+mod requests;
 mod sighting;
 mod strays;
 
 pub use gathering::Seen;
 pub use looking::{Looking, MOST_NAMES};
+pub use requests::Requests;
 pub use sighting::{Sighting, Stray};
 pub use strays::Strays;

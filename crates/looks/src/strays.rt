@@ -1,6 +1,6 @@
 //! The files among the offers whose names ask for nothing: once they are whole, they are no offers.
 
-ghost use Rattle.std.specs.Prelude.{◌≡◌, OnOk, OnErr, drop, option_copied, is_some};
+ghost use Rattle.std.specs.Prelude.{◌≡◌, IfOk, OnOk, OnErr, drop, option_copied, is_some};
 ghost use Rattle.std.specs.List.{position_from};
 ghost use Rattle.looks.specs.Strays.{first_ripe, looked, next_ripe, none_known, ripe_at, still_for, with_next};
 ghost use Rattle.looks.specs.Sightings.{is_ripe, moved, put_off};
@@ -11,6 +11,7 @@ use folders::{FolderFault, Stamp};
 use std::alloc::{AllocError, Global};
 use std::collections::BTreeMap;
 use std::marker::Model;
+use std::mem;
 
 /// How long a file has to stay as it is, in milliseconds, where it may be written as it lies there.
 const STILL: u64 = 500;
@@ -79,15 +80,21 @@ impl Strays {
     }
 
     /// Takes in which of them a look found, at a moment: a file that is as it was stays known, one that was changed is seen anew, and one
-    /// that is no longer found is forgotten. Where there is no memory for it, all stays as it was.
-    pub fn see(&mut self, found: BTreeMap<String, Stamp>, now: u64) -> Result<(), AllocError>
+    /// that is no longer found is forgotten. Those that were known before are handed out, so that they need not be let go of in the same turn.
+    /// Where there is no memory for it, all stays as it was.
+    pub fn see(
+        &mut self,
+        found: BTreeMap<String, Stamp>,
+        now: u64,
+    ) -> Result<Vec<Stray>, AllocError>
         ensures ok { OnOk result (self.new ≡ record self.old { files = looked self.old.files now found.entries; looked = now; next = 0 }) }
+        ensures before { IfOk result (λ files. files.items ≡ self.old.files) }
         ensures err { OnErr result (self.new ≡ self.old) }
     {
-        self.files = merge(self.alloc, self.files.as_slice(), found, now)?;
+        let files = merge(self.alloc, self.files.as_slice(), found, now)?;
         self.looked = now;
         self.next = 0;
-        Ok(())
+        Ok(mem::replace(&mut self.files, files))
     }
 
     /// Whether one of them is to be moved, from where it was left on.

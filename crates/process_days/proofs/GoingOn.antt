@@ -25,10 +25,10 @@ with_at-other f m x k far = go (k == m) refl
     go true e = absurd (far (eqb-true k m e))
     go false e = rw e refl
 
-log_here : (k : ℕ) (e : Event) (rest : Order) → log_of k ((k, e) ∷ rest) ≡ e ∷ log_of k rest
+pub log_here : (k : ℕ) (e : Event) (rest : Order) → log_of k ((k, e) ∷ rest) ≡ e ∷ log_of k rest
 log_here k e rest = ap (λ (b : Bool). if b then e ∷ log_of k rest else log_of k rest) (eq-eqb k k refl)
 
-log_elsewhere : (m k : ℕ) (e : Event) (rest : Order) → (k == m) ≡ false → log_of m ((k, e) ∷ rest) ≡ log_of m rest
+pub log_elsewhere : (m k : ℕ) (e : Event) (rest : Order) → (k == m) ≡ false → log_of m ((k, e) ∷ rest) ≡ log_of m rest
 log_elsewhere m k e rest far = ap (λ (b : Bool). if b then e ∷ log_of m rest else log_of m rest) far
 
 no_more : {A : Type 0} {x : A} {xs : List A} → x ∷ xs ≡ [] → ⊥

@@ -1,3 +1,4 @@
-mod GoingOn
+pub mod GoingOn
 mod Names
 mod Filed
+mod LetIn

@@ -1,9 +1,10 @@
 -- The logs of a circuit's processes, taken together in one order: that they make a day.
-use Rattle.std.specs.Prelude.{◌≡◌, ◌==◌, if◌then◌else◌, ℕ, List, [], ◌∷◌, Option}
+use Rattle.std.specs.Prelude.{◌≡◌, ◌==◌, if◌then◌else◌, ℕ, List, [], ◌∷◌}
 use Rattle.protocol.specs.Ballots.{IsMember}
+use Rattle.protocol.specs.Refusals.{Call, Offering, Seeking, Falling_due, Receiving, Recalling}
 use Rattle.saved_rows.specs.declared.rows.Rows.{Ghosts}
 use Rattle.station.specs.declared.station.Station.{Station}
-use Rattle.wire.specs.Passing.{Passed}
+use Rattle.wire.specs.Passing.{Trace, untold, listed, guarded}
 use Rattle.command_ends.specs.declared.end.End.{End}
 use Rattle.exchange.specs.Events.{Event, asked, took, aside}
 use Rattle.driver.specs.declared.sink.Sink.{Ghosts as SinkGhosts}
@@ -51,10 +52,40 @@ HasLog g (over ending s) last log = log ≡ []
 
 -- a station that is driven by these events, on whichever wire and with whatever becomes of its releases, has this log, as a process that
 -- runs; so have those of `serve_run` and `run_station`
-abbrev pub DrivenHaveLogs : {R N S : Type 0} → Ghosts R → (N → Option (List Passed)) → SinkGhosts S → Type 0
+abbrev pub DrivenHaveLogs : {R N S : Type 0} → Ghosts R → (N → Trace) → SinkGhosts S → Type 0
 DrivenHaveLogs {R = R} {N = N} {S = S} g passed sink =
     (old new : Post R N S) (end : End) (log : List Event) → Driven (known g passed (fate_of sink)) old new end log → g.kept new.station.rows
     → HasLog g (runs old.station) new.station log
+
+-- what a call takes in is such
+abbrev pub CallTakes : (List ℕ → Type 0) → Call → Type 0
+CallTakes Is (Receiving bytes now) = Is bytes
+CallTakes Is (Offering n entry now) = Unit {0}
+CallTakes Is (Seeking n now) = Unit {0}
+CallTakes Is (Falling_due now) = Unit {0}
+CallTakes Is (Recalling n to) = Unit {0}
+
+-- what an event takes in is such
+abbrev pub TakesSuch : (List ℕ → Type 0) → Event → Type 0
+TakesSuch Is (asked moment) = Unit {0}
+TakesSuch Is (aside what) = Unit {0}
+TakesSuch Is (took call answer) = CallTakes Is call
+
+-- all that these events take in is such
+abbrev pub AllTaken : (List ℕ → Type 0) → List Event → Type 0
+AllTaken Is [] = Unit {0}
+AllTaken Is (event ∷ rest) = TakesSuch Is event × AllTaken Is rest
+
+-- behind a wire that tells which packets it lets in, where all that waits in it was let in, no other is taken in
+abbrev pub TakesLetIn : Trace → List Event → Type 0
+TakesLetIn untold log = Unit {0}
+TakesLetIn (listed passed) log = Unit {0}
+TakesLetIn (guarded Is clean) log = clean → AllTaken Is log
+
+-- a station that is driven by these events takes in such packets alone as its wire lets in
+abbrev pub DrivenTakeLetIn : {R N S : Type 0} → Ghosts R → (N → Trace) → SinkGhosts S → Type 0
+DrivenTakeLetIn {R = R} {N = N} {S = S} g passed sink =
+    (old new : Post R N S) (end : End) (log : List Event) → Driven (known g passed (fate_of sink)) old new end log → TakesLetIn (passed old.wire) log
 
 -- each member's process has its log of this order, and leaves its station so
 abbrev pub HaveLogs : {R : Type 0} → Ghosts R → ℕ → (ℕ → Member R) → (ℕ → Station R) → Order → Type 0

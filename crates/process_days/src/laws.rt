@@ -1,7 +1,7 @@
 //! The laws that join the logs of processes to a day, and a day to the files of what it releases. The functions do nothing but
 //! cite the laws that they rest on.
 
-ghost use Rattle.process_days.specs.Telling.{DrivenHaveLogs, LogsAgree, LogsMakeDays};
+ghost use Rattle.process_days.specs.Telling.{DrivenHaveLogs, DrivenTakeLetIn, LogsAgree, LogsMakeDays};
 ghost use Rattle.process_days.specs.Seeing.{DaysFilesAgree, WrittenIsFiled};
 
 use days::laws;
@@ -12,6 +12,11 @@ use wire::Wire;
 /// What drives a station tells of itself as a process does: its log is that of the steps that the station took.
 pub fn driven_have_logs<R: Rows, N: Wire, S: Sink>()
     ensures { DrivenHaveLogs R.Rows N.passed S.Sink }
+{}
+
+/// What drives a station takes in such packets alone as its wire lets in, by what the wire tells.
+pub fn driven_take_let_in<R: Rows, N: Wire, S: Sink>()
+    ensures { DrivenTakeLetIn R.Rows N.passed S.Sink }
 {}
 
 /// Processes of `serve` and `run` that go on in a day, each as its own log says, make a day again, in any order in which what

@@ -11,10 +11,10 @@ use Rattle.folders.specs.Written.{File}
 use Rattle.folders.proofs.Doings.{does_nothing, does_then}
 use Rattle.saved_rows.specs.declared.rows.Rows.{Ghosts}
 use Rattle.station.specs.declared.station.Station.{Station}
-use Rattle.wire.specs.Passing.{Passed}
+use Rattle.wire.specs.Passing.{Trace}
 use Rattle.command_ends.specs.declared.end.End.{End}
 use Rattle.exchange.specs.Events.{Event, took, ended, HasCause}
-use Rattle.exchange.proofs.Stretches.{Passes-nil}
+use Rattle.wire.proofs.Passing.{Passes-nil}
 use Rattle.driver.specs.Driving.{known, post, Drove, Anyhow}
 use Rattle.folders.specs.declared.names.Request.{Request}
 use Rattle.folders.specs.declared.wishes.Wish.{Wish}
@@ -152,7 +152,7 @@ module _ {F : Type 0} (t : Texts) (doings : F → Option (List Doing)) where
       (subst (λ (v : Texts). LivedFront v doings (kept g q m) (kept h r n) log) by (subst (λ (s : Kept F). LivedFront u doings s (kept h r n) log) is p))
 
 -- a run in which nothing happened, and nothing was done with its folders but what they don't tell of
-pub idle_behind : {R N F : Type 0} (t : Texts) (rows : Ghosts R) (passed : N → Option (List Passed)) (doings : F → Option (List Doing)) (s : Station R) (w : N) (f g : F) (end : End)
+pub idle_behind : {R N F : Type 0} (t : Texts) (rows : Ghosts R) (passed : N → Trace) (doings : F → Option (List Doing)) (s : Station R) (w : N) (f g : F) (end : End)
     → doings g ≡ doings f → HasCause [] s.stopped s.stopped end → Drove (known rows passed (tells t doings)) (post s w f) (post s w g) end Anyhow
 idle_behind t rows passed doings s w f g end same cause =
     let none : Tells t doings f g [] = record { story = []; events = refl; does = does_nothing (doings f) (doings g) same; front = ([], refl); ordered = tt } in
@@ -163,6 +163,6 @@ idle_behind t rows passed doings s w f g end same cause =
     }
 
 -- a run in which nothing happened
-pub idle : {R N F : Type 0} (t : Texts) (rows : Ghosts R) (passed : N → Option (List Passed)) (doings : F → Option (List Doing)) (s : Station R) (w : N) (f : F) (end : End)
+pub idle : {R N F : Type 0} (t : Texts) (rows : Ghosts R) (passed : N → Trace) (doings : F → Option (List Doing)) (s : Station R) (w : N) (f : F) (end : End)
     → HasCause [] s.stopped s.stopped end → Drove (known rows passed (tells t doings)) (post s w f) (post s w f) end Anyhow
 idle t rows passed doings s w f end cause = idle_behind t rows passed doings s w f f end refl cause

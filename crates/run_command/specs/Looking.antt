@@ -1,9 +1,21 @@
--- What a look passed over, as it is told.
-use Rattle.std.specs.Prelude.{String}
+-- What a look found, put in order, and what it passed over, as it is told.
+use Rattle.std.specs.Prelude.{◌≡◌, String, map}
 use Rattle.std.specs.Global.{Global}
+use Rattle.std.specs.Map.{values_of}
 use Rattle.folders.specs.declared.fault.FolderFault.{FolderFault}
 use Rattle.folders.specs.declared.folders.PassedOver.{PassedOver}
+use Rattle.offers.specs.Order.{rising}
+use Rattle.looks.specs.declared.gathering.Seen.{Seen}
+use Rattle.run_command.specs.declared.unseen.Sorted.{Sorted}
 
 -- a name and why it was passed over
 abbrev pub passed_over : String Global × FolderFault → PassedOver
 passed_over other = record { name = other.0; fault = other.1 }
+
+-- all that a look found is there, the requests in order of their places and each once, and what was passed over in order of its names
+pub record Sorts (seen : Seen) (sorted : Sorted) : Type 0 where
+  pub requests : sorted.requests.items ≡ values_of seen.requests
+  pub rising : rising sorted.requests.items ≡ sorted.requests.items
+  pub strays : sorted.strays ≡ seen.strays
+  pub others : sorted.unread.others.items ≡ map passed_over seen.others.entries
+  pub skipped : sorted.unread.skipped ≡ seen.skipped

@@ -2,7 +2,7 @@
 use Rattle.std.specs.Prelude.{◌≡◌, ◌++◌, List, [], Option, flat_map}
 use Rattle.saved_rows.specs.declared.rows.Rows.{Ghosts}
 use Rattle.station.specs.declared.station.Station.{Station}
-use Rattle.wire.specs.Passing.{Passed}
+use Rattle.wire.specs.Passing.{Trace}
 use Rattle.command_ends.specs.declared.end.End.{End}
 use Rattle.folders.specs.Doings.{Doing, Does}
 use Rattle.folders.specs.Written.{File}
@@ -34,6 +34,6 @@ tells texts doings = record { lived = Tells texts doings; front = Tells texts do
 -- events and no others; what passed over the wire is what came for them and what they handed out; and its folders are told of so, texts
 -- being read by this table
 abbrev pub RunsUpTo :
-    {R N F : Type 0} → Texts → End → Ghosts R → (N → Option (List Passed)) → (F → Option (List Doing))
+    {R N F : Type 0} → Texts → End → Ghosts R → (N → Trace) → (F → Option (List Doing))
     → Station R → Station R → N → N → F → F → Type 0
 RunsUpTo texts end rows passed doings old new was is before after = Drove (known rows passed (tells texts doings)) (post old was before) (post new is after) end Anyhow

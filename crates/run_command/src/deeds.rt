@@ -191,17 +191,14 @@ impl<'f, 'p, F: Folders> Plant<'f, 'p, F> {
         }
     }
 
-    /// Does what is to be done where the book knows of nothing, at a moment: files whose names ask for nothing are taken in, or one of them is
-    /// moved, or a look goes on.
+    /// Does what is to be done where the book knows of nothing, at a moment: a file whose name asks for nothing is moved, or a look goes on.
     fn do_other<E: Write>(&mut self, now: u64, log: &mut Log<'_, E>)
         ensures folders { self.new.folders.ghost_name ≡ self.old.folders.ghost_name }
         ensures waits { self.new.papers.now.waits ≡ self.old.papers.now.waits }
         ensures texts { self.new.papers.now.texts ≡ self.old.papers.now.texts }
         ensures deals { Deals Always (F.doings self.old.folders.now) (F.doings self.new.folders.now) self.old.papers.now.waits.items self.old.papers.now.book self.new.papers.now.book }
     {
-        if self.papers.unseen.is_some() {
-            self.see_unseen(now, log);
-        } else if self.papers.strays.find() {
+        if self.papers.strays.find() {
             self.leave_stray(now, log);
         } else if self.papers.looking.goes_on() {
             self.look_at_offers(now, log);
@@ -229,8 +226,9 @@ impl<'f, 'p, F: Folders> Plant<'f, 'p, F> {
         }
     }
 
-    /// Does a deed, or answers what the driver is to do: while a look goes on, each second deed is a part of it; of the others each second
-    /// is an errand of catching up, where there is one.
+    /// Does a deed, or answers what the driver is to do: while a look goes on, each second deed is a part of it; what it found is taken in
+    /// before anything else, so that no file waits for others that were found before; of the others each second is an errand of catching up,
+    /// where there is one.
     pub(crate) fn deed<E: Write>(&mut self, chance: Chance, log: &mut Log<'_, E>) -> Option<Todo>
         ensures good { IfSome result IsGoodTodo }
         ensures folders { self.new.folders.ghost_name ≡ self.old.folders.ghost_name }
@@ -240,6 +238,10 @@ impl<'f, 'p, F: Folders> Plant<'f, 'p, F> {
     {
         if self.papers.looking.takes_turn() {
             self.look_at_offers(chance.moment, log);
+            return None;
+        }
+        if self.papers.unseen.is_some() {
+            self.see_next(chance.moment, log);
             return None;
         }
         if let Some(errand) = self.papers.care.next(chance) {

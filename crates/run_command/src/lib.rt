@@ -12,5 +12,6 @@ mod reading;
 mod status;
 mod strays;
 mod turns;
+mod unseen;
 
 pub use turns::{Terms, run_station};

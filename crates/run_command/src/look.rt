@@ -1,91 +1,19 @@
 //! A look at the folders: what waits is written, and what lies among the offers is found.
 
-ghost use Rattle.std.specs.Prelude.{◌≡◌, IfOk, map};
-ghost use Rattle.run_command.specs.Looking.{passed_over};
+ghost use Rattle.std.specs.Prelude.{◌≡◌};
 ghost use Rattle.run_command.specs.Working.{Follows, Deals, Always, WritesAndDeals};
 
-use crate::plant::{Plant, Unseen};
+use crate::plant::Plant;
 use crate::status::note_found;
+use crate::unseen::{Part, Unseen};
 use driver::Log;
-use folders::{FolderFault, Folders, Listing, PassedOver, Stamp};
+use folders::{FolderFault, Folders, Listing};
 use looks::{MOST_NAMES, Seen};
-use offers::Found;
-use plant_log::{Unread, tell_news};
-use std::alloc::{AllocError, Global};
-use std::collections::BTreeMap;
+use plant_log::tell_news;
 use std::io::Write;
 
-/// What was passed over, in order of its names.
-fn passed_over(
-    alloc: Global,
-    others: BTreeMap<String, FolderFault>,
-) -> Result<Vec<PassedOver>, AllocError>
-    ensures { IfOk result (λ list. list.items ≡ map passed_over others.entries) }
-{
-    let mut list = Vec::with_capacity(alloc, others.len())?;
-    for (name, fault) in others {
-        list.push(PassedOver { name, fault })?;
-    }
-    Ok(list)
-}
-
 impl<'f, 'p, F: Folders> Plant<'f, 'p, F> {
-    /// Takes in the files whose names ask for nothing that a look found, at its moment: at once where they are few, and else in a turn of
-    /// their own. Where there is no memory for it, what is known of them stays as it was.
-    fn see_strays(&mut self, strays: BTreeMap<String, Stamp>, now: u64) -> Result<(), AllocError>
-        ensures folders { self.new.folders.ghost_name ≡ self.old.folders.ghost_name }
-        ensures same { self.new.folders.now ≡ self.old.folders.now }
-        ensures waits { self.new.papers.now.waits ≡ self.old.papers.now.waits }
-        ensures texts { self.new.papers.now.texts ≡ self.old.papers.now.texts }
-        ensures book { self.new.papers.now.book ≡ self.old.papers.now.book }
-    {
-        if strays.len() > MOST_NAMES {
-            self.papers.unseen = Some(Unseen {
-                strays,
-                looked: now,
-            });
-            return Ok(());
-        }
-        self.papers.unseen = None;
-        self.papers.strays.see(strays, now)
-    }
-
-    /// Takes in those of them that a look found, where that was left for a turn of their own.
-    pub(crate) fn see_unseen<E: Write>(&mut self, now: u64, log: &mut Log<'_, E>)
-        ensures folders { self.new.folders.ghost_name ≡ self.old.folders.ghost_name }
-        ensures same { self.new.folders.now ≡ self.old.folders.now }
-        ensures waits { self.new.papers.now.waits ≡ self.old.papers.now.waits }
-        ensures texts { self.new.papers.now.texts ≡ self.old.papers.now.texts }
-        ensures book { self.new.papers.now.book ≡ self.old.papers.now.book }
-    {
-        let Some(Unseen { strays, looked }) = self.papers.unseen.take() else {
-            return;
-        };
-        if self.papers.strays.see(strays, looked).is_err() {
-            self.papers
-                .told
-                .cannot_list(FolderFault::OutOfMemory, now, log.err);
-        }
-    }
-
-    /// Takes in which files a look found, in order, at a moment. Where there is no memory for it, what is known stays as it was.
-    fn see(
-        &mut self,
-        requests: Vec<Found>,
-        strays: BTreeMap<String, Stamp>,
-        now: u64,
-    ) -> Result<(), AllocError>
-        ensures folders { self.new.folders.ghost_name ≡ self.old.folders.ghost_name }
-        ensures same { self.new.folders.now ≡ self.old.folders.now }
-        ensures waits { self.new.papers.now.waits ≡ self.old.papers.now.waits }
-        ensures texts { self.new.papers.now.texts ≡ self.old.papers.now.texts }
-        ensures book { Follows self.old.papers.now.book self.new.papers.now.book }
-    {
-        self.papers.book.see(requests.as_slice(), now)?;
-        self.see_strays(strays, now)
-    }
-
-    /// Takes in all that a look found, at a moment.
+    /// Takes in all that a look found, at a moment: at once where it is little, and else a part at a time, each in a turn of its own.
     fn take_seen<E: Write>(&mut self, seen: Seen, now: u64, log: &mut Log<'_, E>)
         ensures folders { self.new.folders.ghost_name ≡ self.old.folders.ghost_name }
         ensures same { self.new.folders.now ≡ self.old.folders.now }
@@ -93,27 +21,12 @@ impl<'f, 'p, F: Folders> Plant<'f, 'p, F> {
         ensures texts { self.new.papers.now.texts ≡ self.old.papers.now.texts }
         ensures book { Follows self.old.papers.now.book self.new.papers.now.book }
     {
-        let Seen {
-            requests,
-            strays,
-            others,
-            skipped,
-        } = seen;
-        note_found(&mut self.papers.keeper, requests.len());
-        match passed_over(self.alloc, others) {
-            Ok(others) => {
-                let unread = Unread { skipped, others };
-                self.papers.told.listed(unread, now, log.err);
-                if self.see(requests, strays, now).is_err() {
-                    self.papers
-                        .told
-                        .cannot_list(FolderFault::OutOfMemory, now, log.err);
-                }
-            }
-            Err(_) => self
-                .papers
-                .told
-                .cannot_list(FolderFault::OutOfMemory, now, log.err),
+        note_found(&mut self.papers.keeper, seen.requests.len());
+        let is_crowded = seen.is_crowded();
+        let part = Part::All(seen);
+        self.papers.unseen = Some(Unseen { part, looked: now });
+        if !is_crowded {
+            self.see_all(now, log);
         }
     }
 

@@ -7,9 +7,10 @@ ghost use Rattle.looks.specs.Strays.{none_known, still_for as strays_still};
 ghost use Rattle.run_command.specs.Working.{Follows};
 
 use crate::status::note_heard;
+use crate::unseen::Unseen;
 use code_table::CodeTable;
 use driver::{Declined, Denied, Heard, Log, Tasks};
-use folders::{Folders, NamedFile, Stamp, write_waiting};
+use folders::{Folders, NamedFile, write_waiting};
 use log_terms::Loudness;
 use looks::{Looking, Strays};
 use offers::{Book, Reason};
@@ -21,16 +22,7 @@ use plant_status::StationId;
 use station::StepRefusal;
 use status_keeping::Keeper;
 use std::alloc::{AllocError, Global};
-use std::collections::BTreeMap;
 use std::io::Write;
-
-/// Files whose names ask for nothing, as a look found them, by their names.
-#[derive(Drop)]
-pub(crate) struct Unseen {
-    pub(crate) strays: BTreeMap<String, Stamp>,
-    /// The moment of the look.
-    pub(crate) looked: u64,
-}
 
 /// What is known of what lies in the folders of a plant.
 #[derive(Drop)]
@@ -41,7 +33,7 @@ pub(crate) struct Papers {
     pub(crate) book: Book,
     /// The files among the offers whose names ask for nothing.
     pub(crate) strays: Strays,
-    /// Those of them that the last look found, where it is left to take them in.
+    /// What is left to be taken in of what the last look found.
     pub(crate) unseen: Option<Unseen>,
     pub(crate) looking: Looking,
     pub(crate) told: Told,
@@ -168,7 +160,8 @@ impl<'f, 'p, F: Folders> Plant<'f, 'p, F> {
         }
     }
 
-    /// What there is to do with files: what the book knows, those whose names ask for nothing, and a look that goes on.
+    /// What there is to do with files: what the book knows, those whose names ask for nothing, a look that goes on, and what one found that is left to
+    /// be taken in.
     pub(crate) fn tasks(&mut self) -> Tasks
         ensures folders { self.new.folders.ghost_name ≡ self.old.folders.ghost_name }
         ensures same { self.new.folders.now ≡ self.old.folders.now }

@@ -2,11 +2,14 @@
 
 use ballots::Member;
 use hmac::Key;
-use sealed_wire::SealedWire;
+use sealed_door::SealedDoor;
 use seals::Keys;
 use std::alloc::Global;
 use std::net::{IpAddr, Ipv4Addr, SocketAddr, UdpSocket};
-use wire::{Address, Arrival, Reason, Strangers, UdpWire, Wire};
+use wire::{Address, Arrival, GuardedWire, Reason, Strangers, UdpWire, Wire};
+
+/// A UDP socket of a station with a key.
+type SealedWire<'a> = GuardedWire<'a, HostRuntime, SealedDoor, UdpSocket>;
 
 /// Where three stations of these tests listen, from the first port on.
 fn stations(alloc: Global, first: u16) -> Option<Vec<Address>> {
@@ -23,19 +26,15 @@ fn stations(alloc: Global, first: u16) -> Option<Vec<Address>> {
 }
 
 /// The wire of a member with a key of this byte.
-fn wire_of<'a>(
-    rt: &'a HostRuntime,
-    member: u8,
-    key: u8,
-    first: u16,
-) -> Option<SealedWire<'a, HostRuntime>> {
+fn wire_of<'a>(rt: &'a HostRuntime, member: u8, key: u8, first: u16) -> Option<SealedWire<'a>> {
     let keys = Keys {
         first: Key::new(&[key; 32]),
         second: None,
     };
     let all = stations(rt.alloc(), first)?;
     let own = all.get(usize::from(member).checked_sub(1)?).copied()?;
-    SealedWire::bind(rt, rt, &own, all, keys).ok()
+    let door = SealedDoor::new(rt.alloc(), own.member, keys, all).ok()?;
+    GuardedWire::behind(rt, rt, &own, door).ok()
 }
 
 /// A packet of member 1 to member 2.
@@ -72,6 +71,18 @@ fn passes(rt: &HostRuntime, key: u8, first: u16, len: usize) -> Option<bool> {
         Some(length) => Some(length == len && buffer.starts_with(packet.as_slice())),
         None => Some(false),
     }
+}
+
+/// What is received of a packet of 100 bytes where the buffer has room for fewer, and how many are told then as lost.
+fn without_room(rt: &HostRuntime, first: u16) -> Option<(Arrival, Option<u64>)> {
+    let mut sender = wire_of(rt, 1, 7, first)?;
+    let mut receiver = wire_of(rt, 2, 7, first)?;
+    let packet = packet_of(rt.alloc(), 100)?;
+    if !sender.send(Member::new(2)?, &packet) {
+        return None;
+    }
+    let arrival = receiver.receive(&mut [0u8; 99]);
+    Some((arrival, receiver.lost(0)))
 }
 
 /// How many datagrams with another key a station counts, where it is sent a packet of three.
@@ -133,6 +144,11 @@ fn short_and_long(rt: HostRuntime) {
     assert!(rt; passes(&rt, 7, 47_120, 1192) == Some(true));
     assert!(rt; passes(&rt, 7, 47_130, 12_313) == Some(true));
     assert!(rt; passes(&rt, 7, 47_140, 12_314) == None);
+}
+
+#[test]
+fn no_room_in_the_buffer(rt: HostRuntime) {
+    assert!(rt; without_room(&rt, 47_250) == Some((Arrival::Nothing, Some(1))));
 }
 
 #[test]

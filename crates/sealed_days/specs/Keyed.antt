@@ -3,9 +3,10 @@ use Rattle.std.specs.Prelude.{◌≡◌, ◌⊎◌, ℕ, List, [], ◌∷◌, So
 use Rattle.std.specs.declared.net.socket_addr.SocketAddr.{SocketAddr}
 use Rattle.protocol.specs.Ballots.{IsMember}
 use Rattle.protocol.specs.Refusals.{Call, Offering, Seeking, Falling_due, Receiving, Recalling}
+use Rattle.saved_rows.specs.declared.rows.Rows.{Ghosts}
+use Rattle.station.specs.declared.station.Station.{Station}
 use Rattle.hmac.specs.Hmac.{key_block, hmac_sha256}
-use Rattle.pace.specs.declared.share.Datagram.{Datagram}
-use Rattle.wire.specs.declared.door.Brought.TheVariants as brought
+use Rattle.wire.specs.Doors.{AreOf, LetIn}
 use Rattle.seals.specs.Sealing.{label_of}
 use Rattle.seals.specs.Opening.{Opens}
 use Rattle.seals.specs.declared.label.Label.{Label}
@@ -13,10 +14,12 @@ use Rattle.seals.specs.declared.opening.Keys.{Keys}
 use Rattle.circuit_keys.specs.Circuit.{circuit_text}
 use Rattle.circuit_keys.specs.declared.key_file.SharedKeys.{SharedKeys}
 use Rattle.sealed_door.specs.declared.door.SealedDoor.{SealedDoor}
-use Rattle.sealed_door.specs.Admitting.{AdmitsSealed}
+use Rattle.sealed_door.specs.Admitting.{BringsSealed}
 use Rattle.exchange.specs.Events.{Event, asked, took, aside}
 use Rattle.days.specs.Happening.{Happened, WasHandedOut, Came}
-use Rattle.process_days.specs.Telling.{Order, day_with, IsInTurn}
+use Rattle.days.specs.Handing.{Plants, Member}
+use Rattle.days.specs.Days.{Day, IsDayAgreed, OfferedFirst}
+use Rattle.process_days.specs.Telling.{Order, AllTaken, HaveLogs, day_after, day_with, log_of, IsInTurn}
 
 -- the key that a shared key gives the circuit of this number and count
 abbrev pub circuit_key : ℕ → ℕ → List ℕ → List ℕ
@@ -26,6 +29,11 @@ circuit_key number count shared = key_block (hmac_sha256 shared (circuit_text nu
 pub record AreKeysOf (shared : SharedKeys) (number count : ℕ) (keys : Keys) : Type 0 where
   pub first : keys.first ≡ circuit_key number count shared.first
   pub second : keys.second ≡ option_map (circuit_key number count) shared.second
+
+-- this is the door of the station of this member
+pub record IsDoorOf (shared : SharedKeys) (number count m : ℕ) (door : SealedDoor) : Type 0 where
+  pub keys : AreKeysOf shared number count door.keys
+  pub own : door.own ≡ m
 
 -- this is the first of the circuit's keys, or the second, where there is one
 abbrev pub IsKeyOf : SharedKeys → ℕ → ℕ → List ℕ → Type 0
@@ -42,52 +50,59 @@ pub record BearsTagOf (shared : SharedKeys) (number count m : ℕ) (bytes packet
   pub opens : Opens block m bytes label index part
   pub sealed : label ≡ label_of block label.from m packet
 
--- the one premise: whoever lacks the key can make no tag. So a datagram that came in, and bears the tag of a packet under a key made of
--- the shared key, this number and this count, was made by a process of the circuit of that number and count, which had handed the
--- packet out for that member before
-abbrev pub NoTagWithoutKey : SharedKeys → ℕ → ℕ → List Happened → ℕ → List ℕ → List ℕ → Type 0
-NoTagWithoutKey shared number count day m bytes packet = BearsTagOf shared number count m bytes packet → WasHandedOut day m packet
+-- the one premise: whoever lacks the key can make no tag. So where a datagram came to a member, and bears the tag of a packet under a key made of
+-- the shared key, this number and this count, a process of the circuit of that number and count made it, which had handed the packet out for
+-- that member before
+abbrev pub NoTagWithoutKey : SharedKeys → ℕ → ℕ → (SocketAddr → List ℕ → Type 0) → List Happened → ℕ → List ℕ → Type 0
+NoTagWithoutKey shared number count came day m packet =
+    (sender : SocketAddr) (bytes : List ℕ) → came sender bytes → BearsTagOf shared number count m bytes packet → WasHandedOut day m packet
 
--- a datagram came in at a member, whose door has the circuit's keys, and brought this packet
-pub record BroughtIn (shared : SharedKeys) (number count m : ℕ) (bytes packet : List ℕ) : Type 0 where
-  pub old : SealedDoor
-  pub new : SealedDoor
-  pub sender : SocketAddr
-  pub d : Datagram
-  pub keys : AreKeysOf shared number count old.keys
-  pub own : old.own ≡ m
-  pub admits : AdmitsSealed old new sender bytes (brought.Packet d)
-  pub is : d.bytes.items ≡ packet
+-- a datagram came that brought this packet at a door, as `GuardedWire` tells of all that it gives the station
+abbrev pub IsLetIn : (SocketAddr → List ℕ → Type 0) → SealedDoor → List ℕ → Type 0
+IsLetIn came door packet = AreOf (LetIn came (BringsSealed door)) packet
 
 -- each packet that a door lets in came as a day asks it: it was handed out to the door's member in the day
-abbrev pub SealedPacketsCame : Type 0
-SealedPacketsCame =
-    (shared : SharedKeys) (number count : ℕ) (day : List Happened) (m : ℕ) (bytes packet : List ℕ) (now : ℕ)
-    → BroughtIn shared number count m bytes packet → NoTagWithoutKey shared number count day m bytes packet
+abbrev pub SealedPacketsCame : {S : Type 0} → (S → SocketAddr → List ℕ → Type 0) → Type 0
+SealedPacketsCame {S = S} came =
+    (shared : SharedKeys) (number count : ℕ) (day : List Happened) (m : ℕ) (socket : S) (door : SealedDoor) (packet : List ℕ) (now : ℕ)
+    → IsDoorOf shared number count m door → IsLetIn (came socket) door packet → NoTagWithoutKey shared number count (came socket) day m packet
     → Came day m (Receiving packet now)
 
--- what a call takes in was brought by a datagram that came in, which nobody made without the key
-abbrev pub CameSealed : SharedKeys → ℕ → ℕ → List Happened → ℕ → Call → Type 0
-CameSealed shared number count day m (Receiving packet now) =
-    (bytes : List ℕ) × BroughtIn shared number count m bytes packet × NoTagWithoutKey shared number count day m bytes packet
-CameSealed shared number count day m (Offering n entry now) = Unit {0}
-CameSealed shared number count day m (Seeking n now) = Unit {0}
-CameSealed shared number count day m (Falling_due now) = Unit {0}
-CameSealed shared number count day m (Recalling n to) = Unit {0}
+-- of what a call takes in nobody made a tag without the key
+abbrev pub CallNeedsKey : SharedKeys → ℕ → ℕ → (SocketAddr → List ℕ → Type 0) → List Happened → ℕ → Call → Type 0
+CallNeedsKey shared number count came day m (Receiving packet now) = NoTagWithoutKey shared number count came day m packet
+CallNeedsKey shared number count came day m (Offering n entry now) = Unit {0}
+CallNeedsKey shared number count came day m (Seeking n now) = Unit {0}
+CallNeedsKey shared number count came day m (Falling_due now) = Unit {0}
+CallNeedsKey shared number count came day m (Recalling n to) = Unit {0}
 
--- so did what an event takes in
-abbrev pub CameSealedWith : SharedKeys → ℕ → ℕ → List Happened → ℕ → Event → Type 0
-CameSealedWith shared number count day m (asked moment) = Unit {0}
-CameSealedWith shared number count day m (aside what) = Unit {0}
-CameSealedWith shared number count day m (took call answer) = CameSealed shared number count day m call
+-- nor of what an event takes in
+abbrev pub NeedsKey : SharedKeys → ℕ → ℕ → (SocketAddr → List ℕ → Type 0) → List Happened → ℕ → Event → Type 0
+NeedsKey shared number count came day m (asked moment) = Unit {0}
+NeedsKey shared number count came day m (aside what) = Unit {0}
+NeedsKey shared number count came day m (took call answer) = CallNeedsKey shared number count came day m call
 
--- each event is of a member of the circuit, and what it takes in came sealed
-abbrev pub IsSealedOrder : SharedKeys → ℕ → ℕ → List Happened → Order → Type 0
-IsSealedOrder shared number count day [] = Unit {0}
-IsSealedOrder shared number count day (x ∷ rest) =
-    IsMember count x.0 × CameSealedWith shared number count day x.0 x.1 × IsSealedOrder shared number count (day_with x.0 x.1 day) rest
+-- each event is of a member of the circuit, and of what it takes in nobody made a tag without the key
+abbrev pub NeedKey : SharedKeys → ℕ → ℕ → (ℕ → SocketAddr → List ℕ → Type 0) → List Happened → Order → Type 0
+NeedKey shared number count came day [] = Unit {0}
+NeedKey shared number count came day (x ∷ rest) =
+    IsMember count x.0 × NeedsKey shared number count (came x.0) day x.0 x.1 × NeedKey shared number count came (day_with x.0 x.1 day) rest
+
+-- each member's process takes in such packets alone as its own door of the circuit let in, of what came to its own socket
+pub record AreSealed {S : Type 0} (came : S → SocketAddr → List ℕ → Type 0) (shared : SharedKeys) (number count : ℕ) (sockets : ℕ → S) (order : Order) : Type 0 where
+  pub doors : ℕ → SealedDoor
+  pub are_doors : (m : ℕ) → IsMember count m → IsDoorOf shared number count m (doors m)
+  pub let_in : (m : ℕ) → IsMember count m → AllTaken (IsLetIn (came (sockets m)) (doors m)) (log_of m order)
 
 -- with a key, that the events of a day are in turn rests on the key alone
-abbrev pub SealedOrdersAreInTurn : Type 0
-SealedOrdersAreInTurn =
-    (shared : SharedKeys) (number count : ℕ) (day : List Happened) (order : Order) → IsSealedOrder shared number count day order → IsInTurn count day order
+abbrev pub SealedOrdersAreInTurn : {S : Type 0} → (S → SocketAddr → List ℕ → Type 0) → Type 0
+SealedOrdersAreInTurn {S = S} came =
+    (shared : SharedKeys) (number count : ℕ) (day : List Happened) (sockets : ℕ → S) (order : Order)
+    → AreSealed came shared number count sockets order → NeedKey shared number count (λ m. came (sockets m)) day order → IsInTurn count day order
+
+-- so what sealed processes release agrees, with all that was released before in the day, on the key alone
+abbrev pub SealedLogsAgree : {R S : Type 0} → Ghosts R → (S → SocketAddr → List ℕ → Type 0) → Type 0
+SealedLogsAgree {R = R} {S = S} g came =
+    (p : Plants) (shared : SharedKeys) (day : List Happened) (at : ℕ → Member R) (sockets : ℕ → S) (order : Order) (last : ℕ → Station R)
+    → Day g p day at → HaveLogs g p.count at last order → AreSealed came shared p.number p.count sockets order
+    → NeedKey shared p.number p.count (λ m. came (sockets m)) day order → IsDayAgreed p (day_after day order) × OfferedFirst (day_after day order)

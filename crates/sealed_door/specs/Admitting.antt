@@ -1,18 +1,20 @@
 -- What a datagram brings to a station on a sealed wire.
-use Rattle.std.specs.Prelude.{◌≡◌, ◌≢◌, ◌⊎◌, ℕ, ◌<◌, List, None, false, length, slice_index}
+use Rattle.std.specs.Prelude.{◌≡◌, ◌≢◌, ◌⊎◌, ℕ, ◌<◌, Bool, true, false, List, Some, None, length, slice_index}
 use Rattle.std.specs.List.{All}
 use Rattle.std.specs.declared.net.socket_addr.SocketAddr.{SocketAddr}
 use Rattle.pace.specs.declared.share.Datagram.{Datagram}
-use Rattle.wire.specs.Addresses.{IsAt, ComesFrom}
+use Rattle.wire.specs.declared.address.Address.{Address}
+use Rattle.wire.specs.Addresses.{IsAt, ComesFrom, address_of}
 use Rattle.wire.specs.Plain.{has_mark}
 use Rattle.wire.specs.declared.door.Brought.{Brought}
 use Rattle.wire.specs.declared.door.Brought.TheVariants as brought
 use Rattle.wire.specs.declared.reason.Reason.{Reason}
 use Rattle.wire.specs.declared.reason.Reason.TheVariants as reasons
-use Rattle.seals.specs.Sealing.{count_of}
+use Rattle.seals.specs.Sealing.{count_of, label_of, sealed}
 use Rattle.seals.specs.Opening.{OpensAt, OpensNone}
 use Rattle.seals.specs.declared.head.SealFault.{SealFault}
 use Rattle.seals.specs.declared.head.SealFault.TheVariants as faults
+use Rattle.seals.specs.declared.label.Label.{Label}
 use Rattle.seals.specs.declared.opening.Keys.{Keys}
 use Rattle.seals.specs.declared.opening.Piece.{Piece}
 use Rattle.gathering.specs.Parts.{Parts, IsSealedAs}
@@ -88,6 +90,26 @@ AdmitsSealed old new sender bytes b =
     ⊎ (((piece : Piece) × (b ≡ brought.Refused reasons.Elsewhere) × IsPiece old.keys old.own bytes piece × (¬ ComesFrom old.stations.items piece.label.from sender))
     ⊎ BringsPiece old new sender bytes b)))
 
--- what waits behind this door names its sender and this station, and came from where its sender listens
-abbrev pub lets_in : SealedDoor → Datagram → Type 0
-lets_in door d = IsFromTo d.bytes.items d.sender door.own × ((sender : SocketAddr) × ComesFrom door.stations.items d.sender sender)
+-- a datagram of this sender brings this packet: under a key of the station, it bears the tag of the whole packet, sealed by the member that
+-- the packet names as its sender, for this station, which it names as well; and it comes from where that member listens
+pub record BringsSealed (door : SealedDoor) (sender : SocketAddr) (bytes : List ℕ) (d : Datagram) : Type 0 where
+  pub piece : Piece
+  pub is_piece : IsPiece door.keys door.own bytes piece
+  pub sealed : IsSealedAs door.keys piece.place piece.label d.bytes.items
+  pub from : d.sender ≡ piece.label.from
+  pub comes : ComesFrom door.stations.items piece.label.from sender
+  pub names : IsFromTo d.bytes.items d.sender door.own
+
+-- the socket was given the first datagrams of a packet for an address, sealed under this key with this label, and took each
+abbrev pub TookFirst : (Address → List ℕ → Bool → Type 0) → Address → List ℕ → Label → List ℕ → ℕ → Type 0
+TookFirst given address block label packet count = (index : ℕ) → index < count → given address (sealed block label index packet) true
+
+-- all of them
+abbrev pub TookAll : (Address → List ℕ → Bool → Type 0) → Address → List ℕ → Label → List ℕ → Type 0
+TookAll given address block label packet = TookFirst given address block label packet (count_of label.length)
+
+-- a packet is sent where the addressee has an address, and the packet a length that is sealed: as each of its datagrams, sealed under the first
+-- key for the addressee. Where that is answered the socket took them all
+abbrev pub sends_sealed : SealedDoor → (Address → List ℕ → Bool → Type 0) → ℕ → List ℕ → Bool → Type 0
+sends_sealed door given to bytes sent =
+    sent ≡ true → (address : Address) × (address_of door.stations.items to ≡ Some address) × TookAll given address door.keys.first (label_of door.keys.first door.own to bytes) bytes

@@ -2,9 +2,9 @@
 
 ghost use Rattle.std.specs.Prelude.{◌≡◌, [], IfOk, IfSome, IfNone};
 ghost use Rattle.seals.specs.Opening.{IsPart};
-ghost use Rattle.wire.specs.Doors.{Alike, BringsOnly};
+ghost use Rattle.wire.specs.Doors.{BringsAlike, BringsOnly};
 ghost use Rattle.gathering.specs.Parts.{IsSealedAs};
-ghost use Rattle.sealed_door.specs.Admitting.{AdmitsAlone, AdmitsPart, AdmitsSealed, IsNamed, lets_in, reason_of};
+ghost use Rattle.sealed_door.specs.Admitting.{AdmitsAlone, AdmitsPart, AdmitsSealed, BringsSealed, IsNamed, reason_of, sends_sealed};
 
 use crate::naming::is_from_to;
 use crate::sending::send_parts;
@@ -13,8 +13,8 @@ use gathering::Gathering;
 use pace::Datagram;
 use seals::{Keys, Label, MOST_DATAGRAM, Piece, SealFault, open};
 use std::alloc::{AllocError, Global};
-use std::net::{SocketAddr, UdpSocket};
-use wire::{Address, Brought, Door, Reason, address_of, comes_from, has_mark, place_of};
+use std::net::SocketAddr;
+use wire::{Address, Brought, Door, Reason, Socket, address_of, comes_from, has_mark, place_of};
 
 /// Whose station it is, the keys of the circuit, where its stations listen, in order of members from 1, and the packets of which some
 /// parts are there.
@@ -115,9 +115,9 @@ impl SealedDoor {
 }
 
 impl Door for SealedDoor {
-    ghost use Rattle.sealed_door.specs.Admitting.{lets_in};
+    ghost brings = { BringsSealed };
 
-    ghost lets_in = { lets_in };
+    ghost sends = { sends_sealed };
 
     fn stations(&self) -> &Vec<Address>
         ensures { result.now ≡ self.now.stations }
@@ -126,11 +126,9 @@ impl Door for SealedDoor {
     }
 
     fn admit(&mut self, alloc: Global, sender: SocketAddr, bytes: &[u8]) -> Brought
-        // The datagram bears the tag of the whole packet that it brings, under a key of this circuit, for the two members that the packet
-        // names; and it comes from where its sender listens.
         ensures admits { AdmitsSealed self.old self.new sender bytes.now result }
-        ensures lets_in { BringsOnly (lets_in self.new) result }
-        ensures alike { Alike (lets_in self.old) (lets_in self.new) }
+        ensures brings { BringsOnly (BringsSealed self.new sender bytes.now) result }
+        ensures alike { BringsAlike (BringsSealed self.old) (BringsSealed self.new) }
         ensures keys { self.new.keys ≡ self.old.keys }
         ensures own { self.new.own ≡ self.old.own }
         ensures stations { self.new.stations ≡ self.old.stations }
@@ -154,8 +152,9 @@ impl Door for SealedDoor {
         self.admit_part(alloc, &piece)
     }
 
-    fn send(&mut self, socket: &UdpSocket, to: Member, bytes: &[u8]) -> bool
-        ensures alike { Alike (lets_in self.old) (lets_in self.new) }
+    fn send<S: Socket>(&mut self, socket: &S, to: Member, bytes: &[u8]) -> bool
+        ensures sends { sends_sealed self.old (S.given socket.now) to bytes.now result }
+        ensures alike { BringsAlike (BringsSealed self.old) (BringsSealed self.new) }
         ensures keys { self.new.keys ≡ self.old.keys }
         ensures own { self.new.own ≡ self.old.own }
         ensures stations { self.new.stations ≡ self.old.stations }

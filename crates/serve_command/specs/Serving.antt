@@ -11,7 +11,7 @@ use Rattle.station.specs.declared.answer.Release.{Release}
 use Rattle.refusals.specs.declared.refusal.StepRefusal.{StepRefusal}
 use Rattle.station.specs.declared.station.Station.{Station}
 use Rattle.station.specs.Readiness.{slugs_of}
-use Rattle.wire.specs.Passing.{Passed}
+use Rattle.wire.specs.Passing.{Trace}
 use Rattle.command_ends.specs.ReleaseText.{release_text}
 use Rattle.command_ends.specs.declared.end.End.{End}
 use Rattle.exchange.specs.Events.{Event, asked, took, aside}
@@ -46,7 +46,7 @@ prints contents = record {
 
 -- what `serve` did up to this end by events of this form, on a station, its wire and its output as they were and as they are
 abbrev pub ServesBy :
-    {R N W : Type 0} → (List Event → Type 0) → End → Ghosts R → (N → Option (List Passed)) → (W → Option (List ℕ))
+    {R N W : Type 0} → (List Event → Type 0) → End → Ghosts R → (N → Trace) → (W → Option (List ℕ))
     → Station R → Station R → N → N → W → W → Type 0
 ServesBy Form end rows passed contents old new was is before after =
     Drove (known rows passed (prints contents)) (post old was before) (post new is after) end Form

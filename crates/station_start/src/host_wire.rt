@@ -1,19 +1,21 @@
-//! The wire of the machine that the program runs on: plain, or sealed.
+//! The wire of the machine that the program runs on.
 
-ghost use Rattle.std.specs.Prelude.{IfOk};
-ghost use Rattle.station_start.specs.Wires.{IsHostWire};
+ghost use Rattle.std.specs.Prelude.{[], ◌∷◌, IfOk, length};
+ghost use Rattle.station_start.specs.Wires.{IsHostWire, host_passed};
+ghost use Rattle.wire.specs.Arrival.{Fits, came_by};
+ghost use Rattle.wire.specs.Passing.{Passes, sent, told};
 
+use crate::host_door::{HostDoor, door_of};
 use ballots::Member;
-use sealed_wire::SealedWire;
 use seals::Keys;
 use std::io;
-use wire::{Address, Arrival, Strangers, UdpWire, Wire};
+use std::net::UdpSocket;
+use wire::{Address, Arrival, GuardedWire, Strangers, Wire};
 
-/// A UDP socket of this machine: of a station without a key, or of one with keys.
+/// A UDP socket of this machine, behind the door of a station without a key, or of one with keys.
 #[derive(Drop)]
-pub enum HostWire<'a> {
-    Plain(UdpWire<'a, HostRuntime>),
-    Sealed(SealedWire<'a, HostRuntime>),
+pub struct HostWire<'a> {
+    wire: GuardedWire<'a, HostRuntime, HostDoor, UdpSocket>,
 }
 
 impl<'a> HostWire<'a> {
@@ -27,53 +29,49 @@ impl<'a> HostWire<'a> {
     ) -> io::Result<HostWire<'a>>
         ensures { IfOk result (λ wire. IsHostWire wire own.now stations.items keys) }
     {
-        match keys {
-            None => Ok(HostWire::Plain(UdpWire::bind(rt, rt, own, stations)?)),
-            Some(keys) => Ok(HostWire::Sealed(SealedWire::bind(rt, rt, own, stations, keys)?)),
-        }
+        let door = door_of(own, stations, keys)?;
+        let wire = GuardedWire::behind(rt, rt, own, door)?;
+        Ok(HostWire { wire })
     }
 }
 
 impl<'a> Wire for HostWire<'a> {
-    fn fetch(&mut self) -> bool {
-        match self {
-            HostWire::Plain(wire) => wire.fetch(),
-            HostWire::Sealed(wire) => wire.fetch(),
-        }
+    ghost passed = { host_passed };
+
+    fn fetch(&mut self) -> bool
+        ensures passes { Passes (host_passed self.old) (host_passed self.new) [] }
+    {
+        self.wire.fetch()
     }
 
-    fn receive(&mut self, buffer: &mut [u8]) -> Arrival {
-        match self {
-            HostWire::Plain(wire) => wire.receive(buffer),
-            HostWire::Sealed(wire) => wire.receive(buffer),
-        }
+    fn receive(&mut self, buffer: &mut [u8]) -> Arrival
+        ensures fits { Fits result (length buffer.new) }
+        ensures passes { Passes (host_passed self.old) (host_passed self.new) (came_by result buffer.new) }
+    {
+        self.wire.receive(buffer)
     }
 
-    fn send(&mut self, to: Member, bytes: &[u8]) -> bool {
-        match self {
-            HostWire::Plain(wire) => wire.send(to, bytes),
-            HostWire::Sealed(wire) => wire.send(to, bytes),
-        }
+    fn send(&mut self, to: Member, bytes: &[u8]) -> bool
+        ensures passes { Passes (host_passed self.old) (host_passed self.new) (sent to bytes.now ∷ []) }
+    {
+        self.wire.send(to, bytes)
     }
 
-    fn now(&mut self) -> u64 {
-        match self {
-            HostWire::Plain(wire) => wire.now(),
-            HostWire::Sealed(wire) => wire.now(),
-        }
+    fn now(&mut self) -> u64
+        ensures passes { Passes (host_passed self.old) (host_passed self.new) (told result ∷ []) }
+    {
+        self.wire.now()
     }
 
-    fn strangers(&mut self, now: u64) -> Option<Strangers> {
-        match self {
-            HostWire::Plain(wire) => wire.strangers(now),
-            HostWire::Sealed(wire) => wire.strangers(now),
-        }
+    fn strangers(&mut self, now: u64) -> Option<Strangers>
+        ensures passes { Passes (host_passed self.old) (host_passed self.new) [] }
+    {
+        self.wire.strangers(now)
     }
 
-    fn lost(&mut self, now: u64) -> Option<u64> {
-        match self {
-            HostWire::Plain(wire) => wire.lost(now),
-            HostWire::Sealed(wire) => wire.lost(now),
-        }
+    fn lost(&mut self, now: u64) -> Option<u64>
+        ensures passes { Passes (host_passed self.old) (host_passed self.new) [] }
+    {
+        self.wire.lost(now)
     }
 }

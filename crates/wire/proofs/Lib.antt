@@ -1,2 +1,3 @@
 pub mod Passing
 pub mod Staying
+pub mod Guarding

@@ -1,5 +1,5 @@
 -- What waits stays such as was let in.
-use Rattle.std.proofs.Common.{◌≡◌, ℕ, ◌+◌, ◌-◌, inl, inr, Bool, true, false, List, length, drop, get_or, set, replicate, sym, ap, subst, arith}
+use Rattle.std.proofs.Common.{◌≡◌, ℕ, ◌+◌, ◌-◌, inl, inr, Bool, true, false, List, [], length, drop, take, get_or, set, replicate, sym, ap, subst, arith}
 use Rattle.std.specs.Prelude.{Option, Result, Ok, Err, IfOk, Some, None, MatchOption}
 use Rattle.std.specs.List.{All}
 use Rattle.std.specs.declared.net.socket_addr.SocketAddr.{SocketAddr}
@@ -12,7 +12,10 @@ use Rattle.wire.specs.declared.address.Address.{Address}
 use Rattle.wire.specs.declared.door.Brought.{Brought}
 use Rattle.wire.specs.declared.door.Brought.TheVariants as brought
 use Rattle.wire.specs.declared.wire.Arrival.{Arrival}
-use Rattle.wire.specs.Doors.{AllWait, Alike, ComesAs, Stays}
+use Rattle.wire.specs.declared.wire.Arrival.TheVariants as arrivals
+use Rattle.wire.specs.Arrival.{came_by}
+use Rattle.wire.specs.Doors.{AllWait, Alike, AreOf, BringsAlike, BringsOnly, ComesAs, LetIn, NoneWaits, Stays}
+use Rattle.wire.specs.Passing.{Passed, AllCame, Guards}
 use Rattle.wire.specs.Plain.{AdmitsPlain, IsFrom, IsPacketOf}
 
 -- nothing changes
@@ -37,10 +40,10 @@ stays_alike A B w alike = record {
 }
 
 -- none waits of any
-pub none_waits : (Is : Datagram → Type 0) (members : ℕ) → AllWait Is (nothing_waits members)
-none_waits Is members = λ place. elim (cases_lt place members) as (λ _. All Is (share_at place (nothing_waits members)).datagrams) [
-  | inl low ↦ subst (λ (s : ShareValue). All Is s.datagrams) (sym (get_or-replicate members place (empty_share members) (nothing_of 0 0) low)) (λ k d lt. absurd (omega arith))
-  | inr past ↦ subst (λ (s : ShareValue). All Is s.datagrams) (sym (get_or_past (replicate members (empty_share members)) place (nothing_of 0 0) (let e = length-replicate members (empty_share members) in omega arith))) (λ k d lt. absurd (omega arith))
+pub none_waits : (members : ℕ) → NoneWaits (nothing_waits members)
+none_waits members = λ place. elim (cases_lt place members) as (λ _. (share_at place (nothing_waits members)).datagrams ≡ []) [
+  | inl low ↦ ap (λ (s : ShareValue). s.datagrams) (get_or-replicate members place (empty_share members) (nothing_of 0 0) low)
+  | inr past ↦ ap (λ (s : ShareValue). s.datagrams) (get_or_past (replicate members (empty_share members)) place (nothing_of 0 0) (let e = length-replicate members (empty_share members) in omega arith))
 ]
 
 -- one share is another
@@ -90,9 +93,47 @@ pub take_is : (Is : Datagram → Type 0) (taken : Option Datagram) (d : Datagram
 take_is Is taken d old new at is all =
     taken_at_turn Is (turn_of old) d old new (subst (λ (o : Option Datagram). MatchOption (turn_of old) ((o ≡ None) × (new ≡ old)) (λ place. taken_at place o old new)) is at) all
 
+-- these are the bytes of such a packet, as long as what is such stays the same
+pub are_alike : (A B : Datagram → Type 0) (bytes : List ℕ) → Alike A B → AreOf B bytes → AreOf A bytes
+are_alike A B bytes alike is = (is.0, (alike is.0).0 is.1, is.2)
+
 -- what comes after a step
-pub comes_then : (A B : Datagram → Type 0) (w v : WaitingValue) (a : Arrival) (buffer : List ℕ) → Stays A B w v → (AllWait B v → ComesAs B a buffer) → AllWait A w → ComesAs B a buffer
-comes_then A B w v a buffer stays comes all = comes (stays.wait all)
+pub comes_then : (A B : Datagram → Type 0) (w v : WaitingValue) (a : Arrival) (buffer : List ℕ) → Stays A B w v → (AllWait B v → ComesAs B a buffer) → AllWait A w → ComesAs A a buffer
+comes_then A B w v arrivals.Nothing buffer stays comes all = tt
+comes_then A B w v (arrivals.Datagram length) buffer stays comes all = are_alike A B (take length buffer) stays.alike (comes (stays.wait all))
+comes_then A B w v arrivals.Failed buffer stays comes all = tt
+
+-- of what comes, each datagram is such
+pub came_so : (Is : Datagram → Type 0) (a : Arrival) (buffer : List ℕ) → ComesAs Is a buffer → AllCame (AreOf Is) (came_by a buffer)
+came_so Is arrivals.Nothing buffer comes = tt
+came_so Is (arrivals.Datagram length) buffer comes = (comes, tt)
+came_so Is arrivals.Failed buffer comes = tt
+
+-- what is told of a step
+pub stays_passes : (A B : Datagram → Type 0) (w v : WaitingValue) (more : List Passed) → Stays A B w v → (AllWait A w → AllCame (AreOf A) more)
+    → Guards (AreOf A) (AreOf B) (AllWait A w) (AllWait B v) more
+stays_passes A B w v more stays came = record {
+  alike = λ bytes. (are_alike A B bytes stays.alike, are_alike B A bytes (λ d. ((stays.alike d).1, (stays.alike d).0)));
+  stays = stays.wait;
+  came = came;
+}
+
+-- where none waits, all that wait were let in
+pub none_is_clean : (Is : Datagram → Type 0) (w : WaitingValue) → NoneWaits w → AllWait Is w
+none_is_clean Is w none = λ place. subst (All Is) (sym (none place)) (λ k d lt. absurd (omega arith))
+
+-- what a door brings of a datagram that came was let in
+pub brought_in : (came : SocketAddr → List ℕ → Type 0) (brings : SocketAddr → List ℕ → Datagram → Type 0) (sender : SocketAddr) (bytes : List ℕ) (b : Brought)
+    → came sender bytes → BringsOnly (brings sender bytes) b → BringsOnly (LetIn came brings) b
+brought_in came brings sender bytes (brought.Packet d) it is = (sender, bytes, it, is)
+brought_in came brings sender bytes brought.Part it is = tt
+brought_in came brings sender bytes brought.Lost it is = tt
+brought_in came brings sender bytes (brought.Refused reason) it is = tt
+
+-- where a door brings the same, the same is let in
+pub let_in_alike : (came : SocketAddr → List ℕ → Type 0) (brings brings' : SocketAddr → List ℕ → Datagram → Type 0) → BringsAlike brings brings' → Alike (LetIn came brings) (LetIn came brings')
+let_in_alike came brings brings' same = λ d.
+    (λ it. (it.0, it.1, it.2, (same it.0 it.1 d).0 it.3), λ it. (it.0, it.1, it.2, (same it.0 it.1 d).1 it.3))
 
 -- what holds of a good end by two facts of it
 pub if_ok_both : {A E : Type 0} (P Q R : A → Type 0) (r : Result A E) → ((a : A) → P a → Q a → R a) → IfOk r P → IfOk r Q → IfOk r R

@@ -1,5 +1,5 @@
 -- What comes in by a door.
-use Rattle.std.specs.Prelude.{◌≡◌, ◌↔◌, ℕ, Bool, List, take}
+use Rattle.std.specs.Prelude.{◌≡◌, ◌↔◌, ℕ, Bool, List, [], take}
 use Rattle.std.specs.List.{All}
 use Rattle.pace.specs.declared.share.Datagram.{Datagram}
 use Rattle.std.specs.declared.net.socket_addr.SocketAddr.{SocketAddr}
@@ -18,14 +18,30 @@ BringsOnly Is brought.Part = Unit {0}
 BringsOnly Is brought.Lost = Unit {0}
 BringsOnly Is (brought.Refused reason) = Unit {0}
 
+-- what brings packets brings the same
+abbrev pub BringsAlike : (SocketAddr → List ℕ → Datagram → Type 0) → (SocketAddr → List ℕ → Datagram → Type 0) → Type 0
+BringsAlike brings brings' = (sender : SocketAddr) (bytes : List ℕ) (d : Datagram) → brings' sender bytes d ↔ brings sender bytes d
+
+-- a datagram came that brought this packet
+abbrev pub LetIn : (SocketAddr → List ℕ → Type 0) → (SocketAddr → List ℕ → Datagram → Type 0) → Datagram → Type 0
+LetIn came brings d = (sender : SocketAddr) × (bytes : List ℕ) × came sender bytes × brings sender bytes d
+
+-- these are the bytes of such a packet
+abbrev pub AreOf : (Datagram → Type 0) → List ℕ → Type 0
+AreOf Is bytes = (d : Datagram) × Is d × (bytes ≡ d.bytes.items)
+
 -- all that wait are such
 abbrev pub AllWait : (Datagram → Type 0) → WaitingValue → Type 0
 AllWait Is waiting = (place : ℕ) → All Is (share_at place waiting).datagrams
 
--- what stands at the front of the buffer is such a packet, or the front of one where the buffer is shorter
+-- none waits of any member
+abbrev pub NoneWaits : WaitingValue → Type 0
+NoneWaits waiting = (place : ℕ) → (share_at place waiting).datagrams ≡ []
+
+-- what stands at the front of the buffer is such a packet, whole
 abbrev pub ComesAs : (Datagram → Type 0) → Arrival → List ℕ → Type 0
 ComesAs Is arrivals.Nothing buffer = Unit {0}
-ComesAs Is (arrivals.Datagram length) buffer = (d : Datagram) × Is d × (take length buffer ≡ take length d.bytes.items)
+ComesAs Is (arrivals.Datagram length) buffer = AreOf Is (take length buffer)
 ComesAs Is arrivals.Failed buffer = Unit {0}
 
 -- what is let in stays the same

@@ -1,9 +1,9 @@
 -- Which datagrams a station without a key takes in.
-use Rattle.std.specs.Prelude.{◌≡◌, ◌⊎◌, ℕ, List, length, slice_index, slice_index_or, Bool, not, ◌&&◌, ◌||◌, ◌==◌, nat_lt, Option, Some, None, if◌then◌else◌}
+use Rattle.std.specs.Prelude.{◌≡◌, ◌⊎◌, ℕ, List, length, slice_index, slice_index_or, Bool, false, not, ◌&&◌, ◌||◌, ◌==◌, nat_lt, Option, Some, None, MatchOption, if◌then◌else◌}
 use Rattle.std.specs.List.{All}
 use Rattle.std.specs.declared.net.socket_addr.SocketAddr.{SocketAddr}
 use Rattle.pace.specs.declared.share.Datagram.{Datagram}
-use Rattle.wire.specs.Addresses.{IsAt, IsFirstAt}
+use Rattle.wire.specs.Addresses.{IsAt, IsFirstAt, address_of}
 use Rattle.wire.specs.declared.address.Address.{Address}
 use Rattle.wire.specs.declared.door.Brought.{Brought}
 use Rattle.wire.specs.declared.door.Brought.TheVariants as brought
@@ -47,9 +47,14 @@ AdmitsPlain own stations sender bytes brought.Part = ⊥
 AdmitsPlain own stations sender bytes brought.Lost = (member : ℕ) × IsFrom own stations sender member bytes
 AdmitsPlain own stations sender bytes (brought.Refused reason) = IsAgainst own stations sender bytes reason
 
--- what waits at a station without a key came from where its sender listens, and nothing stands against it
-abbrev pub LetsIn : ℕ → List Address → Datagram → Type 0
-LetsIn own stations d = (sender : SocketAddr) × IsFrom own stations sender d.sender d.bytes.items
+-- a datagram of this sender brings this packet at a station without a key: it is the packet, comes from where its sender listens, and nothing
+-- stands against it
+abbrev pub brings_plain : ℕ → List Address → SocketAddr → List ℕ → Datagram → Type 0
+brings_plain own stations sender bytes d = IsFrom own stations sender d.sender bytes × (d.bytes.items ≡ bytes)
+
+-- a packet is sent as it is, where the addressee has an address
+abbrev pub sends_plain : List Address → (Address → List ℕ → Bool → Type 0) → ℕ → List ℕ → Bool → Type 0
+sends_plain stations given to bytes sent = MatchOption (address_of stations to) (sent ≡ false) (λ address. given address bytes sent)
 
 -- it is the packet of these bytes, of this member; or it is lost for memory
 abbrev pub IsPacketOf : ℕ → List ℕ → Brought → Type 0

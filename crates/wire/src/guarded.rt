@@ -1,14 +1,18 @@
-//! A UDP socket behind a door. Of what passes over a socket of the host nothing is known.
+//! A socket behind a door. Of what passes over a socket of the host nothing is known; what is said here is said of any socket, by what came
+//! to it and what it was given.
 
-ghost use Rattle.std.specs.Prelude.{◌≡◌, ◌≤◌, ◌<◌, ◌/◌, ◌^◌, ◌-◌, length, min, None, MatchOption, IfOk, take};
+ghost use Rattle.std.specs.Prelude.{◌≡◌, ◌≤◌, ◌<◌, ◌/◌, ◌^◌, ◌-◌, [], ◌∷◌, length, min, None, MatchOption, IfOk, take, true};
 ghost use Rattle.std.specs.Duration.{as_nanos};
-ghost use Rattle.wire.specs.Arrival.{Fits};
-ghost use Rattle.wire.specs.Doors.{AllWait, BringsOnly, ComesAs, IsKept, Stays};
+ghost use Rattle.wire.specs.Arrival.{Fits, came_by};
+ghost use Rattle.wire.specs.Doors.{BringsOnly, ComesAs, IsKept, NoneWaits};
+ghost use Rattle.wire.specs.Guarded.{IsClean, Keeps, let_in, passed_of};
+ghost use Rattle.wire.specs.Passing.{Passes, sent, told};
 ghost use Rattle.wire.specs.Strangers.{TellsFirst, later};
 
 use crate::address::{Address, socket_address};
 use crate::buffer::ask_for_room;
 use crate::door::{Brought, Door};
+use crate::socket::Socket;
 use crate::strangers::{PAUSE, Strangers, Untold};
 use crate::wire::{Arrival, Wire};
 use ballots::Member;
@@ -23,14 +27,14 @@ use std::time::{Duration, Instant};
 /// How long a receive waits at most, in milliseconds.
 const LIMIT: u64 = 50;
 
-/// The room for one datagram that is taken from the socket: more than the longest packet has.
-const ROOM: usize = 12_320;
+/// The room for one datagram that is taken from the socket. The longest packet has a byte less, so one that was cut is none.
+const ROOM: usize = 12_314;
 
-/// A UDP socket, the door that decides what comes in, what came in and was not received yet, and the clock.
+/// A socket, the door that decides what comes in, what came in and was not received yet, and the clock.
 #[derive(Drop)]
-pub struct GuardedWire<'a, C: Clock, D: Door> {
+pub struct GuardedWire<'a, C: Clock, D: Door, S: Socket> {
     alloc: Global,
-    socket: UdpSocket,
+    socket: S,
     door: D,
     clock: &'a C,
     start: Instant,
@@ -58,28 +62,31 @@ fn count_of(stations: &[Address]) -> u8 {
     u8::try_from(stations.len()).unwrap_or(u8::MAX)
 }
 
-/// Puts a datagram at the front of a buffer, cut where it is longer.
-fn fill(bytes: &[u8], buffer: &mut [u8]) -> usize
-    ensures fits { result ≤ length buffer.new }
-    ensures bytes { take result buffer.new ≡ take result bytes.now }
+/// Puts a datagram at the front of a buffer, where there is room for all of it.
+fn fill(bytes: &[u8], buffer: &mut [u8]) -> bool
+    ensures fits { result ≡ true → length bytes.now ≤ length buffer.new }
+    ensures bytes { result ≡ true → take (length bytes.now) buffer.new ≡ bytes.now }
 {
-    let length = bytes.len().min(buffer.len());
-    buffer[..length].copy_from_slice(&bytes[..length]);
-    length
+    let length = bytes.len();
+    if buffer.len() < length {
+        return false;
+    }
+    buffer[..length].copy_from_slice(bytes);
+    true
 }
 
-impl<'a, C: Clock, D: Door> GuardedWire<'a, C, D> {
-    /// A socket at the own address, behind this door. The clock starts now. Where there is no memory for what waits, it fails as the
-    /// socket does.
+impl<'a, C: Clock, D: Door> GuardedWire<'a, C, D, UdpSocket> {
+    /// A socket of the host at the own address, behind this door. The clock starts now. Where there is no memory for what waits, it fails
+    /// as the socket does.
     pub fn behind<R: Net>(
         net: &R,
         clock: &'a C,
         own: &Address,
         door: D,
-    ) -> io::Result<GuardedWire<'a, C, D>>
+    ) -> io::Result<GuardedWire<'a, C, D, UdpSocket>>
         ensures door { IfOk result (λ w. w.door ≡ door) }
         ensures moment { IfOk result (λ w. w.moment ≡ 0) }
-        ensures waits { IfOk result (λ w. AllWait (D.lets_in w.door) w.waiting) }
+        ensures waits { IfOk result (λ w. NoneWaits w.waiting) }
     {
         let stations = door.stations();
         let alloc = *stations.allocator();
@@ -103,11 +110,18 @@ impl<'a, C: Clock, D: Door> GuardedWire<'a, C, D> {
         })
     }
 
+    /// The port that the socket has.
+    pub fn port(&self) -> io::Result<u16> {
+        Ok(self.socket.local_addr()?.port())
+    }
+}
+
+impl<'a, C: Clock, D: Door, S: Socket> GuardedWire<'a, C, D, S> {
     /// Lets what a datagram brought wait; one that is not admitted is counted, and one that finds no memory is lost.
     fn keep(&mut self, brought: Brought, sender: SocketAddr)
-        requires { BringsOnly (D.lets_in self.old.door) brought }
+        requires { BringsOnly (let_in S.came D.brings self.old) brought }
         ensures kept { IsKept brought sender self.old.waiting self.old.untold.tallies self.new.waiting self.new.untold.tallies }
-        ensures stays { Stays (D.lets_in self.old.door) (D.lets_in self.new.door) self.old.waiting self.new.waiting }
+        ensures keeps { Keeps S.came D.brings self.old self.new }
     {
         match brought {
             Brought::Packet(datagram) => {
@@ -119,32 +133,21 @@ impl<'a, C: Clock, D: Door> GuardedWire<'a, C, D> {
         }
     }
 
-    /// Takes in the datagram of so many bytes that lies at the front of the room.
-    fn admit(&mut self, length: usize, sender: SocketAddr)
-        ensures stays { Stays (D.lets_in self.old.door) (D.lets_in self.new.door) self.old.waiting self.new.waiting }
-    {
-        let brought = match self.room.get(..length) {
-            Some(front) => self.door.admit(self.alloc, sender, front),
-            None => Brought::Lost,
-        };
-        self.keep(brought, sender);
-    }
-
     /// Takes a datagram from the socket, and lets it wait where it is admitted. It waits for one as the socket does.
     fn take_one(&mut self) -> io::Result<()>
-        ensures stays { Stays (D.lets_in self.old.door) (D.lets_in self.new.door) self.old.waiting self.new.waiting }
+        ensures keeps { Keeps S.came D.brings self.old self.new }
     {
-        let (length, sender) = self.socket.recv_from(&mut self.room)?;
-        self.admit(length, sender);
+        let (length, sender) = self.socket.take(&mut self.room)?;
+        let brought = self.door.admit(self.alloc, sender, &self.room[..length]);
+        self.keep(brought, sender);
         Ok(())
     }
 
     /// Takes what waits at the socket, so many datagrams at most, and waits for nothing.
-    #[tactic(auto, using(crate::proofs::Staying::stays_self, crate::proofs::Staying::stays_then))]
     fn fetch_some(&mut self, most: usize)
-        ensures stays { Stays (D.lets_in self.old.door) (D.lets_in self.new.door) self.old.waiting self.new.waiting }
+        ensures keeps { Keeps S.came D.brings self.old self.new }
     {
-        if self.socket.set_nonblocking(true).is_err() {
+        if self.socket.set_waits(false).is_err() {
             return;
         }
         for _ in 0..most {
@@ -152,12 +155,12 @@ impl<'a, C: Clock, D: Door> GuardedWire<'a, C, D> {
                 break;
             }
         }
-        let _ = self.socket.set_nonblocking(false);
+        let _ = self.socket.set_waits(true);
     }
 
     /// Waits for a datagram within the time limit; whether the network stands.
     fn wait_for_one(&mut self) -> bool
-        ensures stays { Stays (D.lets_in self.old.door) (D.lets_in self.new.door) self.old.waiting self.new.waiting }
+        ensures keeps { Keeps S.came D.brings self.old self.new }
     {
         match self.take_one() {
             Ok(()) => true,
@@ -169,48 +172,48 @@ impl<'a, C: Clock, D: Door> GuardedWire<'a, C, D> {
     }
 
     /// Takes what waits at the socket, or waits for a datagram; whether the network stands.
-    #[tactic(auto, using(crate::proofs::Staying::stays_then))]
     fn await_one(&mut self) -> bool
-        ensures stays { Stays (D.lets_in self.old.door) (D.lets_in self.new.door) self.old.waiting self.new.waiting }
+        ensures keeps { Keeps S.came D.brings self.old self.new }
     {
         self.fetch_some(MOST_RECEIVES);
         !self.waiting.is_empty() || self.wait_for_one()
     }
 
-    /// Takes the datagram whose turn it is, of those that wait in memory.
+    /// Takes the datagram whose turn it is, of those that wait in memory. One for which the buffer has no room is lost.
     fn take_next(&mut self, buffer: &mut [u8]) -> Arrival
         ensures fits { Fits result (length buffer.new) }
-        ensures comes { AllWait (D.lets_in self.old.door) self.old.waiting → ComesAs (D.lets_in self.new.door) result buffer.new }
-        ensures stays { Stays (D.lets_in self.old.door) (D.lets_in self.new.door) self.old.waiting self.new.waiting }
+        ensures comes { IsClean S.came D.brings self.old → ComesAs (let_in S.came D.brings self.old) result buffer.new }
+        ensures keeps { Keeps S.came D.brings self.old self.new }
     {
-        match self.waiting.take() {
-            Some(datagram) => Arrival::Datagram {
-                length: fill(&datagram.bytes, buffer),
-            },
-            None => Arrival::Nothing,
+        let Some(datagram) = self.waiting.take() else {
+            return Arrival::Nothing;
+        };
+        if fill(&datagram.bytes, buffer) {
+            return Arrival::Datagram {
+                length: datagram.bytes.len(),
+            };
         }
-    }
-
-    /// The port that the socket has.
-    pub fn port(&self) -> io::Result<u16> {
-        Ok(self.socket.local_addr()?.port())
+        self.waiting.lose();
+        Arrival::Nothing
     }
 }
 
-impl<'a, C: Clock, D: Door> Wire for GuardedWire<'a, C, D> {
-    #[tactic(auto, using(crate::proofs::Staying::stays_self, crate::proofs::Staying::stays_then))]
+impl<'a, C: Clock, D: Door, S: Socket> Wire for GuardedWire<'a, C, D, S> {
+    ghost passed = { passed_of S.came D.brings };
+
     fn fetch(&mut self) -> bool
-        ensures stays { Stays (D.lets_in self.old.door) (D.lets_in self.new.door) self.old.waiting self.new.waiting }
+        ensures keeps { Keeps S.came D.brings self.old self.new }
+        ensures passes { Passes (passed_of S.came D.brings self.old) (passed_of S.came D.brings self.new) [] }
     {
         self.fetch_some(MOST_RECEIVES);
         !self.waiting.is_empty()
     }
 
-    #[tactic(auto, using(crate::proofs::Staying::stays_then, crate::proofs::Staying::comes_then))]
     fn receive(&mut self, buffer: &mut [u8]) -> Arrival
         ensures fits { Fits result (length buffer.new) }
-        ensures comes { AllWait (D.lets_in self.old.door) self.old.waiting → ComesAs (D.lets_in self.new.door) result buffer.new }
-        ensures stays { Stays (D.lets_in self.old.door) (D.lets_in self.new.door) self.old.waiting self.new.waiting }
+        ensures comes { IsClean S.came D.brings self.old → ComesAs (let_in S.came D.brings self.old) result buffer.new }
+        ensures keeps { Keeps S.came D.brings self.old self.new }
+        ensures passes { Passes (passed_of S.came D.brings self.old) (passed_of S.came D.brings self.new) (came_by result buffer.new) }
     {
         if !self.await_one() {
             return Arrival::Failed;
@@ -219,9 +222,10 @@ impl<'a, C: Clock, D: Door> Wire for GuardedWire<'a, C, D> {
     }
 
     /// What came meanwhile is taken from the socket, so that what the others send at once does not fill it.
-    #[tactic(auto, using(crate::proofs::Staying::stays_self, crate::proofs::Staying::stays_then))]
     fn send(&mut self, to: Member, bytes: &[u8]) -> bool
-        ensures stays { Stays (D.lets_in self.old.door) (D.lets_in self.new.door) self.old.waiting self.new.waiting }
+        ensures sends { D.sends self.old.door (S.given self.old.socket) to bytes.now result }
+        ensures keeps { Keeps S.came D.brings self.old self.new }
+        ensures passes { Passes (passed_of S.came D.brings self.old) (passed_of S.came D.brings self.new) (sent to bytes.now ∷ []) }
     {
         let is_sent = self.door.send(&self.socket, to, bytes);
         self.fetch_some(MOST_AFTER_A_SEND);
@@ -233,6 +237,7 @@ impl<'a, C: Clock, D: Door> Wire for GuardedWire<'a, C, D> {
         ensures moment { result ≡ self.new.moment }
         ensures waits { self.new.waiting ≡ self.old.waiting }
         ensures door { self.new.door ≡ self.old.door }
+        ensures passes { Passes (passed_of S.came D.brings self.old) (passed_of S.came D.brings self.new) (told result ∷ []) }
     {
         if let Ok(elapsed) = self.start.elapsed(self.clock) {
             self.moment = moment_of(elapsed);
@@ -245,6 +250,7 @@ impl<'a, C: Clock, D: Door> Wire for GuardedWire<'a, C, D> {
         ensures tells { TellsFirst now result self.old.untold.tallies self.new.untold.tallies }
         ensures waits { self.new.waiting ≡ self.old.waiting }
         ensures door { self.new.door ≡ self.old.door }
+        ensures passes { Passes (passed_of S.came D.brings self.old) (passed_of S.came D.brings self.new) [] }
     {
         self.untold.tell(now)
     }
@@ -256,6 +262,7 @@ impl<'a, C: Clock, D: Door> Wire for GuardedWire<'a, C, D> {
         ensures counted { self.old.lost_due ≤ now → self.new.waiting.lost ≡ 0 }
         ensures waits { self.new.waiting.shares ≡ self.old.waiting.shares }
         ensures door { self.new.door ≡ self.old.door }
+        ensures passes { Passes (passed_of S.came D.brings self.old) (passed_of S.came D.brings self.new) [] }
     {
         if now < self.lost_due {
             return None;

@@ -1,22 +1,22 @@
 //! The door of a station without a key: the papers' datagrams, as they come.
 
 ghost use Rattle.std.specs.Prelude.{◌≡◌, IfOk, IfErr};
-ghost use Rattle.wire.specs.Plain.{AdmitsPlain, IsAgainst, IsFrom, IsPacketOf, has_mark, names_another, reason_against};
+ghost use Rattle.wire.specs.Plain.{AdmitsPlain, brings_plain, IsAgainst, IsFrom, IsPacketOf, has_mark, names_another, reason_against, sends_plain};
 
 use crate::address::{Address, address_of, place_of};
 use crate::door::{Brought, Door};
 use crate::reason::Reason;
-use crate::sending::send_datagram;
+use crate::socket::Socket;
 use ballots::Member;
 use pace::Datagram;
 use std::alloc::Global;
-use std::net::{SocketAddr, UdpSocket};
+use std::net::SocketAddr;
 
 /// Whose station it is, and where all listen, in order of members from 1.
 #[derive(Drop)]
 pub struct PlainDoor {
-    pub(crate) own: Member,
-    pub(crate) stations: Vec<Address>,
+    own: Member,
+    stations: Vec<Address>,
 }
 
 /// Whether a datagram begins with a mark: T, and this letter.
@@ -61,6 +61,14 @@ fn packet_of(alloc: Global, sender: Member, bytes: &[u8]) -> Brought
 }
 
 impl PlainDoor {
+    /// The door of this member's station.
+    pub fn new(own: Member, stations: Vec<Address>) -> PlainDoor
+        ensures own { result.own ≡ own }
+        ensures stations { result.stations ≡ stations }
+    {
+        PlainDoor { own, stations }
+    }
+
     /// The member whose datagram it is, or what stands against it.
     fn judge(&self, sender: SocketAddr, bytes: &[u8]) -> Result<Member, Reason>
         ensures from { IfOk result (λ member. IsFrom self.now.own self.now.stations.items sender member bytes.now) }
@@ -78,9 +86,9 @@ impl PlainDoor {
 }
 
 impl Door for PlainDoor {
-    ghost use Rattle.wire.specs.Plain.{LetsIn};
+    ghost brings = { λ door. brings_plain door.own door.stations.items };
 
-    ghost lets_in = { λ door. LetsIn door.own door.stations.items };
+    ghost sends = { λ door. sends_plain door.stations.items };
 
     fn stations(&self) -> &Vec<Address>
         ensures { result.now ≡ self.now.stations }
@@ -98,11 +106,12 @@ impl Door for PlainDoor {
         }
     }
 
-    fn send(&mut self, socket: &UdpSocket, to: Member, bytes: &[u8]) -> bool
+    fn send<S: Socket>(&mut self, socket: &S, to: Member, bytes: &[u8]) -> bool
+        ensures sends { sends_plain self.old.stations.items (S.given socket.now) to bytes.now result }
         ensures door { self.new ≡ self.old }
     {
         match address_of(&self.stations, to) {
-            Some(address) => send_datagram(socket, address, bytes),
+            Some(address) => socket.send(address, bytes),
             None => false,
         }
     }

@@ -1,20 +1,19 @@
 //! Datagrams over UDP as they are, from and to the stations of a circuit alone.
 
 ghost use Rattle.std.specs.Prelude.{◌≡◌, IfOk};
-ghost use Rattle.wire.specs.Doors.{AllWait};
-ghost use Rattle.wire.specs.Plain.{LetsIn};
+ghost use Rattle.wire.specs.Doors.{NoneWaits};
 
 use crate::address::Address;
 use crate::guarded::GuardedWire;
 use crate::plain::PlainDoor;
 use std::io;
-use std::net::Net;
+use std::net::{Net, UdpSocket};
 use std::rt::Clock;
 
 /// A UDP socket of a station without a key.
-pub type UdpWire<'a, C> = GuardedWire<'a, C, PlainDoor>;
+pub type UdpWire<'a, C> = GuardedWire<'a, C, PlainDoor, UdpSocket>;
 
-impl<'a, C: Clock> GuardedWire<'a, C, PlainDoor> {
+impl<'a, C: Clock> GuardedWire<'a, C, PlainDoor, UdpSocket> {
     /// A socket at the own address, that sends to these stations, in order of members from 1, and takes datagrams of the others alone.
     /// The clock starts now. Where there is no memory for what waits, it fails as the socket does.
     pub fn bind<R: Net>(
@@ -26,12 +25,9 @@ impl<'a, C: Clock> GuardedWire<'a, C, PlainDoor> {
         ensures own { IfOk result (λ w. w.door.own ≡ own.now.member) }
         ensures stations { IfOk result (λ w. w.door.stations ≡ stations) }
         ensures moment { IfOk result (λ w. w.moment ≡ 0) }
-        ensures waits { IfOk result (λ w. AllWait (LetsIn own.now.member stations.items) w.waiting) }
+        ensures waits { IfOk result (λ w. NoneWaits w.waiting) }
     {
-        let door = PlainDoor {
-            own: own.member,
-            stations,
-        };
+        let door = PlainDoor::new(own.member, stations);
         GuardedWire::behind(net, clock, own, door)
     }
 }

@@ -1,8 +1,8 @@
 //! What a station asks of the network.
 
-ghost use Rattle.std.specs.Prelude.{◌≤◌, List, [], ◌∷◌, Option, None, length};
+ghost use Rattle.std.specs.Prelude.{◌≤◌, [], ◌∷◌, length};
 ghost use Rattle.wire.specs.Arrival.{Fits, came_by};
-ghost use Rattle.wire.specs.Passing.{Passed, Passes, sent, told};
+ghost use Rattle.wire.specs.Passing.{Passes, Trace, sent, told, untold};
 
 use crate::strangers::Strangers;
 use ballots::Member;
@@ -20,8 +20,8 @@ pub enum Arrival {
 
 /// A network of datagrams, with a clock.
 pub trait Wire {
-    // What has passed over it, in order, where that is known: a socket of the host tells nothing.
-    ghost passed: { Self → Option (List Passed) } = { λ _. None };
+    // What it tells of what has passed over it.
+    ghost passed: { Self → Trace } = { λ _. untold };
 
     /// Takes into memory what waits at the network, and waits for nothing; whether a datagram waits in memory then. A wire that keeps
     /// none in memory answers that none does.

@@ -1,6 +1,6 @@
 -- What came is taken in by one step of the station, unless it has the mark of recalls and rolls.
-use Rattle.std.proofs.Common.{◌≡◌, ℕ, List, [], ◌∷◌, Option, refl, subst}
-use Rattle.wire.specs.Passing.{Passed, Passes, came}
+use Rattle.std.proofs.Common.{◌≡◌, ℕ, List, [], ◌∷◌, refl, subst}
+use Rattle.wire.specs.Passing.{Passes, Trace, came}
 use Rattle.saved_rows.specs.declared.rows.Rows.{Ghosts}
 use Rattle.station.specs.declared.station.Station.{Station}
 use Rattle.exchange.specs.Events.{HasMark}
@@ -12,7 +12,7 @@ use Rattle.rolls.specs.declared.aside.Aside.{Aside}
 use Rattle.exchange.proofs.station_steps.take_datagram.Goals as goal
 
 -- what the station took in came
-taken : {R N : Type 0} (g : Ghosts R) (passed : N → Option (List Passed)) (now : ℕ) (old new : Station R) (was is : N) (bytes : List ℕ) (o : Outcome)
+taken : {R N : Type 0} (g : Ghosts R) (passed : N → Trace) (now : ℕ) (old new : Station R) (was is : N) (bytes : List ℕ) (o : Outcome)
     → Passes (passed was) (passed is) (came bytes ∷ []) → ¬ HasMark bytes → IsPacketTaken g bytes now old new o → IsTakenIn g passed now old new was is o
 taken g passed now old new was is bytes Nothing p m t = absurd t
 taken g passed now old new was is bytes Failed p m t = absurd t
@@ -21,7 +21,7 @@ taken g passed now old new was is bytes (Refused refusal newer) p m t = (bytes, 
 taken g passed now old new was is bytes (Heard found) p m t = absurd t
 
 -- what has the mark of recalls and rolls came, and was read
-heard_so : {S N : Type 0} (passed : N → Option (List Passed)) (now : ℕ) (s : S) (was is : N) (bytes : List ℕ) (found : Aside) → HasMark bytes
+heard_so : {S N : Type 0} (passed : N → Trace) (now : ℕ) (s : S) (was is : N) (bytes : List ℕ) (found : Aside) → HasMark bytes
     → Passes (passed was) (passed is) (came bytes ∷ []) → found ≡ aside_in bytes
     → (rest : List ℕ) × (s ≡ s) × Passes (passed was) (passed is) (came (84 ∷ 82 ∷ rest) ∷ []) × (found ≡ aside_in (84 ∷ 82 ∷ rest))
 heard_so passed now s was is bytes found m p e = (

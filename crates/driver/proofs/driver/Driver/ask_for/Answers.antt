@@ -1,7 +1,7 @@
 -- What was asked for a file is one step.
 use Rattle.std.proofs.Common.{◌≡◌, refl}
 use Rattle.command_ends.specs.declared.end.End.TheVariants.{Done}
-use Rattle.exchange.proofs.Stretches.{Passes-nil}
+use Rattle.wire.proofs.Passing.{Passes-nil}
 use Rattle.driver.specs.Calls.{call_of}
 use Rattle.driver.specs.Driving.{known, fate_of, post_of, Anyhow}
 use Rattle.driver.proofs.Driven.{always, asked_passes, nothing, handed, refused}

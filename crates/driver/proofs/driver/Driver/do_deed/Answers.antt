@@ -2,7 +2,7 @@
 use Rattle.std.proofs.Common.{refl}
 use Rattle.command_ends.specs.declared.end.End.TheVariants.{Done}
 use Rattle.exchange.specs.Events.{ended}
-use Rattle.exchange.proofs.Stretches.{Passes-nil}
+use Rattle.wire.proofs.Passing.{Passes-nil}
 use Rattle.driver.specs.Driving.{known, fate_of, post, post_of, Anyhow}
 use Rattle.driver.proofs.Driven.{moved, then_any}
 use Rattle.driver.proofs.driver.Driver.do_deed.Goals as goal

@@ -2,7 +2,7 @@
 use Rattle.std.proofs.Common.{rules, ◌≡◌, [], ◌∷◌, Ok, Err, ap}
 use Rattle.protocol.specs.Refusals.{Call, Seeking}
 use Rattle.exchange.specs.Events.{took}
-use Rattle.exchange.proofs.Stretches.{Passes-nil}
+use Rattle.wire.proofs.Passing.{Passes-nil}
 use Rattle.driver.specs.Driving.{known, fate_of, post_of}
 use Rattle.driver.specs.Todos.{IsSearching}
 use Rattle.driver.proofs.Driven.{always, handed, refused}

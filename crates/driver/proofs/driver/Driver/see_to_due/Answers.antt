@@ -1,7 +1,7 @@
 -- What was seen to is one step.
 use Rattle.std.proofs.Common.{◌≡◌, refl}
 use Rattle.protocol.specs.Refusals.{Falling_due}
-use Rattle.exchange.proofs.Stretches.{Passes-nil}
+use Rattle.wire.proofs.Passing.{Passes-nil}
 use Rattle.driver.specs.Driving.{known, fate_of, post_of, IsSeeingToDue}
 use Rattle.driver.proofs.Driven.{always, handed, refused}
 use Rattle.driver.proofs.driver.Driver.see_to_due.Goals as goal

@@ -2,7 +2,7 @@
 use Rattle.std.proofs.Common.{refl}
 use Rattle.command_ends.specs.declared.end.End.TheVariants.{Done}
 use Rattle.exchange.specs.Events.{ended}
-use Rattle.exchange.proofs.Stretches.{Passes-nil}
+use Rattle.wire.proofs.Passing.{Passes-nil}
 use Rattle.driver.specs.Driving.{known, fate_of, post_of, IsTakingIn, IsSeeingToDue, Anyhow}
 use Rattle.driver.proofs.Driven.{moved, answered, of_form}
 use Rattle.driver.proofs.driver.Driver.work.Goals as goal

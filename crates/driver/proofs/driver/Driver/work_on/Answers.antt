@@ -3,7 +3,7 @@ use Rattle.std.proofs.Common.{rules, ◌≡◌, ◌∙◌, refl}
 use Rattle.command_ends.specs.Ends.{end_of}
 use Rattle.command_ends.specs.declared.end.End.TheVariants.{Done}
 use Rattle.exchange.specs.Events.{ended}
-use Rattle.exchange.proofs.Stretches.{Passes-nil}
+use Rattle.wire.proofs.Passing.{Passes-nil}
 use Rattle.driver.specs.Driving.{known, fate_of, post_of, Anyhow}
 use Rattle.driver.proofs.Driven.{nothing, answered, then_any}
 use Rattle.driver.proofs.driver.Driver.work_on.Goals as goal
