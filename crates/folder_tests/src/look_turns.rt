@@ -1,9 +1,10 @@
 //! A look over several turns, and files whose names ask for nothing, on ample memory.
 
 use folders::{FileId, FolderFault, Found, Listing, Stamp};
-use looks::{Looking, Strays};
+use looks::{Looking, Strays, TakenIn};
 use std::alloc::Global;
 use std::collections::BTreeMap;
+use std::fmt::Write;
 
 /// A piece of a look that has taken a millisecond so far.
 #[derive(Clone, Copy)]
@@ -169,7 +170,13 @@ fn is_seen(alloc: Global, strays: &mut Strays, now: u64, inode: u64) -> bool {
     let Ok(name) = String::from_str(alloc, "story.tape") else {
         return false;
     };
-    found.insert(name, stamp_of(inode)).is_ok() && strays.see(found, now).is_ok()
+    if found.insert(name, stamp_of(inode)).is_err() {
+        return false;
+    }
+    match strays.begin(found, now) {
+        Ok(merging) => matches!(strays.go_on(merging), TakenIn::Wholly(_)),
+        Err(_) => false,
+    }
 }
 
 /// Whether it is told that the next file can't be moved; none where there is no such file.
@@ -208,4 +215,63 @@ fn wrong_event(alloc: Global, events: &[Event]) -> usize {
 #[test]
 fn a_file_of_no_number_is_moved_and_told(rt: HostRuntime) {
     assert!(rt; wrong_event(rt.alloc(), STORY) == STORY.len());
+}
+
+/// So many files whose names ask for nothing.
+fn crowd_of(alloc: Global, count: u64) -> Option<BTreeMap<String, Stamp>> {
+    let mut found = BTreeMap::new(alloc);
+    for inode in 0..count {
+        let mut name = String::new(alloc);
+        write!(name, "story {inode}").ok()?;
+        found.insert(name, stamp_of(inode)).ok()?;
+    }
+    Some(found)
+}
+
+/// In how many turns so many files are taken in that a look found at a moment, and that none of them is moved before; none where it goes on
+/// for ever, as far as is tried.
+fn turns_of(alloc: Global, strays: &mut Strays, count: u64, now: u64) -> Option<usize> {
+    let mut merging = strays.begin(crowd_of(alloc, count)?, now).ok()?;
+    for turn in 1..10 {
+        match strays.go_on(merging) {
+            TakenIn::Partly(_) if strays.find() => return None,
+            TakenIn::Partly(rest) => merging = rest,
+            TakenIn::Wholly(_) => return Some(turn),
+        }
+    }
+    None
+}
+
+/// In how many turns a crowd is taken in, and how many of it are moved, each in its turn.
+fn crowd_goes(alloc: Global, count: u64) -> Option<(usize, usize)> {
+    let mut strays = Strays::new(alloc);
+    let turns = turns_of(alloc, &mut strays, count, 100)?;
+    if strays.find() || turns_of(alloc, &mut strays, count, 600)? != turns {
+        return None;
+    }
+    for moved in 0..2_000 {
+        if !strays.find() {
+            return Some((turns, moved));
+        }
+        strays.moved();
+    }
+    None
+}
+
+/// How many files a look found, and in how many turns they are taken in.
+const CROWDS: &[(u64, usize)] = &[(0, 1), (1, 1), (512, 1), (513, 2), (1_030, 3)];
+
+/// The place of the first crowd that goes otherwise.
+fn wrong_crowd(alloc: Global) -> usize {
+    for (place, (count, turns)) in CROWDS.iter().enumerate() {
+        if crowd_goes(alloc, *count) != Some((*turns, *count as usize)) {
+            return place;
+        }
+    }
+    CROWDS.len()
+}
+
+#[test]
+fn a_crowd_is_taken_in_over_several_turns(rt: HostRuntime) {
+    assert!(rt; wrong_crowd(rt.alloc()) == CROWDS.len());
 }

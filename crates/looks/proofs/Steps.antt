@@ -1,19 +1,24 @@
 -- The steps of a look at the files whose names ask for nothing.
-use Rattle.std.proofs.Common.{◌≡◌, ℕ, List, [], ◌∷◌, map, true, false, cond, None, Some, String, sym, ap, ◌∙◌, refl, string_bytes}
+use Rattle.std.proofs.Common.{◌≡◌, ◌≤◌, ◌+◌, ◌-◌, ◌++◌, ℕ, List, [], ◌∷◌, map, drop, take, length, true, false, cond, None, Some, Option, Result, String, sym, ap, subst, ◌∙◌, refl, append_assoc, length-append, arith, string_bytes}
 use Rattle.std.specs.declared.cmp.Ordering.TheVariants.{Less, Equal, Greater}
 use Rattle.std.specs.Cmp.Lexicographic.{slice_cmp}
 use Rattle.std.specs.Ordering.{is_eq, nat_cmp}
 use Rattle.std.specs.Str.{bytes_eq}
 use Rattle.std.specs.String.{string_cmp}
 use Rattle.std.specs.Global.{Global}
+use Rattle.std.proofs.Math.Nat.{add-sub_cancel}
+use Rattle.std.proofs.lemmas.List.{drop_at, length-drop, take-append-drop, take_all}
 use Rattle.std.specs.List.{AllByRecursion}
+use Rattle.std.specs.Result.{is_ok, IsOk}
 use Rattle.std.specs.List.Sorted.{IsStrictlySortedBy}
 use Rattle.std.specs.Map.{keys_of}
 use Rattle.folders.specs.declared.stamp.Stamp.{Stamp}
+use Rattle.looks.specs.declared.sighting.Sighting.{Sighting}
 use Rattle.looks.specs.declared.sighting.Stray.{Stray}
+use Rattle.looks.specs.Merging.{fewer, MergingValue}
 use Rattle.looks.specs.Names.{is_before}
 use Rattle.std.proofs.lemmas.Map.Text.{is_eq-slice_cmp}
-use Rattle.looks.specs.Strays.{AreInOrder, first_known, first_stands, from, known_of, known_where, left_where, looked, past, starts_before}
+use Rattle.looks.specs.Strays.{AreInOrder, first_known, first_stands, from, known_of, known_where, left_where, looked, past, seen, starts_before}
 use Rattle.looks.proofs.Texts.{before_from, apart, apart_back, before_more, behind, own_apart}
 
 -- what stands before a name is none of those that are no such name: of the files from there on the same is known
@@ -161,3 +166,74 @@ pub still_past :
     → AllByRecursion (λ (e : String Global × Stamp). known_of (past (string_bytes name) rest) (string_bytes e.0) ≡ known_of known (string_bytes e.0)) es
 still_past known rest name [] l h = h
 still_past known rest name (e ∷ es) l h = (known_past (string_bytes name) (string_bytes e.0) rest l.0 ∙ h.0, still_past known rest name es l.1 h.1)
+
+-- these are the last of the files
+abbrev pub Ends : List Stray → List Stray → Type 0
+Ends rest ss = (gone : List Stray) × (gone ++ rest ≡ ss)
+
+from_ends : (name : List ℕ) (ss : List Stray) → Ends (from name ss) ss
+from_ends name [] = ([], refl)
+from_ends name (s ∷ ss) = elim (is_before (string_bytes s.name) name) as (λ b. Ends (cond b (from name ss) (s ∷ ss)) (s ∷ ss)) [
+  | true ↦ let e = from_ends name ss in (s ∷ e.0, ap (λ xs. s ∷ xs) e.1)
+  | false ↦ ([], refl)
+]
+
+past_ends : (name : List ℕ) (ss : List Stray) → Ends (past name ss) ss
+past_ends name [] = ([], refl)
+past_ends name (s ∷ ss) = elim (bytes_eq (string_bytes s.name) name) as (λ b. Ends (cond b ss (s ∷ ss)) (s ∷ ss)) [
+  | true ↦ (s ∷ [], refl)
+  | false ↦ ([], refl)
+]
+
+then_ends : (a b c : List Stray) → Ends a b → Ends b c → Ends a c
+then_ends a b c p q = (q.0 ++ p.0, append_assoc q.0 p.0 a ∙ ap (λ xs. q.0 ++ xs) p.1 ∙ q.1)
+
+-- those behind a name, of those from a place on
+pub left_ends : (name : List ℕ) (place : ℕ) (ss : List Stray) → Ends (past name (from name (drop place ss))) ss
+left_ends name place ss =
+    let low = from name (drop place ss) in
+    then_ends (past name low) low ss (past_ends name low) (then_ends low (drop place ss) ss (from_ends name (drop place ss)) (take place ss, take-append-drop place ss))
+
+-- as many are gone as the lengths tell
+pub gone_by : (rest ss : List Stray) → Ends rest ss → drop (length ss - length rest) ss ≡ rest
+gone_by rest ss e =
+    subst (λ xs. drop (length xs - length rest) xs ≡ rest) e.1
+    (drop_at e.0 rest (length (e.0 ++ rest) - length rest) (sym (rw (length-append e.0 rest) (add-sub_cancel (length e.0) (length rest)))))
+
+pub no_longer : (rest ss : List Stray) → Ends rest ss → length rest ≤ length ss
+no_longer rest ss e = subst (λ xs. length rest ≤ length xs) e.1 (omega (arith, length-append e.0 rest))
+
+-- the files from a place on, as a slice has them
+sliced : (place : ℕ) (ss : List Stray) → take (length ss - place) (drop place ss) ≡ drop place ss
+sliced place ss = take_all (length ss - place) (drop place ss) (omega (arith, length-drop place ss))
+
+-- what is left behind a name, and what is known of it, of the files from a place on
+pub left_behind :
+    (known whole rest : List Stray) (place : ℕ) (name text : List ℕ) → text ≡ name → whole ≡ known
+    → rest ≡ past text (from text (take (length whole - place) (drop place whole))) → rest ≡ past name (from name (drop place known))
+left_behind known whole rest place name text is same left = left ∙ rw (is, same) (ap (λ ss. past name (from name ss)) (sliced place known))
+
+pub known_there :
+    (known whole : List Stray) (found : Option Sighting) (place : ℕ) (name text : List ℕ) → text ≡ name → whole ≡ known → AreInOrder (drop place known)
+    → found ≡ first_known text (from text (take (length whole - place) (drop place whole))) → found ≡ known_of (drop place known) name
+known_there known whole found place name text is same order first =
+    first ∙ rw (is, same) (ap (λ ss. first_known name (from name ss)) (sliced place known)) ∙ met name (drop place known) order
+
+-- a push where there is room
+pub pushed : {E : Type 0} (r : Result Unit E) (old new : List Stray) (s : Stray) → IsOk r → new ≡ cond (is_ok r) (old ++ (s ∷ [])) old → new ≡ old ++ (s ∷ [])
+pushed r old new s ok is = is ∙ ap (λ b. cond b (old ++ (s ∷ [])) old) ok
+
+pub longer : {E : Type 0} (r : Result Unit E) (old new : ℕ) → IsOk r → new ≡ cond (is_ok r) (old + 1) old → new ≡ old + 1
+longer r old new ok is = is ∙ ap (λ b. cond b (old + 1) old) ok
+
+-- the next of what is left is put behind what is done
+pub one_fewer :
+    (known before files : List Stray) (moment : ℕ) (e : String Global × Stamp) (later : List (String Global × Stamp)) → files ≡ before ++ (seen known moment e ∷ [])
+    → (record { known = known; moment = moment; files = files ++ looked known moment later; left = length later })
+    ≡ fewer 1 (record { known = known; moment = moment; files = before ++ looked known moment (e ∷ later); left = length (e ∷ later) })
+one_fewer known before files moment e later filled =
+    let make : List Stray → ℕ → MergingValue = λ fs n. record { known = known; moment = moment; files = fs; left = n } in
+    let all : files ++ looked known moment later ≡ before ++ looked known moment (e ∷ later) =
+    ap (λ fs. fs ++ looked known moment later) filled ∙ append_assoc before (seen known moment e ∷ []) (looked known moment later) in
+    let few : length later ≡ length (e ∷ later) - 1 = omega arith in
+    ap (λ fs. make fs (length later)) all ∙ ap (make (before ++ looked known moment (e ∷ later))) few

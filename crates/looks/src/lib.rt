@@ -11,6 +11,7 @@ mod strays;
 
 pub use gathering::Seen;
 pub use looking::{Looking, MOST_NAMES};
+pub use merging::Merging;
 pub use requests::Requests;
 pub use sighting::{Sighting, Stray};
-pub use strays::Strays;
+pub use strays::{Strays, TakenIn};

@@ -1,11 +1,13 @@
 //! The files among the offers whose names ask for nothing: once they are whole, they are no offers.
 
-ghost use Rattle.std.specs.Prelude.{◌≡◌, IfOk, OnOk, OnErr, drop, option_copied, is_some};
+ghost use Rattle.std.specs.Prelude.{◌≡◌, [], IfOk, OnOk, OnErr, drop, option_copied, is_some};
 ghost use Rattle.std.specs.List.{position_from};
-ghost use Rattle.looks.specs.Strays.{first_ripe, looked, next_ripe, none_known, ripe_at, still_for, with_next};
+ghost use Rattle.looks.specs.Merging.{begun};
+ghost use Rattle.looks.specs.Strays.{first_ripe, next_ripe, none_known, ripe_at, still_for, with_next};
+ghost use Rattle.looks.specs.TakingIn.{GoesOn};
 ghost use Rattle.looks.specs.Sightings.{is_ripe, moved, put_off};
 
-use crate::merging::merge;
+use crate::merging::{Merged, Merging};
 use crate::sighting::Stray;
 use folders::{FolderFault, Stamp};
 use std::alloc::{AllocError, Global};
@@ -27,6 +29,15 @@ pub struct Strays {
     still: u64,
     /// From which file on it is left to see whether it is moved.
     next: usize,
+}
+
+/// How far it is taken in which files a look found.
+#[derive(Drop)]
+pub enum TakenIn {
+    /// Some of it is left.
+    Partly(Merging),
+    /// All of it is; these were known before.
+    Wholly(Vec<Stray>),
 }
 
 impl Model for Strays {
@@ -79,22 +90,43 @@ impl Strays {
         }
     }
 
-    /// Takes in which of them a look found, at a moment: a file that is as it was stays known, one that was changed is seen anew, and one
-    /// that is no longer found is forgotten. Those that were known before are handed out, so that they need not be let go of in the same turn.
-    /// Where there is no memory for it, all stays as it was.
-    pub fn see(
-        &mut self,
-        found: BTreeMap<String, Stamp>,
-        now: u64,
-    ) -> Result<Vec<Stray>, AllocError>
-        ensures ok { OnOk result (self.new ≡ record self.old { files = looked self.old.files now found.entries; looked = now; next = 0 }) }
-        ensures before { IfOk result (λ files. files.items ≡ self.old.files) }
+    /// Begins to take in which of them a look found, at a moment: until all of it is taken in, none of them is moved. Where there is no memory
+    /// for it, all stays as it was.
+    pub fn begin(&mut self, found: BTreeMap<String, Stamp>, now: u64) -> Result<Merging, AllocError>
+        ensures begins { IfOk result (λ m. m ≡ begun self.old.files now found.entries) }
+        ensures ok { OnOk result (self.new ≡ record self.old { files = [] }) }
         ensures err { OnErr result (self.new ≡ self.old) }
     {
-        let files = merge(self.alloc, self.files.as_slice(), found, now)?;
-        self.looked = now;
+        let known = mem::replace(&mut self.files, Vec::new(self.alloc));
+        match Merging::begin(self.alloc, known, found, now) {
+            Ok(merging) => Ok(merging),
+            Err(known) => {
+                self.files = known;
+                Err(AllocError)
+            }
+        }
+    }
+
+    /// Goes on with it, so far that no turn takes long. Once all is taken in, a file that is as it was stays known, one that was changed is seen
+    /// anew, and one that is no longer found is forgotten; those that were known before are handed out, so that they need not be let go of in
+    /// the same turn.
+    pub fn go_on(&mut self, merging: Merging) -> TakenIn
+        ensures { GoesOn merging self.old result self.new }
+    {
+        let mut merging = merging;
+        merging.go_on();
+        if !merging.is_done() {
+            return TakenIn::Partly(merging);
+        }
+        let Merged {
+            files,
+            known,
+            moment,
+        } = merging.end();
+        self.files = files;
+        self.looked = moment;
         self.next = 0;
-        Ok(mem::replace(&mut self.files, files))
+        TakenIn::Wholly(known)
     }
 
     /// Whether one of them is to be moved, from where it was left on.

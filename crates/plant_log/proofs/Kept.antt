@@ -1,5 +1,5 @@
 -- What is kept in mind of names that are passed over.
-use Rattle.std.proofs.Common.{◌≡◌, ◌⊎◌, ◌∷◌, ◌++◌, [], ℕ, Bool, true, false, List, Option, Some, None, IfSome, Result, Ok, Err, OnOk, OnErr, cond, inl, inr, refl, sym, subst, ap}
+use Rattle.std.proofs.Common.{◌≡◌, ◌⊎◌, ◌∷◌, ◌++◌, [], ℕ, Bool, true, false, List, Option, Some, Result, Ok, Err, OnOk, OnErr, cond, inl, inr, ◌∙◌, refl, subst, ap}
 use Rattle.std.specs.Prelude.{String, string_bytes}
 use Rattle.std.specs.BTreeMap.{BTreeMap, get_by_text, is_at, IsUnchanged, Updates}
 use Rattle.std.specs.Cmp.Lexicographic.{slice_cmp}
@@ -14,7 +14,7 @@ use Rattle.protocol.specs.Lists.{IsAmong}
 use Rattle.folders.specs.declared.folders.PassedOver.{PassedOver}
 use Rattle.plant_log.specs.declared.standing.Standing.{Standing}
 use Rattle.plant_log.specs.Standing.{StandsAfter}
-use Rattle.plant_log.specs.Passing.{IsKeptOf, IsKeptOfOne, KeepsOne, Remembers}
+use Rattle.plant_log.specs.Passing.{IsKeptOf, KeepsOne, Remembers}
 
 picked : (last old new : BTreeMap (String Global) Standing) (now : ℕ) (each : PassedOver) (s : Standing) (name : List ℕ) (b : Bool) → bytes_eq (string_bytes each.name) name ≡ b
     → StandsAfter (get_by_text last (string_bytes each.name)) each.fault now s → get_by_text new name ≡ cond b (Some s) (get_by_text old name)
@@ -33,10 +33,6 @@ inserted last old new now each s (Ok was) after sets same = λ name.
 inserted last old new now each s (Err e) after sets same = λ name.
     inl (ap (λ es. lookup (is_at (λ k. slice_cmp nat_cmp name (string_bytes k))) es) same)
 
-weaker : (P Q : Standing → Type 0) (r : Option Standing) → IfSome r P → ((s : Standing) → P s → Q s) → IfSome r Q
-weaker P Q None p f = tt
-weaker P Q (Some s) p f = f s p
-
 stays : (xs : List PassedOver) (x y : PassedOver) → IsAmong xs y → IsAmong (xs ++ (x ∷ [])) y
 stays [] x y p = absurd p
 stays (z ∷ zs) x y (inl is) = inl is
@@ -46,12 +42,18 @@ comes : (xs : List PassedOver) (x : PassedOver) → IsAmong (xs ++ (x ∷ [])) x
 comes [] x = inl refl
 comes (z ∷ zs) x = inr (comes zs x)
 
+-- none is
+pub none_kept : (last old : BTreeMap (String Global) Standing) (now : ℕ) → Remembers last now [] old old
+none_kept last old now = λ name. inl refl
+
 -- one more is
-pub one_more_kept : (last old new : BTreeMap (String Global) Standing) (now : ℕ) (xs : List PassedOver) (x : PassedOver) → Remembers last now xs old → KeepsOne last now x old new
-    → Remembers last now (xs ++ (x ∷ [])) new
-one_more_kept last old new now xs x kept one = λ name.
+pub one_more_kept : (last first old new : BTreeMap (String Global) Standing) (now : ℕ) (xs : List PassedOver) (x : PassedOver) → Remembers last now xs first old → KeepsOne last now x old new
+    → Remembers last now (xs ++ (x ∷ [])) first new
+one_more_kept last first old new now xs x kept one = λ name.
     elim (one name) [
-      | inl same ↦ subst (λ r. IfSome r (IsKeptOfOne last now (xs ++ (x ∷ [])) name)) (sym same)
-          (weaker (IsKeptOfOne last now xs name) (IsKeptOfOne last now (xs ++ (x ∷ [])) name) (get_by_text old name) (kept name) (λ s p. (p.0, stays xs x p.0 p.1, p.2)))
-      | inr put ↦ subst (λ r. IfSome r (IsKeptOfOne last now (xs ++ (x ∷ [])) name)) (sym put.1) (x, comes xs x, put.2)
+      | inl same ↦ elim (kept name) [
+        | inl before ↦ inl (same ∙ before)
+        | inr put ↦ inr (put.0, same ∙ put.1, (put.2.0, stays xs x put.2.0 put.2.1, put.2.2))
+      ]
+      | inr put ↦ inr (put.0, put.1, (x, comes xs x, put.2))
     ]

@@ -1,17 +1,15 @@
 -- What is passed over among the offers, and when it is told.
-use Rattle.std.specs.Prelude.{◌≡◌, ◌⊎◌, ℕ, List, Option, Some, IfSome, String, string_bytes, codes, true}
+use Rattle.std.specs.Prelude.{◌≡◌, ◌⊎◌, ℕ, List, Option, Some, String, string_bytes, codes}
 use Rattle.protocol.specs.Lists.{IsAmong}
 use Rattle.std.specs.BTreeMap.{BTreeMap, get_by_text}
 use Rattle.std.specs.Global.{Global}
 use Rattle.folders.specs.Offers.{IsLeft}
 use Rattle.folders.specs.LogNames.{shown_name}
 use Rattle.folders.specs.declared.folders.PassedOver.{PassedOver}
-use Rattle.plant_log.specs.declared.skipped.Skipped.{Skipped}
 use Rattle.plant_log.specs.declared.standing.Standing.{Standing}
-use Rattle.plant_log.specs.Words.{file_text, folders_text}
-use Rattle.plant_log.specs.Telling.{TellsEach, TellsIf}
+use Rattle.plant_log.specs.Words.{file_text}
+use Rattle.plant_log.specs.Telling.{TellsEach}
 use Rattle.plant_log.specs.Standing.{IsToldAnew, StandsAfter}
-use Rattle.plant_log.specs.Skipping.{is_skipping_told}
 
 -- it is told that this is passed over: it is not left alone, and its fault is told anew
 abbrev pub IsPassingTold : BTreeMap (String Global) Standing → ℕ → PassedOver → Type 0
@@ -24,12 +22,6 @@ passing_text each = file_text (codes "cannot read") (shown_name (string_bytes ea
 -- what of these is to be told, in turn
 abbrev pub TellsPassed : BTreeMap (String Global) Standing → ℕ → List PassedOver → Option (List ℕ) → Option (List ℕ) → Type 0
 TellsPassed last now others old new = TellsEach (IsPassingTold last now) passing_text others old new
-
--- and then how many names are not UTF-8
-abbrev pub TellsListed : BTreeMap (String Global) Standing → Skipped → ℕ → List PassedOver → ℕ → Option (List ℕ) → Option (List ℕ) → Type 0
-TellsListed last skipped now others names old new =
-    (between : Option (List ℕ)) × TellsPassed last now others old between
-    × TellsIf (is_skipping_told skipped names now ≡ true) (folders_text (codes "cannot read a name that is not UTF-8")) between new
 
 -- what is kept in mind of a name is what telling this left, which has the name
 abbrev pub IsKeptOf : BTreeMap (String Global) Standing → ℕ → List ℕ → PassedOver → Standing → Type 0
@@ -44,6 +36,7 @@ KeepsOne last now each old new = (name : List ℕ) →
 abbrev pub IsKeptOfOne : BTreeMap (String Global) Standing → ℕ → List PassedOver → List ℕ → Standing → Type 0
 IsKeptOfOne last now others name s = (each : PassedOver) × IsAmong others each × IsKeptOf last now name each s
 
--- and of no other name is anything kept
-abbrev pub Remembers : BTreeMap (String Global) Standing → ℕ → List PassedOver → BTreeMap (String Global) Standing → Type 0
-Remembers last now others kept = (name : List ℕ) → IfSome (get_by_text kept name) (IsKeptOfOne last now others name)
+-- these were kept in mind, or there was no memory for them, and what was kept of other names stays
+abbrev pub Remembers : BTreeMap (String Global) Standing → ℕ → List PassedOver → BTreeMap (String Global) Standing → BTreeMap (String Global) Standing → Type 0
+Remembers last now others old new = (name : List ℕ) →
+    (get_by_text new name ≡ get_by_text old name) ⊎ ((s : Standing) × (get_by_text new name ≡ Some s) × IsKeptOfOne last now others name s)

@@ -22,5 +22,5 @@ pub use line::FileFault;
 pub use reason::{NO_NUMBER, ReasonText};
 pub use room::MOST_KEPT;
 pub use standing::{HOUR, Standing, is_told_anew, told_after};
-pub use told::{Told, Unread};
+pub use told::Told;
 pub use writing::{tell_fault, tell_file, tell_folders, tell_news, tell_refused};

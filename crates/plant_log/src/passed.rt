@@ -12,22 +12,27 @@ use folders::{PassedOver, is_left};
 use std::alloc::Global;
 use std::collections::BTreeMap;
 use std::io::Write;
+use std::mem;
 
 /// What was passed over at the last look, and what was told last of it.
 #[derive(Drop)]
 pub(crate) struct Passed {
     alloc: Global,
     kept: BTreeMap<String, Standing>,
+    /// The same of the look whose names are being told.
+    next: BTreeMap<String, Standing>,
 }
 
 impl Passed {
     /// Nothing was, yet.
     pub(crate) fn new(alloc: Global) -> Passed
-        ensures { result.kept.entries ≡ [] }
+        ensures kept { result.kept.entries ≡ [] }
+        ensures next { result.next.entries ≡ [] }
     {
         Passed {
             alloc,
             kept: BTreeMap::new(alloc),
+            next: BTreeMap::new(alloc),
         }
     }
 
@@ -73,32 +78,41 @@ impl Passed {
     }
 
     /// Keeps in mind what was told of this last. Where there is no memory for it, it is told again at the next look.
-    fn keep(&self, each: PassedOver, now: u64, kept: &mut BTreeMap<String, Standing>)
-        ensures { KeepsOne self.now.kept now each kept.old kept.new }
+    fn keep(&mut self, each: PassedOver, now: u64)
+        ensures rest { self.new ≡ record self.old { next = self.new.next } }
+        ensures next { KeepsOne self.old.kept now each self.old.next self.new.next }
     {
         let last = self.last(each.name.as_str());
         let standing = told_after(last, each.fault, now);
-        let _ = kept.insert(each.name, standing);
+        let _ = self.next.insert(each.name, standing);
     }
 
-    /// Keeps in mind what was told of these, and of nothing else.
-    fn remember(&mut self, others: Vec<PassedOver>, now: u64)
-        ensures rest { self.new ≡ record self.old { kept = self.new.kept } }
-        ensures kept { Remembers self.old.kept now others.items self.new.kept }
+    /// Keeps in mind what was told of these.
+    fn keep_all(&mut self, others: Vec<PassedOver>, now: u64)
+        ensures rest { self.new ≡ record self.old { next = self.new.next } }
+        ensures next { Remembers self.old.kept now others.items self.old.next self.new.next }
     {
-        let mut kept = BTreeMap::new(self.alloc);
         for each in others {
-            self.keep(each, now, &mut kept);
+            self.keep(each, now);
         }
-        self.kept = kept;
     }
 
-    /// Tells of these what is to be told at a moment in milliseconds, and keeps them in mind.
+    /// Tells of these, which are some of what a look passed over, what is to be told at a moment in milliseconds, and keeps them in mind.
     pub(crate) fn see<E: Write>(&mut self, others: Vec<PassedOver>, now: u64, err: &mut E)
         ensures tells { TellsPassed self.old.kept now others.items (E.contents err.old) (E.contents err.new) }
-        ensures kept { Remembers self.old.kept now others.items self.new.kept }
+        ensures rest { self.new ≡ record self.old { next = self.new.next } }
+        ensures next { Remembers self.old.kept now others.items self.old.next self.new.next }
     {
         self.tell_all(others.as_slice(), now, err);
-        self.remember(others, now);
+        self.keep_all(others, now);
+    }
+
+    /// The look passed nothing else over: what was told of anything else is forgotten.
+    pub(crate) fn end(&mut self)
+        ensures kept { self.new.kept ≡ self.old.next }
+        ensures next { self.new.next.entries ≡ [] }
+        ensures rest { self.new ≡ record self.old { kept = self.new.kept; next = self.new.next } }
+    {
+        self.kept = mem::replace(&mut self.next, BTreeMap::new(self.alloc));
     }
 }

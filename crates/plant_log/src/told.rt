@@ -9,7 +9,7 @@ ghost use Rattle.plant_log.specs.Words.{differs_text, event_text, file_text, fol
 ghost use Rattle.plant_log.specs.Telling.{TellsIf, WasTold};
 ghost use Rattle.plant_log.specs.Standing.{IsToldAnew, Stands};
 ghost use Rattle.plant_log.specs.Skipping.{is_skipping_told, skipped_after};
-ghost use Rattle.plant_log.specs.Passing.{Remembers, TellsListed};
+ghost use Rattle.plant_log.specs.Passing.{Remembers, TellsPassed};
 ghost use Rattle.plant_log.specs.Differing.{differ_after, differ_told};
 ghost use Rattle.plant_log.specs.Stories.{IsHeard, IsTellingRefused};
 ghost use Rattle.plant_log.specs.Refusing.{TellsNoOffer};
@@ -33,15 +33,6 @@ use offers::Reason;
 use refusals::StepRefusal;
 use std::alloc::Global;
 use std::io::Write;
-
-/// What a look could not read among the offers.
-#[derive(Drop)]
-pub struct Unread {
-    /// How many names are not UTF-8.
-    pub skipped: usize,
-    /// What else was passed over.
-    pub others: Vec<PassedOver>,
-}
 
 /// What is told, and what was told last. Moments are in milliseconds.
 #[derive(Drop)]
@@ -180,16 +171,26 @@ impl Told {
         }
     }
 
-    /// The folder of offers can be read. Tells what of it can't, at a moment, where that is told anew.
-    pub fn listed<E: Write>(&mut self, unread: Unread, now: u64, err: &mut E)
-        ensures tells { TellsListed self.old.passed.kept self.old.skipped now unread.others.items unread.skipped (E.contents err.old) (E.contents err.new) }
-        ensures skipped { self.new.skipped ≡ skipped_after self.old.skipped unread.skipped now }
-        ensures kept { Remembers self.old.passed.kept now unread.others.items self.new.passed.kept }
+    /// Tells of these, which are some of what a look passed over, what is to be told at a moment.
+    pub fn passed_over<E: Write>(&mut self, others: Vec<PassedOver>, now: u64, err: &mut E)
+        ensures tells { TellsPassed self.old.passed.kept now others.items (E.contents err.old) (E.contents err.new) }
+        ensures next { Remembers self.old.passed.kept now others.items self.old.passed.next self.new.passed.next }
+        ensures rest { self.new ≡ record self.old { passed = record self.old.passed { next = self.new.passed.next } } }
+    {
+        self.passed.see(others, now, err);
+    }
+
+    /// The folder of offers can be read, and all was told that a look passed over; so many names were not UTF-8, which is told at a moment, where
+    /// that is told anew.
+    pub fn listed<E: Write>(&mut self, names: usize, now: u64, err: &mut E)
+        ensures tells { TellsIf (is_skipping_told self.old.skipped names now ≡ true) (folders_text (codes "cannot read a name that is not UTF-8")) (E.contents err.old) (E.contents err.new) }
+        ensures skipped { self.new.skipped ≡ skipped_after self.old.skipped names now }
+        ensures kept { self.new.passed.kept ≡ self.old.passed.next }
+        ensures next { self.new.passed.next.entries ≡ [] }
         ensures rest { self.new ≡ record self.old { unread = None; skipped = self.new.skipped; passed = self.new.passed } }
     {
-        let Unread { skipped, others } = unread;
-        self.passed.see(others, now, err);
-        self.skipped(skipped, now, err);
+        self.passed.end();
+        self.skipped(names, now, err);
         self.unread = None;
     }
 

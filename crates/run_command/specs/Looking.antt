@@ -1,5 +1,5 @@
 -- What a look found, put in order, and what it passed over, as it is told.
-use Rattle.std.specs.Prelude.{◌≡◌, String, map}
+use Rattle.std.specs.Prelude.{◌≡◌, String}
 use Rattle.std.specs.Global.{Global}
 use Rattle.std.specs.Map.{values_of}
 use Rattle.folders.specs.declared.fault.FolderFault.{FolderFault}
@@ -12,10 +12,10 @@ use Rattle.run_command.specs.declared.unseen.Sorted.{Sorted}
 abbrev pub passed_over : String Global × FolderFault → PassedOver
 passed_over other = record { name = other.0; fault = other.1 }
 
--- all that a look found is there, the requests in order of their places and each once, and what was passed over in order of its names
+-- all that a look found is there, the requests in order of their places and each once
 pub record Sorts (seen : Seen) (sorted : Sorted) : Type 0 where
   pub requests : sorted.requests.items ≡ values_of seen.requests
   pub rising : rising sorted.requests.items ≡ sorted.requests.items
   pub strays : sorted.strays ≡ seen.strays
-  pub others : sorted.unread.others.items ≡ map passed_over seen.others.entries
-  pub skipped : sorted.unread.skipped ≡ seen.skipped
+  pub others : sorted.others ≡ seen.others
+  pub skipped : sorted.skipped ≡ seen.skipped

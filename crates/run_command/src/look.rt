@@ -66,14 +66,14 @@ impl<'f, 'p, F: Folders> Plant<'f, 'p, F> {
         }
     }
 
-    /// The same, where it is time for a look.
+    /// The same, where it is time for a look, and all is taken in that the last one found.
     fn look_if_due<E: Write>(&mut self, now: u64, log: &mut Log<'_, E>)
         ensures folders { self.new.folders.ghost_name ≡ self.old.folders.ghost_name }
         ensures waits { self.new.papers.now.waits ≡ self.old.papers.now.waits }
         ensures texts { self.new.papers.now.texts ≡ self.old.papers.now.texts }
         ensures deals { Deals Always (F.doings self.old.folders.now) (F.doings self.new.folders.now) self.old.papers.now.waits.items self.old.papers.now.book self.new.papers.now.book }
     {
-        if self.papers.looking.is_due(now) {
+        if self.papers.unseen.is_none() && self.papers.looking.is_due(now) {
             self.look_at_offers(now, log);
         }
     }

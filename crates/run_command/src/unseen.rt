@@ -1,15 +1,14 @@
 //! What a look found, taken in a part at a time: where it is much, each part has a turn of its own, so that no turn takes long.
 
-ghost use Rattle.std.specs.Prelude.{◌≡◌, IfOk, map};
+ghost use Rattle.std.specs.Prelude.{◌≡◌, ◌++◌, IfOk, drop, map};
 ghost use Rattle.run_command.specs.Looking.{passed_over, Sorts};
 ghost use Rattle.run_command.specs.Working.{Follows};
 
 use crate::plant::Plant;
 use driver::Log;
 use folders::{FolderFault, Folders, PassedOver, Stamp};
-use looks::{Seen, Stray};
+use looks::{MOST_NAMES, Merging, Seen, Stray, TakenIn};
 use offers::Found;
-use plant_log::Unread;
 use std::alloc::{AllocError, Global};
 use std::collections::BTreeMap;
 use std::io::Write;
@@ -19,25 +18,31 @@ use std::io::Write;
 pub(crate) enum Part {
     /// All of it.
     All(Seen),
-    /// All of it, the files whose names ask for something in order of their places, and what could not be read in order of its names.
-    Sorted(Sorted),
-    /// The files; what could not be read is told.
+    /// All but some of what could not be read, of which it is told; the files whose names ask for something in order of their places.
+    Unread(Sorted),
+    /// The files.
     Files {
         requests: Vec<Found>,
         strays: BTreeMap<String, Stamp>,
     },
     /// The files whose names ask for nothing.
     Strays(BTreeMap<String, Stamp>),
+    /// Some of those.
+    Merging(Merging),
     /// Nothing; those of them that were known before are let go of.
     Gone(Vec<Stray>),
 }
 
-/// All that a look found, the files whose names ask for something in order of their places, and what could not be read in order of its names.
+/// The files that a look found, and what could not be read, as far as it is not told.
 #[derive(Drop)]
 pub(crate) struct Sorted {
+    /// The files whose names ask for something, in order of their places.
     pub(crate) requests: Vec<Found>,
     pub(crate) strays: BTreeMap<String, Stamp>,
-    pub(crate) unread: Unread,
+    /// Why something was passed over, by its name.
+    pub(crate) others: BTreeMap<String, FolderFault>,
+    /// How many names are not UTF-8.
+    pub(crate) skipped: usize,
 }
 
 /// What is left to be taken in of what a look found.
@@ -48,22 +53,8 @@ pub(crate) struct Unseen {
     pub(crate) looked: u64,
 }
 
-/// What was passed over, in order of its names.
-fn passed_over(
-    alloc: Global,
-    others: BTreeMap<String, FolderFault>,
-) -> Result<Vec<PassedOver>, AllocError>
-    ensures { IfOk result (λ list. list.items ≡ map passed_over others.entries) }
-{
-    let mut list = Vec::with_capacity(alloc, others.len())?;
-    for (name, fault) in others {
-        list.push(PassedOver { name, fault })?;
-    }
-    Ok(list)
-}
-
 /// All that a look found, in order.
-fn sort(alloc: Global, seen: Seen) -> Result<Sorted, AllocError>
+fn sort(seen: Seen) -> Result<Sorted, AllocError>
     ensures { IfOk result (Sorts seen) }
 {
     let Seen {
@@ -73,31 +64,56 @@ fn sort(alloc: Global, seen: Seen) -> Result<Sorted, AllocError>
         skipped,
     } = seen;
     let requests = requests.in_order()?;
-    let others = passed_over(alloc, others)?;
-    let unread = Unread { skipped, others };
     Ok(Sorted {
         requests,
         strays,
-        unread,
+        others,
+        skipped,
     })
 }
 
+/// The first of the names that were passed over, in order, as many as a turn of a look finds at most; they are others no longer.
+fn first_of(
+    alloc: Global,
+    others: &mut BTreeMap<String, FolderFault>,
+) -> Result<Vec<PassedOver>, AllocError>
+    ensures all { IfOk result (λ first. first.items ++ map passed_over others.new.entries ≡ map passed_over others.old.entries) }
+    ensures left { IfOk result (λ first. others.new.entries ≡ drop 512 others.old.entries) }
+{
+    let mut first = Vec::with_capacity(alloc, others.len().min(MOST_NAMES))?;
+    for _ in 0..MOST_NAMES {
+        if let Some((name, fault)) = others.pop_first() {
+            first.push(PassedOver { name, fault })?;
+        }
+    }
+    Ok(first)
+}
+
 impl<'f, 'p, F: Folders> Plant<'f, 'p, F> {
-    /// Tells what a look could not read, at its moment. The files are left.
-    fn tell_unread<E: Write>(&mut self, sorted: Sorted, looked: u64, log: &mut Log<'_, E>) -> Part
+    /// Tells some of what a look could not read, at its moment; what is left then. The files are.
+    fn tell_unread<E: Write>(
+        &mut self,
+        sorted: Sorted,
+        looked: u64,
+        log: &mut Log<'_, E>,
+    ) -> Result<Part, AllocError>
         ensures folders { self.new.folders.ghost_name ≡ self.old.folders.ghost_name }
         ensures same { self.new.folders.now ≡ self.old.folders.now }
         ensures waits { self.new.papers.now.waits ≡ self.old.papers.now.waits }
         ensures texts { self.new.papers.now.texts ≡ self.old.papers.now.texts }
         ensures book { self.new.papers.now.book ≡ self.old.papers.now.book }
     {
-        let Sorted {
-            requests,
-            strays,
-            unread,
-        } = sorted;
-        self.papers.told.listed(unread, looked, log.err);
-        Part::Files { requests, strays }
+        let mut sorted = sorted;
+        let told = &mut self.papers.told;
+        told.passed_over(first_of(self.alloc, &mut sorted.others)?, looked, log.err);
+        if !sorted.others.is_empty() {
+            return Ok(Part::Unread(sorted));
+        }
+        told.listed(sorted.skipped, looked, log.err);
+        Ok(Part::Files {
+            requests: sorted.requests,
+            strays: sorted.strays,
+        })
     }
 
     /// Takes in which files a look found whose names ask for something, in order, at its moment. Where there is no memory for it, what is known
@@ -111,6 +127,20 @@ impl<'f, 'p, F: Folders> Plant<'f, 'p, F> {
     {
         self.papers.book.see(requests, looked)?;
         Ok(())
+    }
+
+    /// Goes on to take in the files whose names ask for nothing; what is left then.
+    fn merge(&mut self, merging: Merging) -> Part
+        ensures folders { self.new.folders.ghost_name ≡ self.old.folders.ghost_name }
+        ensures same { self.new.folders.now ≡ self.old.folders.now }
+        ensures waits { self.new.papers.now.waits ≡ self.old.papers.now.waits }
+        ensures texts { self.new.papers.now.texts ≡ self.old.papers.now.texts }
+        ensures book { self.new.papers.now.book ≡ self.old.papers.now.book }
+    {
+        match self.papers.strays.go_on(merging) {
+            TakenIn::Partly(merging) => Part::Merging(merging),
+            TakenIn::Wholly(gone) => Part::Gone(gone),
+        }
     }
 
     /// Takes in a part of what a look found, at its moment; what is left then. Where there is no memory for it, what is known stays as it was.
@@ -127,16 +157,17 @@ impl<'f, 'p, F: Folders> Plant<'f, 'p, F> {
         ensures book { Follows self.old.papers.now.book self.new.papers.now.book }
     {
         match part {
-            Part::All(seen) => Ok(Some(Part::Sorted(sort(self.alloc, seen)?))),
-            Part::Sorted(sorted) => Ok(Some(self.tell_unread(sorted, looked, log))),
+            Part::All(seen) => Ok(Some(Part::Unread(sort(seen)?))),
+            Part::Unread(sorted) => Ok(Some(self.tell_unread(sorted, looked, log)?)),
             Part::Files { requests, strays } => {
                 self.see_requests(requests.as_slice(), looked)?;
                 Ok(Some(Part::Strays(strays)))
             }
             Part::Strays(strays) => {
-                let gone = self.papers.strays.see(strays, looked)?;
-                Ok(Some(Part::Gone(gone)))
+                let merging = self.papers.strays.begin(strays, looked)?;
+                Ok(Some(self.merge(merging)))
             }
+            Part::Merging(merging) => Ok(Some(self.merge(merging))),
             Part::Gone(_) => Ok(None),
         }
     }

@@ -3,7 +3,7 @@
 use ballots::{Ballot, Number};
 use folders::{FolderFault, Kind, PassedOver, Request};
 use log_terms::Loudness;
-use plant_log::{Event, Told, Trouble, Unread};
+use plant_log::{Event, Told, Trouble};
 use refusals::StepRefusal;
 use station_fixtures::ballot;
 use std::alloc::Global;
@@ -127,13 +127,13 @@ fn numbers_that_are_released(rt: HostRuntime) {
     assert!(rt; forgets(rt.alloc()) == Some(true));
 }
 
-/// What a look could not read: a fifo, and two names that are not UTF-8.
-fn unread(alloc: Global) -> Option<Unread> {
+/// What a look passed over: a fifo.
+fn a_fifo(alloc: Global) -> Option<Vec<PassedOver>> {
     let name = String::from_str(alloc, "a fifo").ok()?;
     let fault = FolderFault::NoFile;
     let mut others = Vec::new(alloc);
     others.push(PassedOver { name, fault }).ok()?;
-    Some(Unread { skipped: 2, others })
+    Some(others)
 }
 
 /// What goes on is tried at a moment: a file that can't be moved, releases that can't be written, and what a look could not read.
@@ -145,7 +145,8 @@ fn go_on(alloc: Global, log: &mut Log, fault: FolderFault, now: u64) -> Option<(
     let Log { told, err } = log;
     told.cannot_move(&Trouble { request, fault }, now, err);
     told.cannot_write(fault, now, err);
-    told.listed(unread(alloc)?, now, err);
+    told.passed_over(a_fifo(alloc)?, now, err);
+    told.listed(2, now, err);
     Some(())
 }
 
