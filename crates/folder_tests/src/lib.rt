@@ -1,4 +1,4 @@
-//! The tests of the folders of a plant, of what went out there, and of what is decided about the files among its offers.
+//! The tests of the folders of a plant, of what went out there, of what is decided about the files among its offers, and of its status.
 #![tactic(auto)]
 
 #[cfg(test)]
@@ -9,5 +9,11 @@ mod offers_shelf;
 mod offers_stories;
 #[cfg(test)]
 mod plant_folders;
+#[cfg(test)]
+mod status_health;
+#[cfg(test)]
+mod status_moments;
+#[cfg(test)]
+mod status_texts;
 #[cfg(test)]
 mod went_out;

@@ -20,17 +20,13 @@ is_same_day a b = (a.year == b.year) && ((a.month == b.month) && (a.day == b.day
 abbrev pub two : ℕ → List ℕ
 two n = decimal (n / 10) ++ decimal (n % 10)
 
--- a day, as `2026-11-26`
-abbrev pub day_text : Moment → List ℕ
-day_text m = decimal m.year ++ (codes "-" ++ (two m.month ++ (codes "-" ++ two m.day)))
-
 -- the time of a day, as `20:51:07Z`
 abbrev pub clock_text : Moment → List ℕ
 clock_text m = two m.hour ++ (codes ":" ++ (two m.minute ++ (codes ":" ++ (two m.second ++ codes "Z"))))
 
 -- a moment, as `2026-11-26T20:51:07Z`
 abbrev pub moment_text : Moment → List ℕ
-moment_text m = day_text m ++ (codes "T" ++ clock_text m)
+moment_text m = decimal m.year ++ (codes "-" ++ (two m.month ++ (codes "-" ++ (two m.day ++ (codes "T" ++ clock_text m)))))
 
 -- a moment in what was written at another: on the same day its time alone
 abbrev pub shown_text : Moment → Moment → List ℕ
@@ -41,14 +37,14 @@ abbrev pub station_text : StationId → List ℕ
 station_text s =
     codes "station " ++ (decimal s.member ++ (codes " of " ++ (decimal s.count ++ (codes " circuit " ++ (decimal s.circuit ++ (codes " layout " ++ decimal s.layout))))))
 
--- when a member was heard
+-- when a member was heard, to the end of its line
 abbrev pub heard_at_text : Moment → Option Moment → List ℕ
-heard_at_text written None = codes "not heard since the start"
-heard_at_text written (Some m) = codes "heard at " ++ shown_text written m
+heard_at_text written None = codes " not heard since the start\n"
+heard_at_text written (Some m) = codes " heard at " ++ (shown_text written m ++ codes "\n")
 
 -- the line of a member
 abbrev pub heard_text : Moment → Heard → List ℕ
-heard_text written h = codes "member " ++ (decimal h.member ++ (codes " " ++ (heard_at_text written h.at ++ codes "\n")))
+heard_text written h = codes "member " ++ (decimal h.member ++ heard_at_text written h.at)
 
 -- the line of what was released
 abbrev pub released_text : Released → List ℕ

@@ -20,20 +20,24 @@ fn ago(moment: &Moment, now: u64) -> Option<u64> {
     Some(now.saturating_sub(moment.seconds()?))
 }
 
-/// The same of the moment of writing: one that is still to come is as far from now as it is.
-fn apart(moment: &Moment, now: u64) -> Option<u64> {
-    Some(now.abs_diff(moment.seconds()?))
-}
-
-/// How long ago a member was heard, by a station that is up since a moment.
-fn heard_ago(heard: &Heard, since: &Moment, now: u64) -> Option<u64> {
-    match &heard.at {
-        Some(at) => ago(at, now),
-        None => ago(since, now),
+/// How long ago members were heard, by a station that is up since a moment; nothing where no calendar has a moment of them.
+fn all_heard(
+    alloc: Global,
+    members: &[Heard],
+    since: Moment,
+    now: u64,
+) -> Result<Option<Vec<u64>>, AllocError> {
+    let mut all = Vec::new(alloc);
+    for heard in members {
+        let Some(ago) = ago(&heard.at.unwrap_or(since), now) else {
+            return Ok(None);
+        };
+        all.push(ago)?;
     }
+    Ok(Some(all))
 }
 
-/// How long something is missing, if something is; `None` where no calendar has its moment.
+/// How long something is missing, where something is; nothing where no calendar has the moment.
 fn missing_for(missing: &Option<Missing>, now: u64) -> Option<Option<u64>> {
     match missing {
         Some(missing) => Some(Some(ago(&missing.since, now)?)),
@@ -42,27 +46,23 @@ fn missing_for(missing: &Option<Missing>, now: u64) -> Option<Option<u64>> {
 }
 
 /// How long ago things were of which a status tells, at so many seconds after 1970 began; `None` where it names a moment that no calendar
-/// has.
+/// has. When it was written is as far from now as it is, to either side.
 ///
 /// # Errors
 ///
 /// Out of memory.
 pub fn ages_of(alloc: Global, status: &Status, now: u64) -> Result<Option<Ages>, AllocError> {
-    let mut heard = Vec::with_capacity(alloc, status.members.len())?;
-    for member in status.members.as_slice() {
-        let Some(ago) = heard_ago(member, &status.since, now) else {
-            return Ok(None);
-        };
-        heard.push(ago)?;
-    }
     let (Some(written), Some(missing)) = (
-        apart(&status.written, now),
+        status.written.seconds(),
         missing_for(&status.missing, now),
     ) else {
         return Ok(None);
     };
+    let Some(heard) = all_heard(alloc, status.members.as_slice(), status.since, now)? else {
+        return Ok(None);
+    };
     Ok(Some(Ages {
-        written,
+        written: now.abs_diff(written),
         heard,
         missing,
     }))

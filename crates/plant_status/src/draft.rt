@@ -1,293 +1,174 @@
-//! What the lines of a text say that may be that of a status.
+//! What a text says that may be that of a status. The words between the numbers are passed over, and what it lacks is 0: whoever reads so
+//! compares the text that the status then has.
 
 use crate::moment::Moment;
-use crate::reading::Unread;
+use crate::numbers::{numbers_of, short, small};
 use crate::status::{Busy, Heard, Missing, Offers, Purpose, Released, Span, StationId, Status};
 use std::alloc::{AllocError, Global};
 
-/// What the lines said that were read so far.
-#[derive(Drop)]
-pub(crate) struct Draft {
-    alloc: Global,
-    written: Moment,
-    head: Option<(StationId, Moment)>,
-    members: Vec<Heard>,
-    released: Option<Released>,
-    busy: Vec<Busy>,
-    missing: Option<Missing>,
-    files: Option<(Offers, u32)>,
-}
-
-/// Puts an item behind others.
-fn keep<T: Drop>(list: &mut Vec<T>, item: T) -> Result<(), AllocError> {
-    list.push(item)?;
-    Ok(())
-}
-
-/// The last line of a text.
-pub(crate) fn last_line(text: &str) -> Option<&str> {
-    let (_, last) = text.strip_suffix('\n')?.rsplit_once('\n')?;
-    Some(last)
-}
-
-/// A time of day, as `20:51:07Z`, on the day of a moment.
-fn clock_of(text: &str, day: &Moment) -> Option<Moment> {
-    let (hour, rest) = text.strip_suffix('Z')?.split_once(':')?;
-    let (minute, second) = rest.split_once(':')?;
-    Some(Moment {
-        year: day.year,
-        month: day.month,
-        day: day.day,
-        hour: hour.parse::<u8>().ok()?,
-        minute: minute.parse::<u8>().ok()?,
-        second: second.parse::<u8>().ok()?,
-    })
-}
-
-/// The first second of a day, as `2026-11-26`.
-fn day_of(text: &str) -> Option<Moment> {
-    let (year, rest) = text.split_once('-')?;
-    let (month, day) = rest.split_once('-')?;
-    Some(Moment {
-        year: year.parse::<u16>().ok()?,
-        month: month.parse::<u8>().ok()?,
-        day: day.parse::<u8>().ok()?,
-        hour: 0,
-        minute: 0,
-        second: 0,
-    })
+/// What stands behind these words, to the end of their line; nothing where they do not stand there.
+fn behind<'t>(text: &'t str, words: &str) -> &'t str {
+    let Some((_, rest)) = text.split_once(words) else {
+        return "";
+    };
+    match rest.split_once('\n') {
+        Some((line, _)) => line,
+        None => rest,
+    }
 }
 
 /// A moment with its day, as `2026-11-26T20:51:07Z`.
-fn moment_of(text: &str) -> Option<Moment> {
-    let (day, clock) = text.split_once('T')?;
-    clock_of(clock, &day_of(day)?)
+fn moment_of(text: &str) -> Moment {
+    let [year, month, day, hour, minute, second, ..] = numbers_of(text);
+    Moment {
+        year: short(year),
+        month: small(month),
+        day: small(day),
+        hour: small(hour),
+        minute: small(minute),
+        second: small(second),
+    }
 }
 
 /// A moment in what was written at another: where no day stands, on the same one.
-fn shown_of(text: &str, written: &Moment) -> Option<Moment> {
+fn shown_of(text: &str, written: &Moment) -> Moment {
     if text.contains('T') {
-        moment_of(text)
-    } else {
-        clock_of(text, written)
+        return moment_of(text);
+    }
+    let [hour, minute, second, ..] = numbers_of(text);
+    Moment {
+        hour: small(hour),
+        minute: small(minute),
+        second: small(second),
+        ..*written
     }
 }
 
-/// The moment at which a text was written, as its last line says.
-pub(crate) fn written_of(text: &str) -> Option<Moment> {
-    let (moment, _) = last_line(text)?
-        .strip_prefix("written ")?
-        .split_once(", form ")?;
-    moment_of(moment)
+/// Which station it is.
+fn station_of(text: &str) -> StationId {
+    let [member, count, circuit, layout, ..] = numbers_of(behind(text, "station "));
+    StationId {
+        member: small(member),
+        count: small(count),
+        circuit: short(circuit),
+        layout: small(layout),
+    }
 }
 
-/// A number.
-fn number(word: &str) -> Option<u32> {
-    word.parse::<u32>().ok()
+/// How many numbers were released, and the greatest of them.
+fn released_of(text: &str) -> Released {
+    let [count, greatest, ..] = numbers_of(behind(text, "\nreleased "));
+    Released { count, greatest }
 }
 
-/// What the first line says.
-fn head_of(line: &str) -> Option<(StationId, Moment)> {
-    let (member, rest) = line.split_once(" of ")?;
-    let (count, rest) = rest.split_once(" circuit ")?;
-    let (circuit, rest) = rest.split_once(" layout ")?;
-    let (layout, since) = rest.split_once(" since ")?;
-    let station = StationId {
-        member: member.parse::<u8>().ok()?,
-        count: count.parse::<u8>().ok()?,
-        circuit: circuit.parse::<u16>().ok()?,
-        layout: layout.parse::<u8>().ok()?,
+/// What stands in the line of files: those among the offers, and how many releases wait to be written.
+fn files_of(text: &str) -> (Offers, u32) {
+    let [waiting, lost, refused, unwritten, ..] = numbers_of(behind(text, "\noffers "));
+    let offers = Offers {
+        waiting,
+        lost,
+        refused,
     };
-    Some((station, moment_of(since)?))
+    (offers, unwritten)
 }
 
 /// What the line of a member says.
-fn heard_of(line: &str, written: &Moment) -> Option<Heard> {
-    let (member, told) = line.split_once(' ')?;
-    let at = match told.strip_prefix("heard at ") {
-        Some(shown) => Some(shown_of(shown, written)?),
+fn heard_of(line: &str, written: &Moment) -> Heard {
+    let [member, ..] = numbers_of(line);
+    let at = match line.split_once(" heard at ") {
+        Some((_, shown)) => Some(shown_of(shown, written)),
         None => None,
     };
-    Some(Heard {
-        member: member.parse::<u8>().ok()?,
+    Heard {
+        member: small(member),
         at,
-    })
-}
-
-/// What the line of what was released says.
-fn released_of(line: &str) -> Option<Released> {
-    match line.split_once(", the greatest ") {
-        Some((count, greatest)) => Some(Released {
-            count: number(count)?,
-            greatest: number(greatest)?,
-        }),
-        None => Some(Released {
-            count: 0,
-            greatest: 0,
-        }),
     }
 }
 
-/// What a ballot is opened for.
-fn purpose_of(word: &str) -> Option<Purpose> {
-    match word {
-        "seek" => Some(Purpose::Seek),
-        "offer" => Some(Purpose::Offer),
-        _ => None,
+/// What the lines of members say.
+fn members_of(alloc: Global, text: &str, written: &Moment) -> Result<Vec<Heard>, AllocError> {
+    let mut members = Vec::new(alloc);
+    for line in text.split('\n') {
+        if line.starts_with("member ") {
+            members.push(heard_of(line, written))?;
+        }
     }
+    Ok(members)
 }
 
 /// A number under way, as `13 seek ballot 4.2`.
-fn busy_of(text: &str) -> Option<Busy> {
-    let (first, rest) = text.split_once(' ')?;
-    let (purpose, ballot) = rest.split_once(" ballot ")?;
-    let (round, owner) = ballot.split_once('.')?;
-    Some(Busy {
-        number: number(first)?,
-        purpose: purpose_of(purpose)?,
-        round: number(round)?,
-        owner: owner.parse::<u8>().ok()?,
-    })
+fn busy_of(text: &str) -> Busy {
+    let [number, round, owner, ..] = numbers_of(text);
+    let purpose = if text.contains("seek") {
+        Purpose::Seek
+    } else {
+        Purpose::Offer
+    };
+    Busy {
+        number,
+        purpose,
+        round,
+        owner: small(owner),
+    }
+}
+
+/// The numbers under way, a comma between two. Each has a ballot, with a point; `nothing` has none.
+fn all_busy_of(alloc: Global, line: &str) -> Result<Vec<Busy>, AllocError> {
+    let mut all = Vec::new(alloc);
+    for told in line.split(',') {
+        if told.contains('.') {
+            all.push(busy_of(told))?;
+        }
+    }
+    Ok(all)
 }
 
 /// A range, as `44-56`; of one number, as `42`.
-fn span_of(text: &str) -> Option<Span> {
-    match text.split_once('-') {
-        Some((first, last)) => Some(Span {
-            first: number(first)?,
-            last: number(last)?,
-        }),
-        None => {
-            let first = number(text)?;
-            Some(Span { first, last: first })
-        }
-    }
+fn span_of(word: &str) -> Span {
+    let [first, second, ..] = numbers_of(word);
+    let last = if word.contains('-') { second } else { first };
+    Span { first, last }
 }
 
-/// What the line of files says.
-fn files_of(line: &str) -> Option<(Offers, u32)> {
-    let (waiting, rest) = line.split_once(" waiting, ")?;
-    let (lost, rest) = rest.split_once(" lost, ")?;
-    let (refused, rest) = rest.split_once(" refused; releases ")?;
-    let unwritten = rest.strip_suffix(" waiting to be written")?;
-    let offers = Offers {
-        waiting: number(waiting)?,
-        lost: number(lost)?,
-        refused: number(refused)?,
+/// Ranges, a space between two.
+fn spans_of(alloc: Global, told: &str) -> Result<Vec<Span>, AllocError> {
+    let mut spans = Vec::new(alloc);
+    for word in told.split(' ') {
+        spans.push(span_of(word))?;
+    }
+    Ok(spans)
+}
+
+/// What the line of what is missing says, behind its first word.
+fn missing_of(alloc: Global, line: &str, written: &Moment) -> Result<Option<Missing>, AllocError> {
+    let Some((told, since)) = line.split_once(" since ") else {
+        return Ok(None);
     };
-    Some((offers, number(unwritten)?))
+    let spans = told.strip_suffix(" ..").unwrap_or(told);
+    Ok(Some(Missing {
+        spans: spans_of(alloc, spans)?,
+        more: told.ends_with(" .."),
+        since: shown_of(since, written),
+    }))
 }
 
-impl Draft {
-    /// No line was read yet of what was written at a moment.
-    pub(crate) fn new(alloc: Global, written: Moment) -> Draft {
-        Draft {
-            alloc,
-            written,
-            head: None,
-            members: Vec::new(alloc),
-            released: None,
-            busy: Vec::new(alloc),
-            missing: None,
-            files: None,
-        }
-    }
-
-    /// Takes in what stands behind `member `.
-    fn take_member(&mut self, line: &str) -> Result<(), Unread> {
-        match heard_of(line, &self.written) {
-            Some(heard) => Ok(keep(&mut self.members, heard)?),
-            None => Err(Unread::NoStatus),
-        }
-    }
-
-    /// Takes in what stands behind `under way `.
-    fn take_busy(&mut self, line: &str) -> Result<(), Unread> {
-        if line == "nothing" {
-            return Ok(());
-        }
-        for part in line.split(", ") {
-            match busy_of(part) {
-                Some(busy) => keep(&mut self.busy, busy)?,
-                None => return Err(Unread::NoStatus),
-            }
-        }
-        Ok(())
-    }
-
-    /// The ranges that stand behind `missing `.
-    fn spans_of(&self, text: &str) -> Result<Vec<Span>, Unread> {
-        let mut spans = Vec::new(self.alloc);
-        for part in text.split(' ') {
-            match span_of(part) {
-                Some(span) => keep(&mut spans, span)?,
-                None => return Err(Unread::NoStatus),
-            }
-        }
-        Ok(spans)
-    }
-
-    /// Takes in what stands behind `missing `.
-    fn take_missing(&mut self, line: &str) -> Result<(), Unread> {
-        let Some((told, since)) = line.split_once(" since ") else {
-            return Ok(());
-        };
-        let Some(since) = shown_of(since, &self.written) else {
-            return Err(Unread::NoStatus);
-        };
-        let (spans, more) = match told.strip_suffix(" ..") {
-            Some(spans) => (spans, true),
-            None => (told, false),
-        };
-        let spans = self.spans_of(spans)?;
-        self.missing = Some(Missing { spans, more, since });
-        Ok(())
-    }
-
-    /// Takes in a line. Whether it stands where it should is not looked at.
-    pub(crate) fn take(&mut self, line: &str) -> Result<(), Unread> {
-        if let Some(rest) = line.strip_prefix("member ") {
-            self.take_member(rest)
-        } else if let Some(rest) = line.strip_prefix("under way ") {
-            self.take_busy(rest)
-        } else if let Some(rest) = line.strip_prefix("missing ") {
-            self.take_missing(rest)
-        } else {
-            self.take_one(line);
-            Ok(())
-        }
-    }
-
-    /// The same of a line that stands once, and takes no memory.
-    fn take_one(&mut self, line: &str) {
-        if let Some(rest) = line.strip_prefix("station ") {
-            self.head = head_of(rest);
-        } else if let Some(rest) = line.strip_prefix("released ") {
-            self.released = released_of(rest);
-        } else if let Some(rest) = line.strip_prefix("offers ") {
-            self.files = files_of(rest);
-        }
-    }
-
-    /// The status of which the lines told.
-    pub(crate) fn finish(self) -> Result<Status, Unread> {
-        let (Some((station, since)), Some(released), Some((offers, unwritten))) = (
-            self.head,
-            self.released,
-            self.files,
-        ) else {
-            return Err(Unread::NoStatus);
-        };
-        Ok(Status {
-            station,
-            since,
-            members: self.members,
-            released,
-            busy: self.busy,
-            missing: self.missing,
-            offers,
-            unwritten,
-            written: self.written,
-        })
-    }
+/// The status of which a text may tell.
+pub(crate) fn drafted(alloc: Global, text: &str) -> Result<Status, AllocError> {
+    let written = moment_of(behind(text, "\nwritten "));
+    let since = moment_of(behind(text, " since "));
+    let (offers, unwritten) = files_of(text);
+    let members = members_of(alloc, text, &written)?;
+    let busy = all_busy_of(alloc, behind(text, "\nunder way "))?;
+    let missing = missing_of(alloc, behind(text, "\nmissing "), &written)?;
+    Ok(Status {
+        station: station_of(text),
+        since,
+        members,
+        released: released_of(text),
+        busy,
+        missing,
+        offers,
+        unwritten,
+        written,
+    })
 }

@@ -18,9 +18,9 @@ pub struct Moment {
     pub second: u8,
 }
 
-/// A number, where it is not negative and fits.
-fn small(number: i8) -> Option<u8> {
-    u8::try_from(number).ok()
+/// A number of a calendar or a clock; one that is past them all where it is past an `i8`.
+fn signed(number: u8) -> i8 {
+    i8::try_from(number).unwrap_or(i8::MAX)
 }
 
 impl Moment {
@@ -28,25 +28,26 @@ impl Moment {
     pub fn at(seconds: u64) -> Option<Moment> {
         let seconds = i64::try_from(seconds).ok()?;
         let shown = Offset::UTC.to_datetime(Timestamp::from_second(seconds).ok()?);
+        // None of them is negative: 1970 was before.
         Some(Moment {
-            year: u16::try_from(shown.year()).ok()?,
-            month: small(shown.month())?,
-            day: small(shown.day())?,
-            hour: small(shown.hour())?,
-            minute: small(shown.minute())?,
-            second: small(shown.second())?,
+            year: shown.year().unsigned_abs(),
+            month: shown.month().unsigned_abs(),
+            day: shown.day().unsigned_abs(),
+            hour: shown.hour().unsigned_abs(),
+            minute: shown.minute().unsigned_abs(),
+            second: shown.second().unsigned_abs(),
         })
     }
 
     /// How many seconds after 1970 began it is; nothing where no calendar has it.
     pub fn seconds(&self) -> Option<u64> {
         let shown = DateTime::new(
-            i16::try_from(self.year).ok()?,
-            i8::try_from(self.month).ok()?,
-            i8::try_from(self.day).ok()?,
-            i8::try_from(self.hour).ok()?,
-            i8::try_from(self.minute).ok()?,
-            i8::try_from(self.second).ok()?,
+            i16::try_from(self.year).unwrap_or(i16::MAX),
+            signed(self.month),
+            signed(self.day),
+            signed(self.hour),
+            signed(self.minute),
+            signed(self.second),
             0,
         )
         .ok()?;

@@ -3,13 +3,13 @@
 ghost use Rattle.std.specs.Prelude.{◌≡◌, IfOk};
 ghost use Rattle.plant_status.specs.Texts.{status_text};
 
-use crate::draft::{Draft, last_line, written_of};
+use crate::draft::drafted;
 use crate::status::Status;
 use crate::writing::text_of;
 use std::alloc::{AllocError, Global};
 
 /// Why a text is read as no status.
-#[derive(Clone, Copy, PartialEq, Eq)]
+#[derive(Clone, Copy)]
 pub enum Unread {
     OutOfMemory,
     /// Its last line says that it is of a later form.
@@ -24,30 +24,14 @@ impl From<AllocError> for Unread {
     }
 }
 
-/// Whether the last line of a text says that it is of a later form.
-fn is_later(text: &str) -> bool {
-    match last_line(text) {
-        Some(line) => match line.rsplit_once(", form ") {
-            Some((_, form)) => matches!(form.parse::<u32>(), Ok(form) if form > 1),
-            None => false,
-        },
-        None => false,
-    }
+/// The form of which the last line of a text says that it is, if it says so. Another line stands before that.
+fn form_of(text: &str) -> Option<u32> {
+    let (_, last) = text.strip_suffix('\n')?.rsplit_once('\n')?;
+    let (_, form) = last.rsplit_once(", form ")?;
+    form.parse::<u32>().ok()
 }
 
-/// What the lines of a text say, where each is a line of a status.
-fn drafted(alloc: Global, text: &str) -> Result<Status, Unread> {
-    let Some(written) = written_of(text) else {
-        return Err(Unread::NoStatus);
-    };
-    let mut draft = Draft::new(alloc, written);
-    for line in text.lines() {
-        draft.take(line)?;
-    }
-    draft.finish()
-}
-
-/// The status that has this text. It is read line by line, and its own text is compared: so nothing is read that was not written so.
+/// The status that has this text. It is drafted from the numbers of the text, and its own text is compared: so nothing is read that was not written so.
 ///
 /// # Errors
 ///
@@ -55,7 +39,7 @@ fn drafted(alloc: Global, text: &str) -> Result<Status, Unread> {
 pub fn read(alloc: Global, text: &str) -> Result<Status, Unread>
     ensures { IfOk result (λ s. text.now ≡ status_text s) }
 {
-    if is_later(text) {
+    if form_of(text).unwrap_or(1) > 1 {
         return Err(Unread::Later);
     }
     let status = drafted(alloc, text)?;

@@ -1,11 +1,11 @@
 //! The text of a status.
 
 ghost use Rattle.std.specs.Prelude.{◌≡◌, ◌++◌, IfOk, OnOk, string_bytes, flat_map};
-ghost use Rattle.plant_status.specs.Texts.{all_busy, busy_line, end_text, head_text, heard_text, missing_line, missing_text, more_text, next_busy, offers_text, released_text, span_text, status_text};
+ghost use Rattle.plant_status.specs.Texts.{busy_line, busy_text, end_text, head_text, heard_text, missing_line, next_busy, offers_text, released_text, span_text, status_text};
 
 use crate::moment::Moment;
-use crate::status::{Busy, Heard, Missing, Offers, Span, Status};
-use crate::words::{HeardLine, ShownText};
+use crate::status::{Busy, Heard, Missing, Released, Span, Status};
+use crate::words::ShownText;
 use std::alloc::{AllocError, Global};
 
 /// Puts the first line behind a text.
@@ -19,11 +19,15 @@ fn push_head(text: &mut String, status: &Status) -> Result<(), AllocError>
 fn push_heard(text: &mut String, heard: &Heard, written: &Moment) -> Result<(), AllocError>
     ensures { OnOk result (string_bytes text.new ≡ string_bytes text.old ++ heard_text written.now heard.now) }
 {
-    let line = HeardLine {
-        written: *written,
-        heard: *heard,
-    };
-    write!(text, "{line}")
+    let (member, written) = (heard.member, *written);
+    match heard.at {
+        None => writeln!(text, "member {member} not heard since the start"),
+        Some(moment) => writeln!(
+            text,
+            "member {member} heard at {}",
+            ShownText { written, moment }
+        ),
+    }
 }
 
 /// Puts the lines of members behind a text.
@@ -36,11 +40,33 @@ fn push_members(text: &mut String, members: &[Heard], written: &Moment) -> Resul
     Ok(())
 }
 
-/// Puts a number under way behind others.
-fn push_next(text: &mut String, busy: &Busy) -> Result<(), AllocError>
-    ensures { OnOk result (string_bytes text.new ≡ string_bytes text.old ++ next_busy busy.now) }
+/// Puts the line of what was released behind a text.
+fn push_released(text: &mut String, released: &Released) -> Result<(), AllocError>
+    ensures { OnOk result (string_bytes text.new ≡ string_bytes text.old ++ released_text released.now) }
 {
-    write!(text, ", {busy}")
+    if released.count == 0 {
+        text.push_str("released nothing\n")
+    } else {
+        writeln!(
+            text,
+            "released {}, the greatest {}",
+            released.count, released.greatest
+        )
+    }
+}
+
+/// Puts a number under way behind a text, and behind what stands before it.
+fn push_one(text: &mut String, before: &str, busy: &Busy) -> Result<(), AllocError>
+    ensures { OnOk result (string_bytes text.new ≡ string_bytes text.old ++ (before.now ++ busy_text busy.now)) }
+{
+    write!(
+        text,
+        "{before}{} {} ballot {}.{}",
+        busy.number,
+        busy.purpose.word(),
+        busy.round,
+        busy.owner
+    )
 }
 
 /// Puts the numbers under way behind the first of them.
@@ -48,38 +74,32 @@ fn push_more(text: &mut String, busy: &[Busy]) -> Result<(), AllocError>
     ensures { OnOk result (string_bytes text.new ≡ string_bytes text.old ++ flat_map next_busy busy.now) }
 {
     for busy in busy {
-        push_next(text, busy)?;
+        push_one(text, ", ", busy)?;
     }
     Ok(())
-}
-
-/// Puts the numbers under way behind a text.
-fn push_all(text: &mut String, busy: &[Busy]) -> Result<(), AllocError>
-    ensures { OnOk result (string_bytes text.new ≡ string_bytes text.old ++ all_busy busy.now) }
-{
-    match busy.split_first() {
-        None => write!(text, "nothing"),
-        Some((first, rest)) => {
-            write!(text, "{first}")?;
-            push_more(text, rest)
-        }
-    }
 }
 
 /// Puts the line of what is under way behind a text.
 fn push_busy(text: &mut String, busy: &[Busy]) -> Result<(), AllocError>
     ensures { OnOk result (string_bytes text.new ≡ string_bytes text.old ++ busy_line busy.now) }
 {
-    write!(text, "under way ")?;
-    push_all(text, busy)?;
-    writeln!(text)
+    let Some((first, rest)) = busy.split_first() else {
+        return text.push_str("under way nothing\n");
+    };
+    push_one(text, "under way ", first)?;
+    push_more(text, rest)?;
+    text.push_str("\n")
 }
 
 /// Puts a range behind a text.
 fn push_span(text: &mut String, span: &Span) -> Result<(), AllocError>
     ensures { OnOk result (string_bytes text.new ≡ string_bytes text.old ++ span_text span.now) }
 {
-    write!(text, "{span}")
+    if span.first == span.last {
+        write!(text, " {}", span.first)
+    } else {
+        write!(text, " {}-{}", span.first, span.last)
+    }
 }
 
 /// Puts ranges behind a text.
@@ -92,54 +112,36 @@ fn push_spans(text: &mut String, spans: &[Span]) -> Result<(), AllocError>
     Ok(())
 }
 
-/// Puts behind a text that there are more ranges, where there are.
-fn push_mark(text: &mut String, more: bool) -> Result<(), AllocError>
-    ensures { OnOk result (string_bytes text.new ≡ string_bytes text.old ++ more_text more) }
-{
-    if more { text.push_str(" ..") } else { Ok(()) }
-}
-
-/// Puts what is missing behind a text, and since when something is.
-fn push_missing(
-    text: &mut String,
-    missing: &Option<Missing>,
-    written: &Moment,
-) -> Result<(), AllocError>
-    ensures { OnOk result (string_bytes text.new ≡ string_bytes text.old ++ missing_text written.now missing.now) }
-{
-    let Some(missing) = missing else {
-        return text.push_str(" nothing");
-    };
-    push_spans(text, missing.spans.as_slice())?;
-    push_mark(text, missing.more)?;
-    let since = ShownText {
-        written: *written,
-        moment: missing.since,
-    };
-    write!(text, " since {since}")
-}
-
 /// Puts the line of what is missing behind a text.
-fn push_missing_line(
+fn push_missing(
     text: &mut String,
     missing: &Option<Missing>,
     written: &Moment,
 ) -> Result<(), AllocError>
     ensures { OnOk result (string_bytes text.new ≡ string_bytes text.old ++ missing_line written.now missing.now) }
 {
+    let Some(missing) = missing else {
+        return text.push_str("missing nothing\n");
+    };
     text.push_str("missing")?;
-    push_missing(text, missing, written)?;
-    writeln!(text)
+    push_spans(text, missing.spans.as_slice())?;
+    let mark = if missing.more { " .." } else { "" };
+    let since = ShownText {
+        written: *written,
+        moment: missing.since,
+    };
+    writeln!(text, "{mark} since {since}")
 }
 
 /// Puts the line of files behind a text.
-fn push_offers(text: &mut String, offers: &Offers, unwritten: u32) -> Result<(), AllocError>
-    ensures { OnOk result (string_bytes text.new ≡ string_bytes text.old ++ offers_text offers.now unwritten) }
+fn push_offers(text: &mut String, status: &Status) -> Result<(), AllocError>
+    ensures { OnOk result (string_bytes text.new ≡ string_bytes text.old ++ offers_text status.now.offers status.now.unwritten) }
 {
+    let offers = status.offers;
     writeln!(
         text,
         "offers {} waiting, {} lost, {} refused; releases {} waiting to be written",
-        offers.waiting, offers.lost, offers.refused, unwritten
+        offers.waiting, offers.lost, offers.refused, status.unwritten
     )
 }
 
@@ -148,6 +150,20 @@ fn push_end(text: &mut String, written: &Moment) -> Result<(), AllocError>
     ensures { OnOk result (string_bytes text.new ≡ string_bytes text.old ++ end_text written.now) }
 {
     writeln!(text, "written {written}, form 1")
+}
+
+/// Puts the lines of a status behind a text.
+fn push_lines(text: &mut String, status: &Status) -> Result<(), AllocError>
+    ensures { OnOk result (string_bytes text.new ≡ string_bytes text.old ++ status_text status.now) }
+{
+    push_head(text, status)?;
+    push_members(text, status.members.as_slice(), &status.written)?;
+    push_released(text, &status.released)?;
+    push_busy(text, status.busy.as_slice())?;
+    push_missing(text, &status.missing, &status.written)?;
+    push_offers(text, status)?;
+    push_end(text, &status.written)?;
+    Ok(())
 }
 
 /// The text of a status.
@@ -159,12 +175,6 @@ pub fn text_of(alloc: Global, status: &Status) -> Result<String, AllocError>
     ensures { IfOk result (λ t. string_bytes t ≡ status_text status.now) }
 {
     let mut text = String::new(alloc);
-    push_head(&mut text, status)?;
-    push_members(&mut text, status.members.as_slice(), &status.written)?;
-    write!(text, "{}", status.released)?;
-    push_busy(&mut text, status.busy.as_slice())?;
-    push_missing_line(&mut text, &status.missing, &status.written)?;
-    push_offers(&mut text, &status.offers, status.unwritten)?;
-    push_end(&mut text, &status.written)?;
+    push_lines(&mut text, status)?;
     Ok(text)
 }

@@ -10,7 +10,7 @@ use command_ends::Fault;
 use driver::{Call, Chance, Declined, Denied, Desk, Heard, Log, Sink, Step, Tasks, Todo};
 use folders::{Folders, Request};
 use plant_files::call_for;
-use status_keeping::StatusFile;
+use plant_status::StatusFile;
 use std::io::Write;
 
 /// The plant of a station, as its driver works with it.

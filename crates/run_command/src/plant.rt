@@ -18,9 +18,8 @@ use pace::Deeds;
 use plant_care::Care;
 use plant_files::is_of_offer;
 use plant_log::Told;
-use plant_status::StationId;
+use plant_status::{Keeper, StationId};
 use station::StepRefusal;
-use status_keeping::Keeper;
 use std::alloc::{AllocError, Global};
 use std::io::Write;
 

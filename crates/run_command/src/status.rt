@@ -11,9 +11,8 @@ use gone_out::Range;
 use node_core::Note;
 use plant_care::{Care, Survey};
 use plant_log::tell_fault;
-use plant_status::{Released, Span, text_of};
+use plant_status::{Counts, Keeper, Released, Span, StatusFile, text_of};
 use rolls::Aside;
-use status_keeping::{Counts, Keeper, StatusFile};
 use std::alloc::{AllocError, Global};
 use std::io::Write;
 

@@ -12,7 +12,7 @@ use run_command::{Terms, run_station};
 use saved_rows::MemoryRows;
 use station::Station;
 use station_fixtures::{rows_with, rows_with_vote, station_over};
-use status_keeping::NoStatus;
+use plant_status::NoStatus;
 use std::alloc::Global;
 use std::io::Write;
 use tape_frames::Version;

@@ -1,8 +1,7 @@
 //! The status file of a plant, on the machine that the program runs on.
 
 use folders::FolderFault;
-use jiff::Timestamp;
-use status_keeping::StatusFile;
+use plant_status::{StatusFile, seconds_now};
 use std::alloc::Global;
 use std::fs;
 use std::fs::File;
@@ -33,8 +32,7 @@ fn replace(rt: &HostRuntime, alloc: Global, path: &str, text: &str) -> Result<()
 
 impl<'r> StatusFile for HostStatus<'r> {
     fn seconds(&self) -> Option<u64> {
-        let now = Timestamp::now(self.rt).ok()?;
-        u64::try_from(now.as_second()).ok()
+        seconds_now(self.rt)
     }
 
     fn replace(&mut self, alloc: Global, text: &str) -> Result<(), FolderFault> {

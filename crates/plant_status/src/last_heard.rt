@@ -1,7 +1,7 @@
-//! When each other member was heard.
+//! When each other member was heard, as it is kept in mind.
 
-ghost use Rattle.std.specs.Prelude.{◌≡◌, ◌||◌, not, is_some};
-ghost use Rattle.status_keeping.specs.Timing.{is_silent};
+ghost use Rattle.std.specs.Prelude.{◌≡◌};
+ghost use Rattle.plant_status.specs.Timing.{is_past, is_silent};
 
 use ballots::Member;
 use folders::has_passed;
@@ -29,23 +29,31 @@ pub(crate) fn others(alloc: Global, own: u8, count: u8) -> Result<Vec<LastHeard>
     Ok(others)
 }
 
-/// Whether a member that was heard last at a moment, if it was, is silent for 10 seconds at another.
-fn is_silent(at: Option<u64>, now: u64) -> bool
-    ensures { result ≡ is_silent at now }
+/// Whether so long passed since a moment, if there was one.
+pub(crate) fn is_past(at: Option<u64>, span: u64, now: u64) -> bool
+    ensures { result ≡ is_past at span now }
 {
     match at {
-        Some(at) => has_passed(at, SILENT, now),
+        Some(at) => has_passed(at, span, now),
         None => true,
     }
 }
 
+/// Whether a member that was heard last at a moment, if it was, is silent for 10 seconds at another.
+fn is_silent(at: Option<u64>, now: u64) -> bool
+    ensures { result ≡ is_silent at now }
+{
+    is_past(at, SILENT, now)
+}
+
 /// A member is heard at a moment; whether it was silent before.
 pub(crate) fn hear(others: &mut [LastHeard], member: Member, now: u64) -> bool {
+    let member = member.get();
     let mut is_news = false;
-    for place in 0..others.len() {
-        if others[place].member == member.get() {
-            is_news = is_silent(others[place].at, now);
-            others[place].at = Some(now);
+    for other in others {
+        if other.member == member {
+            is_news = is_silent(other.at, now);
+            other.at = Some(now);
         }
     }
     is_news

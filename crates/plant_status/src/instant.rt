@@ -1,7 +1,8 @@
 //! The moments of a status, as a calendar tells them.
 
-use crate::heard::LastHeard;
-use plant_status::{Heard, Moment};
+use crate::last_heard::LastHeard;
+use crate::moment::Moment;
+use crate::status::Heard;
 use std::alloc::{AllocError, Global};
 
 /// A moment of the station, in milliseconds, beside how many seconds ago 1970 began.

@@ -1,14 +1,14 @@
 //! What is kept in mind for a status.
 
 ghost use Rattle.std.specs.Prelude.{◌≡◌, Some, None, true, false};
-ghost use Rattle.status_keeping.specs.Timing.{is_due, is_past, is_told, span_of};
+ghost use Rattle.plant_status.specs.Timing.{is_due, is_past, is_told, span_of};
 
-use crate::busy::UnderWay;
-use crate::heard::{LastHeard, hear, others};
-use crate::telling::Instant;
+use crate::instant::Instant;
+use crate::last_heard::{LastHeard, hear, is_past, others};
+use crate::moment::Moment;
+use crate::status::{Busy, Heard, Missing, Offers, Released, Span, StationId, Status};
+use crate::under_way::UnderWay;
 use ballots::{Ballot, Member, Number};
-use folders::has_passed;
-use plant_status::{Missing, Offers, Released, Span, StationId, Status};
 use std::alloc::{AllocError, Global};
 
 /// How long a status stands where something changed, in milliseconds.
@@ -49,16 +49,6 @@ pub struct Keeper {
     written: Option<u64>,
     /// When it was told last that it can't be written.
     told: Option<u64>,
-}
-
-/// Whether so long passed since a moment, if there was one.
-fn is_past(at: Option<u64>, span: u64, now: u64) -> bool
-    ensures { result ≡ is_past at span now }
-{
-    match at {
-        Some(at) => has_passed(at, span, now),
-        None => true,
-    }
 }
 
 impl Keeper {
@@ -161,14 +151,23 @@ impl Keeper {
 
     /// What is missing of which this is counted, if something is.
     fn missing(&self, spans: Vec<Span>, more: bool, instant: &Instant) -> Option<Missing> {
-        let Some((_, since)) = self.witness else {
-            return None;
-        };
-        if spans.is_empty() {
-            return None;
+        match self.missing_since(instant) {
+            Some(since) if !spans.is_empty() => Some(Missing { spans, more, since }),
+            _ => None,
         }
-        let since = instant.moment(since)?;
-        Some(Missing { spans, more, since })
+    }
+
+    /// Since when the number is missing by which something is known to be.
+    fn missing_since(&self, instant: &Instant) -> Option<Moment> {
+        let (_, since) = self.witness?;
+        instant.moment(since)
+    }
+
+    /// When the others were heard, and the numbers under way.
+    fn lists(&self, instant: &Instant) -> Result<(Vec<Heard>, Vec<Busy>), AllocError> {
+        let heard = instant.all_heard(self.alloc, self.others.as_slice())?;
+        let busy = self.under_way.list(self.alloc)?;
+        Ok((heard, busy))
     }
 
     /// The status at a moment, so many seconds after 1970 began; nothing where no calendar has the moment. From then on it is written.
@@ -182,31 +181,26 @@ impl Keeper {
         now: u64,
         seconds: u64,
     ) -> Result<Option<Status>, AllocError> {
+        let instant = Instant { now, seconds };
+        let since = self.since.unwrap_or(now);
+        self.since = Some(since);
+        let (Some(since), Some(written)) = (instant.moment(since), instant.moment(now)) else {
+            return Ok(None);
+        };
+        let (members, busy) = self.lists(&instant)?;
         let Counts {
             released,
             missing,
             more,
             unwritten,
         } = counts;
-        let instant = Instant { now, seconds };
-        let since = match self.since {
-            Some(since) => since,
-            None => now,
-        };
-        self.since = Some(since);
-        let members = instant.all_heard(self.alloc, self.others.as_slice())?;
-        let busy = self.under_way.list(self.alloc)?;
-        let missing = self.missing(missing, more, &instant);
-        let (Some(since), Some(written)) = (instant.moment(since), instant.moment(now)) else {
-            return Ok(None);
-        };
         Ok(Some(Status {
             station: self.station,
             since,
             members,
             released,
             busy,
-            missing,
+            missing: self.missing(missing, more, &instant),
             offers: self.offers,
             unwritten,
             written,

@@ -1,6 +1,6 @@
 -- When a status is written, and when it is told that it can't be.
 use Rattle.std.specs.Prelude.{ℕ, ◌+◌, Bool, true, nat_le, Option, Some, None, if◌then◌else◌}
-use Rattle.status_keeping.specs.declared.keeper.Keeper.{Keeper}
+use Rattle.plant_status.specs.declared.keeper.Keeper.{Keeper}
 
 -- so long passed since a moment, if there was one
 abbrev pub is_past : Option ℕ → ℕ → ℕ → Bool

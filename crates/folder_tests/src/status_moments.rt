@@ -1,0 +1,113 @@
+//! When a status is written, when it is told that it can't be, and what is kept in mind for it.
+
+use ballots::{Ballot, Member, Number};
+use plant_status::{Counts, Keeper, Released, Span, StationId, text_of};
+use std::alloc::Global;
+
+/// The keeper of member 1 of 3.
+fn keeper(alloc: Global) -> Option<Keeper> {
+    let station = StationId {
+        member: 1,
+        count: 3,
+        circuit: 7,
+        layout: 2,
+    };
+    Keeper::new(alloc, station).ok()
+}
+
+/// Whether a status is due at a moment that was written at 1000, where a file was refused since, or was not. One that was never written is due
+/// at once.
+fn is_due(alloc: Global, changed: bool, now: u64) -> Option<bool> {
+    let mut keeper = keeper(alloc)?;
+    let at_once = keeper.is_due(0);
+    keeper.written(1000);
+    if changed {
+        keeper.refuse();
+    }
+    Some(at_once && keeper.is_due(now))
+}
+
+/// Whether something changed, a moment, and whether the status is due then.
+const DUE: &[(bool, u64, bool)] = &[
+    (false, 1999, false),
+    (false, 2000, false),
+    (false, 30_999, false),
+    (false, 31_000, true),
+    (true, 1999, false),
+    (true, 2000, true),
+    (true, 30_999, true),
+    (true, 31_000, true),
+];
+
+/// Whether it is told that a status can't be written, first at 0, at its hour, and once it was written meanwhile; and not within the hour.
+fn is_told(alloc: Global) -> Option<bool> {
+    let mut keeper = keeper(alloc)?;
+    let first = keeper.fail(0);
+    let second = keeper.fail(3_599_999);
+    let third = keeper.fail(3_600_000);
+    keeper.succeed();
+    let fourth = keeper.fail(3_600_001);
+    Some(first && !second && third && fourth)
+}
+
+/// What is counted of a plant where 5 is missing.
+fn counts(alloc: Global) -> Option<Counts> {
+    Some(Counts {
+        released: Released {
+            count: 0,
+            greatest: 0,
+        },
+        missing: Vec::from_slice(alloc, &[Span { first: 5, last: 5 }]).ok()?,
+        more: false,
+        unwritten: 0,
+    })
+}
+
+/// What a keeper hears, at moments from 2000 to 2500.
+fn tell(keeper: &mut Keeper) -> Option<()> {
+    let (one, three) = (Member::new(1)?, Member::new(3)?);
+    keeper.hear(three, 2000);
+    keeper.find(4);
+    keeper.lose();
+    keeper.watch(false, Some(5), 2500);
+    keeper.offer(Number::new(9)?);
+    keeper.begin(Number::new(9)?, Ballot::new(1, one)?);
+    keeper.begin(Number::new(8)?, Ballot::new(2, one)?);
+    keeper.begin(Number::new(9)?, Ballot::new(3, three)?);
+    keeper.begin(Number::new(7)?, Ballot::new(1, one)?);
+    keeper.end(Number::new(7)?);
+    Some(())
+}
+
+/// The text of a status a second after member 3 was heard, 9 was offered and 8 sought, 7 came and went, and 5 was found missing.
+fn kept(alloc: Global) -> Option<String> {
+    let mut keeper = keeper(alloc)?;
+    tell(&mut keeper)?;
+    let status = keeper.status(counts(alloc)?, 3000, 100).ok()??;
+    text_of(alloc, &status).ok()
+}
+
+/// The text that this has to be.
+const KEPT: &str = "\
+station 1 of 3 circuit 7 layout 2 since 1970-01-01T00:01:40Z
+member 2 not heard since the start
+member 3 heard at 00:01:39Z
+released nothing
+under way 9 offer ballot 3.3, 8 seek ballot 2.1
+missing 5 since 00:01:40Z
+offers 4 waiting, 1 lost, 0 refused; releases 0 waiting to be written
+written 1970-01-01T00:01:40Z, form 1
+";
+
+#[test]
+fn moments_of_writing(rt: HostRuntime) {
+    for (changed, now, due) in DUE {
+        assert!(rt; is_due(rt.alloc(), *changed, *now) == Some(*due), "{now}");
+    }
+    assert!(rt; is_told(rt.alloc()) == Some(true));
+}
+
+#[test]
+fn status_that_is_kept(rt: HostRuntime) {
+    assert!(rt; kept(rt.alloc()).is_some_and(|text| text.as_str() == KEPT));
+}
