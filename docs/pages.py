@@ -1,29 +1,35 @@
 #!/usr/bin/env python3
-"""Makes what the pages take from the sources: the picture of the crates, and the lines that PROVED.md links.
+"""Makes what the pages take from the sources, and checks what they link.
 
-usage: pages.py [--check]
+usage: pages.py [--check | --words]
 
-CRATES.md is drawn from crates.txt. A link of PROVED.md names what stands at its line: [`step`, `agreed`](../crates/..#L35) is the clause
-`agreed` of the function `step`. With --check nothing is written: it is told what is no longer as the sources have it, with status 1.
+It makes
+  docs/CRATES.md   a table of crates.txt
+  README.md        the sizes, between two comments
+  docs/MAP.md and docs/PROVED.md   the line of each link into crates/: [`step`, `agreed`](../crates/..#L35) is the clause `agreed` of the
+                   function `step`, and [wire/src/door.rt#admit](../crates/wire/src/door.rt#L43) the function `admit` of that file.
+
+With --check nothing is written. It ends with 1, and a line for each fault, where one of these is not as the sources have it, where a link of
+a page names no file, no heading or no function, or where the rooms of MAP.md are not the crates, each on none of a room above its own.
+With --words it prints the words of each page, and how many of its lines hold a sentence of more than 40 words.
 """
+import glob
 import os
 import re
 import sys
 
-DOCS = os.path.dirname(os.path.abspath(__file__))
-TOP = os.path.dirname(DOCS)
+TOP = os.path.dirname(os.path.dirname(os.path.abspath(__file__)))
+MOST_WORDS = 40
 
 # a function, a type or a word of specs/, and then its clauses or fields
 BEGINS = r"^\s*(?:pub(?:\(crate\))? )?(?:abbrev pub|fn|pub data|pub record|data|record|struct|enum|trait) {}\b"
 WITHIN = r"^\s*(?:ensures\*?|requires|pub) {}\b"
-LINK = re.compile(r"\[((?:`\w+`)(?:, `\w+`)*)\]\((\.\./crates/[^)#]+)#L\d+\)")
+CLAUSE = re.compile(r"\[((?:`\w+`)(?:, `\w+`)*)\]\((\.\./crates/[^)#]+)#L\d+\)")
+PLACE = re.compile(r"\[([\w/]+\.(?:rt|antt))#(\w+)\]\((\.\./crates/[^)#]+)(?:#L\d+)?\)")
+LINK = re.compile(r"\]\(([^)\s]+)\)")
+SIZES = re.compile(r"(<!-- sizes[^>]*-->\n)(.*?)(<!-- end of sizes -->)", re.DOTALL)
 
-WIDTH = 104
-HEAD = """# The crates
-
-Each stands on crates of the boxes below its own. `docs/pages.py` draws this from `crates.txt`.
-
-"""
+faults = []
 
 
 def read(path):
@@ -31,27 +37,50 @@ def read(path):
         return file.read()
 
 
-def line_of(path, words):
-    """The line, from 1, at which these words stand, the later ones within the first."""
-    lines = read(path).splitlines()
+def exists(path):
+    return os.path.exists(os.path.join(TOP, path))
+
+
+def pages():
+    """README.md, CONTRIBUTING.md, CHANGELOG.md and docs/*.md."""
+    return ["README.md", "CONTRIBUTING.md", "CHANGELOG.md"] + sorted(
+        os.path.relpath(path, TOP) for path in glob.glob(os.path.join(TOP, "docs/*.md"))
+    )
+
+
+# Lines of links
+
+
+def line_of(page, path, words):
+    """The line, from 1, at which these words stand, the later ones within the first; 0 where they do not."""
+    lines = read(path).splitlines() if exists(path) else []
     place, pattern = 0, BEGINS
     for word in words:
         found = next((i for i in range(place, len(lines)) if re.match(pattern.format(word), lines[i])), None)
         if found is None:
-            sys.exit(f"docs/PROVED.md: {path} has no {' '.join(words)}")
+            faults.append(f"{page}: {path} has no {' '.join(words)}")
+            return 0
         place, pattern = found + 1, WITHIN
     return place
 
 
-def with_lines(text):
-    """The text, each link at the line of what it names."""
+def with_lines(page):
+    """The text of a page, each link into crates/ at the line of what it names."""
 
-    def link(match):
-        path = match.group(2).removeprefix("../")
+    def clause(match):
         words = re.findall(r"\w+", match.group(1))
-        return f"[{match.group(1)}]({match.group(2)}#L{line_of(path, words)})"
+        return f"[{match.group(1)}]({match.group(2)}#L{line_of(page, match.group(2).removeprefix('../'), words)})"
 
-    return LINK.sub(link, text)
+    def place(match):
+        named, word, path = match.groups()
+        if path != f"../crates/{named}":
+            faults.append(f"{page}: {named}#{word} links {path}")
+        return f"[{named}#{word}](../crates/{named}#L{line_of(page, f'crates/{named}', [word])})"
+
+    return PLACE.sub(place, CLAUSE.sub(clause, read(page)))
+
+
+# The crates
 
 
 def read_crates():
@@ -64,9 +93,8 @@ def read_crates():
     return {name: [n for n in names if n in named] for name, names in named.items()}
 
 
-def height(below, name):
-    """How many crates, one above the other, stand beneath this one."""
-    return max((height(below, n) + 1 for n in below[name]), default=0)
+def is_of_tests(name):
+    return name.endswith("_tests") or name in ("fixtures", "station_fixtures")
 
 
 def reaches(below, name):
@@ -79,57 +107,129 @@ def nearest(below, name):
     return sorted(n for n in below[name] if n not in far)
 
 
-def rows_of(below):
-    """The crates by their height, the highest first."""
-    heights = {name: height(below, name) for name in below}
-    for level in range(max(heights.values()), -1, -1):
-        yield level, [name for name in below if heights[name] == level]
-
-
-def picture(below):
-    """A box for each row, with each crate and the nearest that it stands on."""
-    drawn = ["+" + "-" * WIDTH + "+"]
-    for _, names in rows_of(below):
-        for name in names:
-            under = ", ".join(nearest(below, name))
-            drawn.append("| " + f"{name:20}{'on ' + under if under else ''}".ljust(WIDTH - 1) + "|")
-        drawn.append("+" + "-" * WIDTH + "+")
-    return "\n".join(drawn)
-
-
 def sentence_of(name):
-    """What a crate says of itself, at the top of its first file."""
-    root = next(root for root in ("lib", "main") if os.path.exists(os.path.join(TOP, f"crates/{name}/src/{root}.rt")))
+    """What a crate says of itself, in the first sentence of its first file."""
+    root = next(root for root in ("lib", "main") if exists(f"crates/{name}/src/{root}.rt"))
     told = [line.removeprefix("//! ") for line in read(f"crates/{name}/src/{root}.rt").splitlines() if line.startswith("//!")]
-    return " ".join(told)
+    return " ".join(told).partition(". ")[0].rstrip(".") + "."
 
 
-def drawn_crates():
-    crates = read_crates()
-    tests = {name for name in crates if name.endswith("_tests")} | {"fixtures", "station_fixtures"}
-    program = {name: names for name, names in crates.items() if name not in tests}
-    what = "\n".join(f"| {name} | {sentence_of(name)} |" for name in program)
-    over = "\n".join(f"| {name} | {', '.join(n for n in crates[name] if n not in tests)} |" for name in crates if name in tests and crates[name])
+def table_of_crates(below):
+    rows = "\n".join(f"| {name} | {sentence_of(name)} | {', '.join(nearest(below, name))} |" for name in below)
     return (
-        HEAD
-        + f"```\n{picture(program)}\n```\n\n"
-        + "What a crate stands on through another one is left out, so `circuitd` stands on nearly all.\n\n"
-        + f"## What each is\n\n| Crate | In a sentence |\n|---|---|\n{what}\n\n"
-        + "## The crates of tests\n\nThey hold nothing else. `fixtures` has the files and the tapes of the examples, and random values by a seed; `station_fixtures` has stations over them.\n\n"
-        + f"| Crate | Over |\n|---|---|\n{over}\n"
+        "# The crates\n\n`docs/pages.py` makes this table from `crates.txt`, lowest first. [MAP](MAP.md) draws them in seven rooms.\n\n"
+        "The last column leaves out what a crate stands on through another one.\n\n"
+        f"| Crate | What it is, by its own first sentence | Stands on |\n|---|---|---|\n{rows}\n"
     )
 
 
+def check_rooms(below):
+    """The drawing of MAP.md: each crate stands in one room, and what a room is `ON` is what its crates name, which is drawn below it."""
+    drawing = re.search(r"^```\n(.*?)^```", read("docs/MAP.md"), re.DOTALL | re.MULTILINE).group(1)
+    faults.extend(f"docs/MAP.md: more than 100 columns: {line}" for line in drawing.splitlines() if len(line) > 100)
+    rooms = re.split(r"^\+-.*\n", drawing, flags=re.MULTILINE)
+    drawn = [name for room in rooms for name in re.findall(r"[a-z_]+", room)]
+    faults.extend(f"docs/MAP.md: {n} is drawn {drawn.count(n)} times" for n in sorted({*below, *drawn}) if drawn.count(n) != 1 or n not in below)
+    number_of = {n: number for room in rooms for number in re.findall(r"^\| (\d) ", room) for n in re.findall(r"[a-z_]+", room)}
+    for room in rooms:
+        number, on = re.findall(r"^\| (\d) ", room), re.findall(r" ON ([\d ]+)\|", room)
+        names = {number_of.get(u, "") for n in below if number_of.get(n) in number for u in below[n]} - {*number}
+        if number and (names != {*"".join(on).split()} or max(names, default="0") > number[0]):
+            faults.append(f"docs/MAP.md: room {number[0]} is on {' '.join(sorted(names))}")
+
+
+# The sizes
+
+
+def lines_below(crates, folder):
+    """The lines of the sources in a folder of crates, to the next thousand."""
+    found = (path for name in crates for path in glob.glob(os.path.join(TOP, f"crates/{name}/{folder}/**/*.*t"), recursive=True))
+    return f"{round(sum(read(path).count(chr(10)) for path in found), -3):,}"
+
+
+def sizes(below):
+    program, tests = [n for n in below if not is_of_tests(n)], [n for n in below if is_of_tests(n)]
+    of_gate = glob.glob(os.path.join(TOP, "crates/*/must-fail/*.edit"))
+    others = glob.glob(os.path.join(TOP, "contrib/wrong_bodies/*/*.edit"))
+    return (
+        f"In {len(program)} crates: {lines_below(program, 'src')} lines of code with its contracts, {lines_below(program, 'specs')} of definitions, "
+        f"{lines_below(program, 'proofs')} of proofs. In {len(tests)} more: {lines_below(tests, 'src')} lines of tests.\n"
+        f"Wrong bodies, which the prover has to refuse: {len(of_gate)} in the gate, {len(others):,} beside it.\n"
+    )
+
+
+# The links
+
+
+def without_code(text):
+    return re.sub(r"^```.*?^```", "", text, flags=re.DOTALL | re.MULTILINE)
+
+
+def anchors_of(page):
+    """The anchors of a page's headings, as GitHub makes them."""
+    found = {}
+    for heading in re.findall(r"^#+ (.*)$", without_code(read(page)), re.MULTILINE):
+        text = re.sub(r"\[([^\]]*)\]\([^)]*\)", r"\1", heading).strip().lower()
+        anchor = re.sub(r"[^\w\- ]", "", text).replace(" ", "-")
+        count = found.get(anchor, 0)
+        found[anchor] = count + 1
+        yield f"{anchor}-{count}" if count else anchor
+
+
+def check_links(page, anchors):
+    for target in LINK.findall(without_code(read(page))):
+        path, _, anchor = target.partition("#")
+        if re.match(r"[a-z]+:", target):
+            continue
+        path = os.path.normpath(os.path.join(os.path.dirname(page), path)) if path else page
+        if not exists(path):
+            faults.append(f"{page}: no file {target}")
+        elif anchor and path in anchors and anchor not in anchors[path]:
+            faults.append(f"{page}: no heading {target}")
+
+
+# The words
+
+
+def sentences_of(text):
+    """The sentences of each line of a page; the lines of one paragraph are one."""
+    joined = re.sub(r"(?<=\S)\n(?=[^\s|#>*\-\d])", " ", without_code(text))
+    for line in LINK.sub("]", joined).splitlines():
+        yield [sentence for cell in line.split("|") for sentence in re.split(r"(?<=[.!?])[*)]* ", cell)]
+
+
+def print_words():
+    counts = []
+    for page in pages():
+        lines = [line for line in sentences_of(read(page)) if any(len(s.split()) > MOST_WORDS for s in line)]
+        counts.append((len(read(page).split()), len(lines), page))
+    counts.append((sum(words for words, _, _ in counts), sum(long for _, long, _ in counts), "in all"))
+    print(f"  words  lines with a sentence above {MOST_WORDS}")
+    print("\n".join(f"{words:7} {long:4}  {page}" for words, long, page in counts))
+
+
 def main():
-    if sys.argv[1:] not in ([], ["--check"]):
+    if sys.argv[1:] not in ([], ["--check"], ["--words"]):
         sys.exit(__doc__)
-    made = {"docs/CRATES.md": drawn_crates(), "docs/PROVED.md": with_lines(read("docs/PROVED.md"))}
-    stale = [path for path, text in made.items() if not os.path.exists(os.path.join(TOP, path)) or read(path) != text]
-    if sys.argv[1:] and stale:
-        sys.exit(f"{' and '.join(stale)}: no longer as the sources have it; run docs/pages.py")
-    for path in stale:
-        with open(os.path.join(TOP, path), "w", encoding="utf-8") as file:
-            file.write(made[path])
+    if sys.argv[1:] == ["--words"]:
+        return print_words()
+    below = read_crates()
+    made = {page: with_lines(page) for page in ("docs/MAP.md", "docs/PROVED.md")}
+    made["docs/CRATES.md"] = table_of_crates(below)
+    made["README.md"] = SIZES.sub(lambda match: match.group(1) + sizes(below) + match.group(3), read("README.md"))
+    stale = [path for path, text in made.items() if not exists(path) or read(path) != text]
+    if not sys.argv[1:] and not faults:
+        for path in stale:
+            with open(os.path.join(TOP, path), "w", encoding="utf-8") as file:
+                file.write(made[path])
+        stale = []
+    faults.extend(f"{path}: not as the sources have it; run docs/pages.py" for path in stale)
+    check_rooms(below)
+    anchors = {page: set(anchors_of(page)) for page in pages()}
+    for page in pages():
+        check_links(page, anchors)
+    if faults:
+        sys.exit("\n".join(faults))
 
 
 main()
