@@ -108,10 +108,11 @@ def nearest(below, name):
 
 
 def sentence_of(name):
-    """What a crate says of itself, in the first sentence of its first file."""
+    """What a crate says of itself, in the first sentence of its first file; of a long one what stands before its colon."""
     root = next(root for root in ("lib", "main") if exists(f"crates/{name}/src/{root}.rt"))
     told = [line.removeprefix("//! ") for line in read(f"crates/{name}/src/{root}.rt").splitlines() if line.startswith("//!")]
-    return " ".join(told).partition(". ")[0].rstrip(".") + "."
+    sentence = " ".join(told).partition(". ")[0].rstrip(".")
+    return (sentence.partition(":")[0] if len(sentence.split()) > MOST_WORDS else sentence) + "."
 
 
 def table_of_crates(below):
