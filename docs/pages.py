@@ -153,7 +153,7 @@ def sizes(below):
     of_gate = glob.glob(os.path.join(TOP, "crates/*/must-fail/*.edit"))
     others = glob.glob(os.path.join(TOP, "contrib/wrong_bodies/*/*.edit"))
     return (
-        f"In {len(program)} crates: {lines_below(program, 'src')} lines of code with its contracts, {lines_below(program, 'specs')} of definitions, "
+        f"In {len(program)} crates: {lines_below(program, 'src')} lines of code with contracts and comments, {lines_below(program, 'specs')} of definitions, "
         f"{lines_below(program, 'proofs')} of proofs. In {len(tests)} more: {lines_below(tests, 'src')} lines of tests.\n"
         f"Wrong bodies, which the prover has to refuse: {len(of_gate)} in the gate, {len(others):,} beside it.\n"
     )
