@@ -1,14 +1,15 @@
 #!/usr/bin/env bash
-# A rehearsal of three stations, from the sources and before any proof, by a program that does no more: about a minute.
+# Three stations over rows in memory agree on a story and cast it, from the sources and before any proof: about a minute. Then its drawing.
 set -euo pipefail
 cd "$(dirname "$0")/../crates/taste"
+examples=../../examples
 
 kept=$(mktemp -d)
 trap 'kill "$run" 2> /dev/null || true; rm -rf "$kept"' EXIT
 
-echo "A rehearsal of three stations on one story. Nothing is proved here: examples/first_circuit.sh proves."
-rt try --data codes.toml=../../examples/codes.toml --data widths.toml=../../examples/widths.toml \
-    --data story.script=../../examples/story.script > "$kept/printed" 2> "$kept/told" &
+echo "Three stations agree on a story, cast it and draw it. Nothing is proved here: examples/first_circuit.sh proves."
+rt try --data codes.toml="$examples/codes.toml" --data widths.toml="$examples/widths.toml" \
+    --data story.script="$examples/story.script" > "$kept/printed" 2> "$kept/told" &
 run=$!
 
 # One line, written over, until the program has run.
@@ -25,4 +26,33 @@ if ! wait "$run"; then
     cat "$kept/printed" "$kept/told" | tail -n 30 >&2
     exit 1
 fi
-cat "$kept/printed"
+
+# What the stations print, with a sentence before each part of it.
+awk '
+    NR == 1 { print "\nAgreed: station 1 offers a story under number 12. It asks the others for promises, and then for votes." }
+    /^ release/ && !releases++ { print "\nCast: each station that hears of two votes releases the tape, its frames in hex, and casts it as one slug." }
+    { print }
+' "$kept/printed"
+
+tape=$(od -An -v -tx1 "$examples/flood.tape" | tr -d ' \n')
+if ! grep -qx " release 12 $tape" "$kept/printed"; then
+    echo "No station released the flood story." >&2
+    exit 1
+fi
+
+# docs/story.svg in letters: a row of holes for each level, what each frame means, and below them the boxes of the slug, two letters a unit.
+printf '\nDrawn: the holes of its frames, what they mean, and the slug. docs/story.svg shows it; "circuitd draw" writes it.\n'
+awk '
+    BEGIN { split("115 123 131 143 151 159", level); blank = sprintf("%40s", "") }
+    { word = $0; sub(/<\/text>.*/, "", word); sub(/.*>/, "", word) }
+    /<title>.*<path/ {
+        for (l = 1; l <= 6; l++) holes[l] = holes[l] (index($0, " " level[l] "h0") ? "  o" : "  .")
+        marks = marks substr(blank, 1, 3 - length(word)) word
+    }
+    /<rect class=.[mb]. / { wide = $0; sub(/.*width=./, "", wide); wide = int(wide / 12) }
+    /<text class=.[tw]. / {
+        left = int((wide - length(word)) / 2)
+        slug = slug "|" substr(blank, 1, left - 1) word substr(blank, 1, wide - left - length(word))
+    }
+    END { for (l = 1; l <= 6; l++) print holes[l]; print marks; print "  " slug "|" }
+' ../../docs/story.svg
