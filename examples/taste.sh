@@ -1,5 +1,5 @@
 #!/usr/bin/env bash
-# Three stations over rows in memory agree on a story and cast it, from the sources and before any proof: about a minute. Then its drawing.
+# Three stations over rows in memory agree on a story and cast it, from the sources and before any proof: about a minute.
 set -euo pipefail
 cd "$(dirname "$0")/../crates/taste"
 examples=../../examples
@@ -7,7 +7,7 @@ examples=../../examples
 kept=$(mktemp -d)
 trap 'kill "$run" 2> /dev/null || true; rm -rf "$kept"' EXIT
 
-echo "Three stations agree on a story, cast it and draw it. Nothing is proved here: examples/first_circuit.sh proves."
+echo "Three stations agree on a story and cast it. Nothing is proved here: examples/first_circuit.sh proves."
 rt try --data codes.toml="$examples/codes.toml" --data widths.toml="$examples/widths.toml" \
     --data story.script="$examples/story.script" > "$kept/printed" 2> "$kept/told" &
 run=$!
@@ -40,19 +40,4 @@ if ! grep -qx " release 12 $tape" "$kept/printed"; then
     exit 1
 fi
 
-# docs/story.svg in letters: a row of holes for each level, what each frame means, and below them the boxes of the slug, two letters a unit.
-printf '\nDrawn: the holes of its frames, what they mean, and the slug. docs/story.svg shows it; "circuitd draw" writes it.\n'
-awk '
-    BEGIN { split("115 123 131 143 151 159", level); blank = sprintf("%40s", "") }
-    { word = $0; sub(/<\/text>.*/, "", word); sub(/.*>/, "", word) }
-    /<title>.*<path/ {
-        for (l = 1; l <= 6; l++) holes[l] = holes[l] (index($0, " " level[l] "h0") ? "  o" : "  .")
-        marks = marks substr(blank, 1, 3 - length(word)) word
-    }
-    /<rect class=.[mb]. / { wide = $0; sub(/.*width=./, "", wide); wide = int(wide / 12) }
-    /<text class=.[tw]. / {
-        left = int((wide - length(word)) / 2)
-        slug = slug "|" substr(blank, 1, left - 1) word substr(blank, 1, wide - left - length(word))
-    }
-    END { for (l = 1; l <= 6; l++) print holes[l]; print marks; print "  " slug "|" }
-' ../../docs/story.svg
+printf '\nDrawn: docs/story.svg shows the holes of its frames, what they mean, and the slug, as "circuitd draw" writes them.\n'
