@@ -277,6 +277,9 @@ fn texts_that_are_not(rt: HostRuntime) {
         assert!(rt; is_refused(rt.alloc(), text), "{text}");
     }
     for text in LATER.split("--\n") {
-        assert!(rt; matches!(fault_of(rt.alloc(), text), Some(Unread::Later)), "{text}");
+        assert!(rt;
+            matches!(fault_of(rt.alloc(), text), Some(Unread::Later)),
+            "{text}"
+        );
     }
 }

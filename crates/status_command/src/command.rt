@@ -1,20 +1,21 @@
 //! The command `status`.
 
+ghost use Rattle.std.specs.Prelude.{◌≡◌, if◌then◌else◌};
+ghost use Rattle.command_ends.specs.declared.end.End.TheVariants.{Done, Input};
+
 use crate::fault::{NoStatus, end_of_config};
 use crate::file::status_at;
 use crate::json::json_of;
 use crate::shown::shown;
-use crate::watching::watch;
+use crate::watching::{FRESH, watch};
 use command_ends::End;
 use configuration::{Config, ConfigInput, NoLookUp, read_config};
-use jiff::Timestamp;
 use opened_files::Opened;
-use plant_status::{Health, Status, ages_of, health_of};
-use std::alloc::AllocError;
+use plant_status::{Health, Status, ages_of, health_of, seconds_now};
 use std::io::{IsTerminal, Write};
 
 /// How a status is printed.
-#[derive(Clone, Copy, PartialEq, Eq)]
+#[derive(Clone, Copy)]
 pub enum Shape {
     /// By its lines.
     Lines,
@@ -24,71 +25,77 @@ pub enum Shape {
     Watched,
 }
 
-impl From<AllocError> for NoStatus {
-    fn from(_: AllocError) -> NoStatus {
-        NoStatus::OutOfMemory
-    }
-}
-
-/// How many seconds ago 1970 began.
-fn seconds(rt: &HostRuntime) -> Result<u64, NoStatus> {
-    match Timestamp::now(rt) {
-        Ok(now) => u64::try_from(now.as_second()).map_err(|_| NoStatus::NoClock),
-        Err(_) => Err(NoStatus::NoClock),
-    }
+/// Of which station it is asked how it stands: that of a configuration, which has its status file at a path; and in which shape it is told.
+#[derive(Clone, Copy)]
+pub(crate) struct Asked<'c> {
+    pub(crate) config: &'c Config,
+    pub(crate) path: &'c str,
+    pub(crate) shape: Shape,
 }
 
 /// What is not well of a station.
 fn health_at(rt: &HostRuntime, status: &Status, config: &Config) -> Result<Health, NoStatus> {
-    match ages_of(rt.alloc(), status, seconds(rt)?)? {
+    let Some(now) = seconds_now(rt) else {
+        return Err(NoStatus::NoClock);
+    };
+    match ages_of(rt.alloc(), status, now)? {
         Some(ages) => Ok(health_of(&ages, config.catches_up)),
         None => Err(NoStatus::NoText),
     }
 }
 
-/// How a station stands, as its status file at a path tells, in a shape; and whether it is well.
-pub(crate) fn told_of(
+/// What a status tells, and whether its station is well.
+fn told_by(
     rt: &HostRuntime,
-    path: &str,
-    config: &Config,
-    shape: Shape,
+    asked: Asked<'_>,
+    status: &Status,
 ) -> Result<(String, bool), NoStatus> {
-    let status = status_at(rt, path, config)?;
-    let health = health_at(rt, &status, config)?;
-    let text = match shape {
-        Shape::Json => json_of(rt.alloc(), &status, &health)?,
-        Shape::Lines | Shape::Watched => shown(rt.alloc(), &status, &health)?,
+    let health = health_at(rt, status, asked.config)?;
+    let text = match asked.shape {
+        Shape::Json => json_of(rt.alloc(), status, &health)?,
+        Shape::Lines | Shape::Watched => shown(rt.alloc(), status, &health)?,
     };
     Ok((text, health.is_well()))
 }
 
-/// Writes a text.
-pub(crate) fn put<W: Write>(text: &str, out: &mut W) -> Result<(), NoStatus> {
-    match out.write_all(text.as_bytes()) {
-        Ok(()) => match out.flush() {
-            Ok(()) => Ok(()),
-            Err(_) => Err(NoStatus::Unwritten),
-        },
-        Err(_) => Err(NoStatus::Unwritten),
+/// How a station stands, as its status file tells; and whether it is well.
+fn told_of(rt: &HostRuntime, asked: Asked<'_>) -> Result<(String, bool), NoStatus> {
+    let status = status_at(rt, asked.path, asked.config)?;
+    told_by(rt, asked, &status)
+}
+
+/// Writes a text, and what stands before it.
+fn put<W: Write>(before: &str, text: &str, out: &mut W) -> Result<(), NoStatus> {
+    let is_written = out.write_all(before.as_bytes()).is_ok()
+        && out.write_all(text.as_bytes()).is_ok()
+        && out.flush().is_ok();
+    if is_written {
+        Ok(())
+    } else {
+        Err(NoStatus::Unwritten)
     }
 }
 
-/// How the command ends by whether a station is well.
-pub(crate) fn end_by(is_well: bool) -> End {
-    if is_well { End::Done } else { End::Input }
-}
-
 /// Prints how a station stands; whether it is well.
-fn print<W: Write>(
+pub(crate) fn print<W: Write>(
     rt: &HostRuntime,
-    path: &str,
-    config: &Config,
-    shape: Shape,
+    asked: Asked<'_>,
     out: &mut W,
 ) -> Result<bool, NoStatus> {
-    let (text, is_well) = told_of(rt, path, config, shape)?;
-    put(text.as_str(), out)?;
+    let (text, is_well) = told_of(rt, asked)?;
+    let before = match asked.shape {
+        Shape::Watched => FRESH,
+        Shape::Lines | Shape::Json => "",
+    };
+    put(before, text.as_str(), out)?;
     Ok(is_well)
+}
+
+/// How the command ends by whether a station is well.
+fn end_by(is_well: bool) -> End
+    ensures { result ≡ (if is_well then Done else Input) }
+{
+    if is_well { End::Done } else { End::Input }
 }
 
 /// The same of the station of a configuration, by the status file that this names.
@@ -106,14 +113,19 @@ fn status_from<W: Write, E: Write>(
     let Some(path) = named else {
         return NoStatus::Unnamed.tell("", err);
     };
-    let told = if shape == Shape::Watched {
-        watch(rt, path.as_str(), config, out)
-    } else {
-        print(rt, path.as_str(), config, shape, out)
+    let path = path.as_str();
+    let asked = Asked {
+        config,
+        path,
+        shape,
+    };
+    let told = match shape {
+        Shape::Watched => watch(rt, asked, out),
+        Shape::Lines | Shape::Json => print(rt, asked, out),
     };
     match told {
         Ok(is_well) => end_by(is_well),
-        Err(fault) => fault.tell(path.as_str(), err),
+        Err(fault) => fault.tell(path, err),
     }
 }
 
@@ -126,7 +138,7 @@ pub fn status<W: Write, E: Write>(
     out: &mut W,
     err: &mut E,
 ) -> End {
-    if shape == Shape::Watched && !rt.stdout().is_terminal() {
+    if matches!(shape, Shape::Watched) && !rt.stdout().is_terminal() {
         let _ = writeln!(err, "usage: --watch is for a terminal");
         return End::Usage;
     }

@@ -1,7 +1,11 @@
 //! Why nothing can be told of a station.
 
+ghost use Rattle.std.specs.Prelude.{◌≡◌};
+ghost use Rattle.command_ends.specs.declared.end.End.TheVariants.{Done, Input};
+
 use command_ends::{End, Fault};
-use std::fmt;
+use plant_status::Unread;
+use std::alloc::AllocError;
 use std::io::Write;
 
 /// Why nothing can be told of a station.
@@ -28,19 +32,18 @@ pub(crate) enum NoStatus {
     OutOfMemory,
 }
 
-impl fmt::Display for NoStatus {
-    fn fmt<W: fmt::Write>(&self, f: &mut fmt::Formatter<W>) -> fmt::Result {
-        match *self {
-            NoStatus::Unnamed => write!(f, "the configuration names no status file"),
-            NoStatus::Missing => write!(f, "there is no such file"),
-            NoStatus::NoFile => write!(f, "no plain file"),
-            NoStatus::Unreadable => write!(f, "cannot be read"),
-            NoStatus::NoText => write!(f, "no status"),
-            NoStatus::Later => write!(f, "of a later version"),
-            NoStatus::Other => write!(f, "of another station"),
-            NoStatus::NoClock => write!(f, "the clock tells nothing"),
-            NoStatus::Unwritten => write!(f, "cannot write"),
-            NoStatus::OutOfMemory => write!(f, "out of memory"),
+impl From<AllocError> for NoStatus {
+    fn from(_: AllocError) -> NoStatus {
+        NoStatus::OutOfMemory
+    }
+}
+
+impl From<Unread> for NoStatus {
+    fn from(unread: Unread) -> NoStatus {
+        match unread {
+            Unread::OutOfMemory => NoStatus::OutOfMemory,
+            Unread::Later => NoStatus::Later,
+            Unread::NoStatus => NoStatus::NoText,
         }
     }
 }
@@ -50,23 +53,47 @@ impl fmt::Display for NoStatus {
 const UNKNOWN: End = End::Store;
 
 impl NoStatus {
-    /// Tells it of the status file at a path, and gives the end.
-    pub(crate) fn tell<E: Write>(self, path: &str, err: &mut E) -> End {
+    /// Its words.
+    fn words(self) -> &'static str {
         match self {
-            NoStatus::OutOfMemory => Fault::OutOfMemory.tell(err),
+            NoStatus::Unnamed => "the configuration names no status file",
+            NoStatus::Missing => "there is no such file",
+            NoStatus::NoFile => "no plain file",
+            NoStatus::Unreadable => "cannot be read",
+            NoStatus::NoText => "no status",
+            NoStatus::Later => "of a later version",
+            NoStatus::Other => "of another station",
+            NoStatus::NoClock => "the clock tells nothing",
+            NoStatus::Unwritten => "cannot write",
+            NoStatus::OutOfMemory => "out of memory",
+        }
+    }
+
+    /// Tells it of the status file at a path, and gives the end, which says neither that the station is well nor that it is not.
+    pub(crate) fn tell<E: Write>(self, path: &str, err: &mut E) -> End
+        ensures fails { ¬ (result ≡ Done) }
+        ensures unknown { ¬ (result ≡ Input) }
+    {
+        let words = self.words();
+        match self {
+            NoStatus::OutOfMemory => return Fault::OutOfMemory.tell(err),
             NoStatus::Unnamed | NoStatus::NoClock | NoStatus::Unwritten => {
-                let _ = writeln!(err, "status: {self}");
-                UNKNOWN
+                let _ = writeln!(err, "status: {words}");
             }
             _ => {
-                let _ = writeln!(err, "status: {path}: {self}");
-                UNKNOWN
+                let _ = writeln!(err, "status: {path}: {words}");
             }
         }
+        UNKNOWN
     }
 }
 
 /// The end where the configuration can't be read: nothing can be told then either.
-pub(crate) fn end_of_config(end: End) -> End {
-    if end == End::Input { UNKNOWN } else { end }
+pub(crate) fn end_of_config(end: End) -> End
+    ensures unknown { ¬ (result ≡ Input) }
+{
+    match end {
+        End::Input => UNKNOWN,
+        end => end,
+    }
 }

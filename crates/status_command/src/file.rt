@@ -4,8 +4,7 @@ use crate::fault::NoStatus;
 use command_ends::{Fault, read_text};
 use configuration::Config;
 use opened_files::Opened;
-use plant_status::{Status, Unread, read};
-use std::alloc::Global;
+use plant_status::{Status, read};
 use std::io::ErrorKind;
 use std::{fs, str};
 
@@ -30,16 +29,12 @@ fn bytes_at(rt: &HostRuntime, path: &str) -> Result<Vec<u8>, NoStatus> {
     }
 }
 
-/// The status that bytes spell.
-fn status_of(alloc: Global, bytes: &[u8]) -> Result<Status, NoStatus> {
-    let Ok(text) = str::from_utf8(bytes) else {
-        return Err(NoStatus::NoText);
-    };
-    match read(alloc, text) {
-        Ok(status) => Ok(status),
-        Err(Unread::OutOfMemory) => Err(NoStatus::OutOfMemory),
-        Err(Unread::Later) => Err(NoStatus::Later),
-        Err(Unread::NoStatus) => Err(NoStatus::NoText),
+/// The status in a file.
+fn read_at(rt: &HostRuntime, path: &str) -> Result<Status, NoStatus> {
+    let bytes = bytes_at(rt, path)?;
+    match str::from_utf8(bytes.as_slice()) {
+        Ok(text) => Ok(read(rt.alloc(), text)?),
+        Err(_) => Err(NoStatus::NoText),
     }
 }
 
@@ -52,8 +47,7 @@ fn is_own(status: &Status, config: &Config) -> bool {
 
 /// The status in the file at a path, which is to be of the station of a configuration.
 pub(crate) fn status_at(rt: &HostRuntime, path: &str, config: &Config) -> Result<Status, NoStatus> {
-    let bytes = bytes_at(rt, path)?;
-    let status = status_of(rt.alloc(), bytes.as_slice())?;
+    let status = read_at(rt, path)?;
     if is_own(&status, config) {
         Ok(status)
     } else {

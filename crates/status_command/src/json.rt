@@ -1,72 +1,115 @@
 //! A status and whether it is well, as one object of JSON.
 
 use plant_status::{Busy, Health, Heard, Missing, Moment, Purpose, Span, Status};
-use serde_json::{Value, json, push};
+use serde_json::{Map, Value, push, put};
 use std::alloc::{AllocError, Global};
 
-/// A moment.
-fn moment(alloc: Global, moment: &Moment) -> Result<Value, AllocError> {
-    let text = format!(in alloc; "{moment}")?;
-    json!(in alloc; text.as_str())
+/// A value that holds no other.
+#[derive(Clone, Copy)]
+enum Leaf {
+    Number(u32),
+    Truth(bool),
+    /// A moment; null where there is none.
+    Moment(Option<Moment>),
+    Purpose(Purpose),
 }
 
-/// A member, and when it was heard.
-fn member(alloc: Global, heard: &Heard) -> Result<Value, AllocError> {
-    let at = match &heard.at {
-        Some(at) => moment(alloc, at)?,
-        None => Value::Null,
-    };
-    json!(in alloc; {"member": heard.member as u64, "heard": at})
+impl Leaf {
+    /// The value of JSON.
+    fn value(self, alloc: Global) -> Result<Value, AllocError> {
+        match self {
+            Leaf::Number(number) => Ok(Value::from(number)),
+            Leaf::Truth(is_so) => Ok(Value::Bool(is_so)),
+            Leaf::Moment(None) => Ok(Value::Null),
+            Leaf::Moment(Some(moment)) => Ok(Value::String(format!(in alloc; "{moment}")?)),
+            Leaf::Purpose(purpose) => Value::try_from_str(alloc, purpose.word()),
+        }
+    }
 }
 
-/// The members.
-fn members(alloc: Global, heard: &[Heard]) -> Result<Value, AllocError> {
+/// Puts a value into an object, where there was memory for it.
+fn add(
+    object: &mut Map<String, Value>,
+    alloc: Global,
+    name: &str,
+    value: Result<Value, AllocError>,
+) -> Result<(), AllocError> {
+    put(object, alloc, name, value?)
+}
+
+/// An object of such values.
+fn object(alloc: Global, leaves: &[(&str, Leaf)]) -> Result<Value, AllocError> {
+    let mut object = Map::new(alloc);
+    for (name, leaf) in leaves {
+        add(&mut object, alloc, name, leaf.value(alloc))?;
+    }
+    Ok(Value::Object(object))
+}
+
+/// What is an object in a list.
+trait Item {
+    /// The object.
+    fn value(&self, alloc: Global) -> Result<Value, AllocError>;
+}
+
+impl Item for Heard {
+    fn value(&self, alloc: Global) -> Result<Value, AllocError> {
+        let member = Leaf::Number(u32::from(self.member));
+        object(
+            alloc,
+            &[("member", member), ("heard", Leaf::Moment(self.at))],
+        )
+    }
+}
+
+impl Item for Busy {
+    fn value(&self, alloc: Global) -> Result<Value, AllocError> {
+        let leaves = [
+            ("number", Leaf::Number(self.number)),
+            ("purpose", Leaf::Purpose(self.purpose)),
+            ("round", Leaf::Number(self.round)),
+            ("owner", Leaf::Number(u32::from(self.owner))),
+        ];
+        object(alloc, &leaves)
+    }
+}
+
+impl Item for Span {
+    fn value(&self, alloc: Global) -> Result<Value, AllocError> {
+        let (first, last) = (Leaf::Number(self.first), Leaf::Number(self.last));
+        object(alloc, &[("first", first), ("last", last)])
+    }
+}
+
+/// A list of such objects.
+fn list<T: Item>(alloc: Global, items: &[T]) -> Result<Value, AllocError> {
     let mut list = Vec::new(alloc);
-    for heard in heard {
-        push(&mut list, member(alloc, heard)?)?;
+    for item in items {
+        push(&mut list, item.value(alloc)?)?;
     }
     Ok(Value::Array(list))
 }
 
-/// What a ballot is opened for.
-fn purpose(purpose: Purpose) -> &'static str {
-    match purpose {
-        Purpose::Seek => "seek",
-        Purpose::Offer => "offer",
-    }
-}
-
-/// A number under way.
-fn busy(alloc: Global, busy: &Busy) -> Result<Value, AllocError> {
-    json!(in alloc; {
-        "number": busy.number as u64,
-        "purpose": purpose(busy.purpose),
-        "round": busy.round as u64,
-        "owner": busy.owner as u64
-    })
-}
-
-/// The numbers under way.
-fn all_busy(alloc: Global, numbers: &[Busy]) -> Result<Value, AllocError> {
-    let mut list = Vec::new(alloc);
-    for number in numbers {
-        push(&mut list, busy(alloc, number)?)?;
-    }
-    Ok(Value::Array(list))
-}
-
-/// A range.
-fn span(alloc: Global, span: &Span) -> Result<Value, AllocError> {
-    json!(in alloc; {"first": span.first as u64, "last": span.last as u64})
-}
-
-/// Ranges.
-fn spans(alloc: Global, spans: &[Span]) -> Result<Value, AllocError> {
-    let mut list = Vec::new(alloc);
-    for one in spans {
-        push(&mut list, span(alloc, one)?)?;
-    }
-    Ok(Value::Array(list))
+/// Puts what is missing into an object.
+fn add_missing(
+    object: &mut Map<String, Value>,
+    alloc: Global,
+    missing: &Missing,
+) -> Result<(), AllocError> {
+    let since = Leaf::Moment(Some(missing.since));
+    add(
+        object,
+        alloc,
+        "ranges",
+        list(alloc, missing.spans.as_slice()),
+    )?;
+    add(
+        object,
+        alloc,
+        "more",
+        Leaf::Truth(missing.more).value(alloc),
+    )?;
+    add(object, alloc, "since", since.value(alloc))
 }
 
 /// What is missing; null where nothing is.
@@ -74,43 +117,74 @@ fn missing(alloc: Global, missing: &Option<Missing>) -> Result<Value, AllocError
     let Some(missing) = missing else {
         return Ok(Value::Null);
     };
-    let ranges = spans(alloc, missing.spans.as_slice())?;
-    let since = moment(alloc, &missing.since)?;
-    json!(in alloc; {"ranges": ranges, "more": missing.more, "since": since})
+    let mut object = Map::new(alloc);
+    add_missing(&mut object, alloc, missing)?;
+    Ok(Value::Object(object))
 }
 
-/// Which station it is, since when it is up, and when this was written.
+/// Which station it is, and since when it is up.
 fn station(alloc: Global, status: &Status) -> Result<Value, AllocError> {
-    let since = moment(alloc, &status.since)?;
-    json!(in alloc; {
-        "member": status.station.member as u64,
-        "count": status.station.count as u64,
-        "circuit": status.station.circuit as u64,
-        "layout": status.station.layout as u64,
-        "since": since
-    })
+    let station = status.station;
+    let leaves = [
+        ("member", Leaf::Number(u32::from(station.member))),
+        ("count", Leaf::Number(u32::from(station.count))),
+        ("circuit", Leaf::Number(u32::from(station.circuit))),
+        ("layout", Leaf::Number(u32::from(station.layout))),
+        ("since", Leaf::Moment(Some(status.since))),
+    ];
+    object(alloc, &leaves)
 }
 
 /// What is counted of files and numbers.
 fn counts(alloc: Global, status: &Status) -> Result<Value, AllocError> {
-    json!(in alloc; {
-        "released": status.released.count as u64,
-        "greatest": status.released.greatest as u64,
-        "waiting": status.offers.waiting as u64,
-        "lost": status.offers.lost as u64,
-        "refused": status.offers.refused as u64,
-        "unwritten": status.unwritten as u64
-    })
+    let (released, offers) = (status.released, status.offers);
+    let leaves = [
+        ("released", Leaf::Number(released.count)),
+        ("greatest", Leaf::Number(released.greatest)),
+        ("waiting", Leaf::Number(offers.waiting)),
+        ("lost", Leaf::Number(offers.lost)),
+        ("refused", Leaf::Number(offers.refused)),
+        ("unwritten", Leaf::Number(status.unwritten)),
+    ];
+    object(alloc, &leaves)
 }
 
 /// What is not well.
 fn health(alloc: Global, health: &Health) -> Result<Value, AllocError> {
-    json!(in alloc; {
-        "well": health.is_well(),
-        "old": health.is_old,
-        "alone": health.is_alone,
-        "missing": health.is_missing
-    })
+    let leaves = [
+        ("well", Leaf::Truth(health.is_well())),
+        ("old", Leaf::Truth(health.is_old)),
+        ("alone", Leaf::Truth(health.is_alone)),
+        ("missing", Leaf::Truth(health.is_missing)),
+    ];
+    object(alloc, &leaves)
+}
+
+/// Puts all that is told into an object.
+fn add_all(
+    whole: &mut Map<String, Value>,
+    alloc: Global,
+    status: &Status,
+    found: &Health,
+) -> Result<(), AllocError> {
+    let written = Leaf::Moment(Some(status.written));
+    add(whole, alloc, "station", station(alloc, status))?;
+    add(
+        whole,
+        alloc,
+        "members",
+        list(alloc, status.members.as_slice()),
+    )?;
+    add(
+        whole,
+        alloc,
+        "under_way",
+        list(alloc, status.busy.as_slice()),
+    )?;
+    add(whole, alloc, "missing", missing(alloc, &status.missing))?;
+    add(whole, alloc, "counts", counts(alloc, status))?;
+    add(whole, alloc, "written", written.value(alloc))?;
+    add(whole, alloc, "health", health(alloc, found))
 }
 
 /// A status, and whether it is well, as one object on a line.
@@ -119,23 +193,9 @@ pub(crate) fn json_of(
     status: &Status,
     found: &Health,
 ) -> Result<String, AllocError> {
-    let station = station(alloc, status)?;
-    let members = members(alloc, status.members.as_slice())?;
-    let under_way = all_busy(alloc, status.busy.as_slice())?;
-    let missing = missing(alloc, &status.missing)?;
-    let counts = counts(alloc, status)?;
-    let written = moment(alloc, &status.written)?;
-    let health = health(alloc, found)?;
-    let object = json!(in alloc; {
-        "station": station,
-        "members": members,
-        "under_way": under_way,
-        "missing": missing,
-        "counts": counts,
-        "written": written,
-        "health": health
-    })?;
-    let mut text = object.to_string(alloc)?;
+    let mut whole = Map::new(alloc);
+    add_all(&mut whole, alloc, status, found)?;
+    let mut text = Value::Object(whole).to_string(alloc)?;
     text.push_str("\n")?;
     Ok(text)
 }

@@ -1,8 +1,7 @@
 //! A status that is drawn again each second.
 
-use crate::command::{Shape, put, told_of};
+use crate::command::{Asked, print};
 use crate::fault::NoStatus;
-use configuration::Config;
 use std::io::Write;
 use std::thread;
 use std::time::Duration;
@@ -11,21 +10,17 @@ use std::time::Duration;
 const TIMES: u32 = 31_536_000;
 
 /// What stands before a drawing, so that it takes the place of the one before.
-const FRESH: &str = "\u{1b}[H\u{1b}[2J";
+pub(crate) const FRESH: &str = "\u{1b}[H\u{1b}[2J";
 
 /// Draws how a station stands again each second, on a terminal, until nothing can be told any more.
 pub(crate) fn watch<W: Write>(
     rt: &HostRuntime,
-    path: &str,
-    config: &Config,
+    asked: Asked<'_>,
     out: &mut W,
 ) -> Result<bool, NoStatus> {
     let mut is_well = true;
     for _ in 0..TIMES {
-        let (text, well) = told_of(rt, path, config, Shape::Watched)?;
-        put(FRESH, out)?;
-        put(text.as_str(), out)?;
-        is_well = well;
+        is_well = print(rt, asked, out)?;
         thread::sleep(rt, Duration::from_secs(1));
     }
     Ok(is_well)
