@@ -18,7 +18,7 @@ offers 3 waiting, 1 lost, 0 refused; releases 5 waiting to be written
 written 2026-11-26T20:51:10Z, form 1
 ";
 
-/// Texts, a line of dashes behind each, that are of a status.
+/// Texts, a line of dashes between two, that are of a status.
 const GOOD: &str = "\
 station 1 of 1 circuit 0 layout 1 since 1970-01-01T00:00:00Z
 released nothing
@@ -35,10 +35,9 @@ under way 1 offer ballot 4294967295.15
 missing 999999 since 2026-12-31T23:59:59Z
 offers 1 waiting, 2 lost, 3 refused; releases 4 waiting to be written
 written 2027-01-01T00:00:00Z, form 1
---
 ";
 
-/// Texts, a line of dashes behind each, that are of none.
+/// Texts, a line of dashes between two, that are of none.
 const BAD: &str = "\
 --
 written 1970-01-01T00:00:00Z, form 1
@@ -236,8 +235,16 @@ fn record(alloc: Global) -> Option<Status> {
 }
 
 /// The text of the example, from its record.
-fn example(alloc: Global) -> Option<String> {
+fn text_of_record(alloc: Global) -> Option<String> {
     text_of(alloc, &record(alloc)?).ok()
+}
+
+/// Whether it is the text of the example.
+fn is_example(alloc: Global) -> bool {
+    match text_of_record(alloc) {
+        Some(text) => text.as_str() == EXAMPLE,
+        None => false,
+    }
 }
 
 /// Why a text is read as no status, if it is not.
@@ -248,38 +255,47 @@ fn fault_of(alloc: Global, text: &str) -> Option<Unread> {
     }
 }
 
-/// Whether a text is that of a status.
-fn is_read(alloc: Global, text: &str) -> bool {
-    fault_of(alloc, text).is_none()
+/// What a text is read as.
+#[derive(Clone, Copy)]
+enum Reading {
+    Status,
+    NoStatus,
+    Later,
 }
 
-/// Whether a text is that of no status, nor of a later form of one.
-fn is_refused(alloc: Global, text: &str) -> bool {
-    matches!(fault_of(alloc, text), Some(Unread::NoStatus))
+/// Whether a text is read so.
+fn is_read_as(alloc: Global, text: &str, reading: Reading) -> bool {
+    match fault_of(alloc, text) {
+        None => matches!(reading, Reading::Status),
+        Some(Unread::NoStatus) => matches!(reading, Reading::NoStatus),
+        Some(Unread::Later) => matches!(reading, Reading::Later),
+        Some(Unread::OutOfMemory) => false,
+    }
+}
+
+/// The place among texts, a line of dashes between two, of the first that is not read so.
+fn amiss(alloc: Global, texts: &str, reading: Reading) -> Option<usize> {
+    for (place, text) in texts.split("--\n").enumerate() {
+        if !is_read_as(alloc, text, reading) {
+            return Some(place);
+        }
+    }
+    None
 }
 
 #[test]
 fn text_of_a_record(rt: HostRuntime) {
-    assert!(rt; example(rt.alloc()).is_some_and(|text| text.as_str() == EXAMPLE));
-    assert!(rt; is_read(rt.alloc(), EXAMPLE));
+    assert!(rt; is_example(rt.alloc()));
 }
 
 #[test]
 fn texts_that_are_read(rt: HostRuntime) {
-    for text in GOOD.split("--\n") {
-        assert!(rt; text.is_empty() || is_read(rt.alloc(), text), "{text}");
-    }
+    assert!(rt; amiss(rt.alloc(), EXAMPLE, Reading::Status) == None);
+    assert!(rt; amiss(rt.alloc(), GOOD, Reading::Status) == None);
 }
 
 #[test]
 fn texts_that_are_not(rt: HostRuntime) {
-    for text in BAD.split("--\n") {
-        assert!(rt; is_refused(rt.alloc(), text), "{text}");
-    }
-    for text in LATER.split("--\n") {
-        assert!(rt;
-            matches!(fault_of(rt.alloc(), text), Some(Unread::Later)),
-            "{text}"
-        );
-    }
+    assert!(rt; amiss(rt.alloc(), BAD, Reading::NoStatus) == None);
+    assert!(rt; amiss(rt.alloc(), LATER, Reading::Later) == None);
 }
