@@ -1,5 +1,5 @@
 -- Looks at the offers, files that leave them, and what follows of it.
-use Rattle.std.proofs.Common.{◌≡◌, ◌++◌, ◌∙◌, ◌⊎◌, ℕ, true, List, [], ◌∷◌, Option, Some, None, Result, Ok, Err, Vec, Global, inl, inr, refl, sym, ap, subst, append-nil, length, ◌==◌, arith}
+use Rattle.std.proofs.Common.{◌≡◌, ◌+◌, ◌++◌, ◌∙◌, ◌⊎◌, ℕ, zero, suc, drop, true, List, [], ◌∷◌, Option, Some, None, Result, Ok, Err, Vec, Global, inl, inr, refl, sym, ap, subst, append-nil, length, ◌==◌, arith}
 use Rattle.std.specs.Prelude.{flat_map, IfOk, IfSome, IfNone, IsErr, OnOk, OnErr}
 use Rattle.std.proofs.lemmas.Grind.{flat_map-append}
 use Rattle.std.proofs.lemmas.Bool.Decides.{nat_tests}
@@ -428,3 +428,24 @@ deals_kept_or a b w r e now m n (Err why) same ok err =
 pub no_items : (w : List File) (n : ℕ) → n ≡ length w → (n == 0) ≡ true → w ≡ []
 no_items [] n same e = refl
 no_items (x ∷ w) n same e = let none : n ≡ 0 = grind (arith, nat_tests) in absurd (omega arith)
+
+-- what is left of a list once its next is taken, if there is one
+rest_suc : {X : Type 0} (i : ℕ) (xs : List X) (x : X) (rest : List X) → drop i xs ≡ x ∷ rest → drop (suc i) xs ≡ rest
+rest_suc zero xs x rest is = ap (drop 1) is
+rest_suc (suc i) [] x rest is = absurd (omega (arith, ap length is))
+rest_suc (suc i) (y ∷ ys) x rest is = rest_suc i ys x rest is
+
+pub rest_of : {X : Type 0} (i : ℕ) (xs : List X) (x : X) (rest : List X) → drop i xs ≡ x ∷ rest → rest ≡ drop (i + 1) xs
+rest_of i xs x rest is = let next : suc i ≡ i + 1 = omega arith in subst (λ k. rest ≡ drop k xs) next (sym (rest_suc i xs x rest is))
+
+none_suc : {X : Type 0} (i : ℕ) (xs : List X) → drop i xs ≡ [] → drop (suc i) xs ≡ []
+none_suc zero xs is = ap (drop 1) is
+none_suc (suc i) [] is = refl
+none_suc (suc i) (y ∷ ys) is = none_suc i ys is
+
+pub none_of : {X : Type 0} (i : ℕ) (xs : List X) → drop i xs ≡ [] → drop (i + 1) xs ≡ []
+none_of i xs is = let next : suc i ≡ i + 1 = omega arith in subst (λ k. drop k xs ≡ []) next (none_suc i xs is)
+
+pub no_more : {X : Type 0} (xs : List X) → length xs ≡ 0 → xs ≡ []
+no_more [] is = refl
+no_more (x ∷ xs) is = absurd (omega (arith, is))

@@ -1,6 +1,7 @@
 //! A look at the folders: what waits is written, and what lies among the offers is found.
 
-ghost use Rattle.std.specs.Prelude.{◌≡◌};
+ghost use Rattle.std.specs.Prelude.{◌≡◌, ◌&&◌, is_some, not};
+ghost use Rattle.looks.specs.Looking.{is_due};
 ghost use Rattle.run_command.specs.Working.{Follows, Deals, Always, WritesAndDeals};
 
 use crate::plant::Plant;
@@ -66,14 +67,21 @@ impl<'f, 'p, F: Folders> Plant<'f, 'p, F> {
         }
     }
 
-    /// The same, where it is time for a look, and all is taken in that the last one found.
+    /// Whether it is time for a look, or for more of one, at a moment: not before all is taken in that the last one found.
+    fn is_due(&self, now: u64) -> bool
+        ensures { result ≡ (not (is_some self.now.papers.now.unseen) && is_due self.now.papers.now.looking.stage now) }
+    {
+        self.papers.unseen.is_none() && self.papers.looking.is_due(now)
+    }
+
+    /// The same, where it is time for a look.
     fn look_if_due<E: Write>(&mut self, now: u64, log: &mut Log<'_, E>)
         ensures folders { self.new.folders.ghost_name ≡ self.old.folders.ghost_name }
         ensures waits { self.new.papers.now.waits ≡ self.old.papers.now.waits }
         ensures texts { self.new.papers.now.texts ≡ self.old.papers.now.texts }
         ensures deals { Deals Always (F.doings self.old.folders.now) (F.doings self.new.folders.now) self.old.papers.now.waits.items self.old.papers.now.book self.new.papers.now.book }
     {
-        if self.papers.unseen.is_none() && self.papers.looking.is_due(now) {
+        if self.is_due(now) {
             self.look_at_offers(now, log);
         }
     }
