@@ -227,7 +227,7 @@ class Plant:
                 self.began.setdefault(int(words[0]), now)
             elif len(words) == 3 and words[1] == b'gave-up':
                 self.given_up.add(int(words[0]))
-            elif len(words) != 2:
+            elif len(words) != 2 and not line.startswith(b'station '):
                 self.other.append(line)
 
     def is_untrue(self):
