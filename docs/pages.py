@@ -10,7 +10,8 @@ It makes
                    function `step`, and [wire/src/door.rt#admit](../crates/wire/src/door.rt#L43) the function `admit` of that file.
 
 With --check nothing is written. It ends with 1, and a line for each fault, where one of these is not as the sources have it, where a link of
-a page names no file, no heading or no function, or where the rooms of MAP.md are not the crates, each on none of a room above its own.
+a page names no file, no heading or no function, where the rooms of MAP.md are not the crates, each on none of a room above its own, or
+where PROVED.md or MEASURED.md has more words than it may, or too many sentences are long.
 With --words it prints the words of each page, and how many of its lines hold a sentence of more than 40 words.
 """
 import glob
@@ -20,6 +21,9 @@ import sys
 
 TOP = os.path.dirname(os.path.dirname(os.path.abspath(__file__)))
 MOST_WORDS = 40
+# how many lines of all pages may hold a longer sentence, and how many words these pages may have
+MOST_LONG = 25
+MOST = {"docs/PROVED.md": 6000, "docs/MEASURED.md": 2000}
 
 # a function, a type or a word of specs/, and then its clauses or fields
 BEGINS = r"^\s*(?:pub(?:\(crate\))? )?(?:abbrev pub|fn|pub data|pub record|data|record|struct|enum|trait) {}\b"
@@ -199,12 +203,24 @@ def sentences_of(text):
         yield [sentence for cell in line.split("|") for sentence in re.split(r"(?<=[.!?])[*)]* ", cell)]
 
 
-def print_words():
+def words_of_pages():
+    """How many words each page has, and how many of its lines hold a sentence that is too long; then the same of all."""
     counts = []
     for page in pages():
         lines = [line for line in sentences_of(read(page)) if any(len(s.split()) > MOST_WORDS for s in line)]
         counts.append((len(read(page).split()), len(lines), page))
-    counts.append((sum(words for words, _, _ in counts), sum(long for _, long, _ in counts), "in all"))
+    return [*counts, (sum(words for words, _, _ in counts), sum(long for _, long, _ in counts), "in all")]
+
+
+def check_words():
+    *counts, (_, long, _) = words_of_pages()
+    faults.extend(f"{page}: {words} words, at most {MOST[page]}" for words, _, page in counts if words > MOST.get(page, words))
+    if long > MOST_LONG:
+        faults.append(f"{long} lines of the pages hold a sentence of more than {MOST_WORDS} words, at most {MOST_LONG}")
+
+
+def print_words():
+    counts = words_of_pages()
     print(f"  words  lines with a sentence above {MOST_WORDS}")
     print("\n".join(f"{words:7} {long:4}  {page}" for words, long, page in counts))
 
@@ -229,6 +245,7 @@ def main():
     anchors = {page: set(anchors_of(page)) for page in pages()}
     for page in pages():
         check_links(page, anchors)
+    check_words()
     if faults:
         sys.exit("\n".join(faults))
 
