@@ -152,6 +152,10 @@ class Plant:
             if time.monotonic() > until:
                 raise Wrong(f'{len(os.listdir(self.path("offers")))} files wait')
             time.sleep(0.1)
+        self.end()
+
+    def end(self):
+        """Ends the plant well."""
         self.put('stop', b'')
         if self.process.wait(20) != 0:
             raise Wrong(f'it ended with {self.process.returncode}')
@@ -231,7 +235,8 @@ def main():
         plant.start()
         plant.wait_for_start()
         time.sleep(1)
-        plant.kill()
+        # A kill may come while a search is moved that found nothing.
+        plant.end()
         plant.see_own_names()
     except Wrong as wrong:
         print(f'seed {seed}, in {plant.folder}: {wrong}')
