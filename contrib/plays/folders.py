@@ -179,6 +179,9 @@ def closed_streams(at):
                 os.close(descriptor)
 
         plant = up(at, preexec_fn=close)
+        for descriptor in descriptors:
+            held = os.readlink(f'/proc/{plant.pid}/fd/{descriptor}')
+            stage.wants(held == '/dev/null', f'{descriptor} of {descriptors} is {held}')
         lay(at, f'story{number}.tape', tape(at))
         lay(at, f'{number}.tape', tape(at))
         is_released(at, number)
