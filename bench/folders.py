@@ -9,7 +9,8 @@ there is kept beside. The plant is killed (SIGKILL) at a moment of its own, 300 
 
 At the end, once all that waits has left the offers and the plant was told to stop: each `N.tape` among the releases, those of all folders that stood there,
 is the entry that the row file has under N, and each `N.galley` the galley of it; each `N.tape` in `sent` is that entry too; each file that was laid and not
-replaced lies in some folder still; and after one more start nothing is left in the folders that stand there under a name of the station's own but the two files that lie ready.
+replaced lies in some folder still; and after one more start nothing is left in the folders that stand there under a name of the station's own
+but the two files that lie ready. Behind each kill `status` can read the status file.
 The status is 1 where anything is otherwise, and the folder stays.
 """
 import os
@@ -41,6 +42,7 @@ rows = "station.db"
 [folders]
 offers = "offers"
 releases = "releases"
+status = "status.txt"
 [[station]]
 member = 1
 ip = "127.0.0.1"
@@ -57,7 +59,7 @@ class Plant:
 
     def __init__(self, program, chance):
         self.program, self.chance, self.folder = program, chance, tempfile.mkdtemp()
-        self.laid, self.replaced, self.swaps, self.number, self.process = {}, 0, 0, 0, None
+        self.laid, self.replaced, self.swaps, self.number, self.statuses, self.process = {}, 0, 0, 0, 0, None
         for name in ('codes.toml', 'widths.toml'):
             shutil.copy(os.path.join(EXAMPLES, name), self.folder)
         for name in ('offers', 'releases'):
@@ -93,6 +95,15 @@ class Plant:
         self.process.send_signal(signal.SIGKILL)
         if self.process.wait() != -signal.SIGKILL:
             raise Wrong(f'it ended with {self.process.returncode}')
+        self.see_status()
+
+    def see_status(self):
+        """Whatever a kill cut off, the status file is one that `status` can read."""
+        if os.path.exists(self.path('status.txt')):
+            asked = subprocess.run([self.program, 'status', 'station.toml'], cwd=self.folder, stdout=subprocess.DEVNULL, stderr=subprocess.PIPE, check=False)
+            if asked.returncode not in (0, 1):
+                raise Wrong(f'status ends with {asked.returncode}: {asked.stderr}')
+            self.statuses += 1
 
     def put(self, name, data):
         """Lays a file: written under another name, then renamed."""
@@ -243,7 +254,7 @@ def main():
         plant.process.kill()
         sys.exit(1)
     print(f'{kills} kills, {plant.swaps} folders swapped, {len(plant.laid)} names laid, {plant.replaced} files replaced, {count} released files: '
-          f'none differs, none is lost, nothing lies in sent that was not read, nothing is left (seed {seed})')
+          f'none differs, none is lost, nothing lies in sent that was not read, nothing is left, {plant.statuses} statuses behind kills are whole (seed {seed})')
     shutil.rmtree(plant.folder)
 
 
