@@ -14,7 +14,7 @@ Told are, and the status is 1 where one of them does not hold:
     memory     what each plant had of memory a third into its longest life and at the end of it, in kB (VmRSS): at most 4 % more, and how
                many bytes more that is for each story that was released there meanwhile
 
-How many stories the plants lack that did not offer them is told and not judged: a plant asks for what it heard of, and for nothing else.
+How many stories the plants lack that did not offer them is told and not judged: a plant asks only for what one of the others told it of.
 """
 import argparse
 import os
