@@ -13,10 +13,11 @@ count is given, and a line is printed:
     story      from the rename of a story laid beside them to its galley among the releases of the first plant, the longest of five
     stop       from the laying of `stop` to the end of the first plant
 
-With --turns the first plant is watched by strace instead, which tells when it asks its socket, as it does once in each turn:
+With --turns the first plant is watched by a library that is loaded before the C library (turns.c). It tells when the plant asks its socket,
+as it does once in each turn:
 
     turn       the longest time between two such calls, in ten seconds in which nothing but looks happens; the longest of those in which
-               the disk was not asked to sync; and the median
+               the disk was not asked to sync; the most processor time of one; and the median
 
 Cases (all where none is named):
     left       names that are left alone: nothing is done with them, so that the look alone is seen
@@ -86,27 +87,20 @@ class Plants:
     def path(self, member, *names):
         return os.path.join(self.folder, f'plant{member}', *names)
 
-    def start(self, watched=False):
+    def start(self, watcher=None):
+        """Starts all; a watcher is loaded before the C library of the first, and tells of its turns."""
         for member in MEMBERS:
             err = open(self.path(member, 'err'), 'w')
-            watcher = ['strace', '-f', '--seccomp-bpf', '-e', 'trace=recvfrom,fsync,fdatasync', '-ttt', '-T', '-o', self.path(1, 'calls')] if watched and member == 1 else []
-            self.processes[member] = subprocess.Popen([*watcher, self.program, 'run', 'station.toml', '--create', '--layout', '2'], cwd=self.path(member),
-                                                      stdout=subprocess.DEVNULL, stderr=err)
+            watched = {'LD_PRELOAD': watcher, 'TURNS': self.path(1, 'turns')} if watcher and member == 1 else {}
+            self.processes[member] = subprocess.Popen([self.program, 'run', 'station.toml', '--create', '--layout', '2'], cwd=self.path(member),
+                                                      stdout=subprocess.DEVNULL, stderr=err, env={**os.environ, **watched})
 
     def turns(self):
-        """How long it was between two asks of the socket, and whether the disk was asked to sync, for each two, since SETTLES seconds after the
-        first."""
-        with open(self.path(1, 'calls'), encoding='utf-8', errors='replace') as calls:
-            told = [(words[2], float(words[1]), float(words[-1].strip('<>'))) for words in map(str.split, calls) if words[-1].startswith('<')]
-        turns, last, synced = [], None, False
-        for call, begun, took in told:
-            if not call.startswith('recvfrom'):
-                synced = True
-                continue
-            if last is not None and last > told[0][1] + SETTLES:
-                turns.append((begun - last, synced))
-            last, synced = begun + took, False
-        return turns
+        """Of each turn since SETTLES seconds after the first: how long it took by the clock and in processor time, and whether the disk was
+        asked to sync."""
+        with open(self.path(1, 'turns'), encoding='utf-8') as told:
+            lines = [tuple(map(float, line.split())) for line in told]
+        return [(took, worked, synced > 0) for ended, took, worked, synced in lines if ended - took > lines[0][0] + SETTLES]
 
     def took(self):
         """The processor time of the first plant so far."""
@@ -243,19 +237,26 @@ def lister(folder):
         return statistics.median(times)
 
 
+def made_watcher(place):
+    """The library that tells of turns."""
+    library = os.path.join(place, 'turns.so')
+    subprocess.run(['cc', '-O2', '-shared', '-fPIC', '-o', library, os.path.join(HERE, 'turns.c'), '-ldl'], check=True)
+    return library
+
+
 def watch(program, name, count):
     """How long the turns of a look are."""
     plants = Plants(program)
     try:
         CASES[name][0](plants.path(1, 'offers'), count)
-        plants.start(watched=True)
+        plants.start(made_watcher(plants.folder))
         time.sleep(SETTLES + WATCHED)
         plants.stop()
         turns = plants.turns()
-        longest, plain = max(took for took, _ in turns), max(took for took, synced in turns if not synced)
-        median = statistics.median(took for took, _ in turns)
-        print(f'{name:10} turn {1000 * longest:6.1f} ms at most, {1000 * plain:6.1f} ms without a sync, median {1000 * median:6.2f} ms, of {len(turns)}',
-              flush=True)
+        longest, plain = max(took for took, _, _ in turns), max(took for took, _, synced in turns if not synced)
+        median, worked = statistics.median(took for took, _, _ in turns), max(worked for _, worked, _ in turns)
+        print(f'{name:10} turn {1000 * longest:6.1f} ms at most, {1000 * plain:6.1f} ms without a sync, {1000 * worked:6.1f} ms of a processor; '
+              f'median {1000 * median:6.2f} ms, of {len(turns)}', flush=True)
     finally:
         plants.end()
 
