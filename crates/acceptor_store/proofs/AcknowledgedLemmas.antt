@@ -133,6 +133,11 @@ calls_rest g = record {
     station = subst (λ (i : Identity). LeavesStation g new i) (sym a.identity) (a.crash_station a.was_open a.ran);
     rows = λ left may n. a.crash_ok left may n ∙ sym (a.rows n);
   };
+  put_all = λ items old new was_open ran identity rows crash station opened. record {
+    is_open = opened;
+    station = subst (λ (i : Identity). LeavesStation g new i) (sym identity) (station was_open ran);
+    rows = λ left may n. crash left may n ∙ sym (rows n);
+  };
   get = λ old new rest was_open identity layout same crash. record {
     is_open = was_open;
     station = λ db may. subst (λ (i : Identity). IsOfStation (rows_layout new) i db) (sym identity)

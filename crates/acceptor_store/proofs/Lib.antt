@@ -3,6 +3,7 @@ pub mod IdentityLemmas
 pub mod StandLemmas
 pub mod RestLemmas
 pub mod UpgradeLemmas
+pub mod GroupLemmas
 pub mod OpeningLemmas
 mod ClosingLemmas
 pub mod FaultLemmas

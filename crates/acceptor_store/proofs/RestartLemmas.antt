@@ -32,7 +32,7 @@ use Rattle.row_columns.specs.Columns.{version_in, saved_in}
 use Rattle.row_columns.specs.StationRow.{IsStationOf}
 use Rattle.acceptor_store.specs.Sqlite.{SqliteOf, layout_code, rows_layout, rows_version, IsOurs, IsOfStation, saved_of}
 use Rattle.acceptor_store.specs.Files.{IsTakenUp}
-use Rattle.acceptor_store.specs.Restarts.{GivesUp, AreOpenedFrom, AreTorn, OpensWhatIsLeft, PutOutlivesCrash, UpgradeOutlivesCrash, CreateOutlivesCrash}
+use Rattle.acceptor_store.specs.Restarts.{GivesUp, AreOpenedFrom, AreTorn, OpensWhatIsLeft, PutOutlivesCrash, GroupOutlivesCrash, GroupIsFound, UpgradeOutlivesCrash, CreateOutlivesCrash}
 use Rattle.acceptor_store.proofs.IdentityLemmas.{added}
 use Rattle.acceptor_store.proofs.StandLemmas.{still, none_saved}
 use Rattle.acceptor_store.proofs.TableLemmas.{same_schema, same_layout}
@@ -129,6 +129,16 @@ pub put_outlives : {D : Type 0} {g : Ghosts D} {E : Type 0} {h : Ghosts E} → P
 put_outlives old new number row files left again station either gives clean may opened =
     let all = opens new old.identity files left again station gives clean may opened in
     (all.0, all.1, all.2, ∥∥₁_map all.3 (λ rows. torn_from (saved_of over_files old) number row (saved_of over_files again) (either (saved_of over_files again) rows)))
+
+pub group_outlives : {D : Type 0} {g : Ghosts D} {E : Type 0} {h : Ghosts E} → GroupOutlivesCrash D g E h
+group_outlives old new items files left again station either gives clean may opened =
+    let all = opens new old.identity files left again station gives clean may opened in
+    (all.0, all.1, all.2, ∥∥₁_map all.3 (λ rows. either (saved_of over_files again) rows))
+
+pub group_found : {D : Type 0} {g : Ghosts D} {E : Type 0} {h : Ghosts E} → GroupIsFound D g E h
+group_found old new items files left again station all_there gives clean may opened =
+    let all = opens new old.identity files left again station gives clean may opened in
+    (all.0, all.1, all.2, ∥∥₁_map all.3 (λ rows. all_there (saved_of over_files again) rows))
 
 pub upgrade_outlives : {D : Type 0} {g : Ghosts D} {E : Type 0} {h : Ghosts E} → UpgradeOutlivesCrash D g E h
 upgrade_outlives {h = h} old new files left again leaves gives clean may opened =

@@ -5,10 +5,12 @@ use Rattle.std.proofs.lemmas.Bool.Decides.{Decides-eqb}
 use Rattle.protocol.specs.Rows.{Row}
 use Rattle.protocol.specs.Turn.{number_of}
 use Rattle.protocol.specs.Versions.{Version, Two}
-use Rattle.protocol.specs.Circuit.{State, IsSameState, with_at, saved, offers_with, MayLeave, Torn_by_store, is_torn, at_save, restarts, upgrade_is_torn}
+use Rattle.protocol.specs.Ballots.{IsMember}
+use Rattle.protocol.specs.Circuit.{Circuit, State, IsSameState, with_at, saved, offers_with, MayLeave, Torn_by_store, is_torn, at_save, restarts, upgrade_is_torn}
 use Rattle.saved_rows.specs.Saved.{Saved}
 use Rattle.acceptor_store.specs.Restarts.{AreTorn}
-use Rattle.acceptor_store.specs.Steps.{CrashIsTwoSteps, UpgradeCrashIsTwoSteps}
+use Rattle.acceptor_store.specs.Acknowledged.{RestartsWith}
+use Rattle.acceptor_store.specs.Steps.{CrashIsTwoSteps, GroupCrashIsARestart, UpgradeCrashIsTwoSteps}
 
 pub at_itself : {A : Type 0} (f : ℕ → A) (m : ℕ) (x : A) → with_at f m x m ≡ x
 at_itself f m x = ap (λ b. if b then x else f m) ((Decides-eqb m m).1 refl)
@@ -65,3 +67,20 @@ two_upgrade_steps {D = D} {G = G} {F = F} z w m version rows member unarmed left
       has_no_marks = at_itself torn.marks m [];
       goes_on = at_itself torn.is_stopped m false;
     }
+
+restart_with : {D G F : Type 0} (z : Circuit D G F) (w : State G F) (m : ℕ) (version : Version) (rows : Saved) → IsMember z.count m → w.version m ≡ version
+    → ((n : ℕ) → w.rows m n ≡ rows n) → RestartsWith z w m version rows
+restart_with {G = G} {F = F} z w m version rows member at same =
+    let after : State G F = record w { marks = with_at w.marks m []; is_stopped = with_at w.is_stopped m false } in
+    record {
+      after = after;
+      restarts = restarts m member refl refl (same_state after);
+      has_version = at;
+      has_rows = same;
+      has_no_marks = at_itself w.marks m [];
+      goes_on = at_itself w.is_stopped m false;
+    }
+
+pub group_restart : {D G F : Type 0} → GroupCrashIsARestart D G F
+group_restart z before done m items version rows member was is led (inl none) = inl (restart_with z before m version rows member was (λ n. sym (none n)))
+group_restart z before done m items version rows member was is led (inr all) = inr (restart_with z done m version rows member is (λ n. led n ∙ sym (all n)))

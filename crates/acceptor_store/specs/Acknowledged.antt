@@ -1,5 +1,5 @@
 -- Saves that were acknowledged, and rows at rest: what a crash leaves of them at any later moment, and what the next start finds.
-use Rattle.std.specs.Prelude.{◌≡◌, ◌≢◌, ℕ, [], false}
+use Rattle.std.specs.Prelude.{◌≡◌, ◌≢◌, ℕ, List, [], false}
 use Rattle.sqlite_disk.specs.declared.Disk as disk
 use Rattle.sqlite_disk.specs.declared.Files.{Files}
 use Rattle.sqlite.specs.WalReads.{AreClean}
@@ -13,6 +13,8 @@ use Rattle.protocol.specs.Rows.{Row}
 use Rattle.protocol.specs.Versions.{Version}
 use Rattle.protocol.specs.Circuit.{Circuit, State, Restarts, Restarted, StepsTo}
 use Rattle.saved_rows.specs.Saved.{Saved, SameRows, WithRow, IsEither}
+use Rattle.row_groups.specs.Groups.{WithAll}
+use Rattle.acceptor_store.specs.Grouping.{LeavesWithAll}
 use Rattle.acceptor_store.specs.Sqlite.{SqliteOf, IsAtRest, IsOpen, IsOurs, rows_layout, rows_version, saved_of, LeavesStation, LeavesAll, LeavesEither, LeavesItsStation, LeavesNoOther, LeavesSameRows, LeavesWithRow}
 use Rattle.acceptor_store.specs.Restarts.{GivesUp, AreOpenedFrom}
 
@@ -45,10 +47,13 @@ module _ {S : Type 0} (g : Ghosts S) where
     no_call : {now : SqliteOf S} → now ≡ first → GoesOn number first now
     one_more : {mid now : SqliteOf S} → GoesOn number first mid → IsOpen g mid → SavesNothingUnder number mid now → GoesOn number first now
 
-  -- a save, a reading of rows at rest and an upgrade leave rows at rest, where the save and the upgrade answered Ok and the rows are still open
+  -- a save, one of rows together, a reading of rows at rest and an upgrade leave rows at rest, where the saves and the upgrade answered Ok and the rows are still open
   pub record LeavesRowsAtRest : Type 0 where
     pub put :
         (number : ℕ) (row : Row) (old new : SqliteOf S) → WasAcknowledged number row old new → IsOpen g new → IsAtRest g new
+    pub put_all :
+        (items : List (ℕ × Row)) (old new : SqliteOf S) → IsOpen g old → old.stopped ≡ false → new.identity ≡ old.identity
+        → WithAll (saved_of g old) items (saved_of g new) → LeavesWithAll g items old new → LeavesItsStation g old new → IsOpen g new → IsAtRest g new
     pub get :
         (old new : SqliteOf S) → IsAtRest g old → IsOpen g new → new.identity ≡ old.identity → rows_layout new ≡ rows_layout old
         → SameRows (saved_of g old) (saved_of g new) → LeavesNoOther g old new → IsAtRest g new

@@ -4,6 +4,7 @@ pub use Rattle.saved_rows.specs.Identity
 pub mod Sqlite
 pub mod Opening
 pub mod Statements
+pub mod Grouping
 pub mod Upgrading
 pub mod Faults
 pub mod Files

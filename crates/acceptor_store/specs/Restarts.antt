@@ -1,5 +1,5 @@
 -- From a crash to the next start: what an open finds in the files that the crash left.
-use Rattle.std.specs.Prelude.{◌≡◌, ◌≢◌, ◌⊎◌, ◌<◌, ◌^◌, ℕ, None}
+use Rattle.std.specs.Prelude.{◌≡◌, ◌≢◌, ◌⊎◌, ◌<◌, ◌^◌, ℕ, None, List}
 use Rattle.sqlite_disk.specs.declared.Disk.{Ghosts}
 use Rattle.sqlite_disk.specs.declared.Files.{Files}
 use Rattle.sqlite.specs.WalReads.{AreClean}
@@ -16,6 +16,7 @@ use Rattle.protocol.specs.Rows.{Row, blank}
 use Rattle.protocol.specs.Versions.{Version, Two}
 use Rattle.protocol.specs.Circuit.{MayLeave as MayLeaveTorn, Torn_by_store}
 use Rattle.saved_rows.specs.Saved.{Saved, SameRows, IsEither}
+use Rattle.row_groups.specs.Groups.{WithAll, IsAllOrNone}
 use Rattle.saved_rows.specs.Identity.{IsIdentity}
 use Rattle.saved_rows.specs.declared.identity.Identity.{Identity}
 use Rattle.row_columns.specs.StationRow.{stored_station}
@@ -60,6 +61,25 @@ PutOutlivesCrash D g E h =
     → GivesUp g new.conn files → AreClean g files.log files.db → outcomes g files.log files.db left → AreOpenedFrom left again
     → IsOurs again.alone again.was again.found × (rows_layout again ≡ rows_layout new) × (again.identity ≡ old.identity)
     × ∥ AreTorn (saved_of over_files old) number row (saved_of over_files again) ∥₁
+
+-- The same after rows were to be saved together, as `put_all` promises of what a crash leaves then: none of them is saved, or all are,
+-- of the same station
+abbrev pub GroupOutlivesCrash : (D : Type 0) (g : Ghosts D) (E : Type 0) (h : Ghosts E) → Type 0
+GroupOutlivesCrash D g E h =
+    (old new : SqliteOf (FileStore D g)) (items : List (ℕ × Row)) (files : Files D) (left : Image) (again : SqliteOf (FileStore E h))
+    → LeavesStation over_files new old.identity → ((rows : Saved) → MayLeave over_files new rows → IsAllOrNone (saved_of over_files old) items rows)
+    → GivesUp g new.conn files → AreClean g files.log files.db → outcomes g files.log files.db left → AreOpenedFrom left again
+    → IsOurs again.alone again.was again.found × (rows_layout again ≡ rows_layout new) × (again.identity ≡ old.identity)
+    × ∥ IsAllOrNone (saved_of over_files old) items (saved_of over_files again) ∥₁
+
+-- and after an Ok, as `put_all` promises of what a crash leaves then: each of them is found
+abbrev pub GroupIsFound : (D : Type 0) (g : Ghosts D) (E : Type 0) (h : Ghosts E) → Type 0
+GroupIsFound D g E h =
+    (old new : SqliteOf (FileStore D g)) (items : List (ℕ × Row)) (files : Files D) (left : Image) (again : SqliteOf (FileStore E h))
+    → LeavesStation over_files new old.identity → ((rows : Saved) → MayLeave over_files new rows → WithAll (saved_of over_files old) items rows)
+    → GivesUp g new.conn files → AreClean g files.log files.db → outcomes g files.log files.db left → AreOpenedFrom left again
+    → IsOurs again.alone again.was again.found × (rows_layout again ≡ rows_layout new) × (again.identity ≡ old.identity)
+    × ∥ WithAll (saved_of over_files old) items (saved_of over_files again) ∥₁
 
 -- the version of a station after an upgrade that its own store tore, and its rows: the version is the one before or version 2, and no row is changed
 pub record AreUpgradeTorn (was : Version) (before : Saved) (now : Version) (after : Saved) : Type 0 where

@@ -1,11 +1,14 @@
 -- A crash of a station as it saves, or goes over, in the words of a circuit.
-use Rattle.std.specs.Prelude.{◌≡◌, ℕ, Some, None, false, []}
+use Rattle.std.specs.Prelude.{◌≡◌, ◌⊎◌, ℕ, Some, None, false, List, []}
 use Rattle.protocol.specs.Ballots.{IsMember}
 use Rattle.protocol.specs.Turn.{Event, number_of, Turn, turn}
 use Rattle.protocol.specs.Refusals.{Call, refusal, event_of}
 use Rattle.protocol.specs.Versions.{Version}
 use Rattle.protocol.specs.Circuit.{Circuit, State, Step, Restarts, Upgrades, Restarted, Torn_by_store, seat_at, task_of, setup_of, StepsTo}
+use Rattle.protocol.specs.Rows.{Row}
 use Rattle.saved_rows.specs.Saved.{Saved}
+use Rattle.row_groups.specs.Groups.{WithAll, IsAllOrNone}
+use Rattle.acceptor_store.specs.Acknowledged.{RestartsWith}
 use Rattle.acceptor_store.specs.Restarts.{AreTorn, AreUpgradeTorn}
 
 -- two steps of a circuit: the step that the member's store tore, and the member's restart; it has these rows then, at this version
@@ -36,3 +39,12 @@ UpgradeCrashIsTwoSteps D G F =
     (z : Circuit D G F) (w : State G F) (m : ℕ) (version : Version) (rows : Saved)
     → IsMember z.count m → w.armed m ≡ None → AreUpgradeTorn (w.version m) (w.rows m) version rows
     → TearsAndRestarts z w (Upgrades m) m version rows
+
+-- A crash of a station that took steps whose rows were to be saved together, which led a circuit from `before` to `done` at one version, where the
+-- next open takes up none of those rows or all: the member starts again before those steps, or after them, and then all that they handed out is lost
+abbrev pub GroupCrashIsARestart : (D G F : Type 0) → Type 0
+GroupCrashIsARestart D G F =
+    (z : Circuit D G F) (before done : State G F) (m : ℕ) (items : List (ℕ × Row)) (version : Version) (rows : Saved)
+    → IsMember z.count m → before.version m ≡ version → done.version m ≡ version
+    → WithAll (before.rows m) items (done.rows m) → IsAllOrNone (before.rows m) items rows
+    → RestartsWith z before m version rows ⊎ RestartsWith z done m version rows

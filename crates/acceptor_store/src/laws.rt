@@ -2,8 +2,8 @@
 //! `D` are the disks before the crash, `E` those of the next start.
 
 ghost use Rattle.acceptor_store.specs.Acknowledged.{AcknowledgedSaveIsFound, CrashAtRestIsRestart, CrashAtRestLosesNothing, LeavesRowsAtRest};
-ghost use Rattle.acceptor_store.specs.Restarts.{OpensWhatIsLeft, PutOutlivesCrash, UpgradeOutlivesCrash, CreateOutlivesCrash};
-ghost use Rattle.acceptor_store.specs.Steps.{CrashIsTwoSteps, UpgradeCrashIsTwoSteps};
+ghost use Rattle.acceptor_store.specs.Restarts.{OpensWhatIsLeft, PutOutlivesCrash, GroupOutlivesCrash, GroupIsFound, UpgradeOutlivesCrash, CreateOutlivesCrash};
+ghost use Rattle.acceptor_store.specs.Steps.{CrashIsTwoSteps, GroupCrashIsARestart, UpgradeCrashIsTwoSteps};
 
 use sqlite::Alter;
 use sqlite_disk::Disk;
@@ -51,7 +51,23 @@ pub fn a_crash_at_rest_is_a_restart<D: Disk, E: Disk, B, G, F>()
     ensures restart { CrashAtRestIsRestart D D.Disk E E.Disk B G F }
 {}
 
-/// A save and an upgrade that are answered Ok leave rows at rest, and so does a reading of rows at rest, while they are open.
+/// A save, one of rows together and an upgrade that are answered Ok leave rows at rest, and so does a reading of rows at rest, while they are open.
 pub fn calls_leave_rows_at_rest<S: Alter>()
     ensures { LeavesRowsAtRest S.Store }
+{}
+
+/// After a crash in a save of rows together an open finds none of them or all.
+pub fn a_group_outlives_crashes<D: Disk, E: Disk>()
+    ensures { GroupOutlivesCrash D D.Disk E E.Disk }
+{}
+
+/// After a crash behind the Ok of such a save an open finds all of them.
+pub fn a_group_is_found<D: Disk, E: Disk>()
+    ensures { GroupIsFound D D.Disk E E.Disk }
+{}
+
+/// A crash of a station before, in or after a save of rows together, and its next start, are the restart of a circuit: before the
+/// steps whose rows they are, or after them.
+pub fn a_group_crash_is_a_restart<D, G, F>()
+    ensures { GroupCrashIsARestart D G F }
 {}

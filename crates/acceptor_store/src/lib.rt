@@ -4,6 +4,7 @@
 mod closing;
 mod faults;
 mod given_up;
+mod group;
 mod host_file;
 pub mod laws;
 mod make_tables;

@@ -13,8 +13,10 @@ ghost use Rattle.row_columns.specs.StationRow.{IsStationOf};
 ghost use Rattle.row_columns.specs.Layouts.{layout_now, made_in};
 ghost use Rattle.acceptor_store.specs.Sqlite.{rows_layout, rows_version};
 ghost use Rattle.acceptor_store.specs.Reading.{SeesAll, SeesFront};
+ghost use Rattle.row_groups.specs.Groups.{ArePromised, WithAll, WithSome};
 ghost use Rattle.saved_rows.specs.Saved.{SameRows, WithRow, IsListOf, HasPromise, RowFits, AreFitting, Rises};
 
+use crate::group::save_all;
 use crate::make_tables::make_tables;
 use crate::opening::take_up;
 use crate::reading::{RowVisitor, show_all};
@@ -22,6 +24,7 @@ use crate::statements::{fault_of, list, read, save};
 use crate::upgrade::go_over;
 use ballots::{Number, Row};
 use row_columns::{Layout, has_any, layout_now, made_in, version_in};
+use row_groups::{SavesAll, Settles};
 use saved_rows::{Identity, Rows, RowsFault};
 use sqlite::{Alter, Connection};
 use sqlite_schema::schema::Schema;
@@ -473,5 +476,77 @@ impl<S: Alter + Drop> Rows for SqliteRows<S> {
                 Err(fault)
             }
         }
+    }
+}
+
+impl<S: Alter + Drop> SavesAll for SqliteRows<S> {
+    ghost use Rattle.acceptor_store.specs.Sqlite.{IsKept, IsOpen, saved_of, IsRefusal, Blames, LeavesItsStation};
+    ghost use Rattle.acceptor_store.specs.Grouping.{HoldsAllOrNone, LeavesAllOrNone, LeavesWithAll};
+
+    // After the Ok a crash leaves all of these rows.
+    ghost stores = { λ old new items. IsKept S.Store new → LeavesWithAll S.Store items old new };
+
+    // After an Err, and in the call, it leaves all or none; and the station as it was.
+    ghost leaves = { λ old new items. IsKept S.Store new → LeavesAllOrNone S.Store items old new × LeavesItsStation S.Store old new };
+
+    /// All or none, in one transaction.
+    fn put_all(&mut self, items: &[(Number, Row)]) -> Result<(), RowsFault>
+        requires promised { ArePromised items.now }
+        requires fits { AreFitting (rows_version self.old) items.now }
+        ensures rows { IsKept S.Store self.new → OnOk result (WithAll (saved_of S.Store self.old) items.now (saved_of S.Store self.new)) }
+        ensures open { IsKept S.Store self.new → OnOk result (IsOpen S.Store self.new) }
+        ensures version { rows_version self.new ≡ rows_version self.old }
+        ensures stores { OnOk result (IsKept S.Store self.new → LeavesWithAll S.Store items.now self.old self.new) }
+        ensures leaves { IsKept S.Store self.new → LeavesAllOrNone S.Store items.now self.old self.new × LeavesItsStation S.Store self.old self.new }
+        ensures all_or_none { IsKept S.Store self.new → OnErr result (HoldsAllOrNone S.Store items.now self.old self.new) }
+        ensures first { IsKept S.Store self.new → OnErr result ((¬ IsOpen S.Store self.new) ⊎ WithSome (saved_of S.Store self.old) items.now (saved_of S.Store self.new)) }
+        ensures cause { OnErr result (Rises self.old.refusals self.new.refusals) }
+        ensures counts { self.old.refusals ≤ self.new.refusals }
+        ensures was_kept { IsKept S.Store self.new → IsKept S.Store self.old }
+        ensures was_open { IsKept S.Store self.new → IsOpen S.Store self.new → IsOpen S.Store self.old }
+
+        // A refused save stops it.
+        ensures stopped { IsTrue self.old.stopped → result ≡ Err RowsFault.Store }
+        ensures stops { OnErr result (IsTrue self.new.stopped) }
+        ensures goes_on { OnOk result (self.new.stopped ≡ self.old.stopped) }
+        ensures undamaged { IfErr result IsRefusal }
+        ensures blames { IfErr result (Blames S.Store self.old self.new) }
+        ensures station { self.new.identity ≡ self.old.identity }
+        ensures layout { self.new.upgraded ≡ self.old.upgraded }
+
+        // What the store owes stays as it was.
+        ensures ours { (self.new.alone ≡ self.old.alone) × (self.new.was ≡ self.old.was) × (self.new.found ≡ self.old.found) }
+    {
+        if self.stopped {
+            self.refusals = self.refusals.saturating_add(1);
+            return Err(RowsFault::Store);
+        }
+        let layout = layout_now(self.was, self.upgraded);
+        match save_all(self.alloc, &mut self.conn, layout, items) {
+            Ok(()) => Ok(()),
+            Err(fault) => {
+                // Whether the rows are saved is not known.
+                stop(&mut self.stopped, &mut self.refusals);
+                Err(fault)
+            }
+        }
+    }
+}
+
+/// Each save is stored at once.
+impl<S: Alter + Drop> Settles for SqliteRows<S> {
+    ghost use Rattle.std.specs.Prelude.{Ok, refl};
+    ghost use Rattle.acceptor_store.specs.Sqlite.{saved_of};
+
+    ghost stored = { saved_of S.Store };
+
+    ghost is_settled = { λ _. Unit {0} };
+
+    ghost stored_as_read = { λ s settled n. refl };
+
+    fn settle(&mut self) -> Result<(), RowsFault>
+        ensures { (result ≡ Ok tt) × (self.new ≡ self.old) }
+    {
+        Ok(())
     }
 }

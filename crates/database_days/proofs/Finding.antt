@@ -26,13 +26,13 @@ use Rattle.days.specs.Handing.{FindsRows, HasSaved}
 use Rattle.database_days.specs.Starting.{Saves, StartsHandOver, WereRead, WereSaved}
 use Rattle.database_days.proofs.Deciding.{rows}
 
-is_set : (a b : Row) (x y : a ≡ b) → x ≡ y
+pub is_set : (a b : Row) (x y : a ≡ b) → x ≡ y
 is_set = Coded-set row_code.the_row.coded
 
 put_there : (saved : Saved) (number : ℕ) (row : Row) → with_row saved number row number ≡ row
 put_there saved number row = ap (λ (b : Bool). if b then row else saved number) ((Decides-eqb number number).1 refl)
 
-put_elsewhere : (saved : Saved) (number n : ℕ) (row : Row) → (n == number) ≡ false → with_row saved number row n ≡ saved n
+pub put_elsewhere : (saved : Saved) (number n : ℕ) (row : Row) → (n == number) ≡ false → with_row saved number row n ≡ saved n
 put_elsewhere saved number n row apart = ap (λ (b : Bool). if b then row else saved n) apart
 
 -- which of the two it was can be told

@@ -3,6 +3,7 @@
 
 mod creating;
 mod disks;
+mod grouping;
 mod lives;
 mod offering;
 mod runs;

@@ -15,10 +15,11 @@ use Rattle.world.specs.Laws.{CircuitsExist, StationsAgree}
 use Rattle.world.specs.Setups.{StationCircuit, StationState}
 use Rattle.days.specs.Happening.{Happened, did, ended, began, Releases, WasReleased}
 use Rattle.days.specs.Handing.{Plants, Begins, HasNoRow, Member, runs, over}
-use Rattle.days.specs.Days.{Day, dawns, answers, refuses, ends, begins, IsDayAgreed, OfferedFirst, DaysAgree}
+use Rattle.days.specs.Days.{Day, dawns, answers, settles, refuses, ends, begins, IsDayAgreed, OfferedFirst, DaysAgree}
 use Rattle.days.proofs.Showing.{IsOf, Shows, same_state}
 use Rattle.days.proofs.Standing.{ShowsMember, Stands, was_either}
 use Rattle.days.proofs.Answering.{stands_answered, stands_refused}
+use Rattle.days.proofs.Settling.{stands_settled}
 use Rattle.days.proofs.Beginning.{stands_ended, stands_begun}
 
 abbrev version_of : {R : Type 0} → Ghosts R → Member R → Version
@@ -55,7 +56,6 @@ dawned {R = R} g p z at first = record {
           widths = new.widths;
           wire = new.wire ∙ version;
           version = version;
-          is_open = new.is_open;
           rows = none;
           marks = new.stands_for;
           goes = new.goes;
@@ -67,6 +67,8 @@ stands : {R : Type 0} (g : Ghosts R) (p : Plants) (z : StationCircuit) (is : IsO
 stands g p z is day at (dawns first_at first) = dawned g p z first_at first
 stands g p z is day at (answers {day = before} {at = was} d m call old new answer member here came kept step) =
     stands_answered g p z is before was (stands g p z is before was d) m call old new answer member here came kept step
+stands g p z is day at (settles {at = was} d m old new member here kept reads) =
+    stands_settled g p z day was (stands g p z is day was d) m old new member here kept reads
 stands g p z is day at (refuses {day = before} {at = was} d m call ending last member here) = stands_refused g p z is before was (stands g p z is before was d) m call
 stands g p z is day at (ends {day = before} {at = was} d m ending last member here came) =
     stands_ended g p z is before was (stands g p z is before was d) m ending last member here came
@@ -82,6 +84,7 @@ numbered : {R : Type 0} (g : Ghosts R) (p : Plants) (day : List Happened) (at : 
 numbered g p day at (dawns first_at first) m r it = absurd it.1
 numbered g p day at (answers {day = before} {at = was} d k call old new answer member here came kept step) m r it =
     elim (was_either (did k call answer) before (Releases m r) it) [ inl last ↦ by_answer call answer m k r step.numbered last | inr was_so ↦ numbered g p before was d m r was_so ]
+numbered g p day at (settles {at = was} d k old new member here kept reads) m r it = numbered g p day was d m r it
 numbered g p day at (refuses {day = before} {at = was} d k call ending last member here) m r it =
     elim (was_either (did k call (Err Stopped)) before (Releases m r) it) [ inl now ↦ absurd now | inr was_so ↦ numbered g p before was d m r was_so ]
 numbered g p day at (ends {day = before} {at = was} d k ending last member here came) m r it =
@@ -107,6 +110,7 @@ module _ (agree : StationsAgree) (exist : CircuitsExist) {R : Type 0} (g : Ghost
   offered_first day at (dawns first_at first) = tt
   offered_first day at (answers {day = before} {at = was} d m call old new answer member here came kept step) =
       (λ k r it. (day_agrees _ _ (answers d m call old new answer member here came kept step)).offered k r (_, inl refl, it), offered_first before was d)
+  offered_first day at (settles {at = was} d m old new member here kept reads) = offered_first day was d
   offered_first day at (refuses {day = before} {at = was} d m call ending last member here) =
       (λ k r it. absurd it, offered_first before was d)
   offered_first day at (ends {day = before} {at = was} d m ending last member here came) =

@@ -115,7 +115,6 @@ module _ {R : Type 0} (g : Ghosts R) (p : Plants) (z : StationCircuit) (is : IsO
       widths = ap (λ (s : Station R). s.widths) d.same ∙ shows.widths;
       wire = wire_now;
       version = version ∙ shows.version;
-      is_open = d.is_open;
       rows = λ n. d.read.same d.is_open n ∙ shows.rows n;
       marks = subst (λ (s : Station R). CoreStandsFor s.speaker.core (w.marks m)) (sym d.same) shows.marks;
       goes = ap (λ (s : Station R). s.stopped) d.same ∙ shows.goes;
@@ -162,7 +161,6 @@ module _ {R : Type 0} (g : Ghosts R) (p : Plants) (z : StationCircuit) (is : IsO
         widths = d.fixed.widths ∙ shows.widths;
         wire = wire_now;
         version = version ∙ shows.version;
-        is_open = d.is_open;
         rows = λ j. d.rows j ∙ ((λ k. with_at (λ q. shows.rows q k) (number_of e) d.taken.row j) ∙ sym (saved_here w.rows m (number_of e) d.taken.row j));
         marks = subst (λ (l : List Mark). CoreStandsFor new.speaker.core l) (sym (with_at-same w.marks m d.taken.marks)) d.stands_for;
         goes = d.goes_on;

@@ -77,7 +77,6 @@ module _ {R : Type 0} (g : Ghosts R) (p : Plants) (z : StationCircuit) (is : IsO
       widths = new.widths;
       wire = new.wire ∙ wt.version;
       version = wt.version;
-      is_open = new.is_open;
       rows = wt.rows;
       marks = subst (λ (ms : List Mark). CoreStandsFor next.speaker.core ms) (sym (with_at-same wt.w.marks m [])) new.stands_for;
       goes = new.goes;

@@ -2,6 +2,7 @@ mod Asking
 mod Showing
 mod Standing
 mod Answering
+mod Settling
 mod Beginning
 mod Agreeing
 mod Playing

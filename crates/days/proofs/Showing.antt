@@ -42,7 +42,6 @@ pub record Shows {R : Type 0} (g : Ghosts R) (p : Plants) (w : StationState) (m 
   pub widths : s.widths ≡ p.files m
   pub wire : s.speaker.wire ≡ w.version m
   pub version : g.version s.rows ≡ w.version m
-  pub is_open : g.is_open s.rows
   pub rows : (n : ℕ) → g.saved s.rows n ≡ w.rows m n
   pub marks : CoreStandsFor s.speaker.core (w.marks m)
   pub goes : s.stopped ≡ false

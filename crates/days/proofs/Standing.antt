@@ -106,7 +106,6 @@ still g p v w m others k far s old = record {
   widths = old.widths;
   wire = old.wire ∙ sym (others.version k far);
   version = old.version ∙ sym (others.version k far);
-  is_open = old.is_open;
   rows = λ n. old.rows n ∙ sym (others.rows k far n);
   marks = subst (λ (ms : List Mark). CoreStandsFor s.speaker.core ms) (sym (others.marks k far)) old.marks;
   goes = old.goes;

@@ -11,6 +11,7 @@ use Rattle.station.specs.declared.answer.Release.{Release}
 use Rattle.station.specs.declared.station.Station.{Station}
 use Rattle.station.specs.Readiness.{SetsEntry, slugs_of, IsNumber}
 use Rattle.station.specs.Stations.{sight}
+use Rattle.station.specs.Settling.{IsReadAlike}
 use Rattle.station.specs.Steps.{IsStep}
 use Rattle.refusals.specs.declared.refusal.StepRefusal.{StepRefusal}
 use Rattle.refusals.specs.declared.refusal.StepRefusal.TheVariants.{Stopped}
@@ -27,6 +28,10 @@ pub data Day {R : Type 0} (g : Ghosts R) (p : Plants) : List Happened → (ℕ �
       {day : List Happened} {at : ℕ → Member R} → Day g p day at → (m : ℕ) (call : Call) (old new : Station R) (answer : Result Answer StepRefusal)
       → IsMember p.count m → at m ≡ runs old → Came day m call → g.kept new.rows → IsStep g call old new answer
       → Day g p (did m call answer ∷ day) (with_at at m (after_call call answer old new))
+  -- a process stores what its station saved, which is read as before
+  settles :
+      {day : List Happened} {at : ℕ → Member R} → Day g p day at → (m : ℕ) (old new : Station R)
+      → IsMember p.count m → at m ≡ runs old → g.kept new.rows → IsReadAlike g old new → Day g p day (with_at at m (runs new))
   -- a process whose station has stopped calls it again, and is refused
   refuses :
       {day : List Happened} {at : ℕ → Member R} → Day g p day at → (m : ℕ) (call : Call) (ending : Ending) (last : Station R)

@@ -1,18 +1,41 @@
-//! A day of two members, played to its first release: there is one.
+//! A day of two members, played to its first release: there is one. They store their steps in groups.
 
 ghost use Rattle.std.specs.Prelude.{IfSome};
-ghost use Rattle.days.specs.Examples.{DayOfTwo, TookIn};
+ghost use Rattle.protocol.specs.Entries.{Taped};
+ghost use Rattle.days.specs.Examples.{DayOfTwo, OfferedBoth, Received, TookIn};
 
 use code_table::CodeTable;
+use row_groups::{Grouped, Settles};
 use saved_rows::{MemoryRows, Rows};
 use station::{Answer, Release, Station};
 use std::alloc::Global;
 use tape_frames::Tape;
 use widths::Widths;
 
-/// Takes in the first datagram that an answer hands out, where it is for this member.
-fn take_in<R: Rows>(station: &mut Station<R>, me: u8, sent: &Answer, now: u64) -> Option<Answer>
-    ensures { IfSome result (TookIn R.Rows me sent.now now station.old station.new) }
+/// Offers a tape for the numbers 12 and 13, and stores by one call what was saved for both. Only then may the answer for 12 go out.
+fn offer_both<R: Settles>(station: &mut Station<R>, tape: &Tape, now: u64) -> Option<Answer>
+    ensures { IfSome result (OfferedBoth R.Rows R.Settles.is_settled (Taped tape.now) now station.old station.new) }
+{
+    let Ok(answer) = station.offer(12, tape, now) else {
+        return None;
+    };
+    let Ok(_) = station.offer(13, tape, now) else {
+        return None;
+    };
+    let Ok(()) = station.settle() else {
+        return None;
+    };
+    Some(answer)
+}
+
+/// Calls the station with the first datagram that an answer hands out, where it is for this member.
+fn receive_first<R: Rows>(
+    station: &mut Station<R>,
+    me: u8,
+    sent: &Answer,
+    now: u64,
+) -> Option<Answer>
+    ensures { IfSome result (Received R.Rows me sent.now now station.old station.new) }
 {
     if sent.out.len() < 1 {
         return None;
@@ -27,27 +50,37 @@ fn take_in<R: Rows>(station: &mut Station<R>, me: u8, sent: &Answer, now: u64) -
     }
 }
 
-/// Plays two members of circuit 7, over rows in memory, to the first release: the first is offered a tape for number 12, and
-/// what they send each other comes. Between its promise and its vote the second starts again. `None` where there is no memory,
-/// or the tape does not set at the first.
+/// Takes that datagram in, and stores what was saved for it. Only then may the answer go out.
+fn take_in<R: Settles>(station: &mut Station<R>, me: u8, sent: &Answer, now: u64) -> Option<Answer>
+    ensures { IfSome result (TookIn R.Rows R.Settles.is_settled me sent.now now station.old station.new) }
+{
+    let answer = receive_first(station, me, sent, now)?;
+    match station.settle() {
+        Ok(()) => Some(answer),
+        Err(_) => None,
+    }
+}
+
+/// Plays two members of circuit 7, over rows in memory that are stored in groups, to the first release: the first is offered a
+/// tape for the numbers 12 and 13, and what they send each other of 12 comes. What a member saved is stored before it sends. Between
+/// its promise and its vote the second starts again. `None` where there is no memory, or the tape does not set at the first.
 pub fn release_of_two(
     alloc: Global,
     first: (CodeTable, Widths),
     second: (CodeTable, Widths),
     tape: &Tape,
 ) -> Option<Release>
-    ensures { IfSome result (DayOfTwo ⟦<MemoryRows as Rows>⟧) }
+    ensures { IfSome result (DayOfTwo ⟦<Grouped<MemoryRows> as Rows>⟧ ⟦<Grouped<MemoryRows> as Settles>⟧.is_settled) }
 {
-    let Ok(mut one) = Station::new(alloc, 7, 1, 2, first.0, first.1, MemoryRows::new(alloc)) else {
+    let rows = Grouped::new(alloc, MemoryRows::new(alloc));
+    let Ok(mut one) = Station::new(alloc, 7, 1, 2, first.0, first.1, rows) else {
         return None;
     };
-    let Ok(mut two) = Station::new(alloc, 7, 2, 2, second.0, second.1, MemoryRows::new(alloc))
-    else {
+    let rows = Grouped::new(alloc, MemoryRows::new(alloc));
+    let Ok(mut two) = Station::new(alloc, 7, 2, 2, second.0, second.1, rows) else {
         return None;
     };
-    let Ok(prepare) = one.offer(12, tape, 0) else {
-        return None;
-    };
+    let prepare = offer_both(&mut one, tape, 0)?;
     let promise = take_in(&mut two, 2, &prepare, 0)?;
     two.restart();
     let accept = take_in(&mut one, 1, &promise, 0)?;

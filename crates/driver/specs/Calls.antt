@@ -3,7 +3,7 @@ use Rattle.std.specs.Prelude.{◌≡◌, ℕ, List, [], ◌∷◌, length, Ok}
 use Rattle.protocol.specs.Entries.{Taped, Void}
 use Rattle.protocol.specs.Refusals.{Call as StationCall, Offering, Seeking}
 use Rattle.station.specs.declared.answer.Answer.{Answer}
-use Rattle.exchange.specs.Events.{Event, took}
+use Rattle.exchange.specs.Events.{Event, took, stored}
 use Rattle.driver.specs.declared.calls.Call.{Call}
 use Rattle.driver.specs.declared.calls.Call.TheVariants.{Offer, Withdraw, Seek}
 
@@ -19,6 +19,6 @@ length_of (Offer number tape) = length tape.now
 length_of (Withdraw number) = 0
 length_of (Seek number) = 0
 
--- the station was asked, and took the step
+-- the station was asked, and took the step, and what it saved was stored
 abbrev pub IsAsked : Call → ℕ → List Event → Type 0
-IsAsked call now log = (answer : Answer) × (log ≡ took (call_of call now) (Ok answer) ∷ [])
+IsAsked call now log = (answer : Answer) × (log ≡ took (call_of call now) (Ok answer) ∷ stored (Ok tt) ∷ [])

@@ -1,9 +1,9 @@
 -- What becomes of a sink while its station takes steps, as a type that is one says it, and what has to hold of that.
-use Rattle.std.specs.Prelude.{ℕ, List, [], ◌∷◌, ◌++◌, Ok, Err}
+use Rattle.std.specs.Prelude.{ℕ, List, [], ◌∷◌, ◌++◌, Result, Ok, Err}
 use Rattle.protocol.specs.Refusals.{Call, Offering, Seeking, Falling_due, Receiving, Recalling}
 use Rattle.station.specs.declared.answer.Answer.{Answer}
 use Rattle.refusals.specs.declared.refusal.StepRefusal.{StepRefusal}
-use Rattle.exchange.specs.Events.{Event, Aside, asked, aside, took}
+use Rattle.exchange.specs.Events.{Event, Aside, asked, aside, stored, took}
 
 -- a search, what is due and what comes need nothing of a sink; an offer may
 abbrev pub NeedsNothing : Call → Type 0
@@ -17,12 +17,20 @@ NeedsNothing (Recalling n to) = Unit {0}
 abbrev pub ByAnswer : {S : Type 0} → (S → S → List Event → Type 0) → (S → Call → Type 0) → S → S → Answer → Type 0
 ByAnswer fate may old new answer = (call : Call) → may old call → fate old new (took call (Ok answer) ∷ [])
 
+-- this became of it once that step was stored
+abbrev pub ByStored : {S : Type 0} → (S → S → List Event → Type 0) → (S → Call → Type 0) → S → S → Answer → Type 0
+ByStored fate may old new answer = (call : Call) → may old call → fate old new (took call (Ok answer) ∷ stored (Ok tt) ∷ [])
+
 -- what has to hold of what a sink lived through, and how far it came
 pub record Fates {S : Type 0} (lived front : S → S → List Event → Type 0) (may : S → Call → Type 0) : Type 0 where
   -- where nothing happens it stays
   pub rests : (s : S) → lived s s []
   -- that the clock is asked is nothing to it
   pub clock : (s : S) (moment : ℕ) → lived s s (asked moment ∷ [])
+  -- nor that what the station saved is stored, or can't be
+  pub stores : (s : S) (answer : Result (Unit {0}) StepRefusal) → lived s s (stored answer ∷ [])
+  -- where what a step saved can't be stored, nothing of it gets there
+  pub withheld : (s : S) (call : Call) (answer : Answer) (refusal : StepRefusal) → may s call → front s s (took call (Ok answer) ∷ stored (Err refusal) ∷ [])
   -- nor what passes beside the station's packets
   pub besides : (s : S) (what : Aside) → lived s s (aside what ∷ [])
   -- nor that the station refuses what it may be asked

@@ -4,3 +4,4 @@ pub mod Driving
 pub mod Pacing
 pub mod Replies
 pub mod Todos
+pub mod Grouping

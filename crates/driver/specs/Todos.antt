@@ -1,5 +1,5 @@
 -- What a driver is to do for a desk, and by which events it is done.
-use Rattle.std.specs.Prelude.{◌≡◌, ◌⊎◌, ℕ, List, [], ◌∷◌, Result}
+use Rattle.std.specs.Prelude.{◌≡◌, ◌⊎◌, ℕ, List, [], ◌∷◌, Result, Ok}
 use Rattle.protocol.specs.Refusals.{Recalling, Seeking}
 use Rattle.recalls.specs.Recalls.{Recall}
 use Rattle.recalls.specs.Spelling.{spelling}
@@ -10,7 +10,7 @@ use Rattle.station.specs.declared.answer.Answer.{Answer}
 use Rattle.catch_up.specs.Errands.{IsGoodErrand}
 use Rattle.catch_up.specs.declared.errand.Errand.{Errand}
 use Rattle.catch_up.specs.declared.errand.Errand.TheVariants as errands
-use Rattle.exchange.specs.Events.{Event, took, aside, hailed, rolled}
+use Rattle.exchange.specs.Events.{Event, took, stored, aside, hailed, rolled}
 use Rattle.driver.specs.declared.desk.Todo.{Todo}
 use Rattle.driver.specs.declared.desk.Todo.TheVariants as todos
 
@@ -23,11 +23,11 @@ IsGoodTodo (todos.Run errand) = IsGoodErrand errand
 abbrev pub IsGoodSending : ℕ → List ℕ → Type 0
 IsGoodSending to bytes = ((r : Recall) × (bytes ≡ spelling r) × (r.to ≡ to)) ⊎ ((r : Roll) × (bytes ≡ roll_spelling r) × (r.to ≡ to))
 
--- a recall or a roll that these bytes spell was sent, to this member, and nothing else happened
+-- a recall or a roll that these bytes spell was sent to this member, once what the station saved was stored, and nothing else happened
 abbrev pub IsHailing : ℕ → List ℕ → List Event → Type 0
 IsHailing to bytes log =
-    ((r : Recall) × (bytes ≡ spelling r) × (r.to ≡ to) × (log ≡ aside (hailed r) ∷ []))
-    ⊎ ((r : Roll) × (bytes ≡ roll_spelling r) × (r.to ≡ to) × (log ≡ aside (rolled r) ∷ []))
+    ((r : Recall) × (bytes ≡ spelling r) × (r.to ≡ to) × (log ≡ aside (hailed r) ∷ stored (Ok tt) ∷ []))
+    ⊎ ((r : Roll) × (bytes ≡ roll_spelling r) × (r.to ≡ to) × (log ≡ aside (rolled r) ∷ stored (Ok tt) ∷ []))
 
 -- the station was asked to tell its vote of this number again to this member
 abbrev pub IsTellingAgain : ℕ → ℕ → List Event → Type 0

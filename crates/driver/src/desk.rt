@@ -1,15 +1,19 @@
 //! What a station that stays up does beside what comes and what is due.
 
-ghost use Rattle.std.specs.Prelude.{[], ℕ, IfSome};
+ghost use Rattle.std.specs.Prelude.{[], ◌∷◌, ℕ, IfErr, IfSome, Ok, OnErr, OnOk};
+ghost use Rattle.exchange.specs.Events.{stored};
+ghost use Rattle.command_ends.specs.Ends.{IsOfWriting};
 ghost use Rattle.driver.specs.Calls.{call_of};
+ghost use Rattle.driver.specs.Fates.{ByAnswer};
 ghost use Rattle.driver.specs.Todos.{IsGoodTodo};
 
 use crate::calls::Call;
 use crate::log::Log;
 use crate::pacing::Tasks;
-use crate::sink::Sink;
+use crate::sink::{Sink, Step};
 use ballots::Number;
 use catch_up::Errand;
+use command_ends::Fault;
 use folders::Request;
 use station::StepRefusal;
 use std::io::Write;
@@ -55,6 +59,22 @@ pub struct Declined {
 /// The desk of a station that stays up: where its releases go, and what is done with the files among its offers. Moments are in
 /// milliseconds.
 pub trait Desk: Sink {
+    // Nothing was done outside of the process meanwhile.
+    ghost is_still: { Self → Self → Type 0 };
+
+    /// Keeps in mind what a step of the station did and released. Nothing of it goes outside: what the step saved may not be stored yet. It
+    /// fails where there is no memory for it.
+    fn note<E: Write>(&mut self, step: &Step, log: &mut Log<'_, E>) -> Result<(), Fault<'static>>
+        ensures ok { OnOk result (ByAnswer Self.lived Self.may self.old self.new step.now.answer) }
+        ensures err { OnErr result (ByAnswer Self.front Self.may self.old self.new step.now.answer) }
+        ensures fault { IfErr result IsOfWriting }
+        ensures still { is_still self.old self.new };
+
+    /// What these steps released goes outside, at a moment: what they saved is stored, and their datagrams are sent. They are those that were
+    /// noted since the last call, in order, but such as neither sent nor released anything.
+    fn hand_out<E: Write>(&mut self, steps: &[Step], now: u64, log: &mut Log<'_, E>)
+        ensures { Self.lived self.old self.new (stored (Ok tt) ∷ []) };
+
     /// What is to be done with files.
     fn tasks(&mut self) -> Tasks
         ensures { Self.lived self.old self.new [] };

@@ -1,18 +1,20 @@
 //! The errands by which a station catches up, or others do: recalls and rolls are sent, votes told again, and numbers searched.
 
-ghost use Rattle.std.specs.Prelude.{◌≡◌, OnOk, IfErr, IsOk};
+ghost use Rattle.std.specs.Prelude.{◌≡◌};
 ghost use Rattle.catch_up.specs.Errands.{IsGoodErrand};
-ghost use Rattle.driver.specs.Driving.{DroveUpTo};
+ghost use Rattle.driver.specs.Driving.{DroveBehind};
 ghost use Rattle.driver.specs.Todos.{IsGoodSending, IsHailing, IsRunOf, IsSearching, IsTellingAgain};
 
 use crate::desk::{Declined, Desk};
 use crate::driver::Driver;
+use crate::group::Group;
 use crate::log::Log;
 use crate::sink::Step;
 use ballots::{Member, Number};
 use catch_up::Errand;
 use command_ends::Fault;
 use exchange::{pass_over, send_bytes};
+use row_groups::Settles;
 use saved_rows::Rows;
 use std::io::Write;
 use wire::Wire;
@@ -24,20 +26,24 @@ struct Again {
     to: Member,
 }
 
-impl<'a, R: Rows, N: Wire, S: Desk> Driver<'a, R, N, S> {
-    /// Sends bytes that spell a recall or a roll to the member that it is to.
+impl<'a, R: Settles, N: Wire, S: Desk> Driver<'a, R, N, S> {
+    /// Sends bytes that spell a recall or a roll to the member that it is to, at a moment in milliseconds. They may speak of what the steps of
+    /// the group saved, so that is stored before, and the group is handed on.
     fn hail<E: Write>(
         &mut self,
         to: Member,
         bytes: &[u8],
+        now: u64,
+        group: &mut Group,
         log: &mut Log<'_, E>,
     ) -> Result<(), Fault<'static>>
         requires spelled { IsGoodSending to bytes.now }
         ensures station { self.new.station.ghost_name ≡ self.old.station.ghost_name }
         ensures wire { self.new.wire.ghost_name ≡ self.old.wire.ghost_name }
         ensures was_kept { R.kept self.new.station.now.rows → R.kept self.old.station.now.rows }
-        ensures drove { DroveUpTo (IsHailing to bytes.now) result R.Rows N.passed S.Sink self.old self.new }
+        ensures drove { DroveBehind (IsHailing to bytes.now) result R.Rows R.Settles.is_settled N.passed S.Sink self.old self.new group.old group.new }
     {
+        self.settle_group(now, group, log)?;
         send_bytes(to, bytes, self.wire, log.err);
         Ok(())
     }
@@ -47,12 +53,13 @@ impl<'a, R: Rows, N: Wire, S: Desk> Driver<'a, R, N, S> {
         &mut self,
         again: Again,
         now: u64,
+        group: &mut Group,
         log: &mut Log<'_, E>,
     ) -> Result<(), Fault<'static>>
         ensures station { self.new.station.ghost_name ≡ self.old.station.ghost_name }
         ensures wire { self.new.wire.ghost_name ≡ self.old.wire.ghost_name }
         ensures was_kept { R.kept self.new.station.now.rows → R.kept self.old.station.now.rows }
-        ensures drove { DroveUpTo (IsTellingAgain again.number again.to) result R.Rows N.passed S.Sink self.old self.new }
+        ensures drove { DroveBehind (IsTellingAgain again.number again.to) result R.Rows R.Settles.is_settled N.passed S.Sink self.old self.new group.old group.new }
     {
         match self.station.recall(again.number.get(), again.to.get()) {
             Ok(answer) => {
@@ -60,7 +67,7 @@ impl<'a, R: Rows, N: Wire, S: Desk> Driver<'a, R, N, S> {
                     answer,
                     moment: now,
                 };
-                self.hand_on(&step, log)
+                self.hold(step, group, log)
             }
             Err(refusal) => pass_over(refusal),
         }
@@ -71,12 +78,13 @@ impl<'a, R: Rows, N: Wire, S: Desk> Driver<'a, R, N, S> {
         &mut self,
         number: Number,
         now: u64,
+        group: &mut Group,
         log: &mut Log<'_, E>,
     ) -> Result<(), Fault<'static>>
         ensures station { self.new.station.ghost_name ≡ self.old.station.ghost_name }
         ensures wire { self.new.wire.ghost_name ≡ self.old.wire.ghost_name }
         ensures was_kept { R.kept self.new.station.now.rows → R.kept self.old.station.now.rows }
-        ensures drove { DroveUpTo (IsSearching number now) result R.Rows N.passed S.Sink self.old self.new }
+        ensures drove { DroveBehind (IsSearching number now) result R.Rows R.Settles.is_settled N.passed S.Sink self.old self.new group.old group.new }
     {
         match self.station.seek(number.get(), now) {
             Ok(answer) => {
@@ -84,7 +92,7 @@ impl<'a, R: Rows, N: Wire, S: Desk> Driver<'a, R, N, S> {
                     answer,
                     moment: now,
                 };
-                self.hand_on(&step, log)
+                self.hold(step, group, log)
             }
             Err(refusal) => {
                 let declined = Declined {
@@ -103,24 +111,25 @@ impl<'a, R: Rows, N: Wire, S: Desk> Driver<'a, R, N, S> {
         &mut self,
         errand: &Errand,
         now: u64,
+        group: &mut Group,
         log: &mut Log<'_, E>,
     ) -> Result<(), Fault<'static>>
         requires good { IsGoodErrand errand.now }
         ensures station { self.new.station.ghost_name ≡ self.old.station.ghost_name }
         ensures wire { self.new.wire.ghost_name ≡ self.old.wire.ghost_name }
         ensures was_kept { R.kept self.new.station.now.rows → R.kept self.old.station.now.rows }
-        ensures drove { DroveUpTo (IsRunOf errand.now now) result R.Rows N.passed S.Sink self.old self.new }
+        ensures drove { DroveBehind (IsRunOf errand.now now) result R.Rows R.Settles.is_settled N.passed S.Sink self.old self.new group.old group.new }
     {
         match errand {
-            Errand::Send { to, bytes } => self.hail(*to, bytes.as_slice(), log),
+            Errand::Send { to, bytes } => self.hail(*to, bytes.as_slice(), now, group, log),
             Errand::Tell { number, to } => {
                 let again = Again {
                     number: *number,
                     to: *to,
                 };
-                self.tell_again(again, now, log)
+                self.tell_again(again, now, group, log)
             }
-            Errand::Seek { number } => self.search(*number, now, log),
+            Errand::Seek { number } => self.search(*number, now, group, log),
         }
     }
 }

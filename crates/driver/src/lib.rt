@@ -5,9 +5,12 @@ mod calls;
 mod desk;
 mod driver;
 mod errands;
+mod gathering;
+mod group;
 mod log;
 mod pacing;
 mod run_loop;
+mod serving;
 mod sink;
 
 pub use calls::Call;
@@ -15,4 +18,4 @@ pub use desk::{Chance, Declined, Denied, Desk, Todo};
 pub use driver::Driver;
 pub use log::Log;
 pub use pacing::Tasks;
-pub use sink::{Heard, Sink, Step};
+pub use sink::{Heard, Outlet, Sink, Step};

@@ -1,15 +1,16 @@
 //! The turns of a station that stays up: one work after the other, in the order of `pace`, until the run is over.
 
-ghost use Rattle.std.specs.Prelude.{◌≡◌, []};
+ghost use Rattle.std.specs.Prelude.{◌≡◌, [], OnOk};
 ghost use Rattle.wire.specs.Passing.{Passes};
 ghost use Rattle.exchange.specs.Events.{ended};
 ghost use Rattle.driver.specs.Replies.{IsAskedBy, awaited, reply_of};
-ghost use Rattle.driver.specs.Driving.{Anyhow, Drove, DroveUpTo, fate_of, known, post_of};
+ghost use Rattle.driver.specs.Driving.{Anyhow, Drove, DroveBehind, fate_of, known, post_of};
 ghost use Rattle.driver.specs.Todos.{IsGoodTodo};
 
 use crate::calls::ask;
 use crate::desk::{Chance, Denied, Desk, Todo};
 use crate::driver::Driver;
+use crate::group::Group;
 use crate::log::Log;
 use crate::pacing::asking_of;
 use crate::sink::Step;
@@ -18,8 +19,10 @@ use command_ends::{End, Fault};
 use exchange::{pass_over, tell_lost, tell_strangers};
 use folders::{Kind, Request};
 use pace::Work;
+use row_groups::Settles;
 use saved_rows::Rows;
 use station::{Answer, Station, StepRefusal};
+use std::alloc::Global;
 use std::io::Write;
 use wire::Wire;
 
@@ -99,18 +102,19 @@ fn ask_by<R: Rows, S: Desk>(
     }
 }
 
-impl<'a, R: Rows, N: Wire, S: Desk> Driver<'a, R, N, S> {
+impl<'a, R: Settles, N: Wire, S: Desk> Driver<'a, R, N, S> {
     /// Asks the station for a file, at a moment in milliseconds, and hands on what it hands out.
     fn ask_for<E: Write>(
         &mut self,
         request: &Request,
         now: u64,
+        group: &mut Group,
         log: &mut Log<'_, E>,
     ) -> Result<(), Fault<'static>>
         ensures station { self.new.station.ghost_name ≡ self.old.station.ghost_name }
         ensures wire { self.new.wire.ghost_name ≡ self.old.wire.ghost_name }
         ensures was_kept { R.kept self.new.station.now.rows → R.kept self.old.station.now.rows }
-        ensures drove { DroveUpTo Anyhow result R.Rows N.passed S.Sink self.old self.new }
+        ensures drove { DroveBehind Anyhow result R.Rows R.Settles.is_settled N.passed S.Sink self.old self.new group.old group.new }
     {
         match ask_by(self.station, &self.sink, request, now) {
             Reply::Done { answer, length } => {
@@ -121,7 +125,7 @@ impl<'a, R: Rows, N: Wire, S: Desk> Driver<'a, R, N, S> {
                     answer,
                     moment: now,
                 };
-                self.hand_on(&step, log)
+                self.hold(step, group, log)
             }
             Reply::Refused(refusal) => {
                 let denied = Denied {
@@ -141,17 +145,18 @@ impl<'a, R: Rows, N: Wire, S: Desk> Driver<'a, R, N, S> {
         &mut self,
         todo: &Todo,
         now: u64,
+        group: &mut Group,
         log: &mut Log<'_, E>,
     ) -> Result<(), Fault<'static>>
         requires good { IsGoodTodo todo.now }
         ensures station { self.new.station.ghost_name ≡ self.old.station.ghost_name }
         ensures wire { self.new.wire.ghost_name ≡ self.old.wire.ghost_name }
         ensures was_kept { R.kept self.new.station.now.rows → R.kept self.old.station.now.rows }
-        ensures drove { DroveUpTo Anyhow result R.Rows N.passed S.Sink self.old self.new }
+        ensures drove { DroveBehind Anyhow result R.Rows R.Settles.is_settled N.passed S.Sink self.old self.new group.old group.new }
     {
         match todo {
-            Todo::Ask(request) => self.ask_for(request, now, log),
-            Todo::Run(errand) => self.run_errand(errand, now, log),
+            Todo::Ask(request) => self.ask_for(request, now, group, log),
+            Todo::Run(errand) => self.run_errand(errand, now, group, log),
         }
     }
 
@@ -159,15 +164,16 @@ impl<'a, R: Rows, N: Wire, S: Desk> Driver<'a, R, N, S> {
     fn do_deed<E: Write>(
         &mut self,
         chance: Chance,
+        group: &mut Group,
         log: &mut Log<'_, E>,
     ) -> Result<(), Fault<'static>>
         ensures station { self.new.station.ghost_name ≡ self.old.station.ghost_name }
         ensures wire { self.new.wire.ghost_name ≡ self.old.wire.ghost_name }
         ensures was_kept { R.kept self.new.station.now.rows → R.kept self.old.station.now.rows }
-        ensures drove { DroveUpTo Anyhow result R.Rows N.passed S.Sink self.old self.new }
+        ensures drove { DroveBehind Anyhow result R.Rows R.Settles.is_settled N.passed S.Sink self.old self.new group.old group.new }
     {
         match self.sink.deed(chance, log) {
-            Some(todo) => self.do_todo(&todo, chance.moment, log),
+            Some(todo) => self.do_todo(&todo, chance.moment, group, log),
             None => Ok(()),
         }
     }
@@ -177,52 +183,62 @@ impl<'a, R: Rows, N: Wire, S: Desk> Driver<'a, R, N, S> {
         &mut self,
         work: Work,
         found: Found,
+        group: &mut Group,
         log: &mut Log<'_, E>,
     ) -> Result<bool, Fault<'static>>
         ensures station { self.new.station.ghost_name ≡ self.old.station.ghost_name }
         ensures wire { self.new.wire.ghost_name ≡ self.old.wire.ghost_name }
         ensures was_kept { R.kept self.new.station.now.rows → R.kept self.old.station.now.rows }
-        ensures drove { DroveUpTo Anyhow result R.Rows N.passed S.Sink self.old self.new }
+        ensures drove { DroveBehind Anyhow result R.Rows R.Settles.is_settled N.passed S.Sink self.old self.new group.old group.new }
     {
         let now = found.now;
         match work {
             Work::Look => Ok(self.sink.look(now, log)),
-            Work::TakeIn | Work::Wait => going_on(self.take_in(now, log)),
-            Work::Due => going_on(self.see_to_due(now, log)),
+            Work::TakeIn | Work::Wait => going_on(self.gather(now, group, log)),
+            Work::Due => going_on(self.gather_due(now, group, log)),
             Work::Deed { may_ask } => {
                 let chance = Chance {
                     may_ask,
                     waits: found.waits,
                     moment: now,
                 };
-                going_on(self.do_deed(chance, log))
+                going_on(self.do_deed(chance, group, log))
             }
         }
     }
 
-    /// The work that comes next; whether the run is over.
-    fn step<E: Write>(&mut self, log: &mut Log<'_, E>) -> Result<bool, Fault<'static>>
+    /// The work that comes next, behind those that share its save; whether the run is over.
+    fn step<E: Write>(
+        &mut self,
+        group: &mut Group,
+        log: &mut Log<'_, E>,
+    ) -> Result<bool, Fault<'static>>
         ensures station { self.new.station.ghost_name ≡ self.old.station.ghost_name }
         ensures wire { self.new.wire.ghost_name ≡ self.old.wire.ghost_name }
         ensures was_kept { R.kept self.new.station.now.rows → R.kept self.old.station.now.rows }
-        ensures drove { DroveUpTo Anyhow result R.Rows N.passed S.Sink self.old self.new }
+        ensures drove { DroveBehind Anyhow result R.Rows R.Settles.is_settled N.passed S.Sink self.old self.new group.old group.new }
     {
         let now = self.wire.now();
         let waits = find(self.wire, now, log);
         let tasks = self.sink.tasks();
         let work = self.pacing.next(waits, tasks, now);
-        self.work(work, Found { now, waits }, log)
+        self.end_group(work, now, group, log)?;
+        self.work(work, Found { now, waits }, group, log)
     }
 
     /// One work after the other, until the run is over.
-    fn work_on<E: Write>(&mut self, log: &mut Log<'_, E>) -> Result<(), Fault<'static>>
+    fn work_on<E: Write>(
+        &mut self,
+        group: &mut Group,
+        log: &mut Log<'_, E>,
+    ) -> Result<(), Fault<'static>>
         ensures station { self.new.station.ghost_name ≡ self.old.station.ghost_name }
         ensures wire { self.new.wire.ghost_name ≡ self.old.wire.ghost_name }
         ensures was_kept { R.kept self.new.station.now.rows → R.kept self.old.station.now.rows }
-        ensures drove { DroveUpTo Anyhow result R.Rows N.passed S.Sink self.old self.new }
+        ensures drove { DroveBehind Anyhow result R.Rows R.Settles.is_settled N.passed S.Sink self.old self.new group.old group.new }
     {
         for _ in 0..u64::MAX {
-            let is_over = self.step(log)?;
+            let is_over = self.step(group, log)?;
             if is_over {
                 return Ok(());
             }
@@ -230,15 +246,33 @@ impl<'a, R: Rows, N: Wire, S: Desk> Driver<'a, R, N, S> {
         Ok(())
     }
 
-    /// The same; how the run ends. All is told to this writer, or faults alone, and so is a fault that ends it.
-    pub fn run<E: Write>(&mut self, err: &mut E, quiet: bool) -> End
+    /// The same, and what the last steps handed out is handed on.
+    fn work_to_the_end<E: Write>(
+        &mut self,
+        group: &mut Group,
+        log: &mut Log<'_, E>,
+    ) -> Result<(), Fault<'static>>
         ensures station { self.new.station.ghost_name ≡ self.old.station.ghost_name }
         ensures wire { self.new.wire.ghost_name ≡ self.old.wire.ghost_name }
         ensures was_kept { R.kept self.new.station.now.rows → R.kept self.old.station.now.rows }
-        ensures drove { Drove (known R.Rows N.passed (fate_of S.Sink)) (post_of self.old) (post_of self.new) result Anyhow }
+        ensures drove { DroveBehind Anyhow result R.Rows R.Settles.is_settled N.passed S.Sink self.old self.new group.old group.new }
+        ensures all { OnOk result (group.new.steps.items ≡ []) }
     {
+        self.work_on(group, log)?;
+        let now = self.wire.now();
+        self.settle_group(now, group, log)
+    }
+
+    /// The same, where no step was taken yet; how the run ends. All is told to this writer, or faults alone, and so is a fault that ends it.
+    pub fn run<E: Write>(&mut self, alloc: Global, err: &mut E, quiet: bool) -> End
+        ensures station { self.new.station.ghost_name ≡ self.old.station.ghost_name }
+        ensures wire { self.new.wire.ghost_name ≡ self.old.wire.ghost_name }
+        ensures was_kept { R.kept self.new.station.now.rows → R.kept self.old.station.now.rows }
+        ensures drove { Drove (known R.Rows R.Settles.is_settled N.passed (fate_of S.Sink)) (post_of self.old) (post_of self.new) result Anyhow }
+    {
+        let mut group = Group::new(alloc);
         let mut log = Log { err, quiet };
-        match self.work_on(&mut log) {
+        match self.work_to_the_end(&mut group, &mut log) {
             Ok(()) => End::Done,
             Err(fault) => fault.tell(log.err),
         }

@@ -4,7 +4,7 @@ ghost use Rattle.std.specs.Prelude.{◌≡◌, [], List, OnOk, OnErr, IfErr};
 ghost use Rattle.command_ends.specs.Ends.{IsOfWriting};
 ghost use Rattle.protocol.specs.Refusals.{Call};
 ghost use Rattle.exchange.specs.Events.{Event};
-ghost use Rattle.driver.specs.Fates.{ByAnswer, Fates};
+ghost use Rattle.driver.specs.Fates.{ByStored, Fates};
 ghost use Rattle.driver.specs.Pacing.{said_of};
 
 use crate::log::Log;
@@ -57,16 +57,19 @@ pub trait Sink: Drop {
     // The station may be called so, as far as it knows.
     ghost may: { Self → Call → Type 0 };
 
-    /// Takes what a step of the station did and released, once its datagrams are sent. It fails where that can't be written, or there is no
-    /// memory for it.
-    fn take<E: Write>(&mut self, step: &Step, log: &mut Log<'_, E>) -> Result<(), Fault<'static>>
-        ensures ok { OnOk result (ByAnswer lived may self.old self.new step.now.answer) }
-        ensures err { OnErr result (ByAnswer front may self.old self.new step.now.answer) }
-        ensures fault { IfErr result IsOfWriting };
-
     /// A datagram was taken in.
     fn hear<E: Write>(&mut self, heard: &Heard, now: u64, log: &mut Log<'_, E>)
         ensures { lived self.old self.new [] };
 
     ghost fates: { Fates lived front may };
+}
+
+/// Where releases go one by one, as they are printed.
+pub trait Outlet: Sink {
+    /// Takes what a step of the station did and released, once what it saved is stored and its datagrams are sent. It fails where that can't
+    /// be written, or there is no memory for it.
+    fn take<E: Write>(&mut self, step: &Step, log: &mut Log<'_, E>) -> Result<(), Fault<'static>>
+        ensures ok { OnOk result (ByStored Self.lived Self.may self.old self.new step.now.answer) }
+        ensures err { OnErr result (ByStored Self.front Self.may self.old self.new step.now.answer) }
+        ensures fault { IfErr result IsOfWriting };
 }

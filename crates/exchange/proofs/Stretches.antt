@@ -1,32 +1,58 @@
 -- Stretches of what happened to a station on a wire, one after the other, and why one came to an end.
-use Rattle.std.proofs.Common.{◌≡◌, List, [], ◌∷◌, ◌++◌, Bool, true, Err, inl, inr, refl, sym, ap, ◌∙◌, subst, append_assoc}
+use Rattle.std.proofs.Common.{◌≡◌, List, [], ◌∷◌, ◌++◌, Bool, ◌||◌, true, Ok, Err, inl, inr, refl, sym, ap, ◌∙◌, subst, append_assoc}
 use Rattle.protocol.specs.Refusals.{Call}
 use Rattle.saved_rows.specs.declared.fault.RowsFault.TheVariants as row_faults
 use Rattle.saved_rows.specs.declared.rows.Rows.{Ghosts}
 use Rattle.refusals.specs.declared.refusal.StepRefusal.{StepRefusal}
 use Rattle.refusals.specs.declared.refusal.StepRefusal.TheVariants as steps
 use Rattle.station.specs.declared.station.Station.{Station}
+use Rattle.station.specs.Settling.{Settling}
 use Rattle.station.specs.Steps.{stopped_after}
+use Rattle.wire.specs.Passing.{Passed, told}
 use Rattle.command_ends.specs.Ends.{end_of, end_of_step}
 use Rattle.command_ends.specs.declared.end.End.{End}
 use Rattle.command_ends.specs.declared.end.End.TheVariants as ends
 use Rattle.command_ends.specs.declared.fault.Fault.{Fault}
 use Rattle.command_ends.specs.declared.fault.Fault.TheVariants as faults
-use Rattle.exchange.specs.Events.{Event, asked, took, aside, Takes, IsByStore, IsForMemory, Stops, HasCause}
+use Rattle.exchange.specs.Events.{Event, asked, took, stored, aside, coming, going, coming_by, going_by, passing_behind, waiting_behind, Takes, IsByStore, IsForMemory, IsRefused, Stops, HasCause}
 
-pub takes_then : {R : Type 0} (g : Ghosts R) (a b c : Station R) (xs ys : List Event) → Takes g a b xs → Takes g b c ys → Takes g a c (xs ++ ys)
-takes_then {R = R} g a b c [] ys p q = subst (λ (s : Station R). Takes g s c ys) p q
-takes_then g a b c (asked m ∷ xs) ys p q = takes_then g a b c xs ys p q
-takes_then g a b c (aside what ∷ xs) ys p q = takes_then g a b c xs ys p q
-takes_then g a b c (took call answer ∷ xs) ys p q = (p.0, p.1, takes_then g p.0 b c xs ys p.2 q)
+pub takes_then : {R : Type 0} (g : Ghosts R) (i : R → Type 0) (a b c : Station R) (xs ys : List Event) → Takes g i a b xs → Takes g i b c ys → Takes g i a c (xs ++ ys)
+takes_then {R = R} g i a b c [] ys p q = subst (λ (s : Station R). Takes g i s c ys) p q
+takes_then g i a b c (asked m ∷ xs) ys p q = takes_then g i a b c xs ys p q
+takes_then g i a b c (aside what ∷ xs) ys p q = takes_then g i a b c xs ys p q
+takes_then g i a b c (took call answer ∷ xs) ys p q = (p.0, p.1, takes_then g i p.0 b c xs ys p.2 q)
+takes_then g i a b c (stored answer ∷ xs) ys p q = (p.0, p.1, takes_then g i p.0 b c xs ys p.2 q)
+
+-- what passes while the one happens, and then the other
+pub passing_then : (waits : List Passed) (xs ys : List Event) → passing_behind waits (xs ++ ys) ≡ passing_behind waits xs ++ passing_behind (waiting_behind waits xs) ys
+passing_then waits [] ys = refl
+passing_then waits (asked m ∷ xs) ys = ap (λ (l : List Passed). told m ∷ l) (passing_then waits xs ys)
+passing_then waits (took call answer ∷ xs) ys =
+    ap (λ (l : List Passed). coming call ++ l) (passing_then (waits ++ going answer) xs ys)
+    ∙ sym (append_assoc (coming call) (passing_behind (waits ++ going answer) xs) (passing_behind (waiting_behind (waits ++ going answer) xs) ys))
+passing_then waits (stored (Ok done) ∷ xs) ys =
+    ap (λ (l : List Passed). waits ++ l) (passing_then [] xs ys) ∙ sym (append_assoc waits (passing_behind [] xs) (passing_behind (waiting_behind [] xs) ys))
+passing_then waits (stored (Err refusal) ∷ xs) ys = passing_then waits xs ys
+passing_then waits (aside what ∷ xs) ys =
+    ap (λ (l : List Passed). coming_by what ++ l) (passing_then (waits ++ going_by what) xs ys)
+    ∙ sym (append_assoc (coming_by what) (passing_behind (waits ++ going_by what) xs) (passing_behind (waiting_behind (waits ++ going_by what) xs) ys))
+
+pub waiting_then : (waits : List Passed) (xs ys : List Event) → waiting_behind waits (xs ++ ys) ≡ waiting_behind (waiting_behind waits xs) ys
+waiting_then waits [] ys = refl
+waiting_then waits (asked m ∷ xs) ys = waiting_then waits xs ys
+waiting_then waits (took call answer ∷ xs) ys = waiting_then (waits ++ going answer) xs ys
+waiting_then waits (stored (Ok done) ∷ xs) ys = waiting_then [] xs ys
+waiting_then waits (stored (Err refusal) ∷ xs) ys = waiting_then waits xs ys
+waiting_then waits (aside what ∷ xs) ys = waiting_then (waits ++ going_by what) xs ys
 
 stops_then : (xs ys : List Event) (new : Bool) (Kind : StepRefusal → Type 0) → Stops ys new Kind → Stops (xs ++ ys) new Kind
 stops_then xs ys new Kind s = record {
   before = xs ++ s.before;
-  call = s.call;
+  last = s.last;
   refusal = s.refusal;
+  refused = s.refused;
   kind = s.kind;
-  is_last = ap (λ (l : List Event). xs ++ l) s.is_last ∙ sym (append_assoc xs s.before (took s.call (Err s.refusal) ∷ []));
+  is_last = ap (λ (l : List Event). xs ++ l) s.is_last ∙ sym (append_assoc xs s.before (s.last ∷ []));
   stopped = s.stopped;
 }
 
@@ -60,26 +86,48 @@ ends_badly (faults.Refused refusal) e = cc
 ends_badly faults.Unpaired e = cc
 ends_badly faults.LayoutAlone e = cc
 
-stops_now : (call : Call) (r : StepRefusal) (new : Bool) (Kind : StepRefusal → Type 0) → Kind r → new ≡ true → Stops (took call (Err r) ∷ []) new Kind
-stops_now call r new Kind kind stopped = record { before = []; call = call; refusal = r; kind = kind; is_last = refl; stopped = stopped }
+stops_now : (e : Event) (r : StepRefusal) (new : Bool) (Kind : StepRefusal → Type 0) → IsRefused e r → Kind r → new ≡ true → Stops (e ∷ []) new Kind
+stops_now e r new Kind refused kind stopped =
+    record { before = []; last = e; refusal = r; refused = refused; kind = kind; is_last = refl; stopped = stopped }
 
 -- a station is stopped by the refusals that end a command by the store or for memory, and by no other
+pub refused_by : (e : Event) (r : StepRefusal) (old new : Bool) → IsRefused e r → new ≡ stopped_after old (Err r) → HasCause (e ∷ []) old new (end_of_step r)
+refused_by e steps.Stopped old new is p = p
+refused_by e (steps.BadDatagram fault) old new is p = p
+refused_by e steps.WrongCircuit old new is p = p
+refused_by e steps.NotForMe old new is p = p
+refused_by e steps.Stranger old new is p = p
+refused_by e steps.BadNumber old new is p = p
+refused_by e steps.NoSuchMember old new is p = p
+refused_by e steps.AlreadyReleased old new is p = p
+refused_by e steps.AlreadyOpen old new is p = p
+refused_by e steps.WireTooOld old new is p = p
+refused_by e (steps.TapeFaulty fault) old new is p = p
+refused_by e steps.RoundsSpent old new is p = p
+refused_by e (steps.Store row_faults.Store) old new is p = stops_now e (steps.Store row_faults.Store) new IsByStore is (λ e. cc) p
+refused_by e (steps.Store row_faults.WrongStation) old new is p = stops_now e (steps.Store row_faults.WrongStation) new IsByStore is (λ e. cc) p
+refused_by e (steps.Store row_faults.WrongSchema) old new is p = stops_now e (steps.Store row_faults.WrongSchema) new IsByStore is (λ e. cc) p
+refused_by e (steps.Store (row_faults.Damaged number)) old new is p = stops_now e (steps.Store (row_faults.Damaged number)) new IsByStore is (λ e. cc) p
+refused_by e (steps.Store row_faults.OutOfMemory) old new is p = inr (stops_now e (steps.Store row_faults.OutOfMemory) new IsForMemory is refl p)
+refused_by e steps.OutOfMemory old new is p = inr (stops_now e steps.OutOfMemory new IsForMemory is tt p)
+
 pub refused_cause : (call : Call) (r : StepRefusal) (old new : Bool) → new ≡ stopped_after old (Err r) → HasCause (took call (Err r) ∷ []) old new (end_of_step r)
-refused_cause call steps.Stopped old new p = p
-refused_cause call (steps.BadDatagram fault) old new p = p
-refused_cause call steps.WrongCircuit old new p = p
-refused_cause call steps.NotForMe old new p = p
-refused_cause call steps.Stranger old new p = p
-refused_cause call steps.BadNumber old new p = p
-refused_cause call steps.NoSuchMember old new p = p
-refused_cause call steps.AlreadyReleased old new p = p
-refused_cause call steps.AlreadyOpen old new p = p
-refused_cause call steps.WireTooOld old new p = p
-refused_cause call (steps.TapeFaulty fault) old new p = p
-refused_cause call steps.RoundsSpent old new p = p
-refused_cause call (steps.Store row_faults.Store) old new p = stops_now call (steps.Store row_faults.Store) new IsByStore (λ e. cc) p
-refused_cause call (steps.Store row_faults.WrongStation) old new p = stops_now call (steps.Store row_faults.WrongStation) new IsByStore (λ e. cc) p
-refused_cause call (steps.Store row_faults.WrongSchema) old new p = stops_now call (steps.Store row_faults.WrongSchema) new IsByStore (λ e. cc) p
-refused_cause call (steps.Store (row_faults.Damaged number)) old new p = stops_now call (steps.Store (row_faults.Damaged number)) new IsByStore (λ e. cc) p
-refused_cause call (steps.Store row_faults.OutOfMemory) old new p = inr (stops_now call (steps.Store row_faults.OutOfMemory) new IsForMemory refl p)
-refused_cause call steps.OutOfMemory old new p = inr (stops_now call steps.OutOfMemory new IsForMemory tt p)
+refused_cause call r old new p = refused_by (took call (Err r)) r old new refl p
+
+-- one that can't store what it saved has stopped for that
+pub unstored_cause :
+    {R : Type 0} (g : Ghosts R) (i : R → Type 0) (old new : Station R) (r : StepRefusal) → Settling g i old new (Err r) → HasCause (stored (Err r) ∷ []) old.stopped new.stopped (end_of_step r)
+unstored_cause {R = R} g i old new (steps.Store fault) it = refused_by (stored (Err (steps.Store fault))) (steps.Store fault) old.stopped new.stopped refl (ap (λ (s : Station R). s.stopped) it.only_rows)
+unstored_cause {R = R} g i old new steps.Stopped it = ap (λ (s : Station R). s.stopped) it.1
+unstored_cause g i old new (steps.BadDatagram fault) it = absurd it
+unstored_cause g i old new steps.WrongCircuit it = absurd it
+unstored_cause g i old new steps.NotForMe it = absurd it
+unstored_cause g i old new steps.Stranger it = absurd it
+unstored_cause g i old new steps.BadNumber it = absurd it
+unstored_cause g i old new steps.NoSuchMember it = absurd it
+unstored_cause g i old new steps.AlreadyReleased it = absurd it
+unstored_cause g i old new steps.AlreadyOpen it = absurd it
+unstored_cause g i old new steps.WireTooOld it = absurd it
+unstored_cause g i old new (steps.TapeFaulty fault) it = absurd it
+unstored_cause g i old new steps.RoundsSpent it = absurd it
+unstored_cause g i old new steps.OutOfMemory it = absurd it

@@ -8,7 +8,7 @@ use Rattle.station.specs.declared.station.Station.{Station}
 use Rattle.station.specs.Steps.{IsStep, stopped_after}
 use Rattle.wire.specs.Passing.{Passes, Trace}
 use Rattle.rolls.specs.Asides.{aside_in}
-use Rattle.exchange.specs.Events.{coming, HasMark, heard, passing_by}
+use Rattle.exchange.specs.Events.{coming, HasMark, heard, coming_by}
 use Rattle.exchange.specs.Layouts.{IsNewerIn}
 use Rattle.exchange.specs.Said.{said_in}
 use Rattle.exchange.specs.declared.station_steps.Outcome.{Outcome}
@@ -45,4 +45,4 @@ IsTakenIn g passed now old new was is (Done answer said) =
 IsTakenIn g passed now old new was is (Refused refusal newer) =
     (bytes : List ℕ) × Drives g passed (Receiving bytes now) old new was is (Err refusal) × IsNewerIn refusal bytes newer × ¬ HasMark bytes
 IsTakenIn g passed now old new was is (Heard found) =
-    (rest : List ℕ) × (new ≡ old) × Passes (passed was) (passed is) (passing_by (heard rest)) × (found ≡ aside_in (84 ∷ 82 ∷ rest))
+    (rest : List ℕ) × (new ≡ old) × Passes (passed was) (passed is) (coming_by (heard rest)) × (found ≡ aside_in (84 ∷ 82 ∷ rest))

@@ -8,6 +8,7 @@ use Rattle.station.specs.declared.answer.Answer.{Answer}
 use Rattle.refusals.specs.declared.refusal.StepRefusal.{StepRefusal}
 use Rattle.refusals.specs.declared.refusal.StepRefusal.TheVariants.{Store, OutOfMemory}
 use Rattle.station.specs.declared.station.Station.{Station}
+use Rattle.station.specs.Settling.{Settling}
 use Rattle.station.specs.Steps.{IsStep}
 use Rattle.wire.specs.Passing.{Passed, came, sent, told}
 use Rattle.recalls.specs.Recalls.{Recall}
@@ -26,10 +27,12 @@ pub data Aside : Type 0 where
   hailed : (recall : Recall) → Aside
   rolled : (roll : Roll) → Aside
 
--- the clock was asked, the station was called and answered, or something passed beside its packets
+-- the clock was asked, the station was called and answered, it was to store all that it had saved and answered, or something passed beside
+-- its packets
 pub data Event : Type 0 where
   asked : (moment : ℕ) → Event
   took : (call : Call) (answer : Result Answer StepRefusal) → Event
+  stored : (answer : Result (Unit {0}) StepRefusal) → Event
   aside : (what : Aside) → Event
 
 -- these bytes have the mark of recalls and rolls
@@ -53,24 +56,44 @@ abbrev pub going : Result Answer StepRefusal → List Passed
 going (Ok answer) = sending answer.out.items
 going (Err refusal) = []
 
--- what passes over the wire beside the packets
-abbrev pub passing_by : Aside → List Passed
-passing_by (heard rest) = came (84 ∷ 82 ∷ rest) ∷ []
-passing_by (hailed recall) = sent recall.to (spelling recall) ∷ []
-passing_by (rolled roll) = sent roll.to (roll_spelling roll) ∷ []
+-- what comes beside the packets
+abbrev pub coming_by : Aside → List Passed
+coming_by (heard rest) = came (84 ∷ 82 ∷ rest) ∷ []
+coming_by (hailed recall) = []
+coming_by (rolled roll) = []
 
--- what passes over the wire in an event
-abbrev pub passing : Event → List Passed
-passing (asked moment) = told moment ∷ []
-passing (took call answer) = coming call ++ going answer
-passing (aside what) = passing_by what
+-- what is handed out beside them
+abbrev pub going_by : Aside → List Passed
+going_by (heard rest) = []
+going_by (hailed recall) = sent recall.to (spelling recall) ∷ []
+going_by (rolled roll) = sent roll.to (roll_spelling roll) ∷ []
 
--- these calls, one after the other, and nothing else changed the station
-abbrev pub Takes : {R : Type 0} → Ghosts R → Station R → Station R → List Event → Type 0
-Takes g old new [] = new ≡ old
-Takes g old new (asked moment ∷ rest) = Takes g old new rest
-Takes g old new (aside what ∷ rest) = Takes g old new rest
-Takes {R = R} g old new (took call answer ∷ rest) = (mid : Station R) × IsStep g call old mid answer × Takes g mid new rest
+-- What passes over the wire while these events happen, where this was handed out before and waits to be sent. What comes passes at once. What is
+-- handed out waits until all that the station saved is stored; where that is refused, it is never sent.
+abbrev pub passing_behind : List Passed → List Event → List Passed
+passing_behind waits [] = []
+passing_behind waits (asked moment ∷ rest) = told moment ∷ passing_behind waits rest
+passing_behind waits (took call answer ∷ rest) = coming call ++ passing_behind (waits ++ going answer) rest
+passing_behind waits (stored (Ok done) ∷ rest) = waits ++ passing_behind [] rest
+passing_behind waits (stored (Err refusal) ∷ rest) = passing_behind waits rest
+passing_behind waits (aside what ∷ rest) = coming_by what ++ passing_behind (waits ++ going_by what) rest
+
+-- what waits to be sent once these events happened
+abbrev pub waiting_behind : List Passed → List Event → List Passed
+waiting_behind waits [] = waits
+waiting_behind waits (asked moment ∷ rest) = waiting_behind waits rest
+waiting_behind waits (took call answer ∷ rest) = waiting_behind (waits ++ going answer) rest
+waiting_behind waits (stored (Ok done) ∷ rest) = waiting_behind [] rest
+waiting_behind waits (stored (Err refusal) ∷ rest) = waiting_behind waits rest
+waiting_behind waits (aside what ∷ rest) = waiting_behind (waits ++ going_by what) rest
+
+-- these calls, one after the other, and nothing else changed the station but that what it saved was stored, as its rows say it
+abbrev pub Takes : {R : Type 0} → Ghosts R → (R → Type 0) → Station R → Station R → List Event → Type 0
+Takes g is_settled old new [] = new ≡ old
+Takes g is_settled old new (asked moment ∷ rest) = Takes g is_settled old new rest
+Takes {R = R} g is_settled old new (took call answer ∷ rest) = (mid : Station R) × IsStep g call old mid answer × Takes g is_settled mid new rest
+Takes {R = R} g is_settled old new (stored answer ∷ rest) = (mid : Station R) × Settling g is_settled old mid answer × Takes g is_settled mid new rest
+Takes g is_settled old new (aside what ∷ rest) = Takes g is_settled old new rest
 
 -- the station was stopped by its rows, otherwise than for memory
 abbrev pub IsByStore : StepRefusal → Type 0
@@ -83,13 +106,21 @@ IsForMemory (Store fault) = fault ≡ row_faults.OutOfMemory
 IsForMemory OutOfMemory = Unit {0}
 IsForMemory _ = ⊥
 
--- the station has stopped, and its last step answered a refusal of this kind
+-- in this event the station answered so
+abbrev pub IsRefused : Event → StepRefusal → Type 0
+IsRefused (asked moment) refusal = ⊥
+IsRefused (took call answer) refusal = answer ≡ Err refusal
+IsRefused (stored answer) refusal = answer ≡ Err refusal
+IsRefused (aside what) refusal = ⊥
+
+-- the station has stopped, and the last that it answered is a refusal of this kind
 pub record Stops (log : List Event) (new : Bool) (Kind : StepRefusal → Type 0) : Type 0 where
   pub before : List Event
-  pub call : Call
+  pub last : Event
   pub refusal : StepRefusal
+  pub refused : IsRefused last refusal
   pub kind : Kind refusal
-  pub is_last : log ≡ before ++ took call (Err refusal) ∷ []
+  pub is_last : log ≡ before ++ last ∷ []
   pub stopped : new ≡ true
 
 -- an end has its cause: only by its store or for memory did the station stop; where it goes on and memory is the cause, a growth of the command was refused

@@ -17,16 +17,17 @@ use Rattle.station.specs.Readiness.{slugs_of, IsNumber}
 use Rattle.folders.specs.Doings.{Doing, saw_file, read_file, wrote_file, moved_file, removed_file}
 use Rattle.folders.specs.Written.{File}
 use Rattle.plant_files.specs.Filing.{entry_files, files_of, release_files}
-use Rattle.exchange.specs.Events.{Event, asked, took, aside}
+use Rattle.exchange.specs.Events.{Event, asked, took, stored, aside}
 use Rattle.run_command.specs.Filing.{filing}
 use Rattle.run_command.specs.Story.{stepped, events_of, doings_of, files_of_story}
 use Rattle.run_command.specs.Story.{Happened as Run}
 use Rattle.run_command.specs.Story.{did as done}
-use Rattle.days.specs.Happening.{Happened, did, WasReleased}
+use Rattle.days.specs.Happening.{Happened, did, Releases, WasReleased}
 use Rattle.days.specs.Days.{DaysAgree}
-use Rattle.process_days.specs.Telling.{Order, log_of, day_with, day_after}
+use Rattle.process_days.specs.Telling.{Order, log_of, day_stored, day_with, day_after}
 use Rattle.process_days.specs.Seeing.{IsFiled, IsCalled, DaysFilesAgree, WrittenIsFiled}
 use Rattle.process_days.proofs.Names.{one_name}
+use Rattle.process_days.proofs.Storing.{stored_stays}
 
 -- the kinds of files differ in their first letters
 void_tape : codes "void" ≡ codes "tape" → ⊥
@@ -133,6 +134,7 @@ stays [] day m r it = it
 stays ((k, asked moment) ∷ rest) day m r it = stays rest day m r it
 stays ((k, aside what) ∷ rest) day m r it = stays rest day m r it
 stays ((k, took call answer) ∷ rest) day m r it = stays rest (did k call answer ∷ day) m r (it.0, inr it.1, it.2)
+stays ((k, stored answer) ∷ rest) day m r it = stays rest (day_stored k answer day) m r (stored_stays (Releases m r) k answer day it)
 
 -- a file of an answer is one of what it releases
 filed_by : (o : Option Release) (f : File) → IsAmong (files_of o) f → (r : Release) × (o ≡ Some r) × IsAmong (release_files r) f
@@ -150,6 +152,7 @@ module _ (k : ℕ) (e : Event) (rest : Order) (day : List Happened) (m : ℕ) (f
   now_filed (asked moment) i = absurd i
   now_filed (aside what) i = absurd i
   now_filed (took call answer) i = answered k call answer day f i
+  now_filed (stored answer) i = absurd i
 
   -- of an event, or of one behind it
   filed_either :

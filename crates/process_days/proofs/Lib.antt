@@ -1,3 +1,4 @@
+mod Storing
 pub mod GoingOn
 mod Names
 mod Filed

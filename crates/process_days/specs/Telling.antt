@@ -1,15 +1,17 @@
 -- The logs of a circuit's processes, taken together in one order: that they make a day.
-use Rattle.std.specs.Prelude.{◌≡◌, ◌==◌, if◌then◌else◌, ℕ, List, [], ◌∷◌}
+use Rattle.std.specs.Prelude.{◌≡◌, ◌==◌, if◌then◌else◌, ℕ, List, [], ◌∷◌, Result, Ok, Err}
 use Rattle.protocol.specs.Ballots.{IsMember}
 use Rattle.protocol.specs.Refusals.{Call, Offering, Seeking, Falling_due, Receiving, Recalling}
 use Rattle.saved_rows.specs.declared.rows.Rows.{Ghosts}
+use Rattle.refusals.specs.declared.refusal.StepRefusal.{StepRefusal}
+use Rattle.refusals.specs.declared.refusal.StepRefusal.TheVariants.{Stopped}
 use Rattle.station.specs.declared.station.Station.{Station}
 use Rattle.wire.specs.Passing.{Trace, untold, listed, guarded}
 use Rattle.command_ends.specs.declared.end.End.{End}
-use Rattle.exchange.specs.Events.{Event, asked, took, aside}
+use Rattle.exchange.specs.Events.{Event, asked, took, stored, aside}
 use Rattle.driver.specs.declared.sink.Sink.{Ghosts as SinkGhosts}
 use Rattle.driver.specs.Driving.{Post, Driven, Stepped, known, fate_of}
-use Rattle.days.specs.Happening.{Happened, did, Came}
+use Rattle.days.specs.Happening.{Happened, did, ended, At_rest, Came}
 use Rattle.days.specs.Handing.{Plants, Member, runs, over}
 use Rattle.days.specs.Days.{Day, IsDayAgreed, OfferedFirst}
 
@@ -22,11 +24,18 @@ abbrev pub log_of : ℕ → Order → List Event
 log_of m [] = []
 log_of m (x ∷ rest) = if x.0 == m then x.1 ∷ log_of m rest else log_of m rest
 
+-- the day after a member's process was to store what it saved: where that is refused the process ends, unless it was over before
+abbrev pub day_stored : ℕ → Result (Unit {0}) StepRefusal → List Happened → List Happened
+day_stored m (Ok done) day = day
+day_stored m (Err Stopped) day = day
+day_stored m (Err refusal) day = ended m At_rest ∷ day
+
 -- the day after an event of a member's process: where the clock was asked, or something passed beside the packets, nothing happened
 abbrev pub day_with : ℕ → Event → List Happened → List Happened
 day_with m (asked moment) day = day
 day_with m (aside what) day = day
 day_with m (took call answer) day = did m call answer ∷ day
+day_with m (stored answer) day = day_stored m answer day
 
 -- the day after all these events
 abbrev pub day_after : List Happened → Order → List Happened
@@ -38,6 +47,7 @@ abbrev pub CameWith : List Happened → ℕ → Event → Type 0
 CameWith day m (asked moment) = Unit {0}
 CameWith day m (aside what) = Unit {0}
 CameWith day m (took call answer) = Came day m call
+CameWith day m (stored answer) = Unit {0}
 
 -- each event is of a member, and what it takes in was handed out before it
 abbrev pub IsInTurn : ℕ → List Happened → Order → Type 0
@@ -46,16 +56,16 @@ IsInTurn count day (x ∷ rest) = IsMember count x.0 × CameWith day x.0 x.1 × 
 
 -- a process has this log and leaves its station so, over rows that are kept: it took the steps of the log and no others, as whatever is
 -- driven does; where a member's process is over, its log is empty
-abbrev pub HasLog : {R : Type 0} → Ghosts R → Member R → Station R → List Event → Type 0
-HasLog g (runs s) last log = g.kept last.rows × Stepped g s last log
-HasLog g (over ending s) last log = log ≡ []
+abbrev pub HasLog : {R : Type 0} → Ghosts R → (R → Type 0) → Member R → Station R → List Event → Type 0
+HasLog g is_settled (runs s) last log = g.kept last.rows × Stepped g is_settled s last log
+HasLog g is_settled (over ending s) last log = log ≡ []
 
 -- a station that is driven by these events, on whichever wire and with whatever becomes of its releases, has this log, as a process that
 -- runs; so have those of `serve_run` and `run_station`
-abbrev pub DrivenHaveLogs : {R N S : Type 0} → Ghosts R → (N → Trace) → SinkGhosts S → Type 0
-DrivenHaveLogs {R = R} {N = N} {S = S} g passed sink =
-    (old new : Post R N S) (end : End) (log : List Event) → Driven (known g passed (fate_of sink)) old new end log → g.kept new.station.rows
-    → HasLog g (runs old.station) new.station log
+abbrev pub DrivenHaveLogs : {R N S : Type 0} → Ghosts R → (R → Type 0) → (N → Trace) → SinkGhosts S → Type 0
+DrivenHaveLogs {R = R} {N = N} {S = S} g is_settled passed sink =
+    (old new : Post R N S) (end : End) (log : List Event) → Driven (known g is_settled passed (fate_of sink)) old new end log → g.kept new.station.rows
+    → HasLog g is_settled (runs old.station) new.station log
 
 -- what a call takes in is such
 abbrev pub CallTakes : (List ℕ → Type 0) → Call → Type 0
@@ -70,6 +80,7 @@ abbrev pub TakesSuch : (List ℕ → Type 0) → Event → Type 0
 TakesSuch Is (asked moment) = Unit {0}
 TakesSuch Is (aside what) = Unit {0}
 TakesSuch Is (took call answer) = CallTakes Is call
+TakesSuch Is (stored answer) = Unit {0}
 
 -- all that these events take in is such
 abbrev pub AllTaken : (List ℕ → Type 0) → List Event → Type 0
@@ -83,13 +94,15 @@ TakesLetIn (listed passed) log = Unit {0}
 TakesLetIn (guarded Is clean) log = clean → AllTaken Is log
 
 -- a station that is driven by these events takes in such packets alone as its wire lets in
-abbrev pub DrivenTakeLetIn : {R N S : Type 0} → Ghosts R → (N → Trace) → SinkGhosts S → Type 0
-DrivenTakeLetIn {R = R} {N = N} {S = S} g passed sink =
-    (old new : Post R N S) (end : End) (log : List Event) → Driven (known g passed (fate_of sink)) old new end log → TakesLetIn (passed old.wire) log
+abbrev pub DrivenTakeLetIn : {R N S : Type 0} → Ghosts R → (R → Type 0) → (N → Trace) → SinkGhosts S → Type 0
+DrivenTakeLetIn {R = R} {N = N} {S = S} g is_settled passed sink =
+    (old new : Post R N S) (end : End) (log : List Event) → Driven (known g is_settled passed (fate_of sink)) old new end log
+    → TakesLetIn (passed old.wire) log
 
--- each member's process has its log of this order, and leaves its station so
-abbrev pub HaveLogs : {R : Type 0} → Ghosts R → ℕ → (ℕ → Member R) → (ℕ → Station R) → Order → Type 0
-HaveLogs g count at last order = (m : ℕ) → IsMember count m → HasLog g (at m) (last m) (log_of m order)
+-- Each member's process has its log of this order, and leaves its station so. A process that ended before it had stored what its last steps
+-- saved sent nothing of them: where the next start does not find their rows, its log is told up to the event before, in which it stored all.
+abbrev pub HaveLogs : {R : Type 0} → Ghosts R → (R → Type 0) → ℕ → (ℕ → Member R) → (ℕ → Station R) → Order → Type 0
+HaveLogs g is_settled count at last order = (m : ℕ) → IsMember count m → HasLog g is_settled (at m) (last m) (log_of m order)
 
 -- a member whose process still runs has the station that its process left
 abbrev pub IsLeftWith : {R : Type 0} → Member R → Station R → Type 0
@@ -97,15 +110,15 @@ IsLeftWith (runs s) last = last ≡ s
 IsLeftWith (over ending s) last = Unit {0}
 
 -- the processes of a day go on, each as its log says, in any one order in which what they take in was handed out before: that is a day again
-abbrev pub LogsMakeDays : {R : Type 0} → Ghosts R → Type 0
-LogsMakeDays {R = R} g =
+abbrev pub LogsMakeDays : {R : Type 0} → Ghosts R → (R → Type 0) → Type 0
+LogsMakeDays {R = R} g is_settled =
     (p : Plants) (day : List Happened) (at : ℕ → Member R) (order : Order) (last : ℕ → Station R)
-    → Day g p day at → HaveLogs g p.count at last order → IsInTurn p.count day order
+    → Day g p day at → HaveLogs g is_settled p.count at last order → IsInTurn p.count day order
     → (now : ℕ → Member R) × Day g p (day_after day order) now × ((m : ℕ) → IsMember p.count m → IsLeftWith (now m) (last m))
 
 -- so what they release agrees, with all that was released before in the day
-abbrev pub LogsAgree : {R : Type 0} → Ghosts R → Type 0
-LogsAgree {R = R} g =
+abbrev pub LogsAgree : {R : Type 0} → Ghosts R → (R → Type 0) → Type 0
+LogsAgree {R = R} g is_settled =
     (p : Plants) (day : List Happened) (at : ℕ → Member R) (order : Order) (last : ℕ → Station R)
-    → Day g p day at → HaveLogs g p.count at last order → IsInTurn p.count day order
+    → Day g p day at → HaveLogs g is_settled p.count at last order → IsInTurn p.count day order
     → IsDayAgreed p (day_after day order) × OfferedFirst (day_after day order)

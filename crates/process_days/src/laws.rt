@@ -6,28 +6,29 @@ ghost use Rattle.process_days.specs.Seeing.{DaysFilesAgree, WrittenIsFiled};
 
 use days::laws;
 use driver::Sink;
+use row_groups::Settles;
 use saved_rows::Rows;
 use wire::Wire;
 
 /// What drives a station tells of itself as a process does: its log is that of the steps that the station took.
-pub fn driven_have_logs<R: Rows, N: Wire, S: Sink>()
-    ensures { DrivenHaveLogs R.Rows N.passed S.Sink }
+pub fn driven_have_logs<R: Settles, N: Wire, S: Sink>()
+    ensures { DrivenHaveLogs R.Rows R.Settles.is_settled N.passed S.Sink }
 {}
 
 /// What drives a station takes in such packets alone as its wire lets in, by what the wire tells.
-pub fn driven_take_let_in<R: Rows, N: Wire, S: Sink>()
-    ensures { DrivenTakeLetIn R.Rows N.passed S.Sink }
+pub fn driven_take_let_in<R: Settles, N: Wire, S: Sink>()
+    ensures { DrivenTakeLetIn R.Rows R.Settles.is_settled N.passed S.Sink }
 {}
 
 /// Processes of `serve` and `run` that go on in a day, each as its own log says, make a day again, in any order in which what
 /// they take in was handed out before.
-pub fn processes_make_days<R: Rows>()
-    ensures { LogsMakeDays R.Rows }
+pub fn processes_make_days<R: Settles>()
+    ensures { LogsMakeDays R.Rows R.Settles.is_settled }
 {}
 
 /// So what they release agrees, with all that was released before in the day.
-pub fn processes_agree<R: Rows>()
-    ensures { LogsAgree R.Rows }
+pub fn processes_agree<R: Settles>()
+    ensures { LogsAgree R.Rows R.Settles.is_settled }
 {
     laws::days_agree::<R>();
 }

@@ -13,15 +13,16 @@ ghost use Rattle.row_files.specs.Knowing.{KnowsAll};
 use crate::causes::RefusedRows;
 use command_ends::End;
 use gone_out::Known;
-use saved_rows::{Identity, Rows};
+use row_groups::SavesAll;
+use saved_rows::Identity;
 use std::alloc::Global;
 use std::io::Write;
 use tape_frames::Version;
 
 /// Files that hold saved rows.
 pub trait RowFiles {
-    /// The rows in one of them.
-    type Rows: Rows;
+    /// The rows in one of them, which save many by one call.
+    type Rows: SavesAll;
 
     // A file was made whole for this station, in this version, and given the name at this path.
     ghost leaves: { Self → List ℕ → IdentityValue → VersionValue → Type 0 };

@@ -20,3 +20,4 @@ pub mod LayoutLemmas
 pub mod UpgradeLemmas
 pub mod StationLemmas
 pub mod CursorLemmas
+pub mod StagingLemmas

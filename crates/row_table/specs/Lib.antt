@@ -6,3 +6,4 @@ pub mod Entries
 pub mod Cursor
 pub mod Keeping
 pub mod Making
+pub mod Staging

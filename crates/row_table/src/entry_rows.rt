@@ -14,6 +14,10 @@ use crate::cursor::{Taker, each_row};
 use crate::entry_table::EntryColumns;
 use sqlite::{Alter, Connection, Error, Row, params};
 
+/// The statement that puts one entry in place of the one under its number.
+pub(crate) const PUT_ENTRY: &str =
+    "INSERT INTO acceptor_entry VALUES (?1, ?2, ?3, ?4, ?5, ?6, ?7) ON CONFLICT (number) DO UPDATE SET promised_round = excluded.promised_round, promised_owner = excluded.promised_owner, vote_round = excluded.vote_round, vote_owner = excluded.vote_owner, length = excluded.length, packed = excluded.packed";
+
 /// The statement that lists all entries.
 const ALL_ENTRIES: &str =
     "SELECT number, promised_round, promised_owner, vote_round, vote_owner, length, packed FROM acceptor_entry ORDER BY number";
@@ -27,7 +31,7 @@ fn replace_entry<S: Alter>(conn: &mut Connection<S>, entry: &EntryColumns) -> Re
     ensures clean { doubt (state S.Store conn.old).is_clean ≤ doubt (state S.Store conn.new).is_clean }
 {
     conn.execute(
-        "INSERT INTO acceptor_entry VALUES (?1, ?2, ?3, ?4, ?5, ?6, ?7) ON CONFLICT (number) DO UPDATE SET promised_round = excluded.promised_round, promised_owner = excluded.promised_owner, vote_round = excluded.vote_round, vote_owner = excluded.vote_owner, length = excluded.length, packed = excluded.packed",
+        PUT_ENTRY,
         params![
             entry.number,
             entry.promised_round,

@@ -12,6 +12,10 @@ ghost use Rattle.row_table.specs.Keeping.{BeginsToServe, ChangesNothing, Crashes
 use crate::cursor::{Taker, each_row};
 use sqlite::{Alter, Connection, Error, Row, params};
 
+/// The statement that puts one row in place of the one under its number.
+pub(crate) const PUT_ROW: &str =
+    "INSERT INTO acceptor_row VALUES (?1, ?2, ?3, ?4, ?5, ?6) ON CONFLICT (number) DO UPDATE SET promised_round = excluded.promised_round, promised_owner = excluded.promised_owner, vote_round = excluded.vote_round, vote_owner = excluded.vote_owner, tape = excluded.tape";
+
 /// The statement that lists all rows.
 const ALL_ROWS: &str =
     "SELECT number, promised_round, promised_owner, vote_round, vote_owner, tape FROM acceptor_row ORDER BY number";
@@ -33,7 +37,7 @@ fn replace_row<S: Alter>(
     ensures clean { doubt (state S.Store conn.old).is_clean ≤ doubt (state S.Store conn.new).is_clean }
 {
     conn.execute(
-        "INSERT INTO acceptor_row VALUES (?1, ?2, ?3, ?4, ?5, ?6) ON CONFLICT (number) DO UPDATE SET promised_round = excluded.promised_round, promised_owner = excluded.promised_owner, vote_round = excluded.vote_round, vote_owner = excluded.vote_owner, tape = excluded.tape",
+        PUT_ROW,
         params![
             number,
             promised_round,

@@ -4,8 +4,6 @@ use Rattle.std.specs.Prelude.{flat_map, OnErr}
 use Rattle.std.proofs.lemmas.Grind.{flat_map-append}
 use Rattle.protocol.specs.Refusals.{Call}
 use Rattle.station.specs.declared.answer.Answer.{Answer}
-use Rattle.command_ends.specs.declared.end.End.TheVariants as ends
-use Rattle.command_ends.specs.declared.fault.Fault.{Fault}
 use Rattle.folders.specs.Doings.{Doing, wrote_file, Does}
 use Rattle.folders.specs.Written.{File}
 use Rattle.folders.proofs.Doings.{does_nothing, does_then}
@@ -13,7 +11,7 @@ use Rattle.saved_rows.specs.declared.rows.Rows.{Ghosts}
 use Rattle.station.specs.declared.station.Station.{Station}
 use Rattle.wire.specs.Passing.{Trace}
 use Rattle.command_ends.specs.declared.end.End.{End}
-use Rattle.exchange.specs.Events.{Event, took, ended, HasCause}
+use Rattle.exchange.specs.Events.{Event, took, HasCause}
 use Rattle.wire.proofs.Passing.{Passes-nil}
 use Rattle.driver.specs.Driving.{known, post, Drove, Anyhow}
 use Rattle.folders.specs.declared.names.Request.{Request}
@@ -29,10 +27,10 @@ use Rattle.run_command.specs.Minding.{WasRead, Holds, onto}
 use Rattle.run_command.specs.Living.{Kept, kept, Lived, LivedFront, MayAsk}
 use Rattle.run_command.specs.Running.{Tells, tells}
 use Rattle.run_command.specs.Story.{Happened, stepped, did, event_in, events_of, doing_in, doings_of, file_in, files_of_story, MayBeCalled}
-use Rattle.run_command.specs.Working.{Follows, DealsBy, Deals, WritesAndDeals, Always, Writes, HandsOn}
+use Rattle.run_command.specs.Working.{Follows, DealsBy, Deals, WritesAndDeals, Always, Writes, Noted}
 use Rattle.run_command.specs.Lives.{joined_front}
 use Rattle.run_command.proofs.Story.{onto_then, events_none, doings_all, files_all, files_written, in_order_then, in_order_wrote}
-use Rattle.run_command.proofs.Minds.{holds_first, holds_follows, holds_out, out_released, deals_in_order, holds_deals}
+use Rattle.run_command.proofs.Minds.{holds_first, holds_follows, holds_noted, holds_out, out_released, deals_in_order, holds_deals}
 
 -- what is asked for a file that was read may be asked
 pub may_be_called : (t : Texts) (past : List Happened) (r : Request) (now : ℕ) (wish : Wish) → WasRead t (doings_of past) r wish → MayBeCalled t past (call_of wish r.number now)
@@ -95,38 +93,43 @@ module _ {F : Type 0} (t : Texts) (doings : F → Option (List Doing)) where
             (holds_deals t Always (onto out past) r l.mid (doings g) m n l.deals tt tt (holds_out t past (doings f) l.mid q r m l.writes st));
       }
 
-  -- what a step handed out was handed on
-  handed_front : (a : Answer) (f g : F) (q r : List File) (m n : Standing) (end : End) → HandsOn doings a f g q r m n end → (call : Call) → MayAsk t (kept f q m) call
-      → LivedFront t doings (kept f q m) (kept g r n) (took call (Ok a) ∷ [])
-  handed_front a f g q r m n end h call may = record {
-    story = stepped (took call (Ok a)) ∷ map did h.done;
-    events = ap (λ (l : List Event). took call (Ok a) ∷ l) (events_none h.done);
-    does = subst (λ (l : List Doing). Does (doings f) (doings g) l) (sym (doings_all h.done)) h.does;
-    front = (h.front.0, ap (λ (l : List File). q ++ l) (append-nil (files_of a.release)) ∙ h.front.1);
-    ordered = λ past st. (may past st, h.ordered t past call st);
-  }
-
-  handed_whole : (a : Answer) (f g : F) (q r : List File) (m n : Standing) → HandsOn doings a f g q r m n ends.Done → (call : Call) → MayAsk t (kept f q m) call
+  -- a step was noted: nothing was done, and the files of its release wait
+  noted : (a : Answer) (f g : F) (q r : List File) (m n : Standing) → g ≡ f → Noted a.release q r m n → (call : Call) → MayAsk t (kept f q m) call
       → Lived t doings (kept f q m) (kept g r n) (took call (Ok a) ∷ [])
-  handed_whole a f g q r m n h call may = record {
-    story = stepped (took call (Ok a)) ∷ map did h.done;
-    events = ap (λ (l : List Event). took call (Ok a) ∷ l) (events_none h.done);
-    does = subst (λ (l : List Doing). Does (doings f) (doings g) l) (sym (doings_all h.done)) h.does;
-    whole = ap (λ (l : List File). q ++ l) (append-nil (files_of a.release)) ∙ h.whole refl;
-    ordered = λ past st. (may past st, h.ordered t past call st);
-    stands = λ past st. h.stands refl t past call st;
-  }
+  noted a f g q r m n same it call may =
+      subst (λ (h : F). Lived t doings (kept f q m) (kept h r n) (took call (Ok a) ∷ [])) (sym same) (record {
+        story = stepped (took call (Ok a)) ∷ [];
+        events = refl;
+        does = does_nothing (doings f) (doings f) refl;
+        whole = ap (λ (l : List File). q ++ l) (append-nil (files_of a.release)) ∙ sym it.behind;
+        ordered = λ past st. (may past st, tt);
+        stands = λ past st. holds_noted t past call a q r m n it st;
+      })
 
-  -- the same of a step that a plant took in, of whichever call that it may be, where this holds besides
-  pub taken_whole : {A : Type 0} (X : Type 0) (a : Answer) (f g : F) (q r : List File) (m n : Standing) (result : Result A Fault) → X → HandsOn doings a f g q r m n (ended result)
+  -- there was no memory for them
+  unnoted : (a : Answer) (f g : F) (q r : List File) (m n : Standing) → g ≡ f → (call : Call) → MayAsk t (kept f q m) call
+      → LivedFront t doings (kept f q m) (kept g r n) (took call (Ok a) ∷ [])
+  unnoted a f g q r m n same call may =
+      subst (λ (h : F). LivedFront t doings (kept f q m) (kept h r n) (took call (Ok a) ∷ [])) (sym same) (record {
+        story = stepped (took call (Ok a)) ∷ [];
+        events = refl;
+        does = does_nothing (doings f) (doings f) refl;
+        front = (q ++ flat_map filing (took call (Ok a) ∷ []), refl);
+        ordered = λ past st. (may past st, tt);
+      })
+
+  -- the same of whichever call the step may be of, where this holds besides
+  pub noted_whole :
+      {A E : Type 0} (X : Type 0) (a : Answer) (f g : F) (q r : List File) (m n : Standing) (result : Result A E) → X → g ≡ f → OnOk result (Noted a.release q r m n)
       → OnOk result ((call : Call) → MayAsk t (kept f q m) call → X × Lived t doings (kept f q m) (kept g r n) (took call (Ok a) ∷ []))
-  taken_whole X a f g q r m n (Ok u) same h = λ call may. (same, handed_whole a f g q r m n h call may)
-  taken_whole X a f g q r m n (Err e) same h = tt
+  noted_whole X a f g q r m n (Ok u) besides same it = λ call may. (besides, noted a f g q r m n same it call may)
+  noted_whole X a f g q r m n (Err e) besides same it = tt
 
-  pub taken_front : {A : Type 0} (X : Type 0) (a : Answer) (f g : F) (q r : List File) (m n : Standing) (result : Result A Fault) → X → HandsOn doings a f g q r m n (ended result)
+  pub noted_front :
+      {A E : Type 0} (X : Type 0) (a : Answer) (f g : F) (q r : List File) (m n : Standing) (result : Result A E) → X → g ≡ f
       → OnErr result ((call : Call) → MayAsk t (kept f q m) call → X × LivedFront t doings (kept f q m) (kept g r n) (took call (Ok a) ∷ []))
-  taken_front X a f g q r m n (Ok u) same h = tt
-  taken_front X a f g q r m n (Err e) same h = λ call may. (same, handed_front a f g q r m n _ h call may)
+  noted_front X a f g q r m n (Ok u) besides same = tt
+  noted_front X a f g q r m n (Err e) besides same = λ call may. (besides, unnoted a f g q r m n same call may)
 
   -- from the start on, where nothing waits and nothing is kept in mind
   pub tells_of : (f h : F) (q r : List File) (m n : Standing) (log : List Event) → q ≡ [] → IsFresh m → LivedFront t doings (kept f q m) (kept h r n) log → Tells t doings f h log
@@ -152,17 +155,17 @@ module _ {F : Type 0} (t : Texts) (doings : F → Option (List Doing)) where
       (subst (λ (v : Texts). LivedFront v doings (kept g q m) (kept h r n) log) by (subst (λ (s : Kept F). LivedFront u doings s (kept h r n) log) is p))
 
 -- a run in which nothing happened, and nothing was done with its folders but what they don't tell of
-pub idle_behind : {R N F : Type 0} (t : Texts) (rows : Ghosts R) (passed : N → Trace) (doings : F → Option (List Doing)) (s : Station R) (w : N) (f g : F) (end : End)
-    → doings g ≡ doings f → HasCause [] s.stopped s.stopped end → Drove (known rows passed (tells t doings)) (post s w f) (post s w g) end Anyhow
-idle_behind t rows passed doings s w f g end same cause =
+pub idle_behind : {R N F : Type 0} (t : Texts) (rows : Ghosts R) (is_settled : R → Type 0) (passed : N → Trace) (doings : F → Option (List Doing)) (s : Station R) (w : N) (f g : F) (end : End)
+    → doings g ≡ doings f → HasCause [] s.stopped s.stopped end → Drove (known rows is_settled passed (tells t doings)) (post s w f) (post s w g) end Anyhow
+idle_behind t rows is_settled passed doings s w f g end same cause =
     let none : Tells t doings f g [] = record { story = []; events = refl; does = does_nothing (doings f) (doings g) same; front = ([], refl); ordered = tt } in
     record {
       log = [];
-      driven = record { steps = λ kept. refl; passes = Passes-nil (passed w); front = none; whole = λ done. none; cause = cause };
+      driven = record { steps = λ kept. refl; passes = Passes-nil (passed w); waits = λ done. refl; front = none; whole = λ done. none; cause = cause };
       form = λ done. tt;
     }
 
 -- a run in which nothing happened
-pub idle : {R N F : Type 0} (t : Texts) (rows : Ghosts R) (passed : N → Trace) (doings : F → Option (List Doing)) (s : Station R) (w : N) (f : F) (end : End)
-    → HasCause [] s.stopped s.stopped end → Drove (known rows passed (tells t doings)) (post s w f) (post s w f) end Anyhow
-idle t rows passed doings s w f end cause = idle_behind t rows passed doings s w f f end refl cause
+pub idle : {R N F : Type 0} (t : Texts) (rows : Ghosts R) (is_settled : R → Type 0) (passed : N → Trace) (doings : F → Option (List Doing)) (s : Station R) (w : N) (f : F) (end : End)
+    → HasCause [] s.stopped s.stopped end → Drove (known rows is_settled passed (tells t doings)) (post s w f) (post s w f) end Anyhow
+idle t rows is_settled passed doings s w f end cause = idle_behind t rows is_settled passed doings s w f f end refl cause

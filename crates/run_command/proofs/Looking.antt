@@ -35,7 +35,7 @@ use Rattle.plant_files.specs.Standing.{Texts}
 use Rattle.run_command.specs.Departing.{departure_of, task_of, way_to, place_of, IsFree, IsFreeWay, IsFreeTask}
 use Rattle.run_command.specs.Minding.{name_of, WasRead, WereRead, HasRelease, HaveReleases, onto, IsOfRelease, AreLooks, IsLook, AreSettlings, IsSettling}
 use Rattle.run_command.specs.Story.{IsReleasedIn}
-use Rattle.run_command.specs.Working.{Follows, Looks, IfRead, IsTapeOrFault, BecameTape, By, DealsBy, Deals, Always, Releases}
+use Rattle.run_command.specs.Working.{Follows, Looks, IfRead, IsTapeOrFault, BecameTape, By, DealsBy, Deals, Always, Keeps, Releases}
 use Rattle.run_command.specs.declared.departures.Departure.{Departure}
 use Rattle.run_command.specs.declared.departures.Way.{Way}
 use Rattle.run_command.specs.declared.departures.Way.TheVariants.{Released, NoOffer, Answered}
@@ -301,12 +301,6 @@ deals_from {T} G a x b w v m n o same waits f d =
       released = λ log given known. g.released log given (λ number e is. known number e (ap (λ l. entry_in l number) (sym f.released) ∙ is));
     }
 
--- what was released, if anything was
-pub deals_some :
-    (a b : Option (List Doing)) (w : List File) (o : Option Release) (r : Release) (m n : Standing) → o ≡ Some r → Deals (λ log. IsReleasedIn log r) a b w m n
-    → Deals (Releases o) a b w m n
-deals_some a b w o r m n is d = subst (λ (p : Option Release). Deals (Releases p) a b w m n) (sym is) d
-
 -- a file leaves the offers
 
 settling_place : (P : List ℕ → Type 0) (name : List ℕ) (to : Place) → P name → IsSettling P (moved_file name to)
@@ -401,28 +395,31 @@ departure_free b w (deeds.Refuse r found why) empty may = tt
 same_or_not : (n m : ℕ) → (n ≡ m) ⊎ (n ≡ m → ⊥)
 same_or_not n m = grind (arith, nat_tests)
 
-pub deals_kept :
-    (a b : Option (List Doing)) (w : List File) (r : Release) (e : Entry) (m n : Standing) → b ≡ a → IsReleasing r.number e m n
-    → Deals (λ log. IsReleasedIn log r) a b w m n
-deals_kept a b w r e m n same k = record {
-  doings = [];
-  does = does_nothing a b same;
-  silent = refl;
-  settles = λ log g known. tt;
-  none = λ full. tt;
-  taken = λ t by shown h. subst (λ (l : List Offer). WereRead t shown l) (sym k.files) (landed_still t shown r.number landings.Released 0 m.files h);
+keeps_kept : (r : Release) (e : Entry) (m n : Standing) → IsReleasing r.number e m n → Keeps (λ log. IsReleasedIn log r) m n
+keeps_kept r e m n k = record {
+  taken = λ t shown h. subst (λ (l : List Offer). WereRead t shown l) (sym k.files) (landed_still t shown r.number landings.Released 0 m.files h);
   released = λ log g known number x is. elim (same_or_not number r.number) [
     | inl here ↦ record { release = r; released = g; number = sym here }
     | inr other ↦ known number x (sym (k.rest number other) ∙ is)
   ];
 }
 
-pub deals_kept_or :
-    {E : Type 0} (a b : Option (List Doing)) (w : List File) (r : Release) (e : Entry) (now : ℕ) (m n : Standing) (result : Result (Unit {0}) E) → b ≡ a
-    → OnOk result (IsReleasing r.number e m n) → OnErr result (n ≡ landed_in r.number landings.Ended now m) → Deals (λ log. IsReleasedIn log r) a b w m n
-deals_kept_or a b w r e now m n (Ok done) same ok err = deals_kept a b w r e m n same ok
-deals_kept_or a b w r e now m n (Err why) same ok err =
-    deals_follows (λ log. IsReleasedIn log r) a b w m n same (follows_landed m n r.number landings.Ended now err)
+-- a change that reads and releases nothing
+pub keeps_follows : (G : List Event → Type 0) (m n : Standing) → Follows m n → Keeps G m n
+keeps_follows G m n f = record {
+  taken = f.taken;
+  released = λ log g known number e is. known number e (ap (λ l. entry_in l number) (sym f.released) ∙ is);
+}
+
+pub keeps_kept_or :
+    {E : Type 0} (r : Release) (e : Entry) (now : ℕ) (m n : Standing) (result : Result (Unit {0}) E)
+    → OnOk result (IsReleasing r.number e m n) → OnErr result (n ≡ landed_in r.number landings.Ended now m) → Keeps (λ log. IsReleasedIn log r) m n
+keeps_kept_or r e now m n (Ok done) ok err = keeps_kept r e m n ok
+keeps_kept_or r e now m n (Err why) ok err = keeps_follows (λ log. IsReleasedIn log r) m n (follows_landed m n r.number landings.Ended now err)
+
+-- what was released, if anything was
+pub keeps_some : (o : Option Release) (r : Release) (m n : Standing) → o ≡ Some r → Keeps (λ log. IsReleasedIn log r) m n → Keeps (Releases o) m n
+keeps_some o r m n is k = subst (λ (p : Option Release). Keeps (Releases p) m n) (sym is) k
 
 -- nothing waits where its count is none
 pub no_items : (w : List File) (n : ℕ) → n ≡ length w → (n == 0) ≡ true → w ≡ []

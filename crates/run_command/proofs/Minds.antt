@@ -1,32 +1,27 @@
 -- What is kept in mind holds of what happened, and what was done with the folders is in order.
-use Rattle.std.proofs.Common.{◌≡◌, ◌++◌, ◌∙◌, List, [], ◌∷◌, Option, Some, None, Ok, inl, inr, refl, sym, ap, subst, map, append-nil}
+use Rattle.std.proofs.Common.{◌≡◌, ◌++◌, ◌∙◌, List, [], ◌∷◌, Option, Some, None, Ok, inl, inr, refl, sym, ap, subst, map}
 use Rattle.std.specs.Prelude.{flat_map}
-use Rattle.std.proofs.lemmas.List.{map-append}
 use Rattle.std.proofs.lemmas.List.Elements.{All-nil}
-use Rattle.std.proofs.lemmas.Grind.{flat_map-append}
 use Rattle.protocol.specs.Lists.{IsAmong}
 use Rattle.protocol.specs.Refusals.{Call}
 use Rattle.station.specs.declared.answer.Answer.{Answer}
 use Rattle.folders.specs.Doings.{Doing, wrote_file, WritesSome}
 use Rattle.folders.specs.Written.{File}
-use Rattle.folders.proofs.Doings.{does_nothing, does_then}
 use Rattle.offers.specs.Book.{IsFresh}
 use Rattle.offers.specs.Rules.{Standing, entry_in}
 use Rattle.offers.specs.declared.offer.Offer.{Offer}
 use Rattle.plant_files.specs.Filing.{files_of}
 use Rattle.plant_files.specs.Standing.{Texts}
 use Rattle.exchange.specs.Events.{Event, took}
-use Rattle.command_ends.specs.declared.end.End.{End}
-use Rattle.command_ends.specs.declared.end.End.TheVariants as ends
 use Rattle.run_command.specs.Filing.{filing}
 use Rattle.run_command.specs.Minding.{IsReadOffer, WereRead, HaveReleases, Holds, onto}
-use Rattle.run_command.specs.Story.{Happened, stepped, did, events_of, doings_of, file_in, files_of_story, IsInOrder}
-use Rattle.run_command.specs.Working.{Follows, DealsBy, Deals, Releases, Writes, HandsOn}
-use Rattle.run_command.proofs.Story.{among_front, among_behind, among_either, onto_then, events_did, doings_did, files_did, files_wrote, files_all, files_written, taken_more, releases_more, releases_here, in_order_then, in_order_looks, in_order_wrote, in_order_settled}
+use Rattle.run_command.specs.Story.{Happened, stepped, did, events_of, doings_of, files_of_story, IsInOrder}
+use Rattle.run_command.specs.Working.{Follows, DealsBy, Noted}
+use Rattle.run_command.proofs.Story.{among_front, among_behind, among_either, events_did, doings_did, files_did, files_wrote, taken_more, releases_more, releases_here, in_order_looks, in_order_settled}
 
 module _ (t : Texts) where
   -- an event, whose files then wait behind the others
-  pub holds_event : (past : List Happened) (waits : List File) (m : Standing) (e : Event) → Holds t past waits m → Holds t (stepped e ∷ past) (waits ++ filing e) m
+  holds_event : (past : List Happened) (waits : List File) (m : Standing) (e : Event) → Holds t past waits m → Holds t (stepped e ∷ past) (waits ++ filing e) m
   holds_event past waits m e h = record {
     taken = h.taken;
     known = releases_more e (events_of past) m h.known;
@@ -40,11 +35,19 @@ module _ (t : Texts) where
     ];
   }
 
-  -- one that releases nothing
-  pub holds_silent : (past : List Happened) (waits : List File) (m : Standing) (e : Event) → filing e ≡ [] → Holds t past waits m → Holds t (stepped e ∷ past) waits m
-  holds_silent past waits m e none h =
-      subst (λ (l : List File). Holds t (stepped e ∷ past) l m) (ap (λ (l : List File). waits ++ l) none ∙ append-nil waits)
-      (holds_event past waits m e h)
+  -- a step was noted: the files of its release wait behind the others
+  pub holds_noted :
+      (past : List Happened) (call : Call) (a : Answer) (waited waits : List File) (was is : Standing) → Noted a.release waited waits was is
+      → Holds t past waited was → Holds t (stepped (took call (Ok a)) ∷ past) waits is
+  holds_noted past call a waited waits was is n h =
+      let e = took call (Ok a) in
+      let behind : Holds t (stepped e ∷ past) (waited ++ files_of a.release) was = holds_event past waited was e h in
+      subst (λ (l : List File). Holds t (stepped e ∷ past) l is) (sym n.behind) (record {
+        taken = n.keeps.taken t (doings_of past) behind.taken;
+        known = n.keeps.released (e ∷ events_of past) (releases_here call a (events_of past) a.release refl) behind.known;
+        filed = behind.filed;
+        waiting = behind.waiting;
+      })
 
   -- what was done with the folders
   holds_did :
@@ -138,88 +141,3 @@ module _ (t : Texts) where
       → T t → Given (events_of past) → Holds t past waits was → Holds t (onto (map did d.doings) past) waits is
   holds_deals Given past waits a b was is d by given h =
       holds_did d.doings past waits was is (d.taken t by (doings_of past) h.taken) (d.released (events_of past) given h.known) h
-
--- an answer was handed on behind a change that reads nothing
-pub hands_after :
-    {F : Type 0} (doings : F → Option (List Doing)) (answer : Answer) (before after : F) (waited waits : List File) (was mid is : Standing) (end : End)
-    → Follows was mid → HandsOn doings answer before after waited waits mid is end → HandsOn doings answer before after waited waits was is end
-hands_after doings answer before after waited waits was mid is end f h = record {
-  done = h.done;
-  does = h.does;
-  front = h.front;
-  whole = h.whole;
-  ordered = λ t past call s. h.ordered t past call (holds_follows t past waited was mid f s);
-  stands = λ done t past call s. h.stands done t past call (holds_follows t past waited was mid f s);
-}
-
--- the same from where the same folders and files stand
-pub hands_beside :
-    {F : Type 0} (doings : F → Option (List Doing)) (answer : Answer) (f g after : F) (q r waits : List File) (was mid is : Standing) (end : End)
-    → g ≡ f → r ≡ q → Follows was mid → HandsOn doings answer g after r waits mid is end → HandsOn doings answer f after q waits was is end
-hands_beside doings answer f g after q r waits was mid is end same left fo h =
-    hands_after doings answer f after q waits was mid is end fo
-    (subst (λ (l : List File). HandsOn doings answer f after l waits mid is end) left
-    (subst (λ x. HandsOn doings answer x after r waits mid is end) same h))
-
--- there was no memory for the files of the answer
-pub hands_nothing :
-    {F : Type 0} (doings : F → Option (List Doing)) (answer : Answer) (f : F) (waited waits : List File) (m : Standing) (end : End)
-    → (end ≡ ends.Done → ⊥) → HandsOn doings answer f f waited waits m m end
-hands_nothing doings answer f waited waits m end badly = record {
-  done = [];
-  does = does_nothing (doings f) (doings f) refl;
-  front = (waited ++ files_of answer.release, refl);
-  whole = λ done. absurd (badly done);
-  ordered = λ t past call s. tt;
-  stands = λ done t past call s. absurd (badly done);
-}
-
--- an answer was handed on: its files wait behind the others, then the first of all were written, and then files left the offers
-module _ {F : Type 0} (doings : F → Option (List Doing)) (answer : Answer) (before after : F) (mid : Option (List Doing)) (waited waits : List File)
-    (was is : Standing) (end : End) (w : WritesSome (doings before) mid (waited ++ files_of answer.release) waits)
-    (d : Deals (Releases answer.release) mid (doings after) waits was is) where
-  abbrev out : List Doing
-  out = map wrote_file w.files
-
-  joined : map did out ++ map did d.doings ≡ map did (out ++ d.doings)
-  joined = sym (map-append did out d.doings)
-
-  abbrev behind : Call → List Happened → List Happened
-  behind call past = stepped (took call (Ok answer)) ∷ past
-
-  holds_mid : (t : Texts) (past : List Happened) (call : Call) → Holds t past waited was → Holds t (onto (map did out) (behind call past)) waits was
-  holds_mid t past call h =
-      holds_out t (behind call past) (doings before) mid (waited ++ files_of answer.release) waits was w
-      (holds_event t past waited was (took call (Ok answer)) h)
-
-  given : (past : List Happened) (call : Call) → Releases answer.release (events_of (onto (map did out) (behind call past)))
-  given past call =
-      subst (λ (l : List Event). Releases answer.release l) (sym (events_did out (behind call past)))
-      (releases_here call answer (events_of past) answer.release refl)
-
-  written : Writes (waited ++ files_of answer.release) (map did (out ++ d.doings)) waits
-  written =
-      let none : files_of_story (map did d.doings) ≡ [] = files_all d.doings ∙ d.silent in
-      let all : files_of_story (map did (out ++ d.doings)) ≡ w.files =
-      ap files_of_story (map-append did out d.doings) ∙ flat_map-append file_in (map did out) (map did d.doings)
-      ∙ ap (λ (l : List File). files_of_story (map did out) ++ l) none ∙ append-nil (files_of_story (map did out)) ∙ files_written w.files in
-      w.rest ∙ ap (λ (l : List File). l ++ waits) (sym all)
-
-  pub hands_on : HandsOn doings answer before after waited waits was is end
-  hands_on = record {
-    done = out ++ d.doings;
-    does = does_then (doings before) mid (doings after) out d.doings w.does d.does;
-    front = (waits, written);
-    whole = λ done. written;
-    ordered = λ t past call h.
-        subst (λ (l : List Happened). IsInOrder t (behind call past) l) joined
-        (in_order_then t (map did out) (map did d.doings) (behind call past)
-        (in_order_wrote t w.files (behind call past)
-        (out_released t (behind call past) (doings before) mid (waited ++ files_of answer.release) waits was w
-        (holds_event t past waited was (took call (Ok answer)) h)))
-        (deals_in_order t (Releases answer.release) (onto (map did out) (behind call past)) waits mid (doings after) was is d (given past call) (holds_mid t past call h)));
-    stands = λ done t past call h.
-        subst (λ (l : List Happened). Holds t l waits is)
-        (sym (onto_then (map did out) (map did d.doings) (behind call past)) ∙ ap (λ (l : List Happened). onto l (behind call past)) joined)
-        (holds_deals t (Releases answer.release) (onto (map did out) (behind call past)) waits mid (doings after) was is d tt (given past call) (holds_mid t past call h));
-  }

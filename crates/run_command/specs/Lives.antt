@@ -1,13 +1,15 @@
 -- The lives of a plant, one behind the other, are those of a sink.
-use Rattle.std.specs.Prelude.{◌≡◌, ◌⊎◌, ◌++◌, ℕ, List, [], ◌∷◌, flat_map, Option, Err, refl}
+use Rattle.std.specs.Prelude.{◌≡◌, ◌⊎◌, ◌++◌, ℕ, List, [], ◌∷◌, flat_map, Option, Ok, Err, refl}
 use Rattle.std.proofs.Common.{◌∙◌, inl, inr, sym, ap, subst, append_assoc, append-nil}
 use Rattle.std.proofs.lemmas.Grind.{flat_map-append}
 use Rattle.protocol.specs.Lists.{IsAmong}
 use Rattle.protocol.specs.Refusals.{Call, Offering, Seeking, Falling_due, Receiving, Recalling}
+use Rattle.station.specs.declared.answer.Answer.{Answer}
+use Rattle.refusals.specs.declared.refusal.StepRefusal.{StepRefusal}
 use Rattle.folders.specs.Doings.{Doing, Does}
 use Rattle.folders.specs.Written.{File}
 use Rattle.folders.proofs.Doings.{does_nothing, does_then}
-use Rattle.exchange.specs.Events.{Event, asked, took, aside}
+use Rattle.exchange.specs.Events.{Event, asked, took, stored, aside}
 use Rattle.plant_files.specs.Standing.{Texts}
 use Rattle.driver.specs.Fates.{Fates, NeedsNothing}
 use Rattle.offers.specs.Rules.{Standing}
@@ -131,6 +133,16 @@ module _ {F : Type 0} (t : Texts) (doings : F → Option (List Doing)) where
   pub begun : (a b : Kept F) (log : List Event) → Lived t doings a b log → LivedFront t doings a b log
   begun a b log p = record { story = p.story; events = p.events; does = p.does; front = (b.waits, p.whole); ordered = p.ordered }
 
+  -- a step that could not be stored: nothing was done, and what it released waits
+  pub unwritten : (s : Kept F) (call : Call) (answer : Answer) (refusal : StepRefusal) → MayAsk t s call → LivedFront t doings s s (took call (Ok answer) ∷ stored (Err refusal) ∷ [])
+  unwritten s call answer refusal may = record {
+    story = stepped (took call (Ok answer)) ∷ stepped (stored (Err refusal)) ∷ [];
+    events = refl;
+    does = does_nothing (doings s.folders) (doings s.folders) refl;
+    front = (s.waits ++ flat_map filing (took call (Ok answer) ∷ stored (Err refusal) ∷ []), refl);
+    ordered = λ past st. (may past st, (tt, tt));
+  }
+
   free : (s : Kept F) (call : Call) → NeedsNothing call → MayAsk t s call
   free s (Offering n entry now) needs = absurd needs
   free s (Seeking n now) needs = λ past st. tt
@@ -163,6 +175,8 @@ module _ {F S : Type 0} (doings : F → Option (List Doing)) (same : S → S →
   plant_fates = record {
     rests = λ s. (stay s, stayed (texts s) doings (at s));
     clock = λ s moment. (stay s, silent (texts s) doings (at s) (asked moment) refl (λ past st. (tt, tt)));
+    stores = λ s answer. (stay s, silent (texts s) doings (at s) (stored answer) refl (λ past st. (tt, tt)));
+    withheld = λ s call answer refusal may. (stay s, unwritten (texts s) doings (at s) call answer refusal may);
     besides = λ s what. (stay s, silent (texts s) doings (at s) (aside what) refl (λ past st. (tt, tt)));
     refuses = λ s call refusal may. (stay s, silent (texts s) doings (at s) (took call (Err refusal)) refl (λ past st. (may past st, tt)));
     joins = came_then;

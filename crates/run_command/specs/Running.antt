@@ -31,9 +31,10 @@ abbrev pub tells : {F : Type 0} → Texts → (F → Option (List Doing)) → Fa
 tells texts doings = record { lived = Tells texts doings; front = Tells texts doings }
 
 -- what `run` did up to this end, on a station, its wire and its folders, as they were and as they are: the station took the steps of its
--- events and no others; what passed over the wire is what came for them and what they handed out; and its folders are told of so, texts
--- being read by this table
+-- events and no others; what passed over the wire is what came for them and, once what they saved was stored, what they handed out; and its
+-- folders are told of so, texts being read by this table
 abbrev pub RunsUpTo :
-    {R N F : Type 0} → Texts → End → Ghosts R → (N → Trace) → (F → Option (List Doing))
+    {R N F : Type 0} → Texts → End → Ghosts R → (R → Type 0) → (N → Trace) → (F → Option (List Doing))
     → Station R → Station R → N → N → F → F → Type 0
-RunsUpTo texts end rows passed doings old new was is before after = Drove (known rows passed (tells texts doings)) (post old was before) (post new is after) end Anyhow
+RunsUpTo texts end rows is_settled passed doings old new was is before after =
+    Drove (known rows is_settled passed (tells texts doings)) (post old was before) (post new is after) end Anyhow

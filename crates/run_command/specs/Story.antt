@@ -11,10 +11,11 @@ use Rattle.folders.specs.declared.leaving.Place.TheVariants as places
 use Rattle.folders.specs.declared.names.Kind.{Kind}
 use Rattle.plant_files.specs.Filing.{release_files}
 use Rattle.plant_files.specs.Standing.{Texts, WasLaid}
-use Rattle.exchange.specs.Events.{Event, asked, took, aside}
+use Rattle.exchange.specs.Events.{Event, asked, took, stored, aside}
 use Rattle.run_command.specs.Filing.{filing}
 
--- the clock was asked, the station was called or something passed beside its packets; or something was done with the folders
+-- the clock was asked, the station was called, it stored what it saved, or something passed beside its packets; or something was done with the
+-- folders
 pub data Happened : Type 0 where
   stepped : (event : Event) → Happened
   did : (doing : Doing) → Happened
@@ -85,6 +86,7 @@ abbrev pub MayHappen : Texts → List Happened → Happened → Type 0
 MayHappen texts before (stepped (asked moment)) = Unit {0}
 MayHappen texts before (stepped (aside what)) = Unit {0}
 MayHappen texts before (stepped (took call answer)) = MayBeCalled texts before call
+MayHappen texts before (stepped (stored answer)) = Unit {0}
 MayHappen texts before (did doing) = MayBeDone before doing
 
 -- each of these may happen behind those before it, of which the latest is told first

@@ -1,14 +1,10 @@
 -- What the parts of a run promise one another: what each did with the folders, and what is kept in mind then.
-use Rattle.std.specs.Prelude.{◌≡◌, ◌++◌, ℕ, List, [], ◌∷◌, map, flat_map, Option, Some, None, Result, Ok, Err}
-use Rattle.protocol.specs.Refusals.{Call}
+use Rattle.std.specs.Prelude.{◌≡◌, ◌++◌, ℕ, List, [], flat_map, Option, Some, None, Result, Ok, Err}
 use Rattle.protocol.specs.Lists.{IsAmong}
 use Rattle.code_table.specs.Tables.{Places, mean}
 use Rattle.tape_frames.specs.Frames.{most_frames}
 use Rattle.text_tape.specs.Punching.{IsPunched, IsError}
-use Rattle.station.specs.declared.answer.Answer.{Answer}
 use Rattle.station.specs.declared.answer.Release.{Release}
-use Rattle.command_ends.specs.declared.end.End.{End}
-use Rattle.command_ends.specs.declared.end.End.TheVariants as ends
 use Rattle.folders.specs.Doings.{Doing, read_file, Does, writing, WritesSome}
 use Rattle.folders.specs.Written.{File}
 use Rattle.folders.specs.declared.names.Kind.TheVariants as kinds
@@ -19,9 +15,9 @@ use Rattle.offers.specs.declared.stage.Reason.{Reason}
 use Rattle.offers.specs.declared.stage.Reason.TheVariants as reasons
 use Rattle.plant_files.specs.Filing.{files_of}
 use Rattle.plant_files.specs.Standing.{Texts, StandsFor, wished, LayThere}
-use Rattle.exchange.specs.Events.{Event, took}
-use Rattle.run_command.specs.Minding.{WereRead, HaveReleases, Holds, onto, IsOfRelease, AreLooks, AreSettlings}
-use Rattle.run_command.specs.Story.{Happened, did, stepped, files_of_story, IsReleasedIn, IsInOrder}
+use Rattle.exchange.specs.Events.{Event}
+use Rattle.run_command.specs.Minding.{WereRead, HaveReleases, onto, IsOfRelease, AreLooks, AreSettlings}
+use Rattle.run_command.specs.Story.{Happened, files_of_story, IsReleasedIn}
 
 -- no file was read, and no number released
 pub record Follows (was is : Standing) : Type 0 where
@@ -115,16 +111,12 @@ Releases (Some r) log = IsReleasedIn log r
 abbrev pub Writes : List File → List Happened → List File → Type 0
 Writes files story rest = files ≡ files_of_story story ++ rest
 
--- what was handed on of an answer up to this end, behind the call that it answers
-pub record HandsOn {F : Type 0} (doings : F → Option (List Doing)) (answer : Answer) (before after : F) (waited waits : List File)
-    (was is : Standing) (end : End) : Type 0 where
-  pub done : List Doing
-  pub does : Does (doings before) (doings after) done
-  pub front : (rest : List File) × Writes (waited ++ files_of answer.release) (map did done) rest
-  pub whole : end ≡ ends.Done → Writes (waited ++ files_of answer.release) (map did done) waits
-  pub ordered :
-      (texts : Texts) (past : List Happened) (call : Call) → Holds texts past waited was
-      → IsInOrder texts (stepped (took call (Ok answer)) ∷ past) (map did done)
-  pub stands :
-      end ≡ ends.Done → (texts : Texts) (past : List Happened) (call : Call) → Holds texts past waited was
-      → Holds texts (onto (map did done) (stepped (took call (Ok answer)) ∷ past)) waits is
+-- what is kept in mind was read, or was released in events of which this is given, where it was so before
+pub record Keeps (Given : List Event → Type 0) (was is : Standing) : Type 0 where
+  pub taken : (texts : Texts) (shown : List Doing) → WereRead texts shown was.files → WereRead texts shown is.files
+  pub released : (log : List Event) → Given log → HaveReleases log was → HaveReleases log is
+
+-- a step that released this, if anything, is kept in mind: the files of its release wait behind the others
+pub record Noted (release : Option Release) (waited waits : List File) (was is : Standing) : Type 0 where
+  pub behind : waits ≡ waited ++ files_of release
+  pub keeps : Keeps (Releases release) was is

@@ -28,10 +28,6 @@ impl<F: Folders, S: StatusFile> Sink for PlantDesk<'_, '_, '_, F, S> {
 
     ghost may = { λ it call. MayAsk (texts_of it) (kept_of it.plant) call };
 
-    fn take<E: Write>(&mut self, step: &Step, log: &mut Log<'_, E>) -> Result<(), Fault<'static>> {
-        self.plant.take(step, log)
-    }
-
     fn hear<E: Write>(&mut self, heard: &Heard, now: u64, log: &mut Log<'_, E>) {
         self.plant.hear(heard, now, log);
     }
@@ -40,6 +36,16 @@ impl<F: Folders, S: StatusFile> Sink for PlantDesk<'_, '_, '_, F, S> {
 }
 
 impl<F: Folders, S: StatusFile> Desk for PlantDesk<'_, '_, '_, F, S> {
+    ghost is_still = { λ old new. F.doings new.plant.folders.now ≡ F.doings old.plant.folders.now };
+
+    fn note<E: Write>(&mut self, step: &Step, log: &mut Log<'_, E>) -> Result<(), Fault<'static>> {
+        self.plant.note(step, log)
+    }
+
+    fn hand_out<E: Write>(&mut self, steps: &[Step], now: u64, log: &mut Log<'_, E>) {
+        self.plant.hand_out(steps, now, log);
+    }
+
     fn tasks(&mut self) -> Tasks {
         self.plant.tasks()
     }

@@ -17,6 +17,7 @@ use log_terms::Loudness;
 use plant_care::{Start, begin};
 use plant_log::tell_fault;
 use plant_status::{StationId, StatusFile};
+use row_groups::Settles;
 use saved_rows::Rows;
 use station::{Station, StepRefusal};
 use std::alloc::Global;
@@ -60,18 +61,18 @@ fn remove_stop<F: Folders, E: Write>(alloc: Global, folders: &mut F, err: &mut E
 /// fails, or there is no memory for the files of a release; `err` has the fault. A file `stop` that lies there at the start is
 /// taken away. The room for what comes is made before the first turn.
 ///
-/// What the station hands out is sent, what it releases is written among the releases, or waits to be where the folder does
-/// not take it. What went out before is read of the folders, and what is missing is caught up with. What lies among the offers is taken
-/// up once it is whole, a text as the tape that it becomes, and leaves them once its number is released, or where it is no offer. A folder
-/// that does not serve is told, and the station goes on.
-pub fn run_station<R: Rows, N: Wire, F: Folders, E: Write, S: StatusFile + Drop>(
+/// Steps of the station share a save. Once what they saved is stored, what they hand out is sent, and what they release is written among
+/// the releases, or waits to be where the folder does not take it. What went out before is read of the folders, and what is missing is
+/// caught up with. What lies among the offers is taken up once it is whole, a text as the tape that it becomes, and leaves them once its
+/// number is released, or where it is no offer. A folder that does not serve is told, and the station goes on.
+pub fn run_station<R: Settles, N: Wire, F: Folders, E: Write, S: StatusFile + Drop>(
     station: &mut Station<R>,
     wire: &mut N,
     folders: &mut F,
     terms: Terms<'_, E, S>,
 ) -> End
     ensures was_kept { R.kept station.new.rows → R.kept station.old.rows }
-    ensures runs { RunsUpTo terms.entry.texts result R.Rows N.passed F.doings station.old station.new wire.old wire.new folders.old folders.new }
+    ensures runs { RunsUpTo terms.entry.texts result R.Rows R.Settles.is_settled N.passed F.doings station.old station.new wire.old wire.new folders.old folders.new }
     ensures goes_on { result ≡ Done → station.new.stopped ≡ false }
 {
     let alloc = terms.alloc;
@@ -114,5 +115,5 @@ pub fn run_station<R: Rows, N: Wire, F: Folders, E: Write, S: StatusFile + Drop>
         status: &mut file,
     };
     let mut driver = Driver::new(station, wire, desk, &mut intake);
-    driver.run(terms.err, is_quiet)
+    driver.run(alloc, terms.err, is_quiet)
 }

@@ -24,6 +24,8 @@ mod renamed;
 #[cfg(test)]
 mod replaced;
 #[cfg(test)]
+mod saves;
+#[cfg(test)]
 mod stage;
 #[cfg(test)]
 mod texts;

@@ -16,7 +16,7 @@ use Rattle.seals.specs.declared.opening.Place.TheVariants as places
 use Rattle.circuit_keys.specs.declared.key_file.SharedKeys.{SharedKeys}
 use Rattle.sealed_door.specs.declared.door.SealedDoor.{SealedDoor}
 use Rattle.sealed_door.specs.Admitting.{BringsSealed}
-use Rattle.exchange.specs.Events.{Event, asked, took, aside}
+use Rattle.exchange.specs.Events.{Event, asked, took, stored, aside}
 use Rattle.days.specs.Happening.{Happened, Came}
 use Rattle.process_days.specs.Telling.{Order, AllTaken, CallTakes, CameWith, IsInTurn, LogsAgree, TakesSuch, day_with, log_of}
 use Rattle.process_days.proofs.GoingOn.{log_here, log_elsewhere}
@@ -71,6 +71,7 @@ module _ {S : Type 0} (came : S → SocketAddr → List ℕ → Type 0) where
   event_came shared number count day m socket door (asked moment) is_door it premise = tt
   event_came shared number count day m socket door (aside what) is_door it premise = tt
   event_came shared number count day m socket door (took call answer) is_door it premise = call_came shared number count day m socket door call is_door it premise
+  event_came shared number count day m socket door (stored answer) is_door it premise = tt
 
   -- what holds of a member's log holds of its first event, and of what is left of the log
   first_taken : (Is : List ℕ → Type 0) (m : ℕ) (event : Event) (rest : Order) → AllTaken Is (log_of m ((m, event) ∷ rest)) → TakesSuch Is event × AllTaken Is (log_of m rest)
@@ -97,6 +98,6 @@ module _ {S : Type 0} (came : S → SocketAddr → List ℕ → Type 0) where
   pub orders_are_in_turn : SealedOrdersAreInTurn came
   orders_are_in_turn = in_turn
 
-  pub logs_agree : {R : Type 0} (g : Ghosts R) → LogsAgree g → SealedLogsAgree g came
-  logs_agree g agree = λ p shared day at sockets order last d logs s premise.
+  pub logs_agree : {R : Type 0} (g : Ghosts R) (is_settled : R → Type 0) → LogsAgree g is_settled → SealedLogsAgree g is_settled came
+  logs_agree g is_settled agree = λ p shared day at sockets order last d logs s premise.
       agree p day at order last d logs (in_turn shared p.number p.count day sockets order s premise)

@@ -15,7 +15,7 @@ use Rattle.circuit_keys.specs.Circuit.{circuit_text}
 use Rattle.circuit_keys.specs.declared.key_file.SharedKeys.{SharedKeys}
 use Rattle.sealed_door.specs.declared.door.SealedDoor.{SealedDoor}
 use Rattle.sealed_door.specs.Admitting.{BringsSealed}
-use Rattle.exchange.specs.Events.{Event, asked, took, aside}
+use Rattle.exchange.specs.Events.{Event, asked, took, stored, aside}
 use Rattle.days.specs.Happening.{Happened, WasHandedOut, Came}
 use Rattle.days.specs.Handing.{Plants, Member}
 use Rattle.days.specs.Days.{Day, IsDayAgreed, OfferedFirst}
@@ -81,6 +81,7 @@ abbrev pub NeedsKey : SharedKeys → ℕ → ℕ → (SocketAddr → List ℕ �
 NeedsKey shared number count came day m (asked moment) = Unit {0}
 NeedsKey shared number count came day m (aside what) = Unit {0}
 NeedsKey shared number count came day m (took call answer) = CallNeedsKey shared number count came day m call
+NeedsKey shared number count came day m (stored answer) = Unit {0}
 
 -- each event is of a member of the circuit, and of what it takes in nobody made a tag without the key
 abbrev pub NeedKey : SharedKeys → ℕ → ℕ → (ℕ → SocketAddr → List ℕ → Type 0) → List Happened → Order → Type 0
@@ -101,8 +102,8 @@ SealedOrdersAreInTurn {S = S} came =
     → AreSealed came shared number count sockets order → NeedKey shared number count (λ m. came (sockets m)) day order → IsInTurn count day order
 
 -- so what sealed processes release agrees, with all that was released before in the day, on the key alone
-abbrev pub SealedLogsAgree : {R S : Type 0} → Ghosts R → (S → SocketAddr → List ℕ → Type 0) → Type 0
-SealedLogsAgree {R = R} {S = S} g came =
+abbrev pub SealedLogsAgree : {R S : Type 0} → Ghosts R → (R → Type 0) → (S → SocketAddr → List ℕ → Type 0) → Type 0
+SealedLogsAgree {R = R} {S = S} g is_settled came =
     (p : Plants) (shared : SharedKeys) (day : List Happened) (at : ℕ → Member R) (sockets : ℕ → S) (order : Order) (last : ℕ → Station R)
-    → Day g p day at → HaveLogs g p.count at last order → AreSealed came shared p.number p.count sockets order
+    → Day g p day at → HaveLogs g is_settled p.count at last order → AreSealed came shared p.number p.count sockets order
     → NeedKey shared p.number p.count (λ m. came (sockets m)) day order → IsDayAgreed p (day_after day order) × OfferedFirst (day_after day order)

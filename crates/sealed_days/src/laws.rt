@@ -3,7 +3,7 @@
 ghost use Rattle.sealed_days.specs.Keyed.{SealedLogsAgree, SealedOrdersAreInTurn, SealedPacketsCame};
 
 use process_days::laws;
-use saved_rows::Rows;
+use row_groups::Settles;
 use wire::Socket;
 
 /// Where no tag is made without the key, each packet that the door of a member lets in was handed out to that member before, in the day,
@@ -19,8 +19,8 @@ pub fn sealed_orders_are_in_turn<S: Socket>()
 {}
 
 /// So what they release agrees, with all that was released before in the day: with a key, that rests on the key alone.
-pub fn sealed_logs_agree<R: Rows, S: Socket>()
-    ensures { SealedLogsAgree R.Rows S.came }
+pub fn sealed_logs_agree<R: Settles, S: Socket>()
+    ensures { SealedLogsAgree R.Rows R.Settles.is_settled S.came }
 {
     laws::processes_agree::<R>();
 }

@@ -23,6 +23,8 @@ pub printing_fates : {W : Type 0} (contents : W → Option (List ℕ)) → Fates
 printing_fates contents = record {
   rests = λ s. Appends-nil (contents s);
   clock = λ s moment. Appends-nil (contents s);
+  stores = λ s answer. Appends-nil (contents s);
+  withheld = λ s call answer refusal may. (0, Appends-nil (contents s));
   besides = λ s what. Appends-nil (contents s);
   refuses = λ s call refusal may. Appends-nil (contents s);
   joins = λ a b c xs ys p q.
@@ -45,6 +47,8 @@ printed name contents =
     record {
       rests = λ s. (refl, f.rests s);
       clock = λ s moment. (refl, f.clock s moment);
+      stores = λ s answer. (refl, f.stores s answer);
+      withheld = λ s call answer refusal may. (refl, f.withheld s call answer refusal tt);
       besides = λ s what. (refl, f.besides s what);
       refuses = λ s call refusal may. (refl, f.refuses s call refusal tt);
       joins = λ a b c xs ys p q. (q.0 ∙ p.0, f.joins a b c xs ys p.1 q.1);

@@ -14,7 +14,7 @@ use Rattle.station.specs.Readiness.{slugs_of}
 use Rattle.wire.specs.Passing.{Trace}
 use Rattle.command_ends.specs.ReleaseText.{release_text}
 use Rattle.command_ends.specs.declared.end.End.{End}
-use Rattle.exchange.specs.Events.{Event, asked, took, aside}
+use Rattle.exchange.specs.Events.{Event, asked, took, stored, aside}
 use Rattle.driver.specs.Driving.{Fate, known, post, Drove, AtClock, Then, IsTurn}
 
 -- a release is written as its line, and its galley where its tape sets
@@ -31,10 +31,11 @@ abbrev pub written : Result Answer StepRefusal → List ℕ
 written (Ok answer) = printing answer.release
 written (Err refusal) = []
 
--- what is written in an event
+-- what is written in an event; that what the station saved is stored writes nothing
 abbrev pub writing : Event → List ℕ
 writing (asked moment) = []
 writing (aside what) = []
+writing (stored answer) = []
 writing (took call answer) = written answer
 
 -- what was printed of these events: the text of each release, in order; a front of it
@@ -46,22 +47,22 @@ prints contents = record {
 
 -- what `serve` did up to this end by events of this form, on a station, its wire and its output as they were and as they are
 abbrev pub ServesBy :
-    {R N W : Type 0} → (List Event → Type 0) → End → Ghosts R → (N → Trace) → (W → Option (List ℕ))
+    {R N W : Type 0} → (List Event → Type 0) → End → Ghosts R → (R → Type 0) → (N → Trace) → (W → Option (List ℕ))
     → Station R → Station R → N → N → W → W → Type 0
-ServesBy Form end rows passed contents old new was is before after =
-    Drove (known rows passed (prints contents)) (post old was before) (post new is after) end Form
+ServesBy Form end rows is_settled passed contents old new was is before after =
+    Drove (known rows is_settled passed (prints contents)) (post old was before) (post new is after) end Form
 
 -- whatever a sink is, its station may be called as it is called here
 abbrev pub IsFree : {S : Type 0} → (S → Call → Type 0) → Type 0
 IsFree {S = S} may = (s : S) (call : Call) → may s call
 
--- the entry was taken
+-- the entry was taken, and what the station saved of it was stored
 abbrev pub IsOffering : ℕ → Entry → ℕ → List Event → Type 0
-IsOffering n entry now log = (answer : Answer) × (log ≡ took (Offering n entry now) (Ok answer) ∷ [])
+IsOffering n entry now log = (answer : Answer) × (log ≡ took (Offering n entry now) (Ok answer) ∷ stored (Ok tt) ∷ [])
 
--- the search was begun
+-- the search was begun, and what the station saved of it was stored
 abbrev pub IsSeeking : ℕ → ℕ → List Event → Type 0
-IsSeeking n now log = (answer : Answer) × (log ≡ took (Seeking n now) (Ok answer) ∷ [])
+IsSeeking n now log = (answer : Answer) × (log ≡ took (Seeking n now) (Ok answer) ∷ stored (Ok tt) ∷ [])
 
 -- the tape was offered, if there is one
 abbrev pub IsOffer : Option (ℕ × Tape) → List Event → Type 0

@@ -7,8 +7,9 @@ ghost use Rattle.command_ends.specs.declared.end.End.TheVariants.{Done};
 
 use crate::printer::Printer;
 use command_ends::{End, Fault};
-use driver::{Call, Driver, Log, Sink};
+use driver::{Call, Driver, Log, Outlet};
 use exchange::Intake;
+use row_groups::Settles;
 use saved_rows::Rows;
 use station::{Station, StepRefusal};
 use std::alloc::Global;
@@ -18,11 +19,11 @@ use wire::Wire;
 
 /// One turn of a station at a moment in milliseconds: it takes in one datagram at most, and then sees to what is due.
 ///
-/// What the station hands out is sent, and a release is written. A datagram that it refuses is passed over, a datagram that can't be
-/// sent is lost and told, and so are, once a second at most, those of strangers. One of a layout that the station does not read is told
+/// What the station hands out is sent, and a release is written, once what it saved is stored. A datagram that it refuses is passed over, a
+/// datagram that can't be sent is lost and told, and so are, once a second at most, those of strangers. One of a layout that the station does not read is told
 /// once a minute at most. The turn ends otherwise than by `Done` where the wire fails to receive, the station stops, or the output
 /// can't be written; `err` has the fault.
-pub fn serve_turn<R: Rows, N: Wire, W: Write, E: Write>(
+pub fn serve_turn<R: Settles, N: Wire, W: Write, E: Write>(
     alloc: Global,
     station: &mut Station<R>,
     wire: &mut N,
@@ -32,7 +33,7 @@ pub fn serve_turn<R: Rows, N: Wire, W: Write, E: Write>(
     err: &mut E,
 ) -> End
     ensures was_kept { R.kept station.new.rows → R.kept station.old.rows }
-    ensures serves { ServesBy (IsTurn now) result R.Rows N.passed W.contents station.old station.new wire.old wire.new out.old out.new }
+    ensures serves { ServesBy (IsTurn now) result R.Rows R.Settles.is_settled N.passed W.contents station.old station.new wire.old wire.new out.old out.new }
     ensures goes_on { result ≡ Done → station.new.stopped ≡ false }
 {
     let printer = Printer { alloc, out };
@@ -56,7 +57,7 @@ struct Asks {
 }
 
 /// Offers a tape for a number, where there is one to offer.
-fn make_offer<R: Rows, N: Wire, S: Sink, E: Write>(
+fn make_offer<R: Settles, N: Wire, S: Outlet, E: Write>(
     driver: &mut Driver<'_, R, N, S>,
     offer: Option<(u32, Tape)>,
     log: &mut Log<'_, E>,
@@ -65,7 +66,7 @@ fn make_offer<R: Rows, N: Wire, S: Sink, E: Write>(
     ensures station { driver.new.station.ghost_name ≡ driver.old.station.ghost_name }
     ensures wire { driver.new.wire.ghost_name ≡ driver.old.wire.ghost_name }
     ensures was_kept { R.kept driver.new.station.now.rows → R.kept driver.old.station.now.rows }
-    ensures drove { DroveUpTo (IsOffer offer) result R.Rows N.passed S.Sink driver.old driver.new }
+    ensures drove { DroveUpTo (IsOffer offer) result R.Rows R.Settles.is_settled N.passed S.Sink driver.old driver.new }
 {
     let Some((number, tape)) = offer else {
         return Ok(());
@@ -78,7 +79,7 @@ fn make_offer<R: Rows, N: Wire, S: Sink, E: Write>(
 }
 
 /// Offers the withdrawal of a number, where there is one to withdraw.
-fn make_withdrawal<R: Rows, N: Wire, S: Sink, E: Write>(
+fn make_withdrawal<R: Settles, N: Wire, S: Outlet, E: Write>(
     driver: &mut Driver<'_, R, N, S>,
     withdraw: Option<u32>,
     log: &mut Log<'_, E>,
@@ -87,7 +88,7 @@ fn make_withdrawal<R: Rows, N: Wire, S: Sink, E: Write>(
     ensures station { driver.new.station.ghost_name ≡ driver.old.station.ghost_name }
     ensures wire { driver.new.wire.ghost_name ≡ driver.old.wire.ghost_name }
     ensures was_kept { R.kept driver.new.station.now.rows → R.kept driver.old.station.now.rows }
-    ensures drove { DroveUpTo (IsWithdrawal withdraw) result R.Rows N.passed S.Sink driver.old driver.new }
+    ensures drove { DroveUpTo (IsWithdrawal withdraw) result R.Rows R.Settles.is_settled N.passed S.Sink driver.old driver.new }
 {
     match withdraw {
         Some(number) => driver.ask(Call::Withdraw { number }, log),
@@ -96,7 +97,7 @@ fn make_withdrawal<R: Rows, N: Wire, S: Sink, E: Write>(
 }
 
 /// Seeks what was agreed on for a number, where there is one to seek.
-fn make_search<R: Rows, N: Wire, S: Sink, E: Write>(
+fn make_search<R: Settles, N: Wire, S: Outlet, E: Write>(
     driver: &mut Driver<'_, R, N, S>,
     seek: Option<u32>,
     log: &mut Log<'_, E>,
@@ -105,7 +106,7 @@ fn make_search<R: Rows, N: Wire, S: Sink, E: Write>(
     ensures station { driver.new.station.ghost_name ≡ driver.old.station.ghost_name }
     ensures wire { driver.new.wire.ghost_name ≡ driver.old.wire.ghost_name }
     ensures was_kept { R.kept driver.new.station.now.rows → R.kept driver.old.station.now.rows }
-    ensures drove { DroveUpTo (IsSearch seek) result R.Rows N.passed S.Sink driver.old driver.new }
+    ensures drove { DroveUpTo (IsSearch seek) result R.Rows R.Settles.is_settled N.passed S.Sink driver.old driver.new }
 {
     match seek {
         Some(number) => driver.ask(Call::Seek { number }, log),
@@ -114,7 +115,7 @@ fn make_search<R: Rows, N: Wire, S: Sink, E: Write>(
 }
 
 /// Makes the withdrawal, and then the search.
-fn withdraw_and_seek<R: Rows, N: Wire, S: Sink, E: Write>(
+fn withdraw_and_seek<R: Settles, N: Wire, S: Outlet, E: Write>(
     driver: &mut Driver<'_, R, N, S>,
     withdraw: Option<u32>,
     seek: Option<u32>,
@@ -124,14 +125,14 @@ fn withdraw_and_seek<R: Rows, N: Wire, S: Sink, E: Write>(
     ensures station { driver.new.station.ghost_name ≡ driver.old.station.ghost_name }
     ensures wire { driver.new.wire.ghost_name ≡ driver.old.wire.ghost_name }
     ensures was_kept { R.kept driver.new.station.now.rows → R.kept driver.old.station.now.rows }
-    ensures drove { DroveUpTo (IsLaterAsking withdraw seek) result R.Rows N.passed S.Sink driver.old driver.new }
+    ensures drove { DroveUpTo (IsLaterAsking withdraw seek) result R.Rows R.Settles.is_settled N.passed S.Sink driver.old driver.new }
 {
     make_withdrawal(driver, withdraw, log)?;
     make_search(driver, seek, log)
 }
 
 /// Makes the offer, then the withdrawal, and then the search.
-fn ask_all<R: Rows, N: Wire, S: Sink, E: Write>(
+fn ask_all<R: Settles, N: Wire, S: Outlet, E: Write>(
     driver: &mut Driver<'_, R, N, S>,
     asks: Asks,
     log: &mut Log<'_, E>,
@@ -140,14 +141,14 @@ fn ask_all<R: Rows, N: Wire, S: Sink, E: Write>(
     ensures station { driver.new.station.ghost_name ≡ driver.old.station.ghost_name }
     ensures wire { driver.new.wire.ghost_name ≡ driver.old.wire.ghost_name }
     ensures was_kept { R.kept driver.new.station.now.rows → R.kept driver.old.station.now.rows }
-    ensures drove { DroveUpTo (IsAsking asks.offer asks.withdraw asks.seek) result R.Rows N.passed S.Sink driver.old driver.new }
+    ensures drove { DroveUpTo (IsAsking asks.offer asks.withdraw asks.seek) result R.Rows R.Settles.is_settled N.passed S.Sink driver.old driver.new }
 {
     make_offer(driver, asks.offer, log)?;
     withdraw_and_seek(driver, asks.withdraw, asks.seek, log)
 }
 
 /// The turns of a station, one after the other, up to the first fault.
-fn take_turns<R: Rows, N: Wire, S: Sink, E: Write>(
+fn take_turns<R: Settles, N: Wire, S: Outlet, E: Write>(
     driver: &mut Driver<'_, R, N, S>,
     turns: u32,
     log: &mut Log<'_, E>,
@@ -155,7 +156,7 @@ fn take_turns<R: Rows, N: Wire, S: Sink, E: Write>(
     ensures station { driver.new.station.ghost_name ≡ driver.old.station.ghost_name }
     ensures wire { driver.new.wire.ghost_name ≡ driver.old.wire.ghost_name }
     ensures was_kept { R.kept driver.new.station.now.rows → R.kept driver.old.station.now.rows }
-    ensures drove { DroveUpTo (AreTurns turns) result R.Rows N.passed S.Sink driver.old driver.new }
+    ensures drove { DroveUpTo (AreTurns turns) result R.Rows R.Settles.is_settled N.passed S.Sink driver.old driver.new }
 {
     for _ in 0..turns {
         driver.turn(log)?;
@@ -164,7 +165,7 @@ fn take_turns<R: Rows, N: Wire, S: Sink, E: Write>(
 }
 
 /// What is asked, and then the turns.
-fn ask_and_turn<R: Rows, N: Wire, S: Sink, E: Write>(
+fn ask_and_turn<R: Settles, N: Wire, S: Outlet, E: Write>(
     driver: &mut Driver<'_, R, N, S>,
     asks: Asks,
     turns: u32,
@@ -174,7 +175,7 @@ fn ask_and_turn<R: Rows, N: Wire, S: Sink, E: Write>(
     ensures station { driver.new.station.ghost_name ≡ driver.old.station.ghost_name }
     ensures wire { driver.new.wire.ghost_name ≡ driver.old.wire.ghost_name }
     ensures was_kept { R.kept driver.new.station.now.rows → R.kept driver.old.station.now.rows }
-    ensures drove { DroveUpTo (IsRun asks.offer asks.withdraw asks.seek turns) result R.Rows N.passed S.Sink driver.old driver.new }
+    ensures drove { DroveUpTo (IsRun asks.offer asks.withdraw asks.seek turns) result R.Rows R.Settles.is_settled N.passed S.Sink driver.old driver.new }
 {
     ask_all(driver, asks, log)?;
     take_turns(driver, turns, log)
@@ -185,7 +186,7 @@ fn ask_and_turn<R: Rows, N: Wire, S: Sink, E: Write>(
 ///
 /// An offer, a withdrawal or a search that the station refuses ends it, and so does that it has stopped; `err` has the
 /// word. A station at version 1 refuses each withdrawal.
-pub fn serve_run<R: Rows, N: Wire, W: Write, E: Write>(
+pub fn serve_run<R: Settles, N: Wire, W: Write, E: Write>(
     alloc: Global,
     station: &mut Station<R>,
     wire: &mut N,
@@ -197,7 +198,7 @@ pub fn serve_run<R: Rows, N: Wire, W: Write, E: Write>(
     err: &mut E,
 ) -> End
     ensures was_kept { R.kept station.new.rows → R.kept station.old.rows }
-    ensures serves { ServesBy (IsRun offer withdraw seek turns) result R.Rows N.passed W.contents station.old station.new wire.old wire.new out.old out.new }
+    ensures serves { ServesBy (IsRun offer withdraw seek turns) result R.Rows R.Settles.is_settled N.passed W.contents station.old station.new wire.old wire.new out.old out.new }
     ensures goes_on { result ≡ Done → station.new.stopped ≡ false }
 {
     if station.stopped() {

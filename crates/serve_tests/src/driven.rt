@@ -13,13 +13,39 @@ use std::alloc::Global;
 use std::io::Write;
 use tape_frames::Version;
 
-/// A desk that has a station asked twice to withdraw number 13, and whose sixth look ends the run. It counts what it is told.
+/// A desk that has a station asked to withdraw number 13, and whose sixth look ends the run. It counts what it is told.
 #[derive(Drop)]
-struct Counting {
+pub struct Counting {
+    /// How many times it is still to be asked.
     asks: usize,
+    /// How many steps that send or release something were handed out, and in how many groups.
+    pub handed_out: usize,
+    pub groups: usize,
     released: usize,
     denied: usize,
     looks: usize,
+}
+
+impl Counting {
+    /// The station is to be asked so many times.
+    pub fn new(asks: usize) -> Counting {
+        Counting {
+            asks,
+            handed_out: 0,
+            groups: 0,
+            released: 0,
+            denied: 0,
+            looks: 0,
+        }
+    }
+}
+
+/// How many of these steps released something.
+pub fn released_by(steps: &[Step]) -> usize {
+    steps
+        .iter()
+        .filter(|step| step.answer.release.is_some())
+        .count()
 }
 
 impl Sink for Counting {
@@ -29,18 +55,13 @@ impl Sink for Counting {
 
     ghost may = { λ _ _. Unit {0} };
 
-    fn take<E: Write>(&mut self, step: &Step, _log: &mut Log<'_, E>) -> Result<(), Fault<'static>> {
-        if step.answer.release.is_some() {
-            self.released = self.released.saturating_add(1);
-        }
-        Ok(())
-    }
-
     fn hear<E: Write>(&mut self, _heard: &Heard, _now: u64, _log: &mut Log<'_, E>) {}
 
     ghost fates = { record {
       rests = λ _. tt;
       clock = λ _ _. tt;
+      stores = λ _ _. tt;
+      withheld = λ _ _ _ _ _. tt;
       besides = λ _ _. tt;
       refuses = λ _ _ _ _. tt;
       joins = λ _ _ _ _ _ _ _. tt;
@@ -51,8 +72,27 @@ impl Sink for Counting {
 }
 
 impl Desk for Counting {
+    ghost is_still = { λ _ _. Unit {0} };
+
+    fn note<E: Write>(
+        &mut self,
+        _step: &Step,
+        _log: &mut Log<'_, E>,
+    ) -> Result<(), Fault<'static>> {
+        Ok(())
+    }
+
+    fn hand_out<E: Write>(&mut self, steps: &[Step], _now: u64, _log: &mut Log<'_, E>) {
+        if steps.is_empty() {
+            return;
+        }
+        self.groups = self.groups.saturating_add(1);
+        self.handed_out = self.handed_out.saturating_add(steps.len());
+        self.released = self.released.saturating_add(released_by(steps));
+    }
+
     fn tasks(&mut self) -> Tasks {
-        let deeds = if self.asks < 2 {
+        let deeds = if self.asks > 0 {
             Deeds::Asks
         } else {
             Deeds::Nothing
@@ -69,7 +109,7 @@ impl Desk for Counting {
     }
 
     fn deed<E: Write>(&mut self, _chance: Chance, _log: &mut Log<'_, E>) -> Option<Todo> {
-        self.asks = self.asks.saturating_add(1);
+        self.asks = self.asks.saturating_sub(1);
         let number = Number::new(13)?;
         Some(Todo::Ask(Request {
             number,
@@ -97,15 +137,9 @@ fn counts(alloc: Global) -> Option<(usize, usize)> {
     let rows = rows_with(alloc, Version::Two, None)?;
     let mut station = station_over(alloc, 1, 1, rows)?;
     let mut wire = Scripted::new(alloc, Manner::Passing);
-    let desk = Counting {
-        asks: 0,
-        released: 0,
-        denied: 0,
-        looks: 0,
-    };
     let mut told = Vec::new(alloc);
-    let mut driver = Driver::new(&mut station, &mut wire, desk, &mut intake);
-    if driver.run(&mut told, false) != End::Done {
+    let mut driver = Driver::new(&mut station, &mut wire, Counting::new(2), &mut intake);
+    if driver.run(alloc, &mut told, false) != End::Done {
         return None;
     }
     let desk = driver.sink();

@@ -4,6 +4,7 @@
 ghost use Rattle.std.specs.Prelude.{IfSome};
 ghost use Rattle.catch_up.specs.Errands.{IsGoodErrand};
 
+use crate::driven::released_by;
 use crate::wires::{Manner, Scripted};
 use ballots::{Member, Number};
 use catch_up::Errand;
@@ -61,16 +62,6 @@ impl Sink for Running {
 
     ghost may = { λ _ _. Unit {0} };
 
-    fn take<E: Write>(&mut self, step: &Step, _log: &mut Log<'_, E>) -> Result<(), Fault<'static>> {
-        if matches!(step.answer.note, Note::Recalled { .. }) {
-            self.recalled = self.recalled.saturating_add(1);
-        }
-        if step.answer.release.is_some() {
-            self.released = self.released.saturating_add(1);
-        }
-        Ok(())
-    }
-
     fn hear<E: Write>(&mut self, heard: &Heard, _now: u64, _log: &mut Log<'_, E>) {
         match heard {
             Heard::Aside(Aside::Recall(Ok(recall))) => {
@@ -86,6 +77,8 @@ impl Sink for Running {
     ghost fates = { record {
       rests = λ _. tt;
       clock = λ _ _. tt;
+      stores = λ _ _. tt;
+      withheld = λ _ _ _ _ _. tt;
       besides = λ _ _. tt;
       refuses = λ _ _ _ _. tt;
       joins = λ _ _ _ _ _ _ _. tt;
@@ -96,6 +89,19 @@ impl Sink for Running {
 }
 
 impl Desk for Running {
+    ghost is_still = { λ _ _. Unit {0} };
+
+    fn note<E: Write>(&mut self, step: &Step, _log: &mut Log<'_, E>) -> Result<(), Fault<'static>> {
+        if matches!(step.answer.note, Note::Recalled { .. }) {
+            self.recalled = self.recalled.saturating_add(1);
+        }
+        Ok(())
+    }
+
+    fn hand_out<E: Write>(&mut self, steps: &[Step], _now: u64, _log: &mut Log<'_, E>) {
+        self.released = self.released.saturating_add(released_by(steps));
+    }
+
     fn tasks(&mut self) -> Tasks {
         let deeds = if self.turn < ERRANDS {
             Deeds::Others
@@ -160,7 +166,7 @@ fn run_all(alloc: Global) -> Option<(Counts, Vec<u8>)> {
     };
     let mut told = Vec::new(alloc);
     let mut driver = Driver::new(&mut station, &mut wire, desk, &mut intake);
-    if driver.run(&mut told, false) != End::Done {
+    if driver.run(alloc, &mut told, false) != End::Done {
         return None;
     }
     let desk = driver.sink();

@@ -10,6 +10,8 @@ mod errands;
 #[cfg(test)]
 mod failing;
 #[cfg(test)]
+mod groups;
+#[cfg(test)]
 mod layouts;
 #[cfg(test)]
 mod longest;

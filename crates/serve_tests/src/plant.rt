@@ -3,7 +3,7 @@
 use command_ends::End;
 use exchange::Intake;
 use fixtures::{Given, frames_of};
-use saved_rows::Rows;
+use row_groups::Settles;
 use serve_command::{serve_run, serve_turn};
 use station::Station;
 use station_fixtures::station_over;
@@ -79,7 +79,7 @@ pub fn offer_of(alloc: Global, run: &Run) -> Result<Option<(u32, Tape)>, TapeFau
 
 /// A station, its wire, and what it has printed.
 #[derive(Drop)]
-pub struct Plant<R: Rows, N: Wire + Drop> {
+pub struct Plant<R: Settles, N: Wire + Drop> {
     pub alloc: Global,
     pub station: Station<R>,
     pub wire: N,
@@ -87,7 +87,7 @@ pub struct Plant<R: Rows, N: Wire + Drop> {
     pub err: Vec<u8>,
 }
 
-impl<R: Rows, N: Wire + Drop> Plant<R, N> {
+impl<R: Settles, N: Wire + Drop> Plant<R, N> {
     pub fn new(alloc: Global, me: u8, members: u8, rows: R, wire: N) -> Option<Plant<R, N>> {
         Some(Plant {
             alloc,

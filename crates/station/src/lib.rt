@@ -6,6 +6,7 @@ mod checks;
 mod datagram;
 mod save;
 mod setting;
+mod settling;
 mod speaker;
 mod station;
 mod steps;

@@ -1,6 +1,6 @@
 //! The command `run`.
 
-ghost use Rattle.std.specs.Prelude.{◌≡◌, Ok, None, IfOk, IfSome, IfNone, IsSome, false, length};
+ghost use Rattle.std.specs.Prelude.{◌≡◌, [], Ok, None, IfOk, IfSome, IfNone, IsSome, false, length};
 ghost use Rattle.configuration.specs.Stations.{IsCircuit};
 ghost use Rattle.row_files.specs.Knowing.{KnowsAll};
 
@@ -16,6 +16,7 @@ use gone_out::{Known, Origin};
 use log_terms::{LogTerms, Loudness};
 use plant_status::StationId;
 use row_files::{RefusedRows, RowFiles, close_rows};
+use row_groups::{Grouped, Settles};
 use run_command::{Terms, run_station};
 use saved_rows::Rows;
 use station::Station;
@@ -59,20 +60,24 @@ fn origin_of(config: &Config) -> Origin
     }
 }
 
-/// What rows a station has at its start. One without a plant only votes, and no row is read.
+/// What rows a station has at its start, where no save waits. One without a plant only votes, and no row is read.
 fn known_at<F: RowFiles>(
     alloc: Global,
     row_files: &F,
     plant: &Option<OpenPlant<'_>>,
-    rows: &mut F::Rows,
+    rows: &mut Grouped<F::Rows>,
 ) -> Result<Option<Known>, RefusedRows>
+    requires settled { rows.old.waits ≡ [] }
     ensures none { IfNone plant.now (result ≡ Ok None) }
     ensures some { IfSome plant.now (λ _. IfOk result IsSome) }
-    ensures known { F.Rows.kept rows.new → IfOk result (λ any. IfSome any (KnowsAll (F.Rows.saved rows.old))) }
+    ensures known { F.Rows.kept rows.new.rows → IfOk result (λ any. IfSome any (KnowsAll (F.Rows.saved rows.old.rows))) }
 {
-    match plant {
-        Some(_) => Ok(Some(row_files.known(alloc, rows)?)),
-        None => Ok(None),
+    if plant.is_none() {
+        return Ok(None);
+    }
+    match rows.rows_mut() {
+        Some(rows) => Ok(Some(row_files.known(alloc, rows)?)),
+        None => unreachable!(),
     }
 }
 
@@ -110,7 +115,7 @@ fn address_of(config: &Config) -> Option<Address> {
 }
 
 /// Runs a station over the folders of this plant; one that has none only votes.
-fn run_over<R: Rows, N: Wire, E: Write>(
+fn run_over<R: Settles, N: Wire, E: Write>(
     station: &mut Station<R>,
     wire: &mut N,
     plant: &mut Option<OpenPlant<'_>>,
@@ -179,7 +184,8 @@ fn run_from<F: RowFiles, E: Write>(
         err: &mut *err,
     };
     let end = run_over(&mut station, &mut wire, &mut plant, terms);
-    let end = close_rows(row_files, station.into_rows(), end, err);
+    let rows = station.into_rows().into_rows();
+    let end = close_rows(row_files, rows, end, err);
     drop(plant);
     end
 }

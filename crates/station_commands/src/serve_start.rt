@@ -50,7 +50,8 @@ fn serve_from<F: RowFiles, W: Write, E: Write>(
         out,
         err,
     );
-    close_rows(ground.row_files, station.into_rows(), end, err)
+    let rows = station.into_rows().into_rows();
+    close_rows(ground.row_files, rows, end, err)
 }
 
 /// What is to be started as the plan asks: the configuration at its path is read, and the keys that this names.

@@ -1,6 +1,6 @@
 //! A station that starts from its configuration: the files that this names, its saved rows and its wire.
 
-ghost use Rattle.std.specs.Prelude.{◌≡◌, IfOk, OnOk, option_map, string_bytes};
+ghost use Rattle.std.specs.Prelude.{◌≡◌, [], IfOk, OnOk, option_map, string_bytes};
 ghost use Rattle.configuration.specs.Reading.{file_of};
 ghost use Rattle.configuration.specs.Stations.{IsCircuit};
 ghost use Rattle.row_files.specs.Creating.{AreMade};
@@ -13,6 +13,7 @@ use code_table::CodeTable;
 use command_ends::{End, Fault};
 use configuration::Config;
 use row_files::{RefusedRows, RowFiles, create_rows};
+use row_groups::Grouped;
 use saved_rows::{Identity, Rows};
 use seals::Keys;
 use station::Station;
@@ -186,6 +187,7 @@ fn start_over<'f, R: Rows, N: Wire + Drop>(
 
 /// The station of a configuration, over its saved rows in one of the files, which is made first where a version is given, and in
 /// their version, with its wire, sealed where there are keys, and the tape that it offers first, if a number and a path are given.
+/// What it saves waits until it is settled, so that many rows are saved as one.
 ///
 /// What it starts from is looked for in this order, and the first fault ends it and is told to `err`: the code table, the
 /// widths, the tape, the saved rows, the socket.
@@ -193,7 +195,7 @@ pub fn start<H: Host, F: RowFiles, E: Write>(
     ground: &Ground<'_, H, F>,
     launch: Launch<'_>,
     err: &mut E,
-) -> Result<Started<F::Rows, H::Wire>, End>
+) -> Result<Started<Grouped<F::Rows>, H::Wire>, End>
     requires { IsCircuit launch.config.member launch.config.stations.items }
     ensures station { IfOk result (λ s. IsStationOf (identity_of (file_of launch.entry.config)) s.station) }
     ensures table { IfOk result (λ s. IsTableAt (H.text ground.now.host.now) (string_bytes launch.entry.config.table) s.station.table) }
@@ -201,9 +203,10 @@ pub fn start<H: Host, F: RowFiles, E: Write>(
     ensures widths { IfOk result (λ s. AreWidthsAt (H.text ground.now.host.now) (string_bytes launch.entry.config.widths) s.station.widths) }
     ensures offer { IfOk result (λ s. IsOffer (H.text ground.now.host.now) (option_map (λ o. (o.0, o.1.now)) launch.entry.offer) s.offer) }
     ensures rows { IfOk result (λ s. AreRowsAt (AreMade F.leaves F.takes_up F.Rows.version) F.takes_up ground.now.row_files.now
-        (string_bytes launch.entry.config.rows) launch.entry.making (identity_of (file_of launch.entry.config)) s.station.rows) }
-    ensures open { IfOk result (λ s. F.Rows.kept s.station.rows → F.Rows.is_open s.station.rows) }
-    ensures version { IfOk result (λ s. s.station.speaker.wire ≡ F.Rows.version s.station.rows) }
+        (string_bytes launch.entry.config.rows) launch.entry.making (identity_of (file_of launch.entry.config)) s.station.rows.rows) }
+    ensures waits { IfOk result (λ s. s.station.rows.waits ≡ []) }
+    ensures open { IfOk result (λ s. F.Rows.kept s.station.rows.rows → F.Rows.is_open s.station.rows.rows) }
+    ensures version { IfOk result (λ s. s.station.speaker.wire ≡ F.Rows.version s.station.rows.rows) }
     ensures wire { IfOk result (λ s. IsWireOf H.is_bound (file_of launch.entry.config) launch.entry.keys s.wire) }
 {
     let Launch {
@@ -226,6 +229,7 @@ pub fn start<H: Host, F: RowFiles, E: Write>(
         Ok(wire) => wire,
         Err(fault) => return Err(fault.tell(err)),
     };
+    let rows = Grouped::new(rt.alloc(), rows);
     let held = Held { files, rows, wire };
     match start_over(rt.alloc(), identity, held) {
         Ok(started) => Ok(started),

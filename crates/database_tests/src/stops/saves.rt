@@ -4,6 +4,7 @@ ghost use Rattle.saved_rows.specs.Saved.{HasPromise};
 
 use crate::rows::samples::{Sample, is_row, row_of};
 use ballots::{Number, Row};
+use row_groups::{Grouped, SavesAll};
 use saved_rows::Rows;
 use std::alloc::Global;
 use tape_frames::Version;
@@ -62,4 +63,49 @@ pub fn are_there<R: Rows>(rows: &mut R, samples: &[Numbered]) -> bool {
         }
     }
     true
+}
+
+/// Whether these rows wait to be saved together, each read before it is put. A read that is refused ends it.
+fn wait<R: SavesAll>(alloc: Global, rows: &mut Grouped<R>, samples: &[Numbered]) -> Option<bool> {
+    for numbered in samples {
+        if rows.get(Number::new(numbered.0)?).is_err() {
+            return Some(false);
+        }
+        if !puts(alloc, rows, numbered)? {
+            return None;
+        }
+    }
+    Some(true)
+}
+
+/// Whether these rows are saved together, which leave those others; they are read as saved while they wait. Where that is refused, each
+/// read is refused from then on, or this answers nothing.
+fn settles<R: SavesAll>(
+    alloc: Global,
+    rows: &mut Grouped<R>,
+    samples: &[Numbered],
+    left: &[Numbered],
+) -> Option<bool> {
+    if !wait(alloc, rows, samples)? {
+        return Some(false);
+    }
+    if !are_there(rows, left) || rows.waiting() != samples.len() {
+        return None;
+    }
+    if rows.save_waiting().is_ok() {
+        return (rows.waiting() == 0).then_some(true);
+    }
+    refused(rows, Number::new(12)?)
+}
+
+/// The rows after these were saved together, which leave those others, and whether they were.
+pub fn settled<R: SavesAll>(
+    alloc: Global,
+    rows: R,
+    samples: &[Numbered],
+    left: &[Numbered],
+) -> Option<(R, bool)> {
+    let mut rows = Grouped::new(alloc, rows);
+    let is_saved = settles(alloc, &mut rows, samples, left)?;
+    Some((rows.into_rows(), is_saved))
 }

@@ -4,6 +4,7 @@ use crate::examples::{RELEASE, read_files};
 use crate::rows::samples::is_entry;
 use ballots::Member;
 use command_ends::End;
+use row_groups::{Grouped, SavesAll, Settles};
 use saved_rows::Rows;
 use serve_command::serve_run;
 use station::{Answer, Station, StepRefusal};
@@ -125,7 +126,7 @@ fn ended(end: End, out: &[u8]) -> Option<bool> {
 
 /// Whether a run of a station that is offered the flood story prints its release and ends well; nothing where it neither does nor
 /// ends by the store.
-fn serves<R: Rows>(alloc: Global, station: &mut Station<R>, frames: &[u8]) -> Option<bool> {
+fn serves<R: Settles>(alloc: Global, station: &mut Station<R>, frames: &[u8]) -> Option<bool> {
     let tape = Tape::from_bytes(alloc, frames).ok()?;
     let mut wire = Still { moment: 0 };
     let mut out = Vec::new(alloc);
@@ -144,9 +145,9 @@ fn serves<R: Rows>(alloc: Global, station: &mut Station<R>, frames: &[u8]) -> Op
     ended(end, out.as_slice())
 }
 
-/// The rows after such a run of a station over them, and whether it ended well.
-pub fn served<R: Rows>(alloc: Global, rows: R, frames: &[u8]) -> Option<(R, bool)> {
-    let mut station = station_over(alloc, rows)?;
+/// The rows after such a run of a station over them, whose saves wait as those of the command do, and whether it ended well.
+pub fn served<R: SavesAll>(alloc: Global, rows: R, frames: &[u8]) -> Option<(R, bool)> {
+    let mut station = station_over(alloc, Grouped::new(alloc, rows))?;
     let is_done = serves(alloc, &mut station, frames)?;
-    Some((station.into_rows(), is_done))
+    Some((station.into_rows().into_rows(), is_done))
 }

@@ -6,10 +6,11 @@ use crate::stops::disks::{
     Database, Disks, Left, Side, Stored, close, ended, opened, opened_in_life, reopened, stopping,
     taken,
 };
-use crate::stops::saves::{Numbered, are_there, goes_over, puts};
+use crate::stops::saves::{Numbered, are_there, goes_over, puts, settled};
 use crate::stops::stations::{offered, served, sought};
 use acceptor_store::{SqliteRows, into_files};
 use fixtures::{FLOOD, LIGATURE};
+use row_groups::SavesAll;
 use saved_rows::{Rows, RowsFault};
 use sqlite::{Alter, Connection};
 use std::alloc::Global;
@@ -22,6 +23,8 @@ pub enum Work {
     Create(Version),
     /// Two rows are saved.
     Put(Version),
+    /// Two rows are saved together, one of them over another under its number.
+    Group(Version),
     /// Two rows are saved, and go over to version 2.
     Upgrade,
     /// A station over them is offered a tape.
@@ -34,6 +37,9 @@ pub enum Work {
 
 /// Rows under 12 and 3, in the order in which they are saved.
 const SAVES: &[Numbered] = &[(12, VOTED), (3, PROMISED)];
+
+/// Rows that are saved together, and leave those.
+const GROUP: &[Numbered] = &[(12, PROMISED), (12, VOTED), (3, PROMISED)];
 
 /// Rows that are saved in a life after those.
 const MORE: &[Numbered] = &[(14, VOTED), (15, PROMISED)];
@@ -49,7 +55,7 @@ fn saves_of(work: Work) -> &'static [Numbered] {
 /// The version at which the rows are made for a work.
 fn version_for(work: Work) -> Version {
     match work {
-        Work::Create(version) | Work::Put(version) => version,
+        Work::Create(version) | Work::Put(version) | Work::Group(version) => version,
         _ => Version::One,
     }
 }
@@ -123,11 +129,25 @@ fn put<R: Rows>(alloc: Global, mut rows: R, work: Work) -> Option<(R, Told)> {
     Some((rows, told))
 }
 
+/// The rows after a group was saved: they are told as saved together.
+fn group<R: SavesAll>(alloc: Global, rows: R) -> Option<(R, Told)> {
+    let (rows, is_saved) = settled(alloc, rows, GROUP, SAVES)?;
+    if !is_saved {
+        return Some((rows, one(false)));
+    }
+    let told = Told {
+        saved: SAVES.len(),
+        refused: false,
+    };
+    Some((rows, told))
+}
+
 /// The rows after the work, and what was told of it.
-fn done<R: Rows>(alloc: Global, rows: R, work: Work) -> Option<(R, Told)> {
+fn done<R: SavesAll>(alloc: Global, rows: R, work: Work) -> Option<(R, Told)> {
     let (rows, is_saved) = match work {
         Work::Create(_) => return Some((rows, NOTHING)),
         Work::Put(_) | Work::Upgrade | Work::Live => return put(alloc, rows, work),
+        Work::Group(_) => return group(alloc, rows),
         Work::Offer => offered(alloc, rows, FLOOD)?,
         Work::Serve => served(alloc, rows, FLOOD)?,
     };
@@ -141,6 +161,15 @@ fn is_listed<R: Stored>(rows: &mut R, samples: &[Numbered], told: Told) -> bool 
     };
     let is_told = listed == told.saved || (told.refused && listed > 0 && listed - 1 == told.saved);
     is_told && listed <= samples.len() && are_there(rows, &samples[..listed])
+}
+
+/// Whether all of these rows are listed, as they were acknowledged; or all or none, where they were refused.
+fn is_all_or_none<R: Stored>(rows: &mut R, samples: &[Numbered], told: Told) -> bool {
+    let Some(listed) = rows.count() else {
+        return false;
+    };
+    let is_told = listed == samples.len() || (told.refused && listed == 0);
+    is_told && are_there(rows, &samples[..listed])
 }
 
 /// Whether rows that are found after a work are at a version that it may have left: at version 2 where it went over, else at
@@ -180,6 +209,7 @@ fn is_left<R: Stored>(alloc: Global, mut rows: R, work: Work, told: Told) -> boo
     match work {
         Work::Create(_) => is_listed(&mut rows, &[], told),
         Work::Put(_) | Work::Upgrade => is_listed(&mut rows, SAVES, told),
+        Work::Group(_) => is_all_or_none(&mut rows, SAVES, told),
         Work::Offer | Work::Serve => is_kept(alloc, rows, told),
         Work::Live => has_lived(&mut rows, told),
     }

@@ -3,4 +3,4 @@ use Rattle.process_days.proofs.GoingOn.{agree}
 use Rattle.process_days.proofs.laws.processes_agree.Goals as goal
 
 pub returns : goal.returns
-returns g c = agree g.R.Rows c.days_agree.ensures
+returns g c = agree g.R.Rows _ c.days_agree.ensures

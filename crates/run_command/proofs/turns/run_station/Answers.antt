@@ -18,36 +18,36 @@ use Rattle.run_command.proofs.turns.run_station.Goals as goal
 pub returns-then-stopped-clause-runs : goal.returns-then-stopped-clause-runs
 returns-then-stopped-clause-runs g c =
     let texts : Texts = c.args.terms.texts in
-    let k = known g.R.Rows g.N.Wire.passed (tells texts g.F.Folders.doings) in
+    let k = known g.R.Rows g.R.Settles.is_settled g.N.Wire.passed (tells texts g.F.Folders.doings) in
     let old = post c.args.station.now c.args.wire.now c.args.folders.now in
     answered k old old ends.Input c.tell.result Anyhow (c.tell.ensures.end ∙ c.of_step.ensures)
-    (idle texts g.R.Rows g.N.Wire.passed g.F.Folders.doings c.args.station.now c.args.wire.now c.args.folders.now ends.Input refl)
+    (idle texts g.R.Rows g.R.Settles.is_settled g.N.Wire.passed g.F.Folders.doings c.args.station.now c.args.wire.now c.args.folders.now ends.Input refl)
 
 pub returns-in_default-clause-runs : goal.returns-in_default-clause-runs
 returns-in_default-clause-runs g c =
     let texts : Texts = c.args.terms.texts in
-    let k = known g.R.Rows g.N.Wire.passed (tells texts g.F.Folders.doings) in
+    let k = known g.R.Rows g.R.Settles.is_settled g.N.Wire.passed (tells texts g.F.Folders.doings) in
     let old = post c.args.station.now c.args.wire.now c.args.folders.now in
     answered k old old ends.Memory c.tell-in_default.result Anyhow c.tell-in_default.ensures.end
-    (idle texts g.R.Rows g.N.Wire.passed g.F.Folders.doings c.args.station.now c.args.wire.now c.args.folders.now ends.Memory (inl refl))
+    (idle texts g.R.Rows g.R.Settles.is_settled g.N.Wire.passed g.F.Folders.doings c.args.station.now c.args.wire.now c.args.folders.now ends.Memory (inl refl))
 
 pub returns-in_default-begin-clause-runs : goal.returns-in_default-begin-clause-runs
 returns-in_default-begin-clause-runs g c =
     let texts : Texts = c.args.terms.texts in
-    let k = known g.R.Rows g.N.Wire.passed (tells texts g.F.Folders.doings) in
+    let k = known g.R.Rows g.R.Settles.is_settled g.N.Wire.passed (tells texts g.F.Folders.doings) in
     let f = c.args.folders.now in
     let h = c.begin.new.folders in
     answered k (post c.args.station.now c.args.wire.now f) (post c.args.station.now c.args.wire.now h) ends.Memory c.tell-in_default-begin.result Anyhow c.tell-in_default-begin.ensures.end
-    (idle_behind texts g.R.Rows g.N.Wire.passed g.F.Folders.doings c.args.station.now c.args.wire.now f h ends.Memory c.begin.ensures.does (inl refl))
+    (idle_behind texts g.R.Rows g.R.Settles.is_settled g.N.Wire.passed g.F.Folders.doings c.args.station.now c.args.wire.now f h ends.Memory c.begin.ensures.does (inl refl))
 
 pub returns-in_default-boxed-clause-runs : goal.returns-in_default-boxed-clause-runs
 returns-in_default-boxed-clause-runs g c =
     let texts : Texts = c.args.terms.texts in
-    let k = known g.R.Rows g.N.Wire.passed (tells texts g.F.Folders.doings) in
+    let k = known g.R.Rows g.R.Settles.is_settled g.N.Wire.passed (tells texts g.F.Folders.doings) in
     let f = c.args.folders.now in
     let h = c.begin.new.folders in
     answered k (post c.args.station.now c.args.wire.now f) (post c.args.station.now c.args.wire.now h) ends.Memory c.tell-in_default-boxed.result Anyhow c.tell-in_default-boxed.ensures.end
-    (idle_behind texts g.R.Rows g.N.Wire.passed g.F.Folders.doings c.args.station.now c.args.wire.now f h ends.Memory c.begin.ensures.does (inl refl))
+    (idle_behind texts g.R.Rows g.R.Settles.is_settled g.N.Wire.passed g.F.Folders.doings c.args.station.now c.args.wire.now f h ends.Memory c.begin.ensures.does (inl refl))
 
 pub returns-clause-runs : goal.returns-clause-runs
 returns-clause-runs g c =

@@ -3,4 +3,4 @@ use Rattle.sealed_days.proofs.Coming.{logs_agree}
 use Rattle.sealed_days.proofs.laws.sealed_logs_agree.Goals as goal
 
 pub returns : goal.returns
-returns g c = logs_agree g.S.Socket.came g.R.Rows c.processes_agree.ensures
+returns g c = logs_agree g.S.Socket.came g.R.Rows _ c.processes_agree.ensures

@@ -11,10 +11,10 @@ use Rattle.serve_command.proofs.serve_loop.make_withdrawal.Goals as goal
 pub returns-in-None-clause-drove : goal.returns-in-None-clause-drove
 returns-in-None-clause-drove g c =
     let d = c.args.driver.now in
-    nothing (known g.R.Rows g.N.Wire.passed (fate_of g.S.Sink)) g.S.Sink.may g.met.S.Sink.fates d.station.now d.wire.now d.wire.now d.sink ends.Done (IsWithdrawal c.args.withdraw)
+    nothing (known g.R.Rows g.R.Settles.is_settled g.N.Wire.passed (fate_of g.S.Sink)) g.S.Sink.may g.met.S.Sink.fates d.station.now d.wire.now d.wire.now d.sink ends.Done (IsWithdrawal c.args.withdraw)
     (Passes-nil (g.N.Wire.passed d.wire.now)) (λ done. subst (λ (o : Option ℕ). IsWithdrawal o []) (sym c.in-None.is) refl) refl
 
 pub returns-in-Some-clause-drove : goal.returns-in-Some-clause-drove
 returns-in-Some-clause-drove g c =
-    of_form (known g.R.Rows g.N.Wire.passed (fate_of g.S.Sink)) (post_of c.args.driver.now) (post_of c.ask.new.self) (ended c.ask.result) _ (IsWithdrawal c.args.withdraw)
+    of_form (known g.R.Rows g.R.Settles.is_settled g.N.Wire.passed (fate_of g.S.Sink)) (post_of c.args.driver.now) (post_of c.ask.new.self) (ended c.ask.result) _ (IsWithdrawal c.args.withdraw)
     (λ log done form. subst (λ (o : Option ℕ). IsWithdrawal o log) (sym c.in-Some.is) form) c.ask.ensures.drove

@@ -9,12 +9,12 @@ use Rattle.serve_command.proofs.serve_loop.serve_run.Goals as goal
 
 pub returns-then-stopped-clause-serves : goal.returns-then-stopped-clause-serves
 returns-then-stopped-clause-serves g c =
-    untouched (known g.R.Rows g.N.Wire.passed (prints g.W.Write.contents)) _ (printing_fates g.W.Write.contents) c.args.station.now c.args.wire.now c.args.out.now ends.Input c.tell.result (IsRun c.args.offer c.args.withdraw c.args.seek c.args.turns)
+    untouched (known g.R.Rows g.R.Settles.is_settled g.N.Wire.passed (prints g.W.Write.contents)) _ (printing_fates g.W.Write.contents) c.args.station.now c.args.wire.now c.args.out.now ends.Input c.tell.result (IsRun c.args.offer c.args.withdraw c.args.seek c.args.turns)
     (c.tell.ensures.end ∙ c.of_step.ensures) c.tell.ensures.fails refl
 
 pub returns-in_default-clause-serves : goal.returns-in_default-clause-serves
 returns-in_default-clause-serves g c =
-    untouched (known g.R.Rows g.N.Wire.passed (prints g.W.Write.contents)) _ (printing_fates g.W.Write.contents) c.args.station.now c.args.wire.now c.args.out.now ends.Memory c.tell-in_default.result (IsRun c.args.offer c.args.withdraw c.args.seek c.args.turns)
+    untouched (known g.R.Rows g.R.Settles.is_settled g.N.Wire.passed (prints g.W.Write.contents)) _ (printing_fates g.W.Write.contents) c.args.station.now c.args.wire.now c.args.out.now ends.Memory c.tell-in_default.result (IsRun c.args.offer c.args.withdraw c.args.seek c.args.turns)
     c.tell-in_default.ensures.end c.tell-in_default.ensures.fails (inl refl)
 
 pub returns-in-Ok-ask_and_turn-clause-serves : goal.returns-in-Ok-ask_and_turn-clause-serves

@@ -18,13 +18,13 @@ loop-init g c =
       wire = refl;
       was_kept = λ kept. kept;
       drove =
-          nothing (known g.R.Rows g.N.Wire.passed (fate_of g.S.Sink)) g.S.Sink.may g.met.S.Sink.fates d.station.now d.wire.now d.wire.now d.sink Done (AreTurns 0)
+          nothing (known g.R.Rows g.R.Settles.is_settled g.N.Wire.passed (fate_of g.S.Sink)) g.S.Sink.may g.met.S.Sink.fates d.station.now d.wire.now d.wire.now d.sink Done (AreTurns 0)
           (Passes-nil (g.N.Wire.passed d.wire.now)) (λ done. none) refl;
     }
 
 pub loop-preserved : goal.loop-preserved
 loop-preserved g c =
-    let k = known g.R.Rows g.N.Wire.passed (fate_of g.S.Sink) in
+    let k = known g.R.Rows g.R.Settles.is_settled g.N.Wire.passed (fate_of g.S.Sink) in
     let old = post_of c.args.driver.now in
     let mid = post_of c.loop.driver in
     let new = post_of c.turn.new.self in
@@ -40,7 +40,7 @@ loop-preserved g c =
 
 pub returns-in_err-turn-clause-drove : goal.returns-in_err-turn-clause-drove
 returns-in_err-turn-clause-drove g c =
-    let k = known g.R.Rows g.N.Wire.passed (fate_of g.S.Sink) in
+    let k = known g.R.Rows g.R.Settles.is_settled g.N.Wire.passed (fate_of g.S.Sink) in
     let old = post_of c.args.driver.now in
     let mid = post_of c.loop.driver in
     let new = post_of c.turn.new.self in

@@ -10,5 +10,5 @@ invariant-loop g l = record {
   station : l.driver.station.ghost_name ≡ l.initial.driver.station.ghost_name;
   wire : l.driver.wire.ghost_name ≡ l.initial.driver.wire.ghost_name;
   was_kept : g.R.Rows.kept l.driver.station.now.rows → g.R.Rows.kept l.initial.driver.station.now.rows;
-  drove : Drove (known g.R.Rows g.N.Wire.passed (fate_of g.S.Sink)) (post_of l.initial.driver) (post_of l.driver) Done (AreTurns l.counter);
+  drove : Drove (known g.R.Rows g.R.Settles.is_settled g.N.Wire.passed (fate_of g.S.Sink)) (post_of l.initial.driver) (post_of l.driver) Done (AreTurns l.counter);
 }

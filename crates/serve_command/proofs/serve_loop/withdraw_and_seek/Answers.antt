@@ -10,7 +10,7 @@ use Rattle.serve_command.proofs.serve_loop.withdraw_and_seek.Goals as goal
 
 pub returns-in_err-make_withdrawal-clause-drove : goal.returns-in_err-make_withdrawal-clause-drove
 returns-in_err-make_withdrawal-clause-drove g c =
-    let k = known g.R.Rows g.N.Wire.passed (fate_of g.S.Sink) in
+    let k = known g.R.Rows g.R.Settles.is_settled g.N.Wire.passed (fate_of g.S.Sink) in
     let old = post_of c.args.driver.now in
     let new = post_of c.make_withdrawal.new.driver in
     let same : ended c.from_residual.result ≡ end_of c.in_err-make_withdrawal.field-0.0 = search rules in
@@ -20,6 +20,6 @@ returns-in_err-make_withdrawal-clause-drove g c =
 
 pub returns-clause-drove : goal.returns-clause-drove
 returns-clause-drove g c =
-    and_then (known g.R.Rows g.N.Wire.passed (fate_of g.S.Sink)) g.S.Sink.may g.met.S.Sink.fates
+    and_then (known g.R.Rows g.R.Settles.is_settled g.N.Wire.passed (fate_of g.S.Sink)) g.S.Sink.may g.met.S.Sink.fates
     (post_of c.args.driver.now) (post_of c.make_withdrawal.new.driver) (post_of c.make_search.new.driver) (ended c.make_search.result) (IsWithdrawal c.args.withdraw) (IsSearch c.args.seek)
     c.make_search.ensures.was_kept c.in_ok-make_withdrawal.ensures.drove c.make_search.ensures.drove

@@ -1,4 +1,5 @@
 -- The clock was asked, and then the turn was taken.
+use Rattle.std.proofs.Common.{[]}
 use Rattle.exchange.specs.Events.{ended}
 use Rattle.driver.specs.Driving.{known, fate_of, post_of, IsTurn}
 use Rattle.driver.proofs.Driven.{clocked}
@@ -6,5 +7,5 @@ use Rattle.driver.proofs.driver.Driver.turn.Goals as goal
 
 pub returns-clause-drove : goal.returns-clause-drove
 returns-clause-drove g c =
-    clocked (known g.R.Rows g.N.Wire.passed (fate_of g.S.Sink)) g.S.Sink.may g.met.S.Sink.fates c.args.self.now.station.now c.args.self.now.wire.now c.now-now.new.self c.args.self.now.sink
+    clocked (known g.R.Rows g.R.Settles.is_settled g.N.Wire.passed (fate_of g.S.Sink)) g.S.Sink.may g.met.S.Sink.fates c.args.self.now.station.now c.args.self.now.wire.now c.now-now.new.self c.args.self.now.sink []
     (post_of c.turn_at.new.self) c.now-now.result (ended c.turn_at.result) IsTurn c.now-now.ensures.passes c.turn_at.ensures.drove

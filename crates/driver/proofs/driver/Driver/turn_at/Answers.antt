@@ -1,5 +1,5 @@
 -- A turn is what was taken in, and then what was due.
-use Rattle.std.proofs.Common.{rules, ◌≡◌, sym, ◌∙◌}
+use Rattle.std.proofs.Common.{rules, ◌≡◌, [], sym, ◌∙◌}
 use Rattle.command_ends.specs.Ends.{end_of}
 use Rattle.command_ends.specs.declared.end.End.TheVariants as ends
 use Rattle.exchange.specs.Events.{ended}
@@ -10,7 +10,7 @@ use Rattle.driver.proofs.driver.Driver.turn_at.Goals as goal
 
 pub returns-in_err-take_in-clause-drove : goal.returns-in_err-take_in-clause-drove
 returns-in_err-take_in-clause-drove g c =
-    let k = known g.R.Rows g.N.Wire.passed (fate_of g.S.Sink) in
+    let k = known g.R.Rows g.R.Settles.is_settled g.N.Wire.passed (fate_of g.S.Sink) in
     let same : ended c.from_residual.result ≡ end_of c.in_err-take_in.field-0.0 = search rules in
     of_form k (post_of c.args.self.now) (post_of c.take_in.new.self) (ended c.from_residual.result) (IsTakingIn c.args.now) (IsTurn c.args.now)
     (λ log done form. absurd (ends_badly c.in_err-take_in.field-0.0 (sym same ∙ done)))
@@ -18,10 +18,10 @@ returns-in_err-take_in-clause-drove g c =
 
 pub returns-clause-drove : goal.returns-clause-drove
 returns-clause-drove g c =
-    let k = known g.R.Rows g.N.Wire.passed (fate_of g.S.Sink) in
+    let k = known g.R.Rows g.R.Settles.is_settled g.N.Wire.passed (fate_of g.S.Sink) in
     let mid = c.take_in.new.self in
     and_then k g.S.Sink.may g.met.S.Sink.fates (post_of c.args.self.now) (post mid.station.now c.tell_strangers.new.wire mid.sink)
     (post_of c.see_to_due.new.self) (ended c.see_to_due.result) (IsTakingIn c.args.now) (IsSeeingToDue c.args.now)
     c.see_to_due.ensures.was_kept
-    (quiet_behind k (post_of c.args.self.now) mid.station.now mid.wire.now c.tell_strangers.new.wire mid.sink ends.Done (IsTakingIn c.args.now) c.tell_strangers.ensures c.in_ok-take_in.ensures.drove)
+    (quiet_behind k (post_of c.args.self.now) mid.station.now mid.wire.now c.tell_strangers.new.wire mid.sink [] ends.Done (IsTakingIn c.args.now) c.tell_strangers.ensures c.in_ok-take_in.ensures.drove)
     c.see_to_due.ensures.drove

@@ -1,16 +1,15 @@
 -- What became of the number of the step.
-use Rattle.std.proofs.Common.{ap, refl}
+use Rattle.std.proofs.Common.{refl}
 use Rattle.run_command.specs.Working.{Releases}
-use Rattle.run_command.proofs.Looking.{deals_follows, deals_some, follows_same}
+use Rattle.run_command.proofs.Looking.{follows_same, keeps_follows, keeps_some}
 use Rattle.run_command.proofs.plant.Plant.close.Goals as goal
 
-pub returns-in-Some-default-clause-deals : goal.returns-in-Some-default-clause-deals
-returns-in-Some-default-clause-deals g c =
-    deals_some _ _ _ c.args.step.now.answer.release c.in-Some-default.release _ _ c.in-Some-default.is-0 c.take_release.ensures.deals
+pub returns-in-Some-default-clause-keeps : goal.returns-in-Some-default-clause-keeps
+returns-in-Some-default-clause-keeps g c =
+    keeps_some c.args.step.now.answer.release c.in-Some-default.release _ _ c.in-Some-default.is-0 c.keep_or_tell.ensures.keeps
 
-pub returns-in-None-Some-clause-deals : goal.returns-in-None-Some-clause-deals
-returns-in-None-Some-clause-deals g c =
-    deals_follows (Releases c.args.step.now.answer.release) _ _ _ _ _ (ap g.F.Folders.doings c.follow.ensures.same) c.follow.ensures.book
+pub returns-in-None-Some-clause-keeps : goal.returns-in-None-Some-clause-keeps
+returns-in-None-Some-clause-keeps g c = keeps_follows (Releases c.args.step.now.answer.release) _ _ c.follow.ensures.book
 
-pub returns-in-None-None-clause-deals : goal.returns-in-None-None-clause-deals
-returns-in-None-None-clause-deals g c = deals_follows (Releases c.args.step.now.answer.release) _ _ _ _ _ refl (follows_same _ _ refl)
+pub returns-in-None-None-clause-keeps : goal.returns-in-None-None-clause-keeps
+returns-in-None-None-clause-keeps g c = keeps_follows (Releases c.args.step.now.answer.release) _ _ (follows_same _ _ refl)

@@ -1,0 +1,179 @@
+//! Rows that are saved together, in one transaction.
+
+ghost use Rattle.std.specs.Prelude.{◌≡◌, ◌≤◌, false, IfErr};
+ghost use Rattle.sqlite_trees.specs.View.{doubt};
+ghost use Rattle.sqlite.specs.State.{Survives};
+ghost use Rattle.sqlite.specs.Held.{state};
+ghost use Rattle.row_table.specs.Tables.{Origin};
+ghost use Rattle.row_table.specs.Tables.Layout.{First, Second};
+ghost use Rattle.row_table.specs.Rows.{Serves};
+ghost use Rattle.row_table.specs.Keeping.{CommitsNothing, KeptWhereRefused, RolledBackWhereRefused, StaysInside, WasOpenWhereRefused};
+ghost use Rattle.protocol.specs.Versions.{One};
+ghost use Rattle.saved_rows.specs.Saved.{HasPromise, RowFits, AreFitting};
+ghost use Rattle.row_groups.specs.Groups.{ArePromised};
+ghost use Rattle.row_columns.specs.Columns.{version_in};
+ghost use Rattle.row_columns.specs.Layouts.{layout_of};
+ghost use Rattle.acceptor_store.specs.Sqlite.{IsRefusal};
+ghost use Rattle.acceptor_store.specs.Grouping.{CommitsEach, CrashesWithAllOrNone, CrashesWithEach, SavesEach, StagesBack, StagesEach, WasOpenWhereDone};
+
+use crate::statements::fault_of;
+use ballots::{Number, Row};
+use row_columns::{Layout, columns_for, entry_columns_for};
+use row_table::{stage_entry, stage_row};
+use saved_rows::RowsFault;
+use sqlite::{Alter, Connection, Transaction};
+use std::alloc::Global;
+
+/// Puts a row in layout 1, which has it.
+fn put_first<S: Alter>(
+    alloc: Global,
+    tx: &mut Transaction<'_, S>,
+    number: Number,
+    row: &Row,
+) -> Result<(), RowsFault>
+    requires promise { HasPromise row.now }
+    requires fits { RowFits One row.now }
+    ensures same_reference { tx.new.conn.ghost_name ≡ tx.old.conn.ghost_name }
+    ensures staged { StagesBack First number row.now result (state S.Store tx.old.conn.now) (state S.Store tx.new.conn.now) }
+    ensures inside { StaysInside result (state S.Store tx.old.conn.now) (state S.Store tx.new.conn.now) }
+    ensures kept { CommitsNothing (state S.Store tx.old.conn.now) (state S.Store tx.new.conn.now) }
+    ensures survives { Survives (state S.Store tx.old.conn.now) (state S.Store tx.new.conn.now) (λ _. ⊥) }
+    ensures refusal { IfErr result IsRefusal }
+{
+    let key = number.get();
+    let Ok(columns) = columns_for(alloc, row) else {
+        return Err(RowsFault::OutOfMemory);
+    };
+    let ran = stage_row(
+        tx,
+        key,
+        columns.promised_round,
+        columns.promised_owner,
+        columns.vote_round,
+        columns.vote_owner,
+        columns.frames(),
+    );
+    match ran {
+        Ok(()) => Ok(()),
+        Err(error) => Err(fault_of(&error)),
+    }
+}
+
+/// Puts a row in layout 2.
+fn put_second<S: Alter>(
+    alloc: Global,
+    tx: &mut Transaction<'_, S>,
+    number: Number,
+    row: &Row,
+) -> Result<(), RowsFault>
+    requires promise { HasPromise row.now }
+    ensures same_reference { tx.new.conn.ghost_name ≡ tx.old.conn.ghost_name }
+    ensures staged { (origin : Origin) → StagesBack (Second origin) number row.now result (state S.Store tx.old.conn.now) (state S.Store tx.new.conn.now) }
+    ensures inside { StaysInside result (state S.Store tx.old.conn.now) (state S.Store tx.new.conn.now) }
+    ensures kept { CommitsNothing (state S.Store tx.old.conn.now) (state S.Store tx.new.conn.now) }
+    ensures survives { Survives (state S.Store tx.old.conn.now) (state S.Store tx.new.conn.now) (λ _. ⊥) }
+    ensures refusal { IfErr result IsRefusal }
+{
+    let Ok(entry) = entry_columns_for(alloc, number, row) else {
+        return Err(RowsFault::OutOfMemory);
+    };
+    match stage_entry(tx, &entry) {
+        Ok(()) => Ok(()),
+        Err(error) => Err(fault_of(&error)),
+    }
+}
+
+/// Puts a row that has a promise, and that the layout has.
+fn put_in<S: Alter>(
+    alloc: Global,
+    tx: &mut Transaction<'_, S>,
+    layout: Layout,
+    number: Number,
+    row: &Row,
+) -> Result<(), RowsFault>
+    requires promise { HasPromise row.now }
+    requires fits { RowFits (version_in (layout_of layout)) row.now }
+    ensures same_reference { tx.new.conn.ghost_name ≡ tx.old.conn.ghost_name }
+    ensures staged { StagesBack (layout_of layout) number row.now result (state S.Store tx.old.conn.now) (state S.Store tx.new.conn.now) }
+    ensures inside { StaysInside result (state S.Store tx.old.conn.now) (state S.Store tx.new.conn.now) }
+    ensures kept { CommitsNothing (state S.Store tx.old.conn.now) (state S.Store tx.new.conn.now) }
+    ensures survives { Survives (state S.Store tx.old.conn.now) (state S.Store tx.new.conn.now) (λ _. ⊥) }
+    ensures refusal { IfErr result IsRefusal }
+{
+    match layout {
+        Layout::First => put_first(alloc, tx, number, row),
+        Layout::Created => put_second(alloc, tx, number, row),
+        Layout::Upgraded => put_second(alloc, tx, number, row),
+    }
+}
+
+/// Puts these rows, one after the other, in a transaction.
+fn put_each<S: Alter>(
+    alloc: Global,
+    tx: &mut Transaction<'_, S>,
+    layout: Layout,
+    items: &[(Number, Row)],
+) -> Result<(), RowsFault>
+    requires promised { ArePromised items.now }
+    requires fits { AreFitting (version_in (layout_of layout)) items.now }
+    ensures same_reference { tx.new.conn.ghost_name ≡ tx.old.conn.ghost_name }
+    ensures staged { StagesEach (layout_of layout) items.now result (state S.Store tx.old.conn.now) (state S.Store tx.new.conn.now) }
+    ensures inside { StaysInside result (state S.Store tx.old.conn.now) (state S.Store tx.new.conn.now) }
+    ensures kept { CommitsNothing (state S.Store tx.old.conn.now) (state S.Store tx.new.conn.now) }
+    ensures survives { Survives (state S.Store tx.old.conn.now) (state S.Store tx.new.conn.now) (λ _. ⊥) }
+    ensures refusal { IfErr result IsRefusal }
+{
+    for item in items {
+        put_in(alloc, tx, layout, item.0, &item.1)?;
+    }
+    Ok(())
+}
+
+/// Puts these rows in one transaction.
+fn put_all<S: Alter>(
+    alloc: Global,
+    conn: &mut Connection<S>,
+    layout: Layout,
+    items: &[(Number, Row)],
+) -> Result<(), RowsFault>
+    requires alone { conn.old.in_transaction ≡ false }
+    requires promised { ArePromised items.now }
+    requires fits { AreFitting (version_in (layout_of layout)) items.now }
+    ensures committed { CommitsEach (layout_of layout) items.now result (state S.Store conn.old) (state S.Store conn.new) }
+    ensures opened { WasOpenWhereDone result (state S.Store conn.old) (state S.Store conn.new) }
+    ensures was_open { WasOpenWhereRefused result (state S.Store conn.old) (state S.Store conn.new) }
+    ensures neither { RolledBackWhereRefused result (state S.Store conn.old) (state S.Store conn.new) }
+    ensures crash { CrashesWithAllOrNone (layout_of layout) items.now (state S.Store conn.old) (state S.Store conn.new) }
+    ensures ended { (state S.Store conn.new).in_transaction ≡ false }
+    ensures clean { doubt (state S.Store conn.old).is_clean ≤ doubt (state S.Store conn.new).is_clean }
+    ensures refusal { IfErr result IsRefusal }
+{
+    let mut tx = conn.transaction();
+    put_each(alloc, &mut tx, layout, items)?;
+    match tx.commit() {
+        Ok(()) => Ok(()),
+        Err(error) => Err(fault_of(&error)),
+    }
+}
+
+/// Saves rows that have a promise, and that the layout has: all or none.
+pub(crate) fn save_all<S: Alter>(
+    alloc: Global,
+    conn: &mut Connection<S>,
+    layout: Layout,
+    items: &[(Number, Row)],
+) -> Result<(), RowsFault>
+    requires promised { ArePromised items.now }
+    requires fits { AreFitting (version_in (layout_of layout)) items.now }
+    ensures serves { Serves (layout_of layout) (state S.Store conn.old) → Serves (layout_of layout) (state S.Store conn.new) }
+    ensures saved { SavesEach (layout_of layout) items.now result (state S.Store conn.old) (state S.Store conn.new) }
+    ensures err { KeptWhereRefused (layout_of layout) result (state S.Store conn.old) (state S.Store conn.new) }
+    ensures crash { CrashesWithEach (layout_of layout) items.now (state S.Store conn.old) (state S.Store conn.new) }
+    ensures clean { doubt (state S.Store conn.old).is_clean ≤ doubt (state S.Store conn.new).is_clean }
+    ensures refusal { IfErr result IsRefusal }
+{
+    if !conn.is_autocommit() {
+        return Err(RowsFault::Store);
+    }
+    put_all(alloc, conn, layout, items)
+}

@@ -1,0 +1,59 @@
+-- Rows in a database whose saves waited to be saved together, and what the next start finds of them, as a day has it.
+use Rattle.std.specs.Prelude.{◌≡◌, ◌⊎◌, [], false}
+use Rattle.sqlite_disk.specs.declared.Disk as disk
+use Rattle.sqlite_disk.specs.declared.Files.{Files}
+use Rattle.sqlite.specs.WalReads.{AreClean}
+use Rattle.sqlite.specs.WalFiles.{outcomes}
+use Rattle.sqlite.specs.Recovery.{Image}
+use Rattle.sqlite.specs.declared.FileStore.{FileStore}
+use Rattle.sqlite.specs.Files.{over_files}
+use Rattle.saved_rows.specs.Saved.{SameRows}
+use Rattle.row_groups.specs.Grouped.{GroupedOf}
+use Rattle.station.specs.declared.station.Station.{Station}
+use Rattle.station.specs.Stations.{Sight}
+use Rattle.acceptor_store.specs.Sqlite.{SqliteOf, IsAtRest, IsOpen, IsOurs, rows_version, saved_of, LeavesItsStation, LeavesNoOther}
+use Rattle.acceptor_store.specs.Grouping.{LeavesAllOrNone}
+use Rattle.acceptor_store.specs.Restarts.{GivesUp, AreOpenedFrom}
+use Rattle.days.specs.Happening.{At_rest}
+use Rattle.days.specs.Handing.{FindsRows}
+
+module _ {D : Type 0} {g : disk.Ghosts D} where
+  -- nothing waits, and the rows inside are at rest
+  pub record IsSettled (last : Station (GroupedOf (SqliteOf (FileStore D g)))) : Type 0 where
+    pub settled : last.rows.waits ≡ []
+    pub rest : IsAtRest over_files last.rows.rows
+
+  -- A station that was settled took a group of steps, and was this one then. What they saved waits: the rows inside were read at most,
+  -- are still open, and were not stopped.
+  pub record TookAGroup (before after : Station (GroupedOf (SqliteOf (FileStore D g)))) : Type 0 where
+    pub begins : IsSettled before
+    pub identity : after.rows.rows.identity ≡ before.rows.rows.identity
+    pub same : SameRows (saved_of over_files before.rows.rows) (saved_of over_files after.rows.rows)
+    pub is_open : IsOpen over_files after.rows.rows
+    pub ran : after.rows.rows.stopped ≡ false
+    pub version : rows_version after.rows.rows ≡ rows_version before.rows.rows
+
+  -- the rows inside were in the save of all that waited: what the clauses of `put_all` say, however it is answered
+  pub record WereSettling (after : Station (GroupedOf (SqliteOf (FileStore D g)))) (now : SqliteOf (FileStore D g)) : Type 0 where
+    pub version : rows_version now ≡ rows_version after.rows.rows
+    pub either : LeavesAllOrNone over_files after.rows.waits after.rows.rows now
+    pub station : LeavesItsStation over_files after.rows.rows now
+
+-- A process that takes its steps in groups ended, in whatever way, and the rows inside are in files. An open of what a crash leaves of them, if it
+-- is not refused, finds the store's own tables and the same station. Where the process had not begun to save a group, it finds the rows of the
+-- station as it was before the group; where it had, those, or the rows of the station as it was after all steps of the group. Either is what
+-- a day has the next process find after one that ended at rest.
+pub record GroupsHandOver (D : Type 0) (g : disk.Ghosts D) (E : Type 0) (h : disk.Ghosts E) (x : Sight (GroupedOf (SqliteOf (FileStore D g)))) : Type 0 where
+  pub before_the_save :
+      (before : Station (GroupedOf (SqliteOf (FileStore D g)))) (now : SqliteOf (FileStore D g)) (files : Files D) (left : Image) (again : SqliteOf (FileStore E h))
+      → IsSettled before → LeavesNoOther over_files before.rows.rows now
+      → GivesUp g now.conn files → AreClean g files.log files.db → outcomes g files.log files.db left → AreOpenedFrom left again
+      → IsOurs again.alone again.was again.found × (again.identity ≡ before.rows.rows.identity)
+      × FindsRows x At_rest before (saved_of over_files again) (rows_version again)
+  pub in_the_save :
+      (before after : Station (GroupedOf (SqliteOf (FileStore D g)))) (now : SqliteOf (FileStore D g)) (files : Files D) (left : Image) (again : SqliteOf (FileStore E h))
+      → TookAGroup before after → WereSettling after now
+      → GivesUp g now.conn files → AreClean g files.log files.db → outcomes g files.log files.db left → AreOpenedFrom left again
+      → IsOurs again.alone again.was again.found × (again.identity ≡ before.rows.rows.identity)
+      × (FindsRows x At_rest before (saved_of over_files again) (rows_version again)
+      ⊎ FindsRows x At_rest after (saved_of over_files again) (rows_version again))

@@ -1,0 +1,14 @@
+//! Stops while rows are saved together, in either layout: all of them are found, or none where they were refused.
+
+use crate::stops::disks::Side;
+use crate::stops::runs::{stops_around, stops_throughout};
+use crate::stops::works::Work;
+use tape_frames::Version;
+
+#[test]
+fn a_group_is_all_or_none(rt: HostRuntime) {
+    for version in [Version::One, Version::Two] {
+        assert!(rt; stops_throughout(rt.alloc(), Work::Group(version), Side::Log));
+        assert!(rt; stops_around(rt.alloc(), Work::Group(version), Side::Database));
+    }
+}

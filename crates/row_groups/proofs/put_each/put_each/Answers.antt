@@ -1,0 +1,83 @@
+use Rattle.std.proofs.Common.{◌≡◌, ◌+◌, ℕ, suc, Some, sym, ap, subst, ◌∙◌, arith}
+use Rattle.std.specs.Prelude.{slice_get, take}
+use Rattle.std.proofs.lemmas.List.{take_all}
+use Rattle.std.proofs.lemmas.Option.{slice_get-get_or}
+use Rattle.protocol.specs.Rows.{Row}
+use Rattle.saved_rows.specs.Saved.{RowFits}
+use Rattle.row_groups.specs.Groups.{WithAll}
+use Rattle.row_groups.proofs.GroupLemmas.{SoFar, none_yet, next_left, one_in, take_more, all_at, on_err}
+use Rattle.row_groups.proofs.put_each.put_each.Goals as goal
+
+pub loop-item-init : goal.loop-item-init
+loop-item-init g c = none_yet g.R.Rows c.args.items.now c.args.rows.now
+
+pub put-requires-clause-fits : goal.put-requires-clause-fits
+put-requires-clause-fits g c =
+    let at : slice_get c.args.items.now c.loop-item.item-index ≡ Some c.item-item.result = slice_get-get_or c.args.items.now c.loop-item.item-index c.item-item.result c.loop-item-test.true ∙ ap Some (sym c.item-item.is) in
+    subst (λ v. RowFits v c.item-item.result.1) (sym c.loop-item.invariant.version)
+    (all_at (λ (p : ℕ × Row). RowFits (g.R.Rows.version c.args.rows.now) p.1) c.args.items.now c.loop-item.item-index c.item-item.result at c.requires.fits)
+
+pub returns-in_err-put-clause-version : goal.returns-in_err-put-clause-version
+returns-in_err-put-clause-version g c = c.put.ensures.version ∙ c.loop-item.invariant.version
+
+pub returns-in_err-put-clause-first : goal.returns-in_err-put-clause-first
+returns-in_err-put-clause-first g c kept =
+    let items = c.args.items.now in
+    let i = c.loop-item.item-index in
+    let at : slice_get items i ≡ Some c.item-item.result = slice_get-get_or items i c.item-item.result c.loop-item-test.true ∙ ap Some (sym c.item-item.is) in
+    on_err c.from_residual.result (next_left g.R.Rows items i c.item-item.result c.args.rows.now c.loop-item.rows c.put.new.self at c.loop-item.invariant
+    (c.put.ensures.was_kept kept) (c.in_err-put.ensures.either kept) c.loop-item-test.true)
+
+pub returns-in_err-put-clause-counts : goal.returns-in_err-put-clause-counts
+returns-in_err-put-clause-counts g c = omega (arith, c.put.ensures.counts, c.loop-item.invariant.counts)
+
+pub returns-in_err-put-clause-made : goal.returns-in_err-put-clause-made
+returns-in_err-put-clause-made g c made = c.put.ensures.made (c.loop-item.invariant.made made)
+
+pub returns-in_err-put-clause-was_kept : goal.returns-in_err-put-clause-was_kept
+returns-in_err-put-clause-was_kept g c kept = c.loop-item.invariant.was_kept (c.put.ensures.was_kept kept)
+
+pub returns-in_err-put-clause-was_open : goal.returns-in_err-put-clause-was_open
+returns-in_err-put-clause-was_open g c kept opened = c.loop-item.invariant.was_open (c.put.ensures.was_kept kept) (c.put.ensures.was_open kept opened)
+
+pub loop-item-preserved : goal.loop-item-preserved
+loop-item-preserved g c =
+    let items = c.args.items.now in
+    let i = c.loop-item.item-index in
+    let item = c.item-item.result in
+    let h = c.loop-item.invariant in
+    let x = g.R.Rows in
+    let at : slice_get items i ≡ Some item = slice_get-get_or items i item c.loop-item-test.true ∙ ap Some (sym c.item-item.is) in
+    let next : suc i ≡ i + 1 = omega arith in
+    subst (λ (k : ℕ). SoFar x items k c.args.rows.now c.put.new.self) next (record {
+      saved = λ kept. subst (λ l. WithAll (x.saved c.args.rows.now) l (x.saved c.put.new.self)) (sym (take_more items i item at))
+          (one_in (take i items) (x.saved c.args.rows.now) (x.saved c.loop-item.rows) (x.saved c.put.new.self) item.0 item.1 (h.saved (c.put.ensures.was_kept kept)) (c.in_ok-put.ensures.row kept));
+      opened = λ kept o. c.in_ok-put.ensures.open kept;
+      version = c.put.ensures.version ∙ h.version;
+      counts = omega (arith, c.put.ensures.counts, h.counts);
+      made = λ m. c.put.ensures.made (h.made m);
+      was_kept = λ kept. h.was_kept (c.put.ensures.was_kept kept);
+      was_open = λ kept o. h.was_open (c.put.ensures.was_kept kept) (c.put.ensures.was_open kept o);
+    })
+
+pub returns-clause-rows : goal.returns-clause-rows
+returns-clause-rows g c kept =
+    subst (λ l. WithAll (g.R.Rows.saved c.args.rows.now) l (g.R.Rows.saved c.loop-item.rows)) (take_all c.loop-item.item-index c.args.items.now c.loop-item-test.false) (c.loop-item.invariant.saved kept)
+
+pub returns-clause-open : goal.returns-clause-open
+returns-clause-open g c = c.loop-item.invariant.opened
+
+pub returns-clause-version : goal.returns-clause-version
+returns-clause-version g c = c.loop-item.invariant.version
+
+pub returns-clause-counts : goal.returns-clause-counts
+returns-clause-counts g c = c.loop-item.invariant.counts
+
+pub returns-clause-made : goal.returns-clause-made
+returns-clause-made g c = c.loop-item.invariant.made
+
+pub returns-clause-was_kept : goal.returns-clause-was_kept
+returns-clause-was_kept g c = c.loop-item.invariant.was_kept
+
+pub returns-clause-was_open : goal.returns-clause-was_open
+returns-clause-was_open g c = c.loop-item.invariant.was_open

@@ -1,0 +1,33 @@
+use Rattle.std.proofs.Common.{◌∷◌, Ok, option_map, ℕ}
+use Rattle.std.specs.Global.{Vec}
+use Rattle.sqlite.specs.Held.{state}
+use Rattle.sqlite.specs.State.{ExecutesInside}
+use Rattle.row_table.specs.Tables.Layout.{Second}
+use Rattle.row_table.specs.Rows.{whole}
+use Rattle.row_table.specs.Entries.{columns_of_entry}
+use Rattle.row_table.proofs.ParamLemmas.{bound_number, bound_packed}
+use Rattle.row_table.proofs.EntryPutLemmas.{put_text, replaces_entry}
+use Rattle.row_table.proofs.StagingLemmas.{stages}
+use Rattle.row_table.proofs.staging.stage_entry.Goals as goal
+
+pub returns-clause-staged : goal.returns-clause-staged
+returns-clause-staged g c origin clean had =
+    let e = c.args.entry.now in
+    let old = state g.S.Store c.args.tx.now.conn.now in
+    let new = state g.S.Store c.execute.new.self.conn.now in
+    let ran : ExecutesInside 0 put_text (whole e.number ∷ columns_of_entry e) old new (Ok c.in_ok-execute.field-0) = rw (
+      c.params-to_sql.ensures,
+      c.params-to_sql-2.ensures,
+      c.params-to_sql-3.ensures,
+      c.params-to_sql-4.ensures,
+      c.params-to_sql-5.ensures,
+      c.params-to_sql-6.ensures,
+      c.params-to_sql-7.ensures,
+      bound_number e.vote_round,
+      bound_number e.vote_owner,
+      bound_number e.length,
+      bound_packed c.as_ref.result,
+      c.as_ref.ensures.value,
+    ) at (c.in_ok-execute.ensures.runs clean had.inside) in
+    stages (Second origin) put_text e.number (columns_of_entry e)
+    (replaces_entry origin e.number e.promised_round e.promised_owner e.vote_round e.vote_owner e.length (option_map (λ (v : Vec ℕ). v.items) e.packed)) old new c.in_ok-execute.field-0 had ran
