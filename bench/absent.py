@@ -1,7 +1,7 @@
 #!/usr/bin/env python3
 """How long a plant takes to come to what went out while it was off, of which it has no row.
 
-    bench/absent.py [--stories N] [--frames N] [--members N] [--runs N] PROGRAM
+    bench/absent.py [--stories N] [--frames N] [--members N] [--runs N] [--searches] PROGRAM
 
 Plants `run` on 127.0.0.1, over the sockets of kills.py, three where nothing else is said, all but the last of them. 1,000 stories of 64 frames are laid
 at the first plant all at once; once all that are up have them, the last plant is started, and it is waited until it has all stories. Of two plants, which
@@ -13,6 +13,9 @@ printed for each run:
     told       how many Accepted there came for the last plant of a number by one other: at most, and in the mean
     rows       whether the row files of the others, and their logs, changed a byte meanwhile
     said       how many numbers the last plant told as missed, and what it told of how it caught up
+
+With --searches the last plant does not catch up: a search of each number is laid among its offers as it starts. That its rows and those of the others
+change, and what it is told, is no fault then.
 
 The status is 1 where the last plant lacks a story 60 s after its start, one was told more than three times by a plant, a row file has changed, a number is
 told as missed that was not laid, or the numbers that it caught up with are not those that it released.
@@ -96,6 +99,14 @@ def judged(late, wanted):
     return len(asked), caught, is_well
 
 
+def search(plant, wanted):
+    """Lays a search of each of these numbers among the offers of a plant."""
+    for number in sorted(wanted):
+        part = os.path.join(plant.offers, f'.{number}.seek')
+        open(part, 'wb').close()
+        os.rename(part, os.path.join(plant.offers, f'{number}.seek'))
+
+
 def run(program, folder, words):
     """One run; its line, and whether all is as it should be."""
     members = range(1, words.members + 1)
@@ -104,7 +115,8 @@ def run(program, folder, words):
     frames = LINE * (words.frames // len(LINE)) if words.frames > len(LINE) else LINE
     try:
         addresses = {own: [('127.0.0.1', network.port_of(own, other)) for other in members] for own in members}
-        plants = [Plant(program, folder, own, addresses[own], None, [], '2') for own in members]
+        tables = {words.members: '[catch_up]\noff = true\n'} if words.searches else {}
+        plants = [Plant(program, folder, own, addresses[own], None, [], '2', tables.get(own, '')) for own in members]
         network.pass_on_until(time.monotonic() + 1.5)
         late = plants[-1]
         if words.members > 2:
@@ -115,6 +127,8 @@ def run(program, folder, words):
         late.other.clear()
         started, behind = time.monotonic(), time.time() - time.monotonic()
         late.start()
+        if words.searches:
+            search(late, wanted)
         is_there = missed.wait(network, lambda: late.released() >= wanted, LAST)
         ended = max((late.galley_at(number) for number in late.released() & wanted), default=float('nan')) - behind
         network.pass_on_until(time.monotonic() + 5)
@@ -131,7 +145,7 @@ def run(program, folder, words):
     print(f'{words.stories} of {len(frames)} frames, {words.members} plants | lacks {lacks} | took {ended - started:.2f} s, alone {alone:.2f}: {(ended - started) / alone:.2f} | '
           f'told at most {most}, {mean:.2f} in the mean | rows {"the same" if same else "CHANGED"} | '
           f'said {asked} missed, {caught}{"" if is_well else " WRONG"} {[line for line in late.other if not MISSED.match(line.decode()) and not CAUGHT.match(line.decode())][:3]}', flush=True)
-    return is_there and same and most <= MOST and is_well
+    return is_there and (words.searches or same and most <= MOST and is_well)
 
 
 def main():
@@ -140,6 +154,7 @@ def main():
     parser.add_argument('--frames', type=int, default=64)
     parser.add_argument('--members', type=int, default=3)
     parser.add_argument('--runs', type=int, default=1)
+    parser.add_argument('--searches', action='store_true')
     parser.add_argument('program')
     return missed.runs(run, parser.parse_args())
 
