@@ -45,6 +45,7 @@ def refused(at):
     up(at)
     lay(at, '12.tape', b'\x40')
     lies(at, 'offers/refused/12.tape.txt')
+    lies(at, 'offers/refused/12.tape')
     holds(at, 'offers/refused/12.tape', b'\x40')
     lay(at, '12.tape', at.read('overset.tape'))
     lies(at, 'offers/refused/12.tape.2')
