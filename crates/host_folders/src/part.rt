@@ -6,6 +6,7 @@ use crate::maker::Maker;
 use folders::{FileId, FolderFault, is_own_name};
 use std::fs::File;
 use std::io::{Seek, Write};
+use std::os::fd::AsRawFd;
 use std::{fs, io};
 
 /// What a file that is made ahead holds until it is filled: a page of the disk.
@@ -68,10 +69,19 @@ impl Part {
         Ok(())
     }
 
+    /// Has the host begin to write what it holds to the disk, and does not wait for it. By POSIX this is advice that its bytes are not needed
+    /// soon, for which Linux starts to write those that the disk lacks; a host that does not take it starts at the wait.
+    fn hand_over(&self) {
+        libc::posix_fadvise(self.file.as_raw_fd(), 0, 0, libc::POSIX_FADV_DONTNEED);
+    }
+
     /// Writes bytes into it, all that it then holds, and does not wait for the disk. Where that fails it is taken away.
     pub(crate) fn fill(mut self, rt: &HostRuntime, bytes: &[u8]) -> Result<Part, FolderFault> {
         match self.write(bytes) {
-            Ok(()) => Ok(self),
+            Ok(()) => {
+                self.hand_over();
+                Ok(self)
+            }
             Err(fault) => {
                 self.discard(rt);
                 Err(fault)

@@ -10,8 +10,11 @@ use folders::{FolderFault, NamedFile, News, Unwritten};
 use std::alloc::Global;
 use std::collections::VecDeque;
 
-/// How many files are made ahead, and how many are filled before the disk has the first: those of one release.
-const MOST_BEGUN: usize = 2;
+/// How many files are made ahead: those of one release.
+const MOST_SPARES: usize = 2;
+
+/// How many files are filled before the disk has the first: those of the releases of as many steps as share a save.
+const MOST_BEGUN: usize = 32;
 
 /// How often a file is written where another comes to stand under its name.
 const TRIES: u32 = 3;
@@ -76,7 +79,7 @@ impl Releases {
 
     /// Makes the files ahead that are not there.
     pub(crate) fn make_spares(&mut self, maker: &mut Maker<'_>) {
-        for _ in self.spares.len()..MOST_BEGUN {
+        for _ in self.spares.len()..MOST_SPARES {
             // Where one can't be made, it is tried again at the next look, or made in its turn.
             let Ok(part) = Part::roomy(maker, self.guarded.path()) else {
                 return;
@@ -94,7 +97,7 @@ impl Releases {
     }
 
     /// The first of these files, filled, in their order. To write all of them before the first wait for the disk takes less than to write
-    /// one after the other: the disk then has them together.
+    /// one after the other: the disk then has them together, and the waits behind the first are short.
     fn begin(&mut self, maker: &mut Maker<'_>, files: &[NamedFile]) -> VecDeque<Part> {
         let mut begun = VecDeque::new(maker.alloc());
         if self.check(maker.rt).is_err() {
