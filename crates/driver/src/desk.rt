@@ -1,6 +1,6 @@
 //! What a station that stays up does beside what comes and what is due.
 
-ghost use Rattle.std.specs.Prelude.{[], ◌∷◌, ℕ, IfErr, IfSome, Ok, OnErr, OnOk};
+ghost use Rattle.std.specs.Prelude.{List, [], ◌∷◌, ℕ, IfErr, IfSome, Ok, OnErr, OnOk};
 ghost use Rattle.exchange.specs.Events.{stored};
 ghost use Rattle.command_ends.specs.Ends.{IsOfWriting};
 ghost use Rattle.driver.specs.Calls.{call_of};
@@ -62,6 +62,11 @@ pub trait Desk: Sink {
     // Nothing was done outside of the process meanwhile.
     ghost is_still: { Self → Self → Type 0 };
 
+    ghost use Rattle.driver.specs.declared.sink.Step.{Step};
+
+    // What exactly these steps released went outside meanwhile, as far as that could be done.
+    ghost handed: { Self → Self → List Step → Type 0 };
+
     /// Keeps in mind what a step of the station did and released. Nothing of it goes outside: what the step saved may not be stored yet. It
     /// fails where there is no memory for it.
     fn note<E: Write>(&mut self, step: &Step, log: &mut Log<'_, E>) -> Result<(), Fault<'static>>
@@ -73,7 +78,8 @@ pub trait Desk: Sink {
     /// What these steps released goes outside, at a moment: what they saved is stored, and their datagrams are sent. They are those that were
     /// noted since the last call, in order, but such as neither sent nor released anything.
     fn hand_out<E: Write>(&mut self, steps: &[Step], now: u64, log: &mut Log<'_, E>)
-        ensures { Self.lived self.old self.new (stored (Ok tt) ∷ []) };
+        ensures lived { Self.lived self.old self.new (stored (Ok tt) ∷ []) }
+        ensures handed { handed self.old self.new steps.now };
 
     /// What is to be done with files.
     fn tasks(&mut self) -> Tasks

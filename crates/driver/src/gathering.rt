@@ -4,12 +4,12 @@
 ghost use Rattle.std.specs.Prelude.{◌≡◌, [], ◌∷◌, true, false, Ok, OnOk};
 ghost use Rattle.wire.specs.Passing.{Passes};
 ghost use Rattle.driver.specs.Driving.{Anyhow, DroveBehind, IsHeld, IsStoring, sends_of};
-ghost use Rattle.driver.specs.Grouping.{ends_group, one_more};
+ghost use Rattle.driver.specs.Grouping.{ends_group, goes_alone, one_more};
 ghost use Rattle.exchange.specs.Events.{stored};
 
 use crate::desk::Desk;
 use crate::driver::Driver;
-use crate::group::{Group, goes_on, send_each};
+use crate::group::{Group, send_each};
 use crate::log::Log;
 use crate::sink::Step;
 use command_ends::Fault;
@@ -54,10 +54,7 @@ impl<'a, R: Settles, N: Wire, S: Desk> Driver<'a, R, N, S> {
         ensures drove { DroveBehind Anyhow result R.Rows R.Settles.is_settled N.passed S.Sink self.old self.new group.old group.new }
     {
         match self.take_up(now, log) {
-            Ok(Some(step)) => {
-                group.has_replies = true;
-                self.hold(step, group, log)
-            }
+            Ok(Some(step)) => self.hold(step, group, log),
             Ok(None) => Ok(()),
             Err(fault) => Err(fault),
         }
@@ -95,14 +92,13 @@ impl<'a, R: Settles, N: Wire, S: Desk> Driver<'a, R, N, S> {
         ensures wire { self.new.wire.ghost_name ≡ self.old.wire.ghost_name }
         ensures sends { Passes (N.passed self.old.wire.now) (N.passed self.new.wire.now) (sends_of group.old) }
         ensures lived { S.lived self.old.sink self.new.sink (stored (Ok tt) ∷ []) }
+        ensures handed { S.handed self.old.sink self.new.sink group.old.steps.items }
         ensures all { group.new.steps.items ≡ [] }
-        ensures none { group.new.has_replies ≡ false }
         ensures begins { group.new.works ≡ 0 }
     {
         send_each(group.steps.as_slice(), self.wire, log.err);
         self.sink.hand_out(group.steps.as_slice(), now, log);
         group.steps.clear();
-        group.has_replies = false;
         group.works = 0;
     }
 
@@ -117,6 +113,7 @@ impl<'a, R: Settles, N: Wire, S: Desk> Driver<'a, R, N, S> {
         ensures wire { self.new.wire.ghost_name ≡ self.old.wire.ghost_name }
         ensures was_kept { R.kept self.new.station.now.rows → R.kept self.old.station.now.rows }
         ensures drove { DroveBehind IsStoring result R.Rows R.Settles.is_settled N.passed S.Sink self.old self.new group.old group.new }
+        ensures handed { OnOk result (S.handed self.old.sink self.new.sink group.old.steps.items) }
         ensures all { OnOk result (group.new.steps.items ≡ []) }
     {
         self.store()?;
@@ -136,14 +133,15 @@ impl<'a, R: Settles, N: Wire, S: Desk> Driver<'a, R, N, S> {
         ensures wire { self.new.wire.ghost_name ≡ self.old.wire.ghost_name }
         ensures was_kept { R.kept self.new.station.now.rows → R.kept self.old.station.now.rows }
         ensures drove { DroveBehind Anyhow result R.Rows R.Settles.is_settled N.passed S.Sink self.old self.new group.old group.new }
-        ensures ended { ends_group next group.old ≡ true → OnOk result (group.new.steps.items ≡ []) }
-        ensures goes_on { ends_group next group.old ≡ false → (result ≡ Ok tt) × (self.new ≡ self.old) × (group.new ≡ one_more group.old) }
+        ensures ended { ends_group next now group.old ≡ true → OnOk result ((group.new.steps.items ≡ []) × S.handed self.old.sink self.new.sink group.old.steps.items) }
+        ensures alone { goes_alone next ≡ true → OnOk result (group.new.steps.items ≡ []) }
+        ensures goes_on { ends_group next now group.old ≡ false → (result ≡ Ok tt) × (self.new ≡ self.old) × (group.new ≡ one_more now group.old) }
     {
-        if goes_on(next, group.has_replies) && !group.is_full() {
-            group.works += 1;
-            Ok(())
-        } else {
+        if group.ends_before(next, now) {
             self.settle_group(now, group, log)
+        } else {
+            group.go_on(now);
+            Ok(())
         }
     }
 }

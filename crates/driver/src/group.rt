@@ -4,7 +4,7 @@ ghost use Rattle.std.specs.Prelude.{◌≡◌, ◌++◌, [], OnOk};
 ghost use Rattle.exchange.specs.Events.{sending};
 ghost use Rattle.wire.specs.Passing.{Passes};
 ghost use Rattle.driver.specs.Driving.{sends, sends_of};
-ghost use Rattle.driver.specs.Grouping.{goes_on, is_full, is_worth};
+ghost use Rattle.driver.specs.Grouping.{comes_late, ends_group, goes_alone, has_waited, is_full, is_worth, one_more, worthy};
 
 use crate::sink::Step;
 use exchange::send_answer;
@@ -19,15 +19,18 @@ const MOST_STEPS: usize = 16;
 /// How many works share a save at most: a flood of datagrams that call for no reply keeps none waiting longer than so many.
 const MOST_WORKS: u8 = 32;
 
+/// For how long deeds share the save of the works before them, in milliseconds: so long, and for one deed more, a reply waits at most.
+const MOST_WAIT: u64 = 2;
+
 /// The steps of a group.
 #[derive(Drop)]
 pub(crate) struct Group {
     /// Those that send or release something, in order.
     pub(crate) steps: Vec<Step>,
-    /// Whether a datagram was taken in, whose sender may wait for a reply.
-    pub(crate) has_replies: bool,
     /// How many works share the save so far.
     pub(crate) works: u8,
+    /// When the first of them began, in milliseconds.
+    pub(crate) since: u64,
 }
 
 /// Whether a step sends or releases something.
@@ -37,6 +40,20 @@ fn is_worth(step: &Step) -> bool
     !step.answer.out.is_empty() || step.answer.release.is_some()
 }
 
+/// Whether a work shares no save with the steps before it: a look writes files, and a wait may take long.
+fn goes_alone(work: Work) -> bool
+    ensures { result ≡ goes_alone work }
+{
+    matches!(work, Work::Look | Work::Wait)
+}
+
+/// Whether a work is one for which replies have waited long enough: they wait for deeds no longer.
+fn comes_late(work: Work, has_waited: bool) -> bool
+    ensures { result ≡ comes_late work has_waited }
+{
+    matches!(work, Work::Deed { .. }) && has_waited
+}
+
 impl Group {
     /// No step was taken yet.
     pub(crate) fn new(alloc: Global) -> Group
@@ -44,20 +61,45 @@ impl Group {
     {
         Group {
             steps: Vec::new(alloc),
-            has_replies: false,
             works: 0,
+            since: 0,
         }
     }
 
     /// Whether these are as many as share a save.
-    pub(crate) fn is_full(&self) -> bool
+    fn is_full(&self) -> bool
         ensures { result ≡ is_full self.now }
     {
         self.steps.len() >= MOST_STEPS || self.works >= MOST_WORKS
     }
 
+    /// Whether deeds share the save no more, at a moment in milliseconds.
+    fn has_waited(&self, now: u64) -> bool
+        ensures { result ≡ has_waited now self.now }
+    {
+        self.works > 0 && now.saturating_sub(self.since) >= MOST_WAIT
+    }
+
+    /// Whether the work that comes next at a moment in milliseconds can't share the save of those before it, or they are as many as share one.
+    pub(crate) fn ends_before(&self, next: Work, now: u64) -> bool
+        ensures { result ≡ ends_group next now self.now }
+    {
+        goes_alone(next) || comes_late(next, self.has_waited(now)) || self.is_full()
+    }
+
+    /// One work more shares the save, at a moment in milliseconds.
+    pub(crate) fn go_on(&mut self, now: u64)
+        ensures { self.new ≡ one_more now self.old }
+    {
+        if self.works == 0 {
+            self.since = now;
+        }
+        self.works = self.works.saturating_add(1).min(MOST_WORKS);
+    }
+
     /// One step more, behind those before it, unless it neither sends nor releases anything. There may be no memory for it.
     pub(crate) fn add(&mut self, step: Step) -> Result<(), AllocError>
+        ensures steps { OnOk result (self.new.steps.items ≡ self.old.steps.items ++ worthy step) }
         ensures sends { OnOk result (sends_of self.new ≡ sends_of self.old ++ sending step.answer.out.items) }
     {
         if is_worth(&step) {
@@ -73,17 +115,5 @@ pub(crate) fn send_each<N: Wire, E: Write>(steps: &[Step], wire: &mut N, err: &m
 {
     for step in steps {
         send_answer(&step.answer, wire, err);
-    }
-}
-
-/// Whether this work may share the save of the steps before it, where replies wait among them or don't. A look writes files, a wait may take
-/// long, and no reply waits for a deed.
-pub(crate) fn goes_on(work: Work, has_replies: bool) -> bool
-    ensures { result ≡ goes_on work has_replies }
-{
-    match work {
-        Work::TakeIn | Work::Due => true,
-        Work::Deed { .. } => !has_replies,
-        Work::Look | Work::Wait => false,
     }
 }

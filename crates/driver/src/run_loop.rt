@@ -1,10 +1,11 @@
 //! The turns of a station that stays up: one work after the other, in the order of `pace`, until the run is over.
 
-ghost use Rattle.std.specs.Prelude.{◌≡◌, [], OnOk};
+ghost use Rattle.std.specs.Prelude.{◌≡◌, [], OnOk, true};
 ghost use Rattle.wire.specs.Passing.{Passes};
 ghost use Rattle.exchange.specs.Events.{ended};
 ghost use Rattle.driver.specs.Replies.{IsAskedBy, awaited, reply_of};
 ghost use Rattle.driver.specs.Driving.{Anyhow, Drove, DroveBehind, fate_of, known, post_of};
+ghost use Rattle.driver.specs.Grouping.{goes_alone};
 ghost use Rattle.driver.specs.Todos.{IsGoodTodo};
 
 use crate::calls::ask;
@@ -178,7 +179,8 @@ impl<'a, R: Settles, N: Wire, S: Desk> Driver<'a, R, N, S> {
         }
     }
 
-    /// Does this work, where a datagram waits in memory or none does, at a moment in milliseconds; whether the run is over.
+    /// Does this work, where a datagram waits in memory or none does, at a moment in milliseconds; whether the run is over. A look or a wait
+    /// comes only where nothing waits to be handed on.
     fn work<E: Write>(
         &mut self,
         work: Work,
@@ -186,6 +188,7 @@ impl<'a, R: Settles, N: Wire, S: Desk> Driver<'a, R, N, S> {
         group: &mut Group,
         log: &mut Log<'_, E>,
     ) -> Result<bool, Fault<'static>>
+        requires alone { goes_alone work ≡ true → group.old.steps.items ≡ [] }
         ensures station { self.new.station.ghost_name ≡ self.old.station.ghost_name }
         ensures wire { self.new.wire.ghost_name ≡ self.old.wire.ghost_name }
         ensures was_kept { R.kept self.new.station.now.rows → R.kept self.old.station.now.rows }

@@ -4,6 +4,7 @@ ghost use Rattle.std.specs.Prelude.{◌≡◌};
 ghost use Rattle.std.proofs.Common.{refl, ◌∙◌};
 ghost use Rattle.run_command.specs.Living.{CameOn, IsSameDesk, LivedOn, MayAsk, kept_of, texts_of};
 ghost use Rattle.run_command.specs.Lives.{plant_fates};
+ghost use Rattle.run_command.specs.Working.{WritesAndDeals};
 
 use crate::plant::Plant;
 use command_ends::Fault;
@@ -37,6 +38,8 @@ impl<F: Folders, S: StatusFile> Sink for PlantDesk<'_, '_, '_, F, S> {
 
 impl<F: Folders, S: StatusFile> Desk for PlantDesk<'_, '_, '_, F, S> {
     ghost is_still = { λ old new. F.doings new.plant.folders.now ≡ F.doings old.plant.folders.now };
+
+    ghost handed = { λ old new _. WritesAndDeals (F.doings old.plant.folders.now) (F.doings new.plant.folders.now) old.plant.papers.now.waits.items new.plant.papers.now.waits.items old.plant.papers.now.book new.plant.papers.now.book };
 
     fn note<E: Write>(&mut self, step: &Step, log: &mut Log<'_, E>) -> Result<(), Fault<'static>> {
         self.plant.note(step, log)

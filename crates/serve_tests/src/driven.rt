@@ -74,6 +74,8 @@ impl Sink for Counting {
 impl Desk for Counting {
     ghost is_still = { λ _ _. Unit {0} };
 
+    ghost handed = { λ _ _ _. Unit {0} };
+
     fn note<E: Write>(
         &mut self,
         _step: &Step,

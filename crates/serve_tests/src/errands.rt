@@ -91,6 +91,8 @@ impl Sink for Running {
 impl Desk for Running {
     ghost is_still = { λ _ _. Unit {0} };
 
+    ghost handed = { λ _ _ _. Unit {0} };
+
     fn note<E: Write>(&mut self, step: &Step, _log: &mut Log<'_, E>) -> Result<(), Fault<'static>> {
         if matches!(step.answer.note, Note::Recalled { .. }) {
             self.recalled = self.recalled.saturating_add(1);

@@ -1,4 +1,4 @@
-//! Datagrams that wait together share one save.
+//! Datagrams that wait together share one save, and so does a deed that comes soon behind them.
 
 use crate::driven::Counting;
 use crate::wires::{Manner, Scripted};
@@ -15,11 +15,13 @@ use std::io::Write;
 use tape_frames::Version;
 use wire::{Arrival, Wire};
 
-/// A wire that keeps what comes in memory. A hundredth of a second goes by whenever its clock is asked. It has a line for each datagram
-/// that was taken in, among those that were sent.
+/// A wire that keeps what comes in memory. A hundredth of a second goes by whenever its clock is asked, but for the first times. It has a
+/// line for each datagram that was taken in, among those that were sent.
 #[derive(Drop)]
 struct Keeping {
     script: Scripted,
+    /// How many times the clock is asked still before it goes on.
+    still: u32,
 }
 
 impl Wire for Keeping {
@@ -40,7 +42,11 @@ impl Wire for Keeping {
     }
 
     fn now(&mut self) -> u64 {
-        self.script.moment = self.script.moment.saturating_add(10);
+        if self.still > 0 {
+            self.still -= 1;
+        } else {
+            self.script.moment = self.script.moment.saturating_add(10);
+        }
         self.script.now()
     }
 }
@@ -65,10 +71,38 @@ came
 came
 ";
 
-/// Rows whose saves wait. Their first save is refused, after it was passed on, where they refuse.
-fn rows_of(alloc: Global, refuse: bool) -> Option<Grouped<Balky<MemoryRows>>> {
-    let mut rows = Balky::new(rows_with(alloc, Version::One, None)?);
-    if refuse {
+/// What is tried.
+#[derive(Clone, Copy)]
+struct Try {
+    /// The version that the station writes.
+    version: Version,
+    /// Whether the first save of the rows is refused, after it was passed on.
+    refuse: bool,
+    /// How many times the station is asked for something besides.
+    asks: usize,
+    /// How many times the clock stands still.
+    still: u32,
+}
+
+/// Both datagrams come, and nothing else is to be done.
+const BOTH: Try = Try {
+    version: Version::One,
+    refuse: false,
+    asks: 0,
+    still: 0,
+};
+
+/// A station of version 2 is asked for something behind them.
+const ASKED: Try = Try {
+    version: Version::Two,
+    asks: 1,
+    ..BOTH
+};
+
+/// Rows whose saves wait.
+fn rows_of(alloc: Global, tried: Try) -> Option<Grouped<Balky<MemoryRows>>> {
+    let mut rows = Balky::new(rows_with(alloc, tried.version, None)?);
+    if tried.refuse {
         rows.arm(true);
     }
     Some(Grouped::new(alloc, rows))
@@ -77,48 +111,73 @@ fn rows_of(alloc: Global, refuse: bool) -> Option<Grouped<Balky<MemoryRows>>> {
 /// How a run ends, how many steps were handed out, and in how many groups.
 type Outcome = (End, usize, usize);
 
-/// The run of a station on a wire.
+/// The run of a station on a wire, which is asked for something so many times.
 fn run_on(
     alloc: Global,
     station: &mut Station<Grouped<Balky<MemoryRows>>>,
     wire: &mut Keeping,
+    asks: usize,
 ) -> Option<Outcome> {
     let mut intake = Intake::new(alloc).ok()?;
     let mut told = Vec::new(alloc);
-    let mut driver = Driver::new(station, wire, Counting::new(0), &mut intake);
+    let mut driver = Driver::new(station, wire, Counting::new(asks), &mut intake);
     let end = driver.run(alloc, &mut told, false);
     let desk = driver.sink();
     Some((end, desk.handed_out, desk.groups))
 }
 
-/// What comes of a run of member 2, to which both come, where its rows refuse or do not; and what came and was sent.
-fn outcome(alloc: Global, refuse: bool) -> Option<(Outcome, Vec<u8>)> {
-    let mut station = station_over(alloc, 2, 2, rows_of(alloc, refuse)?)?;
+/// What comes of a run of member 2, to which both datagrams come; and what came and was sent.
+fn outcome(alloc: Global, tried: Try) -> Option<(Outcome, Vec<u8>)> {
+    let mut station = station_over(alloc, 2, 2, rows_of(alloc, tried)?)?;
     let mut wire = Keeping {
         script: Scripted::new(alloc, Manner::Whole),
+        still: tried.still,
     };
     if !wire.script.bring_all(COMING) {
         return None;
     }
-    let outcome = run_on(alloc, &mut station, &mut wire)?;
+    let outcome = run_on(alloc, &mut station, &mut wire, tried.asks)?;
     Some((outcome, wire.script.log))
 }
 
 /// Whether it comes to this, and this came and was sent.
-fn comes_to(alloc: Global, refuse: bool, expected: Outcome, log: &str) -> bool {
-    match outcome(alloc, refuse) {
+fn comes_to(alloc: Global, tried: Try, expected: Outcome, log: &str) -> bool {
+    match outcome(alloc, tried) {
         Some((outcome, lines)) => outcome == expected && lines.as_slice() == log.as_bytes(),
         None => false,
     }
 }
 
+/// How many steps were handed out, and in how many groups.
+fn groups(alloc: Global, tried: Try) -> Option<(usize, usize)> {
+    let ((_, steps, groups), _) = outcome(alloc, tried)?;
+    Some((steps, groups))
+}
+
 #[test]
 fn two_datagrams_share_a_save(rt: HostRuntime) {
-    assert!(rt; comes_to(rt.alloc(), false, (End::Done, 2, 1), REPLIES));
+    assert!(rt; comes_to(rt.alloc(), BOTH, (End::Done, 2, 1), REPLIES));
 }
 
 /// Nothing is sent of what could not be stored.
 #[test]
 fn a_refused_save_withholds_both_replies(rt: HostRuntime) {
-    assert!(rt; comes_to(rt.alloc(), true, (End::Store, 0, 0), NO_REPLIES));
+    let tried = Try {
+        refuse: true,
+        ..BOTH
+    };
+    assert!(rt; comes_to(rt.alloc(), tried, (End::Store, 0, 0), NO_REPLIES));
+}
+
+/// What is asked for in the same moment shares the save of the replies. Its ballot is begun again before the end, by itself.
+#[test]
+fn a_deed_shares_the_save(rt: HostRuntime) {
+    let tried = Try { still: 8, ..ASKED };
+    assert_eq!(rt; groups(rt.alloc(), tried), Some((4, 2)));
+}
+
+/// No reply waits for what is asked for two milliseconds later.
+#[test]
+fn no_reply_waits_for_a_late_deed(rt: HostRuntime) {
+    assert_eq!(rt; groups(rt.alloc(), ASKED), Some((4, 3)));
 }

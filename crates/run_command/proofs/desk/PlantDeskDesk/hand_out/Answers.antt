@@ -6,8 +6,8 @@ use Rattle.run_command.specs.Living.{kept_of, texts_of}
 use Rattle.run_command.proofs.Lives.{looked_through}
 use Rattle.run_command.proofs.desk.PlantDeskDesk.hand_out.Goals as goal
 
-pub returns : goal.returns
-returns g c =
+pub returns-clause-lived : goal.returns-clause-lived
+returns-clause-lived g c =
     let t = texts_of c.args.self.now in
     let doings = g.F.Folders.doings in
     let old = c.args.self.now.plant in
@@ -17,3 +17,6 @@ returns g c =
           (silent t doings (kept_of old) (stored (Ok tt)) refl (λ past st. (tt, tt)))
           (looked_through t doings old.folders.now new.folders.now old.papers.now.waits.items new.papers.now.waits.items old.papers.now.book new.papers.now.book c.hand_out.ensures.hands),
     )
+
+pub returns-clause-handed : goal.returns-clause-handed
+returns-clause-handed g c = c.hand_out.ensures.hands
