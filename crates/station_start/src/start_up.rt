@@ -18,7 +18,8 @@ use saved_rows::{Identity, Rows};
 use seals::Keys;
 use station::Station;
 use std::alloc::Global;
-use std::io::Write;
+use std::io;
+use std::io::{ErrorKind, Write};
 use tape_frames::{Tape, Version};
 use widths::Widths;
 use wire::Wire;
@@ -113,6 +114,14 @@ pub fn make_rows<F: RowFiles>(
     Ok(identity)
 }
 
+/// Why there is no wire: there is no memory for it, or the socket can't be bound.
+fn no_wire<'f>(error: &io::Error) -> Fault<'f> {
+    match error.kind() {
+        ErrorKind::OutOfMemory => Fault::OutOfMemory,
+        _ => Fault::Socket("cannot bind"),
+    }
+}
+
 /// The wire at the member's own address, of those of all stations.
 fn wire_of<'f, H: Host>(host: &H, config: Config, keys: Option<Keys>) -> Result<H::Wire, Fault<'f>>
     requires { IsCircuit config.member config.stations.items }
@@ -121,7 +130,7 @@ fn wire_of<'f, H: Host>(host: &H, config: Config, keys: Option<Keys>) -> Result<
     let own = config.stations[usize::from(config.member.get()) - 1];
     match host.bind(&own, config.stations, keys) {
         Ok(wire) => Ok(wire),
-        Err(_) => Err(Fault::Socket("cannot bind")),
+        Err(error) => Err(no_wire(&error)),
     }
 }
 
