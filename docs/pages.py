@@ -10,8 +10,8 @@ It makes
                    function `step`, and [wire/src/door.rt#admit](../crates/wire/src/door.rt#L43) the function `admit` of that file.
 
 With --check nothing is written. It ends with 1, and a line for each fault, where one of these is not as the sources have it, where a link of
-a page names no file, no heading or no function, where the rooms of MAP.md are not the crates, each on none of a room above its own, or
-where PROVED.md or MEASURED.md has more words than it may, or too many sentences are long.
+a page names no file, no heading or no function, where the rooms of MAP.md are not the crates, each on none of a room above its own, where a
+page has more words than it may, or too many sentences are long. That their examples are as printed is checked by examples.py beside it.
 With --words it prints the words of each page, and how many of its lines hold a sentence of more than 40 words.
 """
 import glob
@@ -21,9 +21,27 @@ import sys
 
 TOP = os.path.dirname(os.path.dirname(os.path.abspath(__file__)))
 MOST_WORDS = 40
-# how many lines of all pages may hold a longer sentence, and how many words these pages may have
+# how many lines of all pages may hold a longer sentence, and how many words each page may have
 MOST_LONG = 25
-MOST = {"docs/PROVED.md": 6000, "docs/MEASURED.md": 2000}
+MOST = {
+    "README.md": 1600,
+    "CONTRIBUTING.md": 1300,
+    "docs/COMMANDS.md": 4100,
+    "docs/CRATES.md": 2900,
+    "docs/DECISIONS.md": 3000,
+    "docs/DEFINITIONS.md": 2000,
+    "docs/DRAWING.md": 1300,
+    "docs/FORMATS.md": 4600,
+    "docs/GLOSSARY.md": 750,
+    "docs/MAP.md": 1400,
+    "docs/MEASURED.md": 2000,
+    "docs/NOTATION.md": 800,
+    "docs/OPERATING.md": 3100,
+    "docs/PROOF.md": 2000,
+    "docs/PROVED.md": 6000,
+    "docs/SETTING.md": 2200,
+    "docs/TURN.md": 1000,
+}
 
 # a function, a type or a word of specs/, and then its clauses or fields
 BEGINS = r"^\s*(?:pub(?:\(crate\))? )?(?:abbrev pub|fn|pub data|pub record|data|record|struct|enum|trait) {}\b"
