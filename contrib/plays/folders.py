@@ -213,7 +213,8 @@ def replaced_in_the_moment_of_the_move(at):
     for number in numbers:
         stage.within(30, lambda: os.path.exists(at.path(f'offers/lost/{number}.tape')), f'the other {number}: {told(at)[-9:]}')
         holds(at, f'offers/lost/{number}.tape', tape(at, 'harvest.tape'))
-    for name in os.listdir(at.path('offers/sent')):
+    # There is no `sent` where each was replaced in time.
+    for name in os.listdir(at.path('offers/sent')) if os.path.isdir(at.path('offers/sent')) else ():
         holds(at, f'offers/sent/{name}', tape(at))
 
 
