@@ -101,7 +101,7 @@ def refused_rows(at):
     at.ends('rows folder', 3, '', NOT_OPENED)
     serving = at.start('serve one.toml --turns 1000000')
     # Not by a look at the row file, which would itself have it open when the station starts.
-    stage.within(10, at.serves, 'a station that serves has bound its port')
+    stage.within(at.serves, 'a station that serves has bound its port')
     at.ends('rows station1.db', 3, '', IN_USE)
     at.ends('upgrade station1.db', 3, '', IN_USE)
     at.ends('serve one.toml --turns 1', 3, '', IN_USE)

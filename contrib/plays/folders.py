@@ -1,8 +1,10 @@
 """The folders of a plant that is up: what no disk, shell or neighbour turns against a story."""
+import ctypes
 import fcntl
 import os
 import re
 import resource
+import select
 import shutil
 import stat
 import subprocess
@@ -14,6 +16,8 @@ from stage import GALLEY
 RUN = 'run plant.toml'
 ALL = f'{RUN} --verbose'
 OWN = ('.circuitd', '.1.part', '.2.part')
+# what inotify calls the making of a file
+MADE = 0x100
 
 
 def tape(at, name='flood.tape'):
@@ -26,7 +30,7 @@ def up(at, words=RUN, log='log', **how):
     with open(at.path(log), 'ab') as told:
         how.setdefault('stderr', told)
         plant = at.start(words, **how)
-    stage.within(30, at.serves, 'the plant is up')
+    stage.within(at.serves, 'the plant is up')
     return plant
 
 
@@ -35,9 +39,9 @@ def told(at, log='log'):
     return [line for line in at.read(log).decode().split('\n')[:-1] if not re.match(r'(\S+Z )?station \d+ of \d+ circuit ', line)]
 
 
-def tells(at, line, seconds=10):
+def tells(at, line):
     """The log has a line by then."""
-    stage.within(seconds, lambda: line in told(at), f'{line!r} in {told(at)}')
+    stage.within(lambda: line in told(at), lambda: f'{line!r} in {told(at)}')
 
 
 def lay(at, name, data=b''):
@@ -51,7 +55,7 @@ def lay(at, name, data=b''):
 def lies(at, *names):
     """Waits until these files lie there."""
     for name in names:
-        stage.within(20, lambda name=name: os.path.lexists(at.path(name)), f'{name} lies there: {os.listdir(at.path("offers"))} {told(at)}')
+        stage.within(lambda name=name: os.path.lexists(at.path(name)), lambda: f'{name} lies there: {os.listdir(at.path("offers"))} {told(at)}')
 
 
 def holds(at, name, data):
@@ -67,10 +71,18 @@ def is_released(at, number, name='flood.tape', galley=GALLEY):
     holds(at, f'releases/{number}.galley', galley.encode())
 
 
+def looks_again(at):
+    """Waits until the plant has looked at its offers twice: until it has refused a file that was laid now."""
+    name = f'look{time.monotonic_ns()}'
+    lay(at, name)
+    lies(at, f'offers/refused/{name}')
+
+
 def ends_by_stop(at, plant):
-    """A file `stop` ends it well."""
+    """A file `stop` ends it well. It does not wait for the next start, which may come so soon that the file would count for newer."""
     lay(at, 'stop')
-    stage.wants(plant.wait(30) == 0, f'it ended with {plant.returncode}: {told(at)}')
+    stage.wants(plant.wait(stage.SECONDS) == 0, f'it ended with {plant.returncode}: {told(at)}')
+    os.remove(at.path('offers/stop'))
 
 
 def own_names(at):
@@ -81,10 +93,19 @@ def own_names(at):
     return found
 
 
+def lie_ready(at):
+    """Waits until the files of the next release lie ready, whole: nothing changes among the releases from then on until one is written."""
+    def ready():
+        own = [at.path(f'releases/{name}') for name in os.listdir(at.path('releases')) if name.startswith(OWN)]
+        return [os.path.getsize(path) for path in own if os.path.exists(path)] == [4096, 4096]
+
+    stage.within(ready, 'files lie ready')
+
+
 def leaves_nothing(at):
     """Nothing is left under a name of its own once the plant was started and killed again, but the files that lie ready."""
     plant = up(at)
-    stage.within(10, lambda: len(own_names(at)) >= 2, 'files lie ready')
+    lie_ready(at)
     plant.kill()
     plant.wait()
     left = [name for name in own_names(at) if not name.startswith(at.path('releases/')) or os.path.getsize(name) != 4096]
@@ -96,7 +117,7 @@ def releases_replaced_by_a_copy(at):
     at.plant('plant.toml', 'plant.db')
     plant = up(at)
     for number in (12, 13, 14):
-        stage.within(10, lambda: len(own_names(at)) >= 2, 'files lie ready')
+        lie_ready(at)
         subprocess.run(['cp', '-a', at.path('releases'), at.path('copy')], check=True)
         os.rename(at.path('releases'), at.path(f'old{number}'))
         os.rename(at.path('copy'), at.path('releases'))
@@ -203,7 +224,7 @@ def replaced_in_the_moment_of_the_move(at):
         lay(at, f'{number}.tape', tape(at))
         at.write(f'other{number}', tape(at, 'harvest.tape'))
     waits = set(numbers)
-    until = time.monotonic() + 60
+    until = time.monotonic() + stage.SECONDS
     while waits and time.monotonic() < until:
         for number in sorted(waits):
             if os.path.exists(at.path(f'releases/{number}.galley')):
@@ -211,7 +232,7 @@ def replaced_in_the_moment_of_the_move(at):
                 waits.discard(number)
     stage.wants(not waits, f'not released: {waits}')
     for number in numbers:
-        stage.within(30, lambda: os.path.exists(at.path(f'offers/lost/{number}.tape')), f'the other {number}: {told(at)[-9:]}')
+        stage.within(lambda: os.path.exists(at.path(f'offers/lost/{number}.tape')), lambda: f'the other {number}: {told(at)[-9:]}')
         holds(at, f'offers/lost/{number}.tape', tape(at, 'harvest.tape'))
     # There is no `sent` where each was replaced in time.
     for name in os.listdir(at.path('offers/sent')) if os.path.isdir(at.path('offers/sent')) else ():
@@ -258,15 +279,15 @@ def what_is_no_plain_file(at):
     plant = up(at)
     lay(at, '14.tape', tape(at))
     is_released(at, 14)
-    time.sleep(1)
+    looks_again(at)
     wanted = [f'folders: cannot read {name}: it is no plain file' for name in ('12.tape', '13.tape', 'fifo')]
     stage.wants([line for line in told(at) if 'cannot read' in line] == wanted, f'{told(at)}')
     stage.wants(stat.S_ISFIFO(os.lstat(at.path('offers/12.tape')).st_mode), 'the fifo was moved')
     # Another one is told, and one that comes again.
     os.remove(at.path('offers/fifo'))
-    time.sleep(0.6)
+    looks_again(at)
     os.mkfifo(at.path('offers/fifo'))
-    stage.within(5, lambda: told(at).count(wanted[2]) == 2, f'{told(at)}')
+    stage.within(lambda: told(at).count(wanted[2]) == 2, lambda: f'{told(at)}')
     ends_by_stop(at, plant)
 
 
@@ -299,7 +320,7 @@ def ends_by_stop_of(at, plant, reader):
     is_released(at, 14)
     lies(at, 'offers/sent/14.tape')
     lay(at, 'stop')
-    stage.wants(plant.wait(30) == 0, f'it ended with {plant.returncode}')
+    stage.wants(plant.wait(stage.SECONDS) == 0, f'it ended with {plant.returncode}')
     log = b''
     while more := os.read(reader, 65536):
         log += more
@@ -310,20 +331,17 @@ def ends_by_stop_of(at, plant, reader):
     stage.wants(int(lost[0].split()[1]) >= 4 and lines[-2:] == ['14 released', '14 sent'], f'{lines}')
 
 
-def is_held(at, folder):
-    """Whether a process holds the lock of a folder."""
-    inode = os.stat(at.path(folder)).st_ino
-    with open('/proc/locks', encoding='ascii') as locks:
-        return any(f':{inode} ' in line for line in locks)
-
-
-def appears(at, folder):
-    """Whether one does within a second."""
-    until = time.monotonic() + 1
-    while time.monotonic() < until:
-        if is_held(at, folder):
-            return True
-    return False
+def started(at):
+    """Starts a plant, and waits until it reads the clock of its offers, by a file of its own that it makes there: what is laid from then on is
+    newer than its start. On a host that does not tell of that it is waited until the plant is up."""
+    library = ctypes.CDLL(None)
+    watch = getattr(library, 'inotify_init', lambda: -1)()
+    if watch < 0 or library.inotify_add_watch(watch, at.path('offers').encode(), MADE) < 0:
+        return up(at)
+    plant = at.start(RUN)
+    stage.wants(select.select([watch], [], [], stage.SECONDS)[0] and b'.circuitd-' in os.read(watch, 4096), 'no plant has started')
+    os.close(watch)
+    return plant
 
 
 def stop_soon_after_a_start(at):
@@ -332,23 +350,14 @@ def stop_soon_after_a_start(at):
     at.write('offers/stop', b'')
     time.sleep(0.1)
     plant = up(at)
-    time.sleep(0.6)
+    looks_again(at)
     stage.wants(plant.poll() is None and not os.path.exists(at.path('offers/stop')), 'an old stop ends it')
     ends_by_stop(at, plant)
     for _ in range(6):
-        time.sleep(0.05)
-        plant = at.start(RUN)
-        until = time.monotonic() + 0.025
-        while not is_held(at, 'offers') and time.monotonic() < until:
-            pass
-        soon = is_held(at, 'offers')
+        plant = started(at)
         at.write('offers/stop', b'')
-        if not soon and appears(at, 'offers'):
-            # The machine is too slow to tell: the station started later than that.
-            plant.kill()
-            plant.wait()
-            continue
-        stage.wants(plant.wait(10) == 0, f'{plant.returncode}')
+        stage.wants(plant.wait(stage.SECONDS) == 0, f'{plant.returncode}')
+        os.remove(at.path('offers/stop'))
 
 
 def nobodys(at):

@@ -1,6 +1,6 @@
 """How a file leaves the offers of a plant, and where it goes."""
 import os
-import time
+import signal
 
 import plants
 import stage
@@ -17,7 +17,7 @@ def sent(at):
     lay(at, '12.tape', at.read(STORY))
     lies(at, 'offers/sent/12.tape')
     is_released(at, 12)
-    stage.wants(told(at) == ['12 released', '12 sent'], f'{told(at)}')
+    stage.within(lambda: told(at) == ['12 released', '12 sent'], lambda: f'{told(at)}')
 
 
 def late(at):
@@ -57,11 +57,7 @@ def refused(at):
 def come(at, *names):
     """Waits until these files lie there."""
     for name in names:
-        stage.within(60, lambda name=name: os.path.lexists(at.path(name)), f'{name} lies there')
-
-
-# longer than it is from one look at the offers to the next, in seconds
-LOOKS = 1
+        stage.within(lambda name=name: os.path.lexists(at.path(name)), f'{name} lies there')
 
 
 def lay_at_first(at, name, data=b''):
@@ -69,9 +65,15 @@ def lay_at_first(at, name, data=b''):
     plants.lay(at, 1, name, data)
 
 
+def looks_again(at):
+    """Waits until the first of three plants has looked at its offers twice: until it has refused a file that was laid now."""
+    lay_at_first(at, 'look', b'')
+    come(at, 'offers1/refused/look')
+
+
 def began(at, number):
     """The first of three plants has begun a ballot of a number."""
-    stage.within(20, lambda: any(line.startswith(f'{number} began ') for line in told(at, 'log1')), f'{number} is under way: {told(at, "log1")}')
+    stage.within(lambda: any(line.startswith(f'{number} began ') for line in told(at, 'log1')), lambda: f'{number} is under way: {told(at, "log1")}')
 
 
 def search(at, members, numbers):
@@ -88,13 +90,16 @@ def replaced_while_under_way(at):
     plants.bring_up(at, ports, (1,))
     for number in (12, 13, 14):
         lay_at_first(at, f'{number}.tape', at.read(STORY))
+    for number in (12, 13, 14):
         began(at, number)
     lay_at_first(at, '12.tape', at.read(OTHER))
     os.remove(at.path('offers1/13.tape'))
     os.remove(at.path('offers1/14.tape'))
     os.mkdir(at.path('offers1/14.tape'))
-    time.sleep(LOOKS)
+    looks_again(at)
     plants.bring_up(at, ports, (2, 3))
+    if any(' gave-up ' in line for line in told(at, 'log1')):
+        raise stage.Skipped('the ballots were given up before the other plants were up')
     come(at, 'offers1/lost/12.tape', 'releases1/13.galley', 'releases1/14.galley')
     search(at, (2, 3), (12, 13, 14))
     for member in (1, 2, 3):
@@ -118,7 +123,7 @@ def given_up_and_begun_again(at):
     began(at, 13)
     lay_at_first(at, '13.tape', at.read(OTHER))
     for number in (12, 13):
-        stage.within(150, lambda: any(line.startswith(f'{number} gave-up ') for line in told(at, 'log1')), f'{number} is given up')
+        stage.within(lambda: any(line.startswith(f'{number} gave-up ') for line in told(at, 'log1')), f'{number} is given up')
     plants.bring_up(at, ports, (2, 3))
     come(at, 'offers1/sent/12.tape', 'offers1/sent/13.tape')
     search(at, (2, 3), (12, 13))
@@ -129,21 +134,24 @@ def given_up_and_begun_again(at):
     stage.wants('13 replaced while it was under way' in told(at, 'log1'), f'{told(at, "log1")}')
 
 
-# how many searches, and how long a story behind them may take, in seconds: where no vote of a search is awaited they take less than one
+# how many searches
 SEARCHES = 40
-BEHIND = 8
 
 
 def a_story_behind_searches(at):
-    """A story is asked for before searches that find nothing, laid behind them as it is."""
+    """Of all that a look finds a story is asked for first, before searches of lesser numbers that were laid before it."""
     ports = plants.configure(at)
-    plants.bring_up(at, ports, (1, 2, 3))
+    first, *_ = plants.bring_up(at, ports, (1, 2, 3))
+    # The first plant is held, so that one look finds all of it.
+    first.send_signal(signal.SIGSTOP)
     search(at, (1,), range(101, 101 + SEARCHES))
-    time.sleep(LOOKS)
-    lay_at_first(at, '12.tape', at.read(STORY))
-    stage.within(BEHIND, lambda: os.path.lexists(at.path('offers1/sent/12.tape')), '12.tape was sent')
+    lay_at_first(at, '200.tape', at.read(STORY))
+    first.send_signal(signal.SIGCONT)
+    come(at, 'offers1/sent/200.tape')
+    begun = [line.split()[0] for line in told(at, 'log1') if ' began ' in line]
+    stage.wants(begun[0] == '200', f'{begun}')
     for member in (1, 2, 3):
-        come(at, f'releases{member}/12.galley')
+        come(at, f'releases{member}/200.galley')
 
 
 PLAYS = [sent, late, refused, replaced_while_under_way, given_up_and_begun_again, a_story_behind_searches]

@@ -27,7 +27,7 @@ def nothing_is_touched(at):
     at.ends('check-config one.toml', 0, PLACES.format(port=at.port))
     stage.wants(at.seen() == before and os.listdir(at.path('offers')) == names, 'the folder is as it was')
     at.start('run one.toml')
-    stage.within(10, at.serves, 'the station is up')
+    stage.within(at.serves, 'the station is up')
     at.ends('check-config one.toml', 0, PLACES.format(port=at.port))
 
 
@@ -88,19 +88,19 @@ def a_station_is_stopped(at):
     at.plant('one.toml', 'station.db')
     for _ in range(2):
         station = at.start('run one.toml')
-        stage.within(10, at.serves, 'the station is up')
-        stage.within(10, lambda: not os.path.exists(at.path('offers/stop')), 'a file `stop` of before is gone')
+        stage.within(at.serves, 'the station is up')
+        stage.within(lambda: not os.path.exists(at.path('offers/stop')), 'a file `stop` of before is gone')
         at.ends('stop one.toml', 0)
         os.rename(at.path('station.db-wal'), at.path('log'))
         at.ends('rows station.db', 0, stage.HEAD)
-        stage.within(10, lambda: station.poll() == 0, 'it ended well')
+        stage.within(lambda: station.poll() == 0, 'it ended well')
     # One that the station passes over, and one that is no plain file, are replaced.
     station = at.start('run one.toml')
-    stage.within(10, at.serves, 'the station is up')
-    stage.within(10, lambda: not os.path.exists(at.path('offers/stop')), 'a file `stop` of before is gone')
+    stage.within(at.serves, 'the station is up')
+    stage.within(lambda: not os.path.exists(at.path('offers/stop')), 'a file `stop` of before is gone')
     os.mkfifo(at.path('offers/stop'))
     at.ends('stop one.toml', 0)
-    stage.within(10, lambda: station.poll() == 0, 'it ended well')
+    stage.within(lambda: station.poll() == 0, 'it ended well')
     stage.wants(stat.S_ISREG(os.lstat(at.path('offers/stop')).st_mode), 'the file is a plain one')
 
 

@@ -1,5 +1,6 @@
 """Plants that are up together, and what is laid among their offers."""
 import os
+import time
 
 import stage
 
@@ -15,8 +16,9 @@ releases = "releases{member}"
 
 
 STORIES = 300
-# Ballots a number at most. On a machine that is busy with other work a ballot may be begun again.
-BALLOTS = 1.3
+# So many ballots a number are enough where all is released within so many seconds. Where it takes longer, the machine is busy with other work, and
+# in each second more of it as many ballots may be begun again: of the 16 numbers that are under way at each of three plants, thrice.
+BALLOTS, QUICK, AGAIN = 2, 10, 3 * 16 * 3
 
 
 def write_config(at, own, ports):
@@ -44,7 +46,7 @@ def bring_up(at, ports, members, words='--verbose', making='--create --layout 2'
             started.append(at.start(f'run plant{member}.toml {making} {words}', stderr=log))
     for member in members:
         at.port = ports[member - 1]
-        stage.within(10, at.serves, 'each plant is up')
+        stage.within(at.serves, 'each plant is up')
     return started
 
 
@@ -65,9 +67,9 @@ def a_search_beside_its_tape(at):
     lay(at, 2, '12.seek', b'')
     lay(at, 2, '12.tape', at.read('flood.tape'))
     for member in (1, 2, 3):
-        stage.within(20, lambda: at.read(f'releases{member}/12.galley') == stage.GALLEY.encode(), f'plant {member} has the story')
+        stage.within(lambda: at.read(f'releases{member}/12.galley') == stage.GALLEY.encode(), f'plant {member} has the story')
     sent = at.path('offers2/sent')
-    stage.within(10, lambda: os.path.isdir(sent) and sorted(os.listdir(sent)) == ['12.seek', '12.tape'], 'both were sent')
+    stage.within(lambda: os.path.isdir(sent) and sorted(os.listdir(sent)) == ['12.seek', '12.tape'], 'both were sent')
 
 
 def lists_that_differ(at):
@@ -80,20 +82,22 @@ def lists_that_differ(at):
     lay(at, 3, '12.tape', at.read('flood.tape'))
     lay(at, 4, '13.tape', at.read('flood.tape'))
     for line in (b'refused not-for-me\n', b'datagrams that name another sender, last from 127.0.0.1:%d\n' % second):
-        stage.within(10, lambda: line in at.read('log1'), f'{line} is told')
+        stage.within(lambda: line in at.read('log1'), f'{line} is told')
 
 
 def burst(at, members):
     """Stories that are laid at these plants all at once: each plant has all of them, and they took few ballots."""
     three(at)
-    tape = at.read('flood.tape')
+    tape, began = at.read('flood.tape'), time.monotonic()
     for number in range(1, STORIES + 1):
         lay(at, members[number % len(members)], f'{number}.tape', tape)
     wanted = {f'{number}.{kind}' for number in range(1, STORIES + 1) for kind in ('tape', 'galley')}
     for member in (1, 2, 3):
-        stage.within(120, lambda: wanted <= set(os.listdir(at.path(f'releases{member}'))), f'plant {member} has each story')
+        stage.within(lambda: wanted <= set(os.listdir(at.path(f'releases{member}'))), f'plant {member} has each story', 5 * stage.SECONDS)
+    seconds = time.monotonic() - began
     ballots = sum(line.split()[1:2] == [b'began'] for member in (1, 2, 3) for line in at.read(f'log{member}').splitlines())
-    stage.wants(STORIES <= ballots <= BALLOTS * STORIES, f'{ballots} ballots for {STORIES} stories')
+    most = BALLOTS * STORIES + AGAIN * max(0, seconds - QUICK)
+    stage.wants(STORIES <= ballots <= most, f'{ballots} ballots for {STORIES} stories in {seconds} seconds')
 
 
 def a_burst_at_one_plant(at):

@@ -1,6 +1,5 @@
 """What an editor asks for by a range, and what is missing where the folder of releases comes late."""
 import os
-import time
 
 import plants
 import stage
@@ -16,19 +15,19 @@ def a_range_by_hand(at):
         plants.lay(at, 1, f'{number}.tape', story)
     plants.lay(at, 1, '42.withdraw', b'')
     for number in (41, 44):
-        is_released(at, 3, number, 20)
-    stage.within(20, lambda: os.path.exists(at.path('releases3/42.void')), 'plant 3 has 42')
+        is_released(at, 3, number)
+    stage.within(lambda: os.path.exists(at.path('releases3/42.void')), 'plant 3 has 42')
     ends(at, 3, started[2])
     for name in ('41.tape', '41.galley', '42.void', '44.tape', '44.galley'):
         os.remove(at.path(f'releases3/{name}'))
     plants.bring_up(at, ports, (3,), words='', making='')
     plants.lay(at, 3, '41-45.seek', b'')
-    stage.within(30, lambda: at.read('offers3/done/41-45.seek') == b'', f'{os.listdir(at.path("offers3"))}: {told(at, "log3")}')
+    stage.within(lambda: at.read('offers3/done/41-45.seek') == b'', lambda: f'{os.listdir(at.path("offers3"))}: {told(at, "log3")}')
     text = at.read('offers3/done/41-45.seek.txt')
     stage.wants(text == b'41 tape\n42 void\n43 nothing\n44 tape\n45 nothing\n', f'{text}')
     for name in ('41.galley', '44.galley'):
         stage.wants(at.read(f'releases3/{name}') == stage.GALLEY.encode(), name)
-    stage.wants('done 41-45.seek: 2 tapes, 1 void, 2 nothing' in told(at, 'log3'), f'{told(at, "log3")}')
+    stage.within(lambda: 'done 41-45.seek: 2 tapes, 1 void, 2 nothing' in told(at, 'log3'), lambda: f'{told(at, "log3")}')
 
 
 def a_range_without_an_end(at):
@@ -38,14 +37,13 @@ def a_range_without_an_end(at):
     for number in (41, 44):
         plants.lay(at, 1, f'{number}.tape', story)
     for number in (41, 44):
-        is_released(at, 3, number, 20)
+        is_released(at, 3, number)
     ends(at, 3, started[2])
     for name in ('44.tape', '44.galley'):
         os.remove(at.path(f'releases3/{name}'))
     plants.bring_up(at, ports, (3,), words='', making='')
-    time.sleep(2)
     plants.lay(at, 3, '41-.seek', b'')
-    stage.within(30, lambda: at.read('offers3/done/41-.seek') == b'', f'{os.listdir(at.path("offers3"))}: {told(at, "log3")}')
+    stage.within(lambda: at.read('offers3/done/41-.seek') == b'', lambda: f'{os.listdir(at.path("offers3"))}: {told(at, "log3")}')
     text = at.read('offers3/done/41-.seek.txt')
     stage.wants(text == b'41 tape\n42-43 nothing\n44 tape\n', f'{text}')
     stage.wants(at.read('releases3/44.galley') == stage.GALLEY.encode(), '44 is written again')
@@ -56,7 +54,7 @@ def ranges_that_are_none(at):
     plants.three(at)
     for name in ('45-41.seek', '041-45.seek', '041-.seek'):
         plants.lay(at, 1, name, b'')
-        stage.within(10, lambda name=name: at.read(f'offers1/refused/{name}') == b'', f'{name}: {told(at, "log1")}')
+        stage.within(lambda name=name: at.read(f'offers1/refused/{name}') == b'', lambda: f'{name}: {told(at, "log1")}')
         stage.wants(at.read(f'offers1/refused/{name}.txt') == b'no number\n', name)
 
 
@@ -65,10 +63,9 @@ def releases_that_come_late(at):
     ports = was_down(at)
     os.rename(at.path('releases3'), at.path('away'))
     plants.bring_up(at, ports, (3,), words='', making='')
-    time.sleep(1)
-    stage.wants(any('cannot read .released' in line for line in told(at, 'log3')), f'{told(at, "log3")}')
+    stage.within(lambda: any('cannot read .released' in line for line in told(at, 'log3')), lambda: f'{told(at, "log3")}')
     os.rename(at.path('away'), at.path('releases3'))
-    is_released(at, 3, 12, 20)
+    is_released(at, 3, 12)
 
 
 PLAYS = [a_range_by_hand, a_range_without_an_end, ranges_that_are_none, releases_that_come_late]

@@ -1,5 +1,6 @@
 """A vote told again: what a plant answers and asks, what it refuses, and how it heals. Members that are not up are played by this process."""
 import os
+import re
 import threading
 import time
 
@@ -11,16 +12,8 @@ from folders import told
 
 CIRCUIT = 7
 ALL = (1, 2, 3)
-# how long a plant may take to answer, in seconds
-ANSWERS = 5
-# a plant asks for a number once it has known it for 5 seconds, and nothing came for 2
-ASKS = 9
-# within so many seconds a plant has what it missed
-HEALS = 10
 # a refusal is told at most once in so many seconds
 TOLD = 1
-# a story is out within so many seconds, whatever is asked meanwhile
-FLOODED = 3
 
 
 class Voice:
@@ -72,9 +65,13 @@ class Voice:
             heard.append(said)
         return heard
 
+    def packets(self, seconds):
+        """All packets among that: what a plant asks for by itself comes the sooner the slower it is."""
+        return [said for said in self.all(seconds) if isinstance(said, Packet)]
+
     def hears(self, sender, kind, number):
         """The next packet of a member, of a kind and a number."""
-        until = time.monotonic() + ANSWERS
+        until = time.monotonic() + stage.SECONDS
         while (said := self.next(until)) is not None:
             if isinstance(said, Packet) and (said.sender, said.kind, said.number) == (sender, kind, number):
                 return said
@@ -82,7 +79,7 @@ class Voice:
 
     def is_asked(self):
         """The next recall."""
-        until = time.monotonic() + ASKS
+        until = time.monotonic() + stage.SECONDS
         while (said := self.next(until)) is not None:
             if isinstance(said, Recall):
                 return said
@@ -109,19 +106,20 @@ def of_two(ports, *members):
     return [Voice(member, ports) for member in members]
 
 
-def is_released(at, member, number, seconds):
+def is_released(at, member, number):
     """A plant has the story of a number, and has told it."""
     story = at.read('flood.tape')
-    stage.within(seconds, lambda: at.read(f'releases{member}/{number}.galley') == stage.GALLEY.encode(),
-                 f'plant {member} has {number}: {told(at, f"log{member}")}')
+    stage.within(lambda: at.read(f'releases{member}/{number}.galley') == stage.GALLEY.encode(),
+                 lambda: f'plant {member} has {number}: {told(at, f"log{member}")}')
     stage.wants(at.read(f'releases{member}/{number}.tape') == story, f'{number}.tape of plant {member}')
-    stage.within(1, lambda: f'{number} released' in told(at, f'log{member}'), f'{told(at, f"log{member}")}')
+    stage.within(lambda: f'{number} released' in told(at, f'log{member}'), lambda: f'{told(at, f"log{member}")}')
 
 
 def ends(at, member, plant):
-    """A plant ends well."""
+    """A plant ends well, by a file that does not wait for its next start."""
     plants.lay(at, member, 'stop', b'')
-    stage.wants(plant.wait(30) == 0, f'plant {member} ended with {plant.returncode}: {told(at, f"log{member}")}')
+    stage.wants(plant.wait(stage.SECONDS) == 0, f'plant {member} ended with {plant.returncode}: {told(at, f"log{member}")}')
+    os.remove(at.path(f'offers{member}/stop'))
 
 
 def rows(at, member):
@@ -142,11 +140,11 @@ def told_again(at):
         third.hears(1, ACCEPTED, 12)
         held = rows(at, 1)
         second.recall(1, 11, 12, 13)
-        heard = second.all(1)
+        heard = [second.hears(1, ACCEPTED, 12), *second.packets(1)]
         stage.wants(heard == [vote], f'{heard}')
-        stage.wants(third.all(0.1) == [], 'the third member was told too')
+        stage.wants(third.packets(0.1) == [], 'the third member was told too')
         third.recall(1, 12)
-        heard = third.all(1)
+        heard = [third.hears(1, ACCEPTED, 12), *third.packets(1)]
         stage.wants(heard == [vote._replace(to=3)], f'{heard}')
         stage.wants(rows(at, 1) == held, 'a row was saved')
 
@@ -184,7 +182,7 @@ def refused(at):
         for member in ALL:
             fourth.has_voted(member, 12, story)
         for member in ALL:
-            is_released(at, member, 12, ANSWERS)
+            is_released(at, member, 12)
         held = {member: rows(at, member) for member in ALL}
         fourth.all(0.2)
         # A plant each has the first, the second and the third third of them, so that it takes a third of the time.
@@ -193,12 +191,18 @@ def refused(at):
             for member in ALL:
                 for name, data in refusals(4, member, member % 3 + 1)[place + rounds * (member - 1):][:1]:
                     fourth.say(member, data)
-                    stage.within(ANSWERS, lambda member=member, name=name: f'recall: refused {name}, 1 since the last' in told(at, f'log{member}'),
-                                 f'plant {member} tells {name}: {told(at, f"log{member}")}')
+                    stage.within(lambda member=member, name=name: f'recall: refused {name}, 1 since the last' in told(at, f'log{member}'),
+                                 lambda member=member, name=name: f'plant {member} tells {name}: {told(at, f"log{member}")}')
             time.sleep(TOLD + 0.1)
-        stage.wants(fourth.all(0.1) == [], 'a recall that was refused is answered')
+        stage.wants(fourth.packets(0.1) == [], 'a recall that was refused is answered')
     for member in ALL:
         stage.wants(rows(at, member) == held[member], f'plant {member} has saved a row')
+
+
+def refusals_told(at):
+    """The lines by which plant 1 tells of recalls that it refused: the word of the last of them, and how many they were."""
+    found = [re.fullmatch(r'recall: refused (\S+), (\d+) since the last', line) for line in told(at, 'log1')]
+    return [(line[1], int(line[2])) for line in found if line]
 
 
 def counted(at):
@@ -206,13 +210,16 @@ def counted(at):
     ports = plants.configure(at)
     plants.bring_up(at, ports, (1,))
     with Voice(2, ports) as second:
+        began = time.monotonic()
         for _ in range(5):
             second.say(1, datagrams.spell_recall(Recall(CIRCUIT + 1, 2, 1, 0, (12,))))
-        stage.within(ANSWERS, lambda: told(at, 'log1') == ['recall: refused wrong-circuit, 1 since the last'], f'{told(at, "log1")}')
+        stage.within(lambda: refusals_told(at), 'the first is told')
         time.sleep(TOLD + 0.2)
         second.say(1, datagrams.spell_recall(Recall(CIRCUIT, 2, 3, 0, (12,))))
-        wanted = ['recall: refused wrong-circuit, 1 since the last', 'recall: refused not-for-me, 5 since the last']
-        stage.within(ANSWERS, lambda: told(at, 'log1') == wanted, f'{told(at, "log1")}')
+        stage.within(lambda: sum(count for _, count in refusals_told(at)) == 6, lambda: f'each is counted: {told(at, "log1")}')
+        lines, seconds = refusals_told(at), time.monotonic() - began
+        stage.wants(lines[0] == ('wrong-circuit', 1) and lines[-1][0] == 'not-for-me', f'{lines}')
+        stage.wants(len(lines) <= 1 + seconds / TOLD, f'{lines} in {seconds} seconds')
 
 
 def a_vote_was_lost(at):
@@ -229,7 +236,7 @@ def a_vote_was_lost(at):
         stage.wants(time.monotonic() - began > 4.9, 'it asked before it had known the number for 5 seconds')
         stage.wants(at.read('releases3/12.galley') is None, 'its own vote alone was released')
         first.votes(3, 12, (1, 1), story)
-        is_released(at, 3, 12, HEALS - 5)
+        is_released(at, 3, 12)
 
 
 def was_down(at):
@@ -242,7 +249,7 @@ def was_down(at):
     plants.bring_up(at, ports, (1, 2))
     plants.lay(at, 1, '12.tape', story)
     for member in (1, 2):
-        is_released(at, member, 12, ANSWERS)
+        is_released(at, member, 12)
     return ports
 
 
@@ -250,7 +257,7 @@ def heals(at):
     """A plant that was down while a number was released, and has a row of it, has the story soon after its start; nothing asks for it."""
     ports = was_down(at)
     plants.bring_up(at, ports, (3,), making='')
-    is_released(at, 3, 12, HEALS)
+    is_released(at, 3, 12)
     stage.wants(os.listdir(at.path('offers3')) in ([], ['.circuitd']), f'{os.listdir(at.path("offers3"))}')
 
 
@@ -266,7 +273,7 @@ def with_votes(at, ports, numbers):
 def tells_at_its_start(at, ports, *lines):
     """A plant that starts over its rows tells this and no more, and ends."""
     plant, = plants.bring_up(at, ports, (1,), making='')
-    stage.within(ANSWERS, lambda: len(told(at, 'log1')) >= len(lines), f'{told(at, "log1")} are {lines}')
+    stage.within(lambda: len(told(at, 'log1')) >= len(lines), lambda: f'{told(at, "log1")} are {lines}')
     time.sleep(0.5)
     stage.wants(told(at, 'log1') == [*lines], f'{told(at, "log1")} and not {lines}')
     ends(at, 1, plant)
@@ -286,7 +293,7 @@ def asks_for_64_at_a_time(at):
         stage.wants(asked[0] == (*range(1, 65),), f'{asked[0]}')
         stage.wants(set(sum(asked, ())) == set(numbers), f'{asked}')
         wanted = {f'{number}.galley' for number in numbers}
-        stage.within(HEALS, lambda: wanted <= set(os.listdir(at.path('releases1'))), 'the plant has each story')
+        stage.within(lambda: wanted <= set(os.listdir(at.path('releases1'))), 'the plant has each story')
 
 
 def forgets(at):
@@ -333,15 +340,15 @@ def asks_for_no_release(at):
         for number in (12, 13):
             second.has_voted(1, number, story)
         second.votes(1, 12, (1, 2), story)
-        is_released(at, 1, 12, ANSWERS)
+        is_released(at, 1, 12)
         ends(at, 1, plant)
         stage.wants(what_went_out(at) == [12], f'{what_went_out(at)}')
         second.all(0.1)
         plants.bring_up(at, ports, (1,), making='')
-        until, asked = time.monotonic() + 8, []
-        while (said := second.next(until)) is not None:
+        asked = [*second.is_asked().numbers]
+        for said in second.all(3):
             asked += said.numbers if isinstance(said, Recall) else (said.number,)
-        stage.wants(asked and set(asked) == {13}, f'{asked}')
+        stage.wants(set(asked) == {13}, f'{asked}')
         stage.wants('12 released' not in told(at, 'log1'), f'{told(at, "log1")}')
 
 
@@ -354,7 +361,7 @@ def a_record_cut_short(at):
         for number in (12, 13):
             second.has_voted(1, number, story)
         second.votes(1, 12, (1, 2), story)
-        is_released(at, 1, 12, ANSWERS)
+        is_released(at, 1, 12)
         ends(at, 1, plant)
         with open(at.path('releases1/.released'), 'ab') as file:
             file.write(b'\0\0\0\x0d\xff')
@@ -362,7 +369,7 @@ def a_record_cut_short(at):
         second.votes(1, 13, (1, 2), story)
         second.is_asked()
         second.votes(1, 13, (1, 2), story)
-        is_released(at, 1, 13, ANSWERS)
+        is_released(at, 1, 13)
         ends(at, 1, plant)
     stage.wants(what_went_out(at) == [12, 13], f'{what_went_out(at)}')
 
@@ -375,7 +382,7 @@ def of_another_circuit(at):
     at.write('releases1/.released', other)
     plant, = plants.bring_up(at, ports, (1,), making='')
     lines = ['folders: releases has .released of another station, which was set aside', '1 may be missing from before: 12.seek']
-    stage.within(ANSWERS, lambda: sorted(told(at, 'log1')) == sorted(lines), f'{told(at, "log1")}')
+    stage.within(lambda: sorted(told(at, 'log1')) == sorted(lines), lambda: f'{told(at, "log1")}')
     stage.wants(what_went_out(at) == [12], f'{what_went_out(at)}')
     aside = [name for name in os.listdir(at.path('releases1')) if at.read(f'releases1/{name}') == other]
     stage.wants(len(aside) == 1, f'{os.listdir(at.path("releases1"))}')
@@ -391,7 +398,7 @@ def send_on(third, over):
 
 
 def a_flood_of_recalls(at):
-    """Recalls as fast as a member can send them keep no story waiting."""
+    """Recalls as fast as a member can send them keep no story waiting: each comes out while they go on."""
     ports = plants.configure(at)
     plants.bring_up(at, ports, (1, 2))
     over = threading.Event()
@@ -402,7 +409,7 @@ def a_flood_of_recalls(at):
             for number in range(101, 106):
                 plants.lay(at, 1, f'{number}.tape', at.read('flood.tape'))
                 for member in (1, 2):
-                    is_released(at, member, number, FLOODED)
+                    is_released(at, member, number)
         finally:
             over.set()
             flood.join()

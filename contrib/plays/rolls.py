@@ -6,12 +6,14 @@ import plants
 import stage
 from datagrams import COUNTS, COUNTS_ASKED, PAGE, PAGE_ASKED, Roll
 from folders import told
-from recalls import ANSWERS, CIRCUIT, TOLD, Voice, changed, ends, forgets, is_released, of_two, rows, tells_at_its_start
+from recalls import CIRCUIT, TOLD, Voice, changed, ends, forgets, is_released, of_two, rows, tells_at_its_start
 
-# how many stories a plant misses, and within how many seconds of its start it has them
-MISSED, SOON = 30, 6
+# how many stories a plant misses
+MISSED = 30
 # a member is answered so often in a second at most
 ANSWERS_A_SECOND = 8
+# longer than it takes until a plant that asks has asked for what it lacks, in seconds
+ASKS = 9
 
 
 class Roller(Voice):
@@ -23,22 +25,29 @@ class Roller(Voice):
 
     def hears_roll(self, kind, nonce=None):
         """The next roll of a kind, and of a number of the asker's where one is given."""
-        until = time.monotonic() + ANSWERS
+        until = time.monotonic() + stage.SECONDS
         while (said := self.next(until, rolls=True)) is not None:
             if isinstance(said, Roll) and said.kind == kind and nonce in (None, said.nonce):
                 return said
         raise stage.Wrong(f'member {self.member} heard no roll of kind {kind}')
 
-    def answers(self, to, counts, pages, seconds):
-        """Answers what is asked by rolls for so many seconds: these counts by page, and the numbers of these pages."""
+    def answers(self, to, pages, seconds):
+        """Answers what is asked by rolls for so many seconds: how many numbers these pages have, and which; the pages that were asked for."""
         until, asked = time.monotonic() + seconds, []
         while (said := self.next(until, rolls=True)) is not None:
             if isinstance(said, Roll) and said.kind == COUNTS_ASKED:
-                self.roll(to, COUNTS, said.nonce, told=tuple(counts.get(page, 0) for page in range(datagrams.PAGES)))
+                self.roll(to, COUNTS, said.nonce, told=tuple(len(pages.get(page, ())) for page in range(datagrams.PAGES)))
             elif isinstance(said, Roll) and said.kind == PAGE_ASKED:
                 asked.append(said.page)
                 self.roll(to, PAGE, said.nonce, said.page, pages.get(said.page, ()))
         return asked
+
+    def answers_all(self, to, pages):
+        """The same until each of these pages was asked for, and a second longer."""
+        until, asked = time.monotonic() + stage.SECONDS, []
+        while not set(pages) <= set(asked) and time.monotonic() < until:
+            asked += self.answers(to, pages, 0.1)
+        return asked + self.answers(to, pages, 1)
 
 
 def absent(at):
@@ -51,12 +60,12 @@ def absent(at):
         plants.lay(at, 1, f'{number}.tape', story)
     for member in (1, 2):
         for number in range(1, MISSED + 1):
-            is_released(at, member, number, 20)
+            is_released(at, member, number)
     held = {member: rows(at, member) for member in (1, 2)}
     plants.bring_up(at, ports, (3,), words='', making='')
     for number in range(1, MISSED + 1):
-        is_released(at, 3, number, SOON)
-    stage.within(5, lambda: f'caught up: {MISSED} released, 0 nothing' in told(at, 'log3'), f'{told(at, "log3")}')
+        is_released(at, 3, number)
+    stage.within(lambda: f'caught up: {MISSED} released, 0 nothing' in told(at, 'log3'), lambda: f'{told(at, "log3")}')
     stage.wants(f'1-{MISSED} missed, asked for' in told(at, 'log3'), f'{told(at, "log3")}')
     for member in (1, 2):
         stage.wants(rows(at, member) == held[member], f'plant {member} has saved a row')
@@ -91,7 +100,7 @@ def what_it_asks(at):
         for voice in (second, third):
             asked = voice.hears_roll(COUNTS_ASKED)
             stage.wants((asked.sender, asked.to) == (1, voice.member), f'{asked}')
-        asked = second.answers(1, {2: 1, 5: 1}, {2: (2 * 8192,), 5: (5 * 8192 + 3,)}, 4)
+        asked = second.answers_all(1, {2: (2 * 8192,), 5: (5 * 8192 + 3,)})
         stage.wants(asked == [2, 5], f'{asked}')
         recalled = third.is_asked().numbers
         while recalled[-1] < 5 * 8192:
@@ -105,11 +114,11 @@ def heals_what_a_page_tells(at):
     second, third = Roller(2, ports), Roller(3, ports)
     with second, third:
         plants.bring_up(at, ports, (1,))
-        second.answers(1, {0: 1}, {0: (12,)}, 2)
+        second.answers_all(1, {0: (12,)})
         stage.wants(third.is_asked().numbers == (12,), 'the third member is asked')
         for voice in (second, third):
             voice.votes(1, 12, (1, 2), story)
-        is_released(at, 1, 12, ANSWERS)
+        is_released(at, 1, 12)
 
 
 def refusals(sender, to, other):
@@ -145,8 +154,8 @@ def refused(at):
         for name, data in refusals(2, 1, 3):
             before = told(at, 'log1').count(f'roll: refused {name}, 1 since the last')
             second.say(1, data)
-            stage.within(ANSWERS, lambda name=name, before=before: told(at, 'log1').count(f'roll: refused {name}, 1 since the last') > before,
-                         f'{name}: {told(at, "log1")}')
+            stage.within(lambda name=name, before=before: told(at, 'log1').count(f'roll: refused {name}, 1 since the last') > before,
+                         lambda name=name: f'{name}: {told(at, "log1")}')
             time.sleep(TOLD + 0.1)
         stage.wants(rows(at, 1) == held, 'a row was saved')
 
@@ -157,12 +166,13 @@ def eight_a_second(at):
     plants.bring_up(at, ports, (1,))
     with Roller(2, ports) as second:
         second.hears_roll(COUNTS_ASKED)
-        until, heard = time.monotonic() + 3, 0
-        while time.monotonic() < until:
+        began, heard = time.monotonic(), 0
+        while (seconds := time.monotonic() - began) < 3 or heard < ANSWERS_A_SECOND and seconds < stage.SECONDS:
             second.roll(1, COUNTS_ASKED, 5)
             said = second.next(time.monotonic() + 0.01, rolls=True)
             heard += isinstance(said, Roll) and said.kind == COUNTS
-        stage.wants(ANSWERS_A_SECOND <= heard <= 4 * ANSWERS_A_SECOND, f'{heard} answers in 3 seconds')
+        seconds = time.monotonic() - began
+        stage.wants(ANSWERS_A_SECOND <= heard <= (1 + seconds) * ANSWERS_A_SECOND, f'{heard} answers in {seconds} seconds')
 
 
 def off(at):
@@ -177,7 +187,7 @@ def off(at):
         second.has_voted(1, 12, story)
         second.roll(1, COUNTS_ASKED, 9)
         stage.wants(second.hears_roll(COUNTS, 9).told[0] == 1, 'it tells its votes')
-        until, heard = time.monotonic() + 9, []
+        until, heard = time.monotonic() + ASKS, []
         while (said := third.next(until)) is not None:
             heard.append(said)
         stage.wants(not any(isinstance(said, datagrams.Recall) for said in heard), f'{heard}')
@@ -191,12 +201,11 @@ def only_once_a_new_voter(at):
     ports, story = plants.configure(at), at.read('flood.tape')
     plants.bring_up(at, ports, (1, 3))
     with Roller(2, ports) as second:
-        second.answers(1, {0: 1}, {0: (12,)}, 9)
-        nothing = lambda: sum(line.split()[:2] == ['12', 'nothing'] or 'nothing' in line and line.startswith('caught up') for line in told(at, 'log1'))
-        stage.within(15, lambda: nothing() >= 1, f'{told(at, "log1")}')
-        found = nothing()
-        second.answers(1, {0: 1}, {0: (12,)}, 12)
-        stage.wants(nothing() == found, f'{told(at, "log1")}')
+        second.answers_all(1, {0: (12,)})
+        nothing = lambda: [line.split()[0] for line in told(at, 'log1') if 'nothing' in line]
+        stage.within(lambda: nothing() == ['caught'], lambda: f'{told(at, "log1")}')
+        second.answers(1, {0: (12,)}, 12)
+        stage.wants(nothing() == ['caught'], f'{told(at, "log1")}')
 
 
 def missing_from_before(at):
@@ -208,8 +217,8 @@ def missing_from_before(at):
         ends(at, 1, plant)
         forgets(at)
         plant, = plants.bring_up(at, ports, (1,), words='', making='')
-        second.answers(1, {0: 21}, {0: (*range(41, 61), 97)}, 3)
-        stage.within(ANSWERS, lambda: '21 may be missing from before: 41-60.seek, 97.seek' in told(at, 'log1'), f'{told(at, "log1")}')
+        second.answers_all(1, {0: (*range(41, 61), 97)})
+        stage.within(lambda: '21 may be missing from before: 41-60.seek, 97.seek' in told(at, 'log1'), lambda: f'{told(at, "log1")}')
         stage.wants(not any('missed, asked for' in line for line in told(at, 'log1')), f'{told(at, "log1")}')
         ends(at, 1, plant)
     tells_at_its_start(at, ports)

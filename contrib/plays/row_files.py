@@ -1,4 +1,5 @@
 """What becomes of a row file, over real files: each of them beside each log, under each command."""
+import contextlib
 import fcntl
 import os
 import signal
@@ -47,7 +48,7 @@ def killed_in_life(at, number, tape, config='one.toml'):
     with open(at.path('printed'), 'wb') as printed:
         serving = at.start(f'serve {config} --turns 1000000 --number {number} --tape {tape}', stdout=printed)
     released = f'release {number} '.encode()
-    stage.within(10, lambda: at.read('printed').startswith(released) and at.read('printed').endswith(b'\n'), f'{number} is released')
+    stage.within(lambda: at.read('printed').startswith(released) and at.read('printed').endswith(b'\n'), f'{number} is released')
     serving.send_signal(signal.SIGKILL)
     serving.wait()
 
@@ -215,7 +216,7 @@ def starts_at_once(at):
                 words = f'serve one.toml --turns 1 --number {number} --tape flood.tape'
                 starts.append((number, at.start(words, stdout=printed, stderr=told)))
         for number, start in starts:
-            status, told = start.wait(30), at.read(f'told{number}').decode()
+            status, told = start.wait(stage.SECONDS), at.read(f'told{number}').decode()
             stage.wants((status, told) in ((0, ''), (3, HELD), (4, 'socket: cannot bind\n')), f'{number} ended with {status}, {told!r}')
             if at.read(f'printed{number}').startswith(b'release '):
                 released.add(number)
@@ -325,51 +326,78 @@ def permission_refused(at):
     os.chmod(at.path('shut'), 0o755)
 
 
-def a_making_under_way(at):
-    """A making waits for another in its folder, and then says so."""
+# how long a making waits for another, in seconds
+WAITS = 5
+
+
+@contextlib.contextmanager
+def locked(at):
+    """Holds the lock that a making in the folder takes."""
     folder = os.open(at.folder, os.O_RDONLY)
     try:
         fcntl.flock(folder, fcntl.LOCK_EX)
-        at.ends(CREATE, 3, '', BEING_MADE)
-        waiting = at.start(CREATE)
-        time.sleep(0.3)
-        stage.wants(waiting.poll() is None, 'it does not wait')
+        yield
     finally:
         os.close(folder)
-    stage.wants(waiting.wait(10) == 0, 'it is not made once the other one has ended')
+
+
+def a_making_under_way(at):
+    """A making waits for another in its folder, and then says so."""
+    with locked(at):
+        at.ends(CREATE, 3, '', BEING_MADE)
+    ends = []
+    while ends.count(3) < 5 and 0 not in ends:
+        with locked(at):
+            began = time.monotonic()
+            waiting = at.start(CREATE)
+            time.sleep(0.3)
+            stage.wants(waiting.poll() is None or time.monotonic() - began > WAITS, 'it does not wait')
+        # It ends with 3 where this process was kept from letting the lock go in time.
+        ends.append(waiting.wait(stage.SECONDS))
+    stage.wants(ends[-1] == 0, f'it is not made once the other one has ended: {ends}')
     at.ends(ROWS, 0, HEAD)
 
 
 def makings_at_once(at):
-    """Of several makings at once one makes the file; those of other files in the folder go through."""
+    """Of several makings at once one makes the file; those of other files in the folder go through, unless they had to wait too long."""
     at.configure('two.toml', 'two.db')
-    makings = [at.start(words) for words in (CREATE, CREATE, FIRST, 'create two.toml', CREATE)]
-    ends = [making.wait(20) for making in makings]
-    stage.wants(ends[3] == 0 and sorted(ends[:3] + ends[4:]) == [0, 3, 3, 3], f'they ended with {ends}')
+    with open(at.path('told'), 'wb') as err:
+        makings = [at.start(words, stderr=err) for words in (CREATE, CREATE, FIRST, CREATE, 'create two.toml')]
+        ends = [making.wait(stage.SECONDS) for making in makings]
+    stage.wants(sorted(ends[:4]) == [0, 3, 3, 3], f'they ended with {ends}')
+    if ends[4] != 0:
+        stage.wants(ends[4] == 3 and BEING_MADE in at.read('told').decode(), f'{ends}: {at.read("told")}')
+        at.ends('create two.toml', 0, 'made two.db: station 1 of 1 circuit 7 layout 2\n')
     at.ends('rows two.db', 0, HEAD)
     at.ends(ROWS, 0, HEAD)
     stage.wants(not [name for name in os.listdir(at.folder) if 'making' in name], 'something was left')
 
 
+def is_cut(at, seconds):
+    """Whether a making that is killed after so many seconds came to no end. Where it was made it is whole, and the next start of its kind goes
+    through."""
+    lay(at, None, None)
+    making = at.start(CREATE)
+    time.sleep(seconds)
+    making.kill()
+    status = making.wait()
+    if at.read('station1.db') is None:
+        at.ends(PLAIN, 3, '', MISSING)
+        at.ends(CREATE, 0, NEW)
+    at.ends(PLAIN, 0)
+    at.ends(ROWS, 0, HEAD)
+    stage.wants(not [name for name in os.listdir(at.folder) if 'making' in name], 'something was left')
+    return status != 0
+
+
 def killed_makings(at):
-    """A making that is killed leaves nothing at the path, or all of the file; the next start of its kind goes through."""
+    """A making that is killed leaves nothing at the path, or all of the file."""
     began = time.monotonic()
     at.ends(CREATE, 0, NEW)
     span = time.monotonic() - began
-    cut = 0
-    for moment in range(20):
-        lay(at, None, None)
-        making = at.start(CREATE)
-        time.sleep(moment * span / 16)
-        making.kill()
-        cut += making.wait() != 0
-        if at.read('station1.db') is None:
-            at.ends(PLAIN, 3, '', MISSING)
-            at.ends(CREATE, 0, NEW)
-        at.ends(PLAIN, 0)
-        at.ends(ROWS, 0, HEAD)
-        stage.wants(not [name for name in os.listdir(at.folder) if 'making' in name], 'something was left')
-    stage.wants(cut > 0, 'none was killed before its end')
+    cuts = [is_cut(at, moment * span / 16) for moment in range(20)]
+    # A making that is killed at once hardly comes to its end.
+    stage.wants(any(cuts) or any(is_cut(at, 0) for _ in range(20)), 'none was killed before its end')
 
 
 def a_file_of_two_names(at):

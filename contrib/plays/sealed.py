@@ -12,7 +12,7 @@ import seals
 import stage
 from datagrams import ACCEPT, ACCEPTED, COUNTS, COUNTS_ASKED, PREPARE, Packet, Recall, Roll
 from folders import told
-from recalls import ALL, ANSWERS, CIRCUIT, Voice, ends, is_released, of_two, rows
+from recalls import ALL, CIRCUIT, Voice, ends, is_released, of_two, rows
 
 UNSEALED, OTHER_KEY = 'that are not sealed', 'with another key or configuration'
 ELSEWHERE, NO_PART = 'that come from elsewhere than their sender listens', 'that are no part of a packet'
@@ -74,7 +74,7 @@ def configure(at, keys):
 def tells(at, member, text, port):
     """A plant tells of datagrams that it passed over, why, and where they came from."""
     line = re.compile(rf'socket: \d+ datagrams {text}, last from 127\.0\.0\.1:{port}')
-    stage.within(ANSWERS, lambda: any(map(line.fullmatch, told(at, f'log{member}'))), f'plant {member} tells {line.pattern}: {told(at, f"log{member}")}')
+    stage.within(lambda: any(map(line.fullmatch, told(at, f'log{member}'))), lambda: f'plant {member} tells {line.pattern}: {told(at, f"log{member}")}')
 
 
 def passed_over(at, member, text):
@@ -108,8 +108,8 @@ def agree(at):
     plants.lay(at, 1, '12.tape', at.read('flood.tape'))
     plants.lay(at, 2, '13.tape', longest)
     for member in ALL:
-        is_released(at, member, 12, ANSWERS)
-        stage.within(20, lambda: at.read(f'releases{member}/13.galley') is not None, f'plant {member} has 13: {told(at, f"log{member}")}')
+        is_released(at, member, 12)
+        stage.within(lambda: at.read(f'releases{member}/13.galley') is not None, lambda: f'plant {member} has 13: {told(at, f"log{member}")}')
         stage.wants(at.read(f'releases{member}/13.tape') == longest, f'13.tape of plant {member}')
         tells_nothing_else(at, member)
 
@@ -184,7 +184,7 @@ def forged(at):
         stage.wants(rows(at, 1) == held, 'a row was saved')
     plants.lay(at, 1, '12.tape', at.read('flood.tape'))
     for member in (1, 3):
-        is_released(at, member, 12, ANSWERS)
+        is_released(at, member, 12)
 
 
 def rotation(at):
@@ -199,7 +199,7 @@ def rotation(at):
             up[member], = plants.bring_up(at, ports, (member,), making='')
             plants.lay(at, member, f'{number}.tape', story)
             for each in ALL:
-                is_released(at, each, number, ANSWERS)
+                is_released(at, each, number)
             number += 1
     for member in ALL:
         tells_nothing_else(at, member)
@@ -220,13 +220,13 @@ def another_sender(at):
     second, third = of_two(ports, 2, 3)
     with second, third:
         second.has_voted(1, 13, at.read('flood.tape'))
-        third.all(0.5)
+        third.hears(1, ACCEPTED, 13)
         held = rows(at, 1)
         second.say(1, datagrams.spell(Packet(PREPARE, CIRCUIT, 3, 1, 12, (1, 3))))
         second.say(1, datagrams.spell_recall(Recall(CIRCUIT, 3, 1, 0, (13,))))
         second.say(1, datagrams.spell_roll(Roll(COUNTS_ASKED, CIRCUIT, 3, 1, 0)))
         tells(at, 1, OTHER_SENDER, ports[1])
-        stage.within(ANSWERS, lambda: passed_over(at, 1, OTHER_SENDER) == 3, f'each is told: {told(at, "log1")}')
+        stage.within(lambda: passed_over(at, 1, OTHER_SENDER) == 3, lambda: f'each is told: {told(at, "log1")}')
         stage.wants(answers(second) == answers(third) == [], 'one is answered')
         stage.wants(rows(at, 1) == held, 'a row was saved')
 
@@ -242,8 +242,11 @@ def its_own_address(at):
     # the host adds to the head of IP its length and sum; a datagram needs none
     packet = struct.pack('>BBHIBBH', 0x45, 0, 0, 0, 64, socket.IPPROTO_UDP, 0) + 2 * local
     packet += struct.pack('>4H', ports[0], ports[0], 8 + len(data), 0) + data
-    with socket.socket(socket.AF_INET, socket.SOCK_RAW, socket.IPPROTO_RAW) as raw:
-        raw.sendto(packet, ('127.0.0.1', 0))
+    try:
+        with socket.socket(socket.AF_INET, socket.SOCK_RAW, socket.IPPROTO_RAW) as raw:
+            raw.sendto(packet, ('127.0.0.1', 0))
+    except PermissionError:
+        raise stage.Skipped('this root may send no such packet') from None
     tells(at, 1, OWN, ports[0])
     stage.wants(rows(at, 1) == held, 'a row was saved')
 

@@ -10,7 +10,8 @@ import time
 TOP = os.path.dirname(os.path.dirname(os.path.dirname(os.path.abspath(__file__))))
 EXAMPLES = os.path.join(TOP, 'examples')
 FILES = ('codes.toml', 'widths.toml', 'flood.tape', 'harvest.tape', 'overset.tape', 'story.script')
-SECONDS = 60
+# How long it is waited for what has to come, in seconds: on a machine that is busy with other work too.
+SECONDS = 120
 
 # a circuit of one station
 STATION = """circuit = 7
@@ -45,6 +46,10 @@ MADE = REFUSED + 'it was made already: start without --create\n'
 NO_DATABASE = REFUSED + 'it is no database, or damaged, or without its log\n'
 NOT_OPENED = REFUSED + "it can't be opened\n"
 IN_USE = REFUSED + 'another process has it open\n'
+
+
+# what holds the ports of a play
+PORTS = []
 
 
 class Wrong(Exception):
@@ -136,11 +141,13 @@ class Stage:
             return any(line.split()[1].endswith(f':{self.port:04X}') for line in list(sockets)[1:])
 
     def close(self):
-        """Ends what the play has started and left."""
+        """Ends what the play has started and left, and lets go of its ports."""
         for process in self.started:
             if process.poll() is None:
                 process.send_signal(signal.SIGKILL)
             process.wait()
+        while PORTS:
+            PORTS.pop().close()
 
 
 def decoded(data):
@@ -154,23 +161,28 @@ def udp():
 
 
 def free_port():
-    """A port that nobody has: one below those that a system hands out by itself, since other plays go on beside this one."""
+    """A port that nobody has: one below those that a system hands out by itself. No other play gets it until this one ends, whoever listens
+    there meanwhile: its namesake for streams is held."""
     while True:
-        port = random.randrange(10_000, 32_000)
+        port, held = random.randrange(10_000, 32_000), socket.socket(socket.AF_INET, socket.SOCK_STREAM)
         with udp() as probe:
             try:
+                held.bind(('127.0.0.1', port))
                 probe.bind(('127.0.0.1', port))
+                PORTS.append(held)
                 return port
             except OSError:
-                pass
+                held.close()
 
 
-def within(seconds, holds, what):
-    """Waits until something holds."""
-    until = time.monotonic() + seconds
+def within(holds, what, seconds=SECONDS):
+    """Waits until something holds. Where the time is over it is looked at once more, since this process may have been kept waiting too. What is
+    told then may be a function, whose text shows how things stand by then."""
+    until, is_over = time.monotonic() + seconds, False
     while not holds():
-        if time.monotonic() > until:
-            raise Wrong(f'not within {seconds} seconds: {what}')
+        if is_over:
+            raise Wrong(f'not within {seconds} seconds: {what() if callable(what) else what}')
+        is_over = time.monotonic() > until
         time.sleep(0.01)
 
 

@@ -30,11 +30,11 @@ def up(at, log='log', words='run plant.toml'):
     """The plant is up."""
     with open(at.path(log), 'ab') as err:
         plant = at.start(words, stderr=err)
-    stage.within(30, at.serves, 'the plant is up')
+    stage.within(at.serves, 'the plant is up')
     return plant
 
 
-def holds(at, pattern, seconds=15):
+def holds(at, pattern):
     """The status file comes to match this; what it matched."""
     found = []
 
@@ -42,8 +42,14 @@ def holds(at, pattern, seconds=15):
         found[:] = [re.fullmatch(pattern, (at.read('status.txt') or b'').decode())]
         return found[0] is not None
 
-    stage.within(seconds, matches, f'{pattern}: {at.read("status.txt")}')
+    stage.within(matches, lambda: f'{pattern}: {at.read("status.txt")}')
     return found[0]
+
+
+def stops(at, plant):
+    """The command `stop` ends the plant well."""
+    at.ends('stop plant.toml', 0)
+    stage.wants(plant.wait(stage.SECONDS) == 0, 'it ended well')
 
 
 def first_line(at):
@@ -51,18 +57,18 @@ def first_line(at):
     with_status(at)
     plant = up(at)
     line = f'station 1 of 1 circuit 7 layout 2 at 127.0.0.1:{at.port}, no number saved\n'
-    stage.within(10, lambda: at.read('log').decode() == line, f'{at.read("log")}')
+    stage.within(lambda: at.read('log').decode() == line, lambda: f'{at.read("log")}')
     lay(at, '12.tape', at.read('flood.tape'))
-    stage.within(30, lambda: '12 released' in told(at), f'{told(at)}')
-    at.ends('stop plant.toml', 0)
-    stage.wants(plant.wait(30) == 0, 'it ended well')
-    up(at, 'later')
+    stage.within(lambda: '12 released' in told(at), lambda: f'{told(at)}')
+    stops(at, plant)
+    plant = up(at, 'later')
     line = f'station 1 of 1 circuit 7 layout 2 at 127.0.0.1:{at.port}, 1 numbers saved, the greatest 12\n'
-    stage.within(10, lambda: at.read('later').decode() == line, f'{at.read("later")}')
-    at.ends('stop plant.toml', 0)
-    up(at, 'quiet', 'run plant.toml --quiet')
+    stage.within(lambda: at.read('later').decode() == line, lambda: f'{at.read("later")}')
+    stops(at, plant)
+    os.remove(at.path('status.txt'))
+    plant = up(at, 'quiet', 'run plant.toml --quiet')
     holds(at, ALONE)
-    at.ends('stop plant.toml', 0)
+    stops(at, plant)
     stage.wants(at.read('quiet') == b'', f'{at.read("quiet")}')
 
 
@@ -74,11 +80,11 @@ def file_of_a_plant(at):
     lay(at, '12.tape', at.read('flood.tape'))
     lay(at, '13.tape', b'\xff\xff')
     lay(at, 'note', b'')
-    stage.within(20, lambda: holds(at, ALONE)['released'] == '1, the greatest 12' and holds(at, ALONE)['refused'] == '2', f'{at.read("status.txt")}')
+    stage.within(lambda: holds(at, ALONE)['released'] == '1, the greatest 12' and holds(at, ALONE)['refused'] == '2', lambda: f'{at.read("status.txt")}')
     until = time.monotonic() + 3
     while time.monotonic() < until:
         stage.wants(re.fullmatch(ALONE, at.read('status.txt').decode()), f'{at.read("status.txt")}')
-    stage.within(5, lambda: not os.path.exists(at.path('status.txt.next')), 'nothing is left beside it')
+    stage.within(lambda: not os.path.exists(at.path('status.txt.next')), 'nothing is left beside it')
     stage.wants(not [name for name in os.listdir(at.path('offers')) if 'status' in name], f'{os.listdir(at.path("offers"))}')
 
 
@@ -97,8 +103,7 @@ def well_and_not(at):
     stage.wants(found['members'] == [] and found['under_way'] == [] and found['missing'] is None, f'{found}')
     stage.wants(found['counts'] == {'released': 0, 'greatest': 0, 'waiting': 0, 'lost': 0, 'refused': 0, 'unwritten': 0}, f'{found}')
     stage.wants(found['health'] == {'well': True, 'old': False, 'alone': False, 'missing': False}, f'{found}')
-    at.ends('stop plant.toml', 0)
-    stage.wants(plant.wait(30) == 0, 'it ended well')
+    stops(at, plant)
     written = calendar.timegm(time.strptime(re.search(rf'written ({MOMENT})', at.read('status.txt').decode())[1], '%Y-%m-%dT%H:%M:%SZ'))
     old = time.strftime('%Y-%m-%dT%H:%M:%SZ', time.gmtime(written - 100))
     at.write('status.txt', re.sub(rf'{MOMENT}', old, at.read('status.txt').decode()).encode())
@@ -121,9 +126,9 @@ def what_can_not_be_told(at):
     os.mkfifo(at.path('status.txt'))
     at.ends('status plant.toml', 3, '', 'status: status.txt: no plain file\n')
     os.remove(at.path('status.txt'))
-    up(at)
+    plant = up(at)
     holds(at, ALONE)
-    at.ends('stop plant.toml', 0)
+    stops(at, plant)
     text = at.read('status.txt').decode()
     for changed, why in ((text[:-1], 'no status'), (text[:40], 'no status'), ('', 'no status'), (text.replace('nothing', 'none', 1), 'no status'),
                          (text.replace('form 1', 'form 2'), 'of a later version'), (text.replace('station 1 of 1', 'station 1 of 2'), 'of another station'),
@@ -141,6 +146,7 @@ def watched(at):
     with_status(at)
     plant = up(at)
     holds(at, ALONE)
+    begun = time.monotonic()
     with open(at.path('end'), 'wb') as err:
         watching = at.start('status plant.toml --watch', stdout=theirs, stderr=err)
     os.close(theirs)
@@ -162,15 +168,13 @@ def watched(at):
             pass
         return watching.poll() is not None
 
-    begun = time.monotonic()
-    stage.within(30, lambda: drawings(3, 'nothing'), f'it is drawn again: {drawn}')
+    stage.within(lambda: drawings(3, 'nothing'), lambda: f'it is drawn again: {drawn}')
     stage.wants(time.monotonic() - begun > 2, 'a second lies between two drawings')
     lay(at, '12.tape', at.read('flood.tape'))
-    stage.within(30, lambda: drawings(4, '1, the greatest 12'), f'the story is seen: {drawn}')
-    at.ends('stop plant.toml', 0)
-    stage.wants(plant.wait(30) == 0, 'it ended well')
+    stage.within(lambda: drawings(4, '1, the greatest 12'), lambda: f'the story is seen: {drawn}')
+    stops(at, plant)
     os.remove(at.path('status.txt'))
-    stage.within(30, ended, 'it ends too')
+    stage.within(ended, 'it ends too')
     stage.wants(watching.wait() == 3, 'it ends as nothing can be told')
     stage.wants(at.read('end') == b'status: status.txt: there is no such file\n', f'{at.read("end")}')
     os.close(ours)
@@ -180,12 +184,13 @@ def unwritten(at):
     """A plant whose status can't be written says so once, and goes on."""
     with_status(at, path='none/status.txt')
     up(at)
-    lay(at, '12.tape', at.read('flood.tape'))
-    stage.within(30, lambda: '12 released' in told(at), f'{told(at)}')
-    lay(at, '13.tape', at.read('flood.tape'))
-    stage.within(30, lambda: '13 released' in told(at), f'{told(at)}')
-    lines = [line for line in told(at) if 'status' in line]
-    stage.wants(lines == ['folders: cannot write status: it is not there'], f'{told(at)}')
+    line = 'folders: cannot write status: it is not there'
+    stage.within(lambda: line in told(at), lambda: f'{told(at)}')
+    for number in (12, 13):
+        lay(at, f'{number}.tape', at.read('flood.tape'))
+        stage.within(lambda: f'{number} released' in told(at), lambda: f'{told(at)}')
+        time.sleep(1)
+    stage.wants([each for each in told(at) if 'status' in each] == [line], f'{told(at)}')
 
 
 def misplaced(at):

@@ -5,7 +5,7 @@ import time
 
 import plants
 import stage
-from folders import ALL, holds, is_released, lay, lies, told, up
+from folders import ALL, ends_by_stop, holds, is_released, lay, lies, told, up
 
 TEXT = b'ab a b\n'
 KILLS = 30
@@ -27,7 +27,7 @@ def sent(at):
     lay(at, '12.tape', at.read('flood.tape'))
     lay(at, '12.text', b'ab{@spaceband}a b{@elevate}')
     lies(at, 'offers/sent/12.tape', 'offers/sent/12.text.2')
-    stage.wants(told(at) == ['12 released', '12 sent', '12 sent', '12 sent'], f'{told(at)}')
+    stage.within(lambda: told(at) == ['12 released', '12 sent', '12 sent', '12 sent'], lambda: f'{told(at)}')
 
 
 def refused(at):
@@ -88,8 +88,7 @@ def another_table(at):
     plant = up(at)
     lay(at, '12.text', TEXT)
     lies(at, 'offers/sent/12.text')
-    lay(at, 'stop')
-    stage.wants(plant.wait(30) == 0, 'it ended')
+    ends_by_stop(at, plant)
     turn(at, '"a"', '"x"')
     turn(at, '"b"', '"a"')
     turn(at, '"x"', '"b"')
@@ -107,9 +106,9 @@ def at_one_of_three(at):
     plants.three(at)
     plants.lay(at, 2, '12.text', TEXT)
     for member in (1, 2, 3):
-        stage.within(20, lambda: at.read(f'releases{member}/12.galley') == stage.GALLEY.encode(), f'plant {member} has the story')
+        stage.within(lambda: at.read(f'releases{member}/12.galley') == stage.GALLEY.encode(), f'plant {member} has the story')
         holds(at, f'releases{member}/12.tape', at.read('flood.tape'))
-    stage.within(10, lambda: os.path.exists(at.path('offers2/sent/12.text')), 'the text was sent')
+    stage.within(lambda: os.path.exists(at.path('offers2/sent/12.text')), 'the text was sent')
 
 
 def kills(at):
@@ -122,7 +121,8 @@ def kills(at):
         time.sleep(chance.uniform(0.9, 2.2))
         plant.kill()
         plant.wait()
-        where = [name for name in ('offers', 'offers/sent') if os.path.exists(at.path(f'{name}/{number}.text'))]
+        # A kill may come while it is on its way from one to another.
+        where = [name for name in ('offers', 'offers/.circuitd', 'offers/sent') if os.path.exists(at.path(f'{name}/{number}.text'))]
         stage.wants(len(where) == 1, f'{number}.text lies in {where}')
     up(at)
     lies(at, *(f'offers/sent/{number}.text' for number in range(1, KILLS + 1)))
