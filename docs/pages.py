@@ -28,7 +28,7 @@ MOST = {
     "CONTRIBUTING.md": 1300,
     "docs/COMMANDS.md": 4100,
     "docs/CRATES.md": 2900,
-    "docs/DECISIONS.md": 3000,
+    "docs/DECISIONS.md": 2200,
     "docs/DEFINITIONS.md": 2000,
     "docs/DRAWING.md": 1300,
     "docs/FORMATS.md": 4600,
