@@ -26,7 +26,7 @@ MOST_LONG = 25
 MOST = {
     "README.md": 1600,
     "CONTRIBUTING.md": 1300,
-    "docs/COMMANDS.md": 4100,
+    "docs/COMMANDS.md": 3450,
     "docs/CRATES.md": 2900,
     "docs/DECISIONS.md": 2200,
     "docs/DEFINITIONS.md": 2000,
