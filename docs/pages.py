@@ -31,7 +31,7 @@ MOST = {
     "docs/DECISIONS.md": 2200,
     "docs/DEFINITIONS.md": 2000,
     "docs/DRAWING.md": 1300,
-    "docs/FORMATS.md": 4600,
+    "docs/FORMATS.md": 4350,
     "docs/GLOSSARY.md": 750,
     "docs/MAP.md": 1400,
     "docs/MEASURED.md": 2000,
@@ -39,7 +39,7 @@ MOST = {
     "docs/OPERATING.md": 3100,
     "docs/PROOF.md": 2000,
     "docs/PROVED.md": 6000,
-    "docs/SETTING.md": 2200,
+    "docs/SETTING.md": 1800,
     "docs/TURN.md": 1000,
 }
 
