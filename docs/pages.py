@@ -26,12 +26,12 @@ MOST_LONG = 25
 MOST = {
     "README.md": 1600,
     "CONTRIBUTING.md": 1200,
-    "docs/COMMANDS.md": 3450,
+    "docs/COMMANDS.md": 3400,
     "docs/CRATES.md": 2900,
     "docs/DECISIONS.md": 1700,
     "docs/DEFINITIONS.md": 1500,
     "docs/DRAWING.md": 900,
-    "docs/FORMATS.md": 4350,
+    "docs/FORMATS.md": 4250,
     "docs/GLOSSARY.md": 600,
     "docs/MAP.md": 1400,
     "docs/MEASURED.md": 1150,
@@ -39,7 +39,7 @@ MOST = {
     "docs/OPERATING.md": 2700,
     "docs/PROOF.md": 1800,
     "docs/PROVED.md": 6000,
-    "docs/SETTING.md": 1750,
+    "docs/SETTING.md": 1700,
     "docs/TURN.md": 800,
 }
 
