@@ -9,7 +9,7 @@ and `_.:/+-`. It is no such mark beside a letter, a digit or a dot, as in the ho
 
 The examples of a page run in order, in one `sh` with LC_ALL=C. They begin in a new folder that has a copy of examples/ and of the drawings of
 docs/. PROGRAM is `circuitd` on the path; if none is named, it is crates/circuitd/out/circuitd. A page that differs runs again, three times at
-most: on a busy machine a station may need a second ballot.
+most, each time with pauses (`sleep 1`) and turns (`--turns 80`) four times as long: a machine may be busy.
 
 A block whose first line is `# needs ..`, as `# needs root`, is skipped. A block with a line `circuitd ..` has to be one or the other.
 
@@ -28,11 +28,13 @@ import tempfile
 
 TOP = os.path.dirname(os.path.dirname(os.path.abspath(__file__)))
 BUILT = os.path.join(TOP, "crates", "circuitd", "out", "circuitd")
-# how long the examples of one page may take, and how often they run
+# how long the examples of one page may take, how often they run, and how many times longer their pauses are each time
 SECONDS = 120
 TRIES = 3
+SLOWER = 4
 
 BLOCK = re.compile(r"^```\w*\n(.*?)^```$", re.DOTALL | re.MULTILINE)
+PAUSE = re.compile(r"((?:\bsleep|--turns) )(\d+)\b")
 MARK = re.compile(r"(?<![\w.])\.\.\.(?![\w.])")
 MARKED = r"[\w.:/+-]+"
 PROMPT = "$ "
@@ -97,15 +99,16 @@ def end_all(shell):
     shell.wait()
 
 
-def run(commands, program):
-    """What each command prints, one after the other in one shell."""
-    script = "".join(f"{command}printf '{END}'\n" for command in commands)
+def run(commands, program, slower):
+    """What each command prints, one after the other in one shell, with pauses and turns so many times as long."""
+    slowed = (PAUSE.sub(lambda found: f"{found[1]}{slower * int(found[2])}", command) for command in commands)
+    script = "".join(f"{command}printf '{END}'\n" for command in slowed)
     with tempfile.TemporaryDirectory() as folder, tempfile.TemporaryFile() as output:
         path = prepare(folder, program) + os.pathsep + os.environ["PATH"]
         how = {"cwd": folder, "env": {"PATH": path, "LC_ALL": "C", "HOME": folder}, "start_new_session": True}
         shell = subprocess.Popen(["sh", "-c", script], stdin=subprocess.DEVNULL, stdout=output, stderr=output, **how)
         try:
-            shell.wait(SECONDS)
+            shell.wait(SECONDS * slower)
         except subprocess.TimeoutExpired:
             pass
         finally:
@@ -130,20 +133,20 @@ def with_marks(printed, told):
     return "\n".join(next((line for line in lines[at:] + lines if fits(line, new)), new) for at, new in enumerate(printed.split("\n")))
 
 
-def as_printed(examples, program):
+def as_printed(examples, program, slower):
     """The examples of a page, each with what is printed in place of what stands there."""
     steps = [steps_of(example) for example in examples]
-    printed = iter(run([command.removeprefix(PROMPT) for step in steps for command, _ in step], program))
+    printed = iter(run([command.removeprefix(PROMPT) for step in steps for command, _ in step], program, slower))
     return ["".join(command + with_marks(next(printed), told) for command, told in step) for step in steps]
 
 
 def as_printed_at_last(page, examples, program):
     """The same, of the first run in which nothing differs, or of the last one."""
-    for count in range(1, TRIES + 1):
-        made = as_printed(examples, program)
+    for count in range(TRIES):
+        made = as_printed(examples, program, SLOWER**count)
         if made == examples:
             break
-        print(f"{page}: run {count} differs", flush=True)
+        print(f"{page}: run {count + 1} differs", flush=True)
     return made
 
 
