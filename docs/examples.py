@@ -8,8 +8,8 @@ line. Below it stands what it prints, on either stream. `...` stands for what di
 and `_.:/+-`. It is no such mark beside a letter, a digit or a dot, as in the holes `o.o...`.
 
 The examples of a page run in order, in one `sh` with LC_ALL=C. They begin in a new folder that has a copy of examples/ and of the drawings of
-docs/. PROGRAM is `circuitd` on the path; if none is named, it is crates/circuitd/out/circuitd. A page that differs runs again, three times at
-most, each time with pauses (`sleep 1`) and turns (`--turns 80`) four times as long: a machine may be busy.
+docs/. PROGRAM is `circuitd` on the path; if none is named, it is crates/circuitd/out/circuitd. A page that differs runs again, five times at
+most, each time with pauses (`sleep 1`) and turns (`--turns 80`) twice as long: on a busy machine a station may need more time, or a second ballot.
 
 A block whose first line is `# needs ..`, as `# needs root`, is skipped. A block with a line `circuitd ..` has to be one or the other.
 
@@ -30,8 +30,8 @@ TOP = os.path.dirname(os.path.dirname(os.path.abspath(__file__)))
 BUILT = os.path.join(TOP, "crates", "circuitd", "out", "circuitd")
 # how long the examples of one page may take, how often they run, and how many times longer their pauses are each time
 SECONDS = 120
-TRIES = 3
-SLOWER = 4
+TRIES = 5
+SLOWER = 2
 
 BLOCK = re.compile(r"^```\w*\n(.*?)^```$", re.DOTALL | re.MULTILINE)
 PAUSE = re.compile(r"((?:\bsleep|--turns) )(\d+)\b")
