@@ -90,7 +90,7 @@ def a_station_is_stopped(at):
         station = at.start('run one.toml')
         stage.within(at.serves, 'the station is up')
         stage.within(lambda: not os.path.exists(at.path('offers/stop')), 'a file `stop` of before is gone')
-        at.ends('stop one.toml', 0)
+        at.stop('one.toml')
         os.rename(at.path('station.db-wal'), at.path('log'))
         at.ends('rows station.db', 0, stage.HEAD)
         stage.within(lambda: station.poll() == 0, 'it ended well')
@@ -99,7 +99,7 @@ def a_station_is_stopped(at):
     stage.within(at.serves, 'the station is up')
     stage.within(lambda: not os.path.exists(at.path('offers/stop')), 'a file `stop` of before is gone')
     os.mkfifo(at.path('offers/stop'))
-    at.ends('stop one.toml', 0)
+    at.stop('one.toml')
     stage.within(lambda: station.poll() == 0, 'it ended well')
     stage.wants(stat.S_ISREG(os.lstat(at.path('offers/stop')).st_mode), 'the file is a plain one')
 

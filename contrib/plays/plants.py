@@ -93,7 +93,7 @@ def burst(at, members):
         lay(at, members[number % len(members)], f'{number}.tape', tape)
     wanted = {f'{number}.{kind}' for number in range(1, STORIES + 1) for kind in ('tape', 'galley')}
     for member in (1, 2, 3):
-        stage.within(lambda: wanted <= set(os.listdir(at.path(f'releases{member}'))), f'plant {member} has each story', 5 * stage.SECONDS)
+        stage.within(lambda: wanted <= set(os.listdir(at.path(f'releases{member}'))), f'plant {member} has each story')
     seconds = time.monotonic() - began
     ballots = sum(line.split()[1:2] == [b'began'] for member in (1, 2, 3) for line in at.read(f'log{member}').splitlines())
     most = BALLOTS * STORIES + AGAIN * max(0, seconds - QUICK)

@@ -11,7 +11,7 @@ TOP = os.path.dirname(os.path.dirname(os.path.dirname(os.path.abspath(__file__))
 EXAMPLES = os.path.join(TOP, 'examples')
 FILES = ('codes.toml', 'widths.toml', 'flood.tape', 'harvest.tape', 'overset.tape', 'story.script')
 # How long it is waited for what has to come, in seconds: on a machine that is busy with other work too.
-SECONDS = 120
+SECONDS = 300
 
 # a circuit of one station
 STATION = """circuit = 7
@@ -126,6 +126,14 @@ class Stage:
         wanted = (status, None if ran[1] is None else out, None if ran[2] is None else err)
         if ran != wanted:
             raise Wrong(f'circuitd {words}\n  ended with {ran}\n  and not {wanted}')
+
+    def stop(self, config):
+        """The command `stop` ends a station well, at last where that takes more than the 30 seconds for which it waits."""
+        ran = self.run(f'stop {config}')
+        while ran == (1, '', 'stop: the station has not ended within 30 seconds\n') and any(process.poll() is None for process in self.started):
+            ran = self.run(f'stop {config}')
+        if ran != (0, '', ''):
+            raise Wrong(f'circuitd stop {config} ended with {ran}')
 
     def start(self, words, **how):
         """Starts the program, to be ended by the play, or with it."""

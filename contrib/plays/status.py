@@ -48,7 +48,7 @@ def holds(at, pattern):
 
 def stops(at, plant):
     """The command `stop` ends the plant well."""
-    at.ends('stop plant.toml', 0)
+    at.stop('plant.toml')
     stage.wants(plant.wait(stage.SECONDS) == 0, 'it ended well')
 
 
