@@ -86,8 +86,9 @@ def search(at, members, numbers):
 def replaced_while_under_way(at):
     """A file that is replaced while its ballots are under way: where they still come to its story, that stands, and the correction is lost;
     one that is removed, or becomes a folder, is released all the same."""
-    ports = plants.configure(at)
-    plants.bring_up(at, ports, (1,))
+    _, *others = plants.bring_up(at, plants.configure(at), (1, 2, 3))
+    for plant in others:
+        plant.send_signal(signal.SIGSTOP)
     for number in (12, 13, 14):
         lay_at_first(at, f'{number}.tape', at.read(STORY))
     for number in (12, 13, 14):
@@ -97,10 +98,14 @@ def replaced_while_under_way(at):
     os.remove(at.path('offers1/14.tape'))
     os.mkdir(at.path('offers1/14.tape'))
     looks_again(at)
-    plants.bring_up(at, ports, (2, 3))
-    if any(' gave-up ' in line for line in told(at, 'log1')):
-        raise stage.Skipped('the ballots were given up before the other plants were up')
-    come(at, 'offers1/lost/12.tape', 'releases1/13.galley', 'releases1/14.galley')
+    for plant in others:
+        plant.send_signal(signal.SIGCONT)
+    are_out = lambda: all(at.read(f'releases1/{number}.galley') for number in (12, 13, 14))
+    were_given_up = lambda: any(' gave-up ' in line for line in told(at, 'log1'))
+    stage.within(lambda: are_out() or were_given_up(), lambda: f'{told(at, "log1")}')
+    if were_given_up():
+        raise stage.Skipped('the ballots were given up before the others answered')
+    come(at, 'offers1/lost/12.tape')
     search(at, (2, 3), (12, 13, 14))
     for member in (1, 2, 3):
         for number in (12, 13, 14):
