@@ -39,14 +39,13 @@ def configure(at):
 
 def bring_up(at, ports, members, words='--verbose', making='--create --layout 2'):
     """Starts these, for the first time where nothing else is said, each with a log, of all where nothing else is said, waits until they are
-    up, and gives their processes."""
+    up, and gives their processes. One after the other: a making waits five seconds for another in its folder, and no longer."""
     started = []
     for member in members:
         with open(at.path(f'log{member}'), 'wb') as log:
             started.append(at.start(f'run plant{member}.toml {making} {words}', stderr=log))
-    for member in members:
         at.port = ports[member - 1]
-        stage.within(at.serves, 'each plant is up')
+        stage.within(at.serves, lambda member=member: f'plant {member} is up: {at.read(f"log{member}")}')
     return started
 
 
