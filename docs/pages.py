@@ -28,7 +28,7 @@ MOST = {
     "CONTRIBUTING.md": 1200,
     "docs/COMMANDS.md": 3400,
     "docs/CRATES.md": 2900,
-    "docs/DECISIONS.md": 1700,
+    "docs/DECISIONS.md": 2000,
     "docs/DEFINITIONS.md": 1500,
     "docs/DRAWING.md": 900,
     "docs/FORMATS.md": 4250,
